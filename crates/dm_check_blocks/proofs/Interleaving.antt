@@ -1,0 +1,148 @@
+-- The blocks of a symbol share its words out: word i of block b stands at i times the blocks plus b.
+use Rattle.std.proofs.Common.{◌≡◌, ◌≢◌, ℕ, ◌+◌, ◌-◌, ◌*◌, ◌/◌, ◌%◌, ◌<◌, ◌≤◌, ◌⊎◌, refl, sym, ◌∙◌, ap, arith, List, ◌++◌, length, length-append, get_or, set, ⊎_elim, below_more, get_or-set_other, get_or-set_same}
+use Rattle.std.specs.Prelude.{nat_lt, if◌then◌else◌}
+use Rattle.std.specs.List.{range_with_len, All}
+use Rattle.std.proofs.Math.Nat.{mul-le-mul_right, mod-lt}
+use Rattle.std.proofs.lemmas.Nat.{mod-mul-add, div-add-mod'}
+use Rattle.std.proofs.lemmas.Bool.{cases_lt}
+use Rattle.std.proofs.lemmas.Bool.Decides.{nat_tests}
+use Rattle.std.proofs.lemmas.List.{ext_get_or, get_or-append_right}
+use Rattle.std.proofs.Math.ListN.{get_or-append}
+use Rattle.std.proofs.lemmas.List.FromFn.{get_or-map-range_with_len, length-map-range_with_len}
+use Rattle.dm_check_blocks.specs.declared.size.Size.{Size}
+use Rattle.dm_check_blocks.specs.Sizes.{data_words, check_words, all_words, blocks, block_checks, block_length, IsSound}
+use Rattle.dm_check_blocks.specs.Blocks.{block_data, position, block_of}
+use Rattle.dm_check_blocks.proofs.Sound.{sound}
+
+past_data : (i d n e : ℕ) → d ≤ i → e ≡ d * n → e + (i - d) * n ≡ i * n
+past_data i d n e h q =
+    let k = i - d in
+    let f : i ≡ d + k = omega arith in
+    let g : i * n ≡ (d + k) * n = ap (λ t. t * n) f in
+    omega arith
+
+pub position-closed : (s : Size) (b i : ℕ) → position s b i ≡ i * blocks s + b
+unfolding position
+position-closed s b i =
+    let whole : data_words s ≡ block_data s * blocks s = (let e = (sound s).equal_data in omega arith) in
+    let low : i < block_data s → position s b i ≡ i * blocks s + b = λ h. grind (arith, nat_tests) in
+    let high : block_data s ≤ i → position s b i ≡ i * blocks s + b =
+    λ h. (let e : (if nat_lt i (block_data s) then i * blocks s + b else data_words s + (i - block_data s) * blocks s + b) ≡ data_words s + (i - block_data s) * blocks s + b = grind (arith, nat_tests) in e)
+    ∙ ap (λ t. t + b) (past_data i (block_data s) (blocks s) (data_words s) h whole) in
+    ⊎_elim low high (cases_lt i (block_data s))
+
+-- all words are those of the blocks
+pub whole_blocks : (s : Size) → block_length s * blocks s ≡ all_words s
+whole_blocks s =
+    let one = (sound s).equal_data in let two = (sound s).equal_checks in let three = (sound s).equal_blocks in
+    let e : block_length s * blocks s ≡ (block_data s + block_checks s) * blocks s = ap (λ t. t * blocks s) (sym three) in
+    omega arith
+
+pub position-lt : (s : Size) (b i : ℕ) → b < blocks s → i < block_length s → position s b i < all_words s
+position-lt s b i p q =
+    let more : (i + 1) * blocks s ≤ block_length s * blocks s = mul-le-mul_right (blocks s) (let h : i + 1 ≤ block_length s = omega arith in h) in
+    omega (arith, position-closed s b i, whole_blocks s)
+
+pub position-mod : (s : Size) (b i : ℕ) → b < blocks s → position s b i % blocks s ≡ b
+position-mod s b i p = ap (λ t. t % blocks s) (position-closed s b i) ∙ mod-mul-add i (blocks s) b p
+
+-- a place among the data words, and one among the check words
+pub position_in_data : (s : Size) (b i : ℕ) → b < blocks s → i < block_data s → position s b i < data_words s
+position_in_data s b i p q =
+    let more : (i + 1) * blocks s ≤ block_data s * blocks s = mul-le-mul_right (blocks s) (let h : i + 1 ≤ block_data s = omega arith in h) in
+    let e = (sound s).equal_data in
+    omega (arith, position-closed s b i)
+
+pub position_in_checks : (s : Size) (b k : ℕ) → data_words s ≤ position s b (block_data s + k)
+position_in_checks s b k =
+    let e = (sound s).equal_data in
+    omega (arith, position-closed s b (block_data s + k))
+
+-- each position is that of one word of one block
+pub position_of : (s : Size) (p : ℕ) → position s (p % blocks s) (p / blocks s) ≡ p
+position_of s p = position-closed s (p % blocks s) (p / blocks s) ∙ div-add-mod' p (blocks s)
+
+pub block_at : (s : Size) (p : ℕ) → p % blocks s < blocks s
+block_at s p = let h = (sound s).some_blocks in mod-lt p (let l : 0 < blocks s = omega arith in l)
+
+pub word_at : (s : Size) (p : ℕ) → p < all_words s → p / blocks s < block_length s
+word_at s p h =
+    let e = whole_blocks s in let q = div-add-mod' p (blocks s) in
+    ⊎_elim (λ (l : p / blocks s < block_length s). l)
+    (λ (l : block_length s ≤ p / blocks s).
+    let more : block_length s * blocks s ≤ p / blocks s * blocks s = mul-le-mul_right (blocks s) l in absurd (omega arith))
+    (cases_lt (p / blocks s) (block_length s))
+
+pub length-block_of : (s : Size) (b : ℕ) (words : List ℕ) → length (block_of s b words) ≡ block_length s
+unfolding block_of
+length-block_of s b words = length-map-range_with_len (λ i. get_or words (position s b i) 0) 0 (block_length s)
+
+pub get_or-block_of : (s : Size) (b : ℕ) (words : List ℕ) (i : ℕ) → i < block_length s → get_or (block_of s b words) i 0 ≡ get_or words (position s b i) 0
+unfolding block_of
+get_or-block_of s b words i h = get_or-map-range_with_len (λ i. get_or words (position s b i) 0) 0 (block_length s) i i 0 h (let e : 0 + i ≡ i = omega arith in e)
+
+-- a block depends on its own words alone
+pub block_of_same : (s : Size) (b : ℕ) (xs ys : List ℕ) → b < blocks s → ((p : ℕ) → p % blocks s ≡ b → get_or xs p 0 ≡ get_or ys p 0) → block_of s b xs ≡ block_of s b ys
+block_of_same s b xs ys l h =
+    ext_get_or 0 (block_of s b xs) (block_of s b ys) (length-block_of s b xs ∙ sym (length-block_of s b ys))
+    (λ i q.
+    let r : i < block_length s = omega (arith, length-block_of s b xs) in
+    get_or-block_of s b xs i r ∙ h (position s b i) (position-mod s b i l) ∙ sym (get_or-block_of s b ys i r))
+
+-- two lists whose blocks are the same are the same
+pub same_from_blocks : (s : Size) (xs ys : List ℕ) → length xs ≡ all_words s → length ys ≡ all_words s → ((b : ℕ) → b < blocks s → block_of s b xs ≡ block_of s b ys) → xs ≡ ys
+same_from_blocks s xs ys l m h =
+    ext_get_or 0 xs ys (l ∙ sym m)
+    (λ p q.
+    let b = p % blocks s in let i = p / blocks s in
+    let r : i < block_length s = word_at s p (omega arith) in
+    let at : (zs : List ℕ) → get_or zs p 0 ≡ get_or (block_of s b zs) i 0 = λ zs. sym (get_or-block_of s b zs i r ∙ ap (λ t. get_or zs t 0) (position_of s p)) in
+    at xs ∙ ap (λ t. get_or t i 0) (h b (block_at s p)) ∙ sym (at ys))
+
+-- later words of a block stand later
+pub position-rising : (s : Size) (b i j : ℕ) → i < j → position s b i < position s b j
+position-rising s b i j h =
+    let more : (i + 1) * blocks s ≤ j * blocks s = mul-le-mul_right (blocks s) (let l : i + 1 ≤ j = omega arith in l) in
+    let some = (sound s).some_blocks in
+    omega (arith, position-closed s b i, position-closed s b j)
+
+-- one data word more is read
+pub gathered_more : (data' words : List ℕ) (place : ℕ → ℕ) (i v : ℕ) → i < length data' → v ≡ get_or words (place i) 0 → ((j : ℕ) → j < i → get_or data' j 0 ≡ get_or words (place j) 0) →
+    (j : ℕ) → j < i + 1 → get_or (set data' i v) j 0 ≡ get_or words (place j) 0
+gathered_more data' words place i v l e h =
+    below_more _ _ (λ j q. let ne : j ≢ i = omega arith in rw get_or-set_other (h j q)) (rw get_or-set_same e)
+
+-- one check word more is written
+pub written_more : (s : Size) (b k : ℕ) (words checks : List ℕ) → position s b (block_data s + k) < length words →
+    ((j : ℕ) → j < k → get_or words (position s b (block_data s + j)) 0 ≡ get_or checks j 0) →
+    (j : ℕ) → j < k + 1 → get_or (set words (position s b (block_data s + k)) (get_or checks k 0)) (position s b (block_data s + j)) 0 ≡ get_or checks j 0
+written_more s b k words checks l h =
+    below_more _ _
+    (λ j q. let ne : position s b (block_data s + j) ≢ position s b (block_data s + k) = (let r = position-rising s b (block_data s + j) (block_data s + k) (omega arith) in omega arith) in rw get_or-set_other (h j q))
+    (rw get_or-set_same refl)
+
+-- and nothing else is
+pub others_more : (s : Size) (b k p v : ℕ) (words : List ℕ) → b < blocks s → (p < data_words s) ⊎ (p % blocks s ≢ b) → get_or (set words (position s b (block_data s + k)) v) p 0 ≡ get_or words p 0
+others_more s b k p v words l h =
+    let q = position s b (block_data s + k) in
+    let ne : p ≢ q = ⊎_elim
+    (λ (m : p < data_words s). let r = position_in_checks s b k in let n : p ≢ q = omega arith in n)
+    (λ (m : p % blocks s ≢ b). λ (e : p ≡ q). m (ap (λ t. t % blocks s) e ∙ position-mod s b (block_data s + k) l)) h in
+    rw get_or-set_other refl
+
+-- a block is its data words and its check words
+pub block_of-parts : (s : Size) (b : ℕ) (message checks words : List ℕ) → length message ≡ block_data s → length checks ≡ block_checks s →
+    ((i : ℕ) → i < block_data s → get_or message i 0 ≡ get_or words (position s b i) 0) →
+    ((k : ℕ) → k < block_checks s → get_or words (position s b (block_data s + k)) 0 ≡ get_or checks k 0) → block_of s b words ≡ message ++ checks
+block_of-parts s b message checks words l m h w =
+    let e = (sound s).equal_blocks in
+    ext_get_or 0 (block_of s b words) (message ++ checks) (length-block_of s b words ∙ sym (length-append message checks ∙ (let q : length message + length checks ≡ block_length s = omega arith in q)))
+    (λ i q.
+    let r : i < block_length s = omega (arith, length-block_of s b words) in
+    get_or-block_of s b words i r
+    ∙ ⊎_elim (λ (t : i < block_data s). sym (get_or-append message checks 0 i (omega arith) ∙ h i t))
+    (λ (t : block_data s ≤ i).
+    let k = i - block_data s in
+    ap (λ n. get_or words (position s b n) 0) (let f : i ≡ block_data s + k = omega arith in f)
+    ∙ w k (omega arith) ∙ sym (get_or-append_right message checks (block_data s) i 0 l t))
+    (cases_lt i (block_data s)))

@@ -1,0 +1,6 @@
+pub mod Generators
+pub mod Interleaving
+pub mod OneCompletion
+pub mod Remainders
+pub mod Sound
+pub mod Symbols

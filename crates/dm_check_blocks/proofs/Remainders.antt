@@ -1,0 +1,51 @@
+-- The remainder of a message by the generator polynomial, by its value at a root.
+use Rattle.std.proofs.Common.{◌≡◌, ℕ, zero, suc, ◌+◌, ◌-◌, ◌*◌, ◌<◌, ◌≤◌, refl, sym, ◌∙◌, ap, subst, arith, List, [], ◌∷◌, ◌++◌, length, get_or, set, take, drop, length-append}
+use Rattle.std.specs.Int.Bits.{bit_xor}
+use Rattle.dm_gf256.specs.Field.{product, power}
+use Rattle.std.proofs.Common.{Bool, true, false, cond, eqb, eq-eqb}
+use Rattle.dm_gf256.specs.Polynomial.{value, add_scaled, differ, IsBlockWord}
+use Rattle.dm_gf256.proofs.Words.{one_block_word}
+use Rattle.dm_gf256.proofs.Vanish.{Bytes}
+use Rattle.std.specs.Int.Bits.{xor_self}
+use Rattle.std.proofs.Common.{add-one, length-take, length-drop, replicate}
+use Rattle.std.proofs.lemmas.List.{take_more, take_all, take_at, get_or-append_right, get_or-drop}
+use borrow.Rule.Slice.PartMut.{put_mid, post_of}
+use Rattle.dm_gf256.proofs.Linear.{product-xor_l, product-xor_r}
+use Rattle.dm_gf256.proofs.Ring.{product_assoc, product_comm, product-zero_l}
+use Rattle.dm_gf256.proofs.Steps.{value-push}
+use Rattle.dm_gf256.proofs.Divide.{value-divide_step, value-append, length-add_scaled, value-times_root}
+
+set-last : (rs : List ℕ) (r v n : ℕ) → n ≡ length rs → set (rs ++ r ∷ []) n v ≡ rs ++ v ∷ []
+set-last [] r v zero e = refl
+set-last [] r v (suc n) e = absurd (omega arith)
+set-last (x ∷ rs) r v zero e = absurd (omega arith)
+set-last (x ∷ rs) r v (suc n) e = ap (λ t. x ∷ t) (set-last rs r v n (omega arith))
+
+pub step_value : (old gs : List ℕ) (u n x : ℕ) → 0 < length old → length old ≡ length gs → n ≡ length old - 1 → x < 256 → value (1 ∷ gs) x ≡ 0 →
+    value (add_scaled (bit_xor u (get_or old 0 0)) (set (drop 1 old ++ take 1 old) n 0) gs) x ≡ bit_xor (product x (value old x)) (product u (power x (length gs)))
+step_value [] gs u n x p e m h z = absurd (omega arith)
+step_value (r ∷ rs) gs u n x p e m h z =
+    ap (λ t. value (add_scaled (bit_xor u r) t gs) x) (set-last rs r 0 n (omega arith)) ∙ value-divide_step r rs gs u x e h z
+
+pub zeros_value : (cs : List ℕ) (x : ℕ) → ((k : ℕ) → k < length cs → get_or cs k 0 ≡ 0) → value cs x ≡ 0
+unfolding value
+zeros_value [] x h = refl
+zeros_value (c ∷ cs) x h =
+    ap (λ t. bit_xor (product t (power x (length cs))) (value cs x)) (h 0 (omega arith))
+    ∙ ap (λ t. bit_xor t (value cs x)) (product-zero_l _) ∙ zeros_value cs x (λ k l. h (suc k) (omega arith))
+
+-- one word u more of the message
+pub turn : (message : List ℕ) (i x n s t : ℕ) → i < length message → get_or message i 0 < 256 → s ≡ product (value (take i message) x) (power x n) →
+    t ≡ bit_xor (product x s) (product (get_or message i 0) (power x n)) → t ≡ product (value (take (i + 1) message) x) (power x n)
+turn message i x n s t l b h e =
+    let u = get_or message i 0 in let v = value (take i message) x in let p = power x n in
+    let more : value (take (i + 1) message) x ≡ bit_xor (product v x) u = ap (λ w. value w x) (take_more message i 0 l) ∙ value-push (take i message) u x b in
+    e ∙ ap (λ w. bit_xor (product x w) (product u p)) h
+    ∙ ap (λ w. bit_xor w (product u p)) (sym (product_assoc x v p) ∙ ap (λ w. product w p) (product_comm x v))
+    ∙ sym (product-xor_l (product v x) u p) ∙ ap (λ w. product w p) (sym more)
+
+pub whole : (message checks : List ℕ) (x i : ℕ) → x < 256 → length message ≤ i → value checks x ≡ product (value (take i message) x) (power x (length checks)) → value (message ++ checks) x ≡ 0
+whole message checks x i h l e =
+    value-append message checks x h
+    ∙ ap (bit_xor (product (value message x) (power x (length checks)))) (e ∙ ap (λ w. product (value w x) (power x (length checks))) (take_all i message l))
+    ∙ xor_self (product (value message x) (power x (length checks)))

@@ -1,0 +1,11 @@
+use Rattle.std.proofs.Common.{◌≡◌, ◌≤◌, ◌+◌, ◌++◌, length, arith}
+use Rattle.std.proofs.lemmas.List.Elements.{recursion_from_All}
+use Rattle.dm_gf256.proofs.Words.{bytes_from_places}
+use Rattle.dm_check_blocks.proofs.OneCompletion.{one_list_of_checks}
+use Rattle.dm_check_blocks.proofs.checks.checks_of.Goals as goal
+
+pub returns-clause-only : goal.returns-clause-only
+returns-clause-only c = λ others same bytes word.
+    one_list_of_checks (length c.args.checks.now) c.args.message.now others c.fill.new.checks same (omega arith) c.requires.fits
+    (bytes_from_places c.args.message.now (λ i. (c.type_inv.message i).fits)) (recursion_from_All _ others bytes)
+    (bytes_from_places c.fill.new.checks (λ i. (c.type_inv.checks i).fits)) word c.fill.ensures

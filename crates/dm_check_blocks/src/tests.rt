@@ -1,0 +1,69 @@
+use crate::{Size, block_word, checks_of, complete};
+use std::test::Fail;
+
+#[test]
+fn the_sides_are_those_of_the_standard(rt: HostRuntime) {
+    let sides = [
+        10, 12, 14, 16, 18, 20, 22, 24, 26, 32, 36, 40, 44, 48, 52, 64, 72, 80, 88, 96, 104, 120,
+        132,
+    ];
+    for side in 0..200u16 {
+        let found = Size::of_side(side).map(|size| size.side());
+        let wanted = if sides.contains(&side) {
+            Some(side)
+        } else {
+            None
+        };
+        assert_eq!(rt; found, wanted, "side {side}");
+    }
+}
+
+// The standard's row of side 52: 204 data words and 84 check words in two blocks, four regions of side 24.
+#[test]
+fn the_row_of_side_52(rt: HostRuntime) {
+    let size = Size::Side52;
+    assert_eq!(rt;
+        (
+            size.data_words(),
+            size.check_words(),
+            size.blocks(),
+            size.limit()
+        ),
+        (204, 84, 2, 21)
+    );
+    assert_eq!(rt;
+        (size.region(), size.regions(), size.across(), size.mapping()),
+        (24, 4, 2, 48)
+    );
+    assert_eq!(rt; block_word(size, 1, 0), 1);
+    assert_eq!(rt; block_word(size, 1, 102), 205);
+}
+
+// The standard's worked example: the digits 123456 in a symbol of side 10.
+#[test]
+fn completes_the_worked_example(rt: HostRuntime) -> Result<(), Fail> {
+    let message = [142, 164, 186];
+    let mut checks = [0; 5];
+    checks_of(&message, &mut checks);
+    assert_eq!(rt; checks, [114, 25, 5, 88, 102]);
+    let words = complete(rt.alloc(), Size::Side10, &message)?;
+    assert_eq!(rt;
+        words.as_slice(),
+        [142, 164, 186, 114, 25, 5, 88, 102].as_slice()
+    );
+    Ok(())
+}
+
+// In side 52 the last data word belongs to block 1: the check words of block 0 stay 0, and none of block 1's is.
+#[test]
+fn the_last_data_word_changes_its_own_block(rt: HostRuntime) -> Result<(), Fail> {
+    let mut message = [0u8; 204];
+    message[203] = 1;
+    let words = complete(rt.alloc(), Size::Side52, &message)?;
+    assert_eq!(rt; words.len(), 288);
+    for (at, word) in words.iter().enumerate() {
+        let is_of_block_1 = at == 203 || at > 203 && at % 2 == 1;
+        assert_eq!(rt; *word != 0, is_of_block_1, "position {at}");
+    }
+    Ok(())
+}

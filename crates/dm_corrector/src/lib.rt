@@ -1,0 +1,2 @@
+//! dm_corrector
+#![tactic(auto)]

@@ -1,0 +1,107 @@
+-- A text in ASCII: the piece at its front, and one byte more at its end.
+use Rattle.std.proofs.Common.{◌≡◌, ℕ, zero, suc, ltb, ◌+◌, ◌-◌, ◌*◌, ◌<◌, ◌≤◌, ◌≢◌, Bool, true, false, cond, ◌&&◌, List, [], ◌∷◌, ◌++◌, length, get_or, take, drop, refl, sym, ap, ◌∙◌, arith, ◌⊎◌, inl, inr}
+use Rattle.std.specs.Char.{is_ascii_digit}
+use Rattle.std.proofs.lemmas.Bool.{and_parts, leb-true, lt-ltb, le-ltb, cond_both, cases_lt}
+use Rattle.std.proofs.lemmas.List.{append-nil, take_all, length-append}
+use Rattle.dm_encodation.specs.Written.{ascii_byte, ascii}
+use Rattle.dm_encodation.specs.Pieces.{has_digits}
+use Rattle.dm_encodation.specs.declared.counter.AsciiCounter.{AsciiCounter}
+use Rattle.dm_encodation.specs.Counting.{has_lone_digit, CountsAscii}
+
+-- what the test says of the first two bytes
+pub record BeginsWithDigits (bytes : List ℕ) : Type 0 where
+  pub long : 2 ≤ length bytes
+  pub tens : (48 ≤ get_or bytes 0 0) × (get_or bytes 0 0 ≤ 57)
+  pub ones : (48 ≤ get_or bytes 1 0) × (get_or bytes 1 0 ≤ 57)
+
+digit_range : (b : ℕ) → is_ascii_digit b ≡ true → (48 ≤ b) × (b ≤ 57)
+digit_range b e = let both = and_parts _ _ e in (leb-true _ _ both.0, leb-true _ _ both.1)
+
+pub begins : (bytes : List ℕ) → has_digits bytes ≡ true → BeginsWithDigits bytes
+begins [] e = absurd cc
+begins (a ∷ []) e = absurd cc
+begins (a ∷ b ∷ bs) e = let both = and_parts _ _ e in record { long = omega arith; tens = digit_range a both.0; ones = digit_range b both.1 }
+
+pub ascii-digits : (bytes : List ℕ) → has_digits bytes ≡ true
+    → ascii bytes ≡ (130 + (10 * (get_or bytes 0 0 - 48) + (get_or bytes 1 0 - 48))) ∷ ascii (drop 2 bytes)
+unfolding ascii
+ascii-digits [] x = absurd cc
+ascii-digits (a ∷ []) x = absurd cc
+ascii-digits (a ∷ b ∷ bs) x = rw x refl
+
+ascii-byte : (bytes : List ℕ) → length bytes ≢ 0 → has_digits bytes ≡ false
+    → ascii bytes ≡ ascii_byte (get_or bytes 0 0) ++ ascii (drop 1 bytes)
+unfolding ascii
+ascii-byte [] long x = absurd (long refl)
+ascii-byte (a ∷ []) long x = sym (append-nil (ascii_byte a))
+ascii-byte (a ∷ b ∷ bs) long x = rw x refl
+
+pub ascii-character : (bytes : List ℕ) → length bytes ≢ 0 → has_digits bytes ≡ false
+    → get_or bytes 0 0 < 128 → ascii bytes ≡ (get_or bytes 0 0 + 1) ∷ ascii (drop 1 bytes)
+ascii-character bytes long x low = ascii-byte bytes long x ∙ rw (lt-ltb _ _ low) refl
+
+pub ascii-upper : (bytes : List ℕ) → length bytes ≢ 0 → has_digits bytes ≡ false
+    → 128 ≤ get_or bytes 0 0 → ascii bytes ≡ 235 ∷ (get_or bytes 0 0 - 127) ∷ ascii (drop 1 bytes)
+ascii-upper bytes long x high = ascii-byte bytes long x ∙ rw (le-ltb _ _ high) refl
+
+pub ascii-nil : (bytes : List ℕ) → bytes ≡ [] → ascii bytes ≡ []
+unfolding ascii
+ascii-nil bytes e = rw e refl
+
+-- all is written
+pub ascii_done : (out bytes all : List ℕ) → bytes ≡ [] → out ++ ascii bytes ≡ all → out ≡ all
+ascii_done out bytes all e h = sym (append-nil out) ∙ ap (λ (x : List ℕ). out ++ x) (sym (ascii-nil bytes e)) ∙ h
+
+-- ---- one byte more at the end
+
+one_word : (b : ℕ) → is_ascii_digit b ≡ true → length (ascii_byte b) ≡ 1
+one_word b e = let r = digit_range b e in rw (lt-ltb b 128 (omega arith)) refl
+
+both_or_not : (b : Bool) → (b ≡ true) ⊎ (b ≡ false)
+both_or_not true = inl refl
+both_or_not false = inr refl
+
+-- What one byte more does to a text: the last lone digit shares its word with it, or it stands alone.
+record Pushed (bytes : List ℕ) (c : ℕ) : Type 0 where
+  shared : has_lone_digit bytes ≡ true → is_ascii_digit c ≡ true → (length (ascii (bytes ++ c ∷ [])) ≡ length (ascii bytes)) × (has_lone_digit (bytes ++ c ∷ []) ≡ false)
+  alone : (has_lone_digit bytes && is_ascii_digit c) ≡ false → (length (ascii (bytes ++ c ∷ [])) ≡ length (ascii bytes) + length (ascii_byte c)) × (has_lone_digit (bytes ++ c ∷ []) ≡ is_ascii_digit c)
+
+pushed : (bytes : List ℕ) (c : ℕ) → Pushed bytes c
+unfolding ascii has_lone_digit
+pushed [] c = record { shared = λ e f. absurd cc; alone = λ e. (omega arith, refl) }
+pushed (b ∷ []) c = record {
+  shared = λ e f. rw (e, f) (let w = one_word b e in omega arith, refl);
+  alone = λ e. rw e (simp length-append refl, refl);
+}
+pushed (b ∷ d ∷ bs) c = elim (both_or_not (is_ascii_digit b && is_ascii_digit d)) [
+  | inl e ↦ let r = pushed bs c in record {
+    shared = λ f g. rw e (let h = r.shared (rw e at f) g in (ap suc h.0, h.1));
+    alone = λ f. rw e (let h = r.alone (rw e at f) in (let l = h.0 in omega arith, h.1));
+  }
+  | inr e ↦ let r = pushed (d ∷ bs) c in record {
+    shared = λ f g. rw e (let h = r.shared (rw e at f) g in (simp length-append (omega (arith, h.0)), h.1));
+    alone = λ f. rw e (let h = r.alone (rw e at f) in (simp length-append (omega (arith, h.0)), h.1));
+  }
+]
+
+pub not_both : (a b d : Bool) → d ≡ b → ((a ≡ true) × (d ≡ false)) ⊎ (a ≡ false) → (a && b) ≡ false
+not_both a b d e (inl (x, y)) = rw (x, sym e ∙ y) refl
+not_both a b d e (inr x) = rw x refl
+
+pub counts_none : (c : AsciiCounter) → c.words ≡ 0 → c.lone_digit ≡ false → CountsAscii [] c
+unfolding ascii has_lone_digit
+counts_none c e f = record { words = e; lone = f }
+
+-- one byte more shares the last lone digit's word
+pub counts_shared : (c d : AsciiCounter) (b : ℕ) → c.lone_digit ≡ true → is_ascii_digit b ≡ true → d.words ≡ c.words → d.lone_digit ≡ false
+    → (bytes : List ℕ) → CountsAscii bytes c → CountsAscii (bytes ++ b ∷ []) d
+counts_shared c d b lone digit words last bytes counts =
+    let h = (pushed bytes b).shared (sym counts.lone ∙ lone) digit in
+    record { words = words ∙ counts.words ∙ sym h.0; lone = last ∙ sym h.1 }
+
+-- one byte more stands alone
+pub counts_alone : (c d : AsciiCounter) (b : ℕ) → (c.lone_digit && is_ascii_digit b) ≡ false → d.words ≡ c.words + length (ascii_byte b) → d.lone_digit ≡ is_ascii_digit b
+    → (bytes : List ℕ) → CountsAscii bytes c → CountsAscii (bytes ++ b ∷ []) d
+counts_alone c d b not_shared words last bytes counts =
+    let h = (pushed bytes b).alone (ap (λ (l : Bool). l && is_ascii_digit b) (sym counts.lone) ∙ not_shared) in
+    record { words = words ∙ ap (λ (n : ℕ). n + length (ascii_byte b)) counts.words ∙ sym h.0; lone = last ∙ sym h.1 }

@@ -1,0 +1,12 @@
+pub mod AsciiWords
+pub mod Views
+pub mod Complete
+pub mod TakenValues
+pub mod Sound
+pub mod Reread
+pub mod Turns
+pub mod Faults
+pub mod Stopped
+pub mod Prefixes
+pub mod Base256Words
+pub mod Filled

@@ -1,0 +1,15 @@
+use Rattle.std.proofs.Common.{vec_len, ◌+◌}
+use Rattle.dm_encodation.specs.Written.{text}
+use Rattle.dm_encodation.proofs.Prefixes.{short_base_256}
+use Rattle.dm_encodation.proofs.encoding.push_text.Goals as goal
+
+pub push_base_256-requires-clause-short : goal.push_base_256-requires-clause-short
+push_base_256-requires-clause-short g c = short_base_256 c.args.bytes.now (rw c.in-Base256.is at c.requires.short)
+
+pub returns-in-Ascii : goal.returns-in-Ascii
+unfolding text
+returns-in-Ascii g c = rw c.in-Ascii.is c.push_ascii.ensures
+
+pub returns-in-Base256 : goal.returns-in-Base256
+unfolding text
+returns-in-Base256 g c = rw c.in-Base256.is c.push_base_256.ensures

@@ -1,0 +1,108 @@
+//! How many words a text takes, counted byte by byte.
+
+ghost use Rattle.std.specs.Prelude.{◌≡◌, ℕ, ◌<◌, ◌≤◌, ◌^◌, ◌++◌, ◌∷◌, [], List, length};
+ghost use Rattle.dm_encodation.specs.Counting.{Counts, CountsAscii, IsSmall, base_256_need};
+ghost use Rattle.dm_encodation.specs.Written.{ascii_byte, need_of};
+ghost use Rattle.dm_encodation.specs.declared.scheme.Scheme.{Scheme};
+
+use crate::scheme::Scheme;
+
+/// The words of a text in ASCII.
+#[derive(Clone, Copy)]
+pub(crate) struct AsciiCounter {
+    words: u128,
+    /// The last byte is a digit that stands alone, so that one more digit would share its word.
+    lone_digit: bool,
+}
+
+/// The words of a byte that stands alone in ASCII.
+fn words_of_byte(byte: u8) -> u128
+    ensures exact { result ≡ length (ascii_byte byte) }
+    ensures few { result ≤ 2 }
+{
+    if byte < 128 { 1 } else { 2 }
+}
+
+impl AsciiCounter {
+    /// The counter of no bytes.
+    fn start() -> AsciiCounter
+        ensures { CountsAscii [] result }
+    {
+        AsciiCounter {
+            words: 0,
+            lone_digit: false,
+        }
+    }
+
+    /// The counter of one byte more.
+    fn with(self, byte: u8) -> AsciiCounter
+        requires { self.words < 2 ^ 100 }
+        ensures { (bytes : List ℕ) → CountsAscii bytes self → CountsAscii (bytes ++ byte ∷ []) result }
+    {
+        let is_digit = byte.is_ascii_digit();
+        if self.lone_digit && is_digit {
+            return AsciiCounter {
+                words: self.words,
+                lone_digit: false,
+            };
+        }
+        AsciiCounter {
+            words: self.words + words_of_byte(byte),
+            lone_digit: is_digit,
+        }
+    }
+}
+
+/// The words of so many bytes in Base 256.
+fn base_256_words(count: u128) -> u128
+    requires { count < 2 ^ 100 }
+    ensures { result ≡ base_256_need count }
+{
+    match count {
+        0 => 0,
+        1..=249 => count + 2,
+        _ => count + 3,
+    }
+}
+
+/// The words of a text in a scheme.
+#[derive(Clone, Copy)]
+pub(crate) enum Counter {
+    Ascii(AsciiCounter),
+    /// So many bytes.
+    Base256(u128),
+}
+
+impl Counter {
+    /// The counter of no bytes.
+    pub(crate) fn start(scheme: Scheme) -> Counter
+        ensures { Counts scheme [] result }
+    {
+        match scheme {
+            Scheme::Ascii => Counter::Ascii(AsciiCounter::start()),
+            Scheme::Base256 => Counter::Base256(0),
+        }
+    }
+
+    /// The counter of one byte more.
+    pub(crate) fn with(self, byte: u8) -> Counter
+        requires { IsSmall self }
+        ensures { (scheme : Scheme) (bytes : List ℕ) → Counts scheme bytes self → Counts scheme (bytes ++ byte ∷ []) result }
+    {
+        match self {
+            Counter::Ascii(counter) => Counter::Ascii(counter.with(byte)),
+            Counter::Base256(count) => Counter::Base256(count + 1),
+        }
+    }
+
+    /// How many words the bytes take.
+    pub(crate) fn words(self) -> u128
+        requires { IsSmall self }
+        ensures { (scheme : Scheme) (bytes : List ℕ) → Counts scheme bytes self → result ≡ need_of scheme bytes }
+    {
+        match self {
+            Counter::Ascii(counter) => counter.words,
+            Counter::Base256(count) => base_256_words(count),
+        }
+    }
+}

@@ -1,0 +1,87 @@
+//! The text of a symbol's data words.
+
+ghost use Rattle.std.specs.Prelude.{◌≡◌, ℕ, ◌+◌, ◌≤◌, ◌++◌, length, drop, IfOk, IfErr, OnOk, IsErrOf, List, ◌≢◌, Ok};
+ghost use Rattle.dm_encodation.specs.Grammar.{ReadsOnly, StuckOnly};
+ghost use Rattle.dm_encodation.specs.Reading.{reading};
+ghost use Rattle.dm_encodation.specs.Seen.{bytes_of, Checks, Fails};
+ghost use Rattle.dm_encodation.specs.declared.fault.DecodeFault.TheVariants.{Memory};
+ghost use Rattle.dm_encodation.specs.declared.mode.Mode.TheVariants.{Ascii};
+
+use crate::fault::DecodeFault;
+use crate::mode::Mode;
+use crate::reader::{Output, finish, step};
+use std::alloc::{AllocError, Allocator};
+
+/// Whether the words are a text; no memory is asked for.
+fn check(words: &[u8], from: usize) -> Result<(), DecodeFault>
+    requires { from ≤ length words.now }
+    ensures { Checks result (reading Ascii (from + 1) (drop from words.now)) }
+{
+    let mut mode = Mode::Ascii;
+    for at in from..words.len() {
+        let (next, _) = step(mode, at + 1, words[at])?;
+        mode = next;
+    }
+    finish(mode, words.len() + 1)?;
+    Ok(())
+}
+
+/// Writes what a word gives.
+fn push_output<A: Allocator>(out: &mut Vec<u8, A>, output: Output) -> Result<(), AllocError>
+    ensures { OnOk result (out.new.items ≡ out.old.items ++ bytes_of output) }
+{
+    match output {
+        Output::Nothing => {}
+        Output::One(a) => out.push(a)?,
+        Output::Two(a, b) => {
+            out.push(a)?;
+            out.push(b)?;
+        }
+        Output::Three(a, b, c) => {
+            out.push(a)?;
+            out.push(b)?;
+            out.push(c)?;
+        }
+    }
+    Ok(())
+}
+
+/// The bytes of the words.
+fn collect<A: Allocator + Copy>(
+    alloc: A,
+    words: &[u8],
+    from: usize,
+) -> Result<Vec<u8, A>, DecodeFault>
+    requires { from ≤ length words.now }
+    ensures given { IfOk result (λ v. reading Ascii (from + 1) (drop from words.now) ≡ Ok v.items) }
+    ensures fails { IfErr result (λ f. Fails f (reading Ascii (from + 1) (drop from words.now))) }
+{
+    let mut out = Vec::new(alloc);
+    let mut mode = Mode::Ascii;
+    for at in from..words.len() {
+        let (next, output) = step(mode, at + 1, words[at])?;
+        push_output(&mut out, output)?;
+        mode = next;
+    }
+    let output = finish(mode, words.len() + 1)?;
+    push_output(&mut out, output)?;
+    Ok(out)
+}
+
+/// The bytes that the data words from index `from` on read as (ISO/IEC 16022, section 5.2; how a run of C40
+/// or Text ends is this project's own rule). The words begin in ASCII, and their end is the symbol's end.
+/// The first fault from the left is answered. `Memory` comes only where the words have no fault, since all
+/// of them are looked through before any memory is asked for.
+pub fn decode<A: Allocator + Copy>(
+    alloc: A,
+    words: &[u8],
+    from: usize,
+) -> Result<Vec<u8, A>, DecodeFault>
+    requires { from ≤ length words.now }
+    ensures read { IfOk result (λ v. ReadsOnly (from + 1) (drop from words.now) v.items) }
+    ensures stuck { IfErr result (λ f. f ≢ Memory → StuckOnly (from + 1) (drop from words.now) f) }
+    ensures memory { IsErrOf result Memory → (bytes : List ℕ) × ReadsOnly (from + 1) (drop from words.now) bytes }
+{
+    check(words, from)?;
+    collect(alloc, words, from)
+}

@@ -1,0 +1,75 @@
+//! A symbol's data words.
+
+ghost use Rattle.std.specs.Prelude.{◌≡◌, ◌+◌, ◌-◌, ◌<◌, ◌≤◌, ◌^◌, ◌++◌, ◌↔◌, length, drop, IfOk, OnOk, IsErrOf, vec_len};
+ghost use Rattle.dm_check_blocks.specs.Sizes.{data_words};
+ghost use Rattle.dm_encodation.specs.Grammar.{ReadsOnly};
+ghost use Rattle.dm_encodation.specs.Written.{text, filled, need_of};
+ghost use Rattle.dm_encodation.specs.declared.fault.EncodeFault.TheVariants.{TooLong};
+
+use crate::ascii::push_ascii;
+use crate::base256::push_base_256;
+use crate::counting::words_of;
+use crate::fault::EncodeFault;
+use crate::pads::push_pads;
+use crate::scheme::Scheme;
+use dm_check_blocks::Size;
+use std::alloc::{AllocError, Allocator};
+
+/// Writes the words of a text, the first at the position behind what was written.
+fn push_text<A: Allocator>(
+    out: &mut Vec<u8, A>,
+    scheme: Scheme,
+    bytes: &[u8],
+) -> Result<(), AllocError>
+    requires place { vec_len out.old < 2 ^ 16 }
+    requires short { need_of scheme bytes.now ≤ 1304 }
+    ensures { OnOk result (out.new.items ≡ out.old.items ++ text scheme (vec_len out.old + 1) bytes.now) }
+{
+    match scheme {
+        Scheme::Ascii => push_ascii(out, bytes),
+        Scheme::Base256 => push_base_256(out, bytes),
+    }
+}
+
+/// The data words of a symbol that has room for the head and the text.
+fn fill<A: Allocator + Copy>(
+    alloc: A,
+    scheme: Scheme,
+    bytes: &[u8],
+    head: &[u8],
+    capacity: usize,
+) -> Result<Vec<u8, A>, AllocError>
+    requires text { length head.now + need_of scheme bytes.now ≤ capacity }
+    requires symbol { capacity ≤ 1304 }
+    ensures { IfOk result (λ v. v.items ≡ filled scheme head.now bytes.now capacity) }
+{
+    let mut out = Vec::with_capacity(alloc, capacity)?;
+    out.extend_from_slice(head)?;
+    push_text(&mut out, scheme, bytes)?;
+    push_pads(&mut out, capacity)?;
+    Ok(out)
+}
+
+/// The data words of a symbol: the head, the words of the text, and pads (ISO/IEC 16022, section 5.2, and
+/// this project's own rule where the standard leaves a choice). The words are exactly as many as the size
+/// has, and read from the head's end as the bytes and as nothing else. `TooLong` comes exactly where the
+/// text needs more words than the head leaves, and before any memory is asked for.
+pub fn encode<A: Allocator + Copy>(
+    alloc: A,
+    scheme: Scheme,
+    bytes: &[u8],
+    head: &[u8],
+    size: Size,
+) -> Result<Vec<u8, A>, EncodeFault>
+    requires { length head.now ≤ data_words size }
+    ensures filled { IfOk result (λ v. v.items ≡ filled scheme head.now bytes.now (data_words size)) }
+    ensures whole { IfOk result (λ v. length v.items ≡ data_words size) }
+    ensures reads { IfOk result (λ v. ReadsOnly (length head.now + 1) (drop (length head.now) v.items) bytes.now) }
+    ensures too_long { IsErrOf result TooLong ↔ (data_words size - length head.now < need_of scheme bytes.now) }
+{
+    let capacity = size.data_words();
+    if words_of(scheme, bytes) > (capacity - head.len()) as u128 {
+        return Err(EncodeFault::TooLong);
+    }
+    Ok(fill(alloc, scheme, bytes, head, capacity)?)
+}

@@ -1,0 +1,38 @@
+//! The pads behind a text.
+
+ghost use Rattle.std.specs.Prelude.{◌≡◌, ◌+◌, ◌-◌, ◌<◌, ◌^◌, ◌++◌, OnOk, vec_len};
+ghost use Rattle.dm_encodation.specs.Words.{pads, state_253};
+
+use std::alloc::{AllocError, Allocator};
+
+/// A pad but the first, by its position (the standard's 253-state algorithm).
+#[tactic(auto, unfolding(crate::specs::Words::state_253))]
+fn later_pad(position: usize) -> u8
+    requires { position < 2 ^ 32 }
+    ensures { result ≡ state_253 position }
+{
+    let sum = 129 + ((149 * position) % 253 + 1);
+    if sum <= 254 {
+        sum as u8
+    } else {
+        (sum - 254) as u8
+    }
+}
+
+/// Fills the symbol up to `capacity` words with pads.
+pub(crate) fn push_pads<A: Allocator>(
+    out: &mut Vec<u8, A>,
+    capacity: usize,
+) -> Result<(), AllocError>
+    requires { capacity < 2 ^ 16 }
+    ensures { OnOk result (out.new.items ≡ out.old.items ++ pads (vec_len out.old + 1) (capacity - vec_len out.old)) }
+{
+    if out.len() >= capacity {
+        return Ok(());
+    }
+    out.push(129)?;
+    for position in out.len() + 1..capacity + 1 {
+        out.push(later_pad(position))?;
+    }
+    Ok(())
+}

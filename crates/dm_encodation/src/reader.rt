@@ -1,0 +1,169 @@
+//! Reading word by word.
+
+ghost use Rattle.std.specs.Prelude.{◌≡◌, ℕ, ◌+◌, ◌<◌, IfOk};
+ghost use Rattle.dm_encodation.specs.Reading;
+ghost use Rattle.dm_encodation.specs.Seen.{seen, seen_end, seen_unit, IsMode};
+
+use crate::fault::DecodeFault;
+use crate::letters::Letters;
+use crate::mode::{Mode, NO_PENDING};
+use crate::values::pair_step;
+
+/// The bytes that one word gives.
+#[derive(Clone, Copy)]
+pub(crate) enum Output {
+    Nothing,
+    One(u8),
+    Two(u8, u8),
+    Three(u8, u8, u8),
+}
+
+/// A word in ASCII.
+#[tactic(auto, unfolding(crate::specs::Reading::ascii_step))]
+fn ascii_step(position: usize, word: u8) -> Result<(Mode, Output), DecodeFault>
+    ensures step { seen result ≡ Reading.ascii_step position word }
+    ensures mode { 0 < position → IfOk result (λ x. IsMode x.0 (position + 1)) }
+{
+    match word {
+        0 => Err(DecodeFault::Reserved { at: position, word }),
+        1..=128 => Ok((Mode::Ascii, Output::One(word - 1))),
+        129 => Ok((Mode::Padded, Output::Nothing)),
+        130..=229 => {
+            let number = word - 130;
+            Ok((
+                Mode::Ascii,
+                Output::Two(b'0' + number / 10, b'0' + number % 10),
+            ))
+        }
+        230 => Ok((Mode::Run(Letters::Capital, NO_PENDING), Output::Nothing)),
+        231 => Ok((Mode::Length, Output::Nothing)),
+        235 => Ok((Mode::Upper, Output::Nothing)),
+        239 => Ok((Mode::Run(Letters::Small, NO_PENDING), Output::Nothing)),
+        232..=241 => Err(DecodeFault::Unsupported { at: position, word }),
+        242..=255 => Err(DecodeFault::Reserved { at: position, word }),
+    }
+}
+
+/// The word behind Upper Shift.
+#[tactic(auto, unfolding(crate::specs::Reading::upper_step))]
+fn upper_step(position: usize, word: u8) -> Result<(Mode, Output), DecodeFault>
+    ensures step { seen result ≡ Reading.upper_step position word }
+    ensures mode { IfOk result (λ x. (p : ℕ) → IsMode x.0 p) }
+{
+    match word {
+        1..=128 => Ok((Mode::Ascii, Output::One(word + 127))),
+        _ => Err(DecodeFault::Reserved { at: position, word }),
+    }
+}
+
+/// A word taken out of the 255-state algorithm.
+#[tactic(auto, unfolding(crate::specs::Reading::value_255))]
+fn value_255(position: usize, word: u8) -> u8
+    ensures { result ≡ Reading.value_255 position word }
+{
+    let shift = (149 * (position % 255)) % 255 + 1;
+    if shift <= word as usize {
+        word - shift as u8
+    } else {
+        (word as usize + 256 - shift) as u8
+    }
+}
+
+/// So many bytes of Base 256 are left.
+fn bytes_left(count: usize, at: usize) -> Mode
+    ensures mode { result ≡ Reading.bytes_left count at }
+    ensures fits { (p : ℕ) → IsMode result p }
+{
+    if count == 0 {
+        Mode::Ascii
+    } else {
+        Mode::Bytes(count, at)
+    }
+}
+
+/// One word.
+#[tactic(auto, unfolding(crate::specs::Reading::step))]
+pub(crate) fn step(mode: Mode, position: usize, word: u8) -> Result<(Mode, Output), DecodeFault>
+    requires place { 0 < position }
+    requires mode { IsMode mode position }
+    ensures step { seen result ≡ Reading.step mode position word }
+    ensures next { IfOk result (λ x. IsMode x.0 (position + 1)) }
+{
+    match mode {
+        Mode::Ascii => ascii_step(position, word),
+        Mode::Upper => upper_step(position, word),
+        Mode::Run(letters, pending) => {
+            if word == 254 {
+                Ok((Mode::Ascii, Output::Nothing))
+            } else {
+                Ok((Mode::Half(letters, pending, word), Output::Nothing))
+            }
+        }
+        Mode::Half(letters, pending, first) => pair_step(
+            letters,
+            pending,
+            position - 1,
+            first,
+            word,
+        ),
+        Mode::Length => {
+            let value = value_255(position, word);
+            if value == 0 {
+                Ok((Mode::Rest, Output::Nothing))
+            } else if value < 250 {
+                Ok((bytes_left(value as usize, position - 1), Output::Nothing))
+            } else {
+                Ok((Mode::LongLength(value), Output::Nothing))
+            }
+        }
+        Mode::LongLength(first) => {
+            let value = value_255(position, word);
+            if value < 250 {
+                Ok((
+                    bytes_left(250 * (first as usize - 249) + value as usize, position - 2),
+                    Output::Nothing,
+                ))
+            } else {
+                Err(DecodeFault::Reserved { at: position, word })
+            }
+        }
+        Mode::Bytes(count, at) => Ok((
+            bytes_left(count - 1, at),
+            Output::One(value_255(position, word)),
+        )),
+        Mode::Rest => Ok((Mode::Rest, Output::One(value_255(position, word)))),
+        Mode::Padded => Ok((Mode::Padded, Output::Nothing)),
+    }
+}
+
+/// The end of the words, where the mode isn't `Half`.
+fn ended(mode: Mode, position: usize) -> Result<(), DecodeFault>
+    requires { IsMode mode position }
+    ensures { seen_unit result ≡ Reading.ended mode position }
+{
+    match mode {
+        Mode::Upper | Mode::Length => Err(DecodeFault::Cut { at: position - 1 }),
+        Mode::LongLength(_) => Err(DecodeFault::Cut { at: position - 2 }),
+        Mode::Bytes(_, at) => Err(DecodeFault::Cut { at }),
+        _ => Ok(()),
+    }
+}
+
+/// The end of the words. A word that a run left over is read in ASCII.
+#[tactic(auto, unfolding(crate::specs::Reading::finish))]
+pub(crate) fn finish(mode: Mode, position: usize) -> Result<Output, DecodeFault>
+    requires { IsMode mode position }
+    ensures { seen_end result ≡ Reading.finish mode position }
+{
+    match mode {
+        Mode::Half(_, _, word) => {
+            let (next, output) = ascii_step(position - 1, word)?;
+            ended(next, position)?;
+            Ok(output)
+        }
+        _ => {
+            ended(mode, position)?;
+            Ok(Output::Nothing)
+        }
+    }
+}

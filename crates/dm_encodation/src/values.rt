@@ -1,0 +1,170 @@
+//! The values of C40 and Text, and the pairs of words that hold three of them.
+
+ghost use Rattle.std.specs.Prelude.{◌≡◌, ◌+◌, ◌<◌, ◌++◌, ◌∷◌, [], IfOk, IfSome};
+ghost use Rattle.dm_encodation.specs.Reading;
+ghost use Rattle.dm_encodation.specs.Seen.{seen, seen_value, seen_values, bytes_of, option_bytes, fault_of, IsMode};
+
+use crate::fault::DecodeFault;
+use crate::letters::Letters;
+use crate::mode::{Mode, NO_PENDING, Pending, Set, ValueFault};
+use crate::reader::Output;
+
+/// The byte of a value in a set.
+#[tactic(auto, unfolding(crate::specs::Reading::byte_in))]
+fn byte_in(letters: Letters, set: Set, value: u8) -> Option<u8>
+    ensures byte { result ≡ Reading.byte_in letters set value }
+    ensures low { IfSome result (λ b. b < 128) }
+{
+    match (set, letters) {
+        (Set::Basic, _) => match value {
+            0..=2 => None,
+            3 => Some(b' '),
+            4..=13 => Some(value + 44),
+            14..=39 => match letters {
+                Letters::Capital => Some(value + 51),
+                Letters::Small => Some(value + 83),
+            },
+            _ => None,
+        },
+        (Set::First, _) => if value < 32 { Some(value) } else { None },
+        (Set::Second, _) => match value {
+            0..=14 => Some(value + 33),
+            15..=21 => Some(value + 43),
+            22..=26 => Some(value + 69),
+            _ => None,
+        },
+        (Set::Third, Letters::Capital) => if value < 32 { Some(value + 96) } else { None },
+        (Set::Third, Letters::Small) => match value {
+            0 => Some(96),
+            1..=26 => Some(value + 64),
+            27..=31 => Some(value + 96),
+            _ => None,
+        },
+    }
+}
+
+/// The end of a character.
+fn end_character(upper: bool, byte: Option<u8>) -> Result<(Pending, Option<u8>), ValueFault>
+    requires { IfSome byte (λ b. b < 128) }
+    ensures { seen_value result ≡ Reading.character_ended upper byte }
+{
+    match byte {
+        None => Err(ValueFault::Missing),
+        Some(byte) => Ok((NO_PENDING, Some(if upper { byte + 128 } else { byte }))),
+    }
+}
+
+/// One value of a run.
+#[tactic(auto, unfolding(crate::specs::Reading::value_step))]
+fn value_step(
+    letters: Letters,
+    pending: Pending,
+    value: u8,
+) -> Result<(Pending, Option<u8>), ValueFault>
+    ensures { seen_value result ≡ Reading.value_step letters pending value }
+{
+    let upper = pending.upper;
+    match (pending.set, value) {
+        (Set::Basic, 0) => Ok((
+            Pending {
+                upper,
+                set: Set::First,
+            },
+            None,
+        )),
+        (Set::Basic, 1) => Ok((
+            Pending {
+                upper,
+                set: Set::Second,
+            },
+            None,
+        )),
+        (Set::Basic, 2) => Ok((
+            Pending {
+                upper,
+                set: Set::Third,
+            },
+            None,
+        )),
+        (Set::Second, 27) => Err(ValueFault::Fnc1),
+        (Set::Second, 30) if !upper => Ok((
+            Pending {
+                upper: true,
+                set: Set::Basic,
+            },
+            None,
+        )),
+        (set, _) => end_character(upper, byte_in(letters, set, value)),
+    }
+}
+
+/// The fault of a pair that begins with this word.
+fn pair_fault(fault: ValueFault, position: usize, word: u8) -> DecodeFault
+    ensures { result ≡ fault_of fault position word }
+{
+    match fault {
+        ValueFault::Fnc1 => DecodeFault::Unsupported { at: position, word },
+        ValueFault::Missing => DecodeFault::Reserved { at: position, word },
+    }
+}
+
+/// The bytes of up to three characters.
+fn joined(first: Option<u8>, second: Option<u8>, third: Option<u8>) -> Output
+    ensures { bytes_of result ≡ option_bytes first ++ (option_bytes second ++ (option_bytes third ++ [])) }
+{
+    match (first, second, third) {
+        (None, None, None) => Output::Nothing,
+        (Some(a), None, None) | (None, Some(a), None) | (None, None, Some(a)) => Output::One(a),
+        (Some(a), Some(b), None) | (Some(a), None, Some(b)) | (None, Some(a), Some(b)) =>
+            Output::Two(a, b),
+        (Some(a), Some(b), Some(c)) => Output::Three(a, b, c),
+    }
+}
+
+/// Three values of a run.
+fn values_step(
+    letters: Letters,
+    pending: Pending,
+    first: u8,
+    second: u8,
+    third: u8,
+) -> Result<(Pending, Output), ValueFault>
+    ensures { seen_values result ≡ Reading.values_step letters pending (first ∷ second ∷ third ∷ []) }
+{
+    let (pending, first) = value_step(letters, pending, first)?;
+    let (pending, second) = value_step(letters, pending, second)?;
+    let (pending, third) = value_step(letters, pending, third)?;
+    Ok((pending, joined(first, second, third)))
+}
+
+/// A pair of a run.
+#[tactic(auto, unfolding(crate::specs::Reading::pair_step))]
+pub(crate) fn pair_step(
+    letters: Letters,
+    pending: Pending,
+    position: usize,
+    first: u8,
+    second: u8,
+) -> Result<(Mode, Output), DecodeFault>
+    ensures step { seen result ≡ Reading.pair_step letters pending position first second }
+    ensures mode { IfOk result (λ x. IsMode x.0 (position + 2)) }
+{
+    let number = 256 * first as u32 + second as u32;
+    if number == 0 || number > 64000 {
+        return Err(DecodeFault::Reserved {
+            at: position,
+            word: first,
+        });
+    }
+    let values = number - 1;
+    match values_step(
+        letters,
+        pending,
+        (values / 1600) as u8,
+        (values / 40 % 40) as u8,
+        (values % 40) as u8,
+    ) {
+        Ok((pending, output)) => Ok((Mode::Run(letters, pending), output)),
+        Err(fault) => Err(pair_fault(fault, position, first)),
+    }
+}

@@ -1,0 +1,2 @@
+//! dm_finder_frame
+#![tactic(auto)]

@@ -1,0 +1,9 @@
+pub mod Checks
+pub mod Divide
+pub mod Evals
+pub mod Linear
+pub mod Ring
+pub mod Steps
+pub mod Tables
+pub mod Vanish
+pub mod Words

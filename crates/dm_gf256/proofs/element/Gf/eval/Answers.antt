@@ -1,0 +1,13 @@
+use Rattle.std.proofs.Common.{refl, ap, ◌∙◌, arith}
+use Rattle.std.specs.Int.Bits.{bit_xor}
+use Rattle.dm_gf256.specs.Polynomial.{value}
+use Rattle.dm_gf256.proofs.Evals.{value-more}
+use Rattle.dm_gf256.proofs.element.Gf.eval.Goals as goal
+
+pub loop-c-init : goal.loop-c-init
+unfolding value
+loop-c-init c = refl
+
+pub loop-c-preserved : goal.loop-c-preserved
+loop-c-preserved c =
+    rw c.mul.ensures (value-more c.args.poly.now (record { 0 = 0 }) c.loop-c.c-index c.args.x.0 c.loop-c.sum.0 c.loop-c-test.true (omega arith) c.loop-c.invariant)

@@ -1,0 +1,2 @@
+//! dm_placement
+#![tactic(auto)]

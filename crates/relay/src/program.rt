@@ -1,0 +1,52 @@
+//! The program over its own streams.
+
+use crate::output::Output;
+use crate::words::words_command;
+use relay_line::{Command, LineFault, command_line};
+use std::rt::Env;
+use std::{env, io};
+
+// Does a command.
+fn done<R: AllocGlobal + Input + Print + Eprint>(rt: &R, command: Command) -> u8 {
+    let mut reader = rt.reader();
+    let mut output = Output::new(io::writer(rt));
+    match command {
+        Command::Words { side, scheme } => words_command(
+            rt.alloc(),
+            &mut reader,
+            &mut output,
+            side,
+            scheme,
+        ),
+    }
+}
+
+// Shows why a line wasn't taken.
+fn refused<R: Print + Eprint>(rt: &R, fault: &LineFault) -> u8 {
+    let shown = match fault {
+        LineFault::Line { text, status: 0 } => print!(rt; "{text}"),
+        LineFault::Line { text, .. } => eprint!(rt; "{text}"),
+        LineFault::Memory => eprint!(rt; "refused Memory\n"),
+    };
+    match (shown, fault) {
+        (Ok(()), LineFault::Line { status, .. }) => *status,
+        _ => 1,
+    }
+}
+
+// The program's own words, its name first.
+fn own_words<R: AllocGlobal + Env>(rt: &R) -> io::Result<Vec<String>> {
+    Ok(env::args(rt)?.collect(rt.alloc())?)
+}
+
+/// Does what the program's own words say over its own streams, and answers the exit status: that of the
+/// command, or 2 where the line or the words were not to be had, or 0 where help was asked for.
+pub fn run<R: AllocGlobal + Input + Print + Eprint + Env>(rt: &R) -> u8 {
+    let Ok(words) = own_words(rt) else {
+        return 2;
+    };
+    match command_line(rt.alloc(), words.as_slice()) {
+        Ok(command) => done(rt, command),
+        Err(fault) => refused(rt, &fault),
+    }
+}

@@ -1,0 +1,15 @@
+-- What a command line gives.
+use Rattle.std.specs.Prelude.{◌≡◌, ◌≤◌, ◌⊎◌}
+use Rattle.relay_line.specs.declared.command.Command.{Command}
+use Rattle.relay_line.specs.declared.command.Command.TheVariants.{Words}
+use Rattle.relay_line.specs.declared.fault.LineFault.{LineFault}
+use Rattle.relay_line.specs.declared.fault.LineFault.TheVariants.{Line, Memory}
+
+-- each number is in the range that the help names
+abbrev pub HasNumbersInRange : Command → Type 0
+HasNumbersInRange (Words side scheme) = (10 ≤ side) × (side ≤ 132)
+
+-- a refused line ends with 2, help that was asked for with 0
+abbrev pub HasStatus : LineFault → Type 0
+HasStatus (Line text status) = (status ≡ 0) ⊎ (status ≡ 2)
+HasStatus Memory = Unit {0}

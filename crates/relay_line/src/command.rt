@@ -1,0 +1,10 @@
+//! What the program is asked to do.
+
+use dm_encodation::Scheme;
+
+/// A command with its options, by name.
+#[derive(Clone, Copy, Debug, PartialEq, Eq)]
+pub enum Command {
+    /// Prints the words of a symbol. `side` is a number from 10 to 132, which need not be one of the sizes.
+    Words { side: u16, scheme: Scheme },
+}

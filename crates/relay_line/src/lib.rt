@@ -1,0 +1,16 @@
+//! The command line of `relay`: its words become a `Command`, or a fault with the text to show.
+//!
+//! Proved: the numbers of a command are in the ranges that the help names. Which fault a wrong line
+//! has, and its text, are the parser's, and shown by tests.
+#![tactic(auto)]
+
+mod command;
+mod fault;
+mod options;
+mod parse;
+#[cfg(test)]
+mod tests;
+
+pub use command::Command;
+pub use fault::LineFault;
+pub use parse::command_line;

@@ -1,0 +1,52 @@
+//! The commands and their options, as the parser knows them.
+
+use clap::{Arg, Command, value_parser};
+use dm_encodation::Scheme;
+use std::alloc::{AllocError, Global};
+
+/// The names of the encodations.
+static SCHEMES: [&str; 2] = ["ascii", "base256"];
+
+/// The encodation of a name, if it is one of `SCHEMES`.
+pub fn scheme_of(name: &str) -> Option<Scheme> {
+    match name {
+        "ascii" => Some(Scheme::Ascii),
+        "base256" => Some(Scheme::Base256),
+        _ => None,
+    }
+}
+
+fn side<'a>(alloc: Global) -> Arg<'a> {
+    Arg::new(alloc, "side")
+        .long("side")
+        .value_name("SIDE")
+        .help("modules along a side of the symbol, 10 to 132; one of the 23 sizes")
+        .value_parser(value_parser!(u16).range(10..=132))
+        .default_value("10")
+}
+
+fn scheme<'a>(alloc: Global) -> Arg<'a> {
+    Arg::new(alloc, "scheme")
+        .long("scheme")
+        .value_name("SCHEME")
+        .help("how the bytes are encoded")
+        .value_parser(SCHEMES.as_slice())
+        .default_value("ascii")
+}
+
+fn words<'a>(alloc: Global) -> Result<Command<'a>, AllocError> {
+    Command::new(alloc, "words")
+        .about("Reads a document and prints the words of its symbol in decimal")
+        .arg(side(alloc))?
+        .arg(scheme(alloc))
+}
+
+/// The whole program.
+pub fn relay<'a>(alloc: Global) -> Result<Command<'a>, AllocError> {
+    Command::new(alloc, "relay")
+        .bin_name("relay")
+        .about("Relays documents printed as Data Matrix labels")
+        .after_help("Without a command, relay does `words` with its defaults.")
+        .disable_help_subcommand(true)
+        .subcommand(words(alloc)?)
+}
