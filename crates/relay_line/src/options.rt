@@ -44,7 +44,7 @@ fn words<'a>(alloc: Global) -> Result<Command<'a>, AllocError> {
 /// The whole program.
 pub fn relay<'a>(alloc: Global) -> Result<Command<'a>, AllocError> {
     Command::new(alloc, "relay")
-        .bin_name("relay")
+        .bin_name("relay")?
         .about("Relays documents printed as Data Matrix labels")
         .after_help("Without a command, relay does `words` with its defaults.")
         .disable_help_subcommand(true)
