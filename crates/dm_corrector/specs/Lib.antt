@@ -1,0 +1,5 @@
+pub mod Corrections
+pub mod Locators
+pub mod Polynomials
+pub mod Rows
+pub mod Symbols

@@ -1,8 +1,8 @@
 -- A text in ASCII: the piece at its front, and one byte more at its end.
-use Rattle.std.proofs.Common.{◌≡◌, ℕ, zero, suc, ltb, ◌+◌, ◌-◌, ◌*◌, ◌<◌, ◌≤◌, ◌≢◌, Bool, true, false, cond, ◌&&◌, List, [], ◌∷◌, ◌++◌, length, get_or, take, drop, refl, sym, ap, ◌∙◌, arith, ◌⊎◌, inl, inr}
+use Rattle.std.proofs.Common.{◌≡◌, ℕ, suc, ◌+◌, ◌-◌, ◌*◌, ◌<◌, ◌≤◌, ◌≢◌, ltb, Bool, true, false, ◌&&◌, List, [], ◌∷◌, ◌++◌, length, get_or, drop, refl, sym, ap, ◌∙◌, arith, ◌⊎◌, inl, inr}
 use Rattle.std.specs.Char.{is_ascii_digit}
-use Rattle.std.proofs.lemmas.Bool.{and_parts, leb-true, lt-ltb, le-ltb, cond_both, cases_lt}
-use Rattle.std.proofs.lemmas.List.{append-nil, take_all, length-append}
+use Rattle.std.proofs.lemmas.Bool.{and_parts, leb-true, lt-ltb, le-ltb, cond_both}
+use Rattle.std.proofs.lemmas.List.{append-nil, length-append}
 use Rattle.dm_encodation.specs.Written.{ascii_byte, ascii}
 use Rattle.dm_encodation.specs.Pieces.{has_digits}
 use Rattle.dm_encodation.specs.declared.counter.AsciiCounter.{AsciiCounter}
@@ -51,6 +51,31 @@ ascii-nil bytes e = rw e refl
 -- all is written
 pub ascii_done : (out bytes all : List ℕ) → bytes ≡ [] → out ++ ascii bytes ≡ all → out ≡ all
 ascii_done out bytes all e h = sym (append-nil out) ∙ ap (λ (x : List ℕ). out ++ x) (sym (ascii-nil bytes e)) ∙ h
+
+-- a byte takes one word or two
+pub some_words : (b : ℕ) → (1 ≤ length (ascii_byte b)) × (length (ascii_byte b) ≤ 2)
+some_words b =
+    cond_both (ltb b 128) ((b + 1) ∷ []) (235 ∷ (b - 127) ∷ []) (λ (ws : List ℕ). (1 ≤ length ws) × (length ws ≤ 2)) (λ _. (omega arith, omega arith)) (λ _. (omega arith, omega arith))
+
+pub some_ascii : (b : ℕ) (bs : List ℕ) → 1 ≤ length (ascii (b ∷ bs))
+unfolding ascii
+some_ascii b [] = (some_words b).0
+some_ascii b (c ∷ bs) =
+    let one = some_words b in
+    cond_both (is_ascii_digit b && is_ascii_digit c) ((130 + (10 * (b - 48) + (c - 48))) ∷ ascii bs) (ascii_byte b ++ ascii (c ∷ bs)) (λ (ws : List ℕ). 1 ≤ length ws)
+    (λ _. omega arith) (λ _. omega (arith, length-append (ascii_byte b) (ascii (c ∷ bs))))
+
+-- a text in ASCII is at most twice as long
+pub length-ascii : (bytes : List ℕ) → length (ascii bytes) ≤ 2 * length bytes
+unfolding ascii
+length-ascii [] = omega arith
+length-ascii (b ∷ []) = (some_words b).1
+length-ascii (b ∷ c ∷ bs) =
+    let one = length-ascii bs in
+    let two = length-ascii (c ∷ bs) in
+    let few = some_words b in
+    cond_both (is_ascii_digit b && is_ascii_digit c) ((130 + (10 * (b - 48) + (c - 48))) ∷ ascii bs) (ascii_byte b ++ ascii (c ∷ bs)) (λ (ws : List ℕ). length ws ≤ 2 * length (b ∷ c ∷ bs))
+    (λ _. omega arith) (λ _. simp length-append (omega arith))
 
 -- ---- one byte more at the end
 

@@ -7,6 +7,11 @@ pub mod Reread
 pub mod Turns
 pub mod Faults
 pub mod Stopped
+pub mod Counters
 pub mod Prefixes
+pub mod RunRead
 pub mod Base256Words
 pub mod Filled
+pub mod RunWords
+pub mod RunLoop
+pub mod Lengths

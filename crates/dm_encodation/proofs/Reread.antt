@@ -1,18 +1,15 @@
 -- What is written is read.
-use Rattle.std.proofs.Common.{◌≡◌, ℕ, zero, suc, ◌+◌, ◌-◌, ◌*◌, ◌<◌, ◌≤◌, ◌≢◌, ◌⊎◌, inl, inr, Bool, true, false, cond, ◌&&◌, leb, ltb, List, [], ◌∷◌, ◌++◌, length, get_or, take, drop, Result, Ok, Err, refl, sym, ap, subst, ◌∙◌, append_assoc, arith}
-use Rattle.std.specs.List.{flat_map, AllByRecursion}
+use Rattle.std.proofs.Common.{◌≡◌, ℕ, zero, suc, ◌+◌, ◌-◌, ◌*◌, ◌<◌, ◌≤◌, ◌≢◌, inl, inr, true, ◌&&◌, List, [], ◌∷◌, ◌++◌, length, get_or, drop, Result, Ok, Err, refl, sym, ap, subst, ◌∙◌, append_assoc, arith}
+use Rattle.std.specs.List.{AllByRecursion}
 use Rattle.std.specs.Char.{is_ascii_digit}
 use Rattle.std.proofs.lemmas.Bool.{and_parts, leb-true, lt-ltb, le-ltb, cases_lt, cond_both}
-use Rattle.std.proofs.lemmas.List.{append-nil, get_or-drop, drop_at, take_all, length-append}
+use Rattle.std.proofs.lemmas.List.{append-nil, get_or-drop}
 use Rattle.dm_encodation.specs.declared.mode.Mode.TheVariants.{Ascii}
 use Rattle.dm_encodation.specs.Words.{pads, later_pads, state_253}
-use Rattle.dm_encodation.specs.Written.{ascii_byte, ascii, text, filled}
-use Rattle.dm_encodation.specs.declared.scheme.Scheme.TheVariants as schemes
+use Rattle.dm_encodation.specs.Written.{ascii_byte, ascii}
 use Rattle.dm_encodation.specs.Grammar
 use Rattle.dm_encodation.specs.Grammar.{Segment, Reads, Stuck, StuckHere, BadPair, StuckOnly, ReadsOnly}
 use Rattle.dm_encodation.specs.Reading.{reading}
-use Rattle.std.specs.Prelude.{IfOk, IfErr}
-use Rattle.std.specs.Global.{Vec}
 use Rattle.dm_encodation.specs.declared.letters.Letters.{Letters}
 use Rattle.dm_encodation.specs.Characters.{Triple}
 use Rattle.dm_encodation.specs.declared.fault.DecodeFault.{DecodeFault}

@@ -1,23 +1,20 @@
 -- What is read word by word, the grammar reads.
 use Rattle.std.proofs.Common.{◌≡◌, ℕ, zero, suc, ◌+◌, ◌-◌, ◌*◌, ◌/◌, ◌%◌, ◌<◌, ◌≤◌, ◌≢◌, ◌⊎◌, inl, inr, Bool, true, false, cond, eqb, leb, ltb, List, [], ◌∷◌, ◌++◌, length, Result, Ok, Err, refl, sym, ap, subst, ◌∙◌, append_assoc, arith}
 use Rattle.std.specs.List.{flat_map, AllByRecursion}
-use Rattle.std.proofs.lemmas.Bool.{eqb-true, eqb-false, leb-true, leb-false, ltb-true, ltb-false, le-leb, lt-leb, cases_lt}
+use Rattle.std.proofs.lemmas.Bool.{eqb-true, eqb-false, leb-true, ltb-true, ltb-false, le-leb, lt-leb, cases_lt}
 use Rattle.std.proofs.lemmas.List.{append-nil, length-append}
 use Rattle.std.proofs.lemmas.List.Concat.{flat_map-append}
 use Rattle.dm_encodation.specs.declared.letters.Letters.{Letters}
-use Rattle.dm_encodation.specs.declared.letters.Letters.TheVariants.{Capital, Small}
 use Rattle.dm_encodation.specs.declared.mode.Pending.{Pending}
 use Rattle.dm_encodation.specs.declared.mode.Mode.{Mode}
 use Rattle.dm_encodation.specs.declared.mode.Mode.TheVariants.{Ascii, Upper, Run, Half, Length, LongLength, Bytes, Rest, Padded}
-use Rattle.dm_encodation.specs.declared.mode.ValueFault.{ValueFault}
 use Rattle.dm_encodation.specs.declared.mode.ValueFault.TheVariants.{Fnc1, Missing}
-use Rattle.dm_encodation.specs.declared.fault.DecodeFault.{DecodeFault}
-use Rattle.dm_encodation.specs.declared.fault.DecodeFault.TheVariants.{Unsupported, Reserved, Cut, Memory}
-use Rattle.dm_encodation.specs.Characters.{Triple, IsTriple, triple_values, pair, Chars}
+use Rattle.dm_encodation.specs.declared.fault.DecodeFault.TheVariants.{Reserved}
+use Rattle.dm_encodation.specs.Characters.{Triple, IsTriple, triple_values, pair}
 use Rattle.dm_encodation.specs.Words.{state_255, randomised}
 use Rattle.dm_encodation.specs.Grammar
 use Rattle.dm_encodation.specs.Grammar.{latch, IsLength, EndsOpen, Segment, Reads}
-use Rattle.dm_encodation.specs.Reading.{◌>>=◌, prepend, Stepped, Valued, no_pending, ascii_step, upper_step, at_pair, pair_step, values_step, value_255, bytes_left, step, ended, finish, reading}
+use Rattle.dm_encodation.specs.Reading.{◌>>=◌, prepend, Stepped, Valued, no_pending, upper_step, at_pair, pair_step, values_step, value_255, bytes_left, step, ended, finish, reading}
 use Rattle.dm_encodation.proofs.Views.{AsciiStep, ascii_view}
 use Rattle.dm_encodation.proofs.Complete.{bind_ok, ok_is, values_joined, randomised-append, length-randomised}
 use Rattle.dm_encodation.proofs.TakenValues.{chars_from}

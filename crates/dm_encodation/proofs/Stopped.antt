@@ -1,32 +1,28 @@
 -- Where reading word by word fails, the words are stuck.
-use Rattle.std.proofs.Common.{◌≡◌, ℕ, zero, suc, ◌+◌, ◌-◌, ◌*◌, ◌/◌, ◌%◌, ◌<◌, ◌≤◌, ◌≢◌, ◌⊎◌, inl, inr, Bool, true, false, cond, not, ◌&&◌, eqb, leb, ltb, List, [], ◌∷◌, ◌++◌, length, get_or, take, Option, Some, None, Result, Ok, Err, refl, sym, ap, subst, ◌∙◌, append_assoc, arith}
+use Rattle.std.proofs.Common.{◌≡◌, ℕ, zero, suc, ◌+◌, ◌-◌, ◌*◌, ◌/◌, ◌%◌, ◌<◌, ◌≤◌, ◌⊎◌, inl, inr, eqb, leb, ltb, List, [], ◌∷◌, ◌++◌, length, get_or, take, Result, Ok, Err, refl, sym, ap, subst, ◌∙◌, append_assoc, arith}
 use Rattle.std.specs.List.{flat_map, AllByRecursion}
-use Rattle.std.proofs.lemmas.Bool.{eqb-true, eqb-false, leb-true, leb-false, ltb-true, ltb-false, ne_eqb, eq-eqb, le-leb, lt-leb, lt-ltb, le-ltb, cases_lt}
+use Rattle.std.proofs.lemmas.Bool.{eqb-true, eqb-false, leb-false, ltb-true, ltb-false, cases_lt}
 use Rattle.std.proofs.lemmas.List.{append-nil, length-append}
 use Rattle.dm_encodation.specs.declared.letters.Letters.{Letters}
-use Rattle.dm_encodation.specs.declared.letters.Letters.TheVariants.{Capital, Small}
-use Rattle.dm_encodation.specs.declared.mode.Set.{Set}
-use Rattle.dm_encodation.specs.declared.mode.Set.TheVariants.{Basic, First, Second, Third}
 use Rattle.dm_encodation.specs.declared.mode.Pending.{Pending}
 use Rattle.dm_encodation.specs.declared.mode.Mode.{Mode}
-use Rattle.dm_encodation.specs.declared.mode.Mode.TheVariants.{Ascii, Upper, Run, Half, Length, LongLength, Bytes, Rest, Padded}
+use Rattle.dm_encodation.specs.declared.mode.Mode.TheVariants.{Ascii, Run, Length, LongLength}
 use Rattle.dm_encodation.specs.declared.mode.ValueFault.{ValueFault}
 use Rattle.dm_encodation.specs.declared.mode.ValueFault.TheVariants.{Fnc1, Missing}
 use Rattle.dm_encodation.specs.declared.fault.DecodeFault.{DecodeFault}
-use Rattle.dm_encodation.specs.declared.fault.DecodeFault.TheVariants.{Unsupported, Reserved, Cut, Memory}
-use Rattle.dm_encodation.specs.Characters
-use Rattle.dm_encodation.specs.Characters.{Unfinished, Triple, IsTriple, triple_values, pair, Chars, IsMeaningless, IsFnc1}
+use Rattle.dm_encodation.specs.declared.fault.DecodeFault.TheVariants.{Unsupported, Reserved, Cut}
+use Rattle.dm_encodation.specs.Characters.{Triple, IsTriple, triple_values, pair, IsMeaningless}
 use Rattle.dm_encodation.specs.Words.{state_255, randomised}
 use Rattle.dm_encodation.specs.Grammar
 use Rattle.dm_encodation.specs.Grammar.{latch, IsLength, EndsOpen, Segment, Reads, IsUnsupported, BadPair, StuckHere, Stuck}
-use Rattle.dm_encodation.specs.Reading.{◌>>=◌, prepend, Stepped, Valued, no_pending, character_ended, byte_in, value_step, ascii_step, upper_step, at_pair, pair_step, values_step, value_255, bytes_left, step, ended, finish, reading}
+use Rattle.dm_encodation.specs.Reading.{◌>>=◌, prepend, Stepped, Valued, no_pending, value_step, ascii_step, upper_step, at_pair, pair_step, values_step, value_255, step, ended, finish, reading}
 use Rattle.dm_encodation.proofs.Views.{AsciiStep, ascii_view}
-use Rattle.dm_encodation.proofs.Complete.{bind_ok, ok_is, reading_silent, complete_segment, length_read, run_read, chars_step, characters_read, pair_is, step_latch, value_255-state_255, values_joined, splits, Splits}
+use Rattle.dm_encodation.proofs.Complete.{chars_step, values_joined}
 use Rattle.dm_encodation.proofs.Sound.{chosen, values_below}
-use Rattle.dm_encodation.proofs.TakenValues.{chars_from, tail_of, tail_at}
-use Rattle.dm_encodation.proofs.Sound.{InMode, Advanced, advance, unless, state_255-value_255, value_255-below}
+use Rattle.dm_encodation.proofs.TakenValues.{chars_from, tail_of}
+use Rattle.dm_encodation.proofs.Sound.{InMode, advance, state_255-value_255, value_255-below}
 use Rattle.dm_encodation.proofs.Complete.{bind_is, randomised-append, length-randomised}
-use Rattle.dm_encodation.proofs.Faults.{fnc1_is, fnc1_from, values_fail, second_tail, second_set, cut_below, append_below, ok_err, moved, moved_back}
+use Rattle.dm_encodation.proofs.Faults.{fnc1_is, fnc1_from, values_fail, second_tail, second_set, append_below, ok_err, moved, moved_back}
 
 same_error : {B E : Type 0} (d f : E) (r : Result B E) → r ≡ Err d → r ≡ Err f → d ≡ f
 same_error d f r a b = cc

@@ -1,12 +1,17 @@
 -- What a counter of words knows of the bytes so far. It is no part of the public contract.
-use Rattle.std.specs.Prelude.{◌≡◌, ℕ, ◌<◌, ◌^◌, List, [], ◌∷◌, length, ◌+◌, Bool, false, ◌&&◌, ◌==◌, nat_le, if◌then◌else◌}
+use Rattle.std.specs.Prelude.{◌≡◌, ℕ, ◌+◌, ◌*◌, ◌/◌, ◌<◌, ◌^◌, List, [], ◌∷◌, length, take, drop, Bool, false, ◌&&◌, ◌==◌, nat_le, if◌then◌else◌}
 use Rattle.std.specs.Char.{is_ascii_digit}
-use Rattle.dm_encodation.specs.Written.{ascii}
+use Rattle.std.specs.List.{flat_map}
+use Rattle.dm_encodation.specs.Characters.{values_of}
+use Rattle.dm_encodation.specs.Written.{ascii, run_length}
+use Rattle.dm_encodation.specs.declared.letters.Letters.{Letters}
+use Rattle.dm_encodation.specs.declared.letters.Letters.TheVariants.{Capital, Small}
+use Rattle.dm_encodation.specs.declared.counter.RunCounter.{RunCounter}
 use Rattle.dm_encodation.specs.declared.counter.AsciiCounter.{AsciiCounter}
 use Rattle.dm_encodation.specs.declared.counter.Counter.{Counter}
 use Rattle.dm_encodation.specs.declared.counter.Counter.TheVariants as counters
 use Rattle.dm_encodation.specs.declared.scheme.Scheme.{Scheme}
-use Rattle.dm_encodation.specs.declared.scheme.Scheme.TheVariants.{Ascii, Base256}
+use Rattle.dm_encodation.specs.declared.scheme.Scheme.TheVariants.{Ascii, C40, Text, Base256}
 
 -- whether a text in ASCII ends in a digit that has a word of its own
 unfoldable pub has_lone_digit : List ℕ → Bool
@@ -22,12 +27,30 @@ pub record CountsAscii (bytes : List ℕ) (c : AsciiCounter) : Type 0 where
 abbrev pub base_256_need : ℕ → ℕ
 base_256_need n = if n == 0 then 0 else if nat_le n 249 then n + 2 else n + 3
 
+-- a run of so many values, and so many words in ASCII behind it
+abbrev pub run_need : ℕ → ℕ → ℕ
+run_need run behind = if run == 0 then behind else if behind == 0 then 1 + run / 3 * 2 else 2 + run / 3 * 2 + behind
+
+pub record CountsRun (t : Letters) (bytes : List ℕ) (c : RunCounter) : Type 0 where
+  pub values : c.values ≡ length (flat_map (values_of t) bytes)
+  pub run : c.run ≡ length (flat_map (values_of t) (take (run_length t bytes) bytes))
+  pub behind : CountsAscii (drop (run_length t bytes) bytes) c.behind
+
+-- how the counter of a scheme counts
 abbrev pub Counts : Scheme → List ℕ → Counter → Type 0
 Counts Ascii bytes (counters.Ascii c) = CountsAscii bytes c
+Counts C40 bytes (counters.Run Capital c) = CountsRun Capital bytes c
+Counts Text bytes (counters.Run Small c) = CountsRun Small bytes c
 Counts Base256 bytes (counters.Base256 n) = n ≡ length bytes
 Counts _ _ _ = ⊥
 
 -- no sum of the counter overflows
+pub record IsSmallRun (c : RunCounter) : Type 0 where
+  pub values : c.values < 2 ^ 100
+  pub run : c.run < 2 ^ 100
+  pub behind : c.behind.words < 2 ^ 100
+
 abbrev pub IsSmall : Counter → Type 0
 IsSmall (counters.Ascii c) = c.words < 2 ^ 100
+IsSmall (counters.Run t c) = IsSmallRun c
 IsSmall (counters.Base256 n) = n < 2 ^ 100

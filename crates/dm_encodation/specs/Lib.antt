@@ -6,3 +6,4 @@ pub mod Pieces
 pub mod Counting
 pub mod Reading
 pub mod Seen
+pub mod Runs

@@ -1,7 +1,7 @@
 -- What private contracts see of a reader's steps. It is no part of the public contract.
-use Rattle.std.specs.Prelude.{◌≡◌, ℕ, ◌+◌, ◌<◌, ◌≤◌, List, [], ◌∷◌, Option, Some, None, Result, Ok, Err}
+use Rattle.std.specs.Prelude.{◌≡◌, ℕ, ◌<◌, ◌≤◌, List, [], ◌∷◌, Option, Some, None, Result, Ok, Err}
 use Rattle.dm_encodation.specs.declared.mode.Mode.{Mode}
-use Rattle.dm_encodation.specs.declared.mode.Mode.TheVariants.{Ascii, Upper, Run, Half, Length, LongLength, Bytes, Rest, Padded}
+use Rattle.dm_encodation.specs.declared.mode.Mode.TheVariants.{Upper, Half, Length, LongLength, Bytes}
 use Rattle.dm_encodation.specs.declared.mode.Pending.{Pending}
 use Rattle.dm_encodation.specs.declared.mode.ValueFault.{ValueFault}
 use Rattle.dm_encodation.specs.declared.reader.Output.{Output}

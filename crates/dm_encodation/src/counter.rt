@@ -1,10 +1,13 @@
 //! How many words a text takes, counted byte by byte.
 
 ghost use Rattle.std.specs.Prelude.{◌≡◌, ℕ, ◌<◌, ◌≤◌, ◌^◌, ◌++◌, ◌∷◌, [], List, length};
-ghost use Rattle.dm_encodation.specs.Counting.{Counts, CountsAscii, IsSmall, base_256_need};
+ghost use Rattle.dm_encodation.specs.Counting.{Counts, CountsAscii, CountsRun, IsSmall, IsSmallRun, base_256_need, run_need};
 ghost use Rattle.dm_encodation.specs.Written.{ascii_byte, need_of};
+ghost use Rattle.dm_encodation.specs.declared.letters.Letters.{Letters};
 ghost use Rattle.dm_encodation.specs.declared.scheme.Scheme.{Scheme};
 
+use crate::letters::Letters;
+use crate::run::values_in;
 use crate::scheme::Scheme;
 
 /// The words of a text in ASCII.
@@ -53,6 +56,66 @@ impl AsciiCounter {
     }
 }
 
+/// The words of a text in C40 or Text.
+#[derive(Clone, Copy)]
+pub(crate) struct RunCounter {
+    /// The values of all bytes.
+    values: u128,
+    /// The values of the run, the longest front whose values are whole triples.
+    run: u128,
+    /// What the run leaves.
+    behind: AsciiCounter,
+}
+
+impl RunCounter {
+    /// The counter of no bytes.
+    fn start() -> RunCounter
+        ensures { (letters : Letters) → CountsRun letters [] result }
+    {
+        RunCounter {
+            values: 0,
+            run: 0,
+            behind: AsciiCounter::start(),
+        }
+    }
+
+    /// The counter of one byte more.
+    fn with(self, letters: Letters, byte: u8) -> RunCounter
+        requires { IsSmallRun self }
+        ensures { (bytes : List ℕ) → CountsRun letters bytes self → CountsRun letters (bytes ++ byte ∷ []) result }
+    {
+        let values = self.values + values_in(letters, byte) as u128;
+        if values % 3 == 0 {
+            return RunCounter {
+                values,
+                run: values,
+                behind: AsciiCounter::start(),
+            };
+        }
+        RunCounter {
+            values,
+            run: self.run,
+            behind: self.behind.with(byte),
+        }
+    }
+
+    /// How many words the bytes take.
+    fn words(self) -> u128
+        requires { IsSmallRun self }
+        ensures { result ≡ run_need self.run self.behind.words }
+    {
+        if self.run == 0 {
+            return self.behind.words;
+        }
+        let run = 1 + self.run / 3 * 2;
+        if self.behind.words == 0 {
+            run
+        } else {
+            1 + run + self.behind.words
+        }
+    }
+}
+
 /// The words of so many bytes in Base 256.
 fn base_256_words(count: u128) -> u128
     requires { count < 2 ^ 100 }
@@ -69,6 +132,7 @@ fn base_256_words(count: u128) -> u128
 #[derive(Clone, Copy)]
 pub(crate) enum Counter {
     Ascii(AsciiCounter),
+    Run(Letters, RunCounter),
     /// So many bytes.
     Base256(u128),
 }
@@ -80,6 +144,8 @@ impl Counter {
     {
         match scheme {
             Scheme::Ascii => Counter::Ascii(AsciiCounter::start()),
+            Scheme::C40 => Counter::Run(Letters::Capital, RunCounter::start()),
+            Scheme::Text => Counter::Run(Letters::Small, RunCounter::start()),
             Scheme::Base256 => Counter::Base256(0),
         }
     }
@@ -91,6 +157,7 @@ impl Counter {
     {
         match self {
             Counter::Ascii(counter) => Counter::Ascii(counter.with(byte)),
+            Counter::Run(letters, counter) => Counter::Run(letters, counter.with(letters, byte)),
             Counter::Base256(count) => Counter::Base256(count + 1),
         }
     }
@@ -102,6 +169,7 @@ impl Counter {
     {
         match self {
             Counter::Ascii(counter) => counter.words,
+            Counter::Run(_, counter) => counter.words(),
             Counter::Base256(count) => base_256_words(count),
         }
     }

@@ -1,6 +1,6 @@
 //! The text of a symbol's data words.
 
-ghost use Rattle.std.specs.Prelude.{◌≡◌, ℕ, ◌+◌, ◌≤◌, ◌++◌, length, drop, IfOk, IfErr, OnOk, IsErrOf, List, ◌≢◌, Ok};
+ghost use Rattle.std.specs.Prelude.{◌≡◌, ℕ, ◌+◌, ◌-◌, ◌*◌, ◌≤◌, ◌++◌, length, drop, IfOk, IfErr, OnOk, IsErrOf, List, ◌≢◌, Ok};
 ghost use Rattle.dm_encodation.specs.Grammar.{ReadsOnly, StuckOnly};
 ghost use Rattle.dm_encodation.specs.Reading.{reading};
 ghost use Rattle.dm_encodation.specs.Seen.{bytes_of, Checks, Fails};
@@ -79,6 +79,7 @@ pub fn decode<A: Allocator + Copy>(
 ) -> Result<Vec<u8, A>, DecodeFault>
     requires { from ≤ length words.now }
     ensures read { IfOk result (λ v. ReadsOnly (from + 1) (drop from words.now) v.items) }
+    ensures short { IfOk result (λ v. length v.items ≤ 2 * (length words.now - from)) }
     ensures stuck { IfErr result (λ f. f ≢ Memory → StuckOnly (from + 1) (drop from words.now) f) }
     ensures memory { IsErrOf result Memory → (bytes : List ℕ) × ReadsOnly (from + 1) (drop from words.now) bytes }
 {

@@ -3,14 +3,16 @@
 ghost use Rattle.std.specs.Prelude.{◌≡◌, ◌+◌, ◌-◌, ◌<◌, ◌≤◌, ◌^◌, ◌++◌, ◌↔◌, length, drop, IfOk, OnOk, IsErrOf, vec_len};
 ghost use Rattle.dm_check_blocks.specs.Sizes.{data_words};
 ghost use Rattle.dm_encodation.specs.Grammar.{ReadsOnly};
-ghost use Rattle.dm_encodation.specs.Written.{text, filled, need_of};
+ghost use Rattle.dm_encodation.specs.Written.{text, ends_in_run, filled, need_of};
 ghost use Rattle.dm_encodation.specs.declared.fault.EncodeFault.TheVariants.{TooLong};
 
 use crate::ascii::push_ascii;
 use crate::base256::push_base_256;
 use crate::counting::words_of;
 use crate::fault::EncodeFault;
-use crate::pads::push_pads;
+use crate::letters::Letters;
+use crate::pads::fill_up;
+use crate::run::{is_run, push_run};
 use crate::scheme::Scheme;
 use dm_check_blocks::Size;
 use std::alloc::{AllocError, Allocator};
@@ -27,7 +29,20 @@ fn push_text<A: Allocator>(
 {
     match scheme {
         Scheme::Ascii => push_ascii(out, bytes),
+        Scheme::C40 => push_run(out, Letters::Capital, bytes),
+        Scheme::Text => push_run(out, Letters::Small, bytes),
         Scheme::Base256 => push_base_256(out, bytes),
+    }
+}
+
+/// Whether the text ends in a run, so that what is behind it stands in the run's encodation.
+fn is_in_run(scheme: Scheme, bytes: &[u8]) -> bool
+    ensures { result ≡ ends_in_run scheme bytes.now }
+{
+    match scheme {
+        Scheme::C40 => is_run(Letters::Capital, bytes),
+        Scheme::Text => is_run(Letters::Small, bytes),
+        Scheme::Ascii | Scheme::Base256 => false,
     }
 }
 
@@ -46,7 +61,7 @@ fn fill<A: Allocator + Copy>(
     let mut out = Vec::with_capacity(alloc, capacity)?;
     out.extend_from_slice(head)?;
     push_text(&mut out, scheme, bytes)?;
-    push_pads(&mut out, capacity)?;
+    fill_up(&mut out, is_in_run(scheme, bytes), capacity)?;
     Ok(out)
 }
 

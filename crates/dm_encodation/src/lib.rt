@@ -23,6 +23,7 @@ mod letters;
 mod mode;
 mod pads;
 mod reader;
+mod run;
 mod scheme;
 mod values;
 

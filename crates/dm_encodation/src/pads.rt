@@ -2,6 +2,7 @@
 
 ghost use Rattle.std.specs.Prelude.{◌≡◌, ◌+◌, ◌-◌, ◌<◌, ◌^◌, ◌++◌, OnOk, vec_len};
 ghost use Rattle.dm_encodation.specs.Words.{pads, state_253};
+ghost use Rattle.dm_encodation.specs.Written.{behind_text};
 
 use std::alloc::{AllocError, Allocator};
 
@@ -20,10 +21,7 @@ fn later_pad(position: usize) -> u8
 }
 
 /// Fills the symbol up to `capacity` words with pads.
-pub(crate) fn push_pads<A: Allocator>(
-    out: &mut Vec<u8, A>,
-    capacity: usize,
-) -> Result<(), AllocError>
+fn push_pads<A: Allocator>(out: &mut Vec<u8, A>, capacity: usize) -> Result<(), AllocError>
     requires { capacity < 2 ^ 16 }
     ensures { OnOk result (out.new.items ≡ out.old.items ++ pads (vec_len out.old + 1) (capacity - vec_len out.old)) }
 {
@@ -35,4 +33,20 @@ pub(crate) fn push_pads<A: Allocator>(
         out.push(later_pad(position))?;
     }
     Ok(())
+}
+
+/// Fills the symbol behind the text up to `capacity` words. A run that the text ends in is left first,
+/// where more than one word is free.
+pub(crate) fn fill_up<A: Allocator>(
+    out: &mut Vec<u8, A>,
+    in_run: bool,
+    capacity: usize,
+) -> Result<(), AllocError>
+    requires { capacity < 2 ^ 16 }
+    ensures { OnOk result (out.new.items ≡ out.old.items ++ behind_text in_run (vec_len out.old + 1) (capacity - vec_len out.old)) }
+{
+    if in_run && out.len() < capacity && capacity - out.len() >= 2 {
+        out.push(254)?;
+    }
+    push_pads(out, capacity)
 }

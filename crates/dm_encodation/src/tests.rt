@@ -1,11 +1,25 @@
 use crate::{DecodeFault, EncodeFault, Scheme, decode, encode, fit, need};
 use dm_check_blocks::Size;
+use std::alloc::{AllocError, Allocator};
 use std::test::Fail;
+
+/// `encode` where the head isn't too long itself.
+fn written<A: Allocator + Copy>(
+    alloc: A,
+    scheme: Scheme,
+    bytes: &[u8],
+    head: &[u8],
+    size: Size,
+) -> Result<Vec<u8, A>, EncodeFault> {
+    if head.len() > size.data_words() {
+        return Err(EncodeFault::TooLong);
+    }
+    encode(alloc, scheme, bytes, head, size)
+}
 
 #[test]
 fn texts_are_written(rt: HostRuntime) -> Result<(), Fail> {
-    let alloc = rt.alloc();
-    let rows: [(Scheme, &[u8], &[u8], Size, &[u8]); 6] = [
+    let rows: [(Scheme, &[u8], &[u8], Size, &[u8]); 12] = [
         (
             Scheme::Ascii,
             b"123456",
@@ -23,6 +37,36 @@ fn texts_are_written(rt: HostRuntime) -> Result<(), Fail> {
             &[66, 142, 67, 52, 129],
         ),
         (
+            Scheme::C40,
+            b"AIMAIMAIM",
+            &[66],
+            Size::Side14,
+            &[66, 230, 91, 11, 91, 11, 91, 11],
+        ),
+        (
+            Scheme::C40,
+            b"AIMAIMAIM",
+            &[],
+            Size::Side14,
+            &[230, 91, 11, 91, 11, 91, 11, 129],
+        ),
+        (
+            Scheme::C40,
+            b"AIMAIMAIM",
+            &[66, 66, 66],
+            Size::Side16,
+            &[66, 66, 66, 230, 91, 11, 91, 11, 91, 11, 254, 129],
+        ),
+        (
+            Scheme::C40,
+            b"AIMA",
+            &[],
+            Size::Side14,
+            &[230, 91, 11, 254, 66, 129, 161, 56],
+        ),
+        (Scheme::C40, b"ABX", &[], Size::Side10, &[230, 89, 254]),
+        (Scheme::Text, b"aim", &[], Size::Side10, &[239, 91, 11]),
+        (
             Scheme::Base256,
             &[1],
             &[233, 15, 1, 1],
@@ -38,14 +82,16 @@ fn texts_are_written(rt: HostRuntime) -> Result<(), Fail> {
         ),
     ];
     for (scheme, bytes, head, size, words) in rows {
-        assert_eq!(rt; encode(alloc, scheme, bytes, head, size)?.as_slice(), words);
+        assert_eq!(rt;
+            written(rt.alloc(), scheme, bytes, head, size)?.as_slice(),
+            words
+        );
     }
     Ok(())
 }
 
 #[test]
 fn words_are_read(rt: HostRuntime) -> Result<(), Fail> {
-    let alloc = rt.alloc();
     let rows: [(&[u8], Result<&[u8], DecodeFault>); 11] = [
         (&[230, 91, 11, 254], Ok(b"AIM")),
         (&[230, 91, 11, 66], Ok(b"AIMA")),
@@ -66,10 +112,98 @@ fn words_are_read(rt: HostRuntime) -> Result<(), Fail> {
         (&[239, 91, 11], Ok(b"aim")),
     ];
     for (words, reading) in rows {
-        match (decode(alloc, words, 0), reading) {
+        match (decode(rt.alloc(), words, 0), reading) {
             (Ok(bytes), Ok(expected)) => assert_eq!(rt; bytes.as_slice(), expected),
             (Err(fault), Err(expected)) => assert_eq!(rt; fault, expected),
             _ => assert!(rt; false),
+        }
+    }
+    Ok(())
+}
+
+/// So many bytes, each of them the byte given.
+fn repeated<A: Allocator + Copy>(
+    alloc: A,
+    byte: u8,
+    count: usize,
+) -> Result<Vec<u8, A>, AllocError> {
+    let mut bytes = Vec::new(alloc);
+    for _ in 0..count {
+        bytes.push(byte)?;
+    }
+    Ok(bytes)
+}
+
+#[test]
+fn the_greatest_texts_fill_side_132(rt: HostRuntime) -> Result<(), Fail> {
+    let rows = [
+        (Scheme::Ascii, b'7', 2608),
+        (Scheme::Ascii, b'A', 1304),
+        (Scheme::Ascii, 233, 652),
+        (Scheme::C40, b'A', 1953),
+        (Scheme::Text, b'a', 1953),
+        (Scheme::Base256, 233, 1301),
+    ];
+    for (scheme, byte, count) in rows {
+        let text = repeated(rt.alloc(), byte, count)?;
+        let words = written(rt.alloc(), scheme, &text, &[], Size::Side132)?;
+        assert_eq!(rt; words.len(), 1304);
+        assert_eq!(rt; decode(rt.alloc(), &words, 0)?.as_slice(), text.as_slice());
+        let longer = repeated(rt.alloc(), byte, count + 1)?;
+        assert_eq!(rt; fit(scheme, &longer, 1304), count);
+        assert_eq!(rt;
+            written(rt.alloc(), scheme, &longer, &[], Size::Side132).err(),
+            Some(EncodeFault::TooLong)
+        );
+    }
+    Ok(())
+}
+
+#[test]
+fn lengths_of_base_256(rt: HostRuntime) -> Result<(), Fail> {
+    for (count, words) in [
+        (0, 0),
+        (1, 3),
+        (249, 251),
+        (250, 253),
+        (1555, 1558),
+        (1556, 1559),
+    ] {
+        let text = repeated(rt.alloc(), 0, count)?;
+        if text.len() <= 2000 {
+            assert_eq!(rt; need(Scheme::Base256, &text), words);
+        }
+        assert_eq!(rt; fit(Scheme::Base256, &text, words), count);
+    }
+    let text = repeated(rt.alloc(), 0, 250)?;
+    let words = written(rt.alloc(), Scheme::Base256, &text, &[], Size::Side64)?;
+    assert!(rt; words.starts_with(&[231, 38, 193]));
+    Ok(())
+}
+
+#[test]
+fn a_longer_text_may_need_less(rt: HostRuntime) -> Result<(), Fail> {
+    assert_eq!(rt; need(Scheme::C40, b"AIMAI"), 6);
+    assert_eq!(rt; need(Scheme::C40, b"AIMAIM"), 5);
+    assert_eq!(rt; fit(Scheme::C40, b"AIMAIM", 5), 6);
+    Ok(())
+}
+
+#[test]
+fn every_byte_comes_back(rt: HostRuntime) -> Result<(), Fail> {
+    let mut text = Vec::new(rt.alloc());
+    for byte in 0..=255u8 {
+        text.push(byte)?;
+    }
+    for scheme in [Scheme::Ascii, Scheme::C40, Scheme::Text, Scheme::Base256] {
+        let words = written(rt.alloc(), scheme, &text, &[233, 15, 1, 1], Size::Side132)?;
+        assert_eq!(rt; words.len(), 1304);
+        let from = 4;
+        if words.len() >= from {
+            assert_eq!(rt;
+                decode(rt.alloc(), &words, from)?.as_slice(),
+                text.as_slice()
+            );
         }
     }
     Ok(())

@@ -1,0 +1,4 @@
+pub mod Frame
+pub mod Grids
+pub mod GridOutcome
+pub mod UnframeOutcome

@@ -1,2 +1,24 @@
-//! dm_finder_frame
+//! Finder patterns of ECC 200 symbols: the frame round each data region, and the whole symbol as a grid of modules
+//! (ISO/IEC 16022, clause 5.7).
+//!
+//! `frame` cuts a mapping matrix into its data regions and puts the finder pattern round each. `unframe` takes the
+//! finder patterns off a grid and counts their wrong modules; it refuses a grid with too many of them.
+//!
+//! Proved: `frame` gives the grid of `specs/Frame.antt` exactly; `unframe` answers `Border` exactly where more than an
+//! eighth of the finder patterns' modules are wrong, and else the mapping matrix; `unframe` undoes `frame`.
 #![tactic(auto)]
+
+mod fault;
+mod framing;
+mod grid;
+pub mod laws;
+mod region;
+#[cfg(test)]
+mod tests;
+mod unframing;
+
+pub use fault::{FrameFault, GridFault};
+pub use framing::frame;
+pub use grid::Grid;
+pub use region::cell_of;
+pub use unframing::{Framed, unframe};

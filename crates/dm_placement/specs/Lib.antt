@@ -1,0 +1,4 @@
+pub mod Square
+pub mod Cells
+pub mod WalkSteps
+pub mod Placement

@@ -5,12 +5,14 @@ use dm_encodation::Scheme;
 use std::alloc::{AllocError, Global};
 
 /// The names of the encodations.
-static SCHEMES: [&str; 2] = ["ascii", "base256"];
+static SCHEMES: [&str; 4] = ["ascii", "c40", "text", "base256"];
 
 /// The encodation of a name, if it is one of `SCHEMES`.
 pub fn scheme_of(name: &str) -> Option<Scheme> {
     match name {
         "ascii" => Some(Scheme::Ascii),
+        "c40" => Some(Scheme::C40),
+        "text" => Some(Scheme::Text),
         "base256" => Some(Scheme::Base256),
         _ => None,
     }

@@ -1,6 +1,6 @@
-use Rattle.std.proofs.Common.{sym, ◌≡◌, ◌≢◌, ℕ, List, [], ◌+◌, ◌++◌, ◌∙◌, arith, vec_len, length, ap}
+use Rattle.std.proofs.Common.{sym, ◌≡◌, ◌≢◌, ℕ, [], ◌+◌, ◌++◌, ◌∙◌, arith, vec_len, length, ap}
 use Rattle.std.proofs.lemmas.List.{append-nil}
-use Rattle.std.proofs.lemmas.Bool.{eqb-true, eqb-false}
+use Rattle.std.proofs.lemmas.Bool.{eqb-false}
 use Rattle.std.proofs.lemmas.Result.{on_ok_weaker}
 use Rattle.dm_encodation.specs.Words.{randomised}
 use Rattle.dm_encodation.specs.Written.{length_words}

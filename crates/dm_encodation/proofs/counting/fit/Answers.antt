@@ -1,6 +1,7 @@
-use Rattle.std.proofs.Common.{arith, take, length, ◌+◌}
+use Rattle.std.proofs.Common.{arith, take, ◌+◌}
 use Rattle.std.proofs.lemmas.List.{length-take, take_more}
-use Rattle.dm_encodation.proofs.Prefixes.{small, fits_none}
+use Rattle.dm_encodation.proofs.Counters.{small}
+use Rattle.dm_encodation.proofs.Prefixes.{fits_none}
 use Rattle.dm_encodation.proofs.counting.fit.Goals as goal
 
 pub loop-index-init : goal.loop-index-init

@@ -1,5 +1,5 @@
 use Rattle.std.proofs.Common.{arith}
-use Rattle.dm_encodation.proofs.Prefixes.{need_below}
+use Rattle.dm_encodation.proofs.Counters.{need_below}
 use Rattle.dm_encodation.proofs.counting.need.Goals as goal
 
 pub overflow_cast-result : goal.overflow_cast-result

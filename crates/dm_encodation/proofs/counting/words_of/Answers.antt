@@ -1,6 +1,6 @@
-use Rattle.std.proofs.Common.{arith, take, length}
+use Rattle.std.proofs.Common.{arith, take}
 use Rattle.std.proofs.lemmas.List.{length-take}
-use Rattle.dm_encodation.proofs.Prefixes.{small}
+use Rattle.dm_encodation.proofs.Counters.{small}
 use Rattle.dm_encodation.proofs.counting.words_of.Goals as goal
 
 pub with-counter-requires : goal.with-counter-requires

@@ -1,4 +1,4 @@
-use Rattle.std.proofs.Common.{◌++◌, drop, ◌+◌, arith, sym, ap, ◌∙◌, List, ℕ, Ok, ◌≡◌}
+use Rattle.std.proofs.Common.{drop, ◌+◌, arith, sym, ap, ◌∙◌, List, ℕ, Ok}
 use Rattle.std.proofs.lemmas.Result.{err_from_is_err_and}
 use Rattle.dm_encodation.specs.Seen.{bytes_of}
 use Rattle.dm_encodation.specs.Reading.{reading, prepend}

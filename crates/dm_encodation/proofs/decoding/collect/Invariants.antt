@@ -1,4 +1,4 @@
-use Rattle.std.proofs.Common.{◌≡◌, ◌+◌, List, ℕ, drop}
+use Rattle.std.proofs.Common.{◌≡◌, ◌+◌, drop}
 use Rattle.dm_encodation.specs.Seen.{IsMode}
 use Rattle.dm_encodation.specs.Reading.{prepend, reading}
 use Rattle.dm_encodation.specs.declared.mode.Mode.TheVariants.{Ascii}

@@ -1,7 +1,7 @@
-use Rattle.std.proofs.Common.{◌≡◌, ◌+◌, ◌<◌, ℕ, get_or, drop, sym, ap, ◌∙◌, subst, arith}
+use Rattle.std.proofs.Common.{◌+◌, ◌<◌, ℕ, get_or, drop, arith}
+use Rattle.std.proofs.lemmas.List.{length-drop}
+use Rattle.dm_encodation.proofs.Lengths.{reads_short}
 use Rattle.std.proofs.lemmas.Result.{err_from_is_err_and, IfOk-weaker, IfErr-weaker}
-use Rattle.dm_encodation.specs.Reading.{reading}
-use Rattle.dm_encodation.specs.declared.mode.Mode.TheVariants.{Ascii}
 use Rattle.dm_encodation.proofs.Reread.{decided, decided_fault, collected_fault, behind, never_memory}
 use Rattle.dm_encodation.proofs.decoding.decode.Goals as goal
 
@@ -31,3 +31,9 @@ pub returns-clause-memory : goal.returns-clause-memory
 returns-clause-memory g c =
     let fits : (i : ℕ) → get_or (drop c.args.from c.args.words.now) i 0 < 256 = behind c.args.from c.args.words.now (λ i. omega (arith, c.type_inv.words i)) in
     λ e. (c.in_ok-check.ensures.0, decided (c.args.from + 1) (drop c.args.from c.args.words.now) c.in_ok-check.ensures.0 fits c.in_ok-check.ensures.1)
+
+pub returns-clause-short : goal.returns-clause-short
+returns-clause-short g c =
+    let fits : (i : ℕ) → get_or (drop c.args.from c.args.words.now) i 0 < 256 = behind c.args.from c.args.words.now (λ i. omega (arith, c.type_inv.words i)) in
+    IfOk-weaker c.collect.result _ _
+    (λ v e. let short = reads_short (decided (c.args.from + 1) (drop c.args.from c.args.words.now) v.items fits e).reads in omega (arith, length-drop c.args.from c.args.words.now)) c.collect.ensures.given

@@ -1,6 +1,5 @@
-use Rattle.std.proofs.Common.{vec_len, ◌+◌}
 use Rattle.dm_encodation.specs.Written.{text}
-use Rattle.dm_encodation.proofs.Prefixes.{short_base_256}
+use Rattle.dm_encodation.proofs.Counters.{short_base_256}
 use Rattle.dm_encodation.proofs.encoding.push_text.Goals as goal
 
 pub push_base_256-requires-clause-short : goal.push_base_256-requires-clause-short
@@ -13,3 +12,11 @@ returns-in-Ascii g c = rw c.in-Ascii.is c.push_ascii.ensures
 pub returns-in-Base256 : goal.returns-in-Base256
 unfolding text
 returns-in-Base256 g c = rw c.in-Base256.is c.push_base_256.ensures
+
+pub returns-in-C40 : goal.returns-in-C40
+unfolding text
+returns-in-C40 g c = rw c.in-C40.is c.push_run.ensures
+
+pub returns-in-Text : goal.returns-in-Text
+unfolding text
+returns-in-Text g c = rw c.in-Text.is c.push_run-in-Text.ensures

@@ -1,4 +1,4 @@
-use Rattle.std.proofs.Common.{◌≡◌, ◌++◌, ◌∷◌, ◌+◌, ◌-◌, vec_len}
+use Rattle.std.proofs.Common.{◌≡◌, ◌++◌, ◌+◌, ◌-◌}
 use Rattle.dm_encodation.specs.Words.{later_pads}
 use Rattle.dm_encodation.proofs.pads.push_pads.Given as goal
 

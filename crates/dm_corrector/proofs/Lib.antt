@@ -1,0 +1,15 @@
+pub mod Annihilation
+pub mod Combinations
+pub mod Corrected
+pub mod Differences
+pub mod RowsReduced
+pub mod Entries
+pub mod ErrorTurns
+pub mod ErrorValues
+pub mod LowValues
+pub mod RootBound
+pub mod RootSearch
+pub mod Words
+pub mod TakingOut
+pub mod SyndromeWords
+pub mod SymbolBlocks

@@ -1,0 +1,7 @@
+use Rattle.std.proofs.Common.{◌≡◌, ◌<◌, ◌+◌, ℕ, get_or}
+use Rattle.dm_gf256.specs.Elements.{numbers}
+use Rattle.dm_corrector.specs.Polynomials.{combination}
+use Rattle.dm_corrector.proofs.massey.is_locator.Given as goal
+
+abbrev pub invariant-loop-from : goal.invariant-loop-from
+invariant-loop-from l = (i : ℕ) → i < l.from → combination (numbers l.polynomial) (λ j. get_or (numbers l.syndromes) (i + j) 0) ≡ 0

@@ -1,0 +1,75 @@
+use Rattle.std.proofs.Common.{◌≡◌, ◌≢◌, ◌<◌, ◌≤◌, ◌+◌, ◌*◌, ◌/◌, ◌%◌, ℕ, List, sym, ap, ◌∙◌, subst, arith, length, length-take, get_or, Result, Ok, Err, OnErr}
+use Rattle.std.proofs.lemmas.Nat.{mod-mul-add}
+use Rattle.dm_check_blocks.specs.declared.size.Size.{Size}
+use Rattle.dm_check_blocks.specs.Sizes.{blocks, block_checks, block_length, all_words, check_words}
+use Rattle.dm_check_blocks.specs.Blocks.{block_of}
+use Rattle.dm_corrector.specs.Corrections.{Corrects}
+use Rattle.dm_corrector.proofs.SymbolBlocks.{is_block, in_symbol, block_of-at, length-block_of}
+use Rattle.dm_corrector.proofs.symbol.correct_block.Goals as goal
+
+on_any_err : {T E P : Type 0} (r : Result T E) → P → OnErr r P
+on_any_err (Ok v) p = tt
+on_any_err (Err e) p = p
+
+-- what one call of `gather` and one of `scatter` make of a correction
+carried : (s : Size) (checks b : ℕ) (old new block after : List ℕ) → checks ≡ block_checks s → block ≡ block_of s b old → after ≡ block_of s b new →
+    Corrects checks block after → Corrects (block_checks s) (block_of s b old) (block_of s b new)
+carried s checks b old new block after n e f c =
+    let P : ℕ → Type 0 = λ m. Corrects m (block_of s b old) (block_of s b new) in
+    let Q : List ℕ → Type 0 = λ v. Corrects checks v (block_of s b new) in
+    let R : List ℕ → Type 0 = λ v. Corrects checks block v in
+    subst P n (subst Q e (subst R f c))
+
+quotient : (m n p q : ℕ) → m ≡ p → n ≡ q → m / n ≡ p / q
+quotient m n p q e f = ap (λ t. t / n) e ∙ ap (λ t. p / t) f
+
+pub returns-in_err-correct-clause-none : goal.returns-in_err-correct-clause-none
+returns-in_err-correct-clause-none c = on_any_err c.from_residual.result (λ w r.
+    let s = c.args.size in
+    let b = c.args.number in
+    let t = c.blocks-blocks.ensures.sound in
+    let n : length c.args.words.now / c.blocks-blocks.result ≡ block_length s = quotient _ _ _ _ c.requires.count c.blocks-blocks.ensures.value in
+    let longest : block_length s ≤ 243 = t.longest_block in
+    let m : length c.gather.new.block ≡ block_length s = c.gather.auto.block ∙ simp length-take (omega arith) in
+    let before : c.gather.new.block ≡ block_of s b c.args.words.now =
+    is_block s b c.args.words.now c.gather.new.block t m (λ i l. c.gather.ensures i (simp length-take (omega arith)) ∙ ap (λ k. get_or c.args.words.now (i * k + b) 0) c.blocks-blocks.ensures.value) in
+    let checks : c.check_words.result / c.blocks-blocks.result ≡ block_checks s = quotient _ _ _ _ c.check_words.ensures.value c.blocks-blocks.ensures.value in
+    c.in_err-correct.ensures.none w (rw (checks, before) r))
+
+pub scatter-requires-clause-inside : goal.scatter-requires-clause-inside
+scatter-requires-clause-inside c = λ k h.
+    let s = c.args.size in
+    let t = c.blocks-blocks.ensures.sound in
+    let n : length c.args.words.now / c.blocks-blocks.result ≡ block_length s = quotient _ _ _ _ c.requires.count c.blocks-blocks.ensures.value in
+    let longest : block_length s ≤ 243 = t.longest_block in
+    let m : length c.gather.new.block ≡ block_length s = c.gather.auto.block ∙ simp length-take (omega arith) in
+    let same : length c.correct.new.block ≡ length c.gather.new.block = c.correct.auto.block in
+    let l : k * blocks s + c.args.number < all_words s = in_symbol s c.args.number k t c.requires.block (omega arith) in
+    let e : k * c.blocks-blocks.result ≡ k * blocks s = ap (λ n. k * n) c.blocks-blocks.ensures.value in
+    let a : length c.args.words.now ≡ all_words s = c.requires.count in
+    omega arith
+
+pub returns-clause-near : goal.returns-clause-near
+returns-clause-near c =
+    let s = c.args.size in
+    let b = c.args.number in
+    let t = c.blocks-blocks.ensures.sound in
+    let n : length c.args.words.now / c.blocks-blocks.result ≡ block_length s = quotient _ _ _ _ c.requires.count c.blocks-blocks.ensures.value in
+    let longest : block_length s ≤ 243 = t.longest_block in
+    let m : length c.gather.new.block ≡ block_length s = c.gather.auto.block ∙ simp length-take (omega arith) in
+    let same : length c.correct.new.block ≡ length c.gather.new.block = c.correct.auto.block in
+    let before : c.gather.new.block ≡ block_of s b c.args.words.now =
+    is_block s b c.args.words.now c.gather.new.block t m (λ i l. c.gather.ensures i (simp length-take (omega arith)) ∙ ap (λ k. get_or c.args.words.now (i * k + b) 0) c.blocks-blocks.ensures.value) in
+    let after : c.correct.new.block ≡ block_of s b c.scatter.new.words =
+    is_block s b c.scatter.new.words c.correct.new.block t (same ∙ m) (λ i l. sym (c.scatter.ensures.own i (omega arith)) ∙ ap (λ k. get_or c.scatter.new.words (i * k + b) 0) c.blocks-blocks.ensures.value) in
+    carried s _ b c.args.words.now c.scatter.new.words c.gather.new.block c.correct.new.block (quotient _ _ _ _ c.check_words.ensures.value c.blocks-blocks.ensures.value) before after c.in_ok-correct.ensures.near
+
+pub returns-clause-others : goal.returns-clause-others
+returns-clause-others c = λ b l d.
+    let s = c.args.size in
+    let t = c.blocks-blocks.ensures.sound in
+    is_block s b c.args.words.now (block_of s b c.scatter.new.words) t (length-block_of s b c.scatter.new.words)
+    (λ i h.
+    let m : (i * blocks s + b) % blocks s ≡ b = mod-mul-add i (blocks s) b l in
+    block_of-at s b c.scatter.new.words i t h
+    ∙ c.scatter.ensures.others (i * blocks s + b) (λ e. d (sym m ∙ ap (λ n. (i * blocks s + b) % n) (sym c.blocks-blocks.ensures.value) ∙ e)))

@@ -1,0 +1,89 @@
+//! Correction of a whole symbol, block by block.
+
+ghost use Rattle.std.specs.Prelude.{◌≡◌, ◌≢◌, ◌<◌, ◌≤◌, ◌+◌, ◌*◌, ◌%◌, ℕ, List, length, slice_index, IfOk, IfErr, OnOk, OnErr};
+ghost use Rattle.dm_gf256.specs.Polynomial.{differ};
+ghost use Rattle.dm_check_blocks.specs.Sizes.{all_words, blocks, block_checks};
+ghost use Rattle.dm_check_blocks.specs.Blocks.{block_of, IsSymbol};
+ghost use Rattle.dm_corrector.specs.Corrections.{Corrects};
+ghost use Rattle.dm_corrector.specs.Symbols.{CorrectsSymbol, IsFirstFaulty};
+
+use crate::block::{Uncorrectable, correct, differing};
+use crate::syndromes::MOST_WORDS;
+use dm_check_blocks::Size;
+
+/// The most words of a symbol: those of side 132.
+const MOST_SYMBOL_WORDS: usize = 1800;
+
+/// The first block of a symbol that cannot be corrected, counted from 0.
+#[derive(Clone, Copy, Debug, PartialEq, Eq)]
+pub struct BlockFault {
+    pub block: usize,
+}
+
+// Copies every `stride`-th word, from the one at `start` on, into a block.
+fn gather(words: &[u8], start: usize, stride: usize, block: &mut [u8])
+    requires { (k : ℕ) → k < length block.old → k * stride + start < length words.now }
+    ensures { (k : ℕ) → k < length block.old → slice_index block.new k ≡ slice_index words.now (k * stride + start) }
+{
+    for k in 0..block.len() {
+        block[k] = words[k * stride + start];
+    }
+}
+
+// Copies a block back to every `stride`-th word, from the one at `start` on.
+fn scatter(words: &mut [u8], start: usize, stride: usize, block: &[u8])
+    requires inside { (k : ℕ) → k < length block.now → k * stride + start < length words.old }
+    requires once { start < stride }
+    ensures own { (k : ℕ) → k < length block.now → slice_index words.new (k * stride + start) ≡ slice_index block.now k }
+    ensures others { (p : ℕ) → p % stride ≢ start → slice_index words.new p ≡ slice_index words.old p }
+{
+    for k in 0..block.len() {
+        words[k * stride + start] = block[k];
+    }
+}
+
+// Corrects one block of a symbol. The words of the blocks are interleaved: word k of block b is word k * blocks + b
+// of the symbol.
+fn correct_block(size: Size, words: &mut [u8], number: usize) -> Result<(), Uncorrectable>
+    requires count { length words.old ≡ all_words size }
+    requires block { number < blocks size }
+    ensures near { OnOk result (Corrects (block_checks size) (block_of size number words.old) (block_of size number words.new)) }
+    ensures none { OnErr result ((w : List ℕ) → Corrects (block_checks size) (block_of size number words.old) w → ⊥) }
+    ensures others { (b : ℕ) → b < blocks size → b ≢ number → block_of size b words.new ≡ block_of size b words.old }
+{
+    let blocks = size.blocks();
+    let mut copy = [0; MOST_WORDS];
+    let block = &mut copy[..words.len() / blocks];
+    gather(words, number, blocks, block);
+    correct(block, size.check_words() / blocks)?;
+    scatter(words, number, blocks, block);
+    Ok(())
+}
+
+/// Corrects all blocks of a symbol, up to `Size::limit` wrong words in each. Ok tells how many words changed in all; the
+/// words are then the one symbol whose blocks are within the limit of what they were. Err names the first block that
+/// no block word is near enough to, and then all words are unchanged. ISO/IEC 16022, clause 5.2.9 and Annex E.
+pub fn correct_symbol(size: Size, words: &mut [u8]) -> Result<u16, BlockFault>
+    requires { length words.old ≡ all_words size }
+    ensures near { OnOk result (CorrectsSymbol size words.old words.new) }
+    ensures block_words { OnOk result (IsSymbol size words.new) }
+    ensures changed { IfOk result (λ k. k ≡ differ words.old words.new) }
+    ensures only { OnOk result ((w : List ℕ) → CorrectsSymbol size words.old w → w ≡ words.new) }
+
+    ensures first { IfErr result (λ fault. IsFirstFaulty size words.old fault.block) }
+    ensures none { OnErr result ((w : List ℕ) → CorrectsSymbol size words.old w → ⊥) }
+    ensures unchanged { OnErr result (words.new ≡ words.old) }
+{
+    let blocks = size.blocks();
+    let mut copy = [0; MOST_SYMBOL_WORDS];
+    let corrected = &mut copy[..words.len()];
+    corrected.copy_from_slice(words);
+    for block in 0..blocks {
+        if let Err(Uncorrectable) = correct_block(size, corrected, block) {
+            return Err(BlockFault { block });
+        }
+    }
+    let changed = differing(words, corrected);
+    words.copy_from_slice(corrected);
+    Ok(changed as u16)
+}

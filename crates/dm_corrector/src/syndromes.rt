@@ -1,0 +1,66 @@
+//! Syndromes: the values of a block's polynomial at the roots of the generator polynomial. They are zero exactly
+//! where the block is a block word.
+
+ghost use Rattle.std.specs.Prelude.{◌≡◌, ◌<◌, ◌≤◌, ℕ, length, slice_index, IsTrue, ◌↔◌};
+ghost use Rattle.std.specs.List.{All};
+ghost use Rattle.dm_gf256.specs.Polynomial.{IsBlockWord};
+ghost use Rattle.dm_gf256.specs.Elements.{numbers};
+ghost use Rattle.dm_corrector.specs.Corrections.{AreSyndromes};
+
+use arrayvec::ArrayVec;
+use dm_gf256::Gf;
+
+/// The most check words of a block, and so the most syndromes.
+pub(crate) const MOST_CHECKS: usize = 68;
+
+/// The most words of a block: the field has 255 places.
+pub(crate) const MOST_WORDS: usize = 255;
+
+// The words of a block as elements of the field.
+fn elements_of(block: &[u8]) -> ArrayVec<Gf, MOST_WORDS>
+    requires { length block.now ≤ 255 }
+    ensures { numbers result.items ≡ block.now }
+{
+    let mut elements = ArrayVec::new();
+    for word in block {
+        elements.push(Gf(*word));
+    }
+    elements
+}
+
+/// The syndromes of a block with so many check words: its values at 2^1, 2^2 and so on.
+pub(crate) fn syndromes_of(block: &[u8], checks: usize) -> ArrayVec<Gf, MOST_CHECKS>
+    requires most { checks ≤ 68 }
+    requires fits { length block.now ≤ 255 }
+    ensures count { length result.items ≡ checks }
+    ensures values { AreSyndromes checks (numbers result.items) block.now }
+    ensures bytes { All (λ word. word < 256) block.now }
+{
+    let elements = elements_of(block);
+    let mut syndromes = ArrayVec::new();
+    for k in 0..checks {
+        syndromes.push(Gf::eval(elements.as_slice(), Gf::alpha(k as u8 + 1)));
+    }
+    syndromes
+}
+
+/// Whether all syndromes are zero.
+pub(crate) fn all_zero(syndromes: &[Gf]) -> bool
+    ensures { IsTrue result ↔ ((k : ℕ) → slice_index (numbers syndromes.now) k ≡ 0) }
+{
+    for syndrome in syndromes {
+        if syndrome.0 != 0 {
+            return false;
+        }
+    }
+    true
+}
+
+/// Whether a block is a block word.
+pub(crate) fn is_block_word(block: &[u8], checks: usize) -> bool
+    requires most { checks ≤ 68 }
+    requires fits { length block.now ≤ 255 }
+    ensures { IsTrue result ↔ IsBlockWord checks block.now }
+{
+    all_zero(syndromes_of(block, checks).as_slice())
+}

@@ -1,0 +1,4 @@
+pub mod GridPlaces
+pub mod FramedGrids
+pub mod TurnedModules
+pub mod SizeOfSide

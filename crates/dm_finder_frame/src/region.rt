@@ -1,0 +1,42 @@
+//! Places of a symbol within its framed data regions.
+
+ghost use Rattle.std.specs.Prelude.{◌≡◌, ◌<◌, ◌≤◌, IfSome};
+ghost use Rattle.dm_check_blocks.specs.Sizes.{mapping, side};
+ghost use Rattle.dm_finder_frame.specs.Frame.{frame_module, mapping_cell};
+
+use dm_check_blocks::Size;
+
+/// The row and the column in the mapping matrix of a grid's module, or `None` on a finder pattern; all from 0
+/// (ISO/IEC 16022, clause 5.7).
+pub fn cell_of(size: Size, row: u16, column: u16) -> Option<(u16, u16)>
+    requires row_in { row < side size }
+    requires column_in { column < side size }
+    ensures cell { result ≡ mapping_cell size row column }
+    ensures within { IfSome result (λ cell. (cell.0 < mapping size) × (cell.1 < mapping size)) }
+{
+    let region = size.region();
+    let framed = region + 2;
+    let r = row % framed;
+    let c = column % framed;
+    if r == 0 || r == region + 1 || c == 0 || c == region + 1 {
+        return None;
+    }
+    Some((
+        row / framed * region + r - 1,
+        column / framed * region + c - 1,
+    ))
+}
+
+/// Whether the finder pattern is dark at a place of a framed region.
+pub(crate) fn frame_value(region: u16, r: u16, c: u16) -> bool
+    requires { region ≤ 24 }
+    ensures { result ≡ frame_module region r c }
+{
+    if c == 0 || r == region + 1 {
+        true
+    } else if r == 0 {
+        c % 2 == 0
+    } else {
+        r % 2 == 1
+    }
+}

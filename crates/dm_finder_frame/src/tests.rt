@@ -1,0 +1,66 @@
+use crate::{FrameFault, Framed, Grid, GridFault, cell_of, frame, unframe};
+use dm_check_blocks::Size;
+use dm_placement::{lift, place};
+use std::test::Fail;
+
+// All words of a symbol of side 10, and its modules.
+static WORDS: [u8; 8] = [142, 164, 186, 114, 25, 5, 88, 102];
+
+static MODULES: [[u8; 10]; 10] = [
+    *b"1010101010",
+    *b"1100101101",
+    *b"1100000100",
+    *b"1100011101",
+    *b"1100001000",
+    *b"1000001111",
+    *b"1110110000",
+    *b"1111011001",
+    *b"1001110100",
+    *b"1111111111",
+];
+
+#[test]
+fn draws_a_symbol_and_takes_it_apart(rt: HostRuntime) -> Result<(), Fail> {
+    let matrix = place(rt.alloc(), Size::Side10, &WORDS)?;
+    let mut grid = frame(rt.alloc(), Size::Side10, &matrix)?;
+    assert_eq!(rt; grid.side(), 10);
+    assert_eq!(rt; grid.size(), Size::Side10);
+    for r in 0..10u16 {
+        for c in 0..10u16 {
+            assert_eq!(rt; grid.module(r, c), MODULES[r as usize][c as usize] == b'1');
+        }
+    }
+    let Framed {
+        size,
+        matrix,
+        wrong,
+    } = unframe(rt.alloc(), &grid)?;
+    assert_eq!(rt; (size, wrong), (Size::Side10, 0));
+    let words = lift(rt.alloc(), size, &matrix)?;
+    assert_eq!(rt; words.as_slice(), WORDS.as_slice());
+    // the top left module, on the finder pattern, and the one of the mapping matrix's first cell
+    assert_eq!(rt; cell_of(Size::Side10, 0, 0), None);
+    assert_eq!(rt; cell_of(Size::Side10, 1, 1), Some((0, 0)));
+    assert_eq!(rt; cell_of(Size::Side132, 131, 0), None);
+    assert_eq!(rt; cell_of(Size::Side132, 130, 23), Some((119, 20)));
+    grid.flip(0, 0);
+    grid.flip(1, 1);
+    let Framed { matrix, wrong, .. } = unframe(rt.alloc(), &grid)?;
+    assert_eq!(rt; wrong, 1);
+    assert!(rt; !matrix.module(0, 0));
+    Ok(())
+}
+
+#[test]
+fn refuses_other_grids(rt: HostRuntime) -> Result<(), Fail> {
+    for (dark, wrong) in [(false, 27u16), (true, 9u16)] {
+        let grid = Grid::of_modules(rt.alloc(), 10, &[dark; 100])?;
+        let fault = unframe(rt.alloc(), &grid).err();
+        assert_eq!(rt; fault, Some(FrameFault::Border { wrong }));
+    }
+    let fault = Grid::of_modules(rt.alloc(), 11, &[false; 121]).err();
+    assert_eq!(rt; fault, Some(GridFault::Side));
+    let fault = Grid::of_modules(rt.alloc(), 10, &[false; 99]).err();
+    assert_eq!(rt; fault, Some(GridFault::Side));
+    Ok(())
+}

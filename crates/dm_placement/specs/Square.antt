@@ -1,0 +1,33 @@
+-- A square of modules, row by row from the top left, as contracts see a mapping matrix (ISO/IEC 16022, Annex F)
+-- and a whole symbol (clause 5.7).
+use Rattle.std.specs.Prelude.{ℕ, ◌≡◌, ◌+◌, ◌*◌, Bool, true, false, not, List, [], ◌∷◌, length, get_or, set, replicate}
+use Rattle.dm_placement.specs.declared.shape.Cell.{Cell}
+
+pub record Square : Type 0 where
+  pub side : ℕ
+  pub modules : List Bool
+
+-- it has all its modules
+abbrev pub IsWhole : Square → Type 0
+IsWhole m = length m.modules ≡ m.side * m.side
+
+-- whether the module of a row and a column is dark
+abbrev pub module_at : Square → ℕ → ℕ → Bool
+module_at m r c = get_or m.modules (r * m.side + c) false
+
+-- all modules light
+abbrev pub light_square : ℕ → Square
+light_square n = record { side = n; modules = replicate (n * n) false }
+
+-- one module made dark or light
+abbrev pub with_module : Square → ℕ → ℕ → Bool → Square
+with_module m r c dark = record { side = m.side; modules = set m.modules (r * m.side + c) dark }
+
+-- one module turned over, dark to light or light to dark
+abbrev pub with_turned : Square → ℕ → ℕ → Square
+with_turned m r c = with_module m r c (not (module_at m r c))
+
+-- each of the cells made dark
+abbrev pub with_dark : Square → List Cell → Square
+with_dark m [] = m
+with_dark m (p ∷ ps) = with_dark (with_module m p.row p.column true) ps

@@ -1,0 +1,66 @@
+//! The words that a mapping matrix bears.
+
+ghost use Rattle.std.specs.Prelude.{◌≡◌, ◌≤◌, ◌+◌, IfOk, length};
+ghost use Rattle.dm_check_blocks.specs.Sizes.{mapping, all_words};
+ghost use Rattle.dm_placement.specs.Placement.{lifted, word_from};
+ghost use Rattle.dm_placement.specs.WalkSteps.{AllIn};
+
+use crate::layout::Layout;
+use crate::matrix::Matrix;
+use crate::shape::Cell;
+use dm_check_blocks::Size;
+use std::alloc::{AllocError, Allocator};
+
+// The word whose bits stand at the next eight cells of a list.
+fn word_at_cells<A: Allocator>(cells: &[Cell], from: usize, matrix: &Matrix<A>) -> u8
+    requires room { from + 8 ≤ length cells.now }
+    requires in_matrix { AllIn matrix.now.side cells.now }
+    ensures { result ≡ word_from matrix.now cells.now from }
+{
+    let mut word = 0u8;
+    for b in 0..8usize {
+        let p = cells[from + b];
+        word = 2 * word + u8::from(matrix.module(p.row, p.column));
+    }
+    word
+}
+
+/// The words that a mapping matrix bears, each bit read at its cell by Annex F of ISO/IEC 16022: a dark module is a
+/// bit 1. Free cells bear none.
+///
+/// # Errors
+/// Where the allocator refuses its memory.
+pub fn lift<A: Allocator + Copy>(
+    alloc: A,
+    size: Size,
+    matrix: &Matrix<A>,
+) -> Result<Vec<u8, A>, AllocError>
+    requires same_side { matrix.now.side ≡ mapping size }
+    ensures lifted { IfOk result (λ words. words.items ≡ lifted size matrix.now) }
+    ensures count { IfOk result (λ words. length words.items ≡ all_words size) }
+{
+    let layout = Layout::of_size(alloc, size)?;
+    lift_with(alloc, &layout, matrix)
+}
+
+/// `lift`, by a layout made before.
+///
+/// # Errors
+/// Where the allocator refuses the words' memory.
+pub fn lift_with<A: Allocator>(
+    alloc: A,
+    layout: &Layout<A>,
+    matrix: &Matrix<A>,
+) -> Result<Vec<u8, A>, AllocError>
+    requires same_side { matrix.now.side ≡ mapping layout.now }
+    ensures lifted { IfOk result (λ words. words.items ≡ lifted layout.now matrix.now) }
+    ensures count { IfOk result (λ words. length words.items ≡ all_words layout.now) }
+{
+    let size = layout.size();
+    let cells = layout.cells();
+    let mut words = Vec::new(alloc);
+    for k in 0..size.data_words() + size.check_words() {
+        words.push(word_at_cells(cells, 8 * k, matrix))?;
+    }
+    Ok(words)
+}

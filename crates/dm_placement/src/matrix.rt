@@ -1,0 +1,83 @@
+//! Squares of modules.
+
+ghost use Rattle.std.specs.Prelude.{◌≡◌, ◌<◌, ◌≤◌, ◌+◌, ◌*◌, IfOk, length};
+ghost use Rattle.dm_check_blocks.specs.Sizes.{mapping};
+ghost use Rattle.dm_placement.specs.Square.{Square, IsWhole, module_at, light_square, with_module};
+
+use dm_check_blocks::Size;
+use std::alloc::{AllocError, Allocator, Global};
+use std::marker::Model;
+
+/// The modules of a mapping matrix, dark or light.
+#[derive(Drop)]
+pub struct Matrix<A: Allocator = Global> {
+    side: u16,
+    modules: Vec<bool, A>,
+}
+
+impl<A: Allocator> Model for Matrix<A> {
+    ghost Value = { Square };
+
+    ghost view = { λ m. record { side = m.side; modules = m.modules.items } };
+
+    ghost invariant = { λ m. (length m.modules.items ≡ m.side * m.side) × (m.side ≤ 120) };
+}
+
+impl<A: Allocator> Matrix<A> {
+    /// The mapping matrix of a size with all modules light.
+    ///
+    /// # Errors
+    /// Where the allocator refuses its memory.
+    pub fn light(alloc: A, size: Size) -> Result<Matrix<A>, AllocError>
+        ensures { IfOk result (λ m. m ≡ light_square (mapping size)) }
+    {
+        light_of_side(alloc, size.mapping())
+    }
+
+    /// Modules along a side.
+    pub fn side(&self) -> u16
+        ensures value { result ≡ self.now.side }
+        ensures whole { IsWhole self.now }
+        ensures small { self.now.side ≤ 120 }
+    {
+        self.side
+    }
+
+    /// Whether the module of a row and a column, both from 0, is dark.
+    pub fn module(&self, row: u16, column: u16) -> bool
+        requires row_in { row < self.now.side }
+        requires column_in { column < self.now.side }
+        ensures { result ≡ module_at self.now row column }
+    {
+        self.modules[self.index(row, column)]
+    }
+
+    // Where the module of a row and a column stands, row by row.
+    fn index(&self, row: u16, column: u16) -> usize
+        requires row_in { row < self.now.side }
+        requires column_in { column < self.now.side }
+        ensures value { result ≡ row * self.now.side + column }
+        ensures within { result < self.now.side * self.now.side }
+    {
+        row as usize * self.side as usize + column as usize
+    }
+
+    /// Makes the module of a row and a column, both from 0, dark or light.
+    pub fn set(&mut self, row: u16, column: u16, dark: bool)
+        requires row_in { row < self.old.side }
+        requires column_in { column < self.old.side }
+        ensures { self.new ≡ with_module self.old row column dark }
+    {
+        let at = self.index(row, column);
+        self.modules[at] = dark;
+    }
+}
+
+/// A square of light modules.
+pub(crate) fn light_of_side<A: Allocator>(alloc: A, side: u16) -> Result<Matrix<A>, AllocError>
+    requires { side ≤ 120 }
+    ensures { IfOk result (λ m. m ≡ light_square side) }
+{
+    let modules = vec![in alloc; false; side as usize * side as usize]?;
+    Ok(Matrix { side, modules })
+}

@@ -1,0 +1,64 @@
+//! The mapping matrix of the words of a symbol.
+
+ghost use Rattle.std.specs.Prelude.{◌≡◌, ◌≤◌, IfOk, length};
+ghost use Rattle.dm_check_blocks.specs.Sizes.{all_words};
+ghost use Rattle.dm_placement.specs.Cells.{dark_cells};
+ghost use Rattle.dm_placement.specs.Placement.{placed};
+ghost use Rattle.dm_placement.specs.Square.{light_square, with_dark};
+ghost use Rattle.dm_placement.specs.WalkSteps.{IsSideSound};
+
+use crate::layout::Layout;
+use crate::matrix::{Matrix, light_of_side};
+use dm_check_blocks::Size;
+use std::alloc::{AllocError, Allocator};
+
+// A matrix with its free cells as they are to be, and all others light.
+#[tactic(auto, unfolding(crate::specs::Cells::dark_cells))]
+fn blank<A: Allocator>(alloc: A, side: u16) -> Result<Matrix<A>, AllocError>
+    requires { IsSideSound side }
+    ensures { IfOk result (λ m. m ≡ with_dark (light_square side) (dark_cells side)) }
+{
+    let mut matrix = light_of_side(alloc, side)?;
+    if side * side % 8 == 4 {
+        matrix.set(side - 1, side - 1, true);
+        matrix.set(side - 2, side - 2, true);
+    }
+    Ok(matrix)
+}
+
+/// The mapping matrix of all words of a symbol, data words first, by Annex F of ISO/IEC 16022: a bit 1 is a dark
+/// module.
+///
+/// # Errors
+/// Where the allocator refuses its memory.
+pub fn place<A: Allocator + Copy>(
+    alloc: A,
+    size: Size,
+    words: &[u8],
+) -> Result<Matrix<A>, AllocError>
+    requires count { length words.now ≡ all_words size }
+    ensures placed { IfOk result (λ m. m ≡ placed size words.now) }
+{
+    let layout = Layout::of_size(alloc, size)?;
+    place_with(alloc, &layout, words)
+}
+
+/// `place`, by a layout made before.
+///
+/// # Errors
+/// Where the allocator refuses the matrix's memory.
+pub fn place_with<A: Allocator>(
+    alloc: A,
+    layout: &Layout<A>,
+    words: &[u8],
+) -> Result<Matrix<A>, AllocError>
+    requires count { length words.now ≡ all_words layout.now }
+    ensures placed { IfOk result (λ m. m ≡ placed layout.now words.now) }
+{
+    let mut matrix = blank(alloc, layout.size().mapping())?;
+    let cells = layout.cells();
+    for (i, p) in cells.iter().enumerate() {
+        matrix.set(p.row, p.column, words[i / 8] >> (7 - i % 8) & 1 == 1);
+    }
+    Ok(matrix)
+}

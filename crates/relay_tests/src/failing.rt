@@ -1,0 +1,72 @@
+//! Readers and writers that fail in mid-stream.
+
+use std::io::{Error, ErrorKind, Read, Result, Write};
+
+/// A reader that gives its bytes one at a time, and fails once so many were given.
+#[derive(Drop)]
+pub struct FailingReader<'a> {
+    bytes: &'a [u8],
+    passes: usize,
+}
+
+impl<'a> FailingReader<'a> {
+    /// A reader of these bytes that fails after `passes` of them.
+    pub fn new(bytes: &'a [u8], passes: usize) -> Self {
+        FailingReader { bytes, passes }
+    }
+}
+
+impl Read for FailingReader<'_> {
+    fn read(&mut self, buf: &mut [u8]) -> Result<usize> {
+        if self.passes == 0 {
+            return Err(Error::from(ErrorKind::Other));
+        }
+        let Some((first, rest)) = self.bytes.split_first() else {
+            return Ok(0);
+        };
+        let Some(place) = buf.first_mut() else {
+            return Ok(0);
+        };
+        *place = *first;
+        self.bytes = rest;
+        self.passes -= 1;
+        Ok(1)
+    }
+}
+
+/// A writer that keeps what it takes, one byte at a time, and fails once so many were taken.
+#[derive(Drop)]
+pub struct FailingWriter {
+    taken: Vec<u8>,
+    passes: usize,
+}
+
+impl FailingWriter {
+    /// A writer that takes `passes` bytes into the vector.
+    pub fn new(taken: Vec<u8>, passes: usize) -> Self {
+        FailingWriter { taken, passes }
+    }
+
+    /// What was taken.
+    pub fn taken(&self) -> &[u8] {
+        self.taken.as_slice()
+    }
+}
+
+impl Write for FailingWriter {
+    fn write(&mut self, buf: &[u8]) -> Result<usize> {
+        if self.passes == 0 {
+            return Err(Error::from(ErrorKind::Other));
+        }
+        let Some(first) = buf.first() else {
+            return Ok(0);
+        };
+        self.taken.push(*first)?;
+        self.passes -= 1;
+        Ok(1)
+    }
+
+    fn flush(&mut self) -> Result<()> {
+        Ok(())
+    }
+}

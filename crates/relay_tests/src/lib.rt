@@ -1,0 +1,9 @@
+//! Tests that cross the crates: the commands over readers and writers that fail, and each call that takes memory over
+//! an allocator that refuses each growth in turn. The library holds the fakes; its tests are the crate's purpose.
+#![tactic(auto)]
+
+mod failing;
+#[cfg(test)]
+mod words;
+
+pub use failing::{FailingReader, FailingWriter};

@@ -1,0 +1,68 @@
+//! `relay words` over streams of every kind.
+
+use crate::failing::{FailingReader, FailingWriter};
+use dm_encodation::Scheme;
+use relay::{Output, words_command};
+use std::test::Fail;
+
+const WORKED: &[u8] = b"142 164 186 114 25 5 88 102\n";
+
+// Each document, side, what is printed and the status.
+#[test]
+fn prints_or_refuses(rt: HostRuntime) -> Result<(), Fail> {
+    let long = [b'0'; 50_000];
+    let cases = [
+        (b"123456".as_slice(), 10, WORKED, 0),
+        (b"".as_slice(), 10, b"129 175 70 ".as_slice(), 0),
+        (
+            b"1234567".as_slice(),
+            10,
+            b"refused TooLong\n".as_slice(),
+            1,
+        ),
+        (b"".as_slice(), 11, b"refused Side\n".as_slice(), 1),
+        (b"A".as_slice(), 10, b"66 129 70 ".as_slice(), 0),
+        (b"A12B3".as_slice(), 12, b"66 142 67 52 129 ".as_slice(), 0),
+        (long.as_slice(), 132, b"refused TooLong\n".as_slice(), 1),
+    ];
+    for (document, side, begins, status) in cases {
+        let mut reader = document;
+        let mut output = Output::new(Vec::new(rt.alloc()));
+        let answered = words_command(rt.alloc(), &mut reader, &mut output, side, Scheme::Ascii);
+        assert_eq!(rt; answered, status);
+        assert!(rt; output.writer.as_slice().starts_with(begins), "side {side}");
+        assert_eq!(rt; output.writer.as_slice().last(), Some(&b'\n'));
+    }
+    Ok(())
+}
+
+#[test]
+fn a_reader_that_fails_is_refused(rt: HostRuntime) {
+    for passes in 0..6usize {
+        let mut reader = FailingReader::new(b"123456", passes);
+        let mut output = Output::new(Vec::new(rt.alloc()));
+        let status = words_command(rt.alloc(), &mut reader, &mut output, 10, Scheme::Ascii);
+        assert_eq!(rt; status, 1, "after {passes} bytes");
+        assert_eq!(rt;
+            output.writer.as_slice(),
+            b"refused Read\n".as_slice(),
+            "after {passes} bytes"
+        );
+    }
+}
+
+#[test]
+fn a_writer_that_fails_ends_with_one(rt: HostRuntime) {
+    for passes in 0..WORKED.len() {
+        let mut reader = b"123456".as_slice();
+        let mut output = Output::new(FailingWriter::new(Vec::new(rt.alloc()), passes));
+        let status = words_command(rt.alloc(), &mut reader, &mut output, 10, Scheme::Ascii);
+        assert_eq!(rt; status, 1, "after {passes} bytes");
+        assert!(rt; output.failed);
+        assert_eq!(rt;
+            output.writer.taken(),
+            &WORKED[..passes],
+            "after {passes} bytes"
+        );
+    }
+}
