@@ -5,7 +5,7 @@ use Rattle.std.proofs.lemmas.Nat.{xor_lt}
 use Rattle.std.specs.Int.Bits.{bit_xor, xor_assoc, xor_zero_r}
 use Rattle.dm_gf256.proofs.Linear.{product-xor_l, product-xor_r, xor_interchange}
 use Rattle.dm_gf256.proofs.Ring.{product-zero_l, product-zero_r, product_assoc, product_byte}
-use Rattle.std.proofs.lemmas.List.{get_or-map, length-map, map_more}
+use Rattle.std.proofs.lemmas.List.{get_or-map}
 use Rattle.dm_gf256.specs.declared.element.Gf.{Gf}
 use Rattle.dm_gf256.specs.Elements.{numbers}
 use Rattle.dm_gf256.specs.Field.{product}
@@ -25,12 +25,6 @@ combination-push [] c g = xor_zero_r (product c (g 0))
 combination-push (d ∷ cs) c g =
     ap (bit_xor (product d (g 0))) (combination-push cs c (λ j. g (suc j)))
     ∙ sym (xor_assoc (product d (g 0)) (combination cs (λ j. g (suc j))) (product c (g (suc (length cs)))))
-
-pub combination_more : (row : List ℕ) (g : ℕ → ℕ) (j s t : ℕ) → j < length row → s ≡ combination (take j row) g → t ≡ product (get_or row j 0) (g j) → bit_xor s t ≡ combination (take (j + 1) row) g
-combination_more row g j s t l h e =
-    let n : length (take j row) ≡ j = simp length-take (omega arith) in
-    ap (λ v. bit_xor v t) h ∙ ap (bit_xor (combination (take j row) g)) (e ∙ ap (λ k. product (get_or row j 0) (g k)) (sym n))
-    ∙ sym (combination-push (take j row) (get_or row j 0) g) ∙ ap (λ v. combination v g) (sym (take_more row j 0 l))
 
 -- a combination is linear in the row
 pub combination-add_scaled : (f : ℕ) (ts ss : List ℕ) (g : ℕ → ℕ) → length ts ≡ length ss → combination (add_scaled f ts ss) g ≡ bit_xor (combination ts g) (product f (combination ss g))
@@ -64,12 +58,12 @@ combination-take (suc n) [] g h = refl
 combination-take (suc n) (c ∷ cs) g h = ap (bit_xor (product c (g 0))) (combination-take n cs (λ j. g (suc j)) (λ m l. h (suc m) (omega arith)))
 
 -- one turn of the loop over the coefficients of an equation
-pub combination_push : (ps ss : List Gf) (j from : ℕ) (d : Gf) (s t u : ℕ) → j < length ps → from + j < length ss →
-    s ≡ combination (numbers (take j ps)) (λ m. get_or (numbers ss) (from + m) 0) → t ≡ product (get_or ps j d).0 (get_or ss (from + j) d).0 → u ≡ bit_xor s t →
-    u ≡ combination (numbers (take (j + 1) ps)) (λ m. get_or (numbers ss) (from + m) 0)
-combination_push ps ss j from d s t u l k h e q =
+pub combination_more : (ps : List ℕ) (ss : List Gf) (j from : ℕ) (d : Gf) (s t u : ℕ) → j < length ps → from + j < length ss →
+    s ≡ combination (take j ps) (λ m. get_or (numbers ss) (from + m) 0) → t ≡ product (get_or ps j 0) (get_or ss (from + j) d).0 → u ≡ bit_xor s t →
+    u ≡ combination (take (j + 1) ps) (λ m. get_or (numbers ss) (from + m) 0)
+combination_more ps ss j from d s t u l k h e q =
     let g : ℕ → ℕ = λ m. get_or (numbers ss) (from + m) 0 in
-    let n : length (numbers (take j ps)) ≡ j = length-map (take j ps) (λ x. x.0) ∙ (let m : length (take j ps) ≡ j = simp length-take (omega arith) in m) in
-    let c = (get_or ps j d).0 in
-    q ∙ ap (λ v. bit_xor v t) h ∙ ap (bit_xor (combination (numbers (take j ps)) g)) (e ∙ ap (product c) (sym (get_or-map (λ x. x.0) ss (from + j) d 0 k)) ∙ ap (λ m. product c (g m)) (sym n))
-    ∙ sym (combination-push (numbers (take j ps)) c g) ∙ ap (λ v. combination v g) (sym (map_more (λ x. x.0) ps j d l))
+    let n : length (take j ps) ≡ j = simp length-take (omega arith) in
+    let c = get_or ps j 0 in
+    q ∙ ap (λ v. bit_xor v t) h ∙ ap (bit_xor (combination (take j ps) g)) (e ∙ ap (product c) (sym (get_or-map (λ x. x.0) ss (from + j) d 0 k)) ∙ ap (λ m. product c (g m)) (sym n))
+    ∙ sym (combination-push (take j ps) c g) ∙ ap (λ v. combination v g) (sym (take_more ps j 0 l))

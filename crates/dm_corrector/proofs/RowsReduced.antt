@@ -1,13 +1,13 @@
 -- The state of the elimination: how it starts, what one equation does to it, and what it gives.
 use Rattle.std.proofs.Common.{Bool, List, [], ap, arith, cond, false, get_or, get_or-set_other, get_or-set_same, get_or-take, length, length-set, length-take, refl, replicate, set, subst, suc, sym, take, true, zero, zero-add, ℕ, ⊎_elim, ◌+◌, ◌<◌, ◌∙◌, ◌≡◌, ◌≢◌, ◌≤◌}
 use Rattle.std.proofs.lemmas.Bool.{cases_eq, cases_lt, false≢true}
-use Rattle.std.proofs.lemmas.List.{get_or-replicate, get_or_past}
+use Rattle.std.proofs.lemmas.List.{get_or-replicate}
 use Rattle.std.specs.Int.Bits.{bit_xor, xor_self}
 use Rattle.std.specs.List.{All}
 use Rattle.dm_gf256.proofs.Divide.{get_or-add_scaled, length-add_scaled}
 use Rattle.dm_gf256.proofs.Ring.{one-product, product-zero_r, product_assoc, product_comm}
 use Rattle.dm_gf256.specs.Field.{product}
-use Rattle.dm_corrector.proofs.Combinations.{combination-add_scaled, combination-same, combination-take, combination_byte}
+use Rattle.dm_corrector.proofs.Combinations.{combination-add_scaled, combination-take, combination_byte}
 use Rattle.dm_corrector.specs.Locators.{IsLocator}
 use Rattle.dm_corrector.specs.Polynomials.{combination}
 use Rattle.dm_corrector.specs.Rows.{IsCleared, Reduced, opens, row_at}
@@ -17,26 +17,6 @@ pub cleared : (f d e scale : ℕ) → d < 256 → product e scale ≡ 1 → f �
 cleared f d e scale l h q =
     let w : product f e ≡ d = ap (λ t. product t e) q ∙ product_assoc d scale e ∙ ap (product d) (product_comm scale e ∙ h) ∙ product_comm d 1 ∙ one-product d l in
     ap (bit_xor d) w ∙ xor_self d
-
-pub open_below : (free : List Bool) (k n : ℕ) → length free ≡ n → get_or free k false ≡ true → k < n
-open_below free k n e h =
-    ⊎_elim (λ (l : k < n). l) (λ (l : n ≤ k). absurd (false≢true (sym (get_or_past free k false (omega arith)) ∙ h))) (cases_lt k n)
-
-pub reduced_none : (t i : ℕ) (s : List ℕ) (rows : List (List ℕ)) (free : List Bool) → Reduced t i s rows free →
-    ((k : ℕ) → k < 35 → get_or free k false ≡ true → combination (row_at rows k) (λ j. get_or s (i + j) 0) ≡ 0) → Reduced t (i + 1) s rows free
-reduced_none t i s rows free r none = record {
-  count = r.count;
-  flags = r.flags;
-  size = r.size;
-  monic = r.monic;
-  above = r.above;
-  met = λ k o j l.
-      ⊎_elim (λ (p : j < i). r.met k o j p)
-      (λ (p : i ≤ j). let e : j ≡ i = omega arith in ap (λ n. combination (row_at rows k) (λ m. get_or s (n + m) 0)) e ∙ none k (open_below free k 35 r.flags o) o)
-      (cases_lt j i);
-  few = r.few;
-  left = (let h : t + 1 ≤ opens (t + 1) free + i = r.left in omega arith);
-}
 
 opens-same : (n at : ℕ) (free : List Bool) → n ≤ at → opens n (set free at false) ≡ opens n free
 unfolding opens
@@ -78,13 +58,13 @@ still_open free at k l h =
     let d : k ≢ at = λ e. false≢true (sym (get_or-set_same free at false false l) ∙ ap (λ n. get_or (set free at false) n false) (sym e) ∙ h) in
     (d, sym (get_or-set_other free at k false false d) ∙ h)
 
-pub reduced_some : (t i : ℕ) (s : List ℕ) (old new : List (List ℕ)) (free : List Bool) (at scale : ℕ) → Reduced t i s old free → at < 35 → get_or free at false ≡ true →
+pub reduced_some : (t i : ℕ) (s : List ℕ) (old new : List (List ℕ)) (free : List Bool) (at scale : ℕ) → Reduced t i s old free → t ≤ 34 → at ≤ t → get_or free at false ≡ true →
     ((k : ℕ) → k < at → get_or free k false ≡ true → combination (row_at old k) (λ j. get_or s (i + j) 0) ≡ 0) →
-    product (combination (row_at old at) (λ j. get_or s (i + j) 0)) scale ≡ 1 → IsCleared at scale i s old new → Reduced t (i + 1) s new (set free at false)
-reduced_some t i s old new free at scale r l o before one c =
+    product (combination (row_at old at) (λ j. get_or s (i + j) 0)) scale ≡ 1 → IsCleared t at scale i s old new → Reduced t (i + 1) s new (set free at false)
+reduced_some t i s old new free at scale r most l o before one c =
     let factor : ℕ → ℕ = λ k. product (combination (row_at old k) (λ j. get_or s (i + j) 0)) scale in
-    let long : (k : ℕ) → k < 35 → length (row_at old k) ≡ length (row_at old at) = λ k h. r.size k h ∙ sym (r.size at l) in
-    let place : (k m : ℕ) → at < k → k < 35 → get_or (row_at new k) m 0 ≡ bit_xor (get_or (row_at old k) m 0) (product (factor k) (get_or (row_at old at) m 0)) =
+    let long : (k : ℕ) → k ≤ t → length (row_at old k) ≡ length (row_at old at) = λ k h. r.size k h ∙ sym (r.size at l) in
+    let place : (k m : ℕ) → at < k → k ≤ t → get_or (row_at new k) m 0 ≡ bit_xor (get_or (row_at old k) m 0) (product (factor k) (get_or (row_at old at) m 0)) =
     λ k m p q. ap (λ w. get_or w m 0) (c.later k p q) ∙ get_or-add_scaled (factor k) (row_at old k) (row_at old at) m (long k q) in
     record {
       count = c.count;
@@ -104,7 +84,7 @@ reduced_some t i s old new free at scale r l o before one c =
           (λ (p : k ≤ at). ap (λ w. get_or w m 0) (c.earlier k p) ∙ r.above k m h q) (cases_lt at k);
       met = λ k e j q.
           let was = still_open free at k (omega (arith, r.flags)) e in
-          let h : k < 35 = open_below free k 35 r.flags (was.1) in
+          let h : k ≤ t = r.few k (was.1) in
           let g : ℕ → ℕ = λ m. get_or s (j + m) 0 in
           ⊎_elim (λ (p : at < k).
           ap (λ w. combination w g) (c.later k p h) ∙ combination-add_scaled (factor k) (row_at old k) (row_at old at) g (long k h)
@@ -147,31 +127,31 @@ pub start : (t : ℕ) (s : List ℕ) (rows : List (List ℕ)) (free : List Bool)
 start t s rows free l c f z m a o n = record {
   count = c;
   flags = f;
-  size = z;
-  monic = m;
-  above = a;
+  size = λ k h. z k (omega arith);
+  monic = λ k h. m k (omega arith);
+  above = λ k n h. a k n (omega arith);
   met = λ k e j h. absurd (omega arith);
   few = λ k e. ⊎_elim (λ (h : k < t + 1). let g : k ≤ t = omega arith in g) (λ (h : t + 1 ≤ k). absurd (false≢true (sym (n k h) ∙ e))) (cases_lt k (t + 1));
   left = (let e : opens (t + 1) free ≡ t + 1 = opens-all (t + 1) free o in omega arith);
 }
 
-pub found : (t k : ℕ) (s padded p : List ℕ) (rows : List (List ℕ)) (free : List Bool) → Reduced t t padded rows free → k < 35 → get_or free k false ≡ true →
-    ((j : ℕ) → get_or padded j 0 ≡ get_or s j 0) → p ≡ take (k + 1) (row_at rows k) → All (λ x. x < 256) p → IsLocator t s p
-found t k s padded p rows free r l o same e b =
+pub found : (t k : ℕ) (s p : List ℕ) (rows : List (List ℕ)) (free : List Bool) → Reduced t t s rows free → get_or free k false ≡ true → t ≤ 34 →
+    p ≡ take (k + 1) (row_at rows k) → All (λ x. x < 256) p → IsLocator t s p
+found t k s p rows free r o most e b =
     let row = row_at rows k in
-    let n : length p ≡ k + 1 = ap length e ∙ (let q : length (take (k + 1) row) ≡ k + 1 = simp (length-take, r.size k l) (omega arith) in q) in
     let small : k ≤ t = r.few k o in
-    let lead : get_or p k 0 ≡ 1 = ap (λ w. get_or w k 0) e ∙ get_or-take (k + 1) row k 0 (omega arith) ∙ r.monic k l in
+    let n : length p ≡ k + 1 = ap length e ∙ (let q : length (take (k + 1) row) ≡ k + 1 = simp (length-take, r.size k small) (omega arith) in q) in
+    let lead : get_or p k 0 ≡ 1 = ap (λ w. get_or w k 0) e ∙ get_or-take (k + 1) row k 0 (omega arith) ∙ r.monic k small in
     record {
       degree = omega arith;
       nonzero = (k, (omega arith), (omega arith));
       bytes = b;
-      equations = λ i h.
-          combination-same p (λ j. get_or s (i + j) 0) (λ j. get_or padded (i + j) 0) (λ j q. sym (same (i + j)))
-          ∙ ap (λ w. combination w (λ j. get_or padded (i + j) 0)) e
-          ∙ combination-take (k + 1) row (λ j. get_or padded (i + j) 0) (λ m q. r.above k m l (omega arith))
-          ∙ r.met k o i h;
+      equations = λ i h. ap (λ w. combination w (λ j. get_or s (i + j) 0)) e ∙ combination-take (k + 1) row (λ j. get_or s (i + j) 0) (λ m q. r.above k m small (omega arith)) ∙ r.met k o i h;
     }
+
+-- the equation that a row's coefficients up to its degree give is the row's
+pub whole_row : (k : ℕ) (row : List ℕ) (g : ℕ → ℕ) → ((m : ℕ) → k < m → get_or row m 0 ≡ 0) → combination (take (k + 1) row) g ≡ combination row g
+whole_row k row g h = combination-take (k + 1) row g (λ m q. h m (omega arith))
 
 pub never : (t : ℕ) (s : List ℕ) (rows : List (List ℕ)) (free : List Bool) → Reduced t t s rows free → ((j : ℕ) → j < t + 1 → get_or free j false ≡ false) → ⊥
 never t s rows free r n = (let e : opens (t + 1) free ≡ 0 = opens-none (t + 1) free n in let h : t + 1 ≤ opens (t + 1) free + t = r.left in omega arith)

@@ -1,5 +1,5 @@
 -- Syndromes that are zero, and block words.
-use Rattle.std.proofs.Common.{◌≡◌, ℕ, refl, zero, suc, ◌+◌, ◌<◌, ◌≤◌, sym, ◌∙◌, ap, arith, List, [], ◌∷◌, length, get_or, ⊎_elim}
+use Rattle.std.proofs.Common.{◌≡◌, ℕ, refl, zero, suc, ◌<◌, ◌≤◌, sym, ◌∙◌, arith, List, [], ◌∷◌, length, get_or, ⊎_elim}
 use Rattle.std.proofs.lemmas.Bool.{cases_lt}
 use Rattle.std.proofs.lemmas.List.{get_or_past}
 use Rattle.dm_gf256.specs.Field.{power}

@@ -3,7 +3,6 @@ use Rattle.std.proofs.Common.{List, [], ap, arith, get_or, length, refl, suc, sy
 use Rattle.std.specs.Int.Bits.{bit_xor, xor_assoc, xor_self}
 use Rattle.std.specs.List.{All}
 use Rattle.dm_gf256.specs.Polynomial.{sum_word}
-use Rattle.dm_corrector.proofs.ErrorValues.{others}
 
 pub sum_word-by_places : (xs ys zs : List ℕ) → length xs ≡ length ys → length zs ≡ length ys → ((k : ℕ) → k < length ys → get_or xs k 0 ≡ bit_xor (get_or ys k 0) (get_or zs k 0)) → xs ≡ sum_word ys zs
 unfolding sum_word

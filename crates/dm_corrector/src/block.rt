@@ -15,11 +15,10 @@ use crate::syndromes::{MOST_WORDS, all_zero, is_block_word, syndromes_of};
 #[derive(Clone, Copy, Debug, PartialEq, Eq)]
 pub struct Uncorrectable;
 
-/// The number of places where two words of one length differ.
-pub(crate) fn differing(left: &[u8], right: &[u8]) -> usize
+// The number of places where two words of one length differ.
+fn differing(left: &[u8], right: &[u8]) -> usize
     requires { length left.now ≡ length right.now }
     ensures places { result ≡ differ left.now right.now }
-    ensures most { result ≤ length left.now }
     ensures bytes { All (λ x. x < 256) right.now }
 {
     let mut places = 0;
@@ -72,7 +71,8 @@ pub fn correct_with<L: Locate>(
     }
 }
 
-/// `correct_with` by Berlekamp and Massey's method.
+/// Corrects one block of 2 to 255 words, the last `checks` of which are check words: `correct_with`, by Berlekamp and
+/// Massey's method. Ok tells how many words were put right, at most `checks / 2`.
 pub fn correct(block: &mut [u8], checks: usize) -> Result<u8, Uncorrectable>
     requires some { 1 ≤ checks }
     requires most { checks ≤ 68 }

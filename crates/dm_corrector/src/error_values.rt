@@ -15,7 +15,8 @@ use dm_gf256::Gf;
 // Takes a root's part away from the first `count` sums: S(k) becomes S(k + 1) + root S(k). The last is then no sum.
 fn weigh_away(sums: &mut [u8], count: usize, root: u8)
     requires { count ≤ length sums.old }
-    ensures { (k : ℕ) → k + 1 < count → slice_index sums.new k ≡ bit_xor (slice_index sums.old (k + 1)) (product root (slice_index sums.old k)) }
+    ensures { (k : ℕ) → k + 1 < count
+        → slice_index sums.new k ≡ bit_xor (slice_index sums.old (k + 1)) (product root (slice_index sums.old k)) }
 {
     for k in 1..count {
         sums[k - 1] = sums[k] ^ Gf(root).mul(Gf(sums[k - 1])).0;
@@ -43,7 +44,10 @@ fn error_value(syndromes: &[Gf], roots: &[u8], at: u8) -> u8
     requires fits { length roots.now ≤ 34 }
     requires places { All (λ f. f < 255) roots.now }
     requires place { at < 255 }
-    ensures { (w : List ℕ) → AreSyndromes (length syndromes.now) (numbers syndromes.now) w → entry w at < 256 → ((i : ℕ) → (Contains roots.now i → ⊥) → i ≢ at → entry w i ≡ 0) → result ≡ entry w at }
+    ensures { (w : List ℕ) → AreSyndromes (length syndromes.now) (numbers syndromes.now) w
+        → entry w at < 256
+        → ((i : ℕ) → (Contains roots.now i → ⊥) → i ≢ at → entry w i ≡ 0)
+        → result ≡ entry w at }
 {
     let mut sums = first_sums(syndromes, roots.len() + 1);
     let locator = Gf::alpha(at).0;
@@ -64,7 +68,10 @@ pub(crate) fn take_out(block: &mut [u8], syndromes: &[Gf], roots: &[u8])
     requires few { length roots.now ≤ 34 }
     requires given { 2 * length roots.now ≤ length syndromes.now }
     requires falling { Descends (length block.old) roots.now }
-    ensures { (w : List ℕ) → length w ≡ length block.old → All (λ x. x < 256) w → AreSyndromes (length syndromes.now) (numbers syndromes.now) w → ((i : ℕ) → (Contains roots.now i → ⊥) → entry w i ≡ 0) → block.new ≡ sum_word block.old w }
+    ensures { (w : List ℕ) → length w ≡ length block.old → All (λ x. x < 256) w
+        → AreSyndromes (length syndromes.now) (numbers syndromes.now) w
+        → ((i : ℕ) → (Contains roots.now i → ⊥) → entry w i ≡ 0)
+        → block.new ≡ sum_word block.old w }
 {
     for root in roots {
         let place = block.len() - 1 - *root as usize;

@@ -10,6 +10,7 @@
 #![tactic(auto)]
 
 mod block;
+mod elements;
 mod elimination;
 mod error_values;
 mod locate;

@@ -1,20 +1,20 @@
 //! An error locator polynomial by Berlekamp and Massey's method: the shortest linear recurrence that the syndromes
 //! meet, found one syndrome after another.
 
-ghost use Rattle.std.specs.Prelude.{◌≡◌, ◌<◌, ◌≤◌, ◌*◌, ◌+◌, ℕ, length, slice_index, IsTrue, IfSome};
+ghost use Rattle.std.specs.Prelude.{◌≡◌, ◌<◌, ◌≤◌, ◌*◌, ℕ, length, IsTrue, ◌↔◌, IfSome};
 ghost use Rattle.std.specs.List.{All};
 ghost use Rattle.dm_gf256.specs.Elements.{numbers};
-ghost use Rattle.dm_corrector.specs.Polynomials.{combination};
 ghost use Rattle.dm_corrector.specs.Locators.{IsLocator};
 
+use crate::elements::elements_of;
 use crate::elimination::Elimination;
-use crate::locate::{Locate, MOST_COEFFICIENTS};
-use crate::syndromes::all_zero;
+use crate::locate::{Locate, MOST_COEFFICIENTS, equation};
 use arrayvec::ArrayVec;
 use dm_gf256::{Gf, add_multiple};
 
 /// Finds an error locator polynomial by Berlekamp and Massey's method, and where that gives none, by `Elimination`:
 /// so it may be for a block that cannot be corrected.
+#[derive(Clone, Copy, Debug)]
 pub struct Massey;
 
 impl Locate for Massey {
@@ -44,42 +44,25 @@ fn discrepancy(
     sum
 }
 
-// The first coefficients, those up to the one at `last`, in the other order.
-fn reversed(coefficients: &[u8; MOST_COEFFICIENTS], last: usize) -> ArrayVec<Gf, MOST_COEFFICIENTS>
-    requires { last < 35 }
-    ensures count { length result.items ≡ last + 1 }
-    ensures bytes { All (λ x. x < 256) (numbers result.items) }
+// Whether all coefficients are zero.
+fn is_zero(coefficients: &[u8]) -> bool
+    ensures { IsTrue result ↔ All (λ c. c ≡ 0) coefficients.now }
 {
-    let mut polynomial = ArrayVec::new();
-    for k in 0..last + 1 {
-        polynomial.push(Gf(coefficients[last - k]));
-    }
-    polynomial
+    coefficients.iter().all(|&c| c == 0)
 }
 
-// The equation `from` between the syndromes: the polynomial's coefficients times the syndromes from this one on, summed.
-fn equation(polynomial: &[Gf], syndromes: &[Gf], from: usize) -> Gf
-    requires { from + length polynomial.now ≤ length syndromes.now }
-    ensures { result.0 ≡ combination (numbers polynomial.now) (λ j. slice_index (numbers syndromes.now) (from + j)) }
-{
-    let mut sum = Gf(0);
-    for j in 0..polynomial.len() {
-        sum = sum.add(polynomial[j].mul(syndromes[from + j]));
-    }
-    sum
-}
-
-// Whether a polynomial is a locator polynomial: it isn't zero, has degree at most t and meets the t equations.
-fn is_locator(polynomial: &[Gf], syndromes: &[Gf]) -> bool
-    requires { All (λ x. x < 256) (numbers polynomial.now) }
-    ensures { IsTrue result → (t : ℕ) → length syndromes.now ≡ 2 * t → IsLocator t (numbers syndromes.now) (numbers polynomial.now) }
+// Whether a polynomial, its lowest power first, is a locator polynomial: it isn't zero, has degree at most t and meets
+// the t equations.
+fn is_locator(coefficients: &[u8], syndromes: &[Gf]) -> bool
+    ensures { IsTrue result → (t : ℕ) → length syndromes.now ≡ 2 * t
+        → IsLocator t (numbers syndromes.now) coefficients.now }
 {
     let limit = syndromes.len() / 2;
-    if all_zero(polynomial) || polynomial.len() > limit + 1 {
+    if is_zero(coefficients) || coefficients.len() > limit + 1 {
         return false;
     }
     for from in 0..limit {
-        if equation(polynomial, syndromes, from).0 != 0 {
+        if equation(coefficients, syndromes, from).0 != 0 {
             return false;
         }
     }
@@ -91,7 +74,8 @@ fn is_locator(polynomial: &[Gf], syndromes: &[Gf]) -> bool
 // order last grew, times x for each step since, and `inverse` the inverse of what it missed.
 pub(crate) fn shortest_recurrence(syndromes: &[Gf]) -> Option<ArrayVec<Gf, MOST_COEFFICIENTS>>
     requires { length syndromes.now ≤ 68 }
-    ensures { IfSome result (λ p. (t : ℕ) → length syndromes.now ≡ 2 * t → IsLocator t (numbers syndromes.now) (numbers p.items)) }
+    ensures { IfSome result (λ p. (t : ℕ) → length syndromes.now ≡ 2 * t
+        → IsLocator t (numbers syndromes.now) (numbers p.items)) }
 {
     let limit = syndromes.len() / 2;
     let mut connection = [0; MOST_COEFFICIENTS];
@@ -117,9 +101,10 @@ pub(crate) fn shortest_recurrence(syndromes: &[Gf]) -> Option<ArrayVec<Gf, MOST_
         previous.rotate_right(1);
         previous[0] = 0;
     }
-    let locator = reversed(&connection, order);
-    if is_locator(locator.as_slice(), syndromes) {
-        Some(locator)
+    let locator = &mut connection[..order + 1];
+    locator.reverse();
+    if is_locator(locator, syndromes) {
+        Some(elements_of(locator))
     } else {
         None
     }

@@ -7,7 +7,7 @@ ghost use Rattle.dm_check_blocks.specs.Blocks.{block_of, IsSymbol};
 ghost use Rattle.dm_corrector.specs.Corrections.{Corrects};
 ghost use Rattle.dm_corrector.specs.Symbols.{CorrectsSymbol, IsFirstFaulty};
 
-use crate::block::{Uncorrectable, correct, differing};
+use crate::block::{Uncorrectable, correct};
 use crate::syndromes::MOST_WORDS;
 use dm_check_blocks::Size;
 
@@ -17,6 +17,7 @@ const MOST_SYMBOL_WORDS: usize = 1800;
 /// The first block of a symbol that cannot be corrected, counted from 0.
 #[derive(Clone, Copy, Debug, PartialEq, Eq)]
 pub struct BlockFault {
+    /// The block's number.
     pub block: usize,
 }
 
@@ -36,6 +37,13 @@ fn scatter(words: &mut [u8], start: usize, stride: usize, block: &[u8])
     requires once { start < stride }
     ensures own { (k : ℕ) → k < length block.now → slice_index words.new (k * stride + start) ≡ slice_index block.now k }
     ensures others { (p : ℕ) → p % stride ≢ start → slice_index words.new p ≡ slice_index words.old p }
+
+    // Where the words so far are those of a list, the block's words that differ from it are as many more that differ.
+    ensures changed { (before : List ℕ) → (old : List ℕ) → length before ≡ length words.old → length old ≡ length block.now
+        → ((k : ℕ) → k < length block.now
+        → (slice_index old k ≡ slice_index before (k * stride + start))
+        × (slice_index words.old (k * stride + start) ≡ slice_index before (k * stride + start)))
+        → differ before words.new ≡ differ before words.old + differ old block.now }
 {
     for k in 0..block.len() {
         words[k * stride + start] = block[k];
@@ -44,20 +52,28 @@ fn scatter(words: &mut [u8], start: usize, stride: usize, block: &[u8])
 
 // Corrects one block of a symbol. The words of the blocks are interleaved: word k of block b is word k * blocks + b
 // of the symbol.
-fn correct_block(size: Size, words: &mut [u8], number: usize) -> Result<(), Uncorrectable>
+fn correct_block(size: Size, words: &mut [u8], number: usize) -> Result<u8, Uncorrectable>
     requires count { length words.old ≡ all_words size }
     requires block { number < blocks size }
-    ensures near { OnOk result (Corrects (block_checks size) (block_of size number words.old) (block_of size number words.new)) }
-    ensures none { OnErr result ((w : List ℕ) → Corrects (block_checks size) (block_of size number words.old) w → ⊥) }
-    ensures others { (b : ℕ) → b < blocks size → b ≢ number → block_of size b words.new ≡ block_of size b words.old }
+    ensures near { OnOk result
+        (Corrects (block_checks size) (block_of size number words.old) (block_of size number words.new)) }
+    ensures none { OnErr result
+        ((w : List ℕ) → Corrects (block_checks size) (block_of size number words.old) w → ⊥) }
+    ensures others { (b : ℕ) → b < blocks size → b ≢ number
+        → block_of size b words.new ≡ block_of size b words.old }
+
+    // Where the block so far is that of a list, the words put right are as many more that differ from it.
+    ensures changed { IfOk result (λ k. (before : List ℕ) → length before ≡ length words.old
+        → block_of size number before ≡ block_of size number words.old
+        → differ before words.new ≡ differ before words.old + k) }
 {
     let blocks = size.blocks();
     let mut copy = [0; MOST_WORDS];
     let block = &mut copy[..words.len() / blocks];
     gather(words, number, blocks, block);
-    correct(block, size.check_words() / blocks)?;
+    let changed = correct(block, size.check_words() / blocks)?;
     scatter(words, number, blocks, block);
-    Ok(())
+    Ok(changed)
 }
 
 /// Corrects all blocks of a symbol, up to `Size::limit` wrong words in each. Ok tells how many words changed in all; the
@@ -78,12 +94,13 @@ pub fn correct_symbol(size: Size, words: &mut [u8]) -> Result<u16, BlockFault>
     let mut copy = [0; MOST_SYMBOL_WORDS];
     let corrected = &mut copy[..words.len()];
     corrected.copy_from_slice(words);
+    let mut changed = 0;
     for block in 0..blocks {
-        if let Err(Uncorrectable) = correct_block(size, corrected, block) {
-            return Err(BlockFault { block });
+        match correct_block(size, corrected, block) {
+            Ok(words_changed) => changed += words_changed as u16,
+            Err(Uncorrectable) => return Err(BlockFault { block }),
         }
     }
-    let changed = differing(words, corrected);
     words.copy_from_slice(corrected);
-    Ok(changed as u16)
+    Ok(changed)
 }

@@ -7,6 +7,7 @@ ghost use Rattle.dm_gf256.specs.Polynomial.{IsBlockWord};
 ghost use Rattle.dm_gf256.specs.Elements.{numbers};
 ghost use Rattle.dm_corrector.specs.Corrections.{AreSyndromes};
 
+use crate::elements::elements_of;
 use arrayvec::ArrayVec;
 use dm_gf256::Gf;
 
@@ -16,18 +17,6 @@ pub(crate) const MOST_CHECKS: usize = 68;
 /// The most words of a block: the field has 255 places.
 pub(crate) const MOST_WORDS: usize = 255;
 
-// The words of a block as elements of the field.
-fn elements_of(block: &[u8]) -> ArrayVec<Gf, MOST_WORDS>
-    requires { length block.now ≤ 255 }
-    ensures { numbers result.items ≡ block.now }
-{
-    let mut elements = ArrayVec::new();
-    for word in block {
-        elements.push(Gf(*word));
-    }
-    elements
-}
-
 /// The syndromes of a block with so many check words: its values at 2^1, 2^2 and so on.
 pub(crate) fn syndromes_of(block: &[u8], checks: usize) -> ArrayVec<Gf, MOST_CHECKS>
     requires most { checks ≤ 68 }
@@ -36,7 +25,7 @@ pub(crate) fn syndromes_of(block: &[u8], checks: usize) -> ArrayVec<Gf, MOST_CHE
     ensures values { AreSyndromes checks (numbers result.items) block.now }
     ensures bytes { All (λ word. word < 256) block.now }
 {
-    let elements = elements_of(block);
+    let elements: ArrayVec<Gf, MOST_WORDS> = elements_of(block);
     let mut syndromes = ArrayVec::new();
     for k in 0..checks {
         syndromes.push(Gf::eval(elements.as_slice(), Gf::alpha(k as u8 + 1)));

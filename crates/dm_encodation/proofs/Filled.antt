@@ -1,8 +1,9 @@
 -- A symbol filled with a text: how many words it has, and that they read as the text alone.
-use Rattle.std.proofs.Common.{◌≡◌, ℕ, ◌+◌, ◌-◌, ◌<◌, ◌≤◌, Bool, ◌&&◌, leb, List, ◌∷◌, ◌++◌, length, drop, refl, sym, ap, subst, ◌∙◌, append_assoc, arith}
+use Rattle.std.proofs.Common.{◌≡◌, ℕ, ◌+◌, ◌-◌, ◌<◌, ◌≤◌, Bool, ◌&&◌, leb, List, ◌∷◌, ◌++◌, length, take, drop, refl, sym, ap, subst, ◌∙◌, append_assoc, arith}
 use Rattle.std.specs.List.{AllByRecursion}
 use Rattle.std.proofs.lemmas.Bool.{and_parts, leb-true, cond_both}
 use Rattle.std.proofs.lemmas.List.{length-append, drop_at}
+use Rattle.std.proofs.Math.Seq.{take-append_seam}
 use Rattle.dm_encodation.specs.declared.letters.Letters.TheVariants.{Capital, Small}
 use Rattle.dm_encodation.specs.declared.scheme.Scheme.{Scheme}
 use Rattle.dm_encodation.specs.declared.scheme.Scheme.TheVariants.{Ascii, C40, Text, Base256}
@@ -26,6 +27,13 @@ length-filled scheme head bytes n fits =
     let words = head ++ text scheme p bytes in
     let room = n - length words in
     omega (arith, length-append words (behind_text (ends_in_run scheme bytes) (length words + 1) room), length-behind_text (ends_in_run scheme bytes) (length words + 1) room, length-append head (text scheme p bytes), length-text scheme p bytes)
+
+pub take-filled : (scheme : Scheme) (head bytes : List ℕ) (n : ℕ) → take (length head) (filled scheme head bytes n) ≡ head
+unfolding filled
+take-filled scheme head bytes n =
+    let words = text scheme (length head + 1) bytes in
+    let behind = behind_text (ends_in_run scheme bytes) (length (head ++ words) + 1) (n - length (head ++ words)) in
+    ap (take (length head)) (append_assoc head words behind) ∙ take-append_seam head (words ++ behind)
 
 -- the words, one part after another
 pub filled_parts : (scheme : Scheme) (head bytes first second : List ℕ) (in_run : Bool) (p q n : ℕ) → first ≡ head ++ text scheme p bytes → p ≡ length head + 1 → second ≡ first ++ behind_text in_run (q + 1) (n - q) → q ≡ length first → in_run ≡ ends_in_run scheme bytes

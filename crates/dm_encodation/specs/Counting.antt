@@ -19,6 +19,7 @@ has_lone_digit [] = false
 has_lone_digit (b ∷ []) = is_ascii_digit b
 has_lone_digit (b ∷ c ∷ bs) = if is_ascii_digit b && is_ascii_digit c then has_lone_digit bs else has_lone_digit (c ∷ bs)
 
+-- a counter of a text in ASCII
 pub record CountsAscii (bytes : List ℕ) (c : AsciiCounter) : Type 0 where
   pub words : c.words ≡ length (ascii bytes)
   pub lone : c.lone_digit ≡ has_lone_digit bytes
@@ -31,6 +32,7 @@ base_256_need n = if n == 0 then 0 else if nat_le n 249 then n + 2 else n + 3
 abbrev pub run_need : ℕ → ℕ → ℕ
 run_need run behind = if run == 0 then behind else if behind == 0 then 1 + run / 3 * 2 else 2 + run / 3 * 2 + behind
 
+-- a counter of a text in C40 or Text
 pub record CountsRun (t : Letters) (bytes : List ℕ) (c : RunCounter) : Type 0 where
   pub values : c.values ≡ length (flat_map (values_of t) bytes)
   pub run : c.run ≡ length (flat_map (values_of t) (take (run_length t bytes) bytes))
@@ -44,12 +46,13 @@ Counts Text bytes (counters.Run Small c) = CountsRun Small bytes c
 Counts Base256 bytes (counters.Base256 n) = n ≡ length bytes
 Counts _ _ _ = ⊥
 
--- no sum of the counter overflows
+-- no sum of a run's counter overflows
 pub record IsSmallRun (c : RunCounter) : Type 0 where
   pub values : c.values < 2 ^ 100
   pub run : c.run < 2 ^ 100
   pub behind : c.behind.words < 2 ^ 100
 
+-- no sum of a scheme's counter overflows
 abbrev pub IsSmall : Counter → Type 0
 IsSmall (counters.Ascii c) = c.words < 2 ^ 100
 IsSmall (counters.Run t c) = IsSmallRun c

@@ -6,7 +6,8 @@ ghost use Rattle.dm_encodation.specs.Written.{ascii};
 
 use std::alloc::{AllocError, Allocator};
 
-/// What stands at the front of a text: two digits, by their number, a byte below 128, or another byte.
+/// What stands at the front of a text: two digits, by their number, a byte below 128, or another
+/// byte.
 #[derive(Clone, Copy)]
 enum Piece {
     Digits(u8),
@@ -23,7 +24,8 @@ fn begins_with_digits(bytes: &[u8]) -> bool
 
 /// The piece at the front of a text, and what is behind it.
 fn first_piece(bytes: &[u8]) -> Option<(Piece, &[u8])>
-    ensures words { MatchOption result (bytes.now ≡ []) (λ r. ascii bytes.now ≡ piece_words r.0 ++ ascii r.1.now) }
+    ensures words { MatchOption result (bytes.now ≡ [])
+        (λ r. ascii bytes.now ≡ piece_words r.0 ++ ascii r.1.now) }
     ensures shorter { IfSome result (λ r. length r.1.now < length bytes.now) }
     ensures piece { IfSome result (λ r. IsPiece r.0) }
 {

@@ -23,7 +23,8 @@ fn randomise(position: usize, value: u8) -> u8
 /// Writes values, the first at the position behind what was written.
 fn push_values<A: Allocator>(out: &mut Vec<u8, A>, values: &[u8]) -> Result<(), AllocError>
     requires { vec_len out.old + length values.now < 2 ^ 31 }
-    ensures values { OnOk result (out.new.items ≡ out.old.items ++ randomised (vec_len out.old + 1) values.now) }
+    ensures values { OnOk result (out.new.items
+        ≡ out.old.items ++ randomised (vec_len out.old + 1) values.now) }
     ensures length { OnOk result (vec_len out.new ≡ vec_len out.old + length values.now) }
 {
     for value in values {
@@ -37,7 +38,8 @@ fn push_values<A: Allocator>(out: &mut Vec<u8, A>, values: &[u8]) -> Result<(), 
 fn push_length<A: Allocator>(out: &mut Vec<u8, A>, count: usize) -> Result<(), AllocError>
     requires place { vec_len out.old < 2 ^ 30 }
     requires short { count ≤ 1555 }
-    ensures values { OnOk result (out.new.items ≡ out.old.items ++ randomised (vec_len out.old + 1) (length_words count)) }
+    ensures values { OnOk result (out.new.items
+        ≡ out.old.items ++ randomised (vec_len out.old + 1) (length_words count)) }
     ensures length { OnOk result (vec_len out.new ≡ vec_len out.old + length (length_words count)) }
 {
     if count <= 249 {
@@ -54,7 +56,8 @@ pub(crate) fn push_base_256<A: Allocator>(
 ) -> Result<(), AllocError>
     requires place { vec_len out.old < 2 ^ 16 }
     requires short { length bytes.now ≤ 1555 }
-    ensures { OnOk result (out.new.items ≡ out.old.items ++ base_256 (vec_len out.old + 1) bytes.now) }
+    ensures { OnOk result (out.new.items
+        ≡ out.old.items ++ base_256 (vec_len out.old + 1) bytes.now) }
 {
     if bytes.is_empty() {
         return Ok(());

@@ -6,8 +6,8 @@ ghost use Rattle.dm_encodation.specs.Written.{ascii_byte, need_of};
 ghost use Rattle.dm_encodation.specs.declared.letters.Letters.{Letters};
 ghost use Rattle.dm_encodation.specs.declared.scheme.Scheme.{Scheme};
 
+use crate::characters::values_in;
 use crate::letters::Letters;
-use crate::run::values_in;
 use crate::scheme::Scheme;
 
 /// The words of a text in ASCII.
@@ -40,7 +40,8 @@ impl AsciiCounter {
     /// The counter of one byte more.
     fn with(self, byte: u8) -> AsciiCounter
         requires { self.words < 2 ^ 100 }
-        ensures { (bytes : List ℕ) → CountsAscii bytes self → CountsAscii (bytes ++ byte ∷ []) result }
+        ensures { (bytes : List ℕ) → CountsAscii bytes self
+            → CountsAscii (bytes ++ byte ∷ []) result }
     {
         let is_digit = byte.is_ascii_digit();
         if self.lone_digit && is_digit {
@@ -82,7 +83,8 @@ impl RunCounter {
     /// The counter of one byte more.
     fn with(self, letters: Letters, byte: u8) -> RunCounter
         requires { IsSmallRun self }
-        ensures { (bytes : List ℕ) → CountsRun letters bytes self → CountsRun letters (bytes ++ byte ∷ []) result }
+        ensures { (bytes : List ℕ) → CountsRun letters bytes self
+            → CountsRun letters (bytes ++ byte ∷ []) result }
     {
         let values = self.values + values_in(letters, byte) as u128;
         if values % 3 == 0 {
@@ -153,7 +155,8 @@ impl Counter {
     /// The counter of one byte more.
     pub(crate) fn with(self, byte: u8) -> Counter
         requires { IsSmall self }
-        ensures { (scheme : Scheme) (bytes : List ℕ) → Counts scheme bytes self → Counts scheme (bytes ++ byte ∷ []) result }
+        ensures { (scheme : Scheme) (bytes : List ℕ) → Counts scheme bytes self
+            → Counts scheme (bytes ++ byte ∷ []) result }
     {
         match self {
             Counter::Ascii(counter) => Counter::Ascii(counter.with(byte)),
@@ -165,7 +168,8 @@ impl Counter {
     /// How many words the bytes take.
     pub(crate) fn words(self) -> u128
         requires { IsSmall self }
-        ensures { (scheme : Scheme) (bytes : List ℕ) → Counts scheme bytes self → result ≡ need_of scheme bytes }
+        ensures { (scheme : Scheme) (bytes : List ℕ)
+            → Counts scheme bytes self → result ≡ need_of scheme bytes }
     {
         match self {
             Counter::Ascii(counter) => counter.words,

@@ -17,8 +17,8 @@ pub(crate) fn words_of(scheme: Scheme, bytes: &[u8]) -> u128
     counter.words()
 }
 
-/// How many data words the bytes take in a scheme, before any pad (ISO/IEC 16022, section 5.2, and this
-/// project's own rule where the standard leaves a choice). The bytes are at most 2^30.
+/// How many data words the bytes take in a scheme, before any pad (ISO/IEC 16022, section 5.2, and
+/// this project's own rule where the standard leaves a choice). The bytes are at most 2^30.
 pub fn need(scheme: Scheme, bytes: &[u8]) -> usize
     requires { length bytes.now ≤ 2 ^ 30 }
     ensures { result ≡ need_of scheme bytes.now }
@@ -26,8 +26,9 @@ pub fn need(scheme: Scheme, bytes: &[u8]) -> usize
     words_of(scheme, bytes) as usize
 }
 
-/// The greatest number of bytes at the front of a text that together take at most `room` words. A shorter
-/// front may take more words than a longer one, so this is not where the first front is too long.
+/// The greatest number of bytes at the front of a text that together take at most `room` words. A
+/// shorter front may take more words than a longer one, so this is not where the first front is too
+/// long.
 pub fn fit(scheme: Scheme, bytes: &[u8], room: usize) -> usize
     ensures { IsGreatestPrefix scheme room bytes.now result }
 {

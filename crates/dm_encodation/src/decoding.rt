@@ -68,10 +68,10 @@ fn collect<A: Allocator + Copy>(
     Ok(out)
 }
 
-/// The bytes that the data words from index `from` on read as (ISO/IEC 16022, section 5.2; how a run of C40
-/// or Text ends is this project's own rule). The words begin in ASCII, and their end is the symbol's end.
-/// The first fault from the left is answered. `Memory` comes only where the words have no fault, since all
-/// of them are looked through before any memory is asked for.
+/// The bytes that the data words from index `from` on read as (ISO/IEC 16022, section 5.2; how a
+/// run of C40 or Text ends is this project's own rule). The words begin in ASCII, and their end is
+/// the symbol's end. The first fault from the left is answered. `Memory` comes only where the words
+/// have no fault, since all of them are looked through before any memory is asked for.
 pub fn decode<A: Allocator + Copy>(
     alloc: A,
     words: &[u8],
@@ -81,7 +81,8 @@ pub fn decode<A: Allocator + Copy>(
     ensures read { IfOk result (λ v. ReadsOnly (from + 1) (drop from words.now) v.items) }
     ensures short { IfOk result (λ v. length v.items ≤ 2 * (length words.now - from)) }
     ensures stuck { IfErr result (λ f. f ≢ Memory → StuckOnly (from + 1) (drop from words.now) f) }
-    ensures memory { IsErrOf result Memory → (bytes : List ℕ) × ReadsOnly (from + 1) (drop from words.now) bytes }
+    ensures memory { IsErrOf result Memory → (bytes : List ℕ)
+        × ReadsOnly (from + 1) (drop from words.now) bytes }
 {
     check(words, from)?;
     collect(alloc, words, from)

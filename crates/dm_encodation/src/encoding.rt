@@ -1,6 +1,6 @@
 //! A symbol's data words.
 
-ghost use Rattle.std.specs.Prelude.{◌≡◌, ◌+◌, ◌-◌, ◌<◌, ◌≤◌, ◌^◌, ◌++◌, ◌↔◌, length, drop, IfOk, OnOk, IsErrOf, vec_len};
+ghost use Rattle.std.specs.Prelude.{◌≡◌, ◌+◌, ◌-◌, ◌<◌, ◌≤◌, ◌^◌, ◌++◌, ◌↔◌, length, take, drop, IfOk, OnOk, IsErrOf, vec_len};
 ghost use Rattle.dm_check_blocks.specs.Sizes.{data_words};
 ghost use Rattle.dm_encodation.specs.Grammar.{ReadsOnly};
 ghost use Rattle.dm_encodation.specs.Written.{text, ends_in_run, filled, need_of};
@@ -25,7 +25,8 @@ fn push_text<A: Allocator>(
 ) -> Result<(), AllocError>
     requires place { vec_len out.old < 2 ^ 16 }
     requires short { need_of scheme bytes.now ≤ 1304 }
-    ensures { OnOk result (out.new.items ≡ out.old.items ++ text scheme (vec_len out.old + 1) bytes.now) }
+    ensures { OnOk result (out.new.items
+        ≡ out.old.items ++ text scheme (vec_len out.old + 1) bytes.now) }
 {
     match scheme {
         Scheme::Ascii => push_ascii(out, bytes),
@@ -65,10 +66,11 @@ fn fill<A: Allocator + Copy>(
     Ok(out)
 }
 
-/// The data words of a symbol: the head, the words of the text, and pads (ISO/IEC 16022, section 5.2, and
-/// this project's own rule where the standard leaves a choice). The words are exactly as many as the size
-/// has, and read from the head's end as the bytes and as nothing else. `TooLong` comes exactly where the
-/// text needs more words than the head leaves, and before any memory is asked for.
+/// The data words of a symbol: the head, the words of the text, and pads (ISO/IEC 16022, section
+/// 5.2, and this project's own rule where the standard leaves a choice). The words are exactly as
+/// many as the size has, and read from the head's end as the bytes and as nothing else. `TooLong`
+/// comes exactly where the text needs more words than the head leaves, and before any memory is
+/// asked for.
 pub fn encode<A: Allocator + Copy>(
     alloc: A,
     scheme: Scheme,
@@ -79,8 +81,11 @@ pub fn encode<A: Allocator + Copy>(
     requires { length head.now ≤ data_words size }
     ensures filled { IfOk result (λ v. v.items ≡ filled scheme head.now bytes.now (data_words size)) }
     ensures whole { IfOk result (λ v. length v.items ≡ data_words size) }
-    ensures reads { IfOk result (λ v. ReadsOnly (length head.now + 1) (drop (length head.now) v.items) bytes.now) }
-    ensures too_long { IsErrOf result TooLong ↔ (data_words size - length head.now < need_of scheme bytes.now) }
+    ensures head { IfOk result (λ v. take (length head.now) v.items ≡ head.now) }
+    ensures reads { IfOk result
+        (λ v. ReadsOnly (length head.now + 1) (drop (length head.now) v.items) bytes.now) }
+    ensures too_long { IsErrOf result TooLong
+        ↔ (data_words size - length head.now < need_of scheme bytes.now) }
 {
     let capacity = size.data_words();
     if words_of(scheme, bytes) > (capacity - head.len()) as u128 {

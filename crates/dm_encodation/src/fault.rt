@@ -11,12 +11,12 @@ pub enum EncodeFault {
     Memory,
 }
 
-/// Why words aren't read. The positions `at` count from 1 at the first of all words, `word` is the word
-/// as it stands there.
+/// Why words aren't read. The positions `at` count from 1 at the first of all words, `word` is the
+/// word as it stands there.
 #[derive(Clone, Copy, Debug, PartialEq, Eq)]
 pub enum DecodeFault {
-    /// A word or a value that has a meaning in the standard which is not read here: FNC1, Structured
-    /// Append, Reader Programming, Macro, ANSI X12, EDIFACT or ECI.
+    /// A word or a value that has a meaning in the standard which is not read here: FNC1,
+    /// Structured Append, Reader Programming, Macro, ANSI X12, EDIFACT or ECI.
     Unsupported { at: usize, word: u8 },
     /// A word or a pair that has no meaning where it stands.
     Reserved { at: usize, word: u8 },

@@ -1,19 +1,20 @@
-//! The encodations of Data Matrix ECC 200 (ISO/IEC 16022, section 5.2): from bytes to the data words of a
-//! symbol, and back.
+//! The encodations of Data Matrix ECC 200 (ISO/IEC 16022, section 5.2): from bytes to the data
+//! words of a symbol, and back.
 //!
-//! [`need`] and [`fit`] say how many words a text takes and how much of it fits a room, and [`encode`]
-//! writes it behind a head and fills the symbol with pads. Which words are chosen where the standard
-//! leaves a choice is this project's own rule. [`decode`] reads the words of ASCII, C40, Text and
-//! Base 256, and says of all other words where and why they are refused.
+//! [`need`] and [`fit`] say how many words a text takes and how much of it fits a room, and
+//! [`encode`] writes it behind a head and fills the symbol with pads. Which words are chosen where
+//! the standard leaves a choice is this project's own rule. [`decode`] reads the words of ASCII,
+//! C40, Text and Base 256, and says of all other words where and why they are refused.
 //!
-//! Proved: `encode` writes exactly the words of the definition, and they read as the bytes that went in
-//! and as nothing else; `need`, `fit` and the refusal `TooLong` are exact; `decode` gives the one reading
-//! of the words, or the one fault at which they are stuck. `need` and `fit` take no memory, and `decode`
-//! looks through the whole text before it asks for any.
+//! Proved: `encode` writes exactly the words of the definition, and they read as the bytes that
+//! went in and as nothing else; `need`, `fit` and the refusal `TooLong` are exact; `decode` gives
+//! the one reading of the words, or the one fault at which they are stuck. `need` and `fit` take no
+//! memory, and `decode` looks through the whole text before it asks for any.
 #![tactic(auto)]
 
 mod ascii;
 mod base256;
+mod characters;
 mod counter;
 mod counting;
 mod decoding;

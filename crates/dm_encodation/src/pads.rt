@@ -23,7 +23,8 @@ fn later_pad(position: usize) -> u8
 /// Fills the symbol up to `capacity` words with pads.
 fn push_pads<A: Allocator>(out: &mut Vec<u8, A>, capacity: usize) -> Result<(), AllocError>
     requires { capacity < 2 ^ 16 }
-    ensures { OnOk result (out.new.items ≡ out.old.items ++ pads (vec_len out.old + 1) (capacity - vec_len out.old)) }
+    ensures { OnOk result (out.new.items
+        ≡ out.old.items ++ pads (vec_len out.old + 1) (capacity - vec_len out.old)) }
 {
     if out.len() >= capacity {
         return Ok(());
@@ -35,15 +36,16 @@ fn push_pads<A: Allocator>(out: &mut Vec<u8, A>, capacity: usize) -> Result<(), 
     Ok(())
 }
 
-/// Fills the symbol behind the text up to `capacity` words. A run that the text ends in is left first,
-/// where more than one word is free.
+/// Fills the symbol behind the text up to `capacity` words. A run that the text ends in is left
+/// first, where more than one word is free.
 pub(crate) fn fill_up<A: Allocator>(
     out: &mut Vec<u8, A>,
     in_run: bool,
     capacity: usize,
 ) -> Result<(), AllocError>
     requires { capacity < 2 ^ 16 }
-    ensures { OnOk result (out.new.items ≡ out.old.items ++ behind_text in_run (vec_len out.old + 1) (capacity - vec_len out.old)) }
+    ensures { OnOk result (out.new.items
+        ≡ out.old.items ++ behind_text in_run (vec_len out.old + 1) (capacity - vec_len out.old)) }
 {
     if in_run && out.len() < capacity && capacity - out.len() >= 2 {
         out.push(254)?;

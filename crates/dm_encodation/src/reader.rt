@@ -1,8 +1,9 @@
 //! Reading word by word.
 
-ghost use Rattle.std.specs.Prelude.{◌≡◌, ℕ, ◌+◌, ◌<◌, IfOk};
+ghost use Rattle.std.specs.Prelude.{◌≡◌, ℕ, ◌+◌, ◌<◌, ◌≤◌, IfOk, Ok};
 ghost use Rattle.dm_encodation.specs.Reading;
 ghost use Rattle.dm_encodation.specs.Seen.{seen, seen_end, seen_unit, IsMode};
+ghost use Rattle.dm_encodation.specs.declared.mode.Mode.TheVariants.{Length, LongLength};
 
 use crate::fault::DecodeFault;
 use crate::letters::Letters;
@@ -81,6 +82,40 @@ fn bytes_left(count: usize, at: usize) -> Mode
     }
 }
 
+/// The first word of a length.
+#[tactic(auto, unfolding(crate::specs::Reading::step))]
+fn length_step(position: usize, word: u8) -> (Mode, Output)
+    requires { 1 < position }
+    ensures step { seen (Ok result) ≡ Reading.step Length position word }
+    ensures next { IsMode result.0 (position + 1) }
+{
+    let value = value_255(position, word);
+    let next = if value == 0 {
+        Mode::Rest
+    } else if value < 250 {
+        bytes_left(value as usize, position - 1)
+    } else {
+        Mode::LongLength(value)
+    };
+    (next, Output::Nothing)
+}
+
+/// The second word of a length whose first is 250 or more.
+#[tactic(auto, unfolding(crate::specs::Reading::step))]
+fn long_length_step(first: u8, position: usize, word: u8) -> Result<(Mode, Output), DecodeFault>
+    requires place { 2 < position }
+    requires long { 250 ≤ first }
+    ensures step { seen result ≡ Reading.step (LongLength first) position word }
+    ensures next { IfOk result (λ x. IsMode x.0 (position + 1)) }
+{
+    let value = value_255(position, word);
+    if value >= 250 {
+        return Err(DecodeFault::Reserved { at: position, word });
+    }
+    let count = 250 * (first as usize - 249) + value as usize;
+    Ok((bytes_left(count, position - 2), Output::Nothing))
+}
+
 /// One word.
 #[tactic(auto, unfolding(crate::specs::Reading::step))]
 pub(crate) fn step(mode: Mode, position: usize, word: u8) -> Result<(Mode, Output), DecodeFault>
@@ -106,27 +141,8 @@ pub(crate) fn step(mode: Mode, position: usize, word: u8) -> Result<(Mode, Outpu
             first,
             word,
         ),
-        Mode::Length => {
-            let value = value_255(position, word);
-            if value == 0 {
-                Ok((Mode::Rest, Output::Nothing))
-            } else if value < 250 {
-                Ok((bytes_left(value as usize, position - 1), Output::Nothing))
-            } else {
-                Ok((Mode::LongLength(value), Output::Nothing))
-            }
-        }
-        Mode::LongLength(first) => {
-            let value = value_255(position, word);
-            if value < 250 {
-                Ok((
-                    bytes_left(250 * (first as usize - 249) + value as usize, position - 2),
-                    Output::Nothing,
-                ))
-            } else {
-                Err(DecodeFault::Reserved { at: position, word })
-            }
-        }
+        Mode::Length => Ok(length_step(position, word)),
+        Mode::LongLength(first) => long_length_step(first, position, word),
         Mode::Bytes(count, at) => Ok((
             bytes_left(count - 1, at),
             Output::One(value_255(position, word)),

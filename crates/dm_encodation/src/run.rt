@@ -1,14 +1,14 @@
 //! The words of a text in C40 or Text encodation: a run of pairs, and what the run leaves in ASCII.
 
-ghost use Rattle.std.specs.Prelude.{◌≡◌, ℕ, ◌+◌, ◌<◌, ◌≤◌, ◌++◌, ◌∷◌, [], length, OnOk, IfOk, IfSome, List};
-ghost use Rattle.std.specs.List.{flat_map, AllByRecursion};
+ghost use Rattle.std.specs.Prelude.{◌≡◌, ◌<◌, ◌≤◌, ◌++◌, ◌∷◌, [], length, OnOk, IfOk};
+ghost use Rattle.std.specs.List.{flat_map};
 ghost use Rattle.dm_encodation.specs.Characters.{values_of, values_below_128};
 ghost use Rattle.dm_encodation.specs.Grammar.{latch};
-ghost use Rattle.dm_encodation.specs.Runs.{held_values};
-ghost use Rattle.dm_encodation.specs.Seen.{option_bytes};
+ghost use Rattle.dm_encodation.specs.Runs.{AreValues, Writes};
 ghost use Rattle.dm_encodation.specs.Written.{pairs, run_length, run_and_rest, is_whole_run};
 
 use crate::ascii::push_ascii;
+use crate::characters::{spelled, values_in};
 use crate::letters::Letters;
 use std::alloc::{AllocError, Allocator};
 
@@ -23,8 +23,9 @@ enum Held {
 /// Takes one more value; three of them are two words.
 fn push_value<A: Allocator>(out: &mut Vec<u8, A>, held: Held, value: u8) -> Result<Held, AllocError>
     requires value { value < 40 }
-    requires held { AllByRecursion (λ v. v < 40) (held_values held) }
-    ensures { IfOk result (λ h. AllByRecursion (λ v. v < 40) (held_values h) × ((rest : List ℕ) → out.new.items ++ pairs (held_values h ++ rest) ≡ out.old.items ++ pairs (held_values held ++ value ∷ rest))) }
+    requires held { AreValues held }
+    ensures values { IfOk result AreValues }
+    ensures wrote { IfOk result (λ h. Writes out.old.items held (value ∷ []) out.new.items h) }
 {
     match held {
         Held::Nothing => Ok(Held::One(value)),
@@ -38,58 +39,6 @@ fn push_value<A: Allocator>(out: &mut Vec<u8, A>, held: Held, value: u8) -> Resu
     }
 }
 
-/// The shift, if any, and the value of a byte below 128.
-#[tactic(auto, unfolding(crate::specs::Characters::values_below_128))]
-fn spelled(letters: Letters, byte: u8) -> (Option<u8>, u8)
-    requires { byte < 128 }
-    ensures values { option_bytes result.0 ++ result.1 ∷ [] ≡ values_below_128 letters byte }
-    ensures low { (result.1 < 40) × IfSome result.0 (λ s. s < 3) }
-{
-    match byte {
-        0..=31 => (Some(0), byte),
-        32 => (None, 3),
-        33..=47 => (Some(1), byte - 33),
-        48..=57 => (None, byte - 44),
-        58..=64 => (Some(1), byte - 43),
-        65..=90 => match letters {
-            Letters::Capital => (None, byte - 51),
-            Letters::Small => (Some(2), byte - 64),
-        },
-        91..=95 => (Some(1), byte - 69),
-        96 => (Some(2), 0),
-        97..=122 => match letters {
-            Letters::Capital => (Some(2), byte - 96),
-            Letters::Small => (None, byte - 83),
-        },
-        _ => (Some(2), byte - 96),
-    }
-}
-
-/// How many values spell a byte below 128.
-fn low_values_in(letters: Letters, byte: u8) -> u8
-    requires { byte < 128 }
-    ensures exact { result ≡ length (values_below_128 letters byte) }
-    ensures few { result ≤ 2 }
-{
-    match spelled(letters, byte).0 {
-        Some(_) => 2,
-        None => 1,
-    }
-}
-
-/// How many values spell a byte.
-#[tactic(auto, unfolding(crate::specs::Characters::values_of))]
-pub(crate) fn values_in(letters: Letters, byte: u8) -> u8
-    ensures exact { result ≡ length (values_of letters byte) }
-    ensures few { result ≤ 4 }
-{
-    if byte < 128 {
-        low_values_in(letters, byte)
-    } else {
-        2 + low_values_in(letters, byte - 128)
-    }
-}
-
 /// Takes the values of a byte below 128.
 fn push_low<A: Allocator>(
     out: &mut Vec<u8, A>,
@@ -98,8 +47,10 @@ fn push_low<A: Allocator>(
     byte: u8,
 ) -> Result<Held, AllocError>
     requires byte { byte < 128 }
-    requires held { AllByRecursion (λ v. v < 40) (held_values held) }
-    ensures { IfOk result (λ h. AllByRecursion (λ v. v < 40) (held_values h) × ((rest : List ℕ) → out.new.items ++ pairs (held_values h ++ rest) ≡ out.old.items ++ pairs (held_values held ++ (values_below_128 letters byte ++ rest)))) }
+    requires held { AreValues held }
+    ensures values { IfOk result AreValues }
+    ensures wrote { IfOk result
+        (λ h. Writes out.old.items held (values_below_128 letters byte) out.new.items h) }
 {
     let (shift, value) = spelled(letters, byte);
     let shifted = match shift {
@@ -117,8 +68,10 @@ fn push_byte<A: Allocator>(
     held: Held,
     byte: u8,
 ) -> Result<Held, AllocError>
-    requires { AllByRecursion (λ v. v < 40) (held_values held) }
-    ensures { IfOk result (λ h. AllByRecursion (λ v. v < 40) (held_values h) × ((rest : List ℕ) → out.new.items ++ pairs (held_values h ++ rest) ≡ out.old.items ++ pairs (held_values held ++ (values_of letters byte ++ rest)))) }
+    requires { AreValues held }
+    ensures values { IfOk result AreValues }
+    ensures wrote { IfOk result
+        (λ h. Writes out.old.items held (values_of letters byte) out.new.items h) }
 {
     if byte < 128 {
         return push_low(out, letters, held, byte);
@@ -134,7 +87,8 @@ fn push_pairs<A: Allocator>(
     letters: Letters,
     bytes: &[u8],
 ) -> Result<(), AllocError>
-    ensures { OnOk result (out.new.items ≡ out.old.items ++ pairs (flat_map (values_of letters) bytes.now)) }
+    ensures { OnOk result (out.new.items
+        ≡ out.old.items ++ pairs (flat_map (values_of letters) bytes.now)) }
 {
     let mut held = Held::Nothing;
     for byte in bytes {
@@ -183,7 +137,8 @@ pub(crate) fn push_run<A: Allocator>(
     letters: Letters,
     bytes: &[u8],
 ) -> Result<(), AllocError>
-    ensures { OnOk result (out.new.items ≡ out.old.items ++ run_and_rest letters (run_length letters bytes.now) bytes.now) }
+    ensures { OnOk result (out.new.items
+        ≡ out.old.items ++ run_and_rest letters (run_length letters bytes.now) bytes.now) }
 {
     let length = run_bytes(letters, bytes);
     if length == 0 {

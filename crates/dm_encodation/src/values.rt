@@ -1,47 +1,14 @@
-//! The values of C40 and Text, and the pairs of words that hold three of them.
+//! Reading the values of C40 and Text, and the pairs of words that hold three of them.
 
 ghost use Rattle.std.specs.Prelude.{◌≡◌, ◌+◌, ◌<◌, ◌++◌, ◌∷◌, [], IfOk, IfSome};
 ghost use Rattle.dm_encodation.specs.Reading;
 ghost use Rattle.dm_encodation.specs.Seen.{seen, seen_value, seen_values, bytes_of, option_bytes, fault_of, IsMode};
 
+use crate::characters::byte_in;
 use crate::fault::DecodeFault;
 use crate::letters::Letters;
 use crate::mode::{Mode, NO_PENDING, Pending, Set, ValueFault};
 use crate::reader::Output;
-
-/// The byte of a value in a set.
-#[tactic(auto, unfolding(crate::specs::Reading::byte_in))]
-fn byte_in(letters: Letters, set: Set, value: u8) -> Option<u8>
-    ensures byte { result ≡ Reading.byte_in letters set value }
-    ensures low { IfSome result (λ b. b < 128) }
-{
-    match (set, letters) {
-        (Set::Basic, _) => match value {
-            0..=2 => None,
-            3 => Some(b' '),
-            4..=13 => Some(value + 44),
-            14..=39 => match letters {
-                Letters::Capital => Some(value + 51),
-                Letters::Small => Some(value + 83),
-            },
-            _ => None,
-        },
-        (Set::First, _) => if value < 32 { Some(value) } else { None },
-        (Set::Second, _) => match value {
-            0..=14 => Some(value + 33),
-            15..=21 => Some(value + 43),
-            22..=26 => Some(value + 69),
-            _ => None,
-        },
-        (Set::Third, Letters::Capital) => if value < 32 { Some(value + 96) } else { None },
-        (Set::Third, Letters::Small) => match value {
-            0 => Some(96),
-            1..=26 => Some(value + 64),
-            27..=31 => Some(value + 96),
-            _ => None,
-        },
-    }
-}
 
 /// The end of a character.
 fn end_character(upper: bool, byte: Option<u8>) -> Result<(Pending, Option<u8>), ValueFault>
@@ -110,7 +77,8 @@ fn pair_fault(fault: ValueFault, position: usize, word: u8) -> DecodeFault
 
 /// The bytes of up to three characters.
 fn joined(first: Option<u8>, second: Option<u8>, third: Option<u8>) -> Output
-    ensures { bytes_of result ≡ option_bytes first ++ (option_bytes second ++ (option_bytes third ++ [])) }
+    ensures { bytes_of result
+        ≡ option_bytes first ++ (option_bytes second ++ (option_bytes third ++ [])) }
 {
     match (first, second, third) {
         (None, None, None) => Output::Nothing,

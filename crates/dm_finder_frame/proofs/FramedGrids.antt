@@ -1,7 +1,7 @@
 -- The grid of a mapping matrix: its modules, its matrix, and that none of its finder patterns' modules is wrong.
 use Rattle.std.specs.Prelude.{◌/◌, ◌%◌, not, count_by}
 use Rattle.std.specs.List.{range_with_len}
-use Rattle.std.proofs.Common.{◌≡◌, ℕ, zero, suc, ◌+◌, ◌-◌, ◌*◌, ◌<◌, ◌≤◌, refl, List, [], ◌∷◌, length, get_or, map, Bool, true, false, cond, ◌&&◌, ap, sym, ◌∙◌, arith, subst, zero-add}
+use Rattle.std.proofs.Common.{◌≡◌, ℕ, zero, suc, ◌+◌, ◌*◌, ◌<◌, refl, List, [], ◌∷◌, get_or, map, Bool, true, false, cond, ◌&&◌, ap, sym, ◌∙◌, arith, subst, zero-add}
 use Rattle.std.proofs.lemmas.Nat.{mul-add-lt, div_below, mod_below, div-mul-add, mod-mul-add, div-add-mod'}
 use Rattle.std.proofs.lemmas.List.FromFn.{fill_by_all, get_or-map-range_with_len, length-map-range_with_len}
 use Rattle.dm_check_blocks.specs.declared.size.Size.{Size}
@@ -30,6 +30,14 @@ framed_at s m r c hr hc =
     (mul-add-lt r n c n hr hc) (zero-add _)
     ∙ ap (λ x. grid_module s m x ((r * n + c) % n)) (div-mul-add r n c hc)
     ∙ ap (λ x. grid_module s m r x) (mod-mul-add r n c hc)
+
+pub framed_is_whole : (s : Size) (m : Square) → IsWhole (framed s m)
+unfolding framed_modules
+framed_is_whole s m = length-map-range_with_len _ 0 (side s * side s)
+
+pub unframed_is_whole : (s : Size) (g : Square) → IsWhole (unframed s g)
+unfolding unframed_modules
+unframed_is_whole s g = length-map-range_with_len _ 0 (mapping s * mapping s)
 
 -- a place of the mapping matrix lies within the grid, on no frame
 pub place_within : (s : Size) (r : ℕ) → r < mapping s → grid_place (region s) r < side s

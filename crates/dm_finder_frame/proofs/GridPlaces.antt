@@ -1,13 +1,13 @@
 -- Rows and columns of a grid and of its mapping matrix.
 use Rattle.std.specs.Prelude.{◌/◌, ◌%◌}
-use Rattle.std.proofs.Common.{◌≡◌, ℕ, zero, suc, ◌+◌, ◌-◌, ◌*◌, ◌<◌, ◌≤◌, refl, Bool, true, false, eqb, ◌||◌, ap, sym, ◌∙◌, arith, subst, lit≤}
+use Rattle.std.proofs.Common.{◌≡◌, ℕ, ◌+◌, ◌-◌, ◌*◌, ◌<◌, ◌≤◌, refl, false, eqb, ◌||◌, ap, ◌∙◌, arith, lit≤}
 use Rattle.std.proofs.lemmas.Nat.{mul-add-lt, div_below, mod_below, div-mul-add, mod-mul-add, div-add-mod'}
 use Rattle.std.proofs.Math.Nat.{mul_comm}
-use Rattle.std.proofs.lemmas.Bool.{eqb-false}
+use Rattle.std.proofs.lemmas.Bool.{eqb-false, or_parts}
 use Rattle.std.proofs.lemmas.Bool.Decides.{nat_tests}
 use Rattle.dm_check_blocks.specs.declared.size.Size.{Size}
 use Rattle.dm_check_blocks.specs.declared.size.Size.TheVariants.{Side10}
-use Rattle.dm_check_blocks.specs.Sizes.{row, side, region, across, mapping}
+use Rattle.dm_check_blocks.specs.Sizes.{row, side, region, across}
 use Rattle.dm_finder_frame.specs.Frame.{is_frame, mapping_place, grid_place}
 
 pub fills_side : (s : Size) → across s * (region s + 2) ≡ side s
@@ -87,15 +87,11 @@ inside_no_frame h a b k l = grind (arith, nat_tests)
 
 pub no_frame_inside : (h a b : ℕ) → a < h + 2 → b < h + 2 → is_frame h a b ≡ false → (1 ≤ a) × (a ≤ h) × (1 ≤ b) × (b ≤ h)
 no_frame_inside h a b k l e =
-    let f = neither (eqb a 0 || eqb a (h + 1)) (eqb b 0 || eqb b (h + 1)) e in
-    let x = neither (eqb a 0) (eqb a (h + 1)) f.0 in
-    let y = neither (eqb b 0) (eqb b (h + 1)) f.1 in
+    let f = or_parts (eqb a 0 || eqb a (h + 1)) (eqb b 0 || eqb b (h + 1)) e in
+    let x = or_parts (eqb a 0) (eqb a (h + 1)) f.0 in
+    let y = or_parts (eqb b 0) (eqb b (h + 1)) f.1 in
     let a0 = eqb-false a 0 x.0 in
     let a1 = eqb-false a (h + 1) x.1 in
     let b0 = eqb-false b 0 y.0 in
     let b1 = eqb-false b (h + 1) y.1 in
     (omega (arith, a0), omega (arith, a1), omega (arith, b0), omega (arith, b1))
-  where
-    neither : (x y : Bool) → (x || y) ≡ false → (x ≡ false) × (y ≡ false)
-    neither true y e = absurd (cc)
-    neither false y e = (refl, e)

@@ -1,17 +1,16 @@
 -- What turning over one module of a grid does to its mapping matrix.
 use Rattle.std.specs.Prelude.{◌/◌, ◌%◌, not}
-use Rattle.std.specs.List.{range_with_len}
 use Rattle.std.specs.Option.{option_map_or}
-use Rattle.std.proofs.Common.{◌≡◌, ◌≢◌, ℕ, ◌+◌, ◌-◌, ◌*◌, ◌<◌, ◌≤◌, refl, List, length, get_or, set, map, Bool, true, false, cond, Option, Some, None, inl, inr, ap, sym, ◌∙◌, arith, subst, zero-add, length-set, get_or-set_same, get_or-set_other}
+use Rattle.std.proofs.Common.{◌≡◌, ℕ, ◌+◌, ◌*◌, ◌<◌, refl, List, get_or, set, Bool, true, false, cond, Some, None, inl, inr, ap, sym, ◌∙◌, arith, subst, zero-add, length-set, get_or-set_same, get_or-set_other}
 use Rattle.std.proofs.lemmas.Nat.{mul-add-lt, mod_below, same_from_place, div-mul-add, mod-mul-add, div-add-mod'}
 use Rattle.std.proofs.lemmas.Bool.Decides.{eqb_tells}
 use Rattle.std.proofs.lemmas.List.{ext_get_or}
-use Rattle.std.proofs.lemmas.List.FromFn.{get_or-map-range_with_len, length-map-range_with_len}
+use Rattle.std.proofs.lemmas.List.FromFn.{get_or-map-range_with_len}
 use Rattle.dm_check_blocks.specs.declared.size.Size.{Size}
 use Rattle.dm_check_blocks.specs.Sizes.{side, region, across, mapping}
 use Rattle.dm_placement.specs.Square.{Square, IsWhole, module_at, with_turned}
-use Rattle.dm_finder_frame.specs.Frame.{is_frame, mapping_place, grid_place, mapping_cell, unframed_modules, unframed, TurnsOneModule}
-use Rattle.dm_finder_frame.proofs.FramedGrids.{row_below, column_below, place_within, place_inside}
+use Rattle.dm_finder_frame.specs.Frame.{is_frame, mapping_place, grid_place, unframed_modules, unframed, TurnsOneModule}
+use Rattle.dm_finder_frame.proofs.FramedGrids.{unframed_is_whole, column_below, place_within, place_inside}
 use Rattle.dm_finder_frame.proofs.GridPlaces.{fills_side, some_region, mapping_of_grid_place, grid_of_mapping_place, mapping_place_below, no_frame_inside}
 
 -- the turned module, and every other one
@@ -32,19 +31,15 @@ unfolding unframed_modules
 unframed_at s g i l =
     get_or-map-range_with_len (λ i. module_at g (grid_place (region s) (i / mapping s)) (grid_place (region s) (i % mapping s))) 0 (mapping s * mapping s) i i false l (zero-add i)
 
-length-unframed : (s : Size) (g : Square) → length (unframed_modules s g) ≡ mapping s * mapping s
-unfolding unframed_modules
-length-unframed s g = length-map-range_with_len _ 0 (mapping s * mapping s)
-
 -- a module of a finder pattern
 frame_turned : (s : Size) (g : Square) (r c : ℕ) → g.side ≡ side s → c < side s → is_frame (region s) (r % (region s + 2)) (c % (region s + 2)) ≡ true
     → unframed_modules s (with_turned g r c) ≡ unframed_modules s g
 frame_turned s g r c same hc e =
     let n = mapping s in
     let h = region s in
-    ext_get_or false (unframed_modules s (with_turned g r c)) (unframed_modules s g) (length-unframed s (with_turned g r c) ∙ sym (length-unframed s g))
+    ext_get_or false (unframed_modules s (with_turned g r c)) (unframed_modules s g) (unframed_is_whole s (with_turned g r c) ∙ sym (unframed_is_whole s g))
     (λ i l.
-    let li = subst (λ (x : ℕ). i < x) (length-unframed s (with_turned g r c)) l in
+    let li = subst (λ (x : ℕ). i < x) (unframed_is_whole s (with_turned g r c)) l in
     unframed_at s (with_turned g r c) i li
     ∙ turned_other g r c (grid_place h (i / n)) (grid_place h (i % n)) (subst (λ (x : ℕ). c < x) (sym same) hc)
     (subst (λ (x : ℕ). grid_place h (i % n) < x) (sym same) (place_within s (i % n) (column_below n i li)))
@@ -85,13 +80,13 @@ mapping_turned s g r c whole same hr hc e =
     let sr = subst (λ (x : ℕ). r < x) (sym same) hr in
     let sc = subst (λ (x : ℕ). c < x) (sym same) hc in
     ext_get_or false (unframed_modules s g') (set (unframed_modules s g) k v)
-    (length-unframed s g' ∙ sym (length-unframed s g) ∙ sym (length-set (unframed_modules s g) k v))
+    (unframed_is_whole s g' ∙ sym (unframed_is_whole s g) ∙ sym (length-set (unframed_modules s g) k v))
     (λ i l.
-    let li = subst (λ (x : ℕ). i < x) (length-unframed s g') l in
+    let li = subst (λ (x : ℕ). i < x) (unframed_is_whole s g') l in
     elim (eqb_tells i k) [
       | inl w ↦
           (ap (λ x. get_or (unframed_modules s g') x false) w.1 ∙ there ∙ turned_same g r c whole sr sc ∙ ap not (sym here)
-          ∙ sym (get_or-set_same (unframed_modules s g) k v false (subst (λ (x : ℕ). k < x) (sym (length-unframed s g)) lk))
+          ∙ sym (get_or-set_same (unframed_modules s g) k v false (subst (λ (x : ℕ). k < x) (sym (unframed_is_whole s g)) lk))
           ∙ ap (λ x. get_or (set (unframed_modules s g) k v) x false) (sym w.1))
       | inr w ↦
           (unframed_at s g' i li

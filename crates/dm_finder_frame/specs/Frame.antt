@@ -1,6 +1,6 @@
 -- The finder patterns of a symbol (ISO/IEC 16022, clause 5.7): the mapping matrix is cut into data regions of one side,
 -- left to right and top to bottom, and each has a frame one module wide. Rows and columns count from 0.
-use Rattle.std.specs.Prelude.{ℕ, ◌≡◌, ◌<◌, ◌+◌, ◌-◌, ◌*◌, ◌/◌, ◌%◌, Bool, true, ◌==◌, ◌&&◌, ◌||◌, not, if◌then◌else◌, List, Option, Some, None, option_map, MatchOption, map, count_by}
+use Rattle.std.specs.Prelude.{ℕ, ◌≡◌, ◌<◌, ◌+◌, ◌-◌, ◌*◌, ◌/◌, ◌%◌, Bool, true, ◌==◌, ◌&&◌, ◌||◌, not, if◌then◌else◌, List, Option, Some, None, map, count_by}
 use Rattle.std.specs.List.{range_with_len}
 use Rattle.std.specs.Option.{option_map_or}
 use Rattle.dm_check_blocks.specs.declared.size.Size.{Size}

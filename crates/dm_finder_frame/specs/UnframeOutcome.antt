@@ -1,6 +1,6 @@
 -- What taking the finder patterns off a grid answers (this project's own rule): `Border` exactly where more than an
 -- eighth of their modules are wrong.
-use Rattle.std.specs.Prelude.{ℕ, ◌≡◌, ◌*◌, ◌<◌, ◌≤◌, Result, Ok, Err}
+use Rattle.std.specs.Prelude.{◌≡◌, ◌*◌, ◌<◌, ◌≤◌, Result, Ok, Err}
 use Rattle.dm_check_blocks.specs.declared.size.Size.{Size}
 use Rattle.dm_placement.specs.Square.{Square}
 use Rattle.dm_finder_frame.specs.declared.unframing.Framed.{Framed}

@@ -1,12 +1,12 @@
 //! A symbol as a grid of modules.
 
-ghost use Rattle.std.specs.Prelude.{◌≡◌, ◌<◌, ◌≤◌, ◌+◌, ◌*◌, length};
+ghost use Rattle.std.specs.Prelude.{◌≡◌, ◌<◌, ◌+◌, ◌*◌, IfOk, length};
 ghost use Rattle.dm_check_blocks.specs.Sizes as sizes;
 ghost use Rattle.dm_placement.specs.Square.{IsWhole, Square, module_at, with_turned};
 
 use crate::fault::GridFault;
 use dm_check_blocks::Size;
-use std::alloc::{Allocator, Global};
+use std::alloc::{AllocError, Allocator, Global};
 use std::marker::Model;
 
 /// All modules of a symbol, finder patterns included and the quiet zone left out.
@@ -25,6 +25,7 @@ impl<A: Allocator> Model for Grid<A> {
 }
 
 impl<A: Allocator> Grid<A> {
+    ghost use Rattle.dm_check_blocks.specs.declared.size.Size.{Size};
     ghost use Rattle.dm_finder_frame.specs.Grids.{IsGrid};
     ghost use Rattle.dm_finder_frame.specs.GridOutcome.{Grids};
 
@@ -48,6 +49,7 @@ impl<A: Allocator> Grid<A> {
     /// The size of the symbol.
     pub fn size(&self) -> Size
         ensures side { sizes.side result ≡ self.now.side }
+        ensures only { (size : Size) → sizes.side size ≡ self.now.side → size ≡ result }
         ensures whole { IsWhole self.now }
     {
         self.size
@@ -78,6 +80,13 @@ impl<A: Allocator> Grid<A> {
         ensures { result ≡ module_at self.now row column }
     {
         self.modules[self.index(row, column)]
+    }
+
+    /// A copy of the grid, in memory of this allocator.
+    pub fn copy(&self, alloc: A) -> Result<Grid<A>, AllocError>
+        ensures { IfOk result (λ grid. grid ≡ self.now) }
+    {
+        Ok(grid_of(self.size, self.modules.as_slice().to_vec(alloc)?))
     }
 
     /// Turns over the module of a row and a column, both from 0: dark to light, or light to dark.

@@ -1,6 +1,7 @@
 //! Laws of the finder patterns: each function's contract is the law, and its body does nothing.
 
-ghost use Rattle.dm_finder_frame.specs.Frame.{UnframeUndoesFrame, FrameHasNoWrongModule, TurnsOneModule};
+ghost use Rattle.dm_finder_frame.specs.Frame.{FrameHasNoWrongModule, TurnsOneModule, UnframeUndoesFrame, framed, unframed};
+ghost use Rattle.dm_placement.specs.Square.{IsWhole, Square};
 
 use dm_check_blocks::Size;
 
@@ -16,4 +17,11 @@ pub fn unframe_undoes_frame(size: Size)
 #[tactic(auto, using(crate::proofs::TurnedModules::turns_one_module))]
 pub fn one_module_of_the_grid(size: Size)
     ensures { TurnsOneModule size }
+{}
+
+/// The grid of any mapping matrix, and the mapping matrix of any grid, has all its modules.
+#[tactic(auto, using(crate::proofs::FramedGrids::framed_is_whole, crate::proofs::FramedGrids::unframed_is_whole))]
+pub fn squares_are_whole(size: Size)
+    ensures framed { (m : Square) → IsWhole (framed size m) }
+    ensures unframed { (g : Square) → IsWhole (unframed size g) }
 {}

@@ -21,4 +21,4 @@ pub use fault::{FrameFault, GridFault};
 pub use framing::frame;
 pub use grid::Grid;
 pub use region::cell_of;
-pub use unframing::{Framed, unframe};
+pub use unframing::{Framed, matrix_of, unframe};

@@ -20,6 +20,7 @@ static MODULES: [[u8; 10]; 10] = [
 ];
 
 #[test]
+#[tactic(auto, unfolding(dm_check_blocks::specs::Sizes::row))]
 fn draws_a_symbol_and_takes_it_apart(rt: HostRuntime) -> Result<(), Fail> {
     let matrix = place(rt.alloc(), Size::Side10, &WORDS)?;
     let mut grid = frame(rt.alloc(), Size::Side10, &matrix)?;
@@ -52,6 +53,7 @@ fn draws_a_symbol_and_takes_it_apart(rt: HostRuntime) -> Result<(), Fail> {
 }
 
 #[test]
+#[tactic(auto, unfolding(dm_check_blocks::specs::Sizes::row))]
 fn refuses_other_grids(rt: HostRuntime) -> Result<(), Fail> {
     for (dark, wrong) in [(false, 27u16), (true, 9u16)] {
         let grid = Grid::of_modules(rt.alloc(), 10, &[dark; 100])?;

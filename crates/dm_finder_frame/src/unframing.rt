@@ -1,9 +1,9 @@
 //! From the grid to the mapping matrix.
 
-ghost use Rattle.std.specs.Prelude.{◌≡◌, ◌<◌, ◌≤◌, ◌*◌, IfOk};
+ghost use Rattle.std.specs.Prelude.{◌≡◌, ◌≤◌, IfOk};
 ghost use Rattle.dm_check_blocks.specs.declared.size.Size.{Size};
 ghost use Rattle.dm_check_blocks.specs.Sizes.{side};
-ghost use Rattle.dm_finder_frame.specs.Frame.{border, frame_modules, unframed, wrong_module};
+ghost use Rattle.dm_finder_frame.specs.Frame.{border, unframed, wrong_module};
 ghost use Rattle.dm_finder_frame.specs.UnframeOutcome.{Unframes};
 
 use crate::fault::FrameFault;
@@ -51,8 +51,12 @@ fn wrong_count<A: Allocator>(size: Size, grid: &Grid<A>) -> u16
     wrong
 }
 
-// The mapping matrix of a grid.
-fn inner<A: Allocator>(alloc: A, size: Size, grid: &Grid<A>) -> Result<Matrix<A>, AllocError>
+/// The mapping matrix of a grid of this size, whatever its finder patterns are (ISO/IEC 16022, clause 5.7).
+pub fn matrix_of<A: Allocator>(
+    alloc: A,
+    size: Size,
+    grid: &Grid<A>,
+) -> Result<Matrix<A>, AllocError>
     requires { side size ≡ grid.now.side }
     ensures { IfOk result (λ matrix. matrix ≡ unframed size grid.now) }
 {
@@ -86,7 +90,7 @@ pub fn unframe<A: Allocator>(alloc: A, grid: &Grid<A>) -> Result<Framed<A>, Fram
     if 8 * wrong as u32 > modules as u32 {
         return Err(FrameFault::Border { wrong });
     }
-    let matrix = inner(alloc, size, grid)?;
+    let matrix = matrix_of(alloc, size, grid)?;
     Ok(Framed {
         size,
         matrix,

@@ -1,13 +1,13 @@
 -- Words as numbers of eight binary digits.
-use Rattle.std.specs.Prelude.{fold}
 use Rattle.std.specs.List.{range_with_len, list_all}
 use Rattle.std.specs.Int.{bit_at}
 use mir.Val.{bool_byte}
-use Rattle.std.proofs.Common.{◌≡◌, ℕ, zero, suc, ◌+◌, ◌-◌, ◌*◌, ◌^◌, ◌<◌, ◌≤◌, refl, [], ◌∷◌, length, List, get_or, Bool, true, false, eqb, cond, map, ap, sym, ◌∙◌, arith, zero-add, pow-suc, ◌&&◌}
+use Rattle.std.proofs.Common.{◌≡◌, ℕ, ◌+◌, ◌-◌, ◌*◌, ◌^◌, ◌<◌, ◌≤◌, refl, [], ◌∷◌, get_or, Bool, true, false, eqb, cond, map, ap, sym, ◌∙◌, arith, zero-add, pow-suc}
 use Rattle.std.proofs.lemmas.List.FromFn.{map-range_with_len_more, get_or-range_with_len, length-range_with_len}
 use Rattle.std.proofs.lemmas.List.Sums.{fold-append}
 use Rattle.std.proofs.lemmas.Bool.{eqb-true}
 use Rattle.dm_placement.specs.Placement.{number_of}
+use Rattle.dm_placement.proofs.ListTests.{passes_at}
 
 pub byte_number : (b : Bool) → bool_byte b ≡ cond b 1 0
 byte_number true = refl
@@ -49,19 +49,10 @@ word_below f = below (f 0) (f 1) (f 2) (f 3) (f 4) (f 5) (f 6) (f 7)
 again : list_all (λ w. eqb (number_of (map (λ i. eqb (bit_at w (7 - i)) 1) (range_with_len 0 8))) w) (range_with_len 0 256) ≡ true
 again = refl
 
-both : (a b : Bool) → (a && b) ≡ true → (a ≡ true) × (b ≡ true)
-both true b e = (refl, e)
-both false b e = absurd (cc)
-
-passes_at : (p : ℕ → Bool) (xs : List ℕ) (i : ℕ) → list_all p xs ≡ true → i < length xs → p (get_or xs i 0) ≡ true
-passes_at p [] i e h = absurd (omega arith)
-passes_at p (x ∷ xs) zero e h = (both (p x) (list_all p xs) e).0
-passes_at p (x ∷ xs) (suc i) e h = passes_at p xs i (both (p x) (list_all p xs) e).1 (omega arith)
-
 pub digits_again : (w : ℕ) → w < 2 ^ 8 → number_of (map (λ i. eqb (bit_at w (7 - i)) 1) (range_with_len 0 8)) ≡ w
 digits_again w h =
     let test : ℕ → Bool = λ w. eqb (number_of (map (λ i. eqb (bit_at w (7 - i)) 1) (range_with_len 0 8))) w in
     let len = length-range_with_len 0 256 in
-    let at = passes_at test (range_with_len 0 256) w again (omega (arith, len)) in
+    let at = passes_at test (range_with_len 0 256) w 0 again (omega (arith, len)) in
     let e : get_or (range_with_len 0 256) w 0 ≡ w = get_or-range_with_len 0 256 w 0 h ∙ zero-add w in
     eqb-true _ _ (ap test (sym e) ∙ at)

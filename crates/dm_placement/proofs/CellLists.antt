@@ -1,9 +1,9 @@
 -- Lists of cells, and squares with such cells made dark.
-use Rattle.std.proofs.Common.{◌≡◌, ℕ, zero, suc, ◌<◌, length, refl, List, [], ◌∷◌, ◌++◌, get_or, arith, true}
+use Rattle.std.proofs.Common.{◌≡◌, ℕ, zero, suc, ◌<◌, length, refl, List, [], ◌∷◌, ◌++◌, get_or, ap, ◌∙◌, arith, true}
 use Rattle.dm_placement.specs.declared.shape.Cell.{Cell}
 use Rattle.dm_placement.specs.declared.shape.Shape.{Shape}
 use Rattle.dm_placement.specs.declared.shape.Shape.TheVariants.{Plain, CornerOne, CornerTwo}
-use Rattle.dm_placement.specs.Cells.{shape_cells}
+use Rattle.dm_placement.specs.Cells.{cell_at, shape_cells}
 use Rattle.dm_placement.specs.WalkSteps.{IsIn, AllIn}
 use Rattle.dm_placement.specs.Square.{Square, with_dark, with_module}
 
@@ -11,6 +11,10 @@ pub all_in_at : (n : ℕ) (ps : List Cell) (i : ℕ) (d : Cell) → AllIn n ps �
 all_in_at n [] i d a h = absurd (omega arith)
 all_in_at n (p ∷ ps) zero d a h = a.0
 all_in_at n (p ∷ ps) (suc i) d a h = all_in_at n ps i d a.1 (omega arith)
+
+-- cells by their rows and columns
+pub same_cell : (p q : Cell) → p.row ≡ q.row → p.column ≡ q.column → p ≡ q
+same_cell p q a b = ap (λ v. cell_at v p.column) a ∙ ap (λ v. cell_at q.row v) b
 
 pub with_dark-append : (m : Square) (ps qs : List Cell) → with_dark m (ps ++ qs) ≡ with_dark (with_dark m ps) qs
 with_dark-append m [] qs = refl

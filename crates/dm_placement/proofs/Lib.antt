@@ -1,3 +1,4 @@
+pub mod ListTests
 pub mod AllCells
 pub mod EachSize
 pub mod MarkedCells

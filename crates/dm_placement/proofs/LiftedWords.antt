@@ -1,17 +1,16 @@
 -- The words that a matrix bears: how they grow in the loops, their count and size, and the round trip.
-use Rattle.std.specs.Prelude.{◌/◌, ◌%◌, fold, All}
-use Rattle.std.specs.List.{range_with_len, list_all}
+use Rattle.std.specs.Prelude.{◌/◌, ◌%◌, All}
+use Rattle.std.specs.List.{range_with_len}
 use Rattle.std.specs.Int.{bit_at}
-use Rattle.std.proofs.Common.{◌≡◌, ℕ, zero, suc, ◌+◌, ◌-◌, ◌*◌, ◌^◌, ◌<◌, ◌≤◌, length, refl, List, [], ◌∷◌, ◌++◌, Bool, true, false, eqb, cond, get_or, map, ap, sym, ◌∙◌, arith, subst, zero-add}
-use Rattle.std.proofs.lemmas.List.FromFn.{fill_by_all, get_or-map-range_with_len, length-map-range_with_len, map-range_with_len_more}
-use Rattle.std.proofs.lemmas.List.Sums.{fold-append}
-use Rattle.std.proofs.lemmas.Bool.{eqb-true}
+use Rattle.std.proofs.Common.{◌≡◌, ℕ, ◌+◌, ◌-◌, ◌*◌, ◌^◌, ◌<◌, length, List, Bool, zero, suc, refl, false, replicate, eqb, get_or, map, ap, sym, ◌∙◌, arith, subst, zero-add}
+use Rattle.std.proofs.lemmas.List.FromFn.{fill_by_all, get_or-map-range_with_len, length-map-range_with_len}
+use Rattle.std.proofs.lemmas.Grind.{same_number_lists}
+use Rattle.std.proofs.lemmas.List.{get_or-replicate, length-replicate}
 use Rattle.dm_check_blocks.specs.declared.size.Size.{Size}
 use Rattle.dm_check_blocks.specs.Sizes.{mapping, all_words}
-use Rattle.dm_placement.specs.declared.shape.Cell.{Cell}
 use Rattle.dm_placement.specs.Cells.{cell_at, bit_cells}
-use Rattle.dm_placement.specs.Placement.{LiftUndoesPlace, placed_modules, number_of, is_dark, bit_of, word_from, lifted, placed}
-use Rattle.dm_placement.specs.Square.{Square, IsWhole}
+use Rattle.dm_placement.specs.Placement.{LiftUndoesPlace, LightBearsZeros, placed_modules, number_of, is_dark, word_from, lifted, placed}
+use Rattle.dm_placement.specs.Square.{Square, IsWhole, light_square}
 use Rattle.dm_placement.proofs.BinaryDigits.{digits_again, word_below}
 use Rattle.dm_placement.proofs.PlacedMatrix.{placed_bit}
 use Rattle.dm_placement.proofs.ShapesSound.{bit_count}
@@ -69,3 +68,20 @@ bytes_lifted s m k d h =
 pub whole_placed : (s : Size) (words : List ℕ) → IsWhole (placed s words)
 unfolding placed_modules
 whole_placed s words = length-map-range_with_len _ 0 (mapping s * mapping s)
+
+all_light : (n i : ℕ) → get_or (replicate n false) i false ≡ false
+all_light zero i = refl
+all_light (suc n) zero = refl
+all_light (suc n) (suc i) = all_light n i
+
+pub light_bears_zeros : (s : Size) → LightBearsZeros s
+light_bears_zeros s =
+    let n = mapping s in
+    let m = light_square n in
+    same_number_lists (lifted s m) (replicate (all_words s) 0) (length_lifted s m ∙ sym (length-replicate (all_words s) 0))
+    (λ k h.
+    let l = subst (λ (x : ℕ). k < x) (length_lifted s m) h in
+    lifted_at s m k l
+    ∙ ap number_of (same_made (λ i. is_dark m (get_or (bit_cells n) (8 * k + i) (cell_at 0 0))) (λ (i : ℕ). false) 8 false
+    (λ i j. all_light (n * n) ((get_or (bit_cells n) (8 * k + i) (cell_at 0 0)).row * n + (get_or (bit_cells n) (8 * k + i) (cell_at 0 0)).column)))
+    ∙ sym (get_or-replicate (all_words s) k 0 0 l))

@@ -1,8 +1,10 @@
 -- What the loop of `place_with` keeps.
 use Rattle.std.proofs.Common.{◌≡◌, ◌≢◌, ℕ, zero, suc, ◌+◌, ◌-◌, ◌*◌, ◌%◌, ◌<◌, ◌≤◌, length, refl, List, [], ◌∷◌, Bool, true, false, eqb, cond, get_or, replicate, ◌⊎◌, inl, inr, ap, sym, ◌∙◌, arith, subst, length-set, get_or-set_same, get_or-set_other, length-append}
+use Rattle.std.proofs.lemmas.Bool.{cases_order}
 use Rattle.std.proofs.lemmas.Nat.{same_from_place, mul-add-lt}
 use Rattle.std.proofs.lemmas.List.{get_or_append_left, get_or-append-add, get_or-replicate, length-replicate}
 use Rattle.dm_placement.specs.declared.shape.Cell.{Cell}
+use Rattle.dm_placement.proofs.CellLists.{same_cell}
 use Rattle.dm_placement.proofs.AllCells.{all_cells, IsTiled}
 use Rattle.dm_placement.specs.Cells.{cell_at, bit_cells, dark_cells, light_cells, free_cells}
 use Rattle.dm_placement.specs.Placement.{bit_of, is_dark}
@@ -62,9 +64,6 @@ light_cell n j h =
 pub all_length : (n : ℕ) → length (all_cells n) ≡ length (bit_cells n) + (length (dark_cells n) + length (light_cells n))
 all_length n = length-append (bit_cells n) (free_cells n) ∙ ap (λ k. length (bit_cells n) + k) (length-append (dark_cells n) (light_cells n))
 
-pub same_cell : (p q : Cell) → p.row ≡ q.row → p.column ≡ q.column → p ≡ q
-same_cell p q a b = ap (λ v. cell_at v p.column) a ∙ ap (λ v. cell_at q.row v) b
-
 -- a write to one place leaves the others
 elsewhere : (n : ℕ) (m : Square) (i k : ℕ) (p q : Cell) (b : Bool) → IsTiled n → m.side ≡ n → i < length (all_cells n) → k < length (all_cells n)
     → i ≢ k → get_or (all_cells n) i (cell_at 0 0) ≡ p → get_or (all_cells n) k (cell_at 0 0) ≡ q
@@ -74,13 +73,13 @@ elsewhere n m i k p q b t s hi hk ne ep eq =
     let ip = subst P ep (t.in_square i hi) in
     let iq = subst P eq (t.in_square k hk) in
     other_module n m p.row p.column q.row q.column b s ip.0 ip.1 iq.0 iq.1
-    (λ er ec. elim (order i k ne) [
-      | inl l ↦ t.apart i k l hk (ep ∙ sym (same_cell q p er ec) ∙ sym eq)
-      | inr l ↦ t.apart k i l hi (eq ∙ same_cell q p er ec ∙ sym ep)
+    (λ er ec. elim (cases_order i k) [
+      | inl x ↦ ne x
+      | inr x ↦ elim x [
+        | inl l ↦ t.apart i k l hk (ep ∙ sym (same_cell q p er ec) ∙ sym eq)
+        | inr l ↦ t.apart k i l hi (eq ∙ same_cell q p er ec ∙ sym ep)
+      ]
     ])
-  where
-    order : (i k : ℕ) → i ≢ k → (i < k) ⊎ (k < i)
-    order i k ne = grind arith
 
 at_place : (n : ℕ) (m : Square) (i : ℕ) (p : Cell) (b : Bool) → IsTiled n → m.side ≡ n → length m.modules ≡ n * n → i < length (all_cells n)
     → get_or (all_cells n) i (cell_at 0 0) ≡ p → is_dark (with_module m p.row p.column b) p ≡ b

@@ -1,25 +1,22 @@
 -- The square with each bit at its cell and the free cells as they are to be is the placed one, and only that.
 use Rattle.std.specs.Prelude.{◌/◌, ◌%◌, position, not}
-use Rattle.std.specs.List.{range_with_len, list_any, position_or_len}
+use Rattle.std.specs.List.{list_any, position_or_len}
 use Rattle.std.specs.Option.{option_map_or}
-use Rattle.std.proofs.Common.{◌≡◌, ℕ, zero, suc, ◌+◌, ◌-◌, ◌*◌, ◌<◌, ◌≤◌, length, refl, List, [], ◌∷◌, Bool, true, false, eqb, ◌&&◌, ◌||◌, Option, Some, None, get_or, map, ◌⊎◌, inl, inr, ap, sym, ◌∙◌, arith, subst, cond, zero-add, zero-mul}
-use Rattle.std.proofs.lemmas.Bool.{eqb-true, eq-eqb, lt-ltb}
+use Rattle.std.proofs.Common.{◌≡◌, ℕ, zero, suc, ◌+◌, ◌-◌, ◌*◌, ◌<◌, length, refl, List, [], ◌∷◌, Bool, true, false, eqb, ◌&&◌, ◌||◌, Option, Some, None, get_or, inl, inr, ap, sym, ◌∙◌, arith, subst, cond, zero-add, zero-mul}
+use Rattle.std.proofs.lemmas.Bool.{and_parts, or_right, cases_lt, cases_order, eqb-true, eq-eqb, lt-ltb}
 use Rattle.std.proofs.lemmas.Nat.{mul-add-lt, div_below, mod_below, div-mul-add, mod-mul-add, div-add-mod'}
-use Rattle.std.proofs.lemmas.List.FromFn.{fill_by_all, get_or-map-range_with_len, length-map-range_with_len}
+use Rattle.std.proofs.lemmas.List.FromFn.{fill_by_all, get_or-map-range_with_len}
 use Rattle.std.proofs.lemmas.List.Quantifiers.{position-Some}
 use Rattle.dm_check_blocks.specs.declared.size.Size.{Size}
 use Rattle.dm_check_blocks.specs.Sizes.{mapping}
 use Rattle.dm_placement.specs.declared.shape.Cell.{Cell}
-use Rattle.dm_placement.specs.Cells.{cell_at, bit_cells, dark_cells, light_cells, free_cells}
+use Rattle.dm_placement.specs.Cells.{cell_at, bit_cells, dark_cells, light_cells}
 use Rattle.dm_placement.specs.Placement.{is_cell, placed_module, placed_modules, placed, bit_of, is_dark}
-use Rattle.dm_placement.specs.Square.{Square, module_at}
+use Rattle.dm_placement.specs.Square.{Square}
 use Rattle.dm_placement.specs.WalkSteps.{IsIn}
 use Rattle.dm_placement.proofs.AllCells.{all_cells, IsTiled}
-use Rattle.dm_placement.proofs.PlacedBits.{IsPlaced, front_cell, dark_cell, light_cell, all_length, same_cell}
-
-both : (a b : Bool) → (a && b) ≡ true → (a ≡ true) × (b ≡ true)
-both true b e = (refl, e)
-both false b e = absurd (cc)
+use Rattle.dm_placement.proofs.CellLists.{same_cell}
+use Rattle.dm_placement.proofs.PlacedBits.{IsPlaced, front_cell, dark_cell, light_cell, all_length}
 
 -- the test of a cell
 pub is_cell_same : (p : Cell) → is_cell p p ≡ true
@@ -27,7 +24,7 @@ is_cell_same p = ap (λ b. b && eqb p.column p.column) (eq-eqb p.row p.row refl)
 
 pub is_cell_tells : (p q : Cell) → is_cell p q ≡ true → p ≡ q
 is_cell_tells p q e =
-    let b = both (eqb p.row q.row) (eqb p.column q.column) e in
+    let b = and_parts (eqb p.row q.row) (eqb p.column q.column) e in
     same_cell p q (eqb-true _ _ b.0) (eqb-true _ _ b.1)
 
 -- a cell that is found among others
@@ -44,27 +41,20 @@ any_found p (q ∷ qs) e = by_test (is_cell p q) refl (any_found p qs)
 any_at : (p : Cell) (qs : List Cell) (j : ℕ) → j < length qs → p ≡ get_or qs j (cell_at 0 0) → list_any (is_cell p) qs ≡ true
 any_at p [] j h e = absurd (omega arith)
 any_at p (q ∷ qs) zero h e = let t : is_cell p q ≡ true = ap (λ x. is_cell p x) (sym e) ∙ is_cell_same p in rw t refl
-any_at p (q ∷ qs) (suc j) h e = let w = any_at p qs j (omega arith) e in either (is_cell p q) _ w
-  where
-    either : (a b : Bool) → b ≡ true → (a || b) ≡ true
-    either true b e = refl
-    either false b e = e
+any_at p (q ∷ qs) (suc j) h e = let w = any_at p qs j (omega arith) e in or_right (is_cell p q) _ w
 
 -- two bits do not share a cell
 pub cells_apart : (n i j : ℕ) → IsTiled n → i < length (bit_cells n) → j < length (bit_cells n)
     → get_or (bit_cells n) i (cell_at 0 0) ≡ get_or (bit_cells n) j (cell_at 0 0) → i ≡ j
 cells_apart n i j t hi hj e =
     let whole = all_length n in
-    elim (order i j) [
-      | inl l ↦ absurd (t.apart i j l (omega arith) (front_cell n i hi ∙ e ∙ sym (front_cell n j hj)))
+    elim (cases_order i j) [
+      | inl s ↦ s
       | inr r ↦ elim r [
-        | inl s ↦ s
+        | inl l ↦ absurd (t.apart i j l (omega arith) (front_cell n i hi ∙ e ∙ sym (front_cell n j hj)))
         | inr l ↦ absurd (t.apart j i l (omega arith) (front_cell n j hj ∙ sym e ∙ sym (front_cell n i hi)))
       ]
     ]
-  where
-    order : (i j : ℕ) → (i < j) ⊎ ((i ≡ j) ⊎ (j < i))
-    order i j = grind arith
 
 -- the first place at which a test passes
 first_below : (test : Cell → Bool) (qs : List Cell) (j : ℕ) (d : Cell) → j < length qs → test (get_or qs j d) ≡ true
@@ -100,10 +90,10 @@ module_of_placed n words m p t k h = by_position (position (is_cell p) (bit_cell
         ap (is_dark m) w.2 ∙ k.dark w.0 w.1
     free false e none =
         let w = t.covered p.row p.column h.0 h.1 in
-        elim (either w.0 (length (bit_cells n))) [
+        elim (cases_lt w.0 (length (bit_cells n))) [
           | inl l ↦ absurd (some_position (is_cell p) (bit_cells n) w.0 (cell_at 0 0) l
               (ap (is_cell p) (sym (front_cell n w.0 l) ∙ w.2) ∙ is_cell_same p) none)
-          | inr l ↦ elim (either (w.0 - length (bit_cells n)) (length (dark_cells n))) [
+          | inr l ↦ elim (cases_lt (w.0 - length (bit_cells n)) (length (dark_cells n))) [
             | inl g ↦
                 (let j = w.0 - length (bit_cells n) in
                 let e2 : length (bit_cells n) + j ≡ w.0 = omega arith in
@@ -119,9 +109,6 @@ module_of_placed n words m p t k h = by_position (position (is_cell p) (bit_cell
           ]
         ]
       where
-        either : (i n : ℕ) → (i < n) ⊎ (n ≤ i)
-        either i n = grind arith
-
         true_false : (b : Bool) → b ≡ true → b ≡ false → ⊥
         true_false b t f = cc
 

@@ -2,7 +2,7 @@
 use Rattle.std.specs.Prelude.{not}
 use Rattle.std.specs.List.{list_all}
 use Rattle.std.proofs.Common.{◌≡◌, ℕ, ◌+◌, ◌-◌, ◌*◌, ◌/◌, ◌%◌, length, refl, List, [], ◌∷◌, ◌++◌, Bool, true, false, ltb, eqb, ◌&&◌, ◌||◌, arith, ap, ◌∙◌, subst}
-use Rattle.std.proofs.lemmas.Bool.{ltb-true, eqb-true, eq-eqb}
+use Rattle.std.proofs.lemmas.Bool.{and_parts, ltb-true, eqb-true, eq-eqb}
 use Rattle.dm_check_blocks.specs.declared.size.Size.{Size}
 use Rattle.dm_check_blocks.specs.Sizes.{mapping, all_words}
 use Rattle.dm_placement.specs.declared.shape.Cell.{Cell}
@@ -35,26 +35,22 @@ abbrev pub AllSound : ℕ → List Shape → Type 0
 AllSound n [] = Unit {0}
 AllSound n (s ∷ ss) = IsPlaceable n s × AllIn n (shape_cells n s) × AllSound n ss
 
-both : (a b : Bool) → (a && b) ≡ true → (a ≡ true) × (b ≡ true)
-both true b e = (refl, e)
-both false b e = absurd (cc)
-
 in_by_test : (n : ℕ) (p : Cell) → is_in n p ≡ true → IsIn n p
-in_by_test n p e = let b = both (ltb p.row n) (ltb p.column n) e in (ltb-true _ _ b.0, ltb-true _ _ b.1)
+in_by_test n p e = let b = and_parts (ltb p.row n) (ltb p.column n) e in (ltb-true _ _ b.0, ltb-true _ _ b.1)
 
 all_in_by_test : (n : ℕ) (ps : List Cell) → list_all (is_in n) ps ≡ true → AllIn n ps
 all_in_by_test n [] e = tt
-all_in_by_test n (p ∷ ps) e = let b = both (is_in n p) (list_all (is_in n) ps) e in (in_by_test n p b.0, all_in_by_test n ps b.1)
+all_in_by_test n (p ∷ ps) e = let b = and_parts (is_in n p) (list_all (is_in n) ps) e in (in_by_test n p b.0, all_in_by_test n ps b.1)
 
 kept_by_test : (a b c d : Bool) → (not (a && b) || (c && d)) ≡ true → a ≡ true → b ≡ true → (c ≡ true) × (d ≡ true)
-kept_by_test true true c d e f g = both c d e
+kept_by_test true true c d e f g = and_parts c d e
 kept_by_test true false c d e f g = absurd (cc)
 kept_by_test false b c d e f g = absurd (cc)
 
 placeable_by_test : (n : ℕ) (s : Shape) → is_placeable n s ≡ true → IsPlaceable n s
 placeable_by_test n (Plain p) e =
-    let b = both (is_in n p && eqb ((5 * p.row + p.column) % 8) 4) (not (eqb (n % 8) 6 && eqb (p.row + p.column) (n - 2)) || (ltb 0 p.row && ltb 0 p.column)) e in
-    let d = both (is_in n p) (eqb ((5 * p.row + p.column) % 8) 4) b.0 in
+    let b = and_parts (is_in n p && eqb ((5 * p.row + p.column) % 8) 4) (not (eqb (n % 8) 6 && eqb (p.row + p.column) (n - 2)) || (ltb 0 p.row && ltb 0 p.column)) e in
+    let d = and_parts (is_in n p) (eqb ((5 * p.row + p.column) % 8) 4) b.0 in
     let i = in_by_test n p d.0 in
     record {
       row_in = i.0;
@@ -70,17 +66,17 @@ placeable_by_test n CornerTwo e = tt
 sound_by_test : (n : ℕ) (ss : List Shape) → list_all (is_sound n) ss ≡ true → AllSound n ss
 sound_by_test n [] e = tt
 sound_by_test n (s ∷ ss) e =
-    let b = both (is_sound n s) (list_all (is_sound n) ss) e in
-    let d = both (is_placeable n s) (list_all (is_in n) (shape_cells n s)) b.0 in
+    let b = and_parts (is_sound n s) (list_all (is_sound n) ss) e in
+    let d = and_parts (is_placeable n s) (list_all (is_in n) (shape_cells n s)) b.0 in
     (placeable_by_test n s d.0, all_in_by_test n (shape_cells n s) d.1, sound_by_test n ss b.1)
 
 sound_rule : (n : ℕ) → are_sound n ≡ true → AllSound n (shapes n)
 unfolding are_sound
-sound_rule n e = sound_by_test n (shapes n) (both (list_all (is_sound n) (shapes n)) (eqb (length (shapes n)) (n * n / 8)) e).0
+sound_rule n e = sound_by_test n (shapes n) (and_parts (list_all (is_sound n) (shapes n)) (eqb (length (shapes n)) (n * n / 8)) e).0
 
 count_rule : (n : ℕ) → are_sound n ≡ true → length (shapes n) ≡ n * n / 8
 unfolding are_sound
-count_rule n e = eqb-true _ _ (both (list_all (is_sound n) (shapes n)) (eqb (length (shapes n)) (n * n / 8)) e).1
+count_rule n e = eqb-true _ _ (and_parts (list_all (is_sound n) (shapes n)) (eqb (length (shapes n)) (n * n / 8)) e).1
 
 are_sound_8 : are_sound 8 ≡ true
 unfolding are_sound

@@ -1,29 +1,26 @@
 -- What the computed test of a side means.
-use Rattle.std.proofs.Common.{◌≡◌, ℕ, zero, suc, ◌-◌, ◌^◌, ◌<◌, length, refl, List, [], ◌∷◌, Option, Some, None, Bool, true, false, eqb, ltb, ◌&&◌, replicate, get_or, inl, inr, ap, ◌∙◌, arith, subst}
+use Rattle.std.proofs.Common.{◌≡◌, ℕ, zero, suc, ◌-◌, ◌^◌, ◌<◌, refl, List, [], ◌∷◌, Option, Some, None, true, false, eqb, ltb, replicate, inl, inr, ap, ◌∙◌, arith, subst}
 use Rattle.std.specs.List.{list_all}
 use Rattle.std.specs.Int.{bit_at}
 use Rattle.std.proofs.lemmas.Nat.Bits.{bit_at-zero, bit_at_ones}
-use Rattle.std.proofs.lemmas.Bool.{eqb-true, eq-eqb, ltb-true}
+use Rattle.std.proofs.lemmas.Bool.{and_parts, eqb-true, eq-eqb, ltb-true}
 use Rattle.dm_check_blocks.specs.declared.size.Size.{Size}
 use Rattle.dm_check_blocks.specs.Sizes.{mapping}
-use Rattle.dm_placement.specs.declared.shape.Cell.{Cell}
 use Rattle.dm_placement.specs.WalkSteps.{IsMappingSide}
 use Rattle.dm_placement.proofs.EachSize.{at_each_size}
+use Rattle.dm_placement.proofs.ListTests.{passes_at}
+use Rattle.dm_placement.proofs.CellLists.{same_cell}
 use Rattle.dm_placement.proofs.AllCells.{all_cells, IsTiled}
 use Rattle.dm_placement.specs.Cells.{cell_at}
 use Rattle.dm_placement.proofs.MarkedCells.{marked, is_marked, marked_new, marked_only, marked_apart}
 use Rattle.dm_placement.proofs.TiledTests.{is_tiled, is_filled, are_full, is_tiled_8, is_tiled_10, is_tiled_12, is_tiled_14, is_tiled_16, is_tiled_18, is_tiled_20, is_tiled_22, is_tiled_24, is_tiled_28, is_tiled_32, is_tiled_36, is_tiled_40, is_tiled_44, is_tiled_48, is_tiled_56, is_tiled_64, is_tiled_72, is_tiled_80, is_tiled_88, is_tiled_96, is_tiled_108, is_tiled_120}
 
-both : (a b : Bool) → (a && b) ≡ true → (a ≡ true) × (b ≡ true)
-both true b e = (refl, e)
-both false b e = absurd (cc)
-
 full_row : (n : ℕ) (rows : List ℕ) (r c : ℕ) → are_full n rows ≡ true → c < n → is_marked rows r c ≡ true
 full_row n [] r c e h = refl
 full_row n (x ∷ xs) zero c e h =
-    let b = both (eqb x (2 ^ n - 1)) (are_full n xs) e in
+    let b = and_parts (eqb x (2 ^ n - 1)) (are_full n xs) e in
     eq-eqb _ _ (ap (λ v. bit_at v c) (eqb-true x (2 ^ n - 1) b.0) ∙ bit_at_ones n c h)
-full_row n (x ∷ xs) (suc r) c e h = full_row n xs r c (both (eqb x (2 ^ n - 1)) (are_full n xs) e).1 h
+full_row n (x ∷ xs) (suc r) c e h = full_row n xs r c (and_parts (eqb x (2 ^ n - 1)) (are_full n xs) e).1 h
 
 in_rows : (n r c : ℕ) → is_marked (replicate n 0) r c ≡ false → r < n
 in_rows zero r c e = absurd (cc)
@@ -39,29 +36,21 @@ filled : (n : ℕ) (o : Option (List ℕ)) → is_filled n o ≡ true → (rows 
 filled n (Some rows) e = (rows, refl, e)
 filled n None e = absurd (cc)
 
-list_all_at : (f : Cell → Bool) (ps : List Cell) (i : ℕ) (d : Cell) → list_all f ps ≡ true → i < length ps → f (get_or ps i d) ≡ true
-list_all_at f [] i d e h = absurd (omega arith)
-list_all_at f (p ∷ ps) zero d e h = (both (f p) (list_all f ps) e).0
-list_all_at f (p ∷ ps) (suc i) d e h = list_all_at f ps i d (both (f p) (list_all f ps) e).1 (omega arith)
-
-same_cell : (p : Cell) (r c : ℕ) → p.row ≡ r → p.column ≡ c → p ≡ cell_at r c
-same_cell p r c a b = ap (λ v. cell_at v p.column) a ∙ ap (λ v. cell_at r v) b
-
 pub tiled_by_test : (n : ℕ) → is_tiled n ≡ true → IsTiled n
 unfolding is_tiled
 tiled_by_test n e =
     let d = cell_at 0 0 in
-    let b = both (is_filled n (marked (replicate n 0) (all_cells n))) (list_all (λ p. ltb p.column n) (all_cells n)) e in
+    let b = and_parts (is_filled n (marked (replicate n 0) (all_cells n))) (list_all (λ p. ltb p.column n) (all_cells n)) e in
     let f = filled n (marked (replicate n 0) (all_cells n)) b.0 in
     record {
       in_square = λ i h. (
         in_rows n _ _ (marked_new (replicate n 0) (all_cells n) f.0 i d f.1 h),
-        ltb-true _ _ (list_all_at (λ p. ltb p.column n) (all_cells n) i d b.1 h),
+        ltb-true _ _ (passes_at (λ p. ltb p.column n) (all_cells n) i d b.1 h),
       );
       apart = λ i j l h. marked_apart (replicate n 0) (all_cells n) f.0 i j d f.1 l h;
       covered = λ r c hr hc.
           elim (marked_only (replicate n 0) (all_cells n) f.0 r c d f.1 (full_row n f.0 r c f.2 hc))
-          [ inl m ↦ absurd (empty_row n r c hr m) | inr w ↦ (w.0, w.1, same_cell _ r c w.2 w.3) ];
+          [ inl m ↦ absurd (empty_row n r c hr m) | inr w ↦ (w.0, w.1, same_cell _ (cell_at r c) w.2 w.3) ];
     }
 
 -- each size

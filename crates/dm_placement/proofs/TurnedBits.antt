@@ -1,11 +1,11 @@
 -- What turning over one module does to the words that a matrix bears.
-use Rattle.std.specs.Prelude.{◌/◌, ◌%◌, not, bit_xor, Contains, slice_set, slice_index}
+use Rattle.std.specs.Prelude.{not, bit_xor, Contains}
 use Rattle.std.specs.List.{range_with_len}
-use Rattle.std.proofs.Common.{◌≡◌, ◌≢◌, ℕ, zero, suc, ◌+◌, ◌-◌, ◌*◌, ◌^◌, ◌<◌, ◌≤◌, length, refl, List, [], ◌∷◌, Bool, true, false, eqb, ◌&&◌, get_or, set, map, inl, inr, ap, sym, ◌∙◌, arith, subst, length-set, get_or-set_same, get_or-set_other}
-use Rattle.std.proofs.lemmas.Bool.{eqb-true}
+use Rattle.std.proofs.Common.{◌≡◌, ◌≢◌, ℕ, zero, suc, ◌+◌, ◌-◌, ◌*◌, ◌^◌, ◌<◌, length, refl, [], ◌∷◌, Bool, true, false, eqb, ◌&&◌, get_or, set, map, inl, inr, ap, sym, ◌∙◌, arith, subst, length-set, get_or-set_same, get_or-set_other}
+use Rattle.std.proofs.lemmas.Bool.{and_parts, eqb-true}
 use Rattle.std.proofs.lemmas.Bool.Decides.{eqb_tells}
 use Rattle.std.proofs.lemmas.Grind.{same_number_lists}
-use Rattle.std.proofs.lemmas.List.{get_or-append-add, length-append}
+use Rattle.std.proofs.lemmas.List.{get_or_default, get_or-append-add, length-append}
 use Rattle.dm_check_blocks.specs.declared.size.Size.{Size}
 use Rattle.dm_check_blocks.specs.Sizes.{mapping, all_words}
 use Rattle.dm_placement.specs.declared.shape.Cell.{Cell}
@@ -13,11 +13,10 @@ use Rattle.dm_placement.specs.Cells.{cell_at, bit_cells, free_cells}
 use Rattle.dm_placement.specs.Placement.{cell, IsBit, number_of, is_dark, word_from, lifted, TurnsOneBit, TurnsNoBit}
 use Rattle.dm_placement.specs.Square.{Square, IsWhole, module_at, with_turned}
 use Rattle.dm_placement.specs.WalkSteps.{IsIn}
-use Rattle.dm_placement.proofs.AllCells.{IsTiled}
-use Rattle.dm_placement.proofs.CellLists.{all_in_at}
-use Rattle.dm_placement.proofs.EachOnce.{each_cell_once, same_default}
+use Rattle.dm_placement.proofs.CellLists.{all_in_at, same_cell}
+use Rattle.dm_placement.proofs.EachOnce.{each_cell_once}
 use Rattle.dm_placement.proofs.LiftedWords.{same_made, length_lifted, lifted_at}
-use Rattle.dm_placement.proofs.PlacedBits.{same_module, other_module, same_cell}
+use Rattle.dm_placement.proofs.PlacedBits.{same_module, other_module}
 use Rattle.dm_placement.proofs.PlacedMatrix.{cells_apart}
 use Rattle.dm_placement.proofs.ShapesSound.{all_in_bits, bit_count}
 use Rattle.dm_placement.proofs.Tiled.{tiled_size}
@@ -31,17 +30,13 @@ same_digits a b c d e f g h a' b' c' d' e' f' g' h' p q r s t u v w =
     ap (λ x. byte x b c d e f g h) p ∙ ap (λ x. byte a' x c d e f g h) q ∙ ap (λ x. byte a' b' x d e f g h) r ∙ ap (λ x. byte a' b' c' x e f g h) s
     ∙ ap (λ x. byte a' b' c' d' x f g h) t ∙ ap (λ x. byte a' b' c' d' e' x g h) u ∙ ap (λ x. byte a' b' c' d' e' f' x h) v ∙ ap (λ x. byte a' b' c' d' e' f' g' x) w
 
-both : (a b : Bool) → (a && b) ≡ true → (a ≡ true) × (b ≡ true)
-both true b e = (refl, e)
-both false b e = absurd (cc)
-
--- a test of both Bools, and of each eight
+-- a test of each Bool, and of each eight
 abbrev every : (Bool → Bool) → Bool
 every t = t true && t false
 
 at_each : (t : Bool → Bool) (b : Bool) → every t ≡ true → t b ≡ true
-at_each t true e = (both (t true) (t false) e).0
-at_each t false e = (both (t true) (t false) e).1
+at_each t true e = (and_parts (t true) (t false) e).0
+at_each t false e = (and_parts (t true) (t false) e).1
 
 abbrev every_eight : (Bool → Bool → Bool → Bool → Bool → Bool → Bool → Bool → Bool) → Bool
 every_eight t = every (λ a. every (λ b. every (λ c. every (λ d. every (λ e. every (λ f. every (λ g. every (λ h. t a b c d e f g h))))))))
@@ -220,7 +215,7 @@ free_in s p f =
     let t = tiled_size s in
     let j = length (bit_cells n) + f.0 in
     let all = length-append (bit_cells n) (free_cells n) in
-    let e = get_or-append-add (bit_cells n) (free_cells n) f.0 (cell_at 0 0) ∙ same_default (free_cells n) f.0 (cell_at 0 0) p f.1 ∙ f.2 in
+    let e = get_or-append-add (bit_cells n) (free_cells n) f.0 (cell_at 0 0) ∙ get_or_default (free_cells n) f.0 (cell_at 0 0) p f.1 ∙ f.2 in
     subst (λ (x : Cell). IsIn n x) e (t.in_square j (omega (arith, all, f.1)))
 
 pub turns_no_bit : (s : Size) → TurnsNoBit s

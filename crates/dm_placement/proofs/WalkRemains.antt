@@ -1,7 +1,7 @@
 -- What the loops of the walk keep: the cells so far are those of the words so far, the table says which they are, and the
 -- rest of the walk gives the rest of the words.
 use Rattle.std.specs.Prelude.{not}
-use Rattle.std.proofs.lemmas.Bool.{ltb-true, leb-true}
+use Rattle.std.proofs.lemmas.Bool.{and_parts, ltb-true, leb-true}
 use Rattle.std.proofs.Common.{get_or, ◌*◌, ◌≡◌, ℕ, zero, suc, ◌+◌, ◌-◌, refl, List, [], ◌∷◌, ◌++◌, Option, Some, None, Bool, true, false, ltb, leb, ◌&&◌, ◌||◌, cond, ap, sym, ◌∙◌, subst, arith, append_assoc, append-nil}
 use Rattle.std.proofs.lemmas.Grind.{flat_map-append}
 use Rattle.dm_placement.specs.declared.shape.Cell.{Cell}
@@ -131,9 +131,9 @@ unfolding word_at
 same_word n rows m r c t =
     if_inside ((leb 2 r && ltb r (n + 2)) && (leb 2 c && ltb c (n + 2))) _ _ (Plain (cell_at (r - 2) (c - 2)) ∷ [])
     (λ g.
-    let b = both (leb 2 r && ltb r (n + 2)) (leb 2 c && ltb c (n + 2)) g in
-    let d = both (leb 2 r) (ltb r (n + 2)) b.0 in
-    let f = both (leb 2 c) (ltb c (n + 2)) b.1 in
+    let b = and_parts (leb 2 r && ltb r (n + 2)) (leb 2 c && ltb c (n + 2)) g in
+    let d = and_parts (leb 2 r) (ltb r (n + 2)) b.0 in
+    let f = and_parts (leb 2 c) (ltb c (n + 2)) b.1 in
     let r2 = leb-true _ _ d.0 in
     let rn = ltb-true _ _ d.1 in
     let c2 = leb-true _ _ f.0 in
@@ -144,10 +144,6 @@ same_word n rows m r c t =
     if_inside : (g a b : Bool) (xs : List Shape) → (g ≡ true → a ≡ b) → cond (g && not a) xs [] ≡ cond (g && not b) xs []
     if_inside true a b xs e = ap (λ v. cond (not v) xs []) (e refl)
     if_inside false a b xs e = refl
-
-    both : (a b : Bool) → (a && b) ≡ true → (a ≡ true) × (b ≡ true)
-    both true b e = (refl, e)
-    both false b e = absurd (cc)
 
 pub up_step : (n r c : ℕ) (cells cells' : List Cell) (m m' : Square) → AllSound n (shapes n) → Remains n Up r c cells m
     → (leb 2 r && ltb c (n + 2)) ≡ true

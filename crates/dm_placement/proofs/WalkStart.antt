@@ -1,5 +1,5 @@
 -- Where the walk starts all its words remain.
-use Rattle.std.proofs.Common.{◌≡◌, ℕ, ◌*◌, refl, [], subst, replicate}
+use Rattle.std.proofs.Common.{ℕ, ◌*◌, refl, [], subst, replicate}
 use Rattle.dm_check_blocks.specs.declared.size.Size.{Size}
 use Rattle.dm_check_blocks.specs.Sizes.{mapping}
 use Rattle.dm_placement.specs.Cells.{shapes}

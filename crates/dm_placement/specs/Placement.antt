@@ -1,14 +1,14 @@
 -- The mapping matrix of words, and the words of a mapping matrix (ISO/IEC 16022, Annex F): each bit stands at its
 -- cell, a bit 1 as a dark module. Words count from 0, the bits of a word from 1, the most significant one, to 8.
-use Rattle.std.specs.Prelude.{ℕ, ◌≡◌, ◌+◌, ◌-◌, ◌*◌, ◌/◌, ◌%◌, ◌<◌, ◌≤◌, ◌⊎◌, Bool, ◌==◌, ◌&&◌, true, if◌then◌else◌, List, length, get_or, map, fold, position, Contains, All, ◌^◌, slice_set, slice_index, bit_xor}
+use Rattle.std.specs.Prelude.{ℕ, ◌≡◌, ◌+◌, ◌-◌, ◌*◌, ◌/◌, ◌%◌, ◌<◌, ◌≤◌, ◌⊎◌, Bool, ◌==◌, ◌&&◌, if◌then◌else◌, List, length, get_or, map, fold, position, Contains, All, ◌^◌, slice_set, slice_index, bit_xor, replicate}
 use Rattle.std.specs.List.{range_with_len, list_any}
 use Rattle.std.specs.Option.{option_map_or}
 use Rattle.std.specs.Int.{bit_at}
 use Rattle.dm_check_blocks.specs.declared.size.Size.{Size}
 use Rattle.dm_check_blocks.specs.Sizes.{mapping, all_words}
 use Rattle.dm_placement.specs.declared.shape.Cell.{Cell}
-use Rattle.dm_placement.specs.Cells.{cell_at, bit_cells, dark_cells, light_cells, free_cells}
-use Rattle.dm_placement.specs.Square.{Square, IsWhole, module_at, with_turned}
+use Rattle.dm_placement.specs.Cells.{cell_at, bit_cells, dark_cells, free_cells}
+use Rattle.dm_placement.specs.Square.{Square, IsWhole, module_at, light_square, with_turned}
 use Rattle.dm_placement.specs.WalkSteps.{IsIn}
 
 -- the cell of a bit of a word
@@ -65,6 +65,10 @@ lifted s m = map (λ word. word_from m (bit_cells (mapping s)) (8 * word)) (rang
 -- What is lifted from the placed matrix of bytes is those bytes.
 abbrev pub LiftUndoesPlace : Size → Type 0
 LiftUndoesPlace s = (words : List ℕ) → length words ≡ all_words s → All (λ word. word < 2 ^ 8) words → lifted s (placed s words) ≡ words
+
+-- A mapping matrix with all modules light bears words 0.
+abbrev pub LightBearsZeros : Size → Type 0
+LightBearsZeros s = lifted s (light_square (mapping s)) ≡ replicate (all_words s) 0
 
 -- To turn over the module at the cell of a bit is to turn over that bit, and no other.
 abbrev pub TurnsOneBit : Size → Type 0

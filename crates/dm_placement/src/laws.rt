@@ -2,7 +2,7 @@
 
 ghost use Rattle.std.specs.Prelude.{◌≡◌, ◌<◌, ◌^◌, ℕ, List, All, length};
 ghost use Rattle.dm_check_blocks.specs.Sizes.{all_words};
-ghost use Rattle.dm_placement.specs.Placement.{EachCellOnce, LiftUndoesPlace, TurnsNoBit, TurnsOneBit, lifted, placed};
+ghost use Rattle.dm_placement.specs.Placement.{EachCellOnce, LiftUndoesPlace, LightBearsZeros, TurnsNoBit, TurnsOneBit, lifted, placed};
 ghost use Rattle.dm_placement.specs.Square.{Square, IsWhole};
 
 use dm_check_blocks::Size;
@@ -25,6 +25,12 @@ pub fn words_are_bytes(size: Size)
     ensures count { (m : Square) → length (lifted size m) ≡ all_words size }
     ensures bytes { (m : Square) → All (λ word. word < 2 ^ 8) (lifted size m) }
     ensures whole { (words : List ℕ) → IsWhole (placed size words) }
+{}
+
+/// A mapping matrix with all modules light bears words 0.
+#[tactic(auto, using(crate::proofs::LiftedWords::light_bears_zeros))]
+pub fn light_bears_zeros(size: Size)
+    ensures { LightBearsZeros size }
 {}
 
 /// To turn over one module is to turn over the bit whose cell it stands at, or, at a free cell, nothing.

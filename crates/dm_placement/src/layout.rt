@@ -1,8 +1,8 @@
 //! The cells of all bits of a size, kept.
 
-ghost use Rattle.std.specs.Prelude.{◌≡◌, ◌<◌, ◌*◌, IfOk, length};
+ghost use Rattle.std.specs.Prelude.{◌≡◌, ◌<◌, IfOk};
 ghost use Rattle.dm_check_blocks.specs.declared.size.Size.{Size};
-ghost use Rattle.dm_check_blocks.specs.Sizes.{mapping, all_words};
+ghost use Rattle.dm_check_blocks.specs.Sizes.{mapping};
 ghost use Rattle.dm_placement.specs.Cells.{bit_cells};
 ghost use Rattle.dm_placement.specs.Placement.{cell, IsBit};
 
@@ -54,6 +54,8 @@ impl<A: Allocator> Layout<A> {
         requires { IsBit self.now word bit }
         ensures row { result.0 ≡ (cell self.now word bit).row }
         ensures column { result.1 ≡ (cell self.now word bit).column }
+        ensures in_rows { result.0 < mapping self.now }
+        ensures in_columns { result.1 < mapping self.now }
     {
         let p = self.cells[8 * word + bit as usize - 1];
         (p.row, p.column)

@@ -1,6 +1,6 @@
 //! The mapping matrix of the words of a symbol.
 
-ghost use Rattle.std.specs.Prelude.{◌≡◌, ◌≤◌, IfOk, length};
+ghost use Rattle.std.specs.Prelude.{◌≡◌, IfOk, length};
 ghost use Rattle.dm_check_blocks.specs.Sizes.{all_words};
 ghost use Rattle.dm_placement.specs.Cells.{dark_cells};
 ghost use Rattle.dm_placement.specs.Placement.{placed};

@@ -17,6 +17,7 @@ static MODULES: [[u8; 8]; 8] = [
 ];
 
 #[test]
+#[tactic(auto, unfolding(dm_check_blocks::specs::Sizes::row))]
 fn places_the_bits_of_whole_shapes(rt: HostRuntime) -> Result<(), Fail> {
     // the word that stands in a corner shape
     let first_corner = Layout::of_size(rt.alloc(), Size::Side14)?;
@@ -54,6 +55,7 @@ fn places_the_bits_of_whole_shapes(rt: HostRuntime) -> Result<(), Fail> {
 }
 
 #[test]
+#[tactic(auto, unfolding(dm_check_blocks::specs::Sizes::row))]
 fn keeps_the_free_cells(rt: HostRuntime) -> Result<(), Fail> {
     for word in [0u8, 255] {
         let matrix = place(rt.alloc(), Size::Side12, &[word; 12])?;
@@ -68,6 +70,7 @@ fn keeps_the_free_cells(rt: HostRuntime) -> Result<(), Fail> {
 }
 
 #[test]
+#[tactic(auto, unfolding(dm_check_blocks::specs::Sizes::row))]
 fn draws_a_symbol_and_reads_it(rt: HostRuntime) -> Result<(), Fail> {
     let layout = Layout::of_size(rt.alloc(), Size::Side10)?;
     let mut matrix = place_with(rt.alloc(), &layout, &WORDS)?;

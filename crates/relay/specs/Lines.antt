@@ -3,13 +3,14 @@ use Rattle.std.specs.Prelude.{ℕ, List, [], ◌∷◌, ◌++◌, codes}
 use Rattle.std.specs.List.{flat_map}
 use Rattle.std.specs.Fmt.{decimal}
 use Rattle.relay.specs.declared.refusal.Refusal.{Refusal}
-use Rattle.relay.specs.declared.refusal.Refusal.TheVariants.{Side, Read, TooLong, Memory}
+use Rattle.relay.specs.declared.refusal.Refusal.TheVariants.{Side, Read, TooLong, Memory, Write}
 
 abbrev pub name_of : Refusal → List ℕ
 name_of Side = codes "Side"
 name_of Read = codes "Read"
 name_of TooLong = codes "TooLong"
 name_of Memory = codes "Memory"
+name_of Write = codes "Write"
 
 abbrev pub refusal_line : Refusal → List ℕ
 refusal_line refusal = codes "refused " ++ (name_of refusal ++ 10 ∷ [])

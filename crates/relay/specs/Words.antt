@@ -7,7 +7,7 @@ use Rattle.dm_encodation.specs.declared.scheme.Scheme.{Scheme}
 use Rattle.dm_encodation.specs.Written.{filled, need_of}
 use Rattle.relay.specs.Lines.{words_line}
 use Rattle.relay.specs.declared.refusal.Refusal.{Refusal}
-use Rattle.relay.specs.declared.refusal.Refusal.TheVariants.{Side, Read, TooLong, Memory}
+use Rattle.relay.specs.declared.refusal.Refusal.TheVariants.{Side, Read, TooLong, Memory, Write}
 
 -- A document is read up to one byte more than the greatest that a printer cuts into labels. So many bytes are
 -- too long for every symbol.
@@ -20,18 +20,23 @@ IsInputFault Side = ⊥
 IsInputFault Read = Unit {0}
 IsInputFault TooLong = ⊥
 IsInputFault Memory = Unit {0}
+IsInputFault Write = ⊥
 
 -- the side is that of a symbol size
 abbrev pub IsSide : ℕ → Type 0
 IsSide n = (size : Size) × (side size ≡ n)
 
--- the line of the words of the symbol of this side that bears the document
-pub record PrintsWords (n : ℕ) (scheme : Scheme) (document line : List ℕ) : Type 0 where
-  pub size : Size
+-- these words are those of the one symbol of this side that bears the document
+pub record BearsDocument (n : ℕ) (scheme : Scheme) (document : List ℕ) (size : Size) (words : List ℕ) : Type 0 where
   pub is_side : side size ≡ n
   pub fits : need_of scheme document ≤ data_words size
-  pub words : List ℕ
   pub completed : Completes size (filled scheme [] document (data_words size)) words
+
+-- the line of these words
+pub record PrintsWords (n : ℕ) (scheme : Scheme) (document line : List ℕ) : Type 0 where
+  pub size : Size
+  pub words : List ℕ
+  pub symbol : BearsDocument n scheme document size words
   pub spelled : line ≡ words_line words
 
 -- what stands where `words` refuses a document for a size
@@ -40,6 +45,7 @@ RefusesDocument size scheme document Side = ⊥
 RefusesDocument size scheme document Read = ⊥
 RefusesDocument size scheme document TooLong = data_words size < need_of scheme document
 RefusesDocument size scheme document Memory = Unit {0}
+RefusesDocument size scheme document Write = ⊥
 
 -- what stands where `words` refuses: the side comes first, then the input, then the document
 abbrev pub RefusesWords : ℕ → Scheme → Option (List ℕ) → Refusal → Type 0
@@ -47,3 +53,4 @@ RefusesWords n scheme input Side = (size : Size) → side size ≢ n
 RefusesWords n scheme input Read = IsSide n
 RefusesWords n scheme input TooLong = (size : Size) × (side size ≡ n) × IfSome input (λ bytes. data_words size < need_of scheme (document_of bytes))
 RefusesWords n scheme input Memory = IsSide n
+RefusesWords n scheme input Write = ⊥

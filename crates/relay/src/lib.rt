@@ -9,6 +9,7 @@ mod document;
 mod output;
 mod program;
 mod refusal;
+mod symbol;
 mod words;
 
 pub use output::{Output, WriteFault};

@@ -16,6 +16,8 @@ pub enum Refusal {
     TooLong,
     /// Memory was refused.
     Memory,
+    /// The output has refused a write.
+    Write,
 }
 
 impl Refusal {
@@ -31,6 +33,7 @@ impl Refusal {
             Refusal::Read => b"refused Read\n",
             Refusal::TooLong => b"refused TooLong\n",
             Refusal::Memory => b"refused Memory\n",
+            Refusal::Write => b"refused Write\n",
         }
     }
 }

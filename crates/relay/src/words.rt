@@ -5,15 +5,13 @@ ghost use Rattle.std.specs.List.{flat_map};
 ghost use Rattle.std.specs.Fmt.{decimal};
 ghost use Rattle.std.specs.Io.KnownBytes.{Appends};
 ghost use Rattle.relay.specs.declared.refusal.Refusal.{Refusal};
-ghost use Rattle.dm_check_blocks.specs.Sizes.{side};
 ghost use Rattle.relay.specs.Lines.{words_line, refusal_line};
-ghost use Rattle.relay.specs.Words.{PrintsWords, RefusesDocument, RefusesWords, document_of};
+ghost use Rattle.relay.specs.Words.{PrintsWords, RefusesWords, document_of};
 
-use crate::document::read_document;
 use crate::output::Output;
 use crate::refusal::Refusal;
-use dm_check_blocks::{Size, complete};
-use dm_encodation::{EncodeFault, Scheme, encode};
+use crate::symbol::read_symbol;
+use dm_encodation::Scheme;
 use std::alloc::{AllocError, Allocator};
 use std::fmt::Write as _;
 use std::io::{Read, Write};
@@ -41,25 +39,6 @@ fn line_of<A: Allocator + Copy>(alloc: A, words: &[u8]) -> Result<String<A>, All
     Ok(line)
 }
 
-// The line of the symbol of this size that bears the document.
-fn symbol_line<A: Allocator + Copy>(
-    alloc: A,
-    document: &[u8],
-    size: Size,
-    scheme: Scheme,
-) -> Result<String<A>, Refusal>
-    ensures printed { IfOk result (λ line. PrintsWords (side size) scheme document.now (string_bytes line)) }
-    ensures refused { IfErr result (RefusesDocument size scheme document.now) }
-{
-    let data = match encode(alloc, scheme, document, &[], size) {
-        Ok(data) => data,
-        Err(EncodeFault::TooLong) => return Err(Refusal::TooLong),
-        Err(EncodeFault::Memory) => return Err(Refusal::Memory),
-    };
-    let words = complete(alloc, size, &data)?;
-    Ok(line_of(alloc, &words)?)
-}
-
 // The line of the document that the reader gives.
 fn words_of<A: Allocator + Copy, R: Read>(
     alloc: A,
@@ -70,11 +49,14 @@ fn words_of<A: Allocator + Copy, R: Read>(
     ensures printed { IfOk result (λ line. IfSome (R.remaining reader.old) (λ input. PrintsWords side scheme (document_of input) (string_bytes line))) }
     ensures refused { IfErr result (RefusesWords side scheme (R.remaining reader.old)) }
 {
-    let Some(size) = Size::of_side(side) else {
-        return Err(Refusal::Side);
+    let symbol = match read_symbol(alloc, reader, side, scheme) {
+        Ok(symbol) => symbol,
+        Err(refusal) => return Err(refusal),
     };
-    let document = read_document(alloc, reader)?;
-    symbol_line(alloc, &document, size, scheme)
+    match line_of(alloc, &symbol.words) {
+        Ok(line) => Ok(line),
+        Err(_) => Err(Refusal::Memory),
+    }
 }
 
 /// Reads a document and prints the words of its symbol in decimal, with one space between each two and a line

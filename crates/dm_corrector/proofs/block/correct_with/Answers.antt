@@ -1,12 +1,11 @@
-use Rattle.std.proofs.Common.{refl, sym, ap, subst, ◌∙◌, ◌≡◌, ◌<◌, ◌≤◌, ◌+◌, ◌*◌, ◌/◌, arith, length, length-take, take, ℕ, List}
-use Rattle.std.specs.List.{All}
+use Rattle.std.proofs.Common.{refl, sym, ap, ◌∙◌, ◌≡◌, ◌<◌, ◌≤◌, ◌+◌, ◌*◌, ◌/◌, arith, length, length-take, take, ℕ, List}
 use Rattle.std.proofs.lemmas.List.{length-map}
 use Rattle.std.proofs.lemmas.Bool.{false≢true}
 use Rattle.dm_gf256.specs.declared.element.Gf.{Gf}
 use Rattle.dm_gf256.specs.Elements.{numbers}
 use Rattle.dm_gf256.specs.Polynomial.{differ, sum_word, IsBlockWord}
 use Rattle.dm_gf256.proofs.Words.{differ-self}
-use Rattle.dm_corrector.specs.Corrections.{Corrects, AreSyndromes}
+use Rattle.dm_corrector.specs.Corrections.{AreSyndromes}
 use Rattle.dm_corrector.specs.Locators.{IsLocator}
 use Rattle.dm_corrector.proofs.Corrected.{recovered, first_syndromes, one_correction, itself}
 use Rattle.dm_corrector.proofs.SyndromeWords.{word_from_zeros}

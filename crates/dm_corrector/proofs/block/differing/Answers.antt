@@ -1,4 +1,4 @@
-use Rattle.std.proofs.Common.{refl, sym, ap, ◌∙◌, ◌≡◌, arith, get_or, ◌+◌}
+use Rattle.std.proofs.Common.{refl, ◌∙◌, arith}
 use Rattle.dm_gf256.specs.Polynomial.{differ}
 use Rattle.dm_corrector.proofs.Differences.{differ_other, differ_same}
 use Rattle.dm_corrector.proofs.Words.{all_bytes}

@@ -1,4 +1,4 @@
-use Rattle.std.proofs.Common.{◌≡◌, ◌<◌, ◌≤◌, ◌≢◌, ℕ, get_or, length}
+use Rattle.std.proofs.Common.{◌≡◌, ◌<◌, ◌≢◌, ℕ, get_or, length}
 use Rattle.dm_corrector.specs.Rows.{row_at}
 use Rattle.dm_corrector.proofs.elimination.identity.Given as goal
 

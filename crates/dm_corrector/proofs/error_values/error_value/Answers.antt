@@ -1,7 +1,7 @@
-use Rattle.std.proofs.Common.{◌≡◌, ◌<◌, ◌≤◌, ◌+◌, ℕ, suc, refl, sym, ◌∙◌, ap, arith, List, length, get_or, take}
+use Rattle.std.proofs.Common.{◌≡◌, ◌+◌, suc, refl, sym, ◌∙◌, ap, arith, length, get_or}
 use Rattle.std.specs.Int.Bits.{bit_xor}
 use Rattle.dm_gf256.proofs.Ring.{one-product, power_byte}
-use Rattle.dm_gf256.proofs.Vanish.{moment, weigh, value-moment}
+use Rattle.dm_gf256.proofs.Vanish.{value-moment}
 use Rattle.dm_gf256.specs.Field.{product, power}
 use Rattle.dm_corrector.proofs.ErrorTurns.{moment-unweighed, scale_pos, told, next_sum, next_scale}
 use Rattle.dm_corrector.proofs.ErrorValues.{others, turn_same, scale_same}

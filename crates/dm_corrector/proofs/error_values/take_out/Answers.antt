@@ -1,9 +1,8 @@
 use Rattle.std.proofs.Common.{sym, ap, subst, List, ◌∙◌, ◌≡◌, ◌<◌, ◌≤◌, ◌-◌, ◌+◌, arith, length, ℕ, get_or, take, ⊎_elim}
 use Rattle.std.proofs.lemmas.List.{take_all}
 use Rattle.std.proofs.lemmas.List.Elements.{recursion_from_All}
-use Rattle.std.specs.List.{All, Contains}
+use Rattle.std.specs.List.{Contains}
 use Rattle.std.specs.Int.Bits.{bit_xor, xor_zero_r}
-use Rattle.dm_gf256.specs.Elements.{numbers}
 use Rattle.dm_corrector.proofs.Words.{sum_word-by_places}
 use Rattle.dm_corrector.proofs.Entries.{entry-get, entry_byte}
 use Rattle.dm_corrector.proofs.ErrorValues.{Among, among_or_not, among_from_contains}

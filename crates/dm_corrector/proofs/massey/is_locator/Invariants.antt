@@ -4,4 +4,4 @@ use Rattle.dm_corrector.specs.Polynomials.{combination}
 use Rattle.dm_corrector.proofs.massey.is_locator.Given as goal
 
 abbrev pub invariant-loop-from : goal.invariant-loop-from
-invariant-loop-from l = (i : ℕ) → i < l.from → combination (numbers l.polynomial) (λ j. get_or (numbers l.syndromes) (i + j) 0) ≡ 0
+invariant-loop-from l = (i : ℕ) → i < l.from → combination l.coefficients (λ j. get_or (numbers l.syndromes) (i + j) 0) ≡ 0

@@ -1,4 +1,4 @@
-use Rattle.std.proofs.Common.{refl, sym, ap, ◌∙◌, ◌≡◌, ◌<◌, ◌-◌, ◌+◌, ◌≤◌, arith, ℕ, List, length, get_or}
+use Rattle.std.proofs.Common.{sym, ap, ◌∙◌, ◌≡◌, ◌<◌, ◌-◌, ◌+◌, ◌≤◌, arith, ℕ, List, length, get_or}
 use Rattle.std.proofs.lemmas.List.{length-map}
 use Rattle.std.proofs.lemmas.List.Elements.{recursion_from_All}
 use Rattle.dm_gf256.specs.Elements.{numbers}

@@ -1,8 +1,8 @@
-use Rattle.std.proofs.Common.{rules, ◌≡◌, ◌+◌, ◌≤◌, List, ℕ, ap, arith, drop, length, subst, sym, ◌∙◌}
+use Rattle.std.proofs.Common.{rules, ◌≡◌, ◌+◌, ◌≤◌, List, ℕ, ap, arith, drop, length, subst, take, sym, ◌∙◌}
 use Rattle.dm_check_blocks.specs.Sizes.{data_words}
 use Rattle.dm_encodation.specs.Grammar.{ReadsOnly}
 use Rattle.dm_encodation.specs.Written.{filled, need_of}
-use Rattle.dm_encodation.proofs.Filled.{length-filled, filled_read}
+use Rattle.dm_encodation.proofs.Filled.{length-filled, take-filled, filled_read}
 use Rattle.dm_encodation.proofs.Reread.{below_256}
 use Rattle.dm_encodation.proofs.encoding.encode.Goals as goal
 
@@ -11,6 +11,11 @@ returns-clause-whole g c =
     let filled_so : c.in_ok-fill.field-0.items ≡ filled c.args.scheme c.args.head.now c.args.bytes.now (data_words c.args.size) = search rules in
     let fits : length c.args.head.now + need_of c.args.scheme c.args.bytes.now ≤ data_words c.args.size = omega (arith, c.data_words-capacity.ensures.value, c.words_of.ensures) in
     ap length filled_so ∙ length-filled c.args.scheme c.args.head.now c.args.bytes.now (data_words c.args.size) fits
+
+pub returns-clause-head : goal.returns-clause-head
+returns-clause-head g c =
+    let filled_so : c.in_ok-fill.field-0.items ≡ filled c.args.scheme c.args.head.now c.args.bytes.now (data_words c.args.size) = search rules in
+    ap (take (length c.args.head.now)) filled_so ∙ take-filled c.args.scheme c.args.head.now c.args.bytes.now (data_words c.args.size)
 
 pub returns-clause-reads : goal.returns-clause-reads
 returns-clause-reads g c =

@@ -1,6 +1,6 @@
 use Rattle.std.proofs.Common.{◌≡◌, ◌<◌, ◌≤◌, ◌+◌, ◌-◌, ◌*◌, arith, ap, sym, ◌∙◌, subst, ℕ, Result, Ok, Err, IsErr, IsErrAnd}
 use Rattle.dm_check_blocks.specs.declared.size.Size.{Size}
-use Rattle.dm_check_blocks.specs.Sizes.{side, region, regions}
+use Rattle.dm_check_blocks.specs.Sizes.{region, regions}
 use Rattle.dm_placement.specs.Square.{Square}
 use Rattle.dm_finder_frame.specs.declared.fault.FrameFault.{FrameFault}
 use Rattle.dm_finder_frame.specs.declared.fault.FrameFault.TheVariants.{Memory}

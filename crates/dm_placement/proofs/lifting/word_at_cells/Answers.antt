@@ -1,4 +1,4 @@
-use Rattle.std.proofs.Common.{◌≡◌, ◌<◌, ◌+◌, ◌*◌, ◌^◌, arith, ap, sym, ◌∙◌, get_or, subst, ℕ, Bool, cond, length, false}
+use Rattle.std.proofs.Common.{◌≡◌, ◌<◌, ◌+◌, ◌*◌, ◌^◌, arith, ap, sym, ◌∙◌, get_or, subst, ℕ, Bool, cond, length}
 use Rattle.dm_placement.specs.Cells.{cell_at}
 use Rattle.dm_placement.specs.Placement.{is_dark}
 use Rattle.dm_placement.proofs.BinaryDigits.{byte_number, more_below, number_more}

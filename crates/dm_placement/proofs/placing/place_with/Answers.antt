@@ -1,7 +1,6 @@
 use Rattle.std.specs.Prelude.{bit_and}
-use Rattle.std.proofs.Common.{◌^◌, ◌≡◌, ◌<◌, ◌*◌, ◌-◌, ◌/◌, ◌%◌, arith, ap, sym, ◌∙◌, get_or, subst, length, eqb, List, ℕ}
+use Rattle.std.proofs.Common.{◌^◌, ◌≡◌, ◌<◌, ◌-◌, ◌/◌, ◌%◌, arith, ap, sym, ◌∙◌, get_or, subst, length, eqb, List, ℕ}
 use Rattle.std.proofs.lemmas.Nat.Bits.{shr_and_one}
-use Rattle.dm_check_blocks.specs.declared.size.Size.{Size}
 use Rattle.dm_check_blocks.specs.Sizes.{mapping}
 use Rattle.dm_placement.specs.declared.shape.Cell.{Cell}
 use Rattle.dm_placement.specs.Cells.{cell_at, dark_cells}

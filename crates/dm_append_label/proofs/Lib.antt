@@ -1,0 +1,4 @@
+pub mod Changes
+pub mod CutsSoFar
+pub mod Readings
+pub mod Sealed

@@ -1,0 +1,47 @@
+-- What a grid is read as, from what the layers below answer.
+use Rattle.std.proofs.Common.{◌≡◌, ◌≢◌, ℕ, ◌*◌, ◌≤◌, List, Result, Ok, Err, take, drop, sym, ap, subst, ◌∙◌}
+use Rattle.std.specs.Prelude.{IsErrAnd}
+use Rattle.std.proofs.lemmas.Result.{err_from_is_err_and}
+use Rattle.dm_check_blocks.specs.declared.size.Size.{Size}
+use Rattle.dm_check_blocks.specs.Sizes.{data_words}
+use Rattle.dm_corrector.specs.Symbols.{CorrectsSymbol}
+use Rattle.dm_encodation.specs.Grammar.{StuckOnly}
+use Rattle.dm_encodation.specs.declared.fault.DecodeFault.{DecodeFault}
+use Rattle.dm_placement.specs.Square.{Square}
+use Rattle.dm_placement.specs.Placement.{lifted}
+use Rattle.dm_finder_frame.specs.Frame.{border, frame_modules, unframed}
+use Rattle.dm_append_label.specs.Heads.{Place, place_at}
+use Rattle.dm_append_label.specs.HeadFaults.{IsHeadFault}
+use Rattle.dm_append_label.specs.Opening.{IsReadAs, Opens, data_of}
+use Rattle.dm_append_label.specs.declared.fault.LabelFault.{LabelFault}
+use Rattle.dm_append_label.specs.declared.fault.LabelFault.TheVariants as faults
+use Rattle.dm_append_label.specs.declared.opening.Opened.{Opened}
+
+-- the corrected words of a grid within its limit are what it is read as
+pub read_as : (s t : Size) (grid matrix : Square) (items old words : List ℕ) → 8 * border s grid ≤ frame_modules s → t ≡ s → matrix ≡ unframed s grid → items ≡ lifted t matrix → old ≡ items →
+    CorrectsSymbol t old words → IsReadAs s grid words
+read_as s t grid matrix items old words within e m l o near =
+    let is : old ≡ lifted s (unframed s grid) = o ∙ l ∙ ap (λ (x : Size). lifted x matrix) e ∙ ap (lifted s) m in
+    record { patterns = within; near = subst (λ (x : List ℕ). CorrectsSymbol s x words) is (subst (λ (x : Size). CorrectsSymbol x old words) e near) }
+
+-- its data words
+pub data_words_of : (s t : Size) (n : ℕ) (words : List ℕ) → t ≡ s → n ≡ data_words t → take n words ≡ data_of s words
+data_words_of s t n words e m = ap (λ k. take k words) (m ∙ ap data_words e)
+
+-- a fault of the head refuses the label
+pub refused : {A : Type 0} (s : Size) (grid : Square) (words data' : List ℕ) (result : Result (Opened A) LabelFault) (fault : LabelFault) → IsErrAnd result (λ f. f ≡ fault) → IsHeadFault fault → IsReadAs s grid words →
+    data' ≡ data_of s words → place_at data' ≡ Err fault → Opens s grid result
+refused {A} s grid words data' result fault r kind read d h =
+    let p = err_from_is_err_and result r in
+    let is : result ≡ Err fault = p.1 ∙ ap (λ (f : LabelFault). Err f) p.2 in
+    let at : place_at (data_of s words) ≡ Err fault = ap place_at (sym d) ∙ h in
+    subst (λ (x : Result (Opened A) LabelFault). Opens s grid x) (sym is) (by_kind fault kind at)
+  where
+    by_kind : (f : LabelFault) → IsHeadFault f → place_at (data_of s words) ≡ Err f → Opens {A = A} s grid (Err f)
+    by_kind faults.NotAppended k q = (words, read, q)
+    by_kind (faults.Sequence word) k q = (words, read, q)
+    by_kind faults.FileId k q = (words, read, q)
+    by_kind (faults.Border wrong) k q = absurd k
+    by_kind (faults.Block block) k q = absurd k
+    by_kind (faults.Content f) k q = absurd k
+    by_kind faults.Memory k q = absurd k

@@ -1,0 +1,37 @@
+use Rattle.std.proofs.Common.{◌≡◌, ◌+◌, ◌/◌, ◌≤◌, ◌<◌, refl, sym, ap, ◌∙◌, arith, take}
+use Rattle.dm_gf256.specs.Polynomial.{differ}
+use Rattle.dm_check_blocks.specs.Sizes.{data_words, check_words, blocks, block_length}
+use Rattle.dm_check_blocks.specs.Blocks.{block_of}
+use Rattle.dm_append_label.proofs.Changes.{counted_more, differs, agrees, all_counted}
+use Rattle.dm_append_label.proofs.nearness.changed_words.Goals as goal
+use Rattle.dm_append_label.proofs.nearness.changed_words.Goals.{then-one-at, else-one-at}
+
+pub loop-i-init : goal.loop-i-init
+unfolding differ
+loop-i-init c = record { few = omega arith; counted = refl }
+
+pub loop-i-preserved : goal.loop-i-preserved
+loop-i-preserved c =
+    let s = c.args.size in let b = c.args.block in let i = c.loop-i.i in
+    let whole : (c.data_words.result + c.check_words.result) / c.blocks-2.result ≡ block_length s =
+    ap (λ t. (t + c.check_words.result) / c.blocks-2.result) c.data_words.ensures.value ∙ ap (λ t. (data_words s + t) / c.blocks-2.result) c.check_words.ensures.value
+    ∙ ap (λ t. (data_words s + check_words s) / t) c.blocks-2.ensures.value in
+    let more = counted_more s b i c.block_word-at.result c.args.one.now c.args.other.now (omega arith) c.block_word-at.ensures.position in
+    elim c.if-one-at.branch [
+      | then-one-at w ↦ record {
+        few = (let f = c.loop-i.invariant.few in omega (arith, w.changed-is));
+        counted = w.changed-is ∙ ap (λ t. t + 1) c.loop-i.invariant.counted ∙ sym (differs _ _ _ w.if-one-at.true) ∙ sym more;
+      }
+      | else-one-at w ↦ record {
+        few = (let f = c.loop-i.invariant.few in omega (arith, w.changed-is));
+        counted = w.changed-is ∙ c.loop-i.invariant.counted ∙ sym (agrees _ _ _ w.if-one-at.false) ∙ sym more;
+      }
+    ]
+
+pub returns : goal.returns
+returns c =
+    let s = c.args.size in
+    let whole : (c.data_words.result + c.check_words.result) / c.blocks-2.result ≡ block_length s =
+    ap (λ t. (t + c.check_words.result) / c.blocks-2.result) c.data_words.ensures.value ∙ ap (λ t. (data_words s + t) / c.blocks-2.result) c.check_words.ensures.value
+    ∙ ap (λ t. (data_words s + check_words s) / t) c.blocks-2.ensures.value in
+    c.loop-i.invariant.counted ∙ all_counted s c.args.block c.loop-i.i c.args.one.now c.args.other.now (omega arith)

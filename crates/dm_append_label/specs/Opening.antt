@@ -1,0 +1,45 @@
+-- What a grid opens as. Each refusal is the first, in this order, that applies: the finder patterns, the blocks, the
+-- head, and the text behind it.
+use Rattle.std.specs.Prelude.{◌≡◌, ◌≢◌, ℕ, ◌+◌, ◌*◌, ◌<◌, ◌≤◌, List, take, drop, Result, Ok, Err}
+use Rattle.dm_gf256.specs.Polynomial.{differ}
+use Rattle.dm_check_blocks.specs.declared.size.Size.{Size}
+use Rattle.dm_check_blocks.specs.Sizes.{side, data_words}
+use Rattle.dm_corrector.specs.Symbols.{CorrectsSymbol, IsFirstFaulty}
+use Rattle.dm_encodation.specs.Grammar.{ReadsOnly, StuckOnly}
+use Rattle.dm_placement.specs.Square.{Square}
+use Rattle.dm_finder_frame.specs.Frame.{border, frame_modules}
+use Rattle.dm_append_label.specs.Pages.{PageView}
+use Rattle.dm_append_label.specs.Heads.{Place, place_of, place_at}
+use Rattle.dm_append_label.specs.Labels.{words_of}
+use Rattle.dm_append_label.specs.declared.fault.LabelFault.{LabelFault}
+use Rattle.dm_append_label.specs.declared.fault.LabelFault.TheVariants as faults
+use Rattle.dm_append_label.specs.declared.opening.Opened.{Opened}
+
+-- The finder patterns are within their limit, and these words are the symbol near the grid's.
+pub record IsReadAs (size : Size) (grid : Square) (words : List ℕ) : Type 0 where
+  pub patterns : 8 * border size grid ≤ frame_modules size
+  pub near : CorrectsSymbol size (words_of size grid) words
+
+-- the data words
+abbrev pub data_of : Size → List ℕ → List ℕ
+data_of size words = take (data_words size) words
+
+-- the grid is read as these words, which have this page
+pub record OpensAs (size : Size) (grid : Square) (page : PageView) (corrected wrong : ℕ) : Type 0 where
+  pub words : List ℕ
+  pub read : IsReadAs size grid words
+  pub begins : place_at (data_of size words) ≡ Ok (place_of page)
+  pub reads : ReadsOnly 5 (drop 4 (data_of size words)) page.bytes
+  pub changed : corrected ≡ differ (words_of size grid) words
+  pub border : wrong ≡ border size grid
+
+-- at a grid of a size
+abbrev pub Opens : {A : Type 0} → Size → Square → Result (Opened A) LabelFault → Type 0
+Opens size grid (Ok opened) = OpensAs size grid opened.page opened.corrected opened.wrong
+Opens size grid (Err (faults.Border wrong)) = (frame_modules size < 8 * border size grid) × (wrong ≡ border size grid)
+Opens size grid (Err (faults.Block block)) = (8 * border size grid ≤ frame_modules size) × IsFirstFaulty size (words_of size grid) block
+Opens size grid (Err faults.NotAppended) = (words : List ℕ) × IsReadAs size grid words × (place_at (data_of size words) ≡ Err faults.NotAppended)
+Opens size grid (Err (faults.Sequence word)) = (words : List ℕ) × IsReadAs size grid words × (place_at (data_of size words) ≡ Err (faults.Sequence word))
+Opens size grid (Err faults.FileId) = (words : List ℕ) × IsReadAs size grid words × (place_at (data_of size words) ≡ Err faults.FileId)
+Opens size grid (Err (faults.Content fault)) = (words : List ℕ) × IsReadAs size grid words × (place : Place) × (place_at (data_of size words) ≡ Ok place) × StuckOnly 5 (drop 4 (data_of size words)) fault
+Opens size grid (Err faults.Memory) = 8 * border size grid ≤ frame_modules size

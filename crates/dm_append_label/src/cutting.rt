@@ -1,0 +1,61 @@
+//! A document cut into the parts of its labels.
+
+ghost use Rattle.std.specs.Prelude.{◌≡◌, ◌≤◌, List, ℕ, length, IfOk, OnErr};
+ghost use Rattle.dm_append_label.specs.Parts.{AreEnds, until_two};
+
+use crate::head::HEAD_WORDS;
+use arrayvec::ArrayVec;
+use dm_check_blocks::Size;
+use dm_encodation::{Scheme, fit};
+
+/// The most labels of one document (ISO/IEC 16022, clause 5.6).
+pub const MOST_LABELS: usize = 16;
+
+/// The size has no room for the head of a label, some rest of the document has no prefix that fits but the empty one,
+/// or the document needs more than sixteen labels.
+#[derive(Clone, Copy, Debug, PartialEq, Eq)]
+pub struct TooLong;
+
+// Adds empty parts until there are two.
+fn pad(ends: &mut ArrayVec<usize, MOST_LABELS>, end: usize)
+    requires { length ends.old.items ≤ 16 }
+    ensures { ends.new.items ≡ until_two end ends.old.items }
+{
+    if ends.is_empty() {
+        ends.push(end);
+    }
+    if ends.len() == 1 {
+        ends.push(end);
+    }
+}
+
+/// The ends of the parts of a document, 2 to 16 of them: each part is the greatest prefix of what remains that a label
+/// of this size has room for, and empty parts follow until there are two. The last end is the document's length.
+pub fn cut(
+    document: &[u8],
+    size: Size,
+    scheme: Scheme,
+) -> Result<ArrayVec<usize, MOST_LABELS>, TooLong>
+    ensures ends { IfOk result (λ ends. AreEnds size scheme document.now ends.items) }
+    ensures none { OnErr result ((ends : List ℕ) → AreEnds size scheme document.now ends → ⊥) }
+{
+    let words = size.data_words();
+    if words < HEAD_WORDS {
+        return Err(TooLong);
+    }
+    let mut ends = ArrayVec::new();
+    let mut from = 0;
+    while from < document.len() {
+        let taken = fit(scheme, &document[from..], words - HEAD_WORDS);
+        if taken == 0 {
+            return Err(TooLong);
+        }
+        if ends.is_full() {
+            return Err(TooLong);
+        }
+        from += taken;
+        ends.push(from);
+    }
+    pad(&mut ends, from);
+    Ok(ends)
+}

@@ -1,0 +1,68 @@
+//! From a grid to a page.
+
+ghost use Rattle.std.specs.Prelude.{◌≡◌, ◌≤◌, length, IfOk};
+ghost use Rattle.dm_check_blocks.specs.declared.size.Size.{Size};
+ghost use Rattle.dm_check_blocks.specs.Sizes.{side};
+ghost use Rattle.dm_append_label.specs.Opening.{Opens};
+
+use crate::fault::LabelFault;
+use crate::head::head_at;
+use crate::page::Page;
+use dm_corrector::{BlockFault, correct_symbol};
+use dm_encodation::{DecodeFault, decode};
+use dm_finder_frame::{FrameFault, Framed, Grid, unframe};
+use dm_placement::lift;
+use std::alloc::{Allocator, Global};
+
+/// What a label was opened as.
+#[derive(Drop)]
+pub struct Opened<A: Allocator = Global> {
+    /// Its page.
+    pub page: Page<A>,
+    /// How many of its words were wrong, and were put right.
+    pub corrected: u16,
+    /// How many modules of its finder patterns are wrong.
+    pub wrong: u16,
+}
+
+/// Opens a label, from any grid: corrects what is within the limit of each block, and reads the page behind the head.
+/// The first fault that applies is answered, in the order of `LabelFault`. A grid that is near a label, so that in each
+/// block no more words differ than are put right, opens as that label's page or not at all, and it opens where its
+/// finder patterns are within their limit (ISO/IEC 16022, clauses 5.6 and 5.7, Annexes E and F).
+pub fn open_label<A: Allocator + Copy>(alloc: A, grid: &Grid<A>) -> Result<Opened<A>, LabelFault>
+    ensures opens { (size : Size) → side size ≡ grid.now.side → Opens size grid.now result }
+    ensures short { IfOk result (λ opened. length opened.page.bytes ≤ 2600) }
+{
+    let Framed {
+        size,
+        matrix,
+        wrong,
+    } = match unframe(alloc, grid) {
+        Ok(framed) => framed,
+        Err(FrameFault::Border { wrong }) => return Err(LabelFault::Border { wrong }),
+        Err(FrameFault::Memory) => return Err(LabelFault::Memory),
+    };
+    let Ok(mut words) = lift(alloc, size, &matrix) else {
+        return Err(LabelFault::Memory);
+    };
+    let words = words.as_mut_slice();
+    let corrected = match correct_symbol(size, words) {
+        Ok(corrected) => corrected,
+        Err(BlockFault { block }) => return Err(LabelFault::Block { block }),
+    };
+    let data = &words[..size.data_words()];
+    let head = head_at(data)?;
+    let bytes = match decode(alloc, data, 4) {
+        Ok(bytes) => bytes,
+        Err(DecodeFault::Memory) => return Err(LabelFault::Memory),
+        Err(fault) => return Err(LabelFault::Content(fault)),
+    };
+    let Some(page) = Page::new(head.id, head.m, head.n, bytes) else {
+        unreachable!()
+    };
+    Ok(Opened {
+        page,
+        corrected,
+        wrong,
+    })
+}

@@ -1,7 +1,0 @@
-use Rattle.std.proofs.Common.{◌≡◌, ◌+◌, get_or, take}
-use Rattle.dm_gf256.specs.Elements.{numbers}
-use Rattle.dm_corrector.specs.Polynomials.{combination}
-use Rattle.dm_corrector.proofs.massey.equation.Given as goal
-
-abbrev pub invariant-loop-j : goal.invariant-loop-j
-invariant-loop-j l = l.sum.0 ≡ combination (numbers (take l.j l.polynomial)) (λ m. get_or (numbers l.syndromes) (l.from + m) 0)

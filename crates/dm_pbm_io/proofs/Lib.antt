@@ -1,0 +1,11 @@
+pub mod Walking
+pub mod Stage
+pub mod Rows
+pub mod Sizes
+pub mod Written
+pub mod RoundTrip
+pub mod OneImage
+pub mod NotRefused
+pub mod Insides
+pub mod Shapes
+pub mod Pixels

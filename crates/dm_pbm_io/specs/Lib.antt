@@ -1,0 +1,13 @@
+pub mod Comments
+pub mod Grid
+pub mod Header
+pub mod HeaderFaults
+pub mod Image
+pub mod Laws
+pub mod Raster
+pub mod RasterFaults
+pub mod Shown
+pub mod Taking
+pub mod Walk
+pub mod Writing
+pub mod ShapeFaults

@@ -1,0 +1,24 @@
+//! The laws of reading and writing.
+
+ghost use Rattle.dm_pbm_io.specs.Image.{Picture};
+ghost use Rattle.dm_pbm_io.specs.Laws.{HasOneImage, IsNotRefused, IsReadable, IsReadBack, IsWrittenReadable};
+
+/// What is written for an image that can be read begins with a spelling of that image.
+pub fn written_is_readable()
+    ensures { IsWrittenReadable }
+{}
+
+/// No image's spelling begins another's, and a spelling spells one image.
+pub fn one_image()
+    ensures { HasOneImage }
+{}
+
+/// What begins with an image's spelling is not refused for its bytes.
+pub fn not_refused()
+    ensures { IsNotRefused }
+{}
+
+/// What is written for an image is read as that image.
+pub fn read_back()
+    ensures { (p : Picture) → IsReadable p → IsReadBack p }
+{}
