@@ -1,2 +1,3 @@
+pub mod Draw
 pub mod Lines
 pub mod Words

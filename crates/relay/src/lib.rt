@@ -6,12 +6,14 @@
 #![tactic(auto)]
 
 mod document;
+mod draw;
 mod output;
 mod program;
 mod refusal;
 mod symbol;
 mod words;
 
+pub use draw::draw_command;
 pub use output::{Output, WriteFault};
 pub use program::run;
 pub use refusal::Refusal;

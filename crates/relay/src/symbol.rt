@@ -1,6 +1,6 @@
 //! The symbol that bears the document on the standard input.
 
-ghost use Rattle.std.specs.Prelude.{◌≡◌, IfOk, IfErr, IfSome};
+ghost use Rattle.std.specs.Prelude.{◌≡◌, length, IfOk, IfErr, IfSome};
 ghost use Rattle.dm_check_blocks.specs.Sizes as sizes;
 ghost use Rattle.relay.specs.Words.{BearsDocument, RefusesDocument, RefusesWords, document_of};
 
@@ -26,6 +26,7 @@ fn symbol_of<A: Allocator + Copy>(
     scheme: Scheme,
 ) -> Result<Symbol<A>, Refusal>
     ensures size { IfOk result (λ symbol. symbol.size ≡ size) }
+    ensures count { IfOk result (λ symbol. length symbol.words.items ≡ sizes.all_words symbol.size) }
     ensures symbol { IfOk result (λ symbol. BearsDocument (sizes.side size) scheme document.now symbol.size symbol.words.items) }
     ensures refused { IfErr result (RefusesDocument size scheme document.now) }
 {
@@ -47,6 +48,7 @@ pub(crate) fn read_symbol<A: Allocator + Copy, R: Read>(
     scheme: Scheme,
 ) -> Result<Symbol<A>, Refusal>
     ensures size { IfOk result (λ symbol. sizes.side symbol.size ≡ side) }
+    ensures count { IfOk result (λ symbol. length symbol.words.items ≡ sizes.all_words symbol.size) }
     ensures symbol { IfOk result (λ symbol. IfSome (R.remaining reader.old) (λ input. BearsDocument side scheme (document_of input) symbol.size symbol.words.items)) }
     ensures refused { IfErr result (RefusesWords side scheme (R.remaining reader.old)) }
 {
