@@ -1,4 +1,5 @@
 use crate::{Size, block_word, checks_of, complete};
+use std::alloc::Global;
 use std::test::Fail;
 
 #[test]
@@ -39,6 +40,14 @@ fn the_row_of_side_52(rt: HostRuntime) {
     assert_eq!(rt; block_word(size, 1, 102), 205);
 }
 
+// The words of the symbol of a message that is as long as the size asks.
+fn completed(alloc: Global, size: Size, message: &[u8]) -> Result<Vec<u8>, Fail> {
+    if message.len() != size.data_words() {
+        return Err("the message isn't as long as the size asks".into());
+    }
+    Ok(complete(alloc, size, message)?)
+}
+
 // The standard's worked example: the digits 123456 in a symbol of side 10.
 #[test]
 fn completes_the_worked_example(rt: HostRuntime) -> Result<(), Fail> {
@@ -46,7 +55,7 @@ fn completes_the_worked_example(rt: HostRuntime) -> Result<(), Fail> {
     let mut checks = [0; 5];
     checks_of(&message, &mut checks);
     assert_eq!(rt; checks, [114, 25, 5, 88, 102]);
-    let words = complete(rt.alloc(), Size::Side10, &message)?;
+    let words = completed(rt.alloc(), Size::Side10, &message)?;
     assert_eq!(rt;
         words.as_slice(),
         [142, 164, 186, 114, 25, 5, 88, 102].as_slice()
@@ -59,7 +68,7 @@ fn completes_the_worked_example(rt: HostRuntime) -> Result<(), Fail> {
 fn the_last_data_word_changes_its_own_block(rt: HostRuntime) -> Result<(), Fail> {
     let mut message = [0u8; 204];
     message[203] = 1;
-    let words = complete(rt.alloc(), Size::Side52, &message)?;
+    let words = completed(rt.alloc(), Size::Side52, &message)?;
     assert_eq!(rt; words.len(), 288);
     for (at, word) in words.iter().enumerate() {
         let is_of_block_1 = at == 203 || at > 203 && at % 2 == 1;

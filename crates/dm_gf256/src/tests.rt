@@ -1,6 +1,5 @@
 use crate::by_bits::product_by_bits;
 use crate::element::Gf;
-use crate::laws;
 use crate::multiple::add_multiple;
 
 #[test]
@@ -23,7 +22,6 @@ fn the_generator_of_five_check_words(rt: HostRuntime) {
         Gf::eval(&generator, Gf(1)),
         Gf(1 ^ 62 ^ 111 ^ 15 ^ 48 ^ 228)
     );
-    laws::block_words_apart(&[], &[], 5);
 }
 
 #[test]

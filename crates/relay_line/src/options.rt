@@ -1,6 +1,6 @@
 //! The commands and their options, as the parser knows them.
 
-use clap::{Arg, Command, value_parser};
+use clap::{Arg, ArgAction, Command, value_parser};
 use dm_encodation::Scheme;
 use std::alloc::{AllocError, Global};
 
@@ -43,6 +43,21 @@ fn words<'a>(alloc: Global) -> Result<Command<'a>, AllocError> {
         .arg(scheme(alloc))
 }
 
+fn plain<'a>(alloc: Global) -> Arg<'a> {
+    Arg::new(alloc, "plain")
+        .long("plain")
+        .help("draws in PBM's plain form, P1, in place of P4")
+        .action(ArgAction::SetTrue)
+}
+
+fn draw<'a>(alloc: Global) -> Result<Command<'a>, AllocError> {
+    Command::new(alloc, "draw")
+        .about("Reads a document and draws its symbol as a PBM image, one pixel per module")
+        .arg(side(alloc))?
+        .arg(scheme(alloc))?
+        .arg(plain(alloc))
+}
+
 /// The whole program.
 pub fn relay<'a>(alloc: Global) -> Result<Command<'a>, AllocError> {
     Command::new(alloc, "relay")
@@ -50,5 +65,6 @@ pub fn relay<'a>(alloc: Global) -> Result<Command<'a>, AllocError> {
         .about("Relays documents printed as Data Matrix labels")
         .after_help("Without a command, relay does `words` with its defaults.")
         .disable_help_subcommand(true)
-        .subcommand(words(alloc)?)
+        .subcommand(words(alloc)?)?
+        .subcommand(draw(alloc)?)
 }

@@ -1,6 +1,6 @@
 //! From words to a command.
 
-ghost use Rattle.std.specs.Prelude.{IfOk, IfErr, IfSome};
+ghost use Rattle.std.specs.Prelude.{◌≤◌, IfOk, IfErr, IfSome};
 ghost use Rattle.relay_line.specs.Line.{HasNumbersInRange, HasStatus};
 
 use crate::command::Command;
@@ -30,15 +30,30 @@ fn fault_of(alloc: Global, error: &Error) -> LineFault
     }
 }
 
-// The options of `words`. The parser has refused all that is not in range, so no option is missing here.
-fn words_of(matches: &ArgMatches<'_>) -> Option<Command>
-    ensures { IfSome result HasNumbersInRange }
+// The side and the encodation. The parser has refused all that is not in range, so neither is missing here.
+fn symbol_of(matches: &ArgMatches<'_>) -> Option<(u16, Scheme)>
+    ensures { IfSome result (λ symbol. (10 ≤ symbol.0) × (symbol.0 ≤ 132)) }
 {
     let side = matches
         .get_one::<u16>("side")
         .filter(|side| (LEAST_SIDE..=GREATEST_SIDE).contains(side))?;
     let scheme = matches.get_str("scheme").and_then(|name| scheme_of(name))?;
-    Some(Command::Words { side, scheme })
+    Some((side, scheme))
+}
+
+// The command of a name, with its options.
+fn command_of(name: &str, options: &ArgMatches<'_>) -> Option<Command>
+    ensures { IfSome result HasNumbersInRange }
+{
+    let (side, scheme) = symbol_of(options)?;
+    match name {
+        "draw" => Some(Command::Draw {
+            side,
+            scheme,
+            plain: options.get_flag("plain"),
+        }),
+        _ => Some(Command::Words { side, scheme }),
+    }
 }
 
 /// Reads the program's words, the first of which is its name, as the system hands them over. Without a
@@ -52,7 +67,7 @@ pub fn command_line<'a, S: AsStr>(alloc: Global, words: &'a [S]) -> Result<Comma
         Err(error) => return Err(fault_of(alloc, &error)),
     };
     let command = match matches.subcommand() {
-        Some((_, options)) => words_of(options),
+        Some((name, options)) => command_of(name, options),
         None => Some(Command::Words {
             side: LEAST_SIDE,
             scheme: Scheme::Ascii,

@@ -12,6 +12,13 @@ const DEFAULT: Command = Command::Words {
 fn takes_a_line(rt: HostRuntime) -> Result<(), Fail> {
     assert_eq!(rt; command_line(rt.alloc(), &["relay"])?, DEFAULT);
     assert_eq!(rt; command_line(rt.alloc(), &["relay", "words"])?, DEFAULT);
+    let drawn = Command::Draw {
+        side: 18,
+        scheme: Scheme::Text,
+        plain: true,
+    };
+    let line = ["relay", "draw", "--plain", "--scheme", "text", "--side", "18"];
+    assert_eq!(rt; command_line(rt.alloc(), &line)?, drawn);
     for side in ["--side=12", "--side=012", "--side=+12"] {
         let line = ["relay", "words", "--scheme", "ascii", side];
         let wanted = Command::Words {
@@ -49,6 +56,8 @@ fn refuses_a_line(rt: HostRuntime) -> Result<(), Fail> {
         ["relay", "words", "--side", "12", "--side", "12"].as_slice(),
         ["relay", "words", "--scheme", "edifact"].as_slice(),
         ["relay", "words", "--scheme", "ASCII"].as_slice(),
+        ["relay", "words", "--plain"].as_slice(),
+        ["relay", "draw", "--plain=1"].as_slice(),
     ];
     for line in lines {
         let (text, status) = refused(line, rt.alloc()).ok_or("the line was taken")?;
