@@ -7,6 +7,7 @@
 
 mod document;
 mod draw;
+mod errors;
 mod output;
 mod program;
 mod refusal;

@@ -1,5 +1,7 @@
 //! The program over its own streams.
 
+use crate::draw::draw_command;
+use crate::errors::ErrorWriter;
 use crate::output::Output;
 use crate::words::words_command;
 use relay_line::{Command, LineFault, command_line};
@@ -17,6 +19,19 @@ fn done<R: AllocGlobal + Input + Print + Eprint>(rt: &R, command: Command) -> u8
             &mut output,
             side,
             scheme,
+        ),
+        Command::Draw {
+            side,
+            scheme,
+            plain,
+        } => draw_command(
+            rt.alloc(),
+            &mut reader,
+            &mut output,
+            &mut Output::new(ErrorWriter::new(rt)),
+            side,
+            scheme,
+            plain,
         ),
     }
 }
