@@ -2,7 +2,11 @@
 //! an allocator that refuses each growth in turn. The library holds the fakes; its tests are the crate's purpose.
 #![tactic(auto)]
 
+#[cfg(test)]
+mod draw;
 mod failing;
+#[cfg(test)]
+mod refused;
 #[cfg(test)]
 mod words;
 
