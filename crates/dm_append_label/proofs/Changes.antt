@@ -1,5 +1,5 @@
 -- Words counted that differ, and modules turned over, one after another.
-use Rattle.std.proofs.Common.{◌≡◌, ◌≢◌, ℕ, zero, suc, ◌+◌, ◌<◌, ◌≤◌, Bool, true, false, cond, eqb, eq-eqb, eqb-true, refl, sym, ap, subst, ◌∙◌, arith, List, [], ◌∷◌, length, get_or, take, add-one, add-zero, ⊎_elim}
+use Rattle.std.proofs.Common.{◌≡◌, ◌≢◌, ℕ, zero, suc, ◌+◌, ◌<◌, ◌≤◌, true, false, cond, eqb, eq-eqb, eqb-true, refl, sym, ap, subst, ◌∙◌, arith, List, [], ◌∷◌, length, get_or, take, add-one, add-zero, ⊎_elim}
 use Rattle.std.specs.Prelude.{◌↔◌}
 use Rattle.std.proofs.lemmas.Bool.{cases_Bool}
 use Rattle.std.proofs.lemmas.List.{take_all}

@@ -1,5 +1,5 @@
 -- Cutting from the left finds the one list of parts.
-use Rattle.std.proofs.Common.{◌≡◌, ℕ, zero, suc, ◌+◌, ◌-◌, ◌<◌, ◌≤◌, List, [], ◌∷◌, ◌++◌, length, take, drop, refl, sym, ap, subst, ◌∙◌, append_assoc, length-append, length-drop, arith}
+use Rattle.std.proofs.Common.{◌≡◌, ℕ, ◌+◌, ◌-◌, ◌<◌, List, [], ◌∷◌, ◌++◌, length, take, drop, refl, sym, ap, subst, ◌∙◌, append_assoc, length-append, length-drop, arith}
 use Rattle.std.proofs.lemmas.List.{append-nil, take_all}
 use Rattle.dm_encodation.specs.declared.scheme.Scheme.{Scheme}
 use Rattle.dm_append_label.specs.Parts.{Parts}

@@ -1,4 +1,5 @@
 pub mod Changes
 pub mod CutsSoFar
+pub mod Near
 pub mod Readings
 pub mod Sealed

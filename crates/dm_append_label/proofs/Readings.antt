@@ -1,16 +1,14 @@
 -- What a grid is read as, from what the layers below answer.
-use Rattle.std.proofs.Common.{◌≡◌, ◌≢◌, ℕ, ◌*◌, ◌≤◌, List, Result, Ok, Err, take, drop, sym, ap, subst, ◌∙◌}
+use Rattle.std.proofs.Common.{◌≡◌, ℕ, ◌*◌, ◌≤◌, List, Result, Err, take, sym, ap, subst, ◌∙◌}
 use Rattle.std.specs.Prelude.{IsErrAnd}
 use Rattle.std.proofs.lemmas.Result.{err_from_is_err_and}
 use Rattle.dm_check_blocks.specs.declared.size.Size.{Size}
 use Rattle.dm_check_blocks.specs.Sizes.{data_words}
 use Rattle.dm_corrector.specs.Symbols.{CorrectsSymbol}
-use Rattle.dm_encodation.specs.Grammar.{StuckOnly}
-use Rattle.dm_encodation.specs.declared.fault.DecodeFault.{DecodeFault}
 use Rattle.dm_placement.specs.Square.{Square}
 use Rattle.dm_placement.specs.Placement.{lifted}
 use Rattle.dm_finder_frame.specs.Frame.{border, frame_modules, unframed}
-use Rattle.dm_append_label.specs.Heads.{Place, place_at}
+use Rattle.dm_append_label.specs.Heads.{place_at}
 use Rattle.dm_append_label.specs.HeadFaults.{IsHeadFault}
 use Rattle.dm_append_label.specs.Opening.{IsReadAs, Opens, data_of}
 use Rattle.dm_append_label.specs.declared.fault.LabelFault.{LabelFault}
@@ -19,10 +17,14 @@ use Rattle.dm_append_label.specs.declared.opening.Opened.{Opened}
 
 -- the corrected words of a grid within its limit are what it is read as
 pub read_as : (s t : Size) (grid matrix : Square) (items old words : List ℕ) → 8 * border s grid ≤ frame_modules s → t ≡ s → matrix ≡ unframed s grid → items ≡ lifted t matrix → old ≡ items →
-    CorrectsSymbol t old words → IsReadAs s grid words
-read_as s t grid matrix items old words within e m l o near =
+    CorrectsSymbol t old words → ((others : List ℕ) → CorrectsSymbol t old others → others ≡ words) → IsReadAs s grid words
+read_as s t grid matrix items old words within e m l o near only =
     let is : old ≡ lifted s (unframed s grid) = o ∙ l ∙ ap (λ (x : Size). lifted x matrix) e ∙ ap (lifted s) m in
-    record { patterns = within; near = subst (λ (x : List ℕ). CorrectsSymbol s x words) is (subst (λ (x : Size). CorrectsSymbol x old words) e near) }
+    record {
+      patterns = within;
+      near = subst (λ (x : List ℕ). CorrectsSymbol s x words) is (subst (λ (x : Size). CorrectsSymbol x old words) e near);
+      only = λ others h. only others (subst (λ (x : Size). CorrectsSymbol x old others) (sym e) (subst (λ (x : List ℕ). CorrectsSymbol s x others) (sym is) h));
+    }
 
 -- its data words
 pub data_words_of : (s t : Size) (n : ℕ) (words : List ℕ) → t ≡ s → n ≡ data_words t → take n words ≡ data_of s words

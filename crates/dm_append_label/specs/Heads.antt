@@ -1,7 +1,7 @@
 -- The head of a label: Structured Append (ISO/IEC 16022, clause 5.6). Its first four data words are 233, the sequence
 -- indicator, with m - 1 in its high four bits and 17 - n in its low four for label m of n, and the two words of the
 -- file identification.
-use Rattle.std.specs.Prelude.{ℕ, ◌+◌, ◌-◌, ◌*◌, ◌/◌, ◌%◌, ◌<◌, ◌≤◌, List, [], ◌∷◌, Result, Ok, Err, ◌||◌, nat_lt, ◌==◌, if◌then◌else◌}
+use Rattle.std.specs.Prelude.{ℕ, ◌+◌, ◌-◌, ◌*◌, ◌/◌, ◌%◌, ◌<◌, ◌≤◌, List, ◌∷◌, Result, Ok, Err, ◌||◌, nat_lt, ◌==◌, if◌then◌else◌}
 use Rattle.dm_append_label.specs.Pages.{PageView, id_words}
 use Rattle.dm_append_label.specs.declared.fault.LabelFault.{LabelFault}
 use Rattle.dm_append_label.specs.declared.fault.LabelFault.TheVariants as faults

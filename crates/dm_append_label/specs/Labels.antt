@@ -1,9 +1,9 @@
 -- Labels: which grid carries a page, and which grid is near another. The words of a grid are those of its mapping
 -- matrix (ISO/IEC 16022, Annex F), so modules of the finder patterns and free cells don't count.
-use Rattle.std.specs.Prelude.{◌≡◌, ℕ, ◌+◌, ◌-◌, ◌<◌, ◌≤◌, ◌⊎◌, List, [], ◌∷◌, take, drop}
+use Rattle.std.specs.Prelude.{◌≡◌, ℕ, ◌-◌, ◌<◌, ◌≤◌, ◌⊎◌, List, [], ◌∷◌, take, drop}
 use Rattle.dm_gf256.specs.Polynomial.{differ}
 use Rattle.dm_check_blocks.specs.declared.size.Size.{Size}
-use Rattle.dm_check_blocks.specs.Sizes.{side, data_words, blocks, limit}
+use Rattle.dm_check_blocks.specs.Sizes.{data_words, blocks, limit}
 use Rattle.dm_check_blocks.specs.Blocks.{block_of, IsSymbol, Completes}
 use Rattle.dm_encodation.specs.declared.scheme.Scheme.{Scheme}
 use Rattle.dm_encodation.specs.Written.{filled, need_of}
@@ -12,7 +12,7 @@ use Rattle.dm_placement.specs.Square.{Square, with_turned}
 use Rattle.dm_placement.specs.Placement.{placed, lifted}
 use Rattle.dm_finder_frame.specs.Frame.{framed, unframed}
 use Rattle.dm_append_label.specs.Pages.{PageView}
-use Rattle.dm_append_label.specs.Heads.{head, place_of, place_at, IsPlace}
+use Rattle.dm_append_label.specs.Heads.{head, place_of, IsPlace}
 
 -- the words that a grid of this size bears
 abbrev pub words_of : Size → Square → List ℕ

@@ -1,9 +1,9 @@
 -- What a grid opens as. Each refusal is the first, in this order, that applies: the finder patterns, the blocks, the
 -- head, and the text behind it.
-use Rattle.std.specs.Prelude.{◌≡◌, ◌≢◌, ℕ, ◌+◌, ◌*◌, ◌<◌, ◌≤◌, List, take, drop, Result, Ok, Err}
+use Rattle.std.specs.Prelude.{◌≡◌, ℕ, ◌*◌, ◌<◌, ◌≤◌, List, take, drop, Result, Ok, Err}
 use Rattle.dm_gf256.specs.Polynomial.{differ}
 use Rattle.dm_check_blocks.specs.declared.size.Size.{Size}
-use Rattle.dm_check_blocks.specs.Sizes.{side, data_words}
+use Rattle.dm_check_blocks.specs.Sizes.{data_words}
 use Rattle.dm_corrector.specs.Symbols.{CorrectsSymbol, IsFirstFaulty}
 use Rattle.dm_encodation.specs.Grammar.{ReadsOnly, StuckOnly}
 use Rattle.dm_placement.specs.Square.{Square}
@@ -15,10 +15,11 @@ use Rattle.dm_append_label.specs.declared.fault.LabelFault.{LabelFault}
 use Rattle.dm_append_label.specs.declared.fault.LabelFault.TheVariants as faults
 use Rattle.dm_append_label.specs.declared.opening.Opened.{Opened}
 
--- The finder patterns are within their limit, and these words are the symbol near the grid's.
+-- The finder patterns are within their limit, and these words are the one symbol near the grid's.
 pub record IsReadAs (size : Size) (grid : Square) (words : List ℕ) : Type 0 where
   pub patterns : 8 * border size grid ≤ frame_modules size
   pub near : CorrectsSymbol size (words_of size grid) words
+  pub only : (others : List ℕ) → CorrectsSymbol size (words_of size grid) others → others ≡ words
 
 -- the data words
 abbrev pub data_of : Size → List ℕ → List ℕ
@@ -43,3 +44,14 @@ Opens size grid (Err (faults.Sequence word)) = (words : List ℕ) × IsReadAs si
 Opens size grid (Err faults.FileId) = (words : List ℕ) × IsReadAs size grid words × (place_at (data_of size words) ≡ Err faults.FileId)
 Opens size grid (Err (faults.Content fault)) = (words : List ℕ) × IsReadAs size grid words × (place : Place) × (place_at (data_of size words) ≡ Ok place) × StuckOnly 5 (drop 4 (data_of size words)) fault
 Opens size grid (Err faults.Memory) = 8 * border size grid ≤ frame_modules size
+
+-- A grid near the label of a page opens as that page, or its finder patterns or want of memory refuse it.
+abbrev pub OpensNear : {A : Type 0} → PageView → Result (Opened A) LabelFault → Type 0
+OpensNear page (Ok opened) = opened.page ≡ page
+OpensNear page (Err (faults.Border wrong)) = Unit {0}
+OpensNear page (Err (faults.Block block)) = ⊥
+OpensNear page (Err faults.NotAppended) = ⊥
+OpensNear page (Err (faults.Sequence word)) = ⊥
+OpensNear page (Err faults.FileId) = ⊥
+OpensNear page (Err (faults.Content fault)) = ⊥
+OpensNear page (Err faults.Memory) = Unit {0}

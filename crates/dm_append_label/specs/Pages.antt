@@ -1,5 +1,5 @@
 -- File identifications (ISO/IEC 16022, clause 5.6.2; their numbers are this project's own), and pages.
-use Rattle.std.specs.Prelude.{ℕ, ◌+◌, ◌/◌, ◌%◌, ◌<◌, ◌≤◌, List, [], ◌∷◌}
+use Rattle.std.specs.Prelude.{ℕ, ◌+◌, ◌/◌, ◌%◌, ◌≤◌, List, [], ◌∷◌}
 
 -- the two words of an identification number
 abbrev pub id_words : ℕ → List ℕ

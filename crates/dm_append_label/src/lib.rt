@@ -18,6 +18,8 @@ mod nearness;
 mod opening;
 mod page;
 mod sealing;
+#[cfg(test)]
+mod tests;
 
 pub use cutting::{MOST_LABELS, TooLong, cut};
 pub use fault::{LabelFault, SealFault};

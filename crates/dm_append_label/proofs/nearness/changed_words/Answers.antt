@@ -1,7 +1,6 @@
-use Rattle.std.proofs.Common.{◌≡◌, ◌+◌, ◌/◌, ◌≤◌, ◌<◌, refl, sym, ap, ◌∙◌, arith, take}
+use Rattle.std.proofs.Common.{◌≡◌, ◌+◌, ◌/◌, refl, sym, ap, ◌∙◌, arith}
 use Rattle.dm_gf256.specs.Polynomial.{differ}
-use Rattle.dm_check_blocks.specs.Sizes.{data_words, check_words, blocks, block_length}
-use Rattle.dm_check_blocks.specs.Blocks.{block_of}
+use Rattle.dm_check_blocks.specs.Sizes.{data_words, check_words, block_length}
 use Rattle.dm_append_label.proofs.Changes.{counted_more, differs, agrees, all_counted}
 use Rattle.dm_append_label.proofs.nearness.changed_words.Goals as goal
 use Rattle.dm_append_label.proofs.nearness.changed_words.Goals.{then-one-at, else-one-at}

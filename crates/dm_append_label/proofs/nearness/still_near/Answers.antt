@@ -1,5 +1,4 @@
-use Rattle.std.proofs.Common.{◌≡◌, ◌∙◌, sym, ap}
-use Rattle.dm_check_blocks.specs.declared.size.Size.{Size}
+use Rattle.std.proofs.Common.{◌∙◌, sym, ap}
 use Rattle.dm_placement.specs.Square.{Square}
 use Rattle.dm_append_label.specs.Labels.{flipped, words_of}
 use Rattle.dm_append_label.proofs.Changes.{near_from, side-flipped}

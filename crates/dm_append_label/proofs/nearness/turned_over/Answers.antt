@@ -1,4 +1,4 @@
-use Rattle.std.proofs.Common.{◌≡◌, ℕ, ◌+◌, ◌∙◌, sym, ap, add-one, take, slice_index_or}
+use Rattle.std.proofs.Common.{ℕ, ◌∙◌, sym, ap, add-one, take, slice_index_or}
 use Rattle.dm_placement.specs.Square.{Square, with_turned}
 use Rattle.dm_append_label.specs.Labels.{flipped}
 use Rattle.dm_append_label.proofs.Changes.{flipped_more}

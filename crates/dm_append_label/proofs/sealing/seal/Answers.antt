@@ -1,4 +1,4 @@
-use Rattle.std.proofs.Common.{◌≡◌, ◌+◌, ◌∙◌, ℕ, List, ap, sym, subst, length, drop, rules}
+use Rattle.std.proofs.Common.{◌+◌, ℕ, List, ap, subst, length, drop, rules}
 use Rattle.dm_encodation.specs.Grammar.{ReadsOnly}
 use Rattle.dm_append_label.proofs.Sealed.{carries, same_place}
 use Rattle.dm_append_label.proofs.sealing.seal.Goals as goal
