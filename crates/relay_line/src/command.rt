@@ -6,7 +6,14 @@ use dm_encodation::Scheme;
 #[derive(Clone, Copy, Debug, PartialEq, Eq)]
 pub enum Command {
     /// Prints the words of a symbol. `side` is a number from 10 to 132, which need not be one of the sizes.
-    Words { side: u16, scheme: Scheme },
+    Words {
+        side: u16,
+        scheme: Scheme,
+    },
     /// Draws a symbol, in PBM's plain form or packed. `side` is as for `Words`.
-    Draw { side: u16, scheme: Scheme, plain: bool },
+    Draw {
+        side: u16,
+        scheme: Scheme,
+        plain: bool,
+    },
 }

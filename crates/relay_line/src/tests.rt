@@ -17,7 +17,9 @@ fn takes_a_line(rt: HostRuntime) -> Result<(), Fail> {
         scheme: Scheme::Text,
         plain: true,
     };
-    let line = ["relay", "draw", "--plain", "--scheme", "text", "--side", "18"];
+    let line = [
+        "relay", "draw", "--plain", "--scheme", "text", "--side", "18",
+    ];
     assert_eq!(rt; command_line(rt.alloc(), &line)?, drawn);
     for side in ["--side=12", "--side=012", "--side=+12"] {
         let line = ["relay", "words", "--scheme", "ascii", side];

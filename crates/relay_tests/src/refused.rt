@@ -119,7 +119,10 @@ fn the_way_from_an_image_is_refused_by_name(rt: HostRuntime) -> Result<(), Fail>
             assert_eq!(rt; document.as_slice(), b"123456".as_slice());
             return Ok(());
         }
-        assert!(rt; document.is_err_and(|fault| fault == Fault::Memory), "{passes}");
+        assert!(rt;
+            document.is_err_and(|fault| fault == Fault::Memory),
+            "{passes}"
+        );
     }
     Err("growths without end".into())
 }
@@ -163,7 +166,10 @@ fn labels_are_refused_by_name(rt: HostRuntime) -> Result<(), Fail> {
             assert_eq!(rt; bytes.as_slice(), b"12".as_slice());
             return Ok(());
         }
-        assert!(rt; bytes.is_err_and(|fault| fault == Fault::Memory), "{passes}");
+        assert!(rt;
+            bytes.is_err_and(|fault| fault == Fault::Memory),
+            "{passes}"
+        );
     }
     Err("growths without end".into())
 }
@@ -177,10 +183,12 @@ fn some_faults_ask_for_no_memory(rt: HostRuntime) -> Result<(), Fail> {
     let grid = Grid::of_modules(&memory, 12, &light)?;
     assert!(rt; matches!(open_label(&memory, &grid), Err(LabelFault::Border { .. })));
     let page = Page::new(id, 1, 2, Vec::new(&memory)).ok_or("no page")?;
-    assert!(rt; matches!(
-        seal(&memory, &page, Size::Side10, Scheme::Ascii),
-        Err(SealFault::TooLong)
-    ));
+    assert!(rt;
+        matches!(
+            seal(&memory, &page, Size::Side10, Scheme::Ascii),
+            Err(SealFault::TooLong)
+        )
+    );
     assert!(rt; !memory.is_spent());
     Ok(())
 }
