@@ -11,6 +11,7 @@ use Rattle.dm_finder_frame.specs.Frame.{border, frame_modules}
 use Rattle.dm_append_label.specs.Pages.{PageView}
 use Rattle.dm_append_label.specs.Heads.{Place, place_of, place_at}
 use Rattle.dm_append_label.specs.Labels.{words_of}
+use Rattle.dm_append_label.specs.declared.correcting.Corrected.{Corrected}
 use Rattle.dm_append_label.specs.declared.fault.LabelFault.{LabelFault}
 use Rattle.dm_append_label.specs.declared.fault.LabelFault.TheVariants as faults
 use Rattle.dm_append_label.specs.declared.opening.Opened.{Opened}
@@ -20,6 +21,19 @@ pub record IsReadAs (size : Size) (grid : Square) (words : List ℕ) : Type 0 wh
   pub patterns : 8 * border size grid ≤ frame_modules size
   pub near : CorrectsSymbol size (words_of size grid) words
   pub only : (others : List ℕ) → CorrectsSymbol size (words_of size grid) others → others ≡ words
+
+-- What the words of a grid are corrected to. Each refusal is the first, in this order, that applies: the finder
+-- patterns, and the blocks.
+abbrev pub CorrectsGrid : {A : Type 0} → Size → Square → Result (Corrected A) LabelFault → Type 0
+CorrectsGrid size grid (Ok symbol) = (symbol.size ≡ size) × IsReadAs size grid symbol.words.items
+    × (symbol.corrected ≡ differ (words_of size grid) symbol.words.items) × (symbol.wrong ≡ border size grid)
+CorrectsGrid size grid (Err (faults.Border wrong)) = (frame_modules size < 8 * border size grid) × (wrong ≡ border size grid)
+CorrectsGrid size grid (Err (faults.Block block)) = (8 * border size grid ≤ frame_modules size) × IsFirstFaulty size (words_of size grid) block
+CorrectsGrid size grid (Err faults.NotAppended) = ⊥
+CorrectsGrid size grid (Err (faults.Sequence word)) = ⊥
+CorrectsGrid size grid (Err faults.FileId) = ⊥
+CorrectsGrid size grid (Err (faults.Content fault)) = ⊥
+CorrectsGrid size grid (Err faults.Memory) = 8 * border size grid ≤ frame_modules size
 
 -- the data words
 abbrev pub data_of : Size → List ℕ → List ℕ

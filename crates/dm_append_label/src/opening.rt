@@ -8,16 +8,15 @@ ghost use Rattle.dm_append_label.specs.Pages.{PageView};
 ghost use Rattle.dm_append_label.specs.Labels.{Carries, IsNear, grid_of, words_of};
 ghost use Rattle.dm_append_label.specs.Opening.{Opens, OpensNear};
 
+use crate::correcting::{Corrected, corrected_words};
 use crate::fault::LabelFault;
 use crate::head::head_at;
 use crate::page::Page;
 use dm_check_blocks::Size;
-use dm_corrector::{BlockFault, correct_symbol};
 use dm_encodation::{DecodeFault, decode};
+use dm_finder_frame::Grid;
 use dm_finder_frame::laws::unframe_undoes_frame;
-use dm_finder_frame::{FrameFault, Framed, Grid, unframe};
 use dm_placement::laws::{lift_undoes_place, words_are_bytes};
-use dm_placement::lift;
 use std::alloc::{Allocator, Global};
 
 /// What a label was opened as.
@@ -45,22 +44,14 @@ fn opened_as<A: Allocator + Copy>(alloc: A, grid: &Grid<A>) -> Result<Opened<A>,
     ensures opens { (size : Size) → side size ≡ grid.now.side → Opens size grid.now result }
     ensures short { IfOk result (λ opened. length opened.page.bytes ≤ 2600) }
 {
-    let Framed {
+    let Corrected {
         size,
-        matrix,
+        words,
+        corrected,
         wrong,
-    } = match unframe(alloc, grid) {
-        Ok(framed) => framed,
-        Err(FrameFault::Border { wrong }) => return Err(LabelFault::Border { wrong }),
-        Err(FrameFault::Memory) => return Err(LabelFault::Memory),
-    };
-    let Ok(mut words) = lift(alloc, size, &matrix) else {
-        return Err(LabelFault::Memory);
-    };
-    let words = words.as_mut_slice();
-    let corrected = match correct_symbol(size, words) {
-        Ok(corrected) => corrected,
-        Err(BlockFault { block }) => return Err(LabelFault::Block { block }),
+    } = match corrected_words(alloc, grid) {
+        Ok(symbol) => symbol,
+        Err(fault) => return Err(fault),
     };
     let data = &words[..size.data_words()];
     let head = head_at(data)?;

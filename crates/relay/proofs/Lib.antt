@@ -1,2 +1,4 @@
 pub mod Inputs
+pub mod ReadLines
+pub mod Readings
 pub mod Refusals

@@ -3,6 +3,7 @@
 use crate::draw::draw_command;
 use crate::errors::ErrorWriter;
 use crate::output::Output;
+use crate::read::read_command;
 use crate::words::words_command;
 use relay_line::{Command, LineFault, command_line};
 use std::rt::Env;
@@ -33,6 +34,7 @@ fn done<R: AllocGlobal + Input + Print + Eprint>(rt: &R, command: Command) -> u8
             scheme,
             plain,
         ),
+        Command::Read => read_command(rt.alloc(), &mut reader, &mut output),
     }
 }
 

@@ -1,7 +1,7 @@
 -- What a command line gives.
 use Rattle.std.specs.Prelude.{◌≡◌, ◌≤◌, ◌⊎◌}
 use Rattle.relay_line.specs.declared.command.Command.{Command}
-use Rattle.relay_line.specs.declared.command.Command.TheVariants.{Words, Draw}
+use Rattle.relay_line.specs.declared.command.Command.TheVariants.{Words, Draw, Read}
 use Rattle.relay_line.specs.declared.fault.LineFault.{LineFault}
 use Rattle.relay_line.specs.declared.fault.LineFault.TheVariants.{Line, Memory}
 
@@ -9,6 +9,7 @@ use Rattle.relay_line.specs.declared.fault.LineFault.TheVariants.{Line, Memory}
 abbrev pub HasNumbersInRange : Command → Type 0
 HasNumbersInRange (Words side scheme) = (10 ≤ side) × (side ≤ 132)
 HasNumbersInRange (Draw side scheme plain) = (10 ≤ side) × (side ≤ 132)
+HasNumbersInRange Read = Unit {0}
 
 -- a refused line ends with 2, help that was asked for with 0
 abbrev pub HasStatus : LineFault → Type 0

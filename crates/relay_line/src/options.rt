@@ -58,6 +58,12 @@ fn draw<'a>(alloc: Global) -> Result<Command<'a>, AllocError> {
         .arg(plain(alloc))
 }
 
+fn read<'a>(alloc: Global) -> Command<'a> {
+    Command::new(alloc, "read").about(
+        "Reads PBM images of symbols, one pixel per module, and prints what each bears in hexadecimal",
+    )
+}
+
 /// The whole program.
 pub fn relay<'a>(alloc: Global) -> Result<Command<'a>, AllocError> {
     Command::new(alloc, "relay")
@@ -66,5 +72,6 @@ pub fn relay<'a>(alloc: Global) -> Result<Command<'a>, AllocError> {
         .after_help("Without a command, relay does `words` with its defaults.")
         .disable_help_subcommand(true)
         .subcommand(words(alloc)?)?
-        .subcommand(draw(alloc)?)
+        .subcommand(draw(alloc)?)?
+        .subcommand(read(alloc))
 }

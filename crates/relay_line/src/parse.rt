@@ -45,6 +45,9 @@ fn symbol_of(matches: &ArgMatches<'_>) -> Option<(u16, Scheme)>
 fn command_of(name: &str, options: &ArgMatches<'_>) -> Option<Command>
     ensures { IfSome result HasNumbersInRange }
 {
+    if name == "read" {
+        return Some(Command::Read);
+    }
     let (side, scheme) = symbol_of(options)?;
     match name {
         "draw" => Some(Command::Draw {

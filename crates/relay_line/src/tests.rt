@@ -21,6 +21,10 @@ fn takes_a_line(rt: HostRuntime) -> Result<(), Fail> {
         "relay", "draw", "--plain", "--scheme", "text", "--side", "18",
     ];
     assert_eq!(rt; command_line(rt.alloc(), &line)?, drawn);
+    assert_eq!(rt;
+        command_line(rt.alloc(), &["relay", "read"])?,
+        Command::Read
+    );
     for side in ["--side=12", "--side=012", "--side=+12"] {
         let line = ["relay", "words", "--scheme", "ascii", side];
         let wanted = Command::Words {
@@ -60,6 +64,8 @@ fn refuses_a_line(rt: HostRuntime) -> Result<(), Fail> {
         ["relay", "words", "--scheme", "ASCII"].as_slice(),
         ["relay", "words", "--plain"].as_slice(),
         ["relay", "draw", "--plain=1"].as_slice(),
+        ["relay", "read", "--side", "12"].as_slice(),
+        ["relay", "read", "image.pbm"].as_slice(),
     ];
     for line in lines {
         let (text, status) = refused(line, rt.alloc()).ok_or("the line was taken")?;

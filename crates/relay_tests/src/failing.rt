@@ -1,4 +1,4 @@
-//! Readers and writers that fail in mid-stream.
+//! Readers and writers that fail in mid-stream, and a reader without end.
 
 use std::io::{Error, ErrorKind, Read, Result, Write};
 
@@ -30,6 +30,47 @@ impl Read for FailingReader<'_> {
         *place = *first;
         self.bytes = rest;
         self.passes -= 1;
+        Ok(1)
+    }
+}
+
+/// A reader that gives some bytes, and then others over and over, one at a time.
+#[derive(Drop)]
+pub struct EndlessReader<'a> {
+    begin: &'a [u8],
+    again: &'a [u8],
+    rest: &'a [u8],
+}
+
+impl<'a> EndlessReader<'a> {
+    /// A reader of `begin`, and then of `again` without end.
+    pub fn new(begin: &'a [u8], again: &'a [u8]) -> Self {
+        EndlessReader {
+            begin,
+            again,
+            rest: b"",
+        }
+    }
+}
+
+impl Read for EndlessReader<'_> {
+    fn read(&mut self, buf: &mut [u8]) -> Result<usize> {
+        let Some(place) = buf.first_mut() else {
+            return Ok(0);
+        };
+        if let Some((first, rest)) = self.begin.split_first() {
+            *place = *first;
+            self.begin = rest;
+            return Ok(1);
+        }
+        if self.rest.is_empty() {
+            self.rest = self.again;
+        }
+        let Some((first, rest)) = self.rest.split_first() else {
+            return Ok(0);
+        };
+        *place = *first;
+        self.rest = rest;
         Ok(1)
     }
 }

@@ -6,8 +6,10 @@
 mod draw;
 mod failing;
 #[cfg(test)]
+mod read;
+#[cfg(test)]
 mod refused;
 #[cfg(test)]
 mod words;
 
-pub use failing::{FailingReader, FailingWriter};
+pub use failing::{EndlessReader, FailingReader, FailingWriter};

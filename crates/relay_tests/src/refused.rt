@@ -9,7 +9,7 @@ use dm_finder_frame::{FrameFault, Grid, unframe};
 use dm_pbm_io::{PbmFault, ShapeFault, grid_of, read_image};
 use dm_placement::lift;
 use refusing::Refusing;
-use relay::{Output, draw_command, words_command};
+use relay::{Output, draw_command, read_command, words_command};
 use std::alloc::Allocator;
 use std::test::Fail;
 
@@ -62,6 +62,35 @@ fn draw_command_is_refused_by_name(rt: HostRuntime) -> Result<(), Fail> {
         assert_eq!(rt; status, 1, "{passes}");
         assert_eq!(rt; output.writer.as_slice(), b"".as_slice());
         assert_eq!(rt; errors.writer.as_slice(), b"refused Memory\n".as_slice());
+    }
+    Err("growths without end".into())
+}
+
+#[test]
+fn read_command_is_refused_by_name(rt: HostRuntime) -> Result<(), Fail> {
+    let mut reader = b"123456".as_slice();
+    let mut image = Output::new(Vec::new(rt.alloc()));
+    let mut errors = Output::new(Vec::new(rt.alloc()));
+    draw_command(
+        rt.alloc(),
+        &mut reader,
+        &mut image,
+        &mut errors,
+        10,
+        Scheme::Ascii,
+        false,
+    );
+    for passes in 0..MOST_GROWTHS {
+        let memory = Refusing::new(rt.alloc(), passes);
+        let mut reader = image.writer.as_slice();
+        let mut output = Output::new(Vec::new(rt.alloc()));
+        let status = read_command(&memory, &mut reader, &mut output);
+        if !memory.is_spent() {
+            assert_eq!(rt; (status, passes > 0), (0, true));
+            return Ok(());
+        }
+        assert_eq!(rt; status, 1, "{passes}");
+        assert_eq!(rt; output.writer.as_slice(), b"refused Memory\n".as_slice());
     }
     Err("growths without end".into())
 }
