@@ -1,6 +1,6 @@
 -- What `read` prints: a line for each image, in order, up to the end of the input, a plain image, an image that can't
 -- be read, or the greatest number of images.
-use Rattle.std.specs.Prelude.{◌≡◌, ◌≢◌, ℕ, ◌+◌, ◌<◌, ◌⊎◌, Bool, true, false, ◌||◌, if◌then◌else◌, List, [], ◌++◌, Option, Err}
+use Rattle.std.specs.Prelude.{◌≡◌, ◌≢◌, ℕ, ◌+◌, ◌<◌, ◌≤◌, ◌⊎◌, Bool, true, false, ◌||◌, if◌then◌else◌, List, [], ◌++◌, Option, Err}
 use Rattle.std.specs.Io.KnownBytes.{Consumes, Appends, IsAtEnd}
 use Rattle.dm_gf256.specs.Polynomial.{differ}
 use Rattle.dm_check_blocks.specs.declared.size.Size.{Size}
@@ -67,10 +67,10 @@ pub data PrintsImages : ℕ → List ℕ → List ℕ → Bool → Type 0 where
 abbrev pub IsAnother : List ℕ → Option (List ℕ) → Type 0
 IsAnother taken rest = ((p : Picture) × Spells taken p) ⊎ ((fault : PbmFault) × Refuses fault taken rest)
 
--- How the input ends behind so many images: what was taken, what is left, the last line, if there is one, and whether
--- it names a refusal. Behind a plain image, and behind what spells no image, nothing is read.
+-- How the input ends behind so many images, at most 65,536: what was taken, what is left, the last line, if there is
+-- one, and whether it names a refusal. Behind a plain image, and behind what spells no image, nothing is read.
 pub data EndsInput : ℕ → List ℕ → Option (List ℕ) → List ℕ → Bool → Type 0 where
-  no_image : {count : ℕ} {rest : Option (List ℕ)} → IsAtEnd rest → EndsInput count [] rest [] false
+  no_image : {count : ℕ} {rest : Option (List ℕ)} → count ≤ 65536 → IsAtEnd rest → EndsInput count [] rest [] false
   plain_image : {count : ℕ} {taken line : List ℕ} {rest : Option (List ℕ)} {refused : Bool} (p : Picture) → count < 65536
       → Spells taken p → p.plain ≡ true → PrintsPicture p line refused → EndsInput count taken rest line refused
   unread : {count : ℕ} {taken : List ℕ} {rest : Option (List ℕ)} (fault : PbmFault) → count < 65536

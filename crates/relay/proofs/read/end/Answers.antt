@@ -1,4 +1,4 @@
-use Rattle.std.proofs.Common.{[]}
+use Rattle.std.proofs.Common.{[], arith}
 use Rattle.std.proofs.KnownBytes.{Consumes-kept, Consumes-nil, Appends-nil}
 use Rattle.relay.specs.Read.EndsInput.{no_image, too_many}
 use Rattle.relay.proofs.read.end.Goals as goal
@@ -6,7 +6,7 @@ use Rattle.relay.proofs.read.end.Goals as goal
 pub returns-then-is_at_end-clause-ended : goal.returns-then-is_at_end-clause-ended
 returns-then-is_at_end-clause-ended g c =
     let ended = c.is_at_end.ensures.ended c.if-is_at_end.true in
-    ([], [], Consumes-kept _ _ _ _ (Consumes-nil _) ended.0, Appends-nil _, no_image ended.1)
+    ([], [], Consumes-kept _ _ _ _ (Consumes-nil _) ended.0, Appends-nil _, no_image (omega arith) ended.1)
 
 pub returns-clause-ended : goal.returns-clause-ended
 returns-clause-ended g c =

@@ -1,4 +1,4 @@
-use Rattle.std.proofs.Common.{[]}
+use Rattle.std.proofs.Common.{[], arith}
 use Rattle.std.proofs.KnownBytes.{Consumes-kept, Consumes-nil, Appends-nil}
 use Rattle.dm_pbm_io.specs.Shown.{picture}
 use Rattle.relay.specs.Read.EndsInput.{no_image, plain_image, unread}
@@ -7,7 +7,7 @@ use Rattle.relay.proofs.read.next_turn.Goals as goal
 pub returns-in-Ok-None-clause-turns : goal.returns-in-Ok-None-clause-turns
 returns-in-Ok-None-clause-turns g c =
     let ended = rw c.in-Ok-None.field-0-is at c.in-Ok-None.ensures in
-    ([], [], Consumes-kept _ _ _ _ (Consumes-nil _) ended.0, Appends-nil _, λ count h. no_image ended.1)
+    ([], [], Consumes-kept _ _ _ _ (Consumes-nil _) ended.0, Appends-nil _, λ count h. no_image (omega arith) ended.1)
 
 pub returns-then-image-clause-turns : goal.returns-then-image-clause-turns
 returns-then-image-clause-turns g c =
