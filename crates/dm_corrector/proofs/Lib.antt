@@ -5,6 +5,7 @@ pub mod Differences
 pub mod Entries
 pub mod ErrorTurns
 pub mod ErrorValues
+pub mod Evaluation
 pub mod LowValues
 pub mod RootBound
 pub mod RootSearch

@@ -6,7 +6,7 @@ use Rattle.dm_gf256.specs.Field.{product, power}
 use Rattle.dm_gf256.specs.Polynomial.{value}
 use Rattle.dm_gf256.proofs.Linear.{product-xor_r}
 use Rattle.dm_gf256.proofs.Ring.{product_comm, product_assoc, product_byte, product-zero_r, one-product, power-add}
-use Rattle.dm_gf256.proofs.Tables.{power_table}
+use Rattle.dm_gf256.proofs.Tables.{whole_turn}
 use Rattle.dm_gf256.proofs.Vanish.{Bytes}
 use Rattle.dm_corrector.specs.Polynomials.{at_low}
 
@@ -64,4 +64,4 @@ pub two_inverse : (k : ℕ) → k ≤ 255 → product (power 2 k) (power 2 (255 
 unfolding power
 two_inverse k h =
     sym (power-add 2 k (255 - k) (omega arith)) ∙ ap (power 2) (let e : k + (255 - k) ≡ 255 = omega arith in e)
-    ∙ sym (power_table 255 (omega arith)) ∙ power_table 0 (omega arith)
+    ∙ whole_turn

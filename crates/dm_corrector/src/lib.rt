@@ -6,7 +6,8 @@
 //! a symbol that cannot be corrected the first faulty block is named. No call takes memory.
 //!
 //! The way of a block: `syndromes`, then a locator polynomial by `massey` or `elimination`, its `roots`, the
-//! `error_values` at them, and in `block` the decision; `symbol` does this block by block.
+//! `error_values` at them, and in `block` the decision; `symbol` does this block by block. Syndromes and roots are
+//! `values` of polynomials at successive powers of 2.
 #![tactic(auto)]
 
 mod block;
@@ -20,6 +21,7 @@ mod symbol;
 mod syndromes;
 #[cfg(test)]
 mod tests;
+mod values;
 
 pub use block::{Uncorrectable, correct, correct_with};
 pub use elimination::Elimination;

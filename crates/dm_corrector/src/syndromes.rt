@@ -8,6 +8,7 @@ ghost use Rattle.dm_gf256.specs.Elements.{numbers};
 ghost use Rattle.dm_corrector.specs.Corrections.{AreSyndromes};
 
 use crate::elements::elements_of;
+use crate::values::add_coefficient;
 use arrayvec::ArrayVec;
 use dm_gf256::Gf;
 
@@ -25,12 +26,12 @@ pub(crate) fn syndromes_of(block: &[u8], checks: usize) -> ArrayVec<Gf, MOST_CHE
     ensures values { AreSyndromes checks (numbers result.items) block.now }
     ensures bytes { All (λ word. word < 256) block.now }
 {
-    let elements: ArrayVec<Gf, MOST_WORDS> = elements_of(block);
-    let mut syndromes = ArrayVec::new();
-    for k in 0..checks {
-        syndromes.push(Gf::eval(elements.as_slice(), Gf::alpha(k as u8 + 1)));
+    let mut sums = [0; MOST_CHECKS];
+    let sums = &mut sums[..checks];
+    for word in block {
+        add_coefficient(sums, 1, *word);
     }
-    syndromes
+    elements_of(sums)
 }
 
 /// Whether all syndromes are zero.

@@ -1,18 +1,31 @@
 -- The tables of the powers of 2 and of their exponents give products and inverses.
-use Rattle.std.proofs.Common.{◌≡◌, ℕ, zero, suc, ◌+◌, ◌-◌, ◌*◌, ◌<◌, ◌≤◌, ◌%◌, Bool, true, false, eqb, refl, sym, ◌∙◌, ap, subst, arith, List, get_or, eqb-true, ◌&&◌, ltb}
+use Rattle.std.proofs.Common.{◌≡◌, ℕ, zero, suc, ◌+◌, ◌-◌, ◌<◌, ◌≤◌, eqb, refl, sym, ◌∙◌, ap, arith, get_or, eqb-true, true, ◌&&◌, ltb, ltb-true, inl, inr, ⊎_elim}
+use Rattle.std.proofs.lemmas.Bool.{and_parts}
+use Rattle.dm_gf256.specs.Exponents.{IsExponent}
 use Rattle.dm_gf256.specs.Field.{product, power, plain, reduced}
 use Rattle.dm_gf256.specs.declared.powers.TheConstants.{POWERS, LOGS}
 use Rattle.dm_gf256.proofs.Checks.{all_below}
-use Rattle.std.proofs.Common.{⊎_elim, ltb-true}
-use Rattle.std.proofs.lemmas.Bool.{cases_lt, and_parts}
-use Rattle.dm_gf256.proofs.Ring.{all_below-at, power-add, power_byte, one-product, product-zero_l, product-zero_r}
+use Rattle.dm_gf256.proofs.Ring.{all_below-at, power-add, product-zero_l, product_comm}
 
-powers_checked : all_below 255 (λ k. eqb (get_or POWERS k 0) (power 2 k)) ≡ true
-unfolding all_below product reduced plain power
-powers_checked = refl
+-- each of the powers is twice the one before
+doubles : all_below 509 (λ k. eqb (get_or POWERS (suc k) 0) (product 2 (get_or POWERS k 0))) ≡ true
+unfolding all_below product reduced plain
+doubles = refl
 
-pub powers_table : (k : ℕ) → k < 255 → get_or POWERS k 0 ≡ power 2 k
-powers_table k h = eqb-true _ _ (all_below-at 255 _ powers_checked k h)
+pub powers_table : (k : ℕ) → k < 510 → get_or POWERS k 0 ≡ power 2 k
+unfolding power
+powers_table zero h = refl
+powers_table (suc k) h = eqb-true _ _ (all_below-at 509 _ doubles k (omega arith)) ∙ ap (product 2) (powers_table k (omega arith))
+
+pub whole_turn : power 2 255 ≡ 1
+whole_turn = sym (powers_table 255 (omega arith))
+
+zeros_checked : all_below 511 (λ k. eqb (get_or POWERS (510 + k) 0) 0) ≡ true
+unfolding all_below
+zeros_checked = refl
+
+zeros_table : (k : ℕ) → k < 511 → get_or POWERS (510 + k) 0 ≡ 0
+zeros_table k h = eqb-true _ _ (all_below-at 511 _ zeros_checked k h)
 
 logs_checked : all_below 255 (λ k. eqb (get_or POWERS (get_or LOGS (suc k) 0) 0) (suc k) && ltb (get_or LOGS (suc k) 0) 255) ≡ true
 unfolding all_below
@@ -23,39 +36,45 @@ log_of zero p q = absurd (omega arith)
 log_of (suc k) p q =
     let parts = and_parts _ _ (all_below-at 255 _ logs_checked k (omega arith)) in
     let l : get_or LOGS (suc k) 0 < 255 = ltb-true _ _ (parts.1) in
-    (sym (powers_table (get_or LOGS (suc k) 0) l) ∙ eqb-true _ _ (parts.0), l)
+    (sym (powers_table (get_or LOGS (suc k) 0) (omega arith)) ∙ eqb-true _ _ (parts.0), l)
 
-whole_turn : power 2 255 ≡ 1
-unfolding product reduced plain power
-whole_turn = refl
+pub exponent_table : (a : ℕ) → a < 256 → IsExponent a (get_or LOGS a 0)
+exponent_table zero h = inr (refl, refl)
+exponent_table (suc k) h = let u = log_of (suc k) (omega arith) h in inl (u.1, u.0)
 
-turned : (n : ℕ) → n < 510 → power 2 (n % 255) ≡ power 2 n
-turned n h =
-    ⊎_elim (λ (l : n < 255). ap (power 2) (let e : n % 255 ≡ n = omega arith in e))
-    (λ (l : 255 ≤ n).
-    let m = n - 255 in
-    ap (power 2) (let e : n % 255 ≡ m = omega arith in e)
-    ∙ sym (one-product (power 2 m) (power_byte 2 m (omega arith))) ∙ ap (λ t. product t (power 2 m)) (sym whole_turn)
-    ∙ sym (power-add 2 255 m (omega arith)) ∙ ap (power 2) (let e : 255 + m ≡ n = omega arith in e))
-    (cases_lt n 255)
+pub exponent_most : (a e : ℕ) → IsExponent a e → e ≤ 510
+exponent_most a e = ⊎_elim (λ (l : (e < 255) × (power 2 e ≡ a)). (let m : e < 255 = l.0 in omega arith)) (λ (z : (e ≡ 510) × (a ≡ 0)). (let m : e ≡ 510 = z.0 in omega arith))
 
-pub product_table : (a b : ℕ) → 0 < a → a < 256 → 0 < b → b < 256 → get_or POWERS ((get_or LOGS a 0 + get_or LOGS b 0) % 255) 0 ≡ product a b
-product_table a b p q r s =
-    let u = log_of a p q in let v = log_of b r s in
-    let i = get_or LOGS a 0 in let j = get_or LOGS b 0 in
-    let il : i < 255 = u.1 in let jl : j < 255 = v.1 in
-    powers_table ((i + j) % 255) (omega arith) ∙ turned (i + j) (omega arith) ∙ power-add 2 i j (omega arith)
-    ∙ ap (λ t. product t (power 2 j)) (u.0) ∙ ap (product a) (v.0)
+pub exponent_below : (a e : ℕ) → 0 < a → IsExponent a e → (e < 255) × (power 2 e ≡ a)
+exponent_below a e p = ⊎_elim (λ (l : (e < 255) × (power 2 e ≡ a)). l) (λ (z : (e ≡ 510) × (a ≡ 0)). (let m : a ≡ 0 = z.1 in absurd (omega arith)))
 
-pub power_table : (k : ℕ) → k < 256 → get_or POWERS (k % 255) 0 ≡ power 2 k
-power_table k h = powers_table (k % 255) (omega arith) ∙ turned k (omega arith)
+-- a zero among the factors
+past : (e f a b : ℕ) → a ≡ 0 → e ≡ 510 → f ≤ 510 → get_or POWERS (e + f) 0 ≡ product a b
+past e f a b z h l =
+    ap (λ n. get_or POWERS (n + f) 0) h ∙ zeros_table f (omega arith) ∙ sym (product-zero_l b) ∙ ap (λ n. product n b) (sym z)
 
-pub inverse_table : (a : ℕ) → 0 < a → a < 256 → product a (get_or POWERS ((255 - get_or LOGS a 0) % 255) 0) ≡ 1
-inverse_table a p q =
-    let u = log_of a p q in
-    let i = get_or LOGS a 0 in
-    let il : i < 255 = u.1 in
-    let j = 255 - i in
-    ap (product a) (powers_table (j % 255) (omega arith) ∙ turned j (omega arith))
-    ∙ ap (λ t. product t (power 2 j)) (sym (u.0)) ∙ sym (power-add 2 i j (omega arith))
-    ∙ ap (power 2) (let e : i + j ≡ 255 = omega arith in e) ∙ whole_turn
+pub power_product : (a e k : ℕ) → IsExponent a e → k < 256 → get_or POWERS (e + k) 0 ≡ product a (power 2 k)
+power_product a e k h l =
+    ⊎_elim (λ (p : (e < 255) × (power 2 e ≡ a)).
+    let m : e < 255 = p.0 in
+    powers_table (e + k) (omega arith) ∙ power-add 2 e k (omega arith) ∙ ap (λ t. product t (power 2 k)) (p.1))
+    (λ (z : (e ≡ 510) × (a ≡ 0)). past e k a (power 2 k) (z.1) (z.0) (omega arith))
+    h
+
+pub product_table : (a b e f : ℕ) → IsExponent a e → IsExponent b f → get_or POWERS (e + f) 0 ≡ product a b
+product_table a b e f h i =
+    ⊎_elim (λ (p : (f < 255) × (power 2 f ≡ b)).
+    let m : f < 255 = p.0 in
+    power_product a e f h (omega arith) ∙ ap (product a) (p.1))
+    (λ (z : (f ≡ 510) × (b ≡ 0)).
+    ap (λ n. get_or POWERS n 0) (let s : e + f ≡ f + e = omega arith in s) ∙ past f e b a (z.1) (z.0) (exponent_most a e h) ∙ product_comm b a)
+    i
+
+pub inverse_table : (a e : ℕ) → 0 < a → IsExponent a e → product a (get_or POWERS (255 - e) 0) ≡ 1
+inverse_table a e p h =
+    let u = exponent_below a e p h in
+    let l : e < 255 = u.0 in
+    let j = 255 - e in
+    ap (product a) (powers_table j (omega arith))
+    ∙ ap (λ t. product t (power 2 j)) (sym (u.1)) ∙ sym (power-add 2 e j (omega arith))
+    ∙ ap (power 2) (let s : e + j ≡ 255 = omega arith in s) ∙ whole_turn

@@ -5,7 +5,7 @@ ghost use Rattle.std.specs.Int.Bits.{bit_xor};
 ghost use Rattle.dm_gf256.specs.Field.{product, power};
 ghost use Rattle.dm_gf256.specs.Polynomial.{value};
 
-use crate::powers::{inverse_of, power_of_two, product_of};
+use crate::powers::{inverse_of, power_of_two, product_of, product_with_power};
 
 /// An element of the field: bit i is the coefficient of x^i.
 #[derive(Clone, Copy, Debug, Default, PartialEq, Eq, Hash)]
@@ -30,6 +30,13 @@ impl Gf {
         ensures { result.0 ≡ product self.0 other.0 }
     {
         Gf(product_of(self.0, other.0))
+    }
+
+    /// The product with 2 to the power k: `mul` by `alpha(k)`, with one look-up less.
+    pub fn mul_alpha(self, k: u8) -> Gf
+        ensures { result.0 ≡ product self.0 (power 2 k) }
+    {
+        Gf(product_with_power(self.0, k))
     }
 
     /// The inverse of an element that isn't zero.

@@ -5,6 +5,9 @@ use crate::multiple::add_multiple;
 #[test]
 fn worked_values(rt: HostRuntime) {
     assert_eq!(rt; Gf(128).mul(Gf(2)), Gf(45));
+    assert_eq!(rt; Gf(128).mul_alpha(1), Gf(45));
+    assert_eq!(rt; Gf(150).mul_alpha(255), Gf(150));
+    assert_eq!(rt; Gf(0).mul_alpha(255), Gf(0));
     assert_eq!(rt; Gf(2).inv(), Gf(150));
     assert_eq!(rt; Gf(5).add(Gf(6)), Gf(3));
     assert_eq!(rt; Gf::alpha(8), Gf(45));
