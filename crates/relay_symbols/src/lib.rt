@@ -1,0 +1,18 @@
+//! Symbols and labels for programs in C: a static library whose functions take byte slices, each a pointer and then a
+//! length in C. Images are in PBM's packed form (`P4`), one pixel per module inside a quiet zone of one pixel; texts
+//! are in ASCII encodation (ISO/IEC 16022, section 5.2). An `alloc` costs no argument in C.
+//!
+//! Proved: an image is exactly that of the one symbol, or label, that was asked for; a text or a page's bytes are those
+//! of the one symbol within the limit of correction; a refused call leaves the caller's bytes as they were.
+#![tactic(auto)]
+
+mod drawing;
+mod labels;
+mod opening;
+mod putting;
+mod symbols;
+#[cfg(test)]
+mod tests;
+
+pub use labels::{relay_label_from_text, relay_page_from_image};
+pub use symbols::{relay_image_from_words, relay_symbol_from_text, relay_text_from_image};

@@ -1,0 +1,89 @@
+use crate::{
+    relay_image_from_words, relay_label_from_text, relay_page_from_image, relay_symbol_from_text,
+    relay_text_from_image,
+};
+
+// All words of the symbol of side 10 that bears the digits 123456, and its image.
+const WORDS: [u8; 8] = [142, 164, 186, 114, 25, 5, 88, 102];
+
+const IMAGE: &[u8] = b"P4\n12 12\n\
+\x00\x00\x55\x40\x65\xa0\x60\x80\x63\xa0\x61\x00\x41\xe0\x76\x00\x7b\x20\x4e\x80\x7f\xe0\x00\x00";
+
+#[test]
+fn draws_and_reads_the_worked_example(rt: HostRuntime) {
+    let mut image = [0; 40];
+    let count = relay_symbol_from_text(rt.alloc(), 10, b"123456", &mut image);
+    assert_eq!(rt; &image[..count], IMAGE);
+    let mut image = [0; 40];
+    let count = relay_image_from_words(rt.alloc(), 10, &WORDS, &mut image);
+    assert_eq!(rt; &image[..count], IMAGE);
+    let mut text = [0; 6];
+    assert_eq!(rt; relay_text_from_image(rt.alloc(), IMAGE, &mut text), 6);
+    assert_eq!(rt; &text, b"123456");
+}
+
+// Two wrong words are put right, and three, one of them a check word, are not.
+#[test]
+fn corrects_what_it_reads(rt: HostRuntime) {
+    let cases = [
+        ([0, 164, 186, 114, 0, 5, 88, 102], 6),
+        ([0, 164, 0, 114, 0, 5, 88, 102], usize::MAX),
+    ];
+    for (words, answer) in cases {
+        let mut image = [0; 40];
+        let _ = relay_image_from_words(rt.alloc(), 10, &words, &mut image);
+        let mut text = [0; 6];
+        assert_eq!(rt;
+            relay_text_from_image(rt.alloc(), &image, &mut text),
+            answer
+        );
+    }
+}
+
+#[test]
+fn draws_and_opens_a_label(rt: HostRuntime) {
+    let mut image = [0; 100];
+    let count = relay_label_from_text(rt.alloc(), 14, b"seal", &mut image);
+    assert_eq!(rt; count, 9 + 2 * 16);
+    let mut bytes = [0; 4];
+    assert_eq!(rt; relay_page_from_image(rt.alloc(), &image, &mut bytes), 4);
+    assert_eq!(rt; &bytes, b"seal");
+}
+
+// No such side, no room for the image, too long a text, no image, and no room for the text: nothing is written.
+#[test]
+fn refuses_and_writes_nothing(rt: HostRuntime) {
+    let mut image = [7; 40];
+    assert_eq!(rt;
+        relay_symbol_from_text(rt.alloc(), 11, b"123456", &mut image),
+        0
+    );
+    assert_eq!(rt;
+        relay_symbol_from_text(rt.alloc(), 10, b"123456", &mut image[..32]),
+        0
+    );
+    assert_eq!(rt;
+        relay_symbol_from_text(rt.alloc(), 10, b"1234567", &mut image),
+        0
+    );
+    assert_eq!(rt;
+        relay_image_from_words(rt.alloc(), 10, &WORDS[..7], &mut image),
+        0
+    );
+    assert_eq!(rt; relay_label_from_text(rt.alloc(), 10, b"", &mut image), 0);
+    assert_eq!(rt; image, [7; 40]);
+    let mut text = [7; 5];
+    assert_eq!(rt;
+        relay_text_from_image(rt.alloc(), IMAGE, &mut text),
+        usize::MAX
+    );
+    assert_eq!(rt;
+        relay_text_from_image(rt.alloc(), b"P4", &mut text),
+        usize::MAX
+    );
+    assert_eq!(rt;
+        relay_page_from_image(rt.alloc(), IMAGE, &mut text),
+        usize::MAX
+    );
+    assert_eq!(rt; text, [7; 5]);
+}
