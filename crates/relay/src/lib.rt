@@ -11,6 +11,7 @@ mod errors;
 mod output;
 mod program;
 mod read;
+mod read_lines;
 mod read_refusal;
 mod reading;
 mod refusal;

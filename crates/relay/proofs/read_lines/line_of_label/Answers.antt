@@ -3,7 +3,7 @@ use Rattle.hex.specs.Hex.{encode_lower}
 use Rattle.dm_append_label.specs.Pages.{id_words}
 use Rattle.relay.specs.ReadLines.{line_behind}
 use Rattle.relay.proofs.ReadLines.{label_joined}
-use Rattle.relay.proofs.reading.line_of_label.Goals as goal
+use Rattle.relay.proofs.read_lines.line_of_label.Goals as goal
 
 pub returns : goal.returns
 returns g c =

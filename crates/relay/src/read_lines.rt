@@ -1,0 +1,83 @@
+//! The lines that `read` prints of what it has read.
+
+ghost use Rattle.std.specs.Prelude.{◌≡◌, ◌++◌, string_bytes, IfOk, OnOk};
+ghost use Rattle.dm_check_blocks.specs.Sizes.{side};
+ghost use Rattle.dm_append_label.specs.Pages.{id_words};
+ghost use Rattle.hex.specs.Hex.{encode_lower};
+ghost use Rattle.relay.specs.ReadLines.{hexadecimal, label_line, line_behind, symbol_line};
+
+use dm_append_label::{Corrected, FileId, Opened};
+use std::alloc::{AllocError, Allocator};
+use std::fmt::Write as _;
+
+// Bytes in hexadecimal, or a hyphen for none.
+fn hexadecimal_of<A: Allocator + Copy>(alloc: A, bytes: &[u8]) -> Result<String<A>, AllocError>
+    ensures { IfOk result (λ text. string_bytes text ≡ hexadecimal bytes.now) }
+{
+    if bytes.is_empty() {
+        let mut text = String::new(alloc);
+        text.push('-')?;
+        return Ok(text);
+    }
+    hex::encode(alloc, bytes)
+}
+
+// Appends to a line how good the symbol is, and its bytes.
+fn push_behind<A: Allocator + Copy>(
+    alloc: A,
+    line: &mut String<A>,
+    corrected: u16,
+    wrong: u16,
+    bytes: &[u8],
+) -> Result<(), AllocError>
+    ensures { OnOk result (string_bytes line.new ≡ string_bytes line.old ++ line_behind corrected wrong bytes.now) }
+{
+    let text = hexadecimal_of(alloc, bytes)?;
+    write!(line, " corrected {corrected} wrong {wrong} {text}\n")?;
+    Ok(())
+}
+
+// The words of an identification in hexadecimal.
+fn identification_of<A: Allocator + Copy>(alloc: A, id: FileId) -> Result<String<A>, AllocError>
+    ensures { IfOk result (λ text. string_bytes text ≡ encode_lower (id_words id)) }
+{
+    let (first, second) = id.words();
+    hex::encode(alloc, [first, second])
+}
+
+/// The line of a label.
+pub(crate) fn line_of_label<A: Allocator + Copy>(
+    alloc: A,
+    opened: &Opened<A>,
+) -> Result<String<A>, AllocError>
+    ensures { IfOk result (λ line. string_bytes line ≡ label_line opened.now.page opened.now.corrected opened.now.wrong) }
+{
+    let page = &opened.page;
+    let id = identification_of(alloc, page.id())?;
+    let (m, n) = (page.m(), page.n());
+    let mut line = String::new(alloc);
+    write!(line, "label {id} {m}/{n}")?;
+    push_behind(
+        alloc,
+        &mut line,
+        opened.corrected,
+        opened.wrong,
+        page.bytes(),
+    )?;
+    Ok(line)
+}
+
+/// The line of a symbol that is no label.
+pub(crate) fn line_of_symbol<A: Allocator + Copy>(
+    alloc: A,
+    symbol: &Corrected<A>,
+    bytes: &[u8],
+) -> Result<String<A>, AllocError>
+    ensures { IfOk result (λ line. string_bytes line ≡ symbol_line (side symbol.now.size) symbol.now.corrected symbol.now.wrong bytes.now) }
+{
+    let side = symbol.size.side();
+    let mut line = String::new(alloc);
+    write!(line, "symbol {side}")?;
+    push_behind(alloc, &mut line, symbol.corrected, symbol.wrong, bytes)?;
+    Ok(line)
+}
