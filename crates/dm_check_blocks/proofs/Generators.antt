@@ -1,19 +1,12 @@
 -- The coefficients of the generator polynomial, root by root.
-use Rattle.std.proofs.Common.{◌≡◌, ℕ, zero, suc, ◌+◌, ◌-◌, ◌*◌, ◌<◌, ◌≤◌, refl, sym, ◌∙◌, ap, subst, arith, List, [], ◌∷◌, ◌++◌, length, get_or, set, take, drop, length-append}
+use Rattle.std.proofs.Common.{◌≡◌, ℕ, zero, suc, ◌+◌, ◌-◌, ◌<◌, refl, sym, ◌∙◌, ap, arith, List, [], ◌∷◌, ◌++◌, length, get_or, take, drop, length-append}
 use Rattle.std.specs.Int.Bits.{bit_xor}
-use Rattle.dm_gf256.specs.Field.{product, power}
-use Rattle.std.proofs.Common.{Bool, true, false, cond, eqb, eq-eqb}
-use Rattle.dm_gf256.specs.Polynomial.{value, add_scaled, differ, IsBlockWord}
-use Rattle.dm_gf256.proofs.Words.{one_block_word}
-use Rattle.dm_gf256.proofs.Vanish.{Bytes}
-use Rattle.std.specs.Int.Bits.{xor_self}
+use Rattle.dm_gf256.specs.Field.{product}
+use Rattle.dm_gf256.specs.Polynomial.{value, add_scaled}
 use Rattle.std.proofs.Common.{add-one, length-take, length-drop, replicate}
-use Rattle.std.proofs.lemmas.List.{take_more, take_all, take_at, get_or-append_right, get_or-drop}
+use Rattle.std.proofs.lemmas.List.{take_more, take_at, get_or-append_right, get_or-drop}
 use borrow.Rule.Slice.PartMut.{put_mid, post_of}
-use Rattle.dm_gf256.proofs.Linear.{product-xor_l, product-xor_r}
-use Rattle.dm_gf256.proofs.Ring.{product_assoc, product_comm, product-zero_l}
-use Rattle.dm_gf256.proofs.Steps.{value-push}
-use Rattle.dm_gf256.proofs.Divide.{value-divide_step, value-append, length-add_scaled, value-times_root}
+use Rattle.dm_gf256.proofs.Divide.{length-add_scaled, value-times_root}
 
 next_value : (h k r : ℕ) (rest ys more : List ℕ) → k < length rest → get_or rest k 0 ≡ 0 → ys ≡ add_scaled r (take (suc k) rest) (h ∷ take k rest) → (x : ℕ) →
     value (h ∷ take (suc k) (ys ++ more)) x ≡ product (bit_xor x r) (value (h ∷ take k rest) x)

@@ -1,7 +1,6 @@
 -- The blocks of a symbol share its words out: word i of block b stands at i times the blocks plus b.
 use Rattle.std.proofs.Common.{◌≡◌, ◌≢◌, ℕ, ◌+◌, ◌-◌, ◌*◌, ◌/◌, ◌%◌, ◌<◌, ◌≤◌, ◌⊎◌, refl, sym, ◌∙◌, ap, arith, List, ◌++◌, length, length-append, get_or, set, ⊎_elim, below_more, get_or-set_other, get_or-set_same}
 use Rattle.std.specs.Prelude.{nat_lt, if◌then◌else◌}
-use Rattle.std.specs.List.{range_with_len, All}
 use Rattle.std.proofs.Math.Nat.{mul-le-mul_right, mod-lt}
 use Rattle.std.proofs.lemmas.Nat.{mod-mul-add, div-add-mod'}
 use Rattle.std.proofs.lemmas.Bool.{cases_lt}
@@ -10,7 +9,7 @@ use Rattle.std.proofs.lemmas.List.{ext_get_or, get_or-append_right}
 use Rattle.std.proofs.Math.ListN.{get_or-append}
 use Rattle.std.proofs.lemmas.List.FromFn.{get_or-map-range_with_len, length-map-range_with_len}
 use Rattle.dm_check_blocks.specs.declared.size.Size.{Size}
-use Rattle.dm_check_blocks.specs.Sizes.{data_words, check_words, all_words, blocks, block_checks, block_length, IsSound}
+use Rattle.dm_check_blocks.specs.Sizes.{data_words, all_words, blocks, block_checks, block_length}
 use Rattle.dm_check_blocks.specs.Blocks.{block_data, position, block_of}
 use Rattle.dm_check_blocks.proofs.Sound.{sound}
 

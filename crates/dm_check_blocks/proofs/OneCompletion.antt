@@ -1,19 +1,10 @@
 -- There is one block word with a given message.
-use Rattle.std.proofs.Common.{◌≡◌, ℕ, zero, suc, ◌+◌, ◌-◌, ◌*◌, ◌<◌, ◌≤◌, refl, sym, ◌∙◌, ap, subst, arith, List, [], ◌∷◌, ◌++◌, length, get_or, set, take, drop, length-append}
-use Rattle.std.specs.Int.Bits.{bit_xor}
-use Rattle.dm_gf256.specs.Field.{product, power}
+use Rattle.std.proofs.Common.{◌≡◌, ℕ, ◌+◌, ◌≤◌, refl, sym, ◌∙◌, arith, List, [], ◌∷◌, ◌++◌, length, length-append}
 use Rattle.std.proofs.Common.{Bool, true, false, cond, eqb, eq-eqb}
-use Rattle.dm_gf256.specs.Polynomial.{value, add_scaled, differ, IsBlockWord}
+use Rattle.dm_gf256.specs.Polynomial.{differ, IsBlockWord}
 use Rattle.dm_gf256.proofs.Words.{one_block_word}
 use Rattle.dm_gf256.proofs.Vanish.{Bytes}
-use Rattle.std.specs.Int.Bits.{xor_self}
-use Rattle.std.proofs.Common.{add-one, length-take, length-drop, replicate}
-use Rattle.std.proofs.lemmas.List.{append_cancel_left, take_more, take_all, take_at, get_or-append_right, get_or-drop}
-use borrow.Rule.Slice.PartMut.{put_mid, post_of}
-use Rattle.dm_gf256.proofs.Linear.{product-xor_l, product-xor_r}
-use Rattle.dm_gf256.proofs.Ring.{product_assoc, product_comm, product-zero_l}
-use Rattle.dm_gf256.proofs.Steps.{value-push}
-use Rattle.dm_gf256.proofs.Divide.{value-divide_step, value-append, length-add_scaled, value-times_root}
+use Rattle.std.proofs.lemmas.List.{append_cancel_left}
 
 one_most : (c : Bool) → cond c 0 1 ≤ 1
 one_most true = omega arith

@@ -1,19 +1,14 @@
 -- The remainder of a message by the generator polynomial, by its value at a root.
-use Rattle.std.proofs.Common.{◌≡◌, ℕ, zero, suc, ◌+◌, ◌-◌, ◌*◌, ◌<◌, ◌≤◌, refl, sym, ◌∙◌, ap, subst, arith, List, [], ◌∷◌, ◌++◌, length, get_or, set, take, drop, length-append}
+use Rattle.std.proofs.Common.{◌≡◌, ℕ, zero, suc, ◌+◌, ◌-◌, ◌<◌, ◌≤◌, refl, sym, ◌∙◌, ap, arith, List, [], ◌∷◌, ◌++◌, length, get_or, set, take, drop}
 use Rattle.std.specs.Int.Bits.{bit_xor}
 use Rattle.dm_gf256.specs.Field.{product, power}
-use Rattle.std.proofs.Common.{Bool, true, false, cond, eqb, eq-eqb}
-use Rattle.dm_gf256.specs.Polynomial.{value, add_scaled, differ, IsBlockWord}
-use Rattle.dm_gf256.proofs.Words.{one_block_word}
-use Rattle.dm_gf256.proofs.Vanish.{Bytes}
+use Rattle.dm_gf256.specs.Polynomial.{value, add_scaled}
 use Rattle.std.specs.Int.Bits.{xor_self}
-use Rattle.std.proofs.Common.{add-one, length-take, length-drop, replicate}
-use Rattle.std.proofs.lemmas.List.{take_more, take_all, take_at, get_or-append_right, get_or-drop}
-use borrow.Rule.Slice.PartMut.{put_mid, post_of}
-use Rattle.dm_gf256.proofs.Linear.{product-xor_l, product-xor_r}
+use Rattle.std.proofs.lemmas.List.{take_more, take_all}
+use Rattle.dm_gf256.proofs.Linear.{product-xor_l}
 use Rattle.dm_gf256.proofs.Ring.{product_assoc, product_comm, product-zero_l}
 use Rattle.dm_gf256.proofs.Steps.{value-push}
-use Rattle.dm_gf256.proofs.Divide.{value-divide_step, value-append, length-add_scaled, value-times_root}
+use Rattle.dm_gf256.proofs.Divide.{value-divide_step, value-append}
 
 set-last : (rs : List ℕ) (r v n : ℕ) → n ≡ length rs → set (rs ++ r ∷ []) n v ≡ rs ++ v ∷ []
 set-last [] r v zero e = refl

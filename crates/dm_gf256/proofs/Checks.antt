@@ -1,6 +1,5 @@
 -- Rules over a table, checked by computing.
-use Rattle.std.proofs.Common.{◌≡◌, ℕ, zero, suc, ◌+◌, ◌*◌, Bool, true, false, cond, eqb, refl, ◌&&◌}
-use Rattle.dm_gf256.specs.Field.{plain, reduced, product, power}
+use Rattle.std.proofs.Common.{ℕ, zero, suc, Bool, true, ◌&&◌}
 
 unfoldable pub all_below : ℕ → (ℕ → Bool) → Bool
 all_below zero p = true

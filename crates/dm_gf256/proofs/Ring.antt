@@ -1,12 +1,11 @@
 -- The laws of the field: a commutative ring, inverses, and the powers of 2.
-use Rattle.std.proofs.Common.{◌≡◌, ◌≢◌, ℕ, zero, suc, ◌+◌, ◌-◌, ◌*◌, ◌^◌, ◌%◌, ◌<◌, ◌≤◌, Bool, true, false, cond, eqb, ltb, refl, sym, ◌∙◌, ap, subst, arith, add-zero, zero-add, one-mul, zero-mul, eqb-true, ltb-true, ◌&&◌, ◌⊎◌, inl, inr, ⊎_elim}
+use Rattle.std.proofs.Common.{◌≡◌, ◌≢◌, ℕ, zero, suc, ◌+◌, ◌-◌, ◌*◌, ◌^◌, ◌%◌, ◌<◌, ◌≤◌, Bool, true, eqb, ltb, refl, sym, ◌∙◌, ap, subst, arith, add-zero, zero-add, one-mul, zero-mul, eqb-true, ltb-true, ◌&&◌, ⊎_elim}
 use Rattle.std.proofs.lemmas.Bool.{cases_lt, and_parts}
 use Rattle.std.proofs.Math.Nat.{pow-succ'}
-use Rattle.std.specs.Int.{bit_at}
-use Rattle.std.specs.Int.Bits.{bit_xor, xor_assoc, xor_zero_l, xor_zero_r, xor_self}
-use Rattle.std.proofs.lemmas.Nat.{xor_comm, xor_lt, xor_mod, pow_pos, xor_block}
+use Rattle.std.specs.Int.Bits.{bit_xor, xor_self}
+use Rattle.std.proofs.lemmas.Nat.{xor_lt, pow_pos, xor_block}
 use Rattle.dm_gf256.specs.Field.{plain, reduced, product, power}
-use Rattle.dm_gf256.proofs.Linear.{product-xor_r, product-xor_l, xor_interchange}
+use Rattle.dm_gf256.proofs.Linear.{product-xor_r, product-xor_l}
 use Rattle.dm_gf256.proofs.Checks.{all_below}
 
 -- what the checker finds at each number below n

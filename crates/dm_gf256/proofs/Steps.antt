@@ -1,14 +1,14 @@
 -- What the loops of the field's functions do in one turn.
-use Rattle.std.proofs.Common.{◌≡◌, ◌≢◌, ℕ, zero, suc, ◌+◌, ◌-◌, ◌*◌, ◌/◌, ◌%◌, ◌^◌, ◌<◌, ◌≤◌, Bool, true, false, cond, eqb, refl, sym, ◌∙◌, ap, subst, arith, List, [], ◌∷◌, ◌++◌, length, eqb-true, add-zero, zero-add, ⊎_elim, length-append}
-use Rattle.std.specs.Int.Bits.{bit_xor, xor_assoc, xor_zero_l, xor_zero_r, xor_self}
+use Rattle.std.proofs.Common.{◌≡◌, ◌≢◌, ℕ, suc, ◌+◌, ◌-◌, ◌*◌, ◌/◌, ◌%◌, ◌^◌, ◌<◌, ◌≤◌, true, eqb, refl, sym, ◌∙◌, ap, subst, arith, List, [], ◌∷◌, ◌++◌, length, eqb-true, add-zero, zero-add, length-append}
+use Rattle.std.specs.Int.Bits.{bit_xor, xor_assoc, xor_zero_r}
 use Rattle.std.proofs.Math.Nat.{pow-succ'}
 use Rattle.std.specs.Int.Bits.{bit_and}
-use Rattle.std.proofs.lemmas.Nat.{xor_comm, xor_lt, xor_block, and_mask}
+use Rattle.std.proofs.lemmas.Nat.{xor_comm, xor_block, and_mask}
 use Rattle.dm_gf256.specs.Field.{product, power, plain, reduced}
 use Rattle.dm_gf256.specs.Polynomial.{value}
 use Rattle.dm_gf256.proofs.Checks.{all_below}
 use Rattle.dm_gf256.proofs.Linear.{product-xor_r, product-xor_l}
-use Rattle.dm_gf256.proofs.Ring.{all_below-at, product_comm, product_assoc, product_byte, product-zero_l, product-zero_r, one-product, power_byte, power-add}
+use Rattle.dm_gf256.proofs.Ring.{all_below-at, product_comm, product_assoc, product-zero_l, product-zero_r, one-product}
 
 doubles_low : all_below 128 (λ a. eqb (a * 2 % 256) (product 2 a)) ≡ true
 unfolding all_below product reduced plain

@@ -1,15 +1,14 @@
 -- Two block words of one length that differ in at most c places are equal.
-use Rattle.std.proofs.Common.{◌≡◌, ◌≢◌, ℕ, zero, suc, ◌+◌, ◌-◌, ◌*◌, ◌<◌, ◌≤◌, Bool, true, false, cond, eqb, refl, sym, ◌∙◌, ap, subst, arith, List, [], ◌∷◌, length, eqb-true, eq-eqb, add-zero, zero-add, ⊎_elim, get_or}
-use Rattle.std.proofs.lemmas.Bool.{cases_lt, cases_Bool, eqb-false}
+use Rattle.std.proofs.Common.{◌≡◌, ℕ, suc, ◌+◌, ◌<◌, ◌≤◌, true, false, cond, eqb, refl, sym, ◌∙◌, ap, arith, List, [], ◌∷◌, length, eqb-true, eq-eqb, ⊎_elim, get_or}
+use Rattle.std.proofs.lemmas.Bool.{cases_Bool}
 use Rattle.std.proofs.lemmas.Bool.Decides.{nat_tests}
 use Rattle.std.specs.Bool.{◌==◌}
-use Rattle.std.specs.List.{AllByRecursion}
 use Rattle.std.specs.Int.Bits.{bit_xor, xor_assoc, xor_zero_l, xor_zero_r, xor_self}
-use Rattle.std.proofs.lemmas.Nat.{xor_comm, xor_lt}
+use Rattle.std.proofs.lemmas.Nat.{xor_lt}
 use Rattle.dm_gf256.specs.Field.{product, power}
 use Rattle.dm_gf256.specs.Polynomial.{value, differ, sum_word, IsBlockWord}
-use Rattle.dm_gf256.proofs.Linear.{product-xor_r, product-xor_l, xor_interchange}
-use Rattle.dm_gf256.proofs.Vanish.{moment, value-moment, nonzeros, mark, Bytes, Zeros, vanish, mark_le}
+use Rattle.dm_gf256.proofs.Linear.{product-xor_l, xor_interchange}
+use Rattle.dm_gf256.proofs.Vanish.{value-moment, nonzeros, mark, Bytes, Zeros, vanish, mark_le}
 
 pub length-sum_word : (xs ys : List ℕ) → length xs ≡ length ys → length (sum_word xs ys) ≡ length xs
 unfolding sum_word

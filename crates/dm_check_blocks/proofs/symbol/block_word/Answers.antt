@@ -1,6 +1,4 @@
-use Rattle.std.proofs.Common.{◌+◌, ◌*◌, ◌≡◌, ◌<◌, sym, ◌∙◌, ap, arith}
-use Rattle.dm_check_blocks.specs.Sizes.{all_words}
-use Rattle.dm_check_blocks.specs.Blocks.{position}
+use Rattle.std.proofs.Common.{◌+◌, ◌*◌, sym, ◌∙◌, ap, arith}
 use Rattle.dm_check_blocks.proofs.Interleaving.{position-closed, position-lt}
 use Rattle.dm_check_blocks.proofs.symbol.block_word.Goals as goal
 

@@ -1,8 +1,8 @@
-use Rattle.std.proofs.Common.{◌≡◌, ◌+◌, ◌/◌, ◌<◌, ◌≤◌, ◌++◌, ℕ, List, sym, ◌∙◌, ap, inl, arith, get_or, length, length-take, take, replicate}
+use Rattle.std.proofs.Common.{◌≡◌, ◌/◌, ◌++◌, ℕ, List, sym, ◌∙◌, ap, inl, arith, length, length-take, take, replicate}
 use Rattle.std.proofs.lemmas.List.{get_or-take}
 use Rattle.dm_gf256.specs.Field.{power}
 use Rattle.dm_gf256.specs.Polynomial.{value}
-use Rattle.dm_check_blocks.specs.Sizes.{data_words, blocks, block_checks}
+use Rattle.dm_check_blocks.specs.Sizes.{data_words}
 use Rattle.dm_check_blocks.specs.Blocks.{position, block_data, block_of}
 use Rattle.dm_check_blocks.proofs.Interleaving.{block_of-parts, position_in_data}
 use Rattle.dm_check_blocks.proofs.symbol.complete_block.Goals as goal

@@ -1,8 +1,6 @@
-use Rattle.std.proofs.Common.{◌≡◌, ◌≢◌, ◌<◌, ◌+◌, ◌%◌, ℕ, sym, ◌∙◌, ap, inl, inr, arith, get_or, below_more}
+use Rattle.std.proofs.Common.{◌≢◌, sym, ◌∙◌, ap, inl, inr, arith, below_more}
 use Rattle.dm_gf256.specs.Field.{power}
 use Rattle.dm_gf256.specs.Polynomial.{value}
-use Rattle.dm_check_blocks.specs.Sizes.{data_words, blocks}
-use Rattle.dm_check_blocks.specs.Blocks.{block_of}
 use Rattle.dm_check_blocks.proofs.Interleaving.{block_of_same}
 use Rattle.dm_check_blocks.proofs.symbol.complete_blocks.Goals as goal
 

@@ -1,5 +1,5 @@
-use Rattle.std.proofs.Common.{◌≡◌, ◌+◌, ◌/◌, ◌<◌, sym, ◌∙◌, ap, arith, get_or, length, set}
-use Rattle.dm_check_blocks.specs.Sizes.{data_words, blocks}
+use Rattle.std.proofs.Common.{◌≡◌, ◌+◌, ◌/◌, sym, ◌∙◌, ap, arith}
+use Rattle.dm_check_blocks.specs.Sizes.{data_words}
 use Rattle.dm_check_blocks.specs.Blocks.{position, block_data}
 use Rattle.dm_check_blocks.proofs.Interleaving.{written_more, others_more}
 use Rattle.dm_check_blocks.proofs.symbol.write_checks.Goals as goal

@@ -1,6 +1,6 @@
-use Rattle.std.proofs.Common.{refl, sym, ap, ◌∙◌, ◌≡◌, ◌<◌, ◌-◌, ◌+◌, ◌*◌, ◌^◌, ◌%◌, ◌/◌, ℕ, suc, add-one, arith}
+use Rattle.std.proofs.Common.{sym, ap, ◌∙◌, ◌≡◌, ◌<◌, ◌-◌, ◌^◌, arith}
 use Rattle.std.specs.Int.Bits.{bit_xor, xor_zero_r}
-use Rattle.dm_gf256.specs.Field.{product, power}
+use Rattle.dm_gf256.specs.Field.{product}
 use Rattle.dm_gf256.proofs.Ring.{product-zero_r}
 use Rattle.dm_gf256.proofs.Steps.{product-turn_one, product-turn_zero, half_below, odd, even}
 use Rattle.dm_gf256.proofs.by_bits.product_by_bits.Goals as goal

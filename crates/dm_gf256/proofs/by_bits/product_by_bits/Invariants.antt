@@ -1,4 +1,4 @@
-use Rattle.std.proofs.Common.{◌≡◌, ◌<◌, ◌-◌, ◌^◌, ℕ}
+use Rattle.std.proofs.Common.{◌≡◌, ◌<◌, ◌-◌, ◌^◌}
 use Rattle.std.specs.Int.Bits.{bit_xor}
 use Rattle.dm_gf256.specs.Field.{product}
 use Rattle.dm_gf256.proofs.by_bits.product_by_bits.Given as goal

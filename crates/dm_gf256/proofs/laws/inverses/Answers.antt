@@ -1,4 +1,3 @@
-use Rattle.std.proofs.Common.{ℕ, ◌<◌, arith}
 use Rattle.dm_gf256.proofs.Ring.{inverse, inverse_byte, product-inverse}
 use Rattle.dm_gf256.proofs.laws.inverses.Goals as goal
 

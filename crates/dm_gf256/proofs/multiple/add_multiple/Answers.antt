@@ -1,4 +1,4 @@
-use Rattle.std.proofs.Common.{arith, sym}
+use Rattle.std.proofs.Common.{arith}
 use Rattle.dm_gf256.proofs.Divide.{add_scaled-by_places}
 use Rattle.dm_gf256.proofs.multiple.add_multiple.Goals as goal
 

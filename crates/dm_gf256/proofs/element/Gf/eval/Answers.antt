@@ -1,5 +1,4 @@
-use Rattle.std.proofs.Common.{refl, ap, ◌∙◌, arith}
-use Rattle.std.specs.Int.Bits.{bit_xor}
+use Rattle.std.proofs.Common.{refl, arith}
 use Rattle.dm_gf256.specs.Polynomial.{value}
 use Rattle.dm_gf256.proofs.Evals.{value-more}
 use Rattle.dm_gf256.proofs.element.Gf.eval.Goals as goal
