@@ -1,6 +1,5 @@
 -- What was read, where the reader tells what it has.
-use Rattle.std.proofs.Common.{◌≡◌, ℕ, List, [], ◌++◌, take, Option, Some, None, IfSome, Result, Ok, Err, ◌∙◌, ap}
-use Rattle.std.specs.Prelude.{IfErr}
+use Rattle.std.proofs.Common.{◌≡◌, ℕ, List, [], ◌++◌, take, Option, Some, None, IfSome, ◌∙◌, ap}
 use Rattle.std.specs.Option.{option_map}
 
 -- a reader that gives no more than n bytes gave the first n

@@ -1,5 +1,8 @@
 //! The commands and their options, as the parser knows them.
 
+ghost use Rattle.std.specs.Prelude.{◌≡◌, IfSome};
+ghost use Rattle.relay_line.specs.Line.{scheme_name};
+
 use clap::{Arg, ArgAction, Command, value_parser};
 use dm_encodation::Scheme;
 use std::alloc::{AllocError, Global};
@@ -8,7 +11,9 @@ use std::alloc::{AllocError, Global};
 static SCHEMES: [&str; 4] = ["ascii", "c40", "text", "base256"];
 
 /// The encodation of a name, if it is one of `SCHEMES`.
-pub fn scheme_of(name: &str) -> Option<Scheme> {
+pub fn scheme_of(name: &str) -> Option<Scheme>
+    ensures { IfSome result (λ scheme. name.now ≡ scheme_name scheme) }
+{
     match name {
         "ascii" => Some(Scheme::Ascii),
         "c40" => Some(Scheme::C40),

@@ -1,5 +1,3 @@
-use Rattle.std.proofs.Common.{◌≡◌, ◌∙◌, List, ap, subst, take, IfSome}
-use Rattle.std.specs.Option.{option_map}
 use Rattle.relay.proofs.Inputs.{first_of}
 use Rattle.relay.proofs.document.read_document.Goals as goal
 
