@@ -1,6 +1,6 @@
 //! A symbol as a grid of modules.
 
-ghost use Rattle.std.specs.Prelude.{◌≡◌, ◌<◌, ◌+◌, ◌*◌, IfOk, length};
+ghost use Rattle.std.specs.Prelude.{◌≡◌, ◌<◌, ◌+◌, ◌*◌, IfOk, length, slice_range};
 ghost use Rattle.dm_check_blocks.specs.Sizes as sizes;
 ghost use Rattle.dm_placement.specs.Square.{IsWhole, Square, module_at, with_turned};
 
@@ -80,6 +80,16 @@ impl<A: Allocator> Grid<A> {
         ensures { result ≡ module_at self.now row column }
     {
         self.modules[self.index(row, column)]
+    }
+
+    /// The modules of a row, from 0, from left to right.
+    pub fn row(&self, row: u16) -> &[bool]
+        requires { row < self.now.side }
+        ensures { result.now ≡ slice_range self.now.modules (row * self.now.side) ((row + 1) * self.now.side) }
+    {
+        let side = self.side() as usize;
+        let start = row as usize * side;
+        &self.modules[start..start + side]
     }
 
     /// A copy of the grid, in memory of this allocator.

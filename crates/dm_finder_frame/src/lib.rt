@@ -12,6 +12,7 @@ mod fault;
 mod framing;
 mod grid;
 pub mod laws;
+mod line;
 mod region;
 #[cfg(test)]
 mod tests;

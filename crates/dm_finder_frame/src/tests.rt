@@ -26,6 +26,10 @@ fn draws_a_symbol_and_takes_it_apart(rt: HostRuntime) -> Result<(), Fail> {
     let mut grid = frame(rt.alloc(), Size::Side10, &matrix)?;
     assert_eq!(rt; grid.side(), 10);
     assert_eq!(rt; grid.size(), Size::Side10);
+    let second = [
+        true, true, false, false, true, false, true, true, false, true,
+    ];
+    assert_eq!(rt; grid.row(1), second.as_slice());
     for r in 0..10u16 {
         for c in 0..10u16 {
             assert_eq!(rt; grid.module(r, c), MODULES[r as usize][c as usize] == b'1');

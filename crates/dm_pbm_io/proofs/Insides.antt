@@ -1,39 +1,50 @@
 -- The pixels inside the quiet zone of a picture.
-use Rattle.std.proofs.Common.{◌≡◌, ℕ, ◌+◌, ◌-◌, ◌*◌, ◌/◌, ◌%◌, ◌<◌, ◌≤◌, Bool, false, List, [], ◌∷◌, ◌++◌, length, map, slice_index_or, sym, ap, ◌∙◌, arith, ⊎_elim}
-use Rattle.std.specs.List.{range_with_len}
-use Rattle.std.proofs.lemmas.List.{get_or_default}
-use Rattle.std.proofs.lemmas.List.FromFn.{map-range_with_len_more}
-use Rattle.std.proofs.Math.Nat.{mul-le-mul_right, mod-lt}
-use Rattle.std.proofs.lemmas.Nat.{div-add-mod'}
+use Rattle.std.proofs.Common.{◌≡◌, ℕ, ◌+◌, ◌-◌, ◌*◌, ◌/◌, ◌%◌, ◌<◌, ◌≤◌, Bool, false, List, ◌++◌, length, get_or, map, slice_index_or, sym, ap, ◌∙◌, arith, ⊎_elim}
+use Rattle.std.specs.List.{between, range_with_len}
+use Rattle.std.proofs.lemmas.List.{get_or_append_left, get_or-append_right, length-append}
+use Rattle.std.proofs.lemmas.List.Edits.{length-between, get_or-between}
+use Rattle.std.proofs.lemmas.List.FromFn.{fill_by_all, get_or-map-range_with_len, length-map-range_with_len}
+use Rattle.std.proofs.Math.Nat.{mul-le-mul_right}
+use Rattle.std.proofs.lemmas.Nat.{div-mul-add, mod-mul-add}
 use Rattle.std.proofs.lemmas.Bool.{cases_lt}
 
--- one more row of s than s * s holds is not reached
-row_below : (i s : ℕ) → i < s * s → i / s < s
-row_below i s h =
-    let q = div-add-mod' i s in
-    ⊎_elim (λ (l : i / s < s). l)
-    (λ (l : s ≤ i / s). let more : s * s ≤ i / s * s = mul-le-mul_right s l in absurd (omega arith))
-    (cases_lt (i / s) s)
+-- the module with this index inside the quiet zone of pixels w wide
+abbrev pub inner_module : List Bool → ℕ → ℕ → ℕ → Bool
+inner_module pixels w s i = slice_index_or pixels ((i / s + 1) * w + (i % s + 1)) false
 
--- the pixel of a module stands in the picture
-pub inside_lt : (i w : ℕ) → 3 ≤ w → i < (w - 2) * (w - 2) → (i / (w - 2) + 1) * w + (i % (w - 2) + 1) < w * w
-inside_lt i w h l =
-    let s = w - 2 in
-    let r : i / s < s = row_below i s l in
-    let k : i % s < s = mod-lt i (let p : 0 < s = omega arith in p) in
-    let rows : (i / s + 1) * w ≤ s * w = mul-le-mul_right w (let q : i / s + 1 ≤ s = omega arith in q) in
-    let whole : (s + 1) * w ≤ w * w = mul-le-mul_right w (let q : s + 1 ≤ w = omega arith in q) in
+-- a row inside the quiet zone stands in the picture
+pub row_within : (w s row : ℕ) → w ≡ s + 2 → row < s → (row + 1) * w + 1 + s ≤ w * w
+row_within w s row e h =
+    let fits : (row + 2) * w ≤ w * w = mul-le-mul_right w (let l : row + 2 ≤ w = omega arith in l) in
     omega arith
 
--- one module more
-pub inside_more : (pixels old new : List Bool) (i w h : ℕ) (x : Bool) → 3 ≤ w → w ≡ h → length pixels ≡ w * h → i < (w - 2) * (w - 2) →
-    x ≡ slice_index_or pixels ((i / (w - 2) + 1) * w + (i % (w - 2) + 1)) x → new ≡ old ++ x ∷ [] →
-    old ≡ map (λ k. slice_index_or pixels ((k / (w - 2) + 1) * w + (k % (w - 2) + 1)) false) (range_with_len 0 i) →
-    new ≡ map (λ k. slice_index_or pixels ((k / (w - 2) + 1) * w + (k % (w - 2) + 1)) false) (range_with_len 0 (i + 1))
-inside_more pixels old new i w h x zone square count l read pushed so_far =
-    let module' : ℕ → Bool = λ k. slice_index_or pixels ((k / (w - 2) + 1) * w + (k % (w - 2) + 1)) false in
-    let place = (i / (w - 2) + 1) * w + (i % (w - 2) + 1) in
-    let within : place < length pixels = (let p = inside_lt i w zone l in let f : w * w ≡ w * h = ap (λ t. w * t) square in omega arith) in
-    let is : x ≡ module' i = read ∙ get_or_default pixels place x false within in
-    pushed ∙ ap (λ t. t ++ x ∷ []) so_far ∙ ap (λ t. map module' (range_with_len 0 i) ++ t ∷ []) is
-    ∙ sym (map-range_with_len_more module' 0 i i (let e : 0 + i ≡ i = omega arith in e))
+-- one row more
+pub row_taken : (pixels old new : List Bool) (w s row : ℕ) → w ≡ s + 2 → row < s → length pixels ≡ w * w
+    → new ≡ old ++ between ((row + 1) * w + 1) ((row + 1) * w + 1 + s) pixels
+    → old ≡ map (inner_module pixels w s) (range_with_len 0 (row * s)) → new ≡ map (inner_module pixels w s) (range_with_len 0 ((row + 1) * s))
+row_taken pixels old new w s row ew hr whole en eo =
+    let f = inner_module pixels w s in
+    let start = (row + 1) * w + 1 in
+    let part = between start (start + s) pixels in
+    let fits = row_within w s row ew hr in
+    let before : length old ≡ row * s = ap length eo ∙ length-map-range_with_len f 0 (row * s) in
+    let size = length-between pixels start (start + s) (omega (arith, fits, whole)) in
+    let both = length-append old part in
+    fill_by_all f new ((row + 1) * s) false (ap length en ∙ omega (arith, both, size, before))
+    (λ k h.
+    ap (λ (xs : List Bool). get_or xs k false) en
+    ∙ ⊎_elim (λ (l : k < row * s).
+    get_or_append_left old part false k (omega (arith, before)) ∙ ap (λ (xs : List Bool). get_or xs k false) eo
+    ∙ get_or-map-range_with_len f 0 (row * s) k k false l (omega arith))
+    (λ (l : row * s ≤ k).
+    let c = k - row * s in
+    let hc : c < s = omega arith in
+    let is : k ≡ row * s + c = omega arith in
+    let above : k / s ≡ row = ap (λ (x : ℕ). x / s) is ∙ div-mul-add row s c hc in
+    let beside : k % s ≡ c = ap (λ (x : ℕ). x % s) is ∙ mod-mul-add row s c hc in
+    let place : start + c ≡ (row + 1) * w + (c + 1) = omega arith in
+    get_or-append_right old part (row * s) k false before l
+    ∙ get_or-between pixels start (start + s) c false (omega arith)
+    ∙ ap (λ (x : ℕ). get_or pixels x false) place
+    ∙ sym (ap (λ (x : ℕ). get_or pixels ((x + 1) * w + (k % s + 1)) false) above ∙ ap (λ (x : ℕ). get_or pixels ((row + 1) * w + (x + 1)) false) beside))
+    (cases_lt k (row * s)))

@@ -6,6 +6,6 @@ pub mod Written
 pub mod RoundTrip
 pub mod OneImage
 pub mod NotRefused
+pub mod Borders
 pub mod Insides
 pub mod Shapes
-pub mod Pixels

@@ -1,6 +1,6 @@
 -- The image of a grid: its modules inside a quiet zone of one light pixel on each side (ISO/IEC 16022, clause 5.7 and
 -- 6.3, ask for a quiet zone of one module; one pixel per module is this project's own choice).
-use Rattle.std.specs.Prelude.{◌≡◌, ℕ, ◌+◌, ◌-◌, ◌*◌, ◌<◌, ◌/◌, ◌%◌, Bool, false, ◌&&◌, nat_lt, List, length, map, slice_index_or, if◌then◌else◌}
+use Rattle.std.specs.Prelude.{◌≡◌, ℕ, ◌+◌, ◌-◌, ◌*◌, ◌<◌, ◌/◌, ◌%◌, Bool, false, ◌&&◌, nat_lt, length, map, slice_index_or, if◌then◌else◌}
 use Rattle.std.specs.List.{range_with_len}
 use Rattle.dm_check_blocks.specs.declared.size.Size.{Size}
 use Rattle.dm_check_blocks.specs.Sizes as sizes

@@ -1,4 +1,5 @@
 pub mod Comments
+pub mod Drawing
 pub mod Grid
 pub mod Header
 pub mod HeaderFaults

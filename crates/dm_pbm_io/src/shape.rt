@@ -50,9 +50,10 @@ fn modules_of<A: Allocator + Copy, B: Allocator>(
 {
     let width = image.width as usize;
     let side = width - 2;
-    let mut modules = Vec::new(alloc);
-    for i in 0..side * side {
-        modules.push(image.pixels[(i / side + 1) * width + (i % side + 1)])?;
+    let mut modules = Vec::with_capacity(alloc, side * side)?;
+    for row in 0..side {
+        let start = (row + 1) * width + 1;
+        modules.extend_from_slice(&image.pixels[start..start + side])?;
     }
     Ok(modules)
 }

@@ -90,7 +90,7 @@ pub(crate) fn walk_cells<A: Allocator + Copy>(
     requires mapping { IsMappingSide side }
     ensures { IfOk result (λ cells. cells.items ≡ bit_cells side) }
 {
-    let mut cells = Vec::new(alloc);
+    let mut cells = Vec::with_capacity(alloc, side as usize * side as usize)?;
     let mut taken = light_of_side(alloc, side)?;
     // counted from 2 above and left of the matrix, which the walk leaves by no more
     let mut row = 6;

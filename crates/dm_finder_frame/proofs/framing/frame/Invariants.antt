@@ -1,8 +1,8 @@
-use Rattle.std.proofs.Common.{◌≡◌, ◌/◌, ◌%◌, map}
-use Rattle.std.specs.List.{range_with_len}
+use Rattle.std.proofs.Common.{◌*◌}
 use Rattle.dm_check_blocks.specs.Sizes.{side}
 use Rattle.dm_finder_frame.specs.Frame.{grid_module}
+use Rattle.dm_finder_frame.specs.Lines.{IsFilledTo}
 use Rattle.dm_finder_frame.proofs.framing.frame.Given as goal
 
-abbrev pub invariant-loop-i : goal.invariant-loop-i
-invariant-loop-i g l = l.modules.items ≡ map (λ i. grid_module l.size l.matrix (i / side l.size) (i % side l.size)) (range_with_len 0 l.i)
+abbrev pub invariant-loop-row : goal.invariant-loop-row
+invariant-loop-row g l = IsFilledTo (side l.size) (l.row * side l.size) (grid_module l.size l.matrix) l.modules.items

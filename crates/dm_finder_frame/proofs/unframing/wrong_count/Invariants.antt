@@ -1,10 +1,10 @@
-use Rattle.std.proofs.Common.{◌≡◌, ◌≤◌, count_by, map}
-use Rattle.std.specs.List.{range_with_len}
-use Rattle.dm_finder_frame.specs.Frame.{is_wrong}
+use Rattle.std.proofs.Common.{◌≡◌, ◌≤◌, ◌*◌}
+use Rattle.dm_check_blocks.specs.Sizes.{side}
+use Rattle.dm_finder_frame.specs.Lines.{wrong_among}
 use Rattle.dm_finder_frame.proofs.unframing.wrong_count.Given as goal
 
-abbrev pub invariant-loop-i : goal.invariant-loop-i
-invariant-loop-i g l = record {
-  counted : l.wrong ≡ count_by (λ wrong. wrong) (map (is_wrong l.size l.grid) (range_with_len 0 l.i));
-  below : l.wrong ≤ l.i;
+abbrev pub invariant-loop-row : goal.invariant-loop-row
+invariant-loop-row g l = record {
+  counted : l.wrong ≡ wrong_among l.size l.grid 0 (l.row * side l.size);
+  most : l.wrong ≤ l.row * side l.size;
 }

@@ -14,7 +14,7 @@ sweeps-init g c =
     let P : List Cell → Type 0 = λ cells. Remains c.args.side Start 6 2 cells c.in_ok-taken.taken in
     let Q : Square → Type 0 = λ m. Remains c.args.side Start 6 2 [] m in
     record {
-      remains = subst P (sym c.new-cells.ensures.items) (subst Q (sym c.in_ok-taken.ensures) (starts c.args.side c.requires.mapping));
+      remains = subst P (sym c.in_ok-cells.ensures.items) (subst Q (sym c.in_ok-taken.ensures) (starts c.args.side c.requires.mapping));
       left = λ h. omega arith;
       top = λ h. let s = c.requires.side.eight in omega arith;
     }
