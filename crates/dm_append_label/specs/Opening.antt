@@ -1,5 +1,6 @@
 -- What a grid opens as. Each refusal is the first, in this order, that applies: the finder patterns, the blocks, the
--- head, and the text behind it.
+-- head, and the text behind it (ISO/IEC 16022, clauses 5.2.9, 5.6 and 5.7, Annexes E and F; how many modules of the
+-- finder patterns may be wrong is this project's own rule).
 use Rattle.std.specs.Prelude.{◌≡◌, ℕ, ◌*◌, ◌<◌, ◌≤◌, List, take, drop, Result, Ok, Err}
 use Rattle.dm_gf256.specs.Polynomial.{differ}
 use Rattle.dm_check_blocks.specs.declared.size.Size.{Size}

@@ -12,8 +12,12 @@ name_of TooLong = codes "TooLong"
 name_of Memory = codes "Memory"
 name_of Write = codes "Write"
 
+-- the line that names a refusal
+abbrev pub refused_line : List ℕ → List ℕ
+refused_line name = codes "refused " ++ (name ++ 10 ∷ [])
+
 abbrev pub refusal_line : Refusal → List ℕ
-refusal_line refusal = codes "refused " ++ (name_of refusal ++ 10 ∷ [])
+refusal_line refusal = refused_line (name_of refusal)
 
 -- the words in decimal, a space between each two, and a line end
 abbrev pub words_line : List ℕ → List ℕ

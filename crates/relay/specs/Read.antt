@@ -1,5 +1,6 @@
 -- What `read` prints: a line for each image, in order, up to the end of the input, a plain image, an image that can't
--- be read, or the greatest number of images.
+-- be read, or the greatest number of images. What a symbol bears is the standard's (ISO/IEC 16022, clauses 5.2 and 5.6,
+-- Annexes E and F), how images follow one another Netpbm's, and where reading ends this project's own rule.
 use Rattle.std.specs.Prelude.{◌≡◌, ◌≢◌, ℕ, ◌+◌, ◌<◌, ◌≤◌, ◌⊎◌, Bool, true, false, ◌||◌, if◌then◌else◌, List, [], ◌++◌, Option, Err}
 use Rattle.std.specs.Io.KnownBytes.{Consumes, Appends, IsAtEnd}
 use Rattle.dm_gf256.specs.Polynomial.{differ}
@@ -19,7 +20,8 @@ use Rattle.dm_append_label.specs.declared.fault.LabelFault.TheVariants as label_
 use Rattle.dm_pbm_io.specs.Grid.{HasShape, inside}
 use Rattle.dm_pbm_io.specs.Image.{Picture, Spells, Refuses}
 use Rattle.dm_pbm_io.specs.declared.fault.PbmFault.{PbmFault}
-use Rattle.relay.specs.ReadLines.{label_line, symbol_line, read_refusal_name, refused_line}
+use Rattle.relay.specs.Lines.{refused_line}
+use Rattle.relay.specs.ReadLines.{label_line, symbol_line, read_refusal_name}
 use Rattle.relay.specs.declared.read_refusal.ReadRefusal.{ReadRefusal}
 use Rattle.relay.specs.declared.read_refusal.ReadRefusal.TheVariants.{Image, Shape, Label, Text, Memory, TooMany}
 

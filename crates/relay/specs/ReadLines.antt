@@ -1,4 +1,4 @@
--- The lines that `read` prints.
+-- The lines that `read` prints: what they show is this project's own rule. The innermost fault names a refusal.
 use Rattle.std.specs.Prelude.{ℕ, List, [], ◌∷◌, ◌++◌, codes}
 use Rattle.std.specs.Fmt.{decimal}
 use Rattle.hex.specs.Hex.{encode_lower}
@@ -58,6 +58,3 @@ read_refusal_name (Label fault) = label_fault_name fault
 read_refusal_name (Text fault) = text_fault_name fault
 read_refusal_name Memory = codes "Memory"
 read_refusal_name TooMany = codes "TooMany"
-
-abbrev pub refused_line : List ℕ → List ℕ
-refused_line name = codes "refused " ++ (name ++ 10 ∷ [])

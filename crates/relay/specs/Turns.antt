@@ -1,4 +1,5 @@
--- One turn of `read`: what was taken of the input, what is left, and the line that was written.
+-- One turn of `read`: what was taken of the input, what is left, and the line that was written. Only private contracts
+-- cite this.
 use Rattle.std.specs.Prelude.{◌≡◌, ℕ, ◌<◌, false, List, Option}
 use Rattle.dm_pbm_io.specs.Image.{Picture, Spells}
 use Rattle.relay.specs.Read.{PrintsPicture, EndsInput}

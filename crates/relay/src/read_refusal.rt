@@ -1,7 +1,8 @@
 //! Refusals of `read`, as it names them.
 
 ghost use Rattle.std.specs.Prelude.{◌≡◌};
-ghost use Rattle.relay.specs.ReadLines.{image_fault_name, label_fault_name, refused_line, text_fault_name};
+ghost use Rattle.relay.specs.Lines.{refused_line};
+ghost use Rattle.relay.specs.ReadLines.{image_fault_name, label_fault_name, text_fault_name};
 
 use dm_append_label::LabelFault;
 use dm_encodation::DecodeFault;
@@ -68,7 +69,8 @@ fn label_line(fault: LabelFault) -> &'static [u8]
 
 impl ReadRefusal {
     ghost use Rattle.std.specs.Prelude.{◌≡◌};
-    ghost use Rattle.relay.specs.ReadLines.{read_refusal_name, refused_line};
+    ghost use Rattle.relay.specs.Lines.{refused_line};
+    ghost use Rattle.relay.specs.ReadLines.{read_refusal_name};
 
     /// The line that names the refusal, by the innermost fault.
     pub fn line(self) -> &'static [u8]
