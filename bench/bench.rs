@@ -1,5 +1,5 @@
 //! Times of the project's static library beside those of Debian's libraries: symbols of three sides made, read clean
-//! and read with as many wrong words in each block as are put right, and labels opened. Each answer is checked before
+//! and read with as many wrong words in each block as can be corrected, and labels opened. Each answer is checked before
 //! it is timed.
 
 mod measure;
@@ -247,7 +247,7 @@ fn measure_all() {
     }
 }
 
-// Does one kind of work on the greatest size so many times, for a profile; answers whether there is such a kind.
+// Does one kind of work on the greatest size that many times, for a profile; answers whether there is such a kind.
 fn repeat(kind: &str, times: usize) -> bool {
     let size = SIZES[SIZES.len() - 1];
     let text = size.digits(size.data_words);

@@ -32,12 +32,12 @@ impl Numbers {
 }
 
 impl Size {
-    /// The most wrong words of one block that are put right.
+    /// The most wrong words of one block that can be corrected.
     pub fn limit(self) -> usize {
         self.check_words / self.blocks / 2
     }
 
-    /// As many digits as fill so many data words, two to a word.
+    /// As many digits as fill that many data words, two to a word.
     pub fn digits(self, words: usize) -> Vec<u8> {
         let mut numbers = Numbers(1);
         (0..2 * words).map(|_| b'0' + numbers.below(10) as u8).collect()

@@ -1,5 +1,4 @@
-pub mod Changes
+pub mod CutParts
 pub mod CutsSoFar
 pub mod Near
-pub mod Readings
 pub mod Sealed

@@ -1,66 +1,76 @@
 -- What a grid opens as. Each refusal is the first, in this order, that applies: the finder patterns, the blocks, the
--- head, and the text behind it (ISO/IEC 16022, clauses 5.2.9, 5.6 and 5.7, Annexes E and F; how many modules of the
--- finder patterns may be wrong is this project's own rule).
-use Rattle.std.specs.Prelude.{◌≡◌, ℕ, ◌*◌, ◌<◌, ◌≤◌, List, take, drop, Result, Ok, Err}
+-- head, and the text after it (ISO/IEC 16022:2006, 5.6 and 5.7, Annexes A, E and F; how many modules of the finder
+-- patterns may be wrong is this project's own rule).
+use Rattle.std.specs.Prelude.{◌≡◌, ℕ, ◌≤◌, List, length, drop, Result, Ok, Err, IfOk}
 use Rattle.dm_gf256.specs.Polynomial.{differ}
-use Rattle.dm_check_blocks.specs.declared.size.Size.{Size}
-use Rattle.dm_check_blocks.specs.Sizes.{data_words}
-use Rattle.dm_corrector.specs.Symbols.{CorrectsSymbol, IsFirstFaulty}
 use Rattle.dm_encodation.specs.Grammar.{ReadsOnly, StuckOnly}
-use Rattle.dm_placement.specs.Square.{Square}
-use Rattle.dm_finder_frame.specs.Frame.{border, frame_modules}
+use Rattle.dm_encodation.specs.declared.fault.DecodeFault.{DecodeFault}
+use Rattle.dm_finder_frame.specs.Frame.{wrong_frame_modules}
+use Rattle.dm_finder_frame.specs.Grids.{GridView}
+use Rattle.dm_finder_frame.specs.UnframeOutcome.{HasGoodFrame, HasBadFrame}
+use Rattle.dm_symbol.specs.Correction.{HasBadBlock, IsReadAs}
+use Rattle.dm_symbol.specs.Symbols.{IsNear, data_of, words_of_grid}
 use Rattle.dm_append_label.specs.Pages.{PageView}
-use Rattle.dm_append_label.specs.Heads.{Place, place_of, place_at}
-use Rattle.dm_append_label.specs.Labels.{words_of}
-use Rattle.dm_append_label.specs.declared.correcting.Corrected.{Corrected}
+use Rattle.dm_append_label.specs.Heads.{HeadView, head_of, head_at}
+use Rattle.dm_append_label.specs.Labels.{Carries}
+use Rattle.dm_append_label.specs.declared.opening.TheConstants.{MOST_PAGE_BYTES}
+use Rattle.dm_append_label.specs.declared.fault.HeadFault.{HeadFault}
+use Rattle.dm_append_label.specs.declared.fault.HeadFault.TheVariants as head_faults
+use Rattle.dm_append_label.specs.declared.fault.PageFault.{PageFault}
+use Rattle.dm_append_label.specs.declared.fault.PageFault.TheVariants as page_faults
 use Rattle.dm_append_label.specs.declared.fault.LabelFault.{LabelFault}
 use Rattle.dm_append_label.specs.declared.fault.LabelFault.TheVariants as faults
 use Rattle.dm_append_label.specs.declared.opening.Opened.{Opened}
 
--- The finder patterns are within their limit, and these words are the one symbol near the grid's.
-pub record IsReadAs (size : Size) (grid : Square) (words : List ℕ) : Type 0 where
-  pub patterns : 8 * border size grid ≤ frame_modules size
-  pub near : CorrectsSymbol size (words_of size grid) words
-  pub only : (others : List ℕ) → CorrectsSymbol size (words_of size grid) others → others ≡ words
+-- ---- data words
 
--- What the words of a grid are corrected to. Each refusal is the first, in this order, that applies: the finder
--- patterns, and the blocks.
-abbrev pub CorrectsGrid : {A : Type 0} → Size → Square → Result (Corrected A) LabelFault → Type 0
-CorrectsGrid size grid (Ok symbol) = (symbol.size ≡ size) × IsReadAs size grid symbol.words.items
-    × (symbol.corrected ≡ differ (words_of size grid) symbol.words.items) × (symbol.wrong ≡ border size grid)
-CorrectsGrid size grid (Err (faults.Border wrong)) = (frame_modules size < 8 * border size grid) × (wrong ≡ border size grid)
-CorrectsGrid size grid (Err (faults.Block block)) = (8 * border size grid ≤ frame_modules size) × IsFirstFaulty size (words_of size grid) block
-CorrectsGrid size grid (Err faults.NotAppended) = ⊥
-CorrectsGrid size grid (Err (faults.Sequence word)) = ⊥
-CorrectsGrid size grid (Err faults.FileId) = ⊥
-CorrectsGrid size grid (Err (faults.Content fault)) = ⊥
-CorrectsGrid size grid (Err faults.Memory) = 8 * border size grid ≤ frame_modules size
+-- the data words have the head of this page, and read as its bytes and as no others
+pub record IsPageOf (words : List ℕ) (page : PageView) : Type 0 where
+  pub head : head_at words ≡ Ok (head_of page)
+  pub reads : ReadsOnly 5 (drop 4 words) page.bytes
 
--- the data words
-abbrev pub data_of : Size → List ℕ → List ℕ
-data_of size words = take (data_words size) words
+-- the data words have a head, and the text after it has this fault and no other
+pub record HasTextFault (words : List ℕ) (fault : DecodeFault) : Type 0 where
+  pub head : HeadView
+  pub is_head : head_at words ≡ Ok head
+  pub stuck : StuckOnly 5 (drop 4 words) fault
 
--- the grid is read as these words, which have this page
-pub record OpensAs (size : Size) (grid : Square) (page : PageView) (corrected wrong : ℕ) : Type 0 where
+-- what data words are read as: the page of a label, or the first fault that applies
+abbrev pub ReadsPage : List ℕ → Result PageView PageFault → Type 0
+ReadsPage words (Ok page) = IsPageOf words page
+ReadsPage words (Err (page_faults.Head fault)) = head_at words ≡ Err fault
+ReadsPage words (Err (page_faults.Content fault)) = HasTextFault words fault
+ReadsPage words (Err page_faults.Memory) = (head : HeadView) × (head_at words ≡ Ok head)
+
+-- ---- grids
+
+-- the grid is read as words that have this page
+pub record OpensAs (grid : GridView) (page : PageView) (corrected wrong : ℕ) : Type 0 where
   pub words : List ℕ
-  pub read : IsReadAs size grid words
-  pub begins : place_at (data_of size words) ≡ Ok (place_of page)
-  pub reads : ReadsOnly 5 (drop 4 (data_of size words)) page.bytes
-  pub changed : corrected ≡ differ (words_of size grid) words
-  pub border : wrong ≡ border size grid
+  pub read : IsReadAs grid words
+  pub is_page : IsPageOf (data_of grid.size words) page
+  pub changed : corrected ≡ differ (words_of_grid grid) words
+  pub wrong_is : wrong ≡ wrong_frame_modules grid
 
--- at a grid of a size
-abbrev pub Opens : {A : Type 0} → Size → Square → Result (Opened A) LabelFault → Type 0
-Opens size grid (Ok opened) = OpensAs size grid opened.page opened.corrected opened.wrong
-Opens size grid (Err (faults.Border wrong)) = (frame_modules size < 8 * border size grid) × (wrong ≡ border size grid)
-Opens size grid (Err (faults.Block block)) = (8 * border size grid ≤ frame_modules size) × IsFirstFaulty size (words_of size grid) block
-Opens size grid (Err faults.NotAppended) = (words : List ℕ) × IsReadAs size grid words × (place_at (data_of size words) ≡ Err faults.NotAppended)
-Opens size grid (Err (faults.Sequence word)) = (words : List ℕ) × IsReadAs size grid words × (place_at (data_of size words) ≡ Err (faults.Sequence word))
-Opens size grid (Err faults.FileId) = (words : List ℕ) × IsReadAs size grid words × (place_at (data_of size words) ≡ Err faults.FileId)
-Opens size grid (Err (faults.Content fault)) = (words : List ℕ) × IsReadAs size grid words × (place : Place) × (place_at (data_of size words) ≡ Ok place) × StuckOnly 5 (drop 4 (data_of size words)) fault
-Opens size grid (Err faults.Memory) = 8 * border size grid ≤ frame_modules size
+-- the grid is read as words whose head has this fault
+abbrev pub HasBadHead : GridView → HeadFault → Type 0
+HasBadHead grid fault = (words : List ℕ) × IsReadAs grid words × (head_at (data_of grid.size words) ≡ Err fault)
 
--- A grid near the label of a page opens as that page, or its finder patterns or want of memory refuse it.
+-- the grid is read as words whose text has this fault
+abbrev pub HasBadText : GridView → DecodeFault → Type 0
+HasBadText grid fault = (words : List ℕ) × IsReadAs grid words × HasTextFault (data_of grid.size words) fault
+
+abbrev pub Opens : {A : Type 0} → GridView → Result (Opened A) LabelFault → Type 0
+Opens grid (Ok opened) = OpensAs grid opened.page opened.corrected opened.wrong
+Opens grid (Err (faults.Border wrong)) = HasBadFrame grid wrong
+Opens grid (Err (faults.Block block)) = HasBadBlock grid block
+Opens grid (Err faults.NotAppended) = HasBadHead grid head_faults.NotAppended
+Opens grid (Err (faults.Sequence word)) = HasBadHead grid (head_faults.Sequence word)
+Opens grid (Err faults.FileId) = HasBadHead grid head_faults.FileId
+Opens grid (Err (faults.Content fault)) = HasBadText grid fault
+Opens grid (Err faults.Memory) = HasGoodFrame grid
+
+-- A grid near the label of a page opens as that page, or it is refused for its finder patterns or for lack of memory.
 abbrev pub OpensNear : {A : Type 0} → PageView → Result (Opened A) LabelFault → Type 0
 OpensNear page (Ok opened) = opened.page ≡ page
 OpensNear page (Err (faults.Border wrong)) = Unit {0}
@@ -70,3 +80,10 @@ OpensNear page (Err (faults.Sequence word)) = ⊥
 OpensNear page (Err faults.FileId) = ⊥
 OpensNear page (Err (faults.Content fault)) = ⊥
 OpensNear page (Err faults.Memory) = Unit {0}
+
+-- All that is known of what a grid is opened as: exactly what it is, that a grid near a label is that label's page, and
+-- that no page has more bytes than the greatest symbol holds.
+pub record LabelOpens {A : Type 0} (grid : GridView) (result : Result (Opened A) LabelFault) : Type 0 where
+  pub opens : Opens grid result
+  pub near : (label : GridView) (page : PageView) → Carries page label → IsNear grid label → OpensNear page result
+  pub short : IfOk result (λ opened. length opened.page.bytes ≤ MOST_PAGE_BYTES)

@@ -1,4 +1,4 @@
--- File identifications (ISO/IEC 16022, clause 5.6.2; their numbers are this project's own), and pages.
+-- File identifications (ISO/IEC 16022:2006, 5.6.3; their numbers are this project's own), and pages.
 use Rattle.std.specs.Prelude.{ℕ, ◌+◌, ◌/◌, ◌%◌, ◌≤◌, List, [], ◌∷◌}
 
 -- the two words of an identification number

@@ -1,19 +1,22 @@
 //! A document cut into the parts of its labels.
 
-ghost use Rattle.std.specs.Prelude.{◌≡◌, ◌≤◌, List, ℕ, length, IfOk, OnErr};
-ghost use Rattle.dm_append_label.specs.Parts.{AreEnds, until_two};
+ghost use Rattle.std.specs.Prelude.{◌≡◌, ◌≤◌, length, IfOk, OnErr};
+ghost use Rattle.dm_append_label.specs.Parts.{AreEnds, HasNoEnds, IsCut, until_two};
 
 use crate::head::HEAD_WORDS;
+use crate::laws::parts_of_a_document;
 use arrayvec::ArrayVec;
 use dm_check_blocks::Size;
 use dm_encodation::{Scheme, fit};
+use thiserror::Error;
 
-/// The most labels of one document (ISO/IEC 16022, clause 5.6).
+/// The most labels of one document (ISO/IEC 16022:2006, 5.6).
 pub const MOST_LABELS: usize = 16;
 
 /// The size has no room for the head of a label, some rest of the document has no prefix that fits but the empty one,
 /// or the document needs more than sixteen labels.
-#[derive(Clone, Copy, Debug, PartialEq, Eq)]
+#[derive(Clone, Copy, Debug, PartialEq, Eq, Error)]
+#[error("the document does not fit sixteen labels of this size")]
 pub struct TooLong;
 
 // Adds empty parts until there are two.
@@ -29,15 +32,14 @@ fn pad(ends: &mut ArrayVec<usize, MOST_LABELS>, end: usize)
     }
 }
 
-/// The ends of the parts of a document, 2 to 16 of them: each part is the greatest prefix of what remains that a label
-/// of this size has room for, and empty parts follow until there are two. The last end is the document's length.
-pub fn cut(
+// The ends of the parts, by cutting from the left.
+fn greedy_ends(
     document: &[u8],
     size: Size,
     scheme: Scheme,
 ) -> Result<ArrayVec<usize, MOST_LABELS>, TooLong>
     ensures ends { IfOk result (λ ends. AreEnds size scheme document.now ends.items) }
-    ensures none { OnErr result ((ends : List ℕ) → AreEnds size scheme document.now ends → ⊥) }
+    ensures none { OnErr result (HasNoEnds size scheme document.now) }
 {
     let words = size.data_words();
     if words < HEAD_WORDS {
@@ -58,4 +60,23 @@ pub fn cut(
     }
     pad(&mut ends, from);
     Ok(ends)
+}
+
+/// The ends of the parts of a document, 2 to 16 of them: each part is the greatest prefix of what remains that a label
+/// of this size has room for, and empty parts follow until there are two. The last end is the document's length, and
+/// each part can be sealed.
+///
+/// # Errors
+/// `TooLong` where the document has no such parts.
+pub fn cut(
+    document: &[u8],
+    size: Size,
+    scheme: Scheme,
+) -> Result<ArrayVec<usize, MOST_LABELS>, TooLong>
+    ensures ends { IfOk result (λ ends. AreEnds size scheme document.now ends.items) }
+    ensures cut { IfOk result (λ ends. IsCut size scheme document.now ends.items) }
+    ensures none { OnErr result (HasNoEnds size scheme document.now) }
+{
+    parts_of_a_document();
+    greedy_ends(document, size, scheme)
 }

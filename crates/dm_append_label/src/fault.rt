@@ -1,42 +1,137 @@
 //! Why a label isn't made or opened.
 
+ghost use Rattle.std.specs.Prelude.{◌≡◌};
+ghost use Rattle.dm_append_label.specs.FaultOrigin.{page_fault, symbol_fault};
+ghost use Rattle.dm_append_label.specs.declared.fault.PageFault.TheVariants as page_faults;
+ghost use Rattle.dm_append_label.specs.declared.fault.SealFault.TheVariants as seal_faults;
+
 use dm_encodation::DecodeFault;
+use dm_symbol::SymbolFault;
 use std::alloc::AllocError;
+use thiserror::Error;
 
 /// Why a page isn't sealed.
-#[derive(Clone, Copy, Debug, PartialEq, Eq)]
+#[derive(Clone, Copy, Debug, PartialEq, Eq, Error)]
 pub enum SealFault {
     /// The symbol has no room for the head of a label, or the page's bytes need more words than the head leaves.
+    #[error("the page does not fit a label of this size")]
     TooLong,
+    /// The allocator refused its memory.
+    #[error("out of memory")]
+    Memory,
+}
+
+/// Why data words do not begin with the head of a label: the first of these, in this order, that applies.
+#[derive(Clone, Copy, Debug, PartialEq, Eq, Error)]
+pub enum HeadFault {
+    /// There is no head: the first word is not that of Structured Append.
+    #[error("the symbol is not a label")]
+    NotAppended,
+    /// The sequence indicator is that of no label 1 to n of 2 to 16.
+    #[error("the sequence indicator {word} is invalid")]
+    Sequence { word: u8 },
+    /// One of the identification's words is 0 or 255.
+    #[error("the file identification is invalid")]
+    FileId,
+}
+
+/// Why data words are not those of a page: the first of these, in this order, that applies.
+#[derive(Clone, Copy, Debug, PartialEq, Eq, Error)]
+pub enum PageFault {
+    /// The head has this fault.
+    #[error("{0}")]
+    Head(HeadFault),
+    /// The text after the head has this fault, which is never `Memory`.
+    #[error("{0}")]
+    Content(DecodeFault),
+    /// Memory for the bytes was refused. It is asked for after all else.
+    #[error("out of memory")]
     Memory,
 }
 
 /// Why a grid isn't opened as a label: the first of these, in this order, that applies.
-#[derive(Clone, Copy, Debug, PartialEq, Eq)]
+#[derive(Clone, Copy, Debug, PartialEq, Eq, Error)]
 pub enum LabelFault {
-    /// More than an eighth of the finder patterns' modules are wrong: so many.
+    /// More than an eighth of the finder patterns' modules are wrong; this is their number.
+    #[error("{wrong} modules of the finder patterns are wrong")]
     Border { wrong: u16 },
-    /// This block, from 0, can't be corrected.
+    /// This block, from 0, has more wrong words than can be corrected.
+    #[error("block {block} has more wrong words than can be corrected")]
     Block { block: usize },
-    /// The symbol has no head of a label.
+    /// There is no head of a label: the first word is not that of Structured Append.
+    #[error("the symbol is not a label")]
     NotAppended,
-    /// The sequence indicator tells of no label 1 to n of 2 to 16.
+    /// The sequence indicator is that of no label 1 to n of 2 to 16.
+    #[error("the sequence indicator {word} is invalid")]
     Sequence { word: u8 },
     /// One of the identification's words is 0 or 255.
+    #[error("the file identification is invalid")]
     FileId,
-    /// The text behind the head has this fault, which is never `Memory`.
+    /// The text after the head has this fault, which is never `Memory`.
+    #[error("{0}")]
     Content(DecodeFault),
-    /// Memory was refused: for the words, behind `Border`, or for the bytes, behind all else.
+    /// Memory was refused: for the words, after `Border`, or for the bytes, after all else.
+    #[error("out of memory")]
     Memory,
 }
 
-impl From<AllocError> for SealFault {
-    ghost use Rattle.std.specs.Prelude.{◌≡◌};
-    ghost use Rattle.dm_append_label.specs.declared.fault.SealFault.TheVariants as faults;
+impl LabelFault {
+    ghost use Rattle.dm_append_label.specs.FaultNames.{label_fault_name};
 
-    ghost from_gives = { λ _ fault. fault ≡ faults.Memory };
+    /// The variant's name, and for `Content` that of the fault of the text.
+    pub fn name(self) -> &'static str
+        ensures { result.now ≡ label_fault_name self }
+    {
+        match self {
+            LabelFault::Border { .. } => "Border",
+            LabelFault::Block { .. } => "Block",
+            LabelFault::NotAppended => "NotAppended",
+            LabelFault::Sequence { .. } => "Sequence",
+            LabelFault::FileId => "FileId",
+            LabelFault::Content(fault) => fault.name(),
+            LabelFault::Memory => "Memory",
+        }
+    }
+}
+
+impl From<AllocError> for SealFault {
+    ghost from_gives = { λ _ fault. fault ≡ seal_faults.Memory };
 
     fn from(_: AllocError) -> Self {
         SealFault::Memory
+    }
+}
+
+impl From<HeadFault> for PageFault {
+    ghost from_gives = { λ given fault. fault ≡ page_faults.Head given };
+
+    fn from(fault: HeadFault) -> Self {
+        PageFault::Head(fault)
+    }
+}
+
+impl From<SymbolFault> for LabelFault {
+    ghost from_gives = { λ given fault. fault ≡ symbol_fault given };
+
+    fn from(fault: SymbolFault) -> Self {
+        match fault {
+            SymbolFault::Border { wrong } => LabelFault::Border { wrong },
+            SymbolFault::Block { block } => LabelFault::Block { block },
+            SymbolFault::Memory => LabelFault::Memory,
+        }
+    }
+}
+
+impl From<PageFault> for LabelFault {
+    ghost from_gives = { λ given fault. fault ≡ page_fault given };
+
+    fn from(fault: PageFault) -> Self {
+        match fault {
+            PageFault::Head(HeadFault::NotAppended) => LabelFault::NotAppended,
+            PageFault::Head(HeadFault::Sequence { word }) => LabelFault::Sequence { word },
+            PageFault::Head(HeadFault::FileId) => LabelFault::FileId,
+            PageFault::Content(fault) => LabelFault::Content(fault),
+            PageFault::Memory => LabelFault::Memory,
+        }
     }
 }

@@ -1,16 +1,19 @@
 //! Heads of labels, written and read.
 
-ghost use Rattle.std.specs.Prelude.{◌≡◌, ◌≤◌, ◌<◌, length, IfOk, IfErr};
-ghost use Rattle.dm_append_label.specs.Heads.{head as head_words, place_at, IsPlace};
-ghost use Rattle.dm_append_label.specs.HeadFaults.{place, GivesPlace, IsHeadFault};
+ghost use Rattle.std.specs.Prelude.{◌≡◌, ◌≤◌, ◌<◌, length, IfOk};
+ghost use Rattle.dm_append_label.specs.Heads.{IsHead, head_at, head_from, head_words};
+ghost use Rattle.dm_append_label.specs.inner.ReadHeads.{ReadsHead, view_of};
 
-use crate::fault::LabelFault;
+use crate::fault::HeadFault;
 use crate::file_id::FileId;
 
 /// The words of a head.
 pub(crate) const HEAD_WORDS: usize = 4;
 
-/// The place that data words begin with: label m of n of the document of an identification.
+/// The word of Structured Append, the first of a head.
+const APPENDED: u8 = 233;
+
+/// What a head says: label m of n of the document of an identification.
 #[derive(Clone, Copy, Debug, PartialEq, Eq)]
 pub(crate) struct Head {
     pub m: u8,
@@ -19,40 +22,40 @@ pub(crate) struct Head {
 }
 
 /// The four words of a head.
-pub(crate) fn words_of(head: Head) -> [u8; 4]
+pub(crate) fn words_of_head(head: Head) -> [u8; HEAD_WORDS]
     requires least { 2 ≤ head.n }
     requires most { head.n ≤ 16 }
     requires first { 1 ≤ head.m }
     requires last { head.m ≤ head.n }
-    ensures words { result ≡ head_words (place head) }
-    ensures fits { IsPlace (place head) }
+    ensures words { result ≡ head_words (view_of head) }
+    ensures fits { IsHead (view_of head) }
 {
     let (first, second) = head.id.words();
-    [233, 16 * (head.m - 1) + (17 - head.n), first, second]
+    [APPENDED, 16 * (head.m - 1) + (17 - head.n), first, second]
 }
 
-/// The head that data words begin with, or the first fault of one.
-#[tactic(auto, unfolding(crate::specs::Heads::place_at))]
-pub(crate) fn head_at(words: &[u8]) -> Result<Head, LabelFault>
-    ensures place { GivesPlace result (place_at words.now) }
+// The head that a sequence indicator and the words of an identification spell.
+fn head_of_words(indicator: u8, first: u8, second: u8) -> Result<Head, HeadFault>
+    ensures { ReadsHead (head_from indicator first second) result }
+{
+    let (m, n) = (indicator / 16 + 1, 17 - indicator % 16);
+    if n > 16 || m > n {
+        return Err(HeadFault::Sequence { word: indicator });
+    }
+    let Some(id) = FileId::of_words(first, second) else {
+        return Err(HeadFault::FileId);
+    };
+    Ok(Head { m, n, id })
+}
+
+/// The head that data words begin with, or its first fault.
+#[tactic(auto, unfolding(crate::specs::Heads::head_at))]
+pub(crate) fn read_head(words: &[u8]) -> Result<Head, HeadFault>
+    ensures head { ReadsHead (head_at words.now) result }
     ensures long { IfOk result (λ _. 4 ≤ length words.now) }
-    ensures page { IfOk result (λ h. (2 ≤ h.n) × (h.n ≤ 16) × (1 ≤ h.m) × (h.m ≤ h.n)) }
-    ensures kind { IfErr result IsHeadFault }
 {
     match words {
-        [233, indicator, first, second, ..] => {
-            if *indicator % 16 < 1 || 17 - *indicator % 16 < *indicator / 16 + 1 {
-                return Err(LabelFault::Sequence { word: *indicator });
-            }
-            let Some(id) = FileId::of_words(*first, *second) else {
-                return Err(LabelFault::FileId);
-            };
-            Ok(Head {
-                m: *indicator / 16 + 1,
-                n: 17 - *indicator % 16,
-                id,
-            })
-        }
-        _ => Err(LabelFault::NotAppended),
+        [APPENDED, indicator, first, second, ..] => head_of_words(*indicator, *first, *second),
+        _ => Err(HeadFault::NotAppended),
     }
 }

@@ -1,8 +1,9 @@
-use crate::{FileId, LabelFault, Page, SealFault, cut, open_label, seal, still_near};
-use dm_check_blocks::{Size, complete};
+use crate::{FileId, LabelFault, Page, SealFault, cut, open_label, seal, seal_with, still_near};
+use dm_check_blocks::Size;
 use dm_encodation::{DecodeFault, Scheme, fit};
-use dm_finder_frame::{Grid, cell_of, frame, matrix_of};
-use dm_placement::{Layout, lift, place};
+use dm_finder_frame::{Grid, cell_of, matrix_of};
+use dm_placement::{Layout, lift};
+use dm_symbol::{draw_symbol, draw_words};
 use std::alloc::{AllocError, Allocator};
 use std::process::Abort;
 use std::test::Fail;
@@ -30,11 +31,10 @@ fn sealed<A: Allocator + Copy>(
     seal(alloc, &page, size, scheme)
 }
 
-// The words that a grid bears.
+// The words that a grid carries.
 fn words_of<A: Allocator + Copy>(alloc: A, grid: &Grid<A>) -> Result<Vec<u8, A>, AllocError> {
-    let size = grid.size();
-    let matrix = matrix_of(alloc, size, grid)?;
-    lift(alloc, size, &matrix)
+    let matrix = matrix_of(alloc, grid)?;
+    lift(alloc, grid.size(), &matrix)
 }
 
 // The grid of all words of a symbol.
@@ -44,9 +44,8 @@ fn drawn<A: Allocator + Copy>(
     size: Size,
     words: &[u8],
 ) -> Result<Grid<A>, AllocError> {
-    assert!(rt; words.len() == size.data_words() + size.check_words());
-    let matrix = place(alloc, size, words)?;
-    frame(alloc, size, &matrix)
+    assert!(rt; words.len() == size.all_words());
+    draw_words(alloc, size, words)
 }
 
 // The grid of a symbol with these data words.
@@ -57,55 +56,66 @@ fn drawn_of_data<A: Allocator + Copy>(
     data: &[u8],
 ) -> Result<Grid<A>, AllocError> {
     assert!(rt; data.len() == size.data_words());
-    let words = complete(alloc, size, data)?;
-    drawn(rt, alloc, size, &words)
+    draw_symbol(alloc, size, data)
 }
+
+// A document, its encodation, the size of its two labels, where the first part ends, and the data words with which the
+// two labels begin.
+type TwoLabels = (
+    &'static [u8],
+    Scheme,
+    Size,
+    usize,
+    &'static [u8],
+    &'static [u8],
+);
+
+static TWO_LABELS: [TwoLabels; 5] = [
+    (
+        &[1],
+        Scheme::Base256,
+        Size::Side14,
+        1,
+        &[233, 15, 1, 1, 231, 131, 25, 129],
+        &[233, 31, 1, 1, 129, 11, 161, 56],
+    ),
+    (
+        b"",
+        Scheme::Base256,
+        Size::Side14,
+        0,
+        &[233, 15, 1, 1, 129, 11, 161, 56],
+        &[233, 31, 1, 1, 129, 11, 161, 56],
+    ),
+    (
+        b"",
+        Scheme::Ascii,
+        Size::Side14,
+        0,
+        &[233, 15, 1, 1, 129, 11, 161, 56],
+        &[233, 31, 1, 1, 129, 11, 161, 56],
+    ),
+    (
+        b"1234",
+        Scheme::Ascii,
+        Size::Side12,
+        2,
+        &[233, 15, 1, 1, 142],
+        &[233, 31, 1, 1, 164],
+    ),
+    (
+        b"AIM",
+        Scheme::C40,
+        Size::Side14,
+        3,
+        &[233, 15, 1, 1, 230, 91, 11, 129],
+        &[233, 31, 1, 1, 129, 11, 161, 56],
+    ),
+];
 
 #[test]
 fn documents_in_two_labels(rt: HostRuntime) -> Result<(), Fail> {
-    let rows: [(&[u8], Scheme, Size, usize, &[u8], &[u8]); 5] = [
-        (
-            &[1],
-            Scheme::Base256,
-            Size::Side14,
-            1,
-            &[233, 15, 1, 1, 231, 131, 25, 129],
-            &[233, 31, 1, 1, 129, 11, 161, 56],
-        ),
-        (
-            b"",
-            Scheme::Base256,
-            Size::Side14,
-            0,
-            &[233, 15, 1, 1, 129, 11, 161, 56],
-            &[233, 31, 1, 1, 129, 11, 161, 56],
-        ),
-        (
-            b"",
-            Scheme::Ascii,
-            Size::Side14,
-            0,
-            &[233, 15, 1, 1, 129, 11, 161, 56],
-            &[233, 31, 1, 1, 129, 11, 161, 56],
-        ),
-        (
-            b"1234",
-            Scheme::Ascii,
-            Size::Side12,
-            2,
-            &[233, 15, 1, 1, 142],
-            &[233, 31, 1, 1, 164],
-        ),
-        (
-            b"AIM",
-            Scheme::C40,
-            Size::Side14,
-            3,
-            &[233, 15, 1, 1, 230, 91, 11, 129],
-            &[233, 31, 1, 1, 129, 11, 161, 56],
-        ),
-    ];
-    for (document, scheme, size, first_end, first, second) in rows {
+    for (document, scheme, size, first_end, first, second) in TWO_LABELS {
         let ends = cut(document, size, scheme)?;
         assert_eq!(rt; ends.as_slice(), [first_end, document.len()].as_slice());
         assert!(rt; first_end <= document.len());
@@ -237,14 +247,14 @@ fn words_up_to_the_limit(rt: HostRuntime) -> Result<(), Fail> {
         (r3 + 1, c3 + 1),
     ];
     assert!(rt; !still_near(rt.alloc(), &label, &four)?);
-    let turned_back = [
+    let flipped_back = [
         (r0 + 1, c0 + 1),
         (r1 + 1, c1 + 1),
         (r2 + 1, c2 + 1),
         (r3 + 1, c3 + 1),
         (r0 + 1, c0 + 1),
     ];
-    assert!(rt; still_near(rt.alloc(), &label, &turned_back)?);
+    assert!(rt; still_near(rt.alloc(), &label, &flipped_back)?);
     label.flip(r0 + 1, c0 + 1);
     label.flip(r1 + 1, c1 + 1);
     label.flip(r2 + 1, c2 + 1);
@@ -254,7 +264,7 @@ fn words_up_to_the_limit(rt: HostRuntime) -> Result<(), Fail> {
     Ok(())
 }
 
-// Turns over one bit of as many words of each block as are put right, every second word from the first on.
+// Flips one bit of as many words of each block as can be corrected, every second word from the first on.
 fn spoil(words: &mut [u8], blocks: usize, limit: usize) {
     if blocks == 0 {
         return;
@@ -266,7 +276,7 @@ fn spoil(words: &mut [u8], blocks: usize, limit: usize) {
     }
 }
 
-// Turns over so many modules of the finder patterns, as far as there are so many.
+// Flips this many modules of the finder patterns, or all.
 fn smear<A: Allocator + Copy>(rt: &impl Abort, grid: &mut Grid<A>, count: u64) {
     let size = grid.size();
     let mut left = count;
@@ -353,5 +363,55 @@ fn the_greatest_pages_of_all_sizes_open_damaged(rt: HostRuntime) -> Result<(), F
             }
         }
     }
+    Ok(())
+}
+
+#[test]
+fn identifications_are_ordered_by_number(rt: HostRuntime) -> Result<(), Fail> {
+    let numbers = [0, 1, 253, 254, 255, 64_515];
+    for one in numbers {
+        for other in numbers {
+            let order = FileId::of_number(one).cmp(&FileId::of_number(other));
+            assert_eq!(rt; order, one.cmp(&other));
+        }
+    }
+    Ok(())
+}
+
+#[test]
+fn one_layout_serves_many_labels(rt: HostRuntime) -> Result<(), Fail> {
+    let layout = Layout::of_size(rt.alloc(), Size::Side14)?;
+    for (m, words) in [(1, [233, 15, 1, 1]), (2, [233, 31, 1, 1])] {
+        let id = FileId::of_number(0).ok_or("an identification")?;
+        let bytes = b"AIM".to_vec(rt.alloc())?;
+        let page = Page::new(id, m, 2, bytes).ok_or("a page")?;
+        let label = seal_with(rt.alloc(), &page, &layout, Scheme::C40)?;
+        assert!(rt; words_of(rt.alloc(), &label)?.starts_with(&words));
+        assert_eq!(rt;
+            open_label(rt.alloc(), &label)?.page.bytes(),
+            b"AIM".as_slice()
+        );
+    }
+    Ok(())
+}
+
+#[test]
+fn faults_say_what_is_wrong(rt: HostRuntime) -> Result<(), Fail> {
+    for (fault, text) in [
+        (
+            LabelFault::Border { wrong: 6 },
+            "6 modules of the finder patterns are wrong",
+        ),
+        (LabelFault::NotAppended, "the symbol is not a label"),
+        (
+            LabelFault::Sequence { word: 32 },
+            "the sequence indicator 32 is invalid",
+        ),
+        (LabelFault::FileId, "the file identification is invalid"),
+    ] {
+        assert_eq!(rt; format!(in rt.alloc(); "{fault}")?.as_str(), text);
+    }
+    let text = format!(in rt.alloc(); "{}", SealFault::TooLong)?;
+    assert_eq!(rt; text.as_str(), "the page does not fit a label of this size");
     Ok(())
 }

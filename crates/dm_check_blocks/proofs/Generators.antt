@@ -8,6 +8,7 @@ use Rattle.std.proofs.lemmas.List.{take_more, take_at, get_or-append_right, get_
 use borrow.Rule.Slice.PartMut.{put_mid, post_of}
 use Rattle.dm_gf256.proofs.Divide.{length-add_scaled, value-times_root}
 
+-- the product with one root more, as the generator's array holds it, has the product's values
 next_value : (h k r : ℕ) (rest ys more : List ℕ) → k < length rest → get_or rest k 0 ≡ 0 → ys ≡ add_scaled r (take (suc k) rest) (h ∷ take k rest) → (x : ℕ) →
     value (h ∷ take (suc k) (ys ++ more)) x ≡ product (bit_xor x r) (value (h ∷ take k rest) x)
 next_value h k r rest ys more l z e x =
@@ -17,6 +18,7 @@ next_value h k r rest ys more l z e x =
     let long : length ys ≡ suc k = ap length is ∙ length-add_scaled r (gs ++ 0 ∷ []) (h ∷ gs) ∙ ap length (sym split) ∙ (let q : length (take (suc k) rest) ≡ suc k = simp length-take (omega arith) in q) in
     ap (λ t. value (h ∷ t) x) (take_at ys more (suc k) long ∙ is) ∙ value-times_root h gs r x
 
+-- one step of `coefficients_of`: the array holds the polynomial with one root more
 pub next_generator : (arr ys : List ℕ) (k r : ℕ) → length arr ≡ 69 → k < 68 → ((j : ℕ) → k < j → get_or arr j 0 ≡ 0) →
     ys ≡ add_scaled r (take (k + 2 - 1) (drop 1 arr)) (take (k + 1) arr) → (x : ℕ) →
     value (take (k + 1 + 1) (put_mid 1 (k + 2 - 1) arr ys)) x ≡ product (bit_xor x r) (value (take (k + 1) arr) x)
@@ -42,19 +44,23 @@ next_zeros arr ys k e l m z j h =
     ∙ get_or-drop 1 arr (k + 2 - 1 + (j - 1 - (k + 1))) 0
     ∙ z (1 + (k + 2 - 1 + (j - 1 - (k + 1)))) (omega arith)
 
+-- the first array is zero after its leading 1
 pub first_zeros : (n j : ℕ) → 0 < j → let ones : List ℕ = 1 ∷ replicate n 0 in get_or ones j 0 ≡ 0
 first_zeros n zero h = absurd (omega arith)
 first_zeros zero (suc j) h = refl
 first_zeros (suc n) (suc zero) h = refl
 first_zeros (suc n) (suc (suc j)) h = first_zeros n (suc j) (omega arith)
 
+-- the array keeps its length
 pub next_size : (arr ys : List ℕ) (k : ℕ) → length arr ≡ 69 → k < 68 → length ys ≡ k + 1 → length (put_mid 1 (k + 2 - 1) arr ys) ≡ 69
 next_size arr ys k e l m = simp (length-append, length-take, length-drop) (omega arith)
 
+-- the array keeps its leading coefficient
 pub next_first : (arr ys : List ℕ) (k : ℕ) → 0 < length arr → get_or (put_mid 1 (k + 2 - 1) arr ys) 0 0 ≡ get_or arr 0 0
 next_first [] ys k l = absurd (omega arith)
 next_first (h ∷ rest) ys k l = refl
 
+-- the generator with its leading 1 is the array's beginning
 pub monic : (g : List ℕ) (n : ℕ) → get_or g 0 0 ≡ 1 → 1 ∷ take (n + 1 - 1) (drop 1 g) ≡ take (n + 1) g
 monic [] n e = absurd (omega arith)
 monic (h ∷ rest) n e =

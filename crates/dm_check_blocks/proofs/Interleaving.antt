@@ -9,10 +9,11 @@ use Rattle.std.proofs.lemmas.List.{ext_get_or, get_or-append_right}
 use Rattle.std.proofs.Math.ListN.{get_or-append}
 use Rattle.std.proofs.lemmas.List.FromFn.{get_or-map-range_with_len, length-map-range_with_len}
 use Rattle.dm_check_blocks.specs.declared.size.Size.{Size}
-use Rattle.dm_check_blocks.specs.Sizes.{data_words, all_words, blocks, block_checks, block_length}
-use Rattle.dm_check_blocks.specs.Blocks.{block_data, position, block_of}
+use Rattle.dm_check_blocks.specs.Sizes.{data_words, all_words, blocks, block_checks, block_length, block_data}
+use Rattle.dm_check_blocks.specs.Blocks.{position, block_of}
 use Rattle.dm_check_blocks.proofs.Sound.{sound}
 
+-- counting on from the end of the data words is counting from the start
 past_data : (i d n e : ℕ) → d ≤ i → e ≡ d * n → e + (i - d) * n ≡ i * n
 past_data i d n e h q =
     let k = i - d in
@@ -20,6 +21,7 @@ past_data i d n e h q =
     let g : i * n ≡ (d + k) * n = ap (λ t. t * n) f in
     omega arith
 
+-- word i of block b stands at i times the number of blocks, plus b
 pub position-closed : (s : Size) (b i : ℕ) → position s b i ≡ i * blocks s + b
 unfolding position
 position-closed s b i =
@@ -37,21 +39,24 @@ whole_blocks s =
     let e : block_length s * blocks s ≡ (block_data s + block_checks s) * blocks s = ap (λ t. t * blocks s) (sym three) in
     omega arith
 
+-- a position lies in the symbol
 pub position-lt : (s : Size) (b i : ℕ) → b < blocks s → i < block_length s → position s b i < all_words s
 position-lt s b i p q =
     let more : (i + 1) * blocks s ≤ block_length s * blocks s = mul-le-mul_right (blocks s) (let h : i + 1 ≤ block_length s = omega arith in h) in
     omega (arith, position-closed s b i, whole_blocks s)
 
+-- a position, divided by the number of blocks, leaves the block's number
 pub position-mod : (s : Size) (b i : ℕ) → b < blocks s → position s b i % blocks s ≡ b
 position-mod s b i p = ap (λ t. t % blocks s) (position-closed s b i) ∙ mod-mul-add i (blocks s) b p
 
--- a place among the data words, and one among the check words
+-- a data word stands among the data words
 pub position_in_data : (s : Size) (b i : ℕ) → b < blocks s → i < block_data s → position s b i < data_words s
 position_in_data s b i p q =
     let more : (i + 1) * blocks s ≤ block_data s * blocks s = mul-le-mul_right (blocks s) (let h : i + 1 ≤ block_data s = omega arith in h) in
     let e = (sound s).equal_data in
     omega (arith, position-closed s b i)
 
+-- a check word stands after all data words
 pub position_in_checks : (s : Size) (b k : ℕ) → data_words s ≤ position s b (block_data s + k)
 position_in_checks s b k =
     let e = (sound s).equal_data in
@@ -61,9 +66,11 @@ position_in_checks s b k =
 pub position_of : (s : Size) (p : ℕ) → position s (p % blocks s) (p / blocks s) ≡ p
 position_of s p = position-closed s (p % blocks s) (p / blocks s) ∙ div-add-mod' p (blocks s)
 
+-- the block of a position is one of the blocks
 pub block_at : (s : Size) (p : ℕ) → p % blocks s < blocks s
 block_at s p = let h = (sound s).some_blocks in mod-lt p (let l : 0 < blocks s = omega arith in l)
 
+-- the word of a position is one of its block's
 pub word_at : (s : Size) (p : ℕ) → p < all_words s → p / blocks s < block_length s
 word_at s p h =
     let e = whole_blocks s in let q = div-add-mod' p (blocks s) in
@@ -72,10 +79,12 @@ word_at s p h =
     let more : block_length s * blocks s ≤ p / blocks s * blocks s = mul-le-mul_right (blocks s) l in absurd (omega arith))
     (cases_lt (p / blocks s) (block_length s))
 
+-- a block has as many words as the size says
 pub length-block_of : (s : Size) (b : ℕ) (words : List ℕ) → length (block_of s b words) ≡ block_length s
 unfolding block_of
 length-block_of s b words = length-map-range_with_len (λ i. get_or words (position s b i) 0) 0 (block_length s)
 
+-- word i of a block is the symbol's word at its position
 pub get_or-block_of : (s : Size) (b : ℕ) (words : List ℕ) (i : ℕ) → i < block_length s → get_or (block_of s b words) i 0 ≡ get_or words (position s b i) 0
 unfolding block_of
 get_or-block_of s b words i h = get_or-map-range_with_len (λ i. get_or words (position s b i) 0) 0 (block_length s) i i 0 h (let e : 0 + i ≡ i = omega arith in e)

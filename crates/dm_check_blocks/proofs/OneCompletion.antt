@@ -2,10 +2,11 @@
 use Rattle.std.proofs.Common.{◌≡◌, ℕ, ◌+◌, ◌≤◌, refl, sym, ◌∙◌, arith, List, [], ◌∷◌, ◌++◌, length, length-append}
 use Rattle.std.proofs.Common.{Bool, true, false, cond, eqb, eq-eqb}
 use Rattle.dm_gf256.specs.Polynomial.{differ, IsBlockWord}
-use Rattle.dm_gf256.proofs.Words.{one_block_word}
+use Rattle.dm_gf256.proofs.OneBlockWord.{one_block_word}
 use Rattle.dm_gf256.proofs.Vanish.{Bytes}
 use Rattle.std.proofs.lemmas.List.{append_cancel_left}
 
+-- one place differs at most once
 one_most : (c : Bool) → cond c 0 1 ≤ 1
 one_most true = omega arith
 one_most false = omega arith
@@ -28,11 +29,12 @@ pub one_completion : (m a b : List ℕ) → length a ≡ length b → length (m 
 one_completion m a b e l p q u v =
     one_block_word (length a) (m ++ a) (m ++ b) (simp length-append (omega arith)) l p q u v (differ_after m a b e)
 
+-- two lists of bytes, joined, are bytes
 bytes_append : (xs ys : List ℕ) → Bytes xs → Bytes ys → Bytes (xs ++ ys)
 bytes_append [] ys p q = q
 bytes_append (x ∷ xs) ys p q = (p.0, bytes_append xs ys (p.1) q)
 
--- there is one list of check words behind a message
+-- a message has one list of check words
 pub one_list_of_checks : (n : ℕ) (m a b : List ℕ) → length a ≡ n → length b ≡ n → length m + n ≤ 255 → Bytes m → Bytes a → Bytes b → IsBlockWord n (m ++ a) → IsBlockWord n (m ++ b) → a ≡ b
 one_list_of_checks n m a b p q fits u v w y z =
     append_cancel_left m a b

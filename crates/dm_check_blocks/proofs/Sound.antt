@@ -4,6 +4,7 @@ use Rattle.dm_check_blocks.specs.declared.size.Size.{Size}
 use Rattle.dm_check_blocks.specs.declared.size.Size.TheVariants.{Side10}
 use Rattle.dm_check_blocks.specs.Sizes.{row, IsSound}
 
+-- what holds of every size, by computing at each
 pub sound : (s : Size) → IsSound s
 unfolding row
 sound Side10 = record {

@@ -6,8 +6,8 @@ use Rattle.std.proofs.lemmas.List.Elements.{All-from_get_or, recursion_from_All}
 use Rattle.dm_gf256.specs.Polynomial.{IsBlockWord}
 use Rattle.dm_gf256.proofs.Vanish.{Bytes}
 use Rattle.dm_check_blocks.specs.declared.size.Size.{Size}
-use Rattle.dm_check_blocks.specs.Sizes.{data_words, all_words, blocks, block_checks, block_length}
-use Rattle.dm_check_blocks.specs.Blocks.{block_data, position, block_of, IsSymbol, Completes}
+use Rattle.dm_check_blocks.specs.Sizes.{data_words, all_words, blocks, block_checks, block_length, block_data}
+use Rattle.dm_check_blocks.specs.Blocks.{position, block_of, IsSymbol, Completes}
 use Rattle.dm_check_blocks.proofs.Sound.{sound}
 use Rattle.dm_check_blocks.proofs.OneCompletion.{one_completion}
 use Rattle.dm_check_blocks.proofs.Interleaving.{position-lt, position_in_data, length-block_of, get_or-block_of, same_from_blocks}
@@ -33,6 +33,7 @@ completes_taken s message words rest n l m e bytes same done =
     let P : List ℕ → Type 0 = λ t. Completes s message t in
     subst P (sym (take_at words rest n e)) (completes s message words l m bytes same done)
 
+-- a list whose places are bytes is bytes
 bytes_from_all : (xs : List ℕ) → ((i : ℕ) → i < length xs → get_or xs i 0 < 256) → Bytes xs
 bytes_from_all xs h = recursion_from_All (λ x. x < 256) xs (All-from_get_or (λ x. x < 256) xs 0 h)
 
@@ -51,6 +52,7 @@ data_at s b message words i l h c =
     let r : i < block_length s = (let e = (sound s).equal_blocks in omega arith) in
     get_or-block_of s b words i r ∙ sym (get_or-take (data_words s) words (position s b i) 0 (position_in_data s b i l h)) ∙ ap (λ t. get_or t (position s b i) 0) (c.begins)
 
+-- two completions of one message have the same data words in each block
 front : (s : Size) (b : ℕ) (message xs ys : List ℕ) → b < blocks s → Completes s message xs → Completes s message ys → take (block_data s) (block_of s b xs) ≡ take (block_data s) (block_of s b ys)
 front s b message xs ys l c e =
     let d = block_data s in let x = block_of s b xs in let y = block_of s b ys in
@@ -60,6 +62,7 @@ front s b message xs ys l c e =
     let r : i < d = omega (arith, long xs) in
     get_or-take d x i 0 r ∙ data_at s b message xs i l r c ∙ sym (data_at s b message ys i l r e) ∙ sym (get_or-take d y i 0 r))
 
+-- two completions of one message have the same blocks
 block_same : (s : Size) (b : ℕ) (message xs ys : List ℕ) → b < blocks s → Completes s message xs → Completes s message ys → block_of s b xs ≡ block_of s b ys
 block_same s b message xs ys l c e =
     let d = block_data s in let x = block_of s b xs in let y = block_of s b ys in
@@ -80,6 +83,7 @@ block_same s b message xs ys l c e =
     (word xs (m ++ p) wx c.symbol) (word ys (m ++ q) wy e.symbol)
     ∙ wy
 
+-- two completions of one message are equal
 pub one_symbol : (s : Size) (message xs ys : List ℕ) → Completes s message xs → Completes s message ys → xs ≡ ys
 one_symbol s message xs ys c e =
     same_from_blocks s xs ys c.symbol.count e.symbol.count (λ b l. block_same s b message xs ys l c e)

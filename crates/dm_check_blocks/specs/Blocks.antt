@@ -1,17 +1,13 @@
--- The words of a symbol and its interleaved blocks: ISO/IEC 16022, clause 5.2.9 and Annex A. A position counts the
+-- The words of a symbol and its interleaved blocks: ISO/IEC 16022, clause 5.7 and Annex A. A position counts the
 -- symbol's words from 0, the data words first.
-use Rattle.std.specs.Prelude.{◌≡◌, ℕ, ◌+◌, ◌-◌, ◌*◌, ◌/◌, ◌<◌, nat_lt, if◌then◌else◌, List, length, map, take, slice_index}
+use Rattle.std.specs.Prelude.{◌≡◌, ℕ, ◌+◌, ◌-◌, ◌*◌, ◌<◌, nat_lt, if◌then◌else◌, List, length, map, take, slice_index}
 use Rattle.std.specs.List.{All, range_with_len}
 use Rattle.dm_gf256.specs.Polynomial.{IsBlockWord}
 use Rattle.dm_check_blocks.specs.declared.size.Size.{Size}
-use Rattle.dm_check_blocks.specs.Sizes.{data_words, all_words, blocks, block_checks, block_length}
+use Rattle.dm_check_blocks.specs.Sizes.{data_words, all_words, blocks, block_data, block_checks, block_length}
 
--- the data words of one block
-abbrev pub block_data : Size → ℕ
-block_data s = data_words s / blocks s
-
--- Where word i of block b stands: the data words go round the blocks one after another, and behind all data
--- words the check words do.
+-- Where word i of block b stands. The data words are dealt out to the blocks in turn: the first to block 0, the next
+-- to block 1, and so on. The check words follow all data words and are dealt out in the same way.
 unfoldable pub position : Size → ℕ → ℕ → ℕ
 position s b i =
     if nat_lt i (block_data s) then i * blocks s + b
@@ -21,7 +17,7 @@ position s b i =
 unfoldable pub block_of : Size → ℕ → List ℕ → List ℕ
 block_of s b words = map (λ i. slice_index words (position s b i)) (range_with_len 0 (block_length s))
 
--- all words of a symbol: bytes, and each block is a block word
+-- these are all words of a symbol: bytes, of which each block is a block word
 pub record IsSymbol (s : Size) (words : List ℕ) : Type 0 where
   pub count : length words ≡ all_words s
   pub bytes : All (λ word. word < 256) words

@@ -1,11 +1,11 @@
--- The square symbol sizes of ISO/IEC 16022, clause 5.5 (ECC 200 symbol attributes), sides 10 to 132.
+-- The square symbol sizes of ISO/IEC 16022, clause 5.5 (symbol attributes), sides 10 to 132.
 use Rattle.std.specs.Prelude.{◌≡◌, ℕ, ◌+◌, ◌*◌, ◌/◌, ◌%◌, ◌≤◌}
 use Rattle.dm_check_blocks.specs.declared.size.Size.{Size}
 use Rattle.dm_check_blocks.specs.declared.size.Size.TheVariants.{Side10, Side12, Side14, Side16, Side18, Side20, Side22, Side24, Side26, Side32, Side36, Side40, Side44, Side48, Side52, Side64, Side72, Side80, Side88, Side96, Side104, Side120, Side132}
 
 -- A row of the standard's table: the symbol's side in modules, frames included; the side of a data region
--- without its frame, and how many regions there are; data words, check words, and the blocks that they
--- are interleaved in.
+-- without its frame, and the number of regions; the numbers of data words, of check words, and of the blocks
+-- in which they are interleaved.
 pub record Row : Type 0 where
   pub side : ℕ
   pub region : ℕ
@@ -17,7 +17,7 @@ pub record Row : Type 0 where
 abbrev pub row_of : ℕ → ℕ → ℕ → ℕ → ℕ → ℕ → Row
 row_of n h r d c b = record { side = n; region = h; regions = r; data_words = d; check_words = c; blocks = b }
 
--- side, region, regions, data words, check words, blocks
+-- the table: side, region, regions, data words, check words, blocks
 unfoldable pub row : Size → Row
 row Side10 = row_of 10 8 1 3 5 1
 row Side12 = row_of 12 10 1 5 7 1
@@ -66,6 +66,14 @@ blocks s = (row s).blocks
 abbrev pub all_words : Size → ℕ
 all_words s = data_words s + check_words s
 
+-- a side of the table
+abbrev pub IsSide : ℕ → Type 0
+IsSide n = (s : Size) × (side s ≡ n)
+
+-- the data words of one block
+abbrev pub block_data : Size → ℕ
+block_data s = data_words s / blocks s
+
 -- the check words of one block
 abbrev pub block_checks : Size → ℕ
 block_checks s = check_words s / blocks s
@@ -74,11 +82,11 @@ block_checks s = check_words s / blocks s
 abbrev pub block_length : Size → ℕ
 block_length s = all_words s / blocks s
 
--- how many wrong words of one block are put right: half its check words, rounded down
+-- how many wrong words of one block can be put right: half its check words, rounded down
 abbrev pub limit : Size → ℕ
 limit s = block_checks s / 2
 
--- how many framed regions stand side by side
+-- the number of framed regions in a row of them
 abbrev pub across : Size → ℕ
 across s = side s / (region s + 2)
 
@@ -89,28 +97,33 @@ mapping s = across s * region s
 -- What holds of every size: the regions are a square of squares that just fills the symbol, the mapping
 -- square has room for all words and less than one word more, and the blocks are of equal length.
 pub record IsSound (s : Size) : Type 0 where
+  -- regions
   pub smallest_region : 8 ≤ region s
   pub greatest_region : region s ≤ 24
   pub even_region : region s % 2 ≡ 0
   pub some_across : 1 ≤ across s
   pub most_across : across s ≤ 6
   pub square : across s * across s ≡ regions s
+  -- the symbol's side
   pub fills_side : across s * (region s + 2) ≡ side s
   pub smallest_side : 10 ≤ side s
   pub greatest_side : side s ≤ 132
+  -- the mapping square
   pub smallest_mapping : 8 ≤ mapping s
   pub greatest_mapping : mapping s ≤ 120
   pub even_mapping : mapping s % 2 ≡ 0
   pub fills_mapping : mapping s * mapping s / 8 ≡ all_words s
+  -- words
   pub some_data : 3 ≤ data_words s
   pub most_data : data_words s ≤ 1304
   pub most_words : all_words s ≤ 1800
+  -- blocks
   pub some_blocks : 1 ≤ blocks s
   pub most_blocks : blocks s ≤ 8
-  pub equal_data : blocks s * (data_words s / blocks s) ≡ data_words s
+  pub equal_data : blocks s * block_data s ≡ data_words s
   pub equal_checks : blocks s * block_checks s ≡ check_words s
-  pub equal_blocks : data_words s / blocks s + block_checks s ≡ block_length s
+  pub equal_blocks : block_data s + block_checks s ≡ block_length s
   pub some_checks : 5 ≤ block_checks s
   pub most_checks : block_checks s ≤ 68
-  pub most_block_data : data_words s / blocks s ≤ 175
+  pub most_block_data : block_data s ≤ 175
   pub longest_block : block_length s ≤ 243

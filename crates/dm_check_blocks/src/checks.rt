@@ -1,20 +1,19 @@
 //! The check words of one block: the remainder of its data words by the generator polynomial.
 
-ghost use Rattle.std.specs.Prelude.{◌≡◌, ◌<◌, ◌≤◌, ◌+◌, ℕ, List, length, ◌++◌, ◌∷◌, [], take, slice_index};
+ghost use Rattle.std.specs.Prelude.{◌≡◌, ◌<◌, ◌≤◌, ◌+◌, ℕ, List, length, ◌++◌, ◌∷◌};
 ghost use Rattle.std.specs.List.{All};
-ghost use Rattle.std.specs.Int.Bits.{bit_xor};
-ghost use Rattle.dm_gf256.specs.Field.{product, power};
-ghost use Rattle.dm_gf256.specs.Polynomial.{value, IsBlockWord};
+ghost use Rattle.dm_gf256.specs.Polynomial.{IsBlockWord};
+ghost use Rattle.dm_check_blocks.specs.inner.Remainders.{IsGenerator, AddsWord};
 
-use crate::generator::coefficients_of;
+use crate::generator::{MOST_CHECKS, coefficients_of};
 use dm_gf256::add_multiple;
 
-// Reads one word more of the message: `checks` is the remainder so far, and `generator` the generator
+// Divides one word more of the message: `checks` is the remainder so far, and `generator` the generator
 // polynomial without its leading 1.
 fn step(checks: &mut [u8], generator: &[u8], word: u8)
     requires some { 0 < length checks.old }
     requires same { length checks.old ≡ length generator.now }
-    ensures { (x : ℕ) → x < 256 → value (1 ∷ generator.now) x ≡ 0 → value checks.new x ≡ bit_xor (product x (value checks.old x)) (product word (power x (length generator.now))) }
+    ensures { AddsWord generator.now word checks.old checks.new }
 {
     let factor = word ^ checks[0];
     checks.rotate_left(1);
@@ -23,11 +22,11 @@ fn step(checks: &mut [u8], generator: &[u8], word: u8)
     add_multiple(checks, generator, factor);
 }
 
-/// Fills the check words of one block by its generator polynomial, given without its leading 1.
+/// Fills in the check words of one block by its generator polynomial, given without its leading 1.
 pub(crate) fn fill(message: &[u8], checks: &mut [u8], generator: &[u8])
     requires some { 1 ≤ length checks.old }
     requires same { length checks.old ≡ length generator.now }
-    requires roots { (k : ℕ) → 1 ≤ k → k ≤ length generator.now → value (1 ∷ generator.now) (power 2 k) ≡ 0 }
+    requires roots { IsGenerator generator.now }
     ensures { IsBlockWord (length checks.old) (message.now ++ checks.new) }
 {
     for check in checks.iter_mut() {
@@ -38,14 +37,16 @@ pub(crate) fn fill(message: &[u8], checks: &mut [u8], generator: &[u8])
     }
 }
 
-/// Fills the check words of one block, 1 to 68 of them, at most 255 words together with the message: its
-/// data words, the first of them the coefficient of the highest power (ISO/IEC 16022, Annex E).
+/// Fills in the check words of one block. There are 1 to 68 of them, and at most 255 words together with the
+/// message, the block's data words, of which the first is the coefficient of the highest power (ISO/IEC 16022,
+/// Annex E).
 pub fn checks_of(message: &[u8], checks: &mut [u8])
     requires some { 1 ≤ length checks.old }
-    requires most { length checks.old ≤ 68 }
+    requires most { length checks.old ≤ MOST_CHECKS }
     requires fits { length message.now + length checks.old ≤ 255 }
     ensures completed { IsBlockWord (length checks.old) (message.now ++ checks.new) }
-    ensures only { (others : List ℕ) → length others ≡ length checks.old → All (λ word. word < 256) others → IsBlockWord (length checks.old) (message.now ++ others) → others ≡ checks.new }
+    ensures only { (others : List ℕ) → length others ≡ length checks.old → All (λ word. word < 256) others
+        → IsBlockWord (length checks.old) (message.now ++ others) → others ≡ checks.new }
 {
     let coefficients = coefficients_of(checks.len());
     fill(message, checks, &coefficients[1..checks.len() + 1]);

@@ -6,13 +6,16 @@ ghost use Rattle.dm_gf256.specs.Polynomial.{value};
 
 use dm_gf256::{Gf, add_multiple};
 
-/// The coefficients of the longest generator polynomial, that for 68 check words.
+/// The most check words of one block: those of side 48.
+pub const MOST_CHECKS: usize = 68;
+
+/// The coefficients of the longest generator polynomial, one more than it has roots.
 pub(crate) const GENERATOR_WORDS: usize = 69;
 
 /// The coefficients of the generator polynomial for `count` check words, (x + 2^1)(x + 2^2) .. (x + 2^count),
-/// the highest power, whose coefficient is 1, first; behind them zeros.
+/// the highest power first, whose coefficient is 1; zeros follow them.
 pub(crate) fn coefficients_of(count: usize) -> [u8; GENERATOR_WORDS]
-    requires { count ≤ 68 }
+    requires { count ≤ MOST_CHECKS }
     ensures size { length result ≡ GENERATOR_WORDS }
     ensures first { slice_index result 0 ≡ 1 }
     ensures roots { (k : ℕ) → 1 ≤ k → k ≤ count → value (take (count + 1) result) (power 2 k) ≡ 0 }

@@ -1,10 +1,10 @@
-//! The sizes of Data Matrix ECC 200 symbols, and the check words that complete them: ISO/IEC 16022,
-//! clauses 5.2.9 and 5.5, Annexes A and E. [`Size`] is one of the 23 square sizes 10 to 132, [`checks_of`]
-//! fills the check words of one block, and [`complete`] gives all words of a symbol, its blocks interleaved
+//! The sizes of Data Matrix ECC 200 symbols, and the check words that complete them: ISO/IEC 16022:2006,
+//! clauses 5.5 and 5.7, Annexes A and E. [`Size`] is one of the 23 square sizes 10 to 132, [`checks_of`]
+//! fills in the check words of one block, and [`complete`] gives all words of a symbol, its blocks interleaved
 //! as [`block_word`] says.
 //!
-//! Proved: each reader of a size gives the standard's table; the blocks of what `complete` gives are block
-//! words, and no other list that begins with the message has block words; the same of `checks_of`.
+//! Proved: each reader of a size gives what the standard's table says; the blocks of what `complete` gives are
+//! block words, and no other list that begins with the message has block words; the same of `checks_of`.
 #![tactic(auto)]
 
 mod checks;
@@ -15,5 +15,6 @@ mod symbol;
 mod tests;
 
 pub use checks::checks_of;
+pub use generator::MOST_CHECKS;
 pub use size::Size;
 pub use symbol::{block_word, complete};

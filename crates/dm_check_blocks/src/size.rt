@@ -2,6 +2,10 @@
 
 ghost use Rattle.std.specs.Prelude.{◌≡◌};
 
+// Where a size is listed: in this enum, in `Size::of_side` and `Size::row` below, in the table of specs/Sizes.antt, and
+// in the tests' lists of sides; above this crate in dm_finder_frame's lemma that finds a size by its side and in the
+// help of the command line.
+
 /// A square ECC 200 symbol of one data region or more, by its side in modules, finder frames included:
 /// the sides 10 to 132 of ISO/IEC 16022, clause 5.5. Side 144, whose blocks are unequal, is left out.
 #[derive(Clone, Copy, Debug, PartialEq, Eq, PartialOrd, Ord, Hash)]
@@ -31,7 +35,7 @@ pub enum Size {
     Side132,
 }
 
-// A row of the standard's table.
+// A row of the standard's table: two lengths in modules, and four numbers.
 #[derive(Clone, Copy)]
 struct Row {
     side: u16,
@@ -72,7 +76,7 @@ impl Size {
     ghost use Rattle.dm_check_blocks.specs.declared.size.Size.{Size};
     ghost use Rattle.dm_check_blocks.specs.Sizes as sizes;
 
-    /// The size of so many modules a side, if it is one of the 23.
+    /// The size with this many modules along a side, if it is one of the 23.
     #[tactic(auto, unfolding(crate::specs::Sizes::row))]
     pub fn of_side(side: u16) -> Option<Size>
         ensures found { IfSome result (λ size. sizes.side size ≡ side) }
@@ -106,7 +110,8 @@ impl Size {
         })
     }
 
-    // The standard's table: side, region, regions, data words, check words, blocks.
+    // The standard's table.
+    #[rattlefmt::skip]
     #[tactic(auto, unfolding(crate::specs::Sizes::row))]
     fn row(self) -> Row
         ensures side { result.side ≡ sizes.side self }
@@ -117,29 +122,30 @@ impl Size {
         ensures blocks { result.blocks ≡ sizes.blocks self }
     {
         match self {
-            Size::Side10 => row_of(10, 8, 1, 3, 5, 1),
-            Size::Side12 => row_of(12, 10, 1, 5, 7, 1),
-            Size::Side14 => row_of(14, 12, 1, 8, 10, 1),
-            Size::Side16 => row_of(16, 14, 1, 12, 12, 1),
-            Size::Side18 => row_of(18, 16, 1, 18, 14, 1),
-            Size::Side20 => row_of(20, 18, 1, 22, 18, 1),
-            Size::Side22 => row_of(22, 20, 1, 30, 20, 1),
-            Size::Side24 => row_of(24, 22, 1, 36, 24, 1),
-            Size::Side26 => row_of(26, 24, 1, 44, 28, 1),
-            Size::Side32 => row_of(32, 14, 4, 62, 36, 1),
-            Size::Side36 => row_of(36, 16, 4, 86, 42, 1),
-            Size::Side40 => row_of(40, 18, 4, 114, 48, 1),
-            Size::Side44 => row_of(44, 20, 4, 144, 56, 1),
-            Size::Side48 => row_of(48, 22, 4, 174, 68, 1),
-            Size::Side52 => row_of(52, 24, 4, 204, 84, 2),
-            Size::Side64 => row_of(64, 14, 16, 280, 112, 2),
-            Size::Side72 => row_of(72, 16, 16, 368, 144, 4),
-            Size::Side80 => row_of(80, 18, 16, 456, 192, 4),
-            Size::Side88 => row_of(88, 20, 16, 576, 224, 4),
-            Size::Side96 => row_of(96, 22, 16, 696, 272, 4),
-            Size::Side104 => row_of(104, 24, 16, 816, 336, 6),
-            Size::Side120 => row_of(120, 18, 36, 1050, 408, 6),
-            Size::Side132 => row_of(132, 20, 36, 1304, 496, 8),
+            //                     side, region, regions, data, check, blocks
+            Size::Side10  => row_of(  10,      8,       1,    3,     5,      1),
+            Size::Side12  => row_of(  12,     10,       1,    5,     7,      1),
+            Size::Side14  => row_of(  14,     12,       1,    8,    10,      1),
+            Size::Side16  => row_of(  16,     14,       1,   12,    12,      1),
+            Size::Side18  => row_of(  18,     16,       1,   18,    14,      1),
+            Size::Side20  => row_of(  20,     18,       1,   22,    18,      1),
+            Size::Side22  => row_of(  22,     20,       1,   30,    20,      1),
+            Size::Side24  => row_of(  24,     22,       1,   36,    24,      1),
+            Size::Side26  => row_of(  26,     24,       1,   44,    28,      1),
+            Size::Side32  => row_of(  32,     14,       4,   62,    36,      1),
+            Size::Side36  => row_of(  36,     16,       4,   86,    42,      1),
+            Size::Side40  => row_of(  40,     18,       4,  114,    48,      1),
+            Size::Side44  => row_of(  44,     20,       4,  144,    56,      1),
+            Size::Side48  => row_of(  48,     22,       4,  174,    68,      1),
+            Size::Side52  => row_of(  52,     24,       4,  204,    84,      2),
+            Size::Side64  => row_of(  64,     14,      16,  280,   112,      2),
+            Size::Side72  => row_of(  72,     16,      16,  368,   144,      4),
+            Size::Side80  => row_of(  80,     18,      16,  456,   192,      4),
+            Size::Side88  => row_of(  88,     20,      16,  576,   224,      4),
+            Size::Side96  => row_of(  96,     22,      16,  696,   272,      4),
+            Size::Side104 => row_of( 104,     24,      16,  816,   336,      6),
+            Size::Side120 => row_of( 120,     18,      36, 1050,   408,      6),
+            Size::Side132 => row_of( 132,     20,      36, 1304,   496,      8),
         }
     }
 
@@ -161,7 +167,7 @@ impl Size {
         self.row().region
     }
 
-    /// How many data regions the symbol has.
+    /// The number of data regions of the symbol.
     #[tactic(auto, using(crate::proofs::Sound::sound))]
     pub fn regions(self) -> u16
         ensures value { result ≡ sizes.regions self }
@@ -170,7 +176,7 @@ impl Size {
         self.row().regions
     }
 
-    /// How many regions stand side by side, in each direction.
+    /// The number of regions in a row of them, and in a column.
     #[tactic(auto, using(crate::proofs::Sound::sound))]
     pub fn across(self) -> u16
         ensures value { result ≡ sizes.across self }
@@ -188,7 +194,7 @@ impl Size {
         self.across() * self.region()
     }
 
-    /// Data words of the symbol.
+    /// The number of data words of the symbol.
     #[tactic(auto, using(crate::proofs::Sound::sound))]
     pub fn data_words(self) -> usize
         ensures value { result ≡ sizes.data_words self }
@@ -197,7 +203,7 @@ impl Size {
         self.row().data_words as usize
     }
 
-    /// Check words of the symbol, those of all blocks together.
+    /// The number of check words of the symbol, those of all blocks together.
     #[tactic(auto, using(crate::proofs::Sound::sound))]
     pub fn check_words(self) -> usize
         ensures value { result ≡ sizes.check_words self }
@@ -206,7 +212,7 @@ impl Size {
         self.row().check_words as usize
     }
 
-    /// Interleaved blocks of the symbol.
+    /// The number of interleaved blocks of the symbol.
     #[tactic(auto, using(crate::proofs::Sound::sound))]
     pub fn blocks(self) -> usize
         ensures value { result ≡ sizes.blocks self }
@@ -215,12 +221,48 @@ impl Size {
         self.row().blocks as usize
     }
 
-    /// Wrong words of one block that are put right at most: half its check words, rounded down.
+    /// The number of all words of the symbol: its data words and its check words.
+    #[tactic(auto, using(crate::proofs::Sound::sound))]
+    pub fn all_words(self) -> usize
+        ensures value { result ≡ sizes.all_words self }
+        ensures sound { sizes.IsSound self }
+    {
+        self.data_words() + self.check_words()
+    }
+
+    /// The number of data words of each block.
+    #[tactic(auto, using(crate::proofs::Sound::sound))]
+    pub fn block_data(self) -> usize
+        ensures value { result ≡ sizes.block_data self }
+        ensures sound { sizes.IsSound self }
+    {
+        self.data_words() / self.blocks()
+    }
+
+    /// The number of check words of each block.
+    #[tactic(auto, using(crate::proofs::Sound::sound))]
+    pub fn block_checks(self) -> usize
+        ensures value { result ≡ sizes.block_checks self }
+        ensures sound { sizes.IsSound self }
+    {
+        self.check_words() / self.blocks()
+    }
+
+    /// The number of all words of each block: its data words and its check words.
+    #[tactic(auto, using(crate::proofs::Sound::sound))]
+    pub fn block_length(self) -> usize
+        ensures value { result ≡ sizes.block_length self }
+        ensures sound { sizes.IsSound self }
+    {
+        self.all_words() / self.blocks()
+    }
+
+    /// The number of wrong words in one block that can be put right: half its check words, rounded down.
     #[tactic(auto, using(crate::proofs::Sound::sound))]
     pub fn limit(self) -> usize
         ensures value { result ≡ sizes.limit self }
         ensures sound { sizes.IsSound self }
     {
-        self.check_words() / self.blocks() / 2
+        self.block_checks() / 2
     }
 }

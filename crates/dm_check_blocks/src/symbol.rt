@@ -1,25 +1,23 @@
 //! The words of a whole symbol: its blocks, interleaved.
 
-ghost use Rattle.std.specs.Prelude.{◌≡◌, ◌≢◌, ◌<◌, ◌≤◌, ◌+◌, ◌%◌, ◌⊎◌, ◌∷◌, ℕ, List, IfOk, length, map, take, slice_index};
+ghost use Rattle.std.specs.Prelude.{◌≡◌, ◌<◌, ◌+◌, ℕ, List, IfOk, length, slice_index};
 ghost use Rattle.std.specs.List.{All};
-ghost use Rattle.dm_gf256.specs.Field.{power};
-ghost use Rattle.dm_gf256.specs.Polynomial.{value, IsBlockWord};
-ghost use Rattle.dm_check_blocks.specs.Sizes.{data_words, all_words, blocks, block_checks, block_length};
-ghost use Rattle.dm_check_blocks.specs.Blocks.{block_data, position, block_of, Completes};
+ghost use Rattle.dm_gf256.specs.Polynomial.{IsBlockWord};
+ghost use Rattle.dm_check_blocks.specs.Sizes.{data_words, all_words, blocks, block_data, block_checks, block_length};
+ghost use Rattle.dm_check_blocks.specs.Blocks.{position, block_of, Completes};
+ghost use Rattle.dm_check_blocks.specs.inner.Completing.{KeepsOtherWords};
+ghost use Rattle.dm_check_blocks.specs.inner.Remainders.{IsGenerator};
 
 use crate::checks::fill;
-use crate::generator::coefficients_of;
+use crate::generator::{MOST_CHECKS, coefficients_of};
 use crate::size::Size;
 use std::alloc::{AllocError, Allocator};
 
 /// The most data words of one block, those of side 120.
 const BLOCK_DATA: usize = 175;
 
-/// The most check words of one block.
-const BLOCK_CHECKS: usize = 68;
-
-/// Where a word of a block stands in its symbol, from 0; the block and its word count from 0 too. In a
-/// block the data words come first (ISO/IEC 16022, Annex A).
+/// Where a word of a block stands in its symbol. Blocks, words of a block and words of the symbol count from 0, and a
+/// block's data words come before its check words (ISO/IEC 16022, Annex A).
 pub fn block_word(size: Size, block: usize, word: usize) -> usize
     requires block { block < blocks size }
     requires word { word < block_length size }
@@ -29,15 +27,16 @@ pub fn block_word(size: Size, block: usize, word: usize) -> usize
     word * size.blocks() + block
 }
 
-// The data words of one block, and zeros behind them.
+// The data words of one block, and zeros after them.
 fn data_of_block(size: Size, block: usize, words: &[u8]) -> [u8; BLOCK_DATA]
     requires block { block < blocks size }
     requires count { length words.now ≡ all_words size }
     ensures size { length result ≡ BLOCK_DATA }
-    ensures words { (i : ℕ) → i < block_data size → slice_index result i ≡ slice_index words.now (position size block i) }
+    ensures words { (i : ℕ) → i < block_data size
+        → slice_index result i ≡ slice_index words.now (position size block i) }
 {
     let mut data = [0; BLOCK_DATA];
-    for i in 0..size.data_words() / size.blocks() {
+    for i in 0..size.block_data() {
         data[i] = words[block_word(size, block, i)];
     }
     data
@@ -48,10 +47,11 @@ fn write_checks(size: Size, block: usize, words: &mut [u8], checks: &[u8])
     requires block { block < blocks size }
     requires count { length words.old ≡ all_words size }
     requires checks { length checks.now ≡ block_checks size }
-    ensures written { (k : ℕ) → k < block_checks size → slice_index words.new (position size block (block_data size + k)) ≡ slice_index checks.now k }
-    ensures others { (p : ℕ) → (p < data_words size) ⊎ (p % blocks size ≢ block) → slice_index words.new p ≡ slice_index words.old p }
+    ensures written { (k : ℕ) → k < block_checks size
+        → slice_index words.new (position size block (block_data size + k)) ≡ slice_index checks.now k }
+    ensures others { KeepsOtherWords size block words.old words.new }
 {
-    let data = size.data_words() / size.blocks();
+    let data = size.block_data();
     for k in 0..checks.len() {
         words[block_word(size, block, data + k)] = checks[k];
     }
@@ -62,14 +62,14 @@ fn complete_block(size: Size, block: usize, words: &mut [u8], generator: &[u8])
     requires block { block < blocks size }
     requires count { length words.old ≡ all_words size }
     requires length { length generator.now ≡ block_checks size }
-    requires roots { (k : ℕ) → 1 ≤ k → k ≤ length generator.now → value (1 ∷ generator.now) (power 2 k) ≡ 0 }
+    requires roots { IsGenerator generator.now }
     ensures completed { IsBlockWord (block_checks size) (block_of size block words.new) }
     ensures bytes { All (λ word. word < 256) words.new }
-    ensures others { (p : ℕ) → (p < data_words size) ⊎ (p % blocks size ≢ block) → slice_index words.new p ≡ slice_index words.old p }
+    ensures others { KeepsOtherWords size block words.old words.new }
 {
     let data = data_of_block(size, block, words);
-    let message = &data[..size.data_words() / size.blocks()];
-    let mut checks = [0; BLOCK_CHECKS];
+    let message = &data[..size.block_data()];
+    let mut checks = [0; MOST_CHECKS];
     let checks = &mut checks[..generator.len()];
     fill(message, checks, generator);
     write_checks(size, block, words, checks);
@@ -82,7 +82,7 @@ fn complete_blocks(size: Size, words: &mut [u8])
     ensures message { (p : ℕ) → p < data_words size → slice_index words.new p ≡ slice_index words.old p }
     ensures bytes { All (λ word. word < 256) words.new }
 {
-    let checks = size.check_words() / size.blocks();
+    let checks = size.block_checks();
     let coefficients = coefficients_of(checks);
     let generator = &coefficients[1..checks + 1];
     for block in 0..size.blocks() {
@@ -90,9 +90,12 @@ fn complete_blocks(size: Size, words: &mut [u8])
     }
 }
 
-/// All words of the symbol whose data words are the message: the message, and behind it the check words of
-/// the blocks, interleaved (ISO/IEC 16022, clause 5.2.9 and Annex A). No other list begins with the message
-/// and consists of block words.
+/// All words of the symbol whose data words are the message: the message, and after it the check words of the
+/// blocks, interleaved (ISO/IEC 16022, clause 5.7 and Annex A). No other list begins with the message and
+/// consists of block words.
+///
+/// # Errors
+/// Where the allocator refuses its memory.
 pub fn complete<A: Allocator + Copy>(
     alloc: A,
     size: Size,
@@ -100,11 +103,12 @@ pub fn complete<A: Allocator + Copy>(
 ) -> Result<Vec<u8, A>, AllocError>
     requires { length message.now ≡ data_words size }
     ensures completed { IfOk result (λ words. Completes size message.now words.items) }
-    ensures only { IfOk result (λ words. (others : List ℕ) → Completes size message.now others → others ≡ words.items) }
+    ensures only { IfOk result (λ words. (others : List ℕ)
+        → Completes size message.now others → others ≡ words.items) }
 {
-    let mut words = Vec::with_capacity(alloc, size.data_words() + size.check_words())?;
+    let mut words = Vec::with_capacity(alloc, size.all_words())?;
     words.extend_from_slice(message)?;
-    words.resize(size.data_words() + size.check_words(), 0)?;
+    words.resize(size.all_words(), 0)?;
     complete_blocks(size, words.as_mut_slice());
     Ok(words)
 }

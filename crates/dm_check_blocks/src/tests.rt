@@ -36,6 +36,15 @@ fn the_row_of_side_52(rt: HostRuntime) {
         (size.region(), size.regions(), size.across(), size.mapping()),
         (24, 4, 2, 48)
     );
+    assert_eq!(rt;
+        (
+            size.all_words(),
+            size.block_data(),
+            size.block_checks(),
+            size.block_length()
+        ),
+        (288, 102, 42, 144)
+    );
     assert_eq!(rt; block_word(size, 1, 0), 1);
     assert_eq!(rt; block_word(size, 1, 102), 205);
 }

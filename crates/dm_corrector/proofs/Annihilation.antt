@@ -3,27 +3,30 @@ use Rattle.std.proofs.Common.{List, [], add-zero, ap, arith, get_or, length, ref
 use Rattle.std.specs.Int.Bits.{bit_xor}
 use Rattle.dm_gf256.proofs.Linear.{product-xor_l, product-xor_r, xor_interchange}
 use Rattle.dm_gf256.proofs.Ring.{product-zero_l, product-zero_r, product_assoc, product_comm}
-use Rattle.dm_gf256.proofs.Vanish.{Zeros, bytes-weigh, length-weigh, locator, moment, nonzeros, nonzeros-weigh, vanish, weigh}
+use Rattle.dm_gf256.proofs.Vanish.{Zeros, bytes-weigh, length-weigh, position_value, moment, nonzeros, nonzeros-weigh, vanish, weigh}
 use Rattle.dm_gf256.specs.Field.{power, product}
 use Rattle.dm_corrector.proofs.Combinations.{combination-same}
-use Rattle.dm_corrector.specs.Polynomials.{at_low, combination}
+use Rattle.dm_corrector.specs.Locators.{combination}
+use Rattle.dm_corrector.specs.inner.Polynomials.{at_low}
 
+-- the sums of a word weighed by the zero polynomial are zero
 weigh_none : (ys : List ℕ) (k : ℕ) → moment (weigh (at_low []) ys) k ≡ 0
 unfolding moment weigh at_low
 weigh_none [] k = refl
 weigh_none (y ∷ ys) k =
-    ap (λ t. bit_xor (product t (power (locator (weigh (at_low []) ys)) k)) (moment (weigh (at_low []) ys) k)) (product-zero_r y)
+    ap (λ t. bit_xor (product t (power (position_value (weigh (at_low []) ys)) k)) (moment (weigh (at_low []) ys) k)) (product-zero_r y)
     ∙ ap (λ t. bit_xor t (moment (weigh (at_low []) ys) k)) (product-zero_l _) ∙ weigh_none ys k
 
+-- weighing by a polynomial with one coefficient more
 weigh_more : (c : ℕ) (cs ys : List ℕ) (k : ℕ) → moment (weigh (at_low (c ∷ cs)) ys) k ≡ bit_xor (product c (moment ys k)) (moment (weigh (at_low cs) ys) (suc k))
 unfolding moment weigh at_low power
 weigh_more c cs [] k = sym (ap (λ t. bit_xor t 0) (product-zero_r c))
 weigh_more c cs (y ∷ ys) k =
-    let L = locator ys in let P = power L k in let q = at_low cs L in
+    let L = position_value ys in let P = power L k in let q = at_low cs L in
     let whole = weigh (at_low (c ∷ cs)) ys in let part = weigh (at_low cs) ys in
     let A = product c (product y P) in let B = product (product y q) (product L P) in
-    let e : locator whole ≡ L = ap (power 2) (length-weigh (at_low (c ∷ cs)) ys) in
-    let f : locator part ≡ L = ap (power 2) (length-weigh (at_low cs) ys) in
+    let e : position_value whole ≡ L = ap (power 2) (length-weigh (at_low (c ∷ cs)) ys) in
+    let f : position_value part ≡ L = ap (power 2) (length-weigh (at_low cs) ys) in
     let left : product (product y c) P ≡ A = ap (λ t. product t P) (product_comm y c) ∙ product_assoc c y P in
     let right : product (product y (product L q)) P ≡ B =
     ap (λ t. product t P) (ap (product y) (product_comm L q) ∙ sym (product_assoc y q L)) ∙ product_assoc (product y q) L P in

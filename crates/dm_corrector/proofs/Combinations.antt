@@ -10,8 +10,9 @@ use Rattle.dm_gf256.specs.declared.element.Gf.{Gf}
 use Rattle.dm_gf256.specs.Elements.{numbers}
 use Rattle.dm_gf256.specs.Field.{product}
 use Rattle.dm_gf256.specs.Polynomial.{add_scaled}
-use Rattle.dm_corrector.specs.Polynomials.{combination}
+use Rattle.dm_corrector.specs.Locators.{combination}
 
+-- a combination depends on as many values as there are coefficients
 pub combination-same : (p : List ℕ) (g h : ℕ → ℕ) → ((j : ℕ) → j < length p → g j ≡ h j) → combination p g ≡ combination p h
 unfolding combination
 combination-same [] g h e = refl
@@ -19,6 +20,7 @@ combination-same (c ∷ cs) g h e =
     ap (λ t. bit_xor (product c t) (combination cs (λ j. g (suc j)))) (e 0 (omega arith))
     ∙ ap (bit_xor (product c (h 0))) (combination-same cs (λ j. g (suc j)) (λ j. h (suc j)) (λ j l. e (suc j) (omega arith)))
 
+-- a combination with one coefficient more
 combination-push : (cs : List ℕ) (c : ℕ) (g : ℕ → ℕ) → combination (cs ++ c ∷ []) g ≡ bit_xor (combination cs g) (product c (g (length cs)))
 unfolding combination
 combination-push [] c g = xor_zero_r (product c (g 0))
@@ -39,11 +41,13 @@ combination-add_scaled f (t ∷ ts) (s ∷ ss) g e =
     ∙ xor_interchange (product t (g 0)) (product f (product s (g 0))) (combination ts h) (product f (combination ss h))
     ∙ ap (bit_xor (bit_xor (product t (g 0)) (combination ts h))) (sym (product-xor_r f (product s (g 0)) (combination ss h)))
 
+-- a combination is a byte
 pub combination_byte : (p : List ℕ) (g : ℕ → ℕ) → combination p g < 256
 unfolding combination
 combination_byte [] g = omega arith
 combination_byte (c ∷ cs) g = xor_lt 8 (product c (g 0)) (combination cs (λ j. g (suc j))) (product_byte c (g 0)) (combination_byte cs (λ j. g (suc j)))
 
+-- a row of zeros combines to zero
 combination-blank : (row : List ℕ) (g : ℕ → ℕ) → ((m : ℕ) → get_or row m 0 ≡ 0) → combination row g ≡ 0
 unfolding combination
 combination-blank [] g h = refl
@@ -51,6 +55,7 @@ combination-blank (c ∷ cs) g h =
     ap (λ t. bit_xor (product t (g 0)) (combination cs (λ j. g (suc j)))) (h 0) ∙ ap (λ t. bit_xor t (combination cs (λ j. g (suc j)))) (product-zero_l (g 0))
     ∙ combination-blank cs (λ j. g (suc j)) (λ m. h (suc m))
 
+-- zeros at a row's end add nothing to its combination
 pub combination-take : (n : ℕ) (row : List ℕ) (g : ℕ → ℕ) → ((m : ℕ) → n ≤ m → get_or row m 0 ≡ 0) → combination (take n row) g ≡ combination row g
 unfolding combination
 combination-take zero row g h = sym (combination-blank row g (λ m. h m (omega arith)))

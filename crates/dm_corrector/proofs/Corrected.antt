@@ -7,7 +7,7 @@ use Rattle.std.specs.Int.Bits.{bit_xor, xor_zero_r}
 use Rattle.std.specs.List.{All, Contains}
 use Rattle.dm_gf256.proofs.Ring.{product_comm, product_zero}
 use Rattle.dm_gf256.proofs.Vanish.{Bytes, value-moment, weigh}
-use Rattle.dm_gf256.proofs.Words.{bytes-sum_word, length-sum_word, nonzeros-sum_word, value-sum_word, one_block_word, differ_triangle, differ_comm, differ-self}
+use Rattle.dm_gf256.proofs.OneBlockWord.{bytes-sum_word, length-sum_word, nonzeros-sum_word, value-sum_word, one_block_word, differ_triangle, differ_comm, differ-self}
 use Rattle.dm_gf256.specs.declared.element.Gf.{Gf}
 use Rattle.dm_gf256.specs.Elements.{numbers}
 use Rattle.dm_gf256.specs.Field.{power, product}
@@ -15,15 +15,18 @@ use Rattle.dm_gf256.specs.Polynomial.{differ, sum_word, value, IsBlockWord}
 use Rattle.dm_corrector.proofs.Annihilation.{annihilates}
 use Rattle.dm_corrector.proofs.Entries.{entry-past, entry-weigh, entry-zeros, entry_byte}
 use Rattle.dm_corrector.proofs.LowValues.{at_low_byte}
-use Rattle.dm_corrector.proofs.Words.{sum_word-twice}
-use Rattle.dm_corrector.specs.Corrections.{AreSyndromes, Corrects}
+use Rattle.dm_corrector.proofs.WordsByPlace.{sum_word-twice}
+use Rattle.dm_corrector.specs.Corrections.{Corrects}
+use Rattle.dm_corrector.specs.inner.Syndromes.{AreSyndromes}
 use Rattle.dm_corrector.specs.Locators.{IsLocator}
-use Rattle.dm_corrector.specs.Polynomials.{at_low, entry}
+use Rattle.dm_corrector.specs.inner.Polynomials.{at_low, entry}
 
+-- the syndromes of a block are those of the word of its errors
 pub errors_sums : (checks t : ℕ) (r w : List ℕ) (sums : List ℕ) → Corrects checks r w → 2 * t ≤ checks → ((k : ℕ) → k < 2 * t → get_or sums k 0 ≡ value r (power 2 (suc k))) → AreSyndromes (2 * t) sums (sum_word r w)
 errors_sums checks t r w sums c l s = λ k h.
     s k h ∙ sym (value-sum_word r w (power 2 (suc k)) (sym c.size) ∙ ap (bit_xor (value r (power 2 (suc k)))) (c.block_word (suc k) (omega arith) (omega arith)) ∙ xor_zero_r _)
 
+-- a locator polynomial vanishes at every error
 pub errors_found : (checks t : ℕ) (r w sums p : List ℕ) → Corrects checks r w → length r ≤ 255 → checks / 2 ≤ t → AreSyndromes (2 * t) sums (sum_word r w) → IsLocator t sums p →
     (j : ℕ) → product (entry (sum_word r w) j) (at_low p (power 2 j)) ≡ 0
 errors_found checks t r w sums p c l h s i = λ j.

@@ -4,6 +4,7 @@ use Rattle.std.proofs.lemmas.Bool.{cases_Bool}
 use Rattle.std.specs.Bool.{◌==◌}
 use Rattle.dm_gf256.specs.Polynomial.{differ}
 
+-- counting up to one place more
 differ_more : (xs ys : List ℕ) (i : ℕ) → i < length xs → i < length ys → differ (take (suc i) xs) (take (suc i) ys) ≡ differ (take i xs) (take i ys) + cond (get_or xs i 0 == get_or ys i 0) 0 1
 unfolding differ
 differ_more [] ys i l m = absurd (omega arith)
@@ -11,16 +12,19 @@ differ_more (x ∷ xs) [] i l m = absurd (omega arith)
 differ_more (x ∷ xs) (y ∷ ys) zero l m = omega arith
 differ_more (x ∷ xs) (y ∷ ys) (suc i) l m = omega (arith, differ_more xs ys i (omega arith) (omega arith))
 
+-- one place more, at which the words differ
 pub differ_other : (xs ys : List ℕ) (i d : ℕ) → i < length xs → i < length ys → get_or xs i 0 ≢ get_or ys i 0 → d ≡ differ (take i xs) (take i ys) → d + 1 ≡ differ (take (i + 1) xs) (take (i + 1) ys)
 differ_other xs ys i d l m h e =
     let q : eqb (get_or xs i 0) (get_or ys i 0) ≡ false = ⊎_elim (λ (t : eqb (get_or xs i 0) (get_or ys i 0) ≡ true). absurd (h (eqb-true _ _ t))) (λ (t : eqb (get_or xs i 0) (get_or ys i 0) ≡ false). t) (cases_Bool (eqb (get_or xs i 0) (get_or ys i 0))) in
     ap (λ t. t + 1) e ∙ ap (λ b. differ (take i xs) (take i ys) + cond b 0 1) (sym q) ∙ sym (differ_more xs ys i l m) ∙ ap (λ n. differ (take n xs) (take n ys)) (sym (add-one i))
 
+-- one place more, at which the words agree
 pub differ_same : (xs ys : List ℕ) (i d : ℕ) → i < length xs → i < length ys → get_or xs i 0 ≡ get_or ys i 0 → d ≡ differ (take i xs) (take i ys) → d ≡ differ (take (i + 1) xs) (take (i + 1) ys)
 differ_same xs ys i d l m h e =
     let q : eqb (get_or xs i 0) (get_or ys i 0) ≡ true = eq-eqb _ _ h in
     e ∙ sym (add-zero _) ∙ ap (λ b. differ (take i xs) (take i ys) + cond b 0 1) (sym q) ∙ sym (differ_more xs ys i l m) ∙ ap (λ n. differ (take n xs) (take n ys)) (sym (add-one i))
 
+-- two words differ in at most as many places as the first has
 pub differ_le : (xs ys : List ℕ) → differ xs ys ≤ length xs
 unfolding differ
 differ_le [] ys = omega arith
@@ -35,6 +39,15 @@ differ-set [] ys p v l m e = absurd (omega arith)
 differ-set (x ∷ xs) [] p v l m e = absurd (omega arith)
 differ-set (x ∷ xs) (y ∷ ys) zero v l m e = rw (eq-eqb x y e) (omega arith)
 differ-set (x ∷ xs) (y ∷ ys) (suc p) v l m e = omega (arith, differ-set xs ys p v (omega arith) (omega arith) e)
+
+-- to write one place makes at most one place more differ
+pub differ-set_le : (xs ys : List ℕ) (p v : ℕ) → differ xs (set ys p v) ≤ differ xs ys + 1
+unfolding differ
+differ-set_le [] ys p v = omega arith
+differ-set_le (x ∷ xs) [] p v = omega arith
+differ-set_le (x ∷ xs) (y ∷ ys) zero v =
+    ⊎_elim (λ (t : eqb x v ≡ true). rw t (omega arith)) (λ (t : eqb x v ≡ false). rw t (omega arith)) (cases_Bool (eqb x v))
+differ-set_le (x ∷ xs) (y ∷ ys) (suc p) v = omega (arith, differ-set_le xs ys p v)
 
 -- a word of a block written to its place p among other words
 pub differ-set_more : (before words old block : List ℕ) (k p n : ℕ) → p < length before → p < length words → k < length old → k < length block → get_or before p 0 ≡ get_or words p 0 → get_or old k 0 ≡ get_or before p 0 →

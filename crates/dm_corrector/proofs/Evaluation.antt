@@ -4,7 +4,7 @@ use Rattle.std.proofs.lemmas.List.{take_more, get_or-take, get_or-replicate}
 use Rattle.std.specs.Int.Bits.{bit_xor}
 use Rattle.dm_gf256.specs.Field.{product}
 use Rattle.dm_gf256.specs.Polynomial.{value}
-use Rattle.dm_gf256.proofs.Steps.{value-push}
+use Rattle.dm_gf256.proofs.LoopSteps.{value-push}
 
 -- one coefficient more
 pub value_more : (cs : List ℕ) (i x s : ℕ) → i < length cs → get_or cs i 0 < 256 → s ≡ value (take i cs) x → bit_xor (product s x) (get_or cs i 0) ≡ value (take (i + 1) cs) x

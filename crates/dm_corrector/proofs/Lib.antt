@@ -3,7 +3,7 @@ pub mod Combinations
 pub mod Corrected
 pub mod Differences
 pub mod Entries
-pub mod ErrorTurns
+pub mod ErrorValueSteps
 pub mod ErrorValues
 pub mod Evaluation
 pub mod LowValues
@@ -12,5 +12,5 @@ pub mod RootSearch
 pub mod RowsReduced
 pub mod SymbolBlocks
 pub mod SyndromeWords
-pub mod TakingOut
-pub mod Words
+pub mod TakingOutSteps
+pub mod WordsByPlace

@@ -8,18 +8,21 @@ use Rattle.dm_gf256.proofs.Linear.{product-xor_r}
 use Rattle.dm_gf256.proofs.Ring.{product_comm, product_assoc, product_byte, product-zero_r, one-product, power-add}
 use Rattle.dm_gf256.proofs.Tables.{whole_turn}
 use Rattle.dm_gf256.proofs.Vanish.{Bytes}
-use Rattle.dm_corrector.specs.Polynomials.{at_low}
+use Rattle.dm_corrector.specs.inner.Polynomials.{at_low}
 
+-- the value of a polynomial of bytes is a byte
 pub at_low_byte : (p : List ℕ) (x : ℕ) → Bytes p → at_low p x < 256
 unfolding at_low
 at_low_byte [] x b = omega arith
 at_low_byte (c ∷ cs) x b = xor_lt 8 c _ (b.0) (product_byte x _)
 
+-- four factors, the inner two exchanged
 interchange : (a b c d : ℕ) → product (product a b) (product c d) ≡ product (product a c) (product b d)
 interchange a b c d =
     product_assoc a b (product c d) ∙ ap (product a) (sym (product_assoc b c d) ∙ ap (λ t. product t d) (product_comm b c) ∙ product_assoc c b d)
     ∙ sym (product_assoc a c (product b d))
 
+-- powers of inverses are inverses
 power-inverse : (x y n : ℕ) → product x y ≡ 1 → product (power x n) (power y n) ≡ 1
 unfolding power
 power-inverse x y zero h = one-product 1 (omega arith)
@@ -40,6 +43,7 @@ value-inverse (c ∷ cs) x y h =
     ∙ ap (bit_xor (product x c)) (product_assoc x X (value cs y) ∙ ap (product x) (value-inverse cs x y h))
     ∙ sym (product-xor_r x c (product x (at_low cs x)))
 
+-- a value is a byte
 value_byte : (p : List ℕ) (y : ℕ) → value p y < 256
 unfolding value
 value_byte [] y = omega arith
@@ -50,10 +54,12 @@ zero_from_product : (x y a : ℕ) → product x y ≡ 1 → a < 256 → product 
 zero_from_product x y a h l z =
     sym (one-product a l) ∙ ap (λ t. product t a) (sym h ∙ product_comm x y) ∙ product_assoc y x a ∙ ap (product y) z ∙ product-zero_r y
 
+-- a zero at the inverse, with the highest power first, is a root
 pub root_from_inverse : (p : List ℕ) (x y : ℕ) → product x y ≡ 1 → Bytes p → value p y ≡ 0 → at_low p x ≡ 0
 root_from_inverse p x y h b z =
     zero_from_product x y (at_low p x) h (at_low_byte p x b) (sym (value-inverse p x y h) ∙ ap (product (power x (length p))) z ∙ product-zero_r _)
 
+-- a root is a zero at the inverse, with the highest power first
 pub inverse_from_root : (p : List ℕ) (x y : ℕ) → product x y ≡ 1 → at_low p x ≡ 0 → value p y ≡ 0
 inverse_from_root p x y h z =
     let n = length p in

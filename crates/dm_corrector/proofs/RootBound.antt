@@ -11,7 +11,7 @@ use Rattle.dm_gf256.proofs.Vanish.{Bytes, Zeros, xor_apart}
 use Rattle.dm_gf256.specs.Field.{power, product}
 use Rattle.dm_corrector.proofs.LowValues.{at_low_byte}
 use Rattle.dm_corrector.specs.Locators.{IsLocator}
-use Rattle.dm_corrector.specs.Polynomials.{Descends, at_low}
+use Rattle.dm_corrector.specs.inner.Polynomials.{Descends, at_low}
 
 -- p(x) + p(r) divided by x + r
 unfoldable pub quotient : ℕ → List ℕ → List ℕ
@@ -19,15 +19,18 @@ quotient r [] = []
 quotient r (c ∷ []) = []
 quotient r (c ∷ d ∷ cs) = at_low (d ∷ cs) r ∷ quotient r (d ∷ cs)
 
+-- the quotient has one coefficient less
 length-quotient : (r c : ℕ) (cs : List ℕ) → length (quotient r (c ∷ cs)) ≡ length cs
 unfolding quotient
 length-quotient r c [] = refl
 length-quotient r c (d ∷ cs) = ap suc (length-quotient r d cs)
 
+-- a sum in which b occurs twice
 mid_cancel : (a b c : ℕ) → bit_xor (bit_xor a b) (bit_xor c a) ≡ bit_xor c b
 mid_cancel a b c =
     ap (λ t. bit_xor t (bit_xor c a)) (xor_comm a b) ∙ xor_interchange b a c a ∙ ap (bit_xor (bit_xor b c)) (xor_self a) ∙ xor_zero_r (bit_xor b c) ∙ xor_comm b c
 
+-- p(x) + p(r) is (x + r) times the quotient's value at x
 at-quotient : (r x : ℕ) (p : List ℕ) → bit_xor (at_low p x) (at_low p r) ≡ product (bit_xor x r) (at_low (quotient r p) x)
 unfolding quotient at_low
 at-quotient r x [] = sym (product-zero_r (bit_xor x r))
@@ -42,6 +45,7 @@ at-quotient r x (c ∷ d ∷ cs) =
     ∙ ap (λ t. bit_xor t (bit_xor (product x A) (product x B))) (sym (product-xor_l x r B))
     ∙ ap (bit_xor (product s B)) (sym inner) ∙ sym (product-xor_r s B (product x Q))
 
+-- a polynomial with the root r and the quotient zero is zero
 zero_from_quotient : (r : ℕ) (p : List ℕ) → at_low p r ≡ 0 → Zeros (quotient r p) → Zeros p
 unfolding quotient at_low
 zero_from_quotient r [] e z = tt
@@ -49,6 +53,7 @@ zero_from_quotient r (c ∷ []) e z = (sym (xor_zero_r c) ∙ ap (bit_xor c) (sy
 zero_from_quotient r (c ∷ d ∷ cs) e z =
     (sym (xor_zero_r c) ∙ ap (bit_xor c) (sym (ap (product r) (z.0) ∙ product-zero_r r)) ∙ e, zero_from_quotient r (d ∷ cs) (z.0) (z.1))
 
+-- the quotient of a polynomial of bytes is bytes
 bytes-quotient : (r : ℕ) (p : List ℕ) → Bytes p → Bytes (quotient r p)
 unfolding quotient
 bytes-quotient r [] b = tt
@@ -59,6 +64,7 @@ bytes-quotient r (c ∷ d ∷ cs) b = (at_low_byte (d ∷ cs) r (b.1), bytes-quo
 abbrev pub AllRoots : List ℕ → List ℕ → Type 0
 AllRoots p es = AllByRecursion (λ e. at_low p (power 2 e) ≡ 0) es
 
+-- the quotient by one root has the other roots
 quotient_roots : (p : List ℕ) (e m : ℕ) (es : List ℕ) → e < 255 → m ≤ e → Bytes p → at_low p (power 2 e) ≡ 0 → Descends m es → AllRoots p es → AllRoots (quotient (power 2 e) p) es
 quotient_roots p e m [] l k b z d r = tt
 quotient_roots p e m (f ∷ fs) l k b z d r =
@@ -79,6 +85,7 @@ root_bound (c ∷ cs) b (e ∷ es) l d r n y =
     (quotient_roots (c ∷ cs) e e es (omega arith) (omega arith) y (r.0) (d.1) (r.1))
     (omega (arith, length-quotient (power 2 e) c cs)) (bytes-quotient (power 2 e) (c ∷ cs) y))
 
+-- a polynomial with a nonzero coefficient isn't zero
 some_not_zero : (p : List ℕ) (j : ℕ) → 0 < get_or p j 0 → Zeros p → ⊥
 some_not_zero [] j h z = omega arith
 some_not_zero (c ∷ cs) zero h z = let e : c ≡ 0 = z.0 in omega arith

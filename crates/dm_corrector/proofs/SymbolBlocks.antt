@@ -4,8 +4,8 @@ use Rattle.std.proofs.lemmas.Bool.{cases_lt}
 use Rattle.std.proofs.lemmas.Nat.{mul-add-lt, div-add-mod', div_below, mod_below}
 use Rattle.std.proofs.lemmas.List.FromFn.{get_or-map-range_with_len, length-map-range_with_len, fill_by_all}
 use Rattle.dm_check_blocks.specs.declared.size.Size.{Size}
-use Rattle.dm_check_blocks.specs.Sizes.{IsSound, data_words, all_words, blocks, block_checks, block_length}
-use Rattle.dm_check_blocks.specs.Blocks.{position, block_data, block_of}
+use Rattle.dm_check_blocks.specs.Sizes.{IsSound, data_words, all_words, blocks, block_data, block_checks, block_length}
+use Rattle.dm_check_blocks.specs.Blocks.{position, block_of}
 
 -- as the blocks are of equal length, the check words go on where the data words end
 pub position-even : (s : Size) (b i : ℕ) → IsSound s → position s b i ≡ i * blocks s + b
@@ -21,10 +21,12 @@ position-even s b i t =
     rw (le-ltb i D l) (omega arith))
     (cases_lt i D)
 
+-- a block has as many words as the size says
 pub length-block_of : (s : Size) (b : ℕ) (words : List ℕ) → length (block_of s b words) ≡ block_length s
 unfolding block_of
 length-block_of s b words = length-map-range_with_len (λ i. get_or words (position s b i) 0) 0 (block_length s)
 
+-- word i of block b is the symbol's word at i times the number of blocks, plus b
 pub block_of-at : (s : Size) (b : ℕ) (words : List ℕ) (i : ℕ) → IsSound s → i < block_length s → get_or (block_of s b words) i 0 ≡ get_or words (i * blocks s + b) 0
 unfolding block_of
 block_of-at s b words i t l =
@@ -46,6 +48,7 @@ whole s t =
     let e : (D + C) * B ≡ block_length s * B = ap (λ n. n * B) t.equal_blocks in
     omega arith
 
+-- that place lies in the symbol
 pub in_symbol : (s : Size) (b i : ℕ) → IsSound s → b < blocks s → i < block_length s → i * blocks s + b < all_words s
 in_symbol s b i t l m = omega (arith, mul-add-lt i (blocks s) b (block_length s) m l, whole s t)
 

@@ -10,10 +10,11 @@ use crate::elements::elements_of;
 use crate::elimination::Elimination;
 use crate::locate::{Locate, MOST_COEFFICIENTS, equation};
 use arrayvec::ArrayVec;
+use dm_check_blocks::MOST_CHECKS;
 use dm_gf256::{Gf, add_multiple};
 
-/// Finds an error locator polynomial by Berlekamp and Massey's method, and where that gives none, by `Elimination`:
-/// so it may be for a block that cannot be corrected.
+/// Finds an error locator polynomial by Berlekamp and Massey's method. Where that gives none, which happens only for
+/// blocks that cannot be corrected, `Elimination` finds it.
 #[derive(Clone, Copy, Debug)]
 pub struct Massey;
 
@@ -26,14 +27,15 @@ impl Locate for Massey {
     }
 }
 
-// By how much the next syndrome misses what the recurrence foretells: the sum of c_i S(at - i) over i = 0 .. order.
+// By how much the next syndrome differs from what the recurrence predicts: the sum of c_i S(at - i) over
+// i = 0 .. order.
 fn discrepancy(
     connection: &[u8; MOST_COEFFICIENTS],
     syndromes: &[Gf],
     order: usize,
     at: usize,
 ) -> Gf
-    requires short { order < 35 }
+    requires short { order < MOST_COEFFICIENTS }
     requires begun { order ≤ at }
     requires given { at < length syndromes.now }
 {
@@ -51,8 +53,8 @@ fn is_zero(coefficients: &[u8]) -> bool
     coefficients.iter().all(|&c| c == 0)
 }
 
-// Whether a polynomial, its lowest power first, is a locator polynomial: it isn't zero, has degree at most t and meets
-// the t equations.
+// Whether a polynomial, its lowest power first, is a locator polynomial: it isn't zero, has at most t + 1 coefficients
+// and meets the t equations.
 fn is_locator(coefficients: &[u8], syndromes: &[Gf]) -> bool
     ensures { IsTrue result → (t : ℕ) → length syndromes.now ≡ 2 * t
         → IsLocator t (numbers syndromes.now) coefficients.now }
@@ -71,9 +73,9 @@ fn is_locator(coefficients: &[u8], syndromes: &[Gf]) -> bool
 
 // The locator polynomial by Berlekamp and Massey's method. `connection` is the polynomial of the shortest recurrence so
 // far, its lowest power first, and `order` the recurrence's length; `previous` is the connection polynomial before the
-// order last grew, times x for each step since, and `inverse` the inverse of what it missed.
+// order last grew, times x for each step since, and `inverse` the inverse of its discrepancy then.
 pub(crate) fn shortest_recurrence(syndromes: &[Gf]) -> Option<ArrayVec<Gf, MOST_COEFFICIENTS>>
-    requires { length syndromes.now ≤ 68 }
+    requires { length syndromes.now ≤ MOST_CHECKS }
     ensures { IfSome result (λ p. (t : ℕ) → length syndromes.now ≡ 2 * t
         → IsLocator t (numbers syndromes.now) (numbers p.items)) }
 {

@@ -6,25 +6,41 @@ ghost use Rattle.dm_check_blocks.specs.Sizes.{all_words, blocks, block_checks};
 ghost use Rattle.dm_check_blocks.specs.Blocks.{block_of, IsSymbol};
 ghost use Rattle.dm_corrector.specs.Corrections.{Corrects};
 ghost use Rattle.dm_corrector.specs.Symbols.{CorrectsSymbol, IsFirstFaulty};
+ghost use Rattle.dm_corrector.specs.inner.Scattering.{AddsDifferences};
 
 use crate::block::{Uncorrectable, correct};
 use crate::syndromes::MOST_WORDS;
 use dm_check_blocks::Size;
+use thiserror::Error;
 
 /// The most words of a symbol: those of side 132.
 const MOST_SYMBOL_WORDS: usize = 1800;
 
-/// The first block of a symbol that cannot be corrected, counted from 0.
-#[derive(Clone, Copy, Debug, PartialEq, Eq)]
+/// The first block of a symbol that cannot be corrected.
+#[derive(Clone, Copy, Debug, PartialEq, Eq, Error)]
+#[error("block {block} has too many wrong words")]
 pub struct BlockFault {
-    /// The block's number.
+    /// The block's number, from 0.
     pub block: usize,
+}
+
+impl BlockFault {
+    ghost use Rattle.std.specs.Prelude.{◌≡◌};
+    ghost use Rattle.dm_corrector.specs.Symbols.{block_fault_name};
+
+    /// The fault in one word, `Block`.
+    pub fn name(self) -> &'static str
+        ensures { result.now ≡ block_fault_name self }
+    {
+        "Block"
+    }
 }
 
 // Copies every `stride`-th word, from the one at `start` on, into a block.
 fn gather(words: &[u8], start: usize, stride: usize, block: &mut [u8])
     requires { (k : ℕ) → k < length block.old → k * stride + start < length words.now }
-    ensures { (k : ℕ) → k < length block.old → slice_index block.new k ≡ slice_index words.now (k * stride + start) }
+    ensures { (k : ℕ) → k < length block.old
+        → slice_index block.new k ≡ slice_index words.now (k * stride + start) }
 {
     for k in 0..block.len() {
         block[k] = words[k * stride + start];
@@ -35,15 +51,10 @@ fn gather(words: &[u8], start: usize, stride: usize, block: &mut [u8])
 fn scatter(words: &mut [u8], start: usize, stride: usize, block: &[u8])
     requires inside { (k : ℕ) → k < length block.now → k * stride + start < length words.old }
     requires once { start < stride }
-    ensures own { (k : ℕ) → k < length block.now → slice_index words.new (k * stride + start) ≡ slice_index block.now k }
+    ensures own { (k : ℕ) → k < length block.now
+        → slice_index words.new (k * stride + start) ≡ slice_index block.now k }
     ensures others { (p : ℕ) → p % stride ≢ start → slice_index words.new p ≡ slice_index words.old p }
-
-    // Where the words so far are those of a list, the block's words that differ from it are as many more that differ.
-    ensures changed { (before : List ℕ) → (old : List ℕ) → length before ≡ length words.old → length old ≡ length block.now
-        → ((k : ℕ) → k < length block.now
-        → (slice_index old k ≡ slice_index before (k * stride + start))
-        × (slice_index words.old (k * stride + start) ≡ slice_index before (k * stride + start)))
-        → differ before words.new ≡ differ before words.old + differ old block.now }
+    ensures changed { AddsDifferences stride start words.old words.new block.now }
 {
     for k in 0..block.len() {
         words[k * stride + start] = block[k];
@@ -62,23 +73,27 @@ fn correct_block(size: Size, words: &mut [u8], number: usize) -> Result<u8, Unco
     ensures others { (b : ℕ) → b < blocks size → b ≢ number
         → block_of size b words.new ≡ block_of size b words.old }
 
-    // Where the block so far is that of a list, the words put right are as many more that differ from it.
+    // Counting: if this block still equals that of `before`, to correct it adds exactly k to the number of words that
+    // differ from `before`.
     ensures changed { IfOk result (λ k. (before : List ℕ) → length before ≡ length words.old
         → block_of size number before ≡ block_of size number words.old
         → differ before words.new ≡ differ before words.old + k) }
 {
     let blocks = size.blocks();
     let mut copy = [0; MOST_WORDS];
-    let block = &mut copy[..words.len() / blocks];
+    let block = &mut copy[..size.block_length()];
     gather(words, number, blocks, block);
-    let changed = correct(block, size.check_words() / blocks)?;
+    let changed = correct(block, size.block_checks())?;
     scatter(words, number, blocks, block);
     Ok(changed)
 }
 
-/// Corrects all blocks of a symbol, up to `Size::limit` wrong words in each. Ok tells how many words changed in all; the
-/// words are then the one symbol whose blocks are within the limit of what they were. Err names the first block that
-/// no block word is near enough to, and then all words are unchanged. ISO/IEC 16022, clause 5.2.9 and Annex E.
+/// Corrects all blocks of a symbol, up to `Size::limit` wrong words in each. Ok gives the number of words that changed
+/// in all; the words are then the one symbol whose blocks are within the limit of what they were (ISO/IEC 16022,
+/// clause 5.7 and Annex E).
+///
+/// # Errors
+/// The first block to which no block word is near enough; all words are then unchanged.
 pub fn correct_symbol(size: Size, words: &mut [u8]) -> Result<u16, BlockFault>
     requires { length words.old ≡ all_words size }
     ensures near { OnOk result (CorrectsSymbol size words.old words.new) }

@@ -1,27 +1,25 @@
-//! Syndromes: the values of a block's polynomial at the roots of the generator polynomial. They are zero exactly
-//! where the block is a block word.
+//! Syndromes: the values of a block's polynomial at the roots of the generator polynomial. All are zero exactly where
+//! the block is a block word.
 
 ghost use Rattle.std.specs.Prelude.{◌≡◌, ◌<◌, ◌≤◌, ℕ, length, slice_index, IsTrue, ◌↔◌};
 ghost use Rattle.std.specs.List.{All};
 ghost use Rattle.dm_gf256.specs.Polynomial.{IsBlockWord};
 ghost use Rattle.dm_gf256.specs.Elements.{numbers};
-ghost use Rattle.dm_corrector.specs.Corrections.{AreSyndromes};
+ghost use Rattle.dm_corrector.specs.inner.Syndromes.{AreSyndromes};
 
 use crate::elements::elements_of;
 use crate::values::add_coefficient;
 use arrayvec::ArrayVec;
+use dm_check_blocks::MOST_CHECKS;
 use dm_gf256::Gf;
 
-/// The most check words of a block, and so the most syndromes.
-pub(crate) const MOST_CHECKS: usize = 68;
+/// The most words of a block: as many as the field has elements other than zero.
+pub const MOST_WORDS: usize = 255;
 
-/// The most words of a block: the field has 255 places.
-pub(crate) const MOST_WORDS: usize = 255;
-
-/// The syndromes of a block with so many check words: its values at 2^1, 2^2 and so on.
+/// The syndromes of a block with this many check words: its values at 2^1, 2^2 and so on.
 pub(crate) fn syndromes_of(block: &[u8], checks: usize) -> ArrayVec<Gf, MOST_CHECKS>
-    requires most { checks ≤ 68 }
-    requires fits { length block.now ≤ 255 }
+    requires most { checks ≤ MOST_CHECKS }
+    requires fits { length block.now ≤ MOST_WORDS }
     ensures count { length result.items ≡ checks }
     ensures values { AreSyndromes checks (numbers result.items) block.now }
     ensures bytes { All (λ word. word < 256) block.now }
@@ -48,8 +46,8 @@ pub(crate) fn all_zero(syndromes: &[Gf]) -> bool
 
 /// Whether a block is a block word.
 pub(crate) fn is_block_word(block: &[u8], checks: usize) -> bool
-    requires most { checks ≤ 68 }
-    requires fits { length block.now ≤ 255 }
+    requires most { checks ≤ MOST_CHECKS }
+    requires fits { length block.now ≤ MOST_WORDS }
     ensures { IsTrue result ↔ IsBlockWord checks block.now }
 {
     all_zero(syndromes_of(block, checks).as_slice())

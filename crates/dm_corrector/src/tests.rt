@@ -6,6 +6,7 @@ use crate::syndromes::{MOST_WORDS, syndromes_of};
 use dm_check_blocks::Size;
 use dm_gf256::Gf;
 use std::process::Abort;
+use std::test::Fail;
 
 const SIDES: [u16; 23] = [
     10, 12, 14, 16, 18, 20, 22, 24, 26, 32, 36, 40, 44, 48, 52, 64, 72, 80, 88, 96, 104, 120, 132,
@@ -37,6 +38,22 @@ fn with_roots(count: u8) -> [u8; 43] {
         }
     }
     coefficients
+}
+
+#[test]
+fn faults_say_what_is_wrong(rt: HostRuntime) -> Result<(), Fail> {
+    let fault = BlockFault { block: 3 };
+    assert_eq!(rt; fault.name(), "Block");
+    assert_eq!(rt;
+        format!(in rt.alloc(); "{fault}")?.as_str(),
+        "block 3 has too many wrong words"
+    );
+    let none = Uncorrectable;
+    assert_eq!(rt;
+        format!(in rt.alloc(); "{none}")?.as_str(),
+        "no block word is near enough to the block"
+    );
+    Ok(())
 }
 
 // Beyond the limit another block word may be near: here four words are wrong, seen from the zeros.
@@ -72,7 +89,7 @@ fn wrong_words_in_both_blocks_of_side_52(rt: HostRuntime) {
         words[k as usize * 5] = k + 1;
     }
     let size = Size::Side52;
-    let count = size.data_words() + size.check_words();
+    let count = size.all_words();
     assert_eq!(rt; count, 288);
     assert_eq!(rt; correct_symbol(size, &mut words[..count]), Ok(42));
     assert_eq!(rt; words, [0u8; 288]);
@@ -88,7 +105,7 @@ fn a_block_of_side_52_with_one_syndrome_that_is_not_zero(rt: HostRuntime) {
     }
     let before = words;
     let size = Size::Side52;
-    let count = size.data_words() + size.check_words();
+    let count = size.all_words();
     assert_eq!(rt; count, 288);
     assert_eq!(rt;
         correct_symbol(size, &mut words[..count]),
@@ -110,7 +127,7 @@ fn half_a_generator_polynomial_in_side_52(rt: HostRuntime) {
         }
     }
     let size = Size::Side52;
-    let count = size.data_words() + size.check_words();
+    let count = size.all_words();
     assert_eq!(rt; count, 288);
     assert_eq!(rt; correct_symbol(size, &mut words[..count]), Ok(21));
     assert_eq!(rt; words, right);
@@ -121,7 +138,7 @@ fn half_a_generator_polynomial_in_side_52(rt: HostRuntime) {
 fn every_size_up_to_its_limit(rt: HostRuntime) {
     for side in SIDES {
         let size = Size::of_side(side).expect(&rt, "a side of the table");
-        let count = size.data_words() + size.check_words();
+        let count = size.all_words();
         let mut words = [0u8; 1800];
         for block in 0..size.blocks() {
             spoil(&rt, &mut words[..count], size.blocks(), block, size.limit());
@@ -139,7 +156,7 @@ fn every_size_up_to_its_limit(rt: HostRuntime) {
 fn every_size_beyond_its_limit(rt: HostRuntime) {
     for side in SIDES {
         let size = Size::of_side(side).expect(&rt, "a side of the table");
-        let count = size.data_words() + size.check_words();
+        let count = size.all_words();
         let last = size.blocks() - 1;
         let mut words = [0u8; 1800];
         for block in 0..last {
@@ -168,8 +185,8 @@ fn every_size_beyond_its_limit(rt: HostRuntime) {
 fn the_method_answers_up_to_the_limit(rt: HostRuntime) {
     for side in SIDES {
         let size = Size::of_side(side).expect(&rt, "a side of the table");
-        let checks = size.check_words() / size.blocks();
-        let length = (size.data_words() + size.check_words()) / size.blocks();
+        let checks = size.block_checks();
+        let length = size.block_length();
         for wrong in 0..size.limit() + 1 {
             let mut words = [0u8; MOST_WORDS];
             spoil(&rt, &mut words[..length], 1, 0, wrong);
@@ -201,8 +218,8 @@ fn the_method_answers_up_to_the_limit(rt: HostRuntime) {
 fn both_locators_agree_beyond_the_limit(rt: HostRuntime) {
     for side in SIDES {
         let size = Size::of_side(side).expect(&rt, "a side of the table");
-        let checks = size.check_words() / size.blocks();
-        let length = (size.data_words() + size.check_words()) / size.blocks();
+        let checks = size.block_checks();
+        let length = size.block_length();
         let mut words = [0u8; MOST_WORDS];
         spoil(&rt, &mut words[..length], 1, 0, size.limit() + 1);
         let mut other = words;

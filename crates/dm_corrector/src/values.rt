@@ -1,4 +1,4 @@
-//! Values of a polynomial at successive powers of 2, worked side by side.
+//! Values of a polynomial at successive powers of 2, computed side by side.
 
 ghost use Rattle.std.specs.Prelude.{◌≡◌, ◌<◌, ◌≤◌, ◌+◌, ℕ, length, slice_index};
 ghost use Rattle.std.specs.Int.Bits.{bit_xor};
@@ -6,8 +6,8 @@ ghost use Rattle.dm_gf256.specs.Field.{product, power};
 
 use dm_gf256::Gf;
 
-/// Reads one coefficient more, the highest power first: value k, that at 2^(first + k) of the coefficients before it,
-/// becomes that with it.
+/// Reads one more coefficient, the highest power first. Value k is the value at 2^(first + k): before the call that of
+/// the polynomial of the coefficients read so far, after it that of the polynomial with this one too.
 pub(crate) fn add_coefficient(values: &mut [u8], first: usize, coefficient: u8)
     requires { first + length values.old ≤ 256 }
     ensures { (k : ℕ) → k < length values.old

@@ -4,9 +4,9 @@ use Rattle.std.specs.Char.{is_ascii_digit}
 use Rattle.std.proofs.lemmas.Bool.{and_parts, leb-true, lt-ltb, le-ltb, cond_both}
 use Rattle.std.proofs.lemmas.List.{append-nil, length-append}
 use Rattle.dm_encodation.specs.Written.{ascii_byte, ascii}
-use Rattle.dm_encodation.specs.Pieces.{has_digits}
+use Rattle.dm_encodation.specs.inner.Pieces.{has_digits}
 use Rattle.dm_encodation.specs.declared.counter.AsciiCounter.{AsciiCounter}
-use Rattle.dm_encodation.specs.Counting.{has_lone_digit, CountsAscii}
+use Rattle.dm_encodation.specs.inner.Counting.{has_lone_digit, CountsAscii}
 
 -- what the test says of the first two bytes
 pub record BeginsWithDigits (bytes : List ℕ) : Type 0 where

@@ -3,13 +3,14 @@ use Rattle.std.proofs.Common.{◌≡◌, ℕ, ◌+◌, ◌-◌, ◌*◌, ◌/◌
 use Rattle.std.specs.List.{AllByRecursion}
 use Rattle.std.proofs.lemmas.Bool.{cases_lt, eqb-true, le-leb, lt-leb, ne_eqb}
 use Rattle.std.proofs.lemmas.List.{append-nil, length-append, nil_from_length}
-use Rattle.dm_encodation.specs.Counting.{base_256_need}
+use Rattle.dm_encodation.specs.inner.Counting.{base_256_need}
 use Rattle.dm_encodation.specs.Grammar
 use Rattle.dm_encodation.specs.Grammar.{IsLength, Reads}
 use Rattle.dm_encodation.specs.Words.{randomised}
 use Rattle.dm_encodation.specs.Written.{length_words, base_256}
-use Rattle.dm_encodation.proofs.Complete.{length-randomised, randomised-append}
+use Rattle.dm_encodation.proofs.ReadsToReading.{length-randomised, randomised-append}
 
+-- the length words of n bytes say n
 is_length : (n : ℕ) → 0 < n → n ≤ 1555 → IsLength (length_words n) n
 is_length n pos le =
     elim (cases_lt 249 n) [
@@ -20,6 +21,7 @@ is_length n pos le =
       | inr small ↦ let t : leb n 249 ≡ true = le-leb n 249 small in rw t (Grammar.IsLength.one pos (omega arith))
     ]
 
+-- the words of a text in Base 256 read as its bytes
 pub base_256_read : (p : ℕ) (bytes rest : List ℕ) → AllByRecursion (λ b. b < 256) bytes → length bytes ≤ 1555 → ((q : ℕ) → Reads q rest []) → Reads p (base_256 p bytes ++ rest) bytes
 unfolding base_256
 base_256_read p [] rest fits le more = more p
@@ -29,13 +31,16 @@ base_256_read p (b ∷ bs) rest fits le more =
     subst (λ (l : List ℕ). Reads p (words ++ rest) l) (append-nil (b ∷ bs))
     (Grammar.Reads.joined words rest (b ∷ bs) [] (Grammar.Segment.bytes (length_words n) (is_length n (omega arith) le) fits) (more (p + length words)))
 
+-- the latch, the length words and the bytes, counted
 length-length_words : (n : ℕ) → n ≤ 249 ⊎ (249 < n) → 1 + length (length_words n) + n ≡ cond (leb n 249) (n + 2) (n + 3)
 length-length_words n (inl le) = rw (le-leb n 249 le) (omega arith)
 length-length_words n (inr lt) = rw (lt-leb n 249 lt) (omega arith)
 
+-- up to 249 bytes, or more
 small_or_not : (n : ℕ) → n ≤ 249 ⊎ (249 < n)
 small_or_not n = elim (cases_lt 249 n) [ inl lt ↦ inr lt | inr le ↦ inl le ]
 
+-- the number of words in Base 256
 pub length-base_256 : (p : ℕ) (bytes : List ℕ) → length (base_256 p bytes) ≡ base_256_need (length bytes)
 unfolding base_256
 length-base_256 p [] = refl
@@ -47,9 +52,11 @@ length-base_256 p (b ∷ bs) =
     let a = length-append (length_words n) (b ∷ bs) in
     rw t (omega (arith, l, r, a))
 
+-- a text of length 0 is empty
 pub empty_is : (bytes : List ℕ) → eqb (length bytes) 0 ≡ true → bytes ≡ []
 empty_is bytes e = nil_from_length bytes (eqb-true _ _ e)
 
+-- an empty text has no words
 pub base_256_nil : (p : ℕ) (bytes : List ℕ) → bytes ≡ [] → base_256 p bytes ≡ []
 unfolding base_256
 base_256_nil p bytes e = rw e refl

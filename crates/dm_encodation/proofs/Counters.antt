@@ -2,7 +2,7 @@
 use Rattle.std.proofs.Common.{◌≡◌, ℕ, ◌+◌, ◌*◌, ◌<◌, ◌≤◌, ◌^◌, inl, inr, false, cond, eqb, leb, List, [], length, take, drop, refl, sym, ap, ◌∙◌, arith}
 use Rattle.std.proofs.lemmas.Bool.{cases_lt, leb-false, lt-leb, ne_eqb, cond_both}
 use Rattle.std.proofs.lemmas.List.{length-take-le, length-drop}
-use Rattle.dm_encodation.specs.Counting.{Counts, CountsRun, IsSmall, IsSmallRun, base_256_need, run_need}
+use Rattle.dm_encodation.specs.inner.Counting.{Counts, CountsRun, IsSmall, IsSmallRun, base_256_need, run_need}
 use Rattle.dm_encodation.specs.declared.counter.AsciiCounter.{AsciiCounter}
 use Rattle.dm_encodation.specs.declared.counter.RunCounter.{RunCounter}
 use Rattle.dm_encodation.specs.declared.counter.Counter.{Counter}
@@ -18,6 +18,7 @@ use Rattle.dm_encodation.proofs.RunWords.{run_length-nil, run_within, length-val
 
 -- ---- how many words a text needs
 
+-- the need in Base 256 by the number of bytes
 pub need-base_256 : (bytes : List ℕ) → need_of Base256 bytes ≡ base_256_need (length bytes)
 unfolding need_of text
 need-base_256 bytes =
@@ -28,6 +29,7 @@ need-base_256 bytes =
     let b : leb n 249 ≡ false = lt-leb n 249 (omega arith) in
     rw (a, b) refl)
 
+-- a text has as many words as it needs
 pub length-text : (scheme : Scheme) (p : ℕ) (bytes : List ℕ) → length (text scheme p bytes) ≡ need_of scheme bytes
 unfolding text need_of
 length-text Ascii p bytes = refl
@@ -35,10 +37,12 @@ length-text C40 p bytes = refl
 length-text Text p bytes = refl
 length-text Base256 p bytes = length-base_256 p bytes ∙ sym (need-base_256 bytes)
 
+-- an empty text has no run
 run-nil : (t : Letters) → length (run_and_rest t (run_length t []) []) ≡ 0
 unfolding run_and_rest ascii
 run-nil t = rw (run_length-nil t) refl
 
+-- an empty text needs no word
 pub need-nil : (scheme : Scheme) → need_of scheme [] ≡ 0
 unfolding need_of text ascii base_256
 need-nil Ascii = refl
@@ -46,6 +50,7 @@ need-nil C40 = run-nil Capital
 need-nil Text = run-nil Small
 need-nil Base256 = refl
 
+-- the need in Base 256 is at most three words more than the bytes
 few : (n : ℕ) → base_256_need n ≤ n + 3
 few n = cond_both (eqb n 0) 0 (cond (leb n 249) (n + 2) (n + 3)) (λ (k : ℕ). k ≤ n + 3) (λ _. omega arith) (λ _.
     cond_both (leb n 249) (n + 2) (n + 3) (λ (k : ℕ). k ≤ n + 3) (λ _. omega arith) (λ _. omega arith))
@@ -72,6 +77,7 @@ short_base_256 bytes le =
 
 -- ---- what a counter says
 
+-- an ASCII counter has the need
 pub words-ascii : (c : AsciiCounter) (scheme : Scheme) (bytes : List ℕ) → Counts scheme bytes (counters.Ascii c) → c.words ≡ need_of scheme bytes
 unfolding need_of text
 words-ascii c Ascii bytes counts = counts.words
@@ -79,10 +85,12 @@ words-ascii c C40 bytes counts = absurd counts
 words-ascii c Text bytes counts = absurd counts
 words-ascii c Base256 bytes counts = absurd counts
 
-counts_run : (t : Letters) (c : RunCounter) (bytes : List ℕ) → CountsRun t bytes c → run_need c.run c.behind.words ≡ length (run_and_rest t (run_length t bytes) bytes)
-counts_run t c bytes counts = words_run t (run_length t bytes) bytes c.run c.behind.words (run_within t bytes) counts.run counts.behind.words
+-- a run's counter has the number of words
+counts_run : (t : Letters) (c : RunCounter) (bytes : List ℕ) → CountsRun t bytes c → run_need c.run c.after.words ≡ length (run_and_rest t (run_length t bytes) bytes)
+counts_run t c bytes counts = words_run t (run_length t bytes) bytes c.run c.after.words (run_within t bytes) counts.run counts.after.words
 
-pub words-run : (t : Letters) (c : RunCounter) (scheme : Scheme) (bytes : List ℕ) → Counts scheme bytes (counters.Run t c) → run_need c.run c.behind.words ≡ need_of scheme bytes
+-- a run's counter has the need
+pub words-run : (t : Letters) (c : RunCounter) (scheme : Scheme) (bytes : List ℕ) → Counts scheme bytes (counters.Run t c) → run_need c.run c.after.words ≡ need_of scheme bytes
 unfolding need_of text
 words-run Capital c C40 bytes counts = counts_run Capital c bytes counts
 words-run Small c Text bytes counts = counts_run Small c bytes counts
@@ -91,6 +99,7 @@ words-run Capital c Text bytes counts = absurd counts
 words-run t c Ascii bytes counts = absurd counts
 words-run t c Base256 bytes counts = absurd counts
 
+-- a Base 256 counter has the need
 pub words-base_256 : (n k : ℕ) → k ≡ base_256_need n → (scheme : Scheme) (bytes : List ℕ) → Counts scheme bytes (counters.Base256 n) → k ≡ need_of scheme bytes
 words-base_256 n k e Base256 bytes counts = e ∙ ap base_256_need counts ∙ sym (need-base_256 bytes)
 words-base_256 n k e Ascii bytes counts = absurd counts
@@ -99,6 +108,7 @@ words-base_256 n k e Text bytes counts = absurd counts
 
 -- ---- a counter's numbers
 
+-- no sum of a run's counter overflows
 small_run : (t : Letters) (bytes : List ℕ) (c : RunCounter) → length bytes < 2 ^ 64 → CountsRun t bytes c → IsSmallRun c
 small_run t bytes c lt counts =
     let k = run_length t bytes in
@@ -109,9 +119,10 @@ small_run t bytes c lt counts =
     record {
       values = let e = counts.values in omega arith;
       run = let e = counts.run in omega (arith, length-take-le k bytes within);
-      behind = let e = counts.behind.words in omega (arith, length-drop k bytes);
+      after = let e = counts.after.words in omega (arith, length-drop k bytes);
     }
 
+-- no sum of a counter overflows
 pub small : (scheme : Scheme) (bytes : List ℕ) (c : Counter) → length bytes < 2 ^ 64 → Counts scheme bytes c → IsSmall c
 small Ascii bytes (counters.Ascii c) lt counts = let l = length-ascii bytes in let e = counts.words in omega arith
 small C40 bytes (counters.Run Capital c) lt counts = small_run Capital bytes c lt counts

@@ -6,21 +6,25 @@ use Rattle.dm_encodation.specs.declared.letters.Letters.{Letters}
 use Rattle.dm_encodation.specs.Characters.{Triple, triple_values, pair, Chars, values_of}
 use Rattle.dm_encodation.specs.Grammar
 use Rattle.dm_encodation.specs.Grammar.{Segment, Reads}
-use Rattle.dm_encodation.proofs.Complete.{length-randomised}
+use Rattle.dm_encodation.proofs.ReadsToReading.{length-randomised}
 use Rattle.dm_encodation.proofs.RunWords.{length-values}
 
+-- a triple has three values
 length-triple_values : (triples : List Triple) → length (flat_map triple_values triples) ≡ 3 * length triples
 length-triple_values [] = refl
 length-triple_values (t ∷ ts) = let l = length-triple_values ts in omega arith
 
+-- a triple has two words
 length-pair : (triples : List Triple) → length (flat_map pair triples) ≡ 2 * length triples
 length-pair [] = refl
 length-pair (t ∷ ts) = let l = length-pair ts in omega arith
 
+-- values spell at most as many bytes as they are
 chars_short : (t : Letters) (triples : List Triple) (bytes : List ℕ) → Chars t (flat_map triple_values triples) bytes → length bytes ≤ 3 * length triples
 chars_short t triples bytes chars =
     omega (arith, length-values t bytes, length-triple_values triples, ap length chars.spelled, length-append (flat_map (values_of t) bytes) chars.tail)
 
+-- a segment has at most two bytes a word
 segment_short : {p : ℕ} {words after bytes : List ℕ} → Segment p words after bytes → length bytes ≤ 2 * length words
 segment_short (Grammar.Segment.character lt) = omega arith
 segment_short (Grammar.Segment.digits lm ln) = omega arith
@@ -30,6 +34,7 @@ segment_short (Grammar.Segment.open_run {t = t} {bytes = bytes} triples fits cha
 segment_short {p = p} (Grammar.Segment.bytes {bs = bs} len is_len fits) = omega (arith, length-randomised (p + 1) (len ++ bs), length-append len bs)
 segment_short {p = p} (Grammar.Segment.rest {bs = bs} fits) = omega (arith, length-randomised (p + 1) (0 ∷ bs))
 
+-- a text has at most two bytes a word
 pub reads_short : {p : ℕ} {words bytes : List ℕ} → Reads p words bytes → length bytes ≤ 2 * length words
 reads_short Grammar.Reads.nothing = omega arith
 reads_short Grammar.Reads.padded = omega arith

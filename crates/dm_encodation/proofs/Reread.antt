@@ -9,16 +9,16 @@ use Rattle.dm_encodation.specs.Words.{pads, later_pads, state_253}
 use Rattle.dm_encodation.specs.Written.{ascii_byte, ascii}
 use Rattle.dm_encodation.specs.Grammar
 use Rattle.dm_encodation.specs.Grammar.{Segment, Reads, Stuck, StuckHere, BadPair, StuckOnly, ReadsOnly}
-use Rattle.dm_encodation.specs.Reading.{reading}
+use Rattle.dm_encodation.specs.inner.Reading.{reading}
 use Rattle.dm_encodation.specs.declared.letters.Letters.{Letters}
 use Rattle.dm_encodation.specs.Characters.{Triple}
 use Rattle.dm_encodation.specs.declared.fault.DecodeFault.{DecodeFault}
 use Rattle.dm_encodation.specs.declared.fault.DecodeFault.TheVariants.{Unsupported, Reserved, Cut, Memory}
-use Rattle.dm_encodation.specs.Seen.{Fails}
-use Rattle.dm_encodation.proofs.Complete.{complete, ok_is}
-use Rattle.dm_encodation.proofs.Sound.{reads_from}
-use Rattle.dm_encodation.proofs.Faults.{complete_stuck}
-use Rattle.dm_encodation.proofs.Stopped.{stuck_from}
+use Rattle.dm_encodation.specs.inner.StepViews.{Fails}
+use Rattle.dm_encodation.proofs.ReadsToReading.{complete, ok_is}
+use Rattle.dm_encodation.proofs.ReadingToReads.{reads_from}
+use Rattle.dm_encodation.proofs.StuckToReading.{complete_stuck}
+use Rattle.dm_encodation.proofs.ReadingToStuck.{stuck_from}
 
 -- bytes, each by its place
 pub below_256 : (bytes : List ℕ) → ((i : ℕ) → get_or bytes i 0 < 256) → AllByRecursion (λ b. b < 256) bytes
@@ -76,8 +76,8 @@ collected_fault p words (Unsupported at w) fits g = λ ne. decided_fault p words
 collected_fault p words (Reserved at w) fits g = λ ne. decided_fault p words (Reserved at w) fits g
 collected_fault p words (Cut at) fits g = λ ne. decided_fault p words (Cut at) fits g
 
-pub behind : (n : ℕ) (words : List ℕ) → ((i : ℕ) → get_or words i 0 < 256) → (i : ℕ) → get_or (drop n words) i 0 < 256
-behind n words fits i = rw get_or-drop (fits (n + i))
+pub bytes_from : (n : ℕ) (words : List ℕ) → ((i : ℕ) → get_or words i 0 < 256) → (i : ℕ) → get_or (drop n words) i 0 < 256
+bytes_from n words fits i = rw get_or-drop (fits (n + i))
 
 pub pads_read : (n q p : ℕ) → Reads p (pads q n) []
 pads_read zero q p = Grammar.Reads.nothing

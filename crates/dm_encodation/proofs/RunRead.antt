@@ -10,7 +10,7 @@ use Rattle.dm_encodation.specs.Characters.{Triple, IsTriple, triple_values, pair
 use Rattle.dm_encodation.specs.Words.{pads}
 use Rattle.dm_encodation.specs.Grammar
 use Rattle.dm_encodation.specs.Grammar.{latch, EndsOpen, Segment, Reads}
-use Rattle.dm_encodation.specs.Written.{ascii, run_length, is_whole_run, pairs, behind_run, run_and_rest, behind_text}
+use Rattle.dm_encodation.specs.Written.{ascii, run_length, is_whole_run, pairs, words_after_run, run_and_rest, words_after_text}
 use Rattle.dm_encodation.proofs.Reread.{ascii_read, pads_read}
 use Rattle.dm_encodation.proofs.RunWords.{run_within, run_passes}
 
@@ -66,7 +66,7 @@ closed_run_read t p bytes more after fits threes_of reads =
     let read : Reads p (words ++ after) (bytes ++ more) = Grammar.Reads.joined words after bytes more (Grammar.Segment.run r.triples r.fit chars) (reads (p + length words)) in
     subst (λ (l : List ℕ). Reads p (latch t ∷ l) (bytes ++ more)) (append_assoc (flat_map pair r.triples) (254 ∷ []) after ∙ ap (λ (l : List ℕ). l ++ 254 ∷ after) r.words) read
 
--- a run with at most one word behind it, a pad
+-- a run with at most one word after it, a pad
 ends_open : (q n : ℕ) → n < 2 → EndsOpen (pads q n)
 ends_open q zero lt = tt
 ends_open q (suc zero) lt = λ e. absurd (omega (arith, e))
@@ -95,7 +95,7 @@ fits_drop (suc k) (b ∷ bs) f = fits_drop k bs f.1
 -- a run, what it leaves, and what fills the room
 rest_read : (t : Letters) (k : ℕ) (bytes : List ℕ) (p q n : ℕ) (rest : List ℕ) → drop k bytes ≡ rest → AllByRecursion (λ b. b < 256) bytes → k ≤ length bytes
     → length (flat_map (values_of t) (take k bytes)) % 3 ≡ 0
-    → Reads p ((latch t ∷ (pairs (flat_map (values_of t) (take k bytes)) ++ behind_run (drop k bytes))) ++ behind_text (eqb k (length bytes)) q n) bytes
+    → Reads p ((latch t ∷ (pairs (flat_map (values_of t) (take k bytes)) ++ words_after_run (drop k bytes))) ++ words_after_text (eqb k (length bytes)) q n) bytes
 rest_read t k bytes p q n [] e fits within passes =
     let whole : k ≡ length bytes = omega (arith, length-drop k bytes, ap length e) in
     let t0 : eqb k (length bytes) ≡ true = eq-eqb k (length bytes) whole in
@@ -104,9 +104,9 @@ rest_read t k bytes p q n [] e fits within passes =
     let G : List ℕ → Type 0 = λ tail. Reads p (latch t ∷ (pairs (flat_map (values_of t) bytes) ++ tail)) bytes in
     let closed : G (254 ∷ pads (q + 1) (n - 1)) = subst (λ (l : List ℕ). Reads p (latch t ∷ (pairs (flat_map (values_of t) bytes) ++ 254 ∷ pads (q + 1) (n - 1))) l) (append-nil bytes)
     (closed_run_read t p bytes [] (pads (q + 1) (n - 1)) fits passes_all (pads_read (n - 1) (q + 1))) in
-    let either : G (behind_text true q n) = cond_both (leb 2 n) (254 ∷ pads (q + 1) (n - 1)) (pads q n) G (λ e. closed) (λ e. let few = leb-false 2 n e in open_run_read t p q n bytes fits passes_all few) in
-    let nothing : (pairs (flat_map (values_of t) bytes) ++ []) ++ behind_text true q n ≡ pairs (flat_map (values_of t) bytes) ++ behind_text true q n =
-    ap (λ (l : List ℕ). l ++ behind_text true q n) (append-nil (pairs (flat_map (values_of t) bytes))) in
+    let either : G (words_after_text true q n) = cond_both (leb 2 n) (254 ∷ pads (q + 1) (n - 1)) (pads q n) G (λ e. closed) (λ e. let few = leb-false 2 n e in open_run_read t p q n bytes fits passes_all few) in
+    let nothing : (pairs (flat_map (values_of t) bytes) ++ []) ++ words_after_text true q n ≡ pairs (flat_map (values_of t) bytes) ++ words_after_text true q n =
+    ap (λ (l : List ℕ). l ++ words_after_text true q n) (append-nil (pairs (flat_map (values_of t) bytes))) in
     rw (t0, e, all) (subst (λ (l : List ℕ). Reads p (latch t ∷ l) bytes) (sym nothing) either)
 rest_read t k bytes p q n (b ∷ bs) e fits within passes =
     let f0 : eqb k (length bytes) ≡ false = ne_eqb k (length bytes) (λ same. omega (arith, length-drop k bytes, ap length e)) in
@@ -117,9 +117,9 @@ rest_read t k bytes p q n (b ∷ bs) e fits within passes =
     rw (f0, e) (subst (λ (l : List ℕ). Reads p (latch t ∷ l) bytes) (sym (append_assoc (pairs vs) (254 ∷ ascii (b ∷ bs)) (pads q n)))
     (subst (λ (l : List ℕ). Reads p (latch t ∷ (pairs vs ++ 254 ∷ (ascii (b ∷ bs) ++ pads q n))) l) joined read))
 
--- The text of C40 and Text, and what fills the room behind it.
+-- A text in C40 or Text, and the words that fill the room after it.
 run_text_read : (t : Letters) (k : ℕ) (bytes : List ℕ) (p q n : ℕ) → AllByRecursion (λ b. b < 256) bytes → k ≤ length bytes → (0 < k → length (flat_map (values_of t) (take k bytes)) % 3 ≡ 0)
-    → Reads p (run_and_rest t k bytes ++ behind_text (ltb 0 k && eqb k (length bytes)) q n) bytes
+    → Reads p (run_and_rest t k bytes ++ words_after_text (ltb 0 k && eqb k (length bytes)) q n) bytes
 unfolding run_and_rest
 run_text_read t zero bytes p q n fits within passes = ascii_read bytes (pads q n) fits (pads_read n q) p
 run_text_read t (suc k) bytes p q n fits within passes =
@@ -127,5 +127,5 @@ run_text_read t (suc k) bytes p q n fits within passes =
     rw pos (rest_read t (suc k) bytes p q n (drop (suc k) bytes) refl fits within (passes (omega arith)))
 
 pub run_read_back : (t : Letters) (bytes : List ℕ) (p q n : ℕ) → AllByRecursion (λ b. b < 256) bytes
-    → Reads p (run_and_rest t (run_length t bytes) bytes ++ behind_text (is_whole_run t bytes) q n) bytes
+    → Reads p (run_and_rest t (run_length t bytes) bytes ++ words_after_text (is_whole_run t bytes) q n) bytes
 run_read_back t bytes p q n fits = run_text_read t (run_length t bytes) bytes p q n fits (run_within t bytes) (run_passes t bytes)

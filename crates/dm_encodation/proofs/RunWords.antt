@@ -5,12 +5,12 @@ use Rattle.std.proofs.lemmas.Bool.{eqb-true, eq-eqb, ne_eqb, cond_both}
 use Rattle.std.proofs.lemmas.List.{append-nil, length-append, length_push, length-take-le, length-drop, take_more, take_all, drop_all, take-append-le, drop-append-le}
 use Rattle.std.proofs.lemmas.List.Concat.{flat_map-append}
 use Rattle.dm_encodation.specs.Characters.{values_below_128, values_of}
-use Rattle.dm_encodation.specs.Counting.{CountsAscii, CountsRun, run_need}
+use Rattle.dm_encodation.specs.inner.Counting.{CountsAscii, CountsRun, run_need}
 use Rattle.dm_encodation.specs.declared.counter.RunCounter.{RunCounter}
 use Rattle.dm_encodation.specs.declared.letters.Letters.{Letters}
 use Rattle.dm_encodation.specs.declared.letters.Letters.TheVariants.{Capital, Small}
 use Rattle.dm_encodation.specs.Grammar.{latch}
-use Rattle.dm_encodation.specs.Written.{ascii, greatest, run_length, pairs, behind_run, run_and_rest}
+use Rattle.dm_encodation.specs.Written.{ascii, greatest, run_length, pairs, words_after_run, run_and_rest}
 use Rattle.dm_encodation.proofs.AsciiWords.{some_ascii, length-ascii}
 
 -- ---- the greatest number that passes
@@ -120,14 +120,14 @@ run_length-open t bytes b ne =
 
 -- ---- a counter of a run
 
-pub counts_run_none : (t : Letters) (c : RunCounter) → c.values ≡ 0 → c.run ≡ 0 → CountsAscii [] c.behind → CountsRun t [] c
+pub counts_run_none : (t : Letters) (c : RunCounter) → c.values ≡ 0 → c.run ≡ 0 → CountsAscii [] c.after → CountsRun t [] c
 counts_run_none t c e f h = record {
   values = e;
   run = f ∙ rw (run_length-nil t) refl;
-  behind = subst (λ (k : ℕ). CountsAscii (drop k []) c.behind) (sym (run_length-nil t)) h;
+  after = subst (λ (k : ℕ). CountsAscii (drop k []) c.after) (sym (run_length-nil t)) h;
 }
 
-pub counts_run_whole : (t : Letters) (c d : RunCounter) (b : ℕ) → d.values ≡ c.values + length (values_of t b) → d.values % 3 ≡ 0 → d.run ≡ d.values → CountsAscii [] d.behind
+pub counts_run_whole : (t : Letters) (c d : RunCounter) (b : ℕ) → d.values ≡ c.values + length (values_of t b) → d.values % 3 ≡ 0 → d.run ≡ d.values → CountsAscii [] d.after
     → (bytes : List ℕ) → CountsRun t bytes c → CountsRun t (bytes ++ b ∷ []) d
 counts_run_whole t c d b values whole run none bytes counts =
     let xs = bytes ++ b ∷ [] in
@@ -138,11 +138,11 @@ counts_run_whole t c d b values whole run none bytes counts =
     record {
       values = v;
       run = run ∙ v ∙ ap (λ (l : List ℕ). length (flat_map (values_of t) l)) (sym all);
-      behind = subst (λ (l : List ℕ). CountsAscii l d.behind) (sym rest) none;
+      after = subst (λ (l : List ℕ). CountsAscii l d.after) (sym rest) none;
     }
 
 pub counts_run_open : (t : Letters) (c d : RunCounter) (b : ℕ) → d.values ≡ c.values + length (values_of t b) → d.values % 3 ≢ 0 → d.run ≡ c.run
-    → ((bytes : List ℕ) → CountsAscii bytes c.behind → CountsAscii (bytes ++ b ∷ []) d.behind) → (bytes : List ℕ) → CountsRun t bytes c → CountsRun t (bytes ++ b ∷ []) d
+    → ((bytes : List ℕ) → CountsAscii bytes c.after → CountsAscii (bytes ++ b ∷ []) d.after) → (bytes : List ℕ) → CountsRun t bytes c → CountsRun t (bytes ++ b ∷ []) d
 counts_run_open t c d b values open_triple run more bytes counts =
     let xs = bytes ++ b ∷ [] in
     let k = run_length t bytes in
@@ -153,7 +153,7 @@ counts_run_open t c d b values open_triple run more bytes counts =
     record {
       values = v;
       run = run ∙ counts.run ∙ ap (λ (l : List ℕ). length (flat_map (values_of t) l)) (sym front);
-      behind = subst (λ (l : List ℕ). CountsAscii l d.behind) (sym rest) (more (drop k bytes) counts.behind);
+      after = subst (λ (l : List ℕ). CountsAscii l d.after) (sym rest) (more (drop k bytes) counts.after);
     }
 
 -- ---- how many words
@@ -164,40 +164,40 @@ length-pairs (a ∷ []) = refl
 length-pairs (a ∷ b ∷ []) = refl
 length-pairs (a ∷ b ∷ c ∷ vs) = let l = length-pairs vs in omega arith
 
-behind_words : (rest : List ℕ) (n behind : ℕ) → behind ≡ length (ascii rest) → cond (eqb behind 0) (1 + n) (2 + n + behind) ≡ 1 + (n + length (behind_run rest))
+run_need-after : (rest : List ℕ) (n after : ℕ) → after ≡ length (ascii rest) → cond (eqb after 0) (1 + n) (2 + n + after) ≡ 1 + (n + length (words_after_run rest))
 unfolding ascii
-behind_words [] n behind e = rw (eq-eqb behind 0 e) (omega arith)
-behind_words (b ∷ bs) n behind e =
+run_need-after [] n after e = rw (eq-eqb after 0 e) (omega arith)
+run_need-after (b ∷ bs) n after e =
     let some = some_ascii b bs in
-    rw (ne_eqb behind 0 (λ z. omega arith)) (omega arith)
+    rw (ne_eqb after 0 (λ z. omega arith)) (omega arith)
 
-pub words_run : (t : Letters) (k : ℕ) (bytes : List ℕ) (run behind : ℕ) → k ≤ length bytes → run ≡ length (flat_map (values_of t) (take k bytes)) → behind ≡ length (ascii (drop k bytes))
-    → run_need run behind ≡ length (run_and_rest t k bytes)
+pub words_run : (t : Letters) (k : ℕ) (bytes : List ℕ) (run after : ℕ) → k ≤ length bytes → run ≡ length (flat_map (values_of t) (take k bytes)) → after ≡ length (ascii (drop k bytes))
+    → run_need run after ≡ length (run_and_rest t k bytes)
 unfolding run_and_rest
-words_run t zero bytes run behind le r h = rw (eq-eqb run 0 r) h
-words_run t (suc k) [] run behind le r h = absurd (omega arith)
-words_run t (suc k) (b ∷ bs) run behind le r h =
+words_run t zero bytes run after le r h = rw (eq-eqb run 0 r) h
+words_run t (suc k) [] run after le r h = absurd (omega arith)
+words_run t (suc k) (b ∷ bs) run after le r h =
     let vs = flat_map (values_of t) (take (suc k) (b ∷ bs)) in
     let one = some_values t b in
     let some : 1 ≤ run = omega (arith, length-append (values_of t b) (flat_map (values_of t) (take k bs))) in
     let p : length (pairs vs) ≡ run / 3 * 2 = length-pairs vs ∙ ap (λ (n : ℕ). n / 3 * 2) (sym r) in
-    rw (ne_eqb run 0 (λ z. omega arith)) (behind_words (drop k bs) (run / 3 * 2) behind h ∙ omega (arith, length-append (pairs vs) (behind_run (drop k bs))))
+    rw (ne_eqb run 0 (λ z. omega arith)) (run_need-after (drop k bs) (run / 3 * 2) after h ∙ omega (arith, length-append (pairs vs) (words_after_run (drop k bs))))
 
-run_need_few : (run behind : ℕ) → run_need run behind ≤ 2 + run / 3 * 2 + behind
-run_need_few run behind =
-    let few : ℕ → Type 0 = λ k. k ≤ 2 + run / 3 * 2 + behind in
-    cond_both (eqb run 0) behind _ few (λ _. omega arith) (λ _. cond_both (eqb behind 0) (1 + run / 3 * 2) (2 + run / 3 * 2 + behind) few (λ _. omega arith) (λ _. omega arith))
+run_need_few : (run after : ℕ) → run_need run after ≤ 2 + run / 3 * 2 + after
+run_need_few run after =
+    let few : ℕ → Type 0 = λ k. k ≤ 2 + run / 3 * 2 + after in
+    cond_both (eqb run 0) after _ few (λ _. omega arith) (λ _. cond_both (eqb after 0) (1 + run / 3 * 2) (2 + run / 3 * 2 + after) few (λ _. omega arith) (λ _. omega arith))
 
 pub run_few : (t : Letters) (bytes : List ℕ) → length (run_and_rest t (run_length t bytes) bytes) ≤ 4 * length bytes + 4
 run_few t bytes =
     let k = run_length t bytes in
     let run = length (flat_map (values_of t) (take k bytes)) in
-    let behind = length (ascii (drop k bytes)) in
+    let after = length (ascii (drop k bytes)) in
     let within = run_within t bytes in
     let values = length-values t (take k bytes) in
     let rest = length-ascii (drop k bytes) in
-    let few = run_need_few run behind in
-    let whole = words_run t k bytes run behind within refl refl in
+    let few = run_need_few run after in
+    let whole = words_run t k bytes run after within refl refl in
     omega (arith, length-take-le k bytes within, length-drop k bytes)
 
 -- ---- a turn of the loop that looks how far the run goes
@@ -230,11 +230,11 @@ unfolding run_and_rest
 run_none t zero bytes e = refl
 run_none t (suc k) bytes e = absurd (omega arith)
 
-behind_some : (rest : List ℕ) → length rest ≢ 0 → behind_run rest ≡ 254 ∷ ascii rest
-behind_some [] ne = absurd (ne refl)
-behind_some (b ∷ bs) ne = refl
+words_after_run-some : (rest : List ℕ) → length rest ≢ 0 → words_after_run rest ≡ 254 ∷ ascii rest
+words_after_run-some [] ne = absurd (ne refl)
+words_after_run-some (b ∷ bs) ne = refl
 
-pub run_some : (t : Letters) (k : ℕ) (bytes : List ℕ) → k ≢ 0 → run_and_rest t k bytes ≡ latch t ∷ (pairs (flat_map (values_of t) (take k bytes)) ++ behind_run (drop k bytes))
+pub run_some : (t : Letters) (k : ℕ) (bytes : List ℕ) → k ≢ 0 → run_and_rest t k bytes ≡ latch t ∷ (pairs (flat_map (values_of t) (take k bytes)) ++ words_after_run (drop k bytes))
 unfolding run_and_rest
 run_some t zero bytes ne = absurd (ne refl)
 run_some t (suc k) bytes ne = refl
@@ -244,7 +244,7 @@ pub run_parts : (t : Letters) (k : ℕ) (bytes front rest out first second third
     → first ≡ out ++ latch t ∷ [] → second ≡ first ++ pairs (flat_map (values_of t) front) → third ≡ second ++ 254 ∷ [] → fourth ≡ third ++ ascii rest → fourth ≡ out ++ run_and_rest t k bytes
 run_parts t k bytes front rest out first second third fourth ne lt front-is rest-is a b c d =
     let vs = pairs (flat_map (values_of t) (take k bytes)) in
-    let left = behind_some (drop k bytes) (λ e. omega (arith, length-drop k bytes)) in
+    let left = words_after_run-some (drop k bytes) (λ e. omega (arith, length-drop k bytes)) in
     d ∙ ap (λ (l : List ℕ). l ++ ascii rest) (c ∙ ap (λ (l : List ℕ). l ++ 254 ∷ []) (b ∙ ap (λ (l : List ℕ). l ++ pairs (flat_map (values_of t) front)) a))
     ∙ ap (λ (l : List ℕ). (((out ++ latch t ∷ []) ++ pairs (flat_map (values_of t) front)) ++ 254 ∷ []) ++ ascii l) rest-is
     ∙ ap (λ (l : List ℕ). (((out ++ latch t ∷ []) ++ pairs (flat_map (values_of t) l)) ++ 254 ∷ []) ++ ascii (drop k bytes)) front-is
@@ -263,5 +263,5 @@ run_alone t k bytes front out first second ne le front-is a b =
     ∙ ap (λ (l : List ℕ). (out ++ latch t ∷ []) ++ pairs (flat_map (values_of t) l)) front-is
     ∙ append_assoc out (latch t ∷ []) vs
     ∙ ap (λ (l : List ℕ). out ++ latch t ∷ l) (sym (append-nil vs))
-    ∙ ap (λ (l : List ℕ). out ++ latch t ∷ (vs ++ behind_run l)) (sym (drop_all k bytes le))
+    ∙ ap (λ (l : List ℕ). out ++ latch t ∷ (vs ++ words_after_run l)) (sym (drop_all k bytes le))
     ∙ ap (λ (l : List ℕ). out ++ l) (sym (run_some t k bytes ne))

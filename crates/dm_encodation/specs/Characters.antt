@@ -1,4 +1,4 @@
--- The characters of C40 and Text, by the values that spell them (ISO/IEC 16022, section 5.2).
+-- The characters of C40 and Text, by the values that spell them (ISO/IEC 16022, clause 5.2).
 use Rattle.std.specs.Prelude.{◌≡◌, ℕ, ◌+◌, ◌-◌, ◌*◌, ◌/◌, ◌%◌, ◌<◌, ◌⊎◌, List, [], ◌∷◌, ◌++◌, nat_lt, if◌then◌else◌}
 use Rattle.std.specs.List.{flat_map, AllByRecursion}
 use Rattle.dm_encodation.specs.declared.letters.Letters.{Letters}
@@ -30,41 +30,44 @@ values_below_128 t b =
 unfoldable pub values_of : Letters → ℕ → List ℕ
 values_of t b = if nat_lt b 128 then values_below_128 t b else 1 ∷ 30 ∷ values_below_128 t (b - 128)
 
--- What an unfinished character has so far: a shift, Upper Shift, or both. Or there is none.
+-- What an unfinished character has so far: nothing, a shift, Upper Shift, or both.
 pub data Unfinished : List ℕ → Type 0 where
   nothing : Unfinished []
   shift : {s : ℕ} → s < 3 → Unfinished (s ∷ [])
   upper : Unfinished (1 ∷ 30 ∷ [])
   upper_shift : {s : ℕ} → s < 3 → Unfinished (1 ∷ 30 ∷ s ∷ [])
 
--- The values are these bytes, whole characters, and then at most one unfinished character.
+-- The values spell these bytes as whole characters, and then at most one unfinished character.
 pub record Chars (t : Letters) (values bytes : List ℕ) : Type 0 where
   pub tail : List ℕ
   pub unfinished : Unfinished tail
   pub spelled : values ≡ flat_map (values_of t) bytes ++ tail
   pub fits : AllByRecursion (λ b. b < 256) bytes
 
--- The value v is the first without a meaning after these: no byte and no shift is spelled so.
+-- The value v is the first without a meaning: the values before it spell bytes, and with it they spell none.
 pub record IsMeaningless (t : Letters) (values : List ℕ) (v : ℕ) : Type 0 where
   pub bytes : List ℕ
   pub before : Chars t values bytes
   pub none : (others : List ℕ) → Chars t (values ++ v ∷ []) others → ⊥
 
--- the value 27 of set 2
+-- FNC1, the value 27 of set 2: what is unfinished before it is the shift to set 2, with or without Upper Shift
 abbrev pub IsFnc1 : {t : Letters} {values : List ℕ} {v : ℕ} → IsMeaningless t values v → Type 0
 IsFnc1 {v = v} m = (v ≡ 27) × ((m.before.tail ≡ 1 ∷ []) ⊎ (m.before.tail ≡ 1 ∷ 30 ∷ 1 ∷ []))
 
--- Three values make a V, and V two words.
+-- Three values of a run: they make a number, and that makes two words, a pair.
 pub record Triple : Type 0 where
   pub first : ℕ
   pub second : ℕ
   pub third : ℕ
 
+-- each of the three is a value
 abbrev pub IsTriple : Triple → Type 0
 IsTriple t = (t.first < 40) × (t.second < 40) × (t.third < 40)
 
+-- the three values in order
 abbrev pub triple_values : Triple → List ℕ
 triple_values t = t.first ∷ t.second ∷ t.third ∷ []
 
+-- the two words of three values
 abbrev pub pair : Triple → List ℕ
 pair t = let v = 1600 * t.first + 40 * t.second + t.third + 1 in (v / 256) ∷ (v % 256) ∷ []

@@ -1,4 +1,4 @@
--- What a symbol's data words read as, from ASCII on, and where they are stuck (ISO/IEC 16022, section 5.2).
+-- What a symbol's data words read as, from ASCII on, and where they are stuck (ISO/IEC 16022, clause 5.2).
 -- How a run of C40 or Text ends, and what a pending shift does there, is this project's own rule.
 use Rattle.std.specs.Prelude.{◌≡◌, ◌≢◌, ℕ, ◌+◌, ◌-◌, ◌*◌, ◌<◌, ◌≤◌, ◌⊎◌, List, [], ◌∷◌, ◌++◌, length, take, get_or}
 use Rattle.std.specs.List.{flat_map, AllByRecursion}
@@ -9,57 +9,71 @@ use Rattle.dm_encodation.specs.declared.fault.DecodeFault.TheVariants.{Unsupport
 use Rattle.dm_encodation.specs.Words.{state_255, randomised}
 use Rattle.dm_encodation.specs.Characters.{Triple, IsTriple, triple_values, pair, Chars, IsMeaningless, IsFnc1}
 
+-- the word that begins a run
 abbrev pub latch : Letters → ℕ
 latch Capital = 230
 latch Small = 239
 
--- The length words, taken out of their randomising, say n.
+-- These are the length words of n bytes, before they are randomised.
 pub data IsLength : List ℕ → ℕ → Type 0 where
   one : {n : ℕ} → 0 < n → n < 250 → IsLength (n ∷ []) n
   two : {v w : ℕ} → 250 ≤ v → v < 256 → w < 250 → IsLength (v ∷ w ∷ []) (250 * (v - 249) + w)
 
--- a run that 254 doesn't end: no word is left, or only one that isn't 254
+-- what may follow a run that 254 doesn't end: no word, or one word that isn't 254
 abbrev pub EndsOpen : List ℕ → Type 0
 EndsOpen [] = Unit {0}
 EndsOpen (w ∷ []) = w ≢ 254
 EndsOpen (_ ∷ _ ∷ _) = ⊥
 
--- Segment p words after bytes: these words, of which the first stands at position p and behind which stand
--- the words after, are one segment, with these bytes.
+-- Segment p words after bytes: these words, the first at position p, are one segment that says these bytes, where
+-- the words `after` follow them to the end.
 pub data Segment : ℕ → List ℕ → List ℕ → List ℕ → Type 0 where
   character : {p b : ℕ} {after : List ℕ} → b < 128 → Segment p ((b + 1) ∷ []) after (b ∷ [])
-  digits : {p m n : ℕ} {after : List ℕ} → m < 10 → n < 10 → Segment p ((130 + (10 * m + n)) ∷ []) after ((48 + m) ∷ (48 + n) ∷ [])
+  digits : {p m n : ℕ} {after : List ℕ} → m < 10 → n < 10
+      → Segment p ((130 + (10 * m + n)) ∷ []) after ((48 + m) ∷ (48 + n) ∷ [])
   upper : {p b : ℕ} {after : List ℕ} → b < 128 → Segment p (235 ∷ (b + 1) ∷ []) after ((b + 128) ∷ [])
   run : {p : ℕ} {t : Letters} {after bytes : List ℕ} (triples : List Triple) → AllByRecursion IsTriple triples
-      → Chars t (flat_map triple_values triples) bytes → Segment p (latch t ∷ (flat_map pair triples ++ 254 ∷ [])) after bytes
+      → Chars t (flat_map triple_values triples) bytes
+      → Segment p (latch t ∷ (flat_map pair triples ++ 254 ∷ [])) after bytes
   open_run : {p : ℕ} {t : Letters} {after bytes : List ℕ} (triples : List Triple) → AllByRecursion IsTriple triples
-      → Chars t (flat_map triple_values triples) bytes → EndsOpen after → Segment p (latch t ∷ flat_map pair triples) after bytes
+      → Chars t (flat_map triple_values triples) bytes → EndsOpen after
+      → Segment p (latch t ∷ flat_map pair triples) after bytes
   bytes : {p : ℕ} {after bs : List ℕ} (len : List ℕ) → IsLength len (length bs) → AllByRecursion (λ b. b < 256) bs
       → Segment p (231 ∷ randomised (p + 1) (len ++ bs)) after bs
   rest : {p : ℕ} {bs : List ℕ} → AllByRecursion (λ b. b < 256) bs → Segment p (231 ∷ randomised (p + 1) (0 ∷ bs)) [] bs
 
--- Reads p words bytes: from position p on the words are segments and the text's end, and these are their bytes.
+-- Reads p words bytes: from position p on the words are segments and the end of the text, and these are their bytes.
 pub data Reads : ℕ → List ℕ → List ℕ → Type 0 where
   nothing : {p : ℕ} → Reads p [] []
   padded : {p : ℕ} {any : List ℕ} → Reads p (129 ∷ any) []
-  joined : {p : ℕ} (words after bytes more : List ℕ) → Segment p words after bytes → Reads (p + length words) after more
-      → Reads p (words ++ after) (bytes ++ more)
+  joined : {p : ℕ} (words after bytes more : List ℕ) → Segment p words after bytes
+      → Reads (p + length words) after more → Reads p (words ++ after) (bytes ++ more)
 
 -- FNC1, Structured Append, Reader Programming, Macro, X12, EDIFACT, ECI
 abbrev pub IsUnsupported : ℕ → Type 0
 IsUnsupported w = ((232 ≤ w) × (w ≤ 234)) ⊎ ((236 ≤ w) × (w ≤ 238)) ⊎ (w ≡ 240) ⊎ (w ≡ 241)
 
--- Where a run has these triples behind it, the words w x aren't another pair of it.
+-- The words w x are the next pair of a run after these triples, and the value at this place of the pair is the first of
+-- the run that has no meaning.
+pub record NextMeaningless (t : Letters) (triples : List Triple) (w x : ℕ) : Type 0 where
+  pub next : Triple
+  pub place : ℕ
+  pub is_triple : IsTriple next
+  pub spelled : pair next ≡ w ∷ x ∷ []
+  pub in_pair : place < 3
+  pub meaningless : IsMeaningless t (flat_map triple_values triples ++ take place (triple_values next))
+      (get_or (triple_values next) place 0)
+
+-- After these triples of a run, the words w x aren't another pair of it.
 pub data BadPair (t : Letters) : ℕ → List Triple → ℕ → ℕ → DecodeFault → Type 0 where
-  no_value : {p w x : ℕ} {triples : List Triple} → (256 * w + x ≡ 0) ⊎ (64000 < 256 * w + x) → BadPair t p triples w x (Reserved p w)
-  fnc1 : {p w x : ℕ} {triples : List Triple} (next : Triple) (k : ℕ) → IsTriple next → pair next ≡ w ∷ x ∷ [] → k < 3
-      → (m : IsMeaningless t (flat_map triple_values triples ++ take k (triple_values next)) (get_or (triple_values next) k 0)) → IsFnc1 m
+  no_value : {p w x : ℕ} {triples : List Triple} → (256 * w + x ≡ 0) ⊎ (64000 < 256 * w + x)
+      → BadPair t p triples w x (Reserved p w)
+  fnc1 : {p w x : ℕ} {triples : List Triple} (n : NextMeaningless t triples w x) → IsFnc1 n.meaningless
       → BadPair t p triples w x (Unsupported p w)
-  meaningless : {p w x : ℕ} {triples : List Triple} (next : Triple) (k : ℕ) → IsTriple next → pair next ≡ w ∷ x ∷ [] → k < 3
-      → (m : IsMeaningless t (flat_map triple_values triples ++ take k (triple_values next)) (get_or (triple_values next) k 0)) → (IsFnc1 m → ⊥)
+  meaningless : {p w x : ℕ} {triples : List Triple} (n : NextMeaningless t triples w x) → (IsFnc1 n.meaningless → ⊥)
       → BadPair t p triples w x (Reserved p w)
 
--- StuckHere p words fault: where a segment should begin at position p, this stands.
+-- StuckHere p words fault: a segment should begin at position p, but these words stand there to the end.
 pub data StuckHere : ℕ → List ℕ → DecodeFault → Type 0 where
   unsupported : {p w : ℕ} {after : List ℕ} → IsUnsupported w → StuckHere p (w ∷ after) (Unsupported p w)
   reserved : {p w : ℕ} {after : List ℕ} → (w ≡ 0) ⊎ (242 ≤ w) → StuckHere p (w ∷ after) (Reserved p w)
@@ -69,16 +83,18 @@ pub data StuckHere : ℕ → List ℕ → DecodeFault → Type 0 where
   half_length : {p v : ℕ} → 250 ≤ v → v < 256 → StuckHere p (231 ∷ state_255 (p + 1) v ∷ []) (Cut p)
   bad_length : {p v x : ℕ} {after : List ℕ} → 250 ≤ v → v < 256 → 250 ≤ x → x < 256
       → StuckHere p (231 ∷ state_255 (p + 1) v ∷ state_255 (p + 1 + 1) x ∷ after) (Reserved (p + 1 + 1) (state_255 (p + 1 + 1) x))
-  too_few : {p n : ℕ} (len after : List ℕ) → IsLength len n → length after < n → StuckHere p (231 ∷ (randomised (p + 1) len ++ after)) (Cut p)
-  bad_pair : {p w x : ℕ} {t : Letters} {bytes : List ℕ} {fault : DecodeFault} (triples : List Triple) (after : List ℕ) → AllByRecursion IsTriple triples
-      → Chars t (flat_map triple_values triples) bytes → w ≢ 254 → BadPair t (p + 1 + length (flat_map pair triples)) triples w x fault
+  too_few : {p n : ℕ} (len after : List ℕ) → IsLength len n → length after < n
+      → StuckHere p (231 ∷ (randomised (p + 1) len ++ after)) (Cut p)
+  bad_pair : {p w x : ℕ} {t : Letters} {bytes : List ℕ} {fault : DecodeFault} (triples : List Triple) (after : List ℕ)
+      → AllByRecursion IsTriple triples → Chars t (flat_map triple_values triples) bytes → w ≢ 254
+      → BadPair t (p + 1 + length (flat_map pair triples)) triples w x fault
       → StuckHere p (latch t ∷ (flat_map pair triples ++ w ∷ x ∷ after)) fault
 
 -- Stuck p words fault: whole segments stand from position p on, and then the words are stuck with this fault.
 pub data Stuck : ℕ → List ℕ → DecodeFault → Type 0 where
   here : {p : ℕ} {words : List ℕ} {fault : DecodeFault} → StuckHere p words fault → Stuck p words fault
-  later : {p : ℕ} {fault : DecodeFault} (words after bytes : List ℕ) → Segment p words after bytes → Stuck (p + length words) after fault
-      → Stuck p (words ++ after) fault
+  later : {p : ℕ} {fault : DecodeFault} (words after bytes : List ℕ) → Segment p words after bytes
+      → Stuck (p + length words) after fault → Stuck p (words ++ after) fault
 
 -- From position p on the words read as these bytes, as no others, and are stuck nowhere.
 pub record ReadsOnly (p : ℕ) (words bytes : List ℕ) : Type 0 where

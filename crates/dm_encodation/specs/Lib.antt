@@ -1,9 +1,6 @@
-pub mod Words
 pub mod Characters
+pub mod Faults
 pub mod Grammar
+pub mod Words
 pub mod Written
-pub mod Pieces
-pub mod Counting
-pub mod Reading
-pub mod Seen
-pub mod Runs
+pub mod inner

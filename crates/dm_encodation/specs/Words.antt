@@ -1,5 +1,5 @@
--- Words that depend on where they stand: pads (the 253-state algorithm) and Base 256 (the 255-state
--- algorithm), of ISO/IEC 16022, section 5.2 and its annex on them. A position counts the symbol's data words from 1.
+-- Words that depend on where they stand: pads (the 253-state algorithm) and Base 256 (the 255-state algorithm) of
+-- ISO/IEC 16022, Annex B. A position counts the symbol's data words from 1.
 use Rattle.std.specs.Prelude.{ℕ, zero, suc, ◌+◌, ◌-◌, ◌*◌, ◌%◌, List, [], ◌∷◌, nat_le, if◌then◌else◌}
 
 -- the 255-state algorithm: how a value of Base 256 stands at position p
@@ -15,6 +15,7 @@ randomised p (value ∷ values) = state_255 p value ∷ randomised (p + 1) value
 unfoldable pub state_253 : ℕ → ℕ
 state_253 p = let sum = 129 + ((149 * p) % 253 + 1) in if nat_le sum 254 then sum else sum - 254
 
+-- n pads other than the first, from position p on
 abbrev pub later_pads : ℕ → ℕ → List ℕ
 later_pads p zero = []
 later_pads p (suc n) = state_253 p ∷ later_pads (p + 1) n

@@ -1,7 +1,7 @@
 //! The words of a text in ASCII encodation.
 
 ghost use Rattle.std.specs.Prelude.{◌≡◌, ◌+◌, ◌<◌, ◌++◌, [], length, MatchOption, IfSome, OnOk};
-ghost use Rattle.dm_encodation.specs.Pieces.{piece_words, has_digits, IsPiece};
+ghost use Rattle.dm_encodation.specs.inner.Pieces.{piece_words, has_digits, IsPiece};
 ghost use Rattle.dm_encodation.specs.Written.{ascii};
 
 use std::alloc::{AllocError, Allocator};
@@ -22,7 +22,7 @@ fn begins_with_digits(bytes: &[u8]) -> bool
     bytes.len() >= 2 && bytes[0].is_ascii_digit() && bytes[1].is_ascii_digit()
 }
 
-/// The piece at the front of a text, and what is behind it.
+/// The piece at the front of a text, and the bytes after it.
 fn first_piece(bytes: &[u8]) -> Option<(Piece, &[u8])>
     ensures words { MatchOption result (bytes.now ≡ [])
         (λ r. ascii bytes.now ≡ piece_words r.0 ++ ascii r.1.now) }
@@ -59,14 +59,14 @@ fn push_piece<A: Allocator>(out: &mut Vec<u8, A>, piece: Piece) -> Result<(), Al
     Ok(())
 }
 
-/// Writes the words of a text behind what was written before.
+/// Writes the words of a text after what was written before.
 pub(crate) fn push_ascii<A: Allocator>(out: &mut Vec<u8, A>, bytes: &[u8]) -> Result<(), AllocError>
     ensures { OnOk result (out.new.items ≡ out.old.items ++ ascii bytes.now) }
 {
     let mut rest = bytes;
-    while let Some((piece, behind)) = first_piece(rest) {
+    while let Some((piece, after)) = first_piece(rest) {
         push_piece(out, piece)?;
-        rest = behind;
+        rest = after;
     }
     Ok(())
 }

@@ -2,8 +2,8 @@
 
 ghost use Rattle.std.specs.Prelude.{◌≡◌, ◌<◌, ◌≤◌, ◌++◌, ◌∷◌, [], length, IfSome};
 ghost use Rattle.dm_encodation.specs.Characters.{values_of, values_below_128};
-ghost use Rattle.dm_encodation.specs.Reading;
-ghost use Rattle.dm_encodation.specs.Seen.{option_bytes};
+ghost use Rattle.dm_encodation.specs.inner.Reading;
+ghost use Rattle.dm_encodation.specs.inner.StepViews.{option_bytes};
 
 use crate::letters::Letters;
 use crate::mode::Set;
@@ -35,7 +35,7 @@ pub(crate) fn spelled(letters: Letters, byte: u8) -> (Option<u8>, u8)
     }
 }
 
-/// How many values spell a byte below 128.
+/// The number of values that spell a byte below 128.
 fn low_values_in(letters: Letters, byte: u8) -> u8
     requires { byte < 128 }
     ensures exact { result ≡ length (values_below_128 letters byte) }
@@ -47,7 +47,7 @@ fn low_values_in(letters: Letters, byte: u8) -> u8
     }
 }
 
-/// How many values spell a byte.
+/// The number of values that spell a byte.
 #[tactic(auto, unfolding(crate::specs::Characters::values_of))]
 pub(crate) fn values_in(letters: Letters, byte: u8) -> u8
     ensures exact { result ≡ length (values_of letters byte) }
@@ -61,7 +61,7 @@ pub(crate) fn values_in(letters: Letters, byte: u8) -> u8
 }
 
 /// The byte of a value in a set.
-#[tactic(auto, unfolding(crate::specs::Reading::byte_in))]
+#[tactic(auto, unfolding(crate::specs::inner::Reading::byte_in))]
 pub(crate) fn byte_in(letters: Letters, set: Set, value: u8) -> Option<u8>
     ensures byte { result ≡ Reading.byte_in letters set value }
     ensures low { IfSome result (λ b. b < 128) }

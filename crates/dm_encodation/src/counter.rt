@@ -1,7 +1,7 @@
-//! How many words a text takes, counted byte by byte.
+//! The number of words that a text takes, counted byte by byte.
 
 ghost use Rattle.std.specs.Prelude.{◌≡◌, ℕ, ◌<◌, ◌≤◌, ◌^◌, ◌++◌, ◌∷◌, [], List, length};
-ghost use Rattle.dm_encodation.specs.Counting.{Counts, CountsAscii, CountsRun, IsSmall, IsSmallRun, base_256_need, run_need};
+ghost use Rattle.dm_encodation.specs.inner.Counting.{Counts, CountsAscii, CountsRun, IsSmall, IsSmallRun, base_256_need, run_need};
 ghost use Rattle.dm_encodation.specs.Written.{ascii_byte, need_of};
 ghost use Rattle.dm_encodation.specs.declared.letters.Letters.{Letters};
 ghost use Rattle.dm_encodation.specs.declared.scheme.Scheme.{Scheme};
@@ -37,7 +37,7 @@ impl AsciiCounter {
         }
     }
 
-    /// The counter of one byte more.
+    /// The counter after one more byte.
     fn with(self, byte: u8) -> AsciiCounter
         requires { self.words < 2 ^ 100 }
         ensures { (bytes : List ℕ) → CountsAscii bytes self
@@ -60,12 +60,12 @@ impl AsciiCounter {
 /// The words of a text in C40 or Text.
 #[derive(Clone, Copy)]
 pub(crate) struct RunCounter {
-    /// The values of all bytes.
+    /// The number of values of all bytes.
     values: u128,
-    /// The values of the run, the longest front whose values are whole triples.
+    /// The number of values of the run, the longest front whose values are whole triples.
     run: u128,
-    /// What the run leaves.
-    behind: AsciiCounter,
+    /// The bytes after the run.
+    after: AsciiCounter,
 }
 
 impl RunCounter {
@@ -76,11 +76,11 @@ impl RunCounter {
         RunCounter {
             values: 0,
             run: 0,
-            behind: AsciiCounter::start(),
+            after: AsciiCounter::start(),
         }
     }
 
-    /// The counter of one byte more.
+    /// The counter after one more byte.
     fn with(self, letters: Letters, byte: u8) -> RunCounter
         requires { IsSmallRun self }
         ensures { (bytes : List ℕ) → CountsRun letters bytes self
@@ -91,34 +91,34 @@ impl RunCounter {
             return RunCounter {
                 values,
                 run: values,
-                behind: AsciiCounter::start(),
+                after: AsciiCounter::start(),
             };
         }
         RunCounter {
             values,
             run: self.run,
-            behind: self.behind.with(byte),
+            after: self.after.with(byte),
         }
     }
 
-    /// How many words the bytes take.
+    /// The number of words that the bytes take.
     fn words(self) -> u128
         requires { IsSmallRun self }
-        ensures { result ≡ run_need self.run self.behind.words }
+        ensures { result ≡ run_need self.run self.after.words }
     {
         if self.run == 0 {
-            return self.behind.words;
+            return self.after.words;
         }
         let run = 1 + self.run / 3 * 2;
-        if self.behind.words == 0 {
+        if self.after.words == 0 {
             run
         } else {
-            1 + run + self.behind.words
+            1 + run + self.after.words
         }
     }
 }
 
-/// The words of so many bytes in Base 256.
+/// The number of words that this many bytes take in Base 256.
 fn base_256_words(count: u128) -> u128
     requires { count < 2 ^ 100 }
     ensures { result ≡ base_256_need count }
@@ -135,7 +135,7 @@ fn base_256_words(count: u128) -> u128
 pub(crate) enum Counter {
     Ascii(AsciiCounter),
     Run(Letters, RunCounter),
-    /// So many bytes.
+    /// The number of bytes.
     Base256(u128),
 }
 
@@ -152,7 +152,7 @@ impl Counter {
         }
     }
 
-    /// The counter of one byte more.
+    /// The counter after one more byte.
     pub(crate) fn with(self, byte: u8) -> Counter
         requires { IsSmall self }
         ensures { (scheme : Scheme) (bytes : List ℕ) → Counts scheme bytes self
@@ -165,7 +165,7 @@ impl Counter {
         }
     }
 
-    /// How many words the bytes take.
+    /// The number of words that the bytes take.
     pub(crate) fn words(self) -> u128
         requires { IsSmall self }
         ensures { (scheme : Scheme) (bytes : List ℕ)

@@ -1,4 +1,4 @@
-//! How many words a text takes, and how much of a text fits a room.
+//! The number of words that a text takes, and how much of a text fits a room.
 
 ghost use Rattle.std.specs.Prelude.{◌≡◌, ◌≤◌, ◌^◌, length};
 ghost use Rattle.dm_encodation.specs.Written.{need_of, IsGreatestPrefix};
@@ -6,8 +6,8 @@ ghost use Rattle.dm_encodation.specs.Written.{need_of, IsGreatestPrefix};
 use crate::counter::Counter;
 use crate::scheme::Scheme;
 
-/// How many words a text of any length takes.
-pub(crate) fn words_of(scheme: Scheme, bytes: &[u8]) -> u128
+/// The number of words that a text of any length takes.
+pub(crate) fn word_count(scheme: Scheme, bytes: &[u8]) -> u128
     ensures { result ≡ need_of scheme bytes.now }
 {
     let mut counter = Counter::start(scheme);
@@ -17,18 +17,18 @@ pub(crate) fn words_of(scheme: Scheme, bytes: &[u8]) -> u128
     counter.words()
 }
 
-/// How many data words the bytes take in a scheme, before any pad (ISO/IEC 16022, section 5.2, and
-/// this project's own rule where the standard leaves a choice). The bytes are at most 2^30.
+/// The number of data words that the bytes take in a scheme, before any pad (ISO/IEC 16022, clause
+/// 5.2, and this project's own rule where the standard leaves a choice). The bytes are at most 2^30.
 pub fn need(scheme: Scheme, bytes: &[u8]) -> usize
     requires { length bytes.now ≤ 2 ^ 30 }
     ensures { result ≡ need_of scheme bytes.now }
 {
-    words_of(scheme, bytes) as usize
+    word_count(scheme, bytes) as usize
 }
 
 /// The greatest number of bytes at the front of a text that together take at most `room` words. A
-/// shorter front may take more words than a longer one, so this is not where the first front is too
-/// long.
+/// shorter front may take more words than a longer one, so longer fronts may fit again where one
+/// does not.
 pub fn fit(scheme: Scheme, bytes: &[u8], room: usize) -> usize
     ensures { IsGreatestPrefix scheme room bytes.now result }
 {

@@ -2,8 +2,8 @@
 
 ghost use Rattle.std.specs.Prelude.{◌≡◌, ℕ, ◌+◌, ◌-◌, ◌*◌, ◌≤◌, ◌++◌, length, drop, IfOk, IfErr, OnOk, IsErrOf, List, ◌≢◌, Ok};
 ghost use Rattle.dm_encodation.specs.Grammar.{ReadsOnly, StuckOnly};
-ghost use Rattle.dm_encodation.specs.Reading.{reading};
-ghost use Rattle.dm_encodation.specs.Seen.{bytes_of, Checks, Fails};
+ghost use Rattle.dm_encodation.specs.inner.Reading.{reading};
+ghost use Rattle.dm_encodation.specs.inner.StepViews.{bytes_of, Checks, Fails};
 ghost use Rattle.dm_encodation.specs.declared.fault.DecodeFault.TheVariants.{Memory};
 ghost use Rattle.dm_encodation.specs.declared.mode.Mode.TheVariants.{Ascii};
 
@@ -12,21 +12,24 @@ use crate::mode::Mode;
 use crate::reader::{Output, finish, step};
 use std::alloc::{AllocError, Allocator};
 
-/// Whether the words are a text; no memory is asked for.
-fn check(words: &[u8], from: usize) -> Result<(), DecodeFault>
+/// Whether the words are a text; no memory is asked for. Gives the number of its bytes, by which
+/// memory is then asked for once; no contract rests on that number.
+fn check(words: &[u8], from: usize) -> Result<usize, DecodeFault>
     requires { from ≤ length words.now }
     ensures { Checks result (reading Ascii (from + 1) (drop from words.now)) }
 {
+    let mut count = 0usize;
     let mut mode = Mode::Ascii;
     for at in from..words.len() {
-        let (next, _) = step(mode, at + 1, words[at])?;
+        let (next, output) = step(mode, at + 1, words[at])?;
+        count = count.saturating_add(output.len());
         mode = next;
     }
-    finish(mode, words.len() + 1)?;
-    Ok(())
+    let output = finish(mode, words.len() + 1)?;
+    Ok(count.saturating_add(output.len()))
 }
 
-/// Writes what a word gives.
+/// Writes the bytes that a word gives.
 fn push_output<A: Allocator>(out: &mut Vec<u8, A>, output: Output) -> Result<(), AllocError>
     ensures { OnOk result (out.new.items ≡ out.old.items ++ bytes_of output) }
 {
@@ -46,17 +49,18 @@ fn push_output<A: Allocator>(out: &mut Vec<u8, A>, output: Output) -> Result<(),
     Ok(())
 }
 
-/// The bytes of the words.
+/// The bytes of the words, with memory for `count` of them asked for at first.
 fn collect<A: Allocator + Copy>(
     alloc: A,
     words: &[u8],
     from: usize,
+    count: usize,
 ) -> Result<Vec<u8, A>, DecodeFault>
     requires { from ≤ length words.now }
     ensures given { IfOk result (λ v. reading Ascii (from + 1) (drop from words.now) ≡ Ok v.items) }
     ensures fails { IfErr result (λ f. Fails f (reading Ascii (from + 1) (drop from words.now))) }
 {
-    let mut out = Vec::new(alloc);
+    let mut out = Vec::with_capacity(alloc, count)?;
     let mut mode = Mode::Ascii;
     for at in from..words.len() {
         let (next, output) = step(mode, at + 1, words[at])?;
@@ -68,10 +72,13 @@ fn collect<A: Allocator + Copy>(
     Ok(out)
 }
 
-/// The bytes that the data words from index `from` on read as (ISO/IEC 16022, section 5.2; how a
-/// run of C40 or Text ends is this project's own rule). The words begin in ASCII, and their end is
-/// the symbol's end. The first fault from the left is answered. `Memory` comes only where the words
-/// have no fault, since all of them are looked through before any memory is asked for.
+/// The bytes that the data words from index `from` on read as (ISO/IEC 16022, clause 5.2; how a run
+/// of C40 or Text ends is this project's own rule). The words begin in ASCII, and their end is the
+/// symbol's end.
+///
+/// # Errors
+/// The first fault from the left. `Memory` comes only where the words have no fault, since all of
+/// them are looked through before any memory is asked for.
 pub fn decode<A: Allocator + Copy>(
     alloc: A,
     words: &[u8],
@@ -84,6 +91,6 @@ pub fn decode<A: Allocator + Copy>(
     ensures memory { IsErrOf result Memory → (bytes : List ℕ)
         × ReadsOnly (from + 1) (drop from words.now) bytes }
 {
-    check(words, from)?;
-    collect(alloc, words, from)
+    let count = check(words, from)?;
+    collect(alloc, words, from, count)
 }

@@ -8,42 +8,39 @@ ghost use Rattle.dm_encodation.specs.declared.fault.EncodeFault.TheVariants.{Too
 
 use crate::ascii::push_ascii;
 use crate::base256::push_base_256;
-use crate::counting::words_of;
+use crate::counting::word_count;
 use crate::fault::EncodeFault;
 use crate::letters::Letters;
 use crate::pads::fill_up;
-use crate::run::{is_run, push_run};
+use crate::run::push_run;
 use crate::scheme::Scheme;
 use dm_check_blocks::Size;
 use std::alloc::{AllocError, Allocator};
 
-/// Writes the words of a text, the first at the position behind what was written.
+/// Writes the words of a text, the first at the position after what was written. Gives whether the
+/// text ends in a run, so that the words after it would be read in the run's encodation.
 fn push_text<A: Allocator>(
     out: &mut Vec<u8, A>,
     scheme: Scheme,
     bytes: &[u8],
-) -> Result<(), AllocError>
+) -> Result<bool, AllocError>
     requires place { vec_len out.old < 2 ^ 16 }
     requires short { need_of scheme bytes.now ≤ 1304 }
-    ensures { OnOk result (out.new.items
+    ensures words { OnOk result (out.new.items
         ≡ out.old.items ++ text scheme (vec_len out.old + 1) bytes.now) }
+    ensures in_run { IfOk result (λ in_run. in_run ≡ ends_in_run scheme bytes.now) }
 {
     match scheme {
-        Scheme::Ascii => push_ascii(out, bytes),
+        Scheme::Ascii => {
+            push_ascii(out, bytes)?;
+            Ok(false)
+        }
         Scheme::C40 => push_run(out, Letters::Capital, bytes),
         Scheme::Text => push_run(out, Letters::Small, bytes),
-        Scheme::Base256 => push_base_256(out, bytes),
-    }
-}
-
-/// Whether the text ends in a run, so that what is behind it stands in the run's encodation.
-fn is_in_run(scheme: Scheme, bytes: &[u8]) -> bool
-    ensures { result ≡ ends_in_run scheme bytes.now }
-{
-    match scheme {
-        Scheme::C40 => is_run(Letters::Capital, bytes),
-        Scheme::Text => is_run(Letters::Small, bytes),
-        Scheme::Ascii | Scheme::Base256 => false,
+        Scheme::Base256 => {
+            push_base_256(out, bytes)?;
+            Ok(false)
+        }
     }
 }
 
@@ -61,16 +58,18 @@ fn fill<A: Allocator + Copy>(
 {
     let mut out = Vec::with_capacity(alloc, capacity)?;
     out.extend_from_slice(head)?;
-    push_text(&mut out, scheme, bytes)?;
-    fill_up(&mut out, is_in_run(scheme, bytes), capacity)?;
+    let in_run = push_text(&mut out, scheme, bytes)?;
+    fill_up(&mut out, in_run, capacity)?;
     Ok(out)
 }
 
-/// The data words of a symbol: the head, the words of the text, and pads (ISO/IEC 16022, section
-/// 5.2, and this project's own rule where the standard leaves a choice). The words are exactly as
-/// many as the size has, and read from the head's end as the bytes and as nothing else. `TooLong`
-/// comes exactly where the text needs more words than the head leaves, and before any memory is
-/// asked for.
+/// The data words of a symbol: the head, the words of the text, and pads (ISO/IEC 16022, clause 5.2,
+/// and this project's own rule where the standard leaves a choice). They are exactly as many as the
+/// size has data words, and read from the head's end as the bytes and as nothing else.
+///
+/// # Errors
+/// `TooLong` exactly where the text needs more words than the head leaves, found before any memory is
+/// asked for; `Memory` where the allocator refuses.
 pub fn encode<A: Allocator + Copy>(
     alloc: A,
     scheme: Scheme,
@@ -88,7 +87,7 @@ pub fn encode<A: Allocator + Copy>(
         ↔ (data_words size - length head.now < need_of scheme bytes.now) }
 {
     let capacity = size.data_words();
-    if words_of(scheme, bytes) > (capacity - head.len()) as u128 {
+    if word_count(scheme, bytes) > (capacity - head.len()) as u128 {
         return Err(EncodeFault::TooLong);
     }
     Ok(fill(alloc, scheme, bytes, head, capacity)?)

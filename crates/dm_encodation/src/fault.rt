@@ -1,29 +1,69 @@
 //! Why a text isn't written, and why words aren't read.
 
 use std::alloc::AllocError;
+use thiserror::Error;
 
 /// Why a text isn't written.
-#[derive(Clone, Copy, Debug, PartialEq, Eq)]
+#[derive(Clone, Copy, Debug, PartialEq, Eq, Error)]
 pub enum EncodeFault {
     /// The text needs more words than the head leaves of the symbol's data words.
+    #[error("the text needs more words than the symbol has left")]
     TooLong,
-    /// No memory was given for the words.
+    /// The allocator refused memory for the words.
+    #[error("out of memory")]
     Memory,
 }
 
-/// Why words aren't read. The positions `at` count from 1 at the first of all words, `word` is the
-/// word as it stands there.
-#[derive(Clone, Copy, Debug, PartialEq, Eq)]
+impl EncodeFault {
+    ghost use Rattle.std.specs.Prelude.{◌≡◌};
+    ghost use Rattle.dm_encodation.specs.Faults.{encode_fault_name};
+
+    /// The variant's name.
+    pub fn name(self) -> &'static str
+        ensures { result.now ≡ encode_fault_name self }
+    {
+        match self {
+            EncodeFault::TooLong => "TooLong",
+            EncodeFault::Memory => "Memory",
+        }
+    }
+}
+
+/// Why words aren't read. The positions `at` count from 1 at the first of all words; `word` is the
+/// word that stands there.
+#[derive(Clone, Copy, Debug, PartialEq, Eq, Error)]
 pub enum DecodeFault {
     /// A word or a value that has a meaning in the standard which is not read here: FNC1,
     /// Structured Append, Reader Programming, Macro, ANSI X12, EDIFACT or ECI.
+    #[error("word {word} at position {at} is a feature of the standard that is not read")]
     Unsupported { at: usize, word: u8 },
     /// A word or a pair that has no meaning where it stands.
+    #[error("word {word} at position {at} has no meaning there")]
     Reserved { at: usize, word: u8 },
-    /// The words end before what began at `at` is whole.
+    /// The words end in the middle of a character, a pair or a counted run of bytes that began at
+    /// `at`.
+    #[error("what begins at position {at} is cut off")]
     Cut { at: usize },
-    /// No memory was given for the bytes; the words themselves have no fault.
+    /// The allocator refused memory for the bytes; the words themselves have no fault.
+    #[error("out of memory")]
     Memory,
+}
+
+impl DecodeFault {
+    ghost use Rattle.std.specs.Prelude.{◌≡◌};
+    ghost use Rattle.dm_encodation.specs.Faults.{decode_fault_name};
+
+    /// The variant's name.
+    pub fn name(self) -> &'static str
+        ensures { result.now ≡ decode_fault_name self }
+    {
+        match self {
+            DecodeFault::Unsupported { .. } => "Unsupported",
+            DecodeFault::Reserved { .. } => "Reserved",
+            DecodeFault::Cut { .. } => "Cut",
+            DecodeFault::Memory => "Memory",
+        }
+    }
 }
 
 impl From<AllocError> for EncodeFault {

@@ -1,6 +1,6 @@
-//! The two sets of characters that make three values of two words.
+//! The two encodations in which two words hold three values, C40 and Text.
 
-/// Which letters the basic set has: C40 the capital ones, Text the small ones.
+/// The letters that take one value: in C40 the capital ones, in Text the small ones.
 #[derive(Clone, Copy, Debug, PartialEq, Eq)]
 pub(crate) enum Letters {
     Capital,

@@ -1,15 +1,20 @@
-//! The encodations of Data Matrix ECC 200 (ISO/IEC 16022, section 5.2): from bytes to the data
-//! words of a symbol, and back.
+//! The encodations of Data Matrix ECC 200 (ISO/IEC 16022:2006, clause 5.2 and Annex B): from bytes to
+//! the data words of a symbol, and back.
 //!
 //! [`need`] and [`fit`] say how many words a text takes and how much of it fits a room, and
-//! [`encode`] writes it behind a head and fills the symbol with pads. Which words are chosen where
-//! the standard leaves a choice is this project's own rule. [`decode`] reads the words of ASCII,
+//! [`encode`] writes it after a head and fills the symbol with pads. Where the standard leaves a
+//! choice, which words are written is this project's own rule. [`decode`] reads the words of ASCII,
 //! C40, Text and Base 256, and says of all other words where and why they are refused.
 //!
 //! Proved: `encode` writes exactly the words of the definition, and they read as the bytes that
 //! went in and as nothing else; `need`, `fit` and the refusal `TooLong` are exact; `decode` gives
 //! the one reading of the words, or the one fault at which they are stuck. `need` and `fit` take no
 //! memory, and `decode` looks through the whole text before it asks for any.
+//!
+//! The way down: `counter` counts the words of a text byte by byte (`counting` runs it), `encoding`
+//! writes the text by `ascii`, `run` (C40 and Text, by the values of `characters`) or `base256`, and
+//! `pads` fills the rest. The way back: `decoding` runs `reader`, which takes one word after another
+//! in a `mode`; `values` reads the pairs of a run.
 #![tactic(auto)]
 
 mod ascii;

@@ -1,4 +1,4 @@
-//! Where a reader of words stands.
+//! The state of the reader between two words.
 
 use crate::letters::Letters;
 
@@ -11,7 +11,7 @@ pub(crate) enum Set {
     Third,
 }
 
-/// What came of a character that isn't finished.
+/// The part of an unfinished character that was read: Upper Shift or not, and the set that was shifted to.
 #[derive(Clone, Copy)]
 pub(crate) struct Pending {
     pub upper: bool,
@@ -24,25 +24,25 @@ pub(crate) const NO_PENDING: Pending = Pending {
     set: Set::Basic,
 };
 
-/// Where a reader stands between two words.
+/// What the next word is to the reader.
 #[derive(Clone, Copy)]
 pub(crate) enum Mode {
     Ascii,
-    /// Behind Upper Shift.
+    /// After Upper Shift.
     Upper,
     /// In a run, before a pair.
     Run(Letters, Pending),
-    /// In a run, behind the first word of what may be a pair.
+    /// In a run, after the first word of what may be a pair.
     Half(Letters, Pending, u8),
-    /// Behind 231.
+    /// After 231, the latch to Base 256.
     Length,
-    /// Behind the first of two length words.
+    /// After the first of two length words, of this value.
     LongLength(u8),
-    /// In Base 256: so many bytes are left, and 231 stood at this position.
+    /// In Base 256: this many bytes are left, and 231 stood at this position.
     Bytes(usize, usize),
     /// In Base 256, to the symbol's end.
     Rest,
-    /// Behind the first pad.
+    /// After the first pad.
     Padded,
 }
 

@@ -1,12 +1,12 @@
-//! The pads behind a text.
+//! The pads after a text.
 
 ghost use Rattle.std.specs.Prelude.{◌≡◌, ◌+◌, ◌-◌, ◌<◌, ◌^◌, ◌++◌, OnOk, vec_len};
 ghost use Rattle.dm_encodation.specs.Words.{pads, state_253};
-ghost use Rattle.dm_encodation.specs.Written.{behind_text};
+ghost use Rattle.dm_encodation.specs.Written.{words_after_text};
 
 use std::alloc::{AllocError, Allocator};
 
-/// A pad but the first, by its position (the standard's 253-state algorithm).
+/// A pad other than the first, by its position (the 253-state algorithm of Annex B).
 #[tactic(auto, unfolding(crate::specs::Words::state_253))]
 fn later_pad(position: usize) -> u8
     requires { position < 2 ^ 32 }
@@ -36,8 +36,8 @@ fn push_pads<A: Allocator>(out: &mut Vec<u8, A>, capacity: usize) -> Result<(), 
     Ok(())
 }
 
-/// Fills the symbol behind the text up to `capacity` words. A run that the text ends in is left
-/// first, where more than one word is free.
+/// Fills the symbol after the text up to `capacity` words. Where the text ends in a run and more than
+/// one word is free, 254 ends the run first.
 pub(crate) fn fill_up<A: Allocator>(
     out: &mut Vec<u8, A>,
     in_run: bool,
@@ -45,7 +45,7 @@ pub(crate) fn fill_up<A: Allocator>(
 ) -> Result<(), AllocError>
     requires { capacity < 2 ^ 16 }
     ensures { OnOk result (out.new.items
-        ≡ out.old.items ++ behind_text in_run (vec_len out.old + 1) (capacity - vec_len out.old)) }
+        ≡ out.old.items ++ words_after_text in_run (vec_len out.old + 1) (capacity - vec_len out.old)) }
 {
     if in_run && out.len() < capacity && capacity - out.len() >= 2 {
         out.push(254)?;

@@ -1,8 +1,8 @@
 //! Reading word by word.
 
 ghost use Rattle.std.specs.Prelude.{◌≡◌, ℕ, ◌+◌, ◌<◌, ◌≤◌, IfOk, Ok};
-ghost use Rattle.dm_encodation.specs.Reading;
-ghost use Rattle.dm_encodation.specs.Seen.{seen, seen_end, seen_unit, IsMode};
+ghost use Rattle.dm_encodation.specs.inner.Reading;
+ghost use Rattle.dm_encodation.specs.inner.StepViews.{seen, seen_end, seen_unit, IsMode};
 ghost use Rattle.dm_encodation.specs.declared.mode.Mode.TheVariants.{Length, LongLength};
 
 use crate::fault::DecodeFault;
@@ -19,8 +19,20 @@ pub(crate) enum Output {
     Three(u8, u8, u8),
 }
 
+impl Output {
+    /// The number of these bytes.
+    pub(crate) fn len(self) -> usize {
+        match self {
+            Output::Nothing => 0,
+            Output::One(..) => 1,
+            Output::Two(..) => 2,
+            Output::Three(..) => 3,
+        }
+    }
+}
+
 /// A word in ASCII.
-#[tactic(auto, unfolding(crate::specs::Reading::ascii_step))]
+#[tactic(auto, unfolding(crate::specs::inner::Reading::ascii_step))]
 fn ascii_step(position: usize, word: u8) -> Result<(Mode, Output), DecodeFault>
     ensures step { seen result ≡ Reading.ascii_step position word }
     ensures mode { 0 < position → IfOk result (λ x. IsMode x.0 (position + 1)) }
@@ -45,8 +57,8 @@ fn ascii_step(position: usize, word: u8) -> Result<(Mode, Output), DecodeFault>
     }
 }
 
-/// The word behind Upper Shift.
-#[tactic(auto, unfolding(crate::specs::Reading::upper_step))]
+/// The word after Upper Shift.
+#[tactic(auto, unfolding(crate::specs::inner::Reading::upper_step))]
 fn upper_step(position: usize, word: u8) -> Result<(Mode, Output), DecodeFault>
     ensures step { seen result ≡ Reading.upper_step position word }
     ensures mode { IfOk result (λ x. (p : ℕ) → IsMode x.0 p) }
@@ -58,7 +70,7 @@ fn upper_step(position: usize, word: u8) -> Result<(Mode, Output), DecodeFault>
 }
 
 /// A word taken out of the 255-state algorithm.
-#[tactic(auto, unfolding(crate::specs::Reading::value_255))]
+#[tactic(auto, unfolding(crate::specs::inner::Reading::value_255))]
 fn value_255(position: usize, word: u8) -> u8
     ensures { result ≡ Reading.value_255 position word }
 {
@@ -70,7 +82,7 @@ fn value_255(position: usize, word: u8) -> u8
     }
 }
 
-/// So many bytes of Base 256 are left.
+/// The mode in which this many bytes of Base 256 are left.
 fn bytes_left(count: usize, at: usize) -> Mode
     ensures mode { result ≡ Reading.bytes_left count at }
     ensures fits { (p : ℕ) → IsMode result p }
@@ -83,7 +95,7 @@ fn bytes_left(count: usize, at: usize) -> Mode
 }
 
 /// The first word of a length.
-#[tactic(auto, unfolding(crate::specs::Reading::step))]
+#[tactic(auto, unfolding(crate::specs::inner::Reading::step))]
 fn length_step(position: usize, word: u8) -> (Mode, Output)
     requires { 1 < position }
     ensures step { seen (Ok result) ≡ Reading.step Length position word }
@@ -101,7 +113,7 @@ fn length_step(position: usize, word: u8) -> (Mode, Output)
 }
 
 /// The second word of a length whose first is 250 or more.
-#[tactic(auto, unfolding(crate::specs::Reading::step))]
+#[tactic(auto, unfolding(crate::specs::inner::Reading::step))]
 fn long_length_step(first: u8, position: usize, word: u8) -> Result<(Mode, Output), DecodeFault>
     requires place { 2 < position }
     requires long { 250 ≤ first }
@@ -116,8 +128,8 @@ fn long_length_step(first: u8, position: usize, word: u8) -> Result<(Mode, Outpu
     Ok((bytes_left(count, position - 2), Output::Nothing))
 }
 
-/// One word.
-#[tactic(auto, unfolding(crate::specs::Reading::step))]
+/// What one word does in a mode: the next mode, and the bytes that it gives.
+#[tactic(auto, unfolding(crate::specs::inner::Reading::step))]
 pub(crate) fn step(mode: Mode, position: usize, word: u8) -> Result<(Mode, Output), DecodeFault>
     requires place { 0 < position }
     requires mode { IsMode mode position }
@@ -165,8 +177,9 @@ fn ended(mode: Mode, position: usize) -> Result<(), DecodeFault>
     }
 }
 
-/// The end of the words. A word that a run left over is read in ASCII.
-#[tactic(auto, unfolding(crate::specs::Reading::finish))]
+/// The end of the words: the bytes that come only here, those of a word that a run left over, read in
+/// ASCII.
+#[tactic(auto, unfolding(crate::specs::inner::Reading::finish))]
 pub(crate) fn finish(mode: Mode, position: usize) -> Result<Output, DecodeFault>
     requires { IsMode mode position }
     ensures { seen_end result ≡ Reading.finish mode position }

@@ -4,7 +4,7 @@ ghost use Rattle.std.specs.Prelude.{◌≡◌, ◌<◌, ◌≤◌, ◌++◌, ◌
 ghost use Rattle.std.specs.List.{flat_map};
 ghost use Rattle.dm_encodation.specs.Characters.{values_of, values_below_128};
 ghost use Rattle.dm_encodation.specs.Grammar.{latch};
-ghost use Rattle.dm_encodation.specs.Runs.{AreValues, Writes};
+ghost use Rattle.dm_encodation.specs.inner.Runs.{AreValues, Writes};
 ghost use Rattle.dm_encodation.specs.Written.{pairs, run_length, run_and_rest, is_whole_run};
 
 use crate::ascii::push_ascii;
@@ -12,7 +12,7 @@ use crate::characters::{spelled, values_in};
 use crate::letters::Letters;
 use std::alloc::{AllocError, Allocator};
 
-/// Values that don't make three yet.
+/// Values that wait until they are three.
 #[derive(Clone, Copy)]
 enum Held {
     Nothing,
@@ -97,7 +97,7 @@ fn push_pairs<A: Allocator>(
     Ok(())
 }
 
-/// How many bytes the run takes: the longest front whose values are whole triples.
+/// The number of bytes of the run: the longest front whose values are whole triples.
 fn run_bytes(letters: Letters, bytes: &[u8]) -> usize
     ensures exact { result ≡ run_length letters bytes.now }
     ensures within { result ≤ length bytes.now }
@@ -113,14 +113,6 @@ fn run_bytes(letters: Letters, bytes: &[u8]) -> usize
     whole
 }
 
-/// Whether the text is a run and nothing else.
-pub(crate) fn is_run(letters: Letters, bytes: &[u8]) -> bool
-    ensures { result ≡ is_whole_run letters bytes.now }
-{
-    let length = run_bytes(letters, bytes);
-    length > 0 && length == bytes.len()
-}
-
 /// The word that latches to the encodation.
 fn latch_word(letters: Letters) -> u8
     ensures { result ≡ latch letters }
@@ -131,24 +123,28 @@ fn latch_word(letters: Letters) -> u8
     }
 }
 
-/// Writes the words of a text behind what was written before.
+/// Writes the words of a text after what was written before. Gives whether the text is a run and
+/// nothing else.
 pub(crate) fn push_run<A: Allocator>(
     out: &mut Vec<u8, A>,
     letters: Letters,
     bytes: &[u8],
-) -> Result<(), AllocError>
-    ensures { OnOk result (out.new.items
+) -> Result<bool, AllocError>
+    ensures words { OnOk result (out.new.items
         ≡ out.old.items ++ run_and_rest letters (run_length letters bytes.now) bytes.now) }
+    ensures in_run { IfOk result (λ in_run. in_run ≡ is_whole_run letters bytes.now) }
 {
     let length = run_bytes(letters, bytes);
     if length == 0 {
-        return push_ascii(out, bytes);
+        push_ascii(out, bytes)?;
+        return Ok(false);
     }
     out.push(latch_word(letters))?;
     push_pairs(out, letters, &bytes[..length])?;
     if length < bytes.len() {
         out.push(254)?;
         push_ascii(out, &bytes[length..])?;
+        return Ok(false);
     }
-    Ok(())
+    Ok(true)
 }

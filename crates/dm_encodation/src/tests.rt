@@ -18,6 +18,45 @@ fn written<A: Allocator + Copy>(
 }
 
 #[test]
+fn faults_say_what_is_wrong(rt: HostRuntime) -> Result<(), Fail> {
+    let rows = [
+        (
+            EncodeFault::TooLong,
+            "TooLong",
+            "the text needs more words than the symbol has left",
+        ),
+        (EncodeFault::Memory, "Memory", "out of memory"),
+    ];
+    for (fault, name, text) in rows {
+        assert_eq!(rt; fault.name(), name);
+        assert_eq!(rt; format!(in rt.alloc(); "{fault}")?.as_str(), text);
+    }
+    let rows = [
+        (
+            DecodeFault::Unsupported { at: 2, word: 232 },
+            "Unsupported",
+            "word 232 at position 2 is a feature of the standard that is not read",
+        ),
+        (
+            DecodeFault::Reserved { at: 7, word: 254 },
+            "Reserved",
+            "word 254 at position 7 has no meaning there",
+        ),
+        (
+            DecodeFault::Cut { at: 1 },
+            "Cut",
+            "what begins at position 1 is cut off",
+        ),
+        (DecodeFault::Memory, "Memory", "out of memory"),
+    ];
+    for (fault, name, text) in rows {
+        assert_eq!(rt; fault.name(), name);
+        assert_eq!(rt; format!(in rt.alloc(); "{fault}")?.as_str(), text);
+    }
+    Ok(())
+}
+
+#[test]
 fn texts_are_written(rt: HostRuntime) -> Result<(), Fail> {
     let rows: [(Scheme, &[u8], &[u8], Size, &[u8]); 12] = [
         (
@@ -84,7 +123,8 @@ fn texts_are_written(rt: HostRuntime) -> Result<(), Fail> {
     for (scheme, bytes, head, size, words) in rows {
         assert_eq!(rt;
             written(rt.alloc(), scheme, bytes, head, size)?.as_slice(),
-            words
+            words,
+            "{scheme:?} of {bytes:?}"
         );
     }
     Ok(())
@@ -113,15 +153,16 @@ fn words_are_read(rt: HostRuntime) -> Result<(), Fail> {
     ];
     for (words, reading) in rows {
         match (decode(rt.alloc(), words, 0), reading) {
-            (Ok(bytes), Ok(expected)) => assert_eq!(rt; bytes.as_slice(), expected),
-            (Err(fault), Err(expected)) => assert_eq!(rt; fault, expected),
-            _ => assert!(rt; false),
+            (Ok(bytes), Ok(expected)) => assert_eq!(rt; bytes.as_slice(), expected, "{words:?}"),
+            (Err(fault), Err(expected)) => assert_eq!(rt; fault, expected, "{words:?}"),
+            (Ok(_), Err(expected)) => assert!(rt; false, "{words:?} is read, but {expected}"),
+            (Err(fault), Ok(_)) => assert!(rt; false, "{words:?}: {fault}"),
         }
     }
     Ok(())
 }
 
-/// So many bytes, each of them the byte given.
+/// This many bytes, each of them the byte given.
 fn repeated<A: Allocator + Copy>(
     alloc: A,
     byte: u8,
@@ -148,7 +189,9 @@ fn the_greatest_texts_fill_side_132(rt: HostRuntime) -> Result<(), Fail> {
         let text = repeated(rt.alloc(), byte, count)?;
         let words = written(rt.alloc(), scheme, &text, &[], Size::Side132)?;
         assert_eq!(rt; words.len(), 1304);
-        assert_eq!(rt; decode(rt.alloc(), &words, 0)?.as_slice(), text.as_slice());
+        let read = decode(rt.alloc(), &words, 0)?;
+        assert_eq!(rt; read.as_slice(), text.as_slice());
+        assert_eq!(rt; read.capacity(), count, "memory is asked for once");
         let longer = repeated(rt.alloc(), byte, count + 1)?;
         assert_eq!(rt; fit(scheme, &longer, 1304), count);
         assert_eq!(rt;

@@ -1,8 +1,8 @@
 //! Reading the values of C40 and Text, and the pairs of words that hold three of them.
 
 ghost use Rattle.std.specs.Prelude.{◌≡◌, ◌+◌, ◌<◌, ◌++◌, ◌∷◌, [], IfOk, IfSome};
-ghost use Rattle.dm_encodation.specs.Reading;
-ghost use Rattle.dm_encodation.specs.Seen.{seen, seen_value, seen_values, bytes_of, option_bytes, fault_of, IsMode};
+ghost use Rattle.dm_encodation.specs.inner.Reading;
+ghost use Rattle.dm_encodation.specs.inner.StepViews.{seen, seen_value, seen_values, bytes_of, option_bytes, fault_of, IsMode};
 
 use crate::characters::byte_in;
 use crate::fault::DecodeFault;
@@ -22,7 +22,7 @@ fn end_character(upper: bool, byte: Option<u8>) -> Result<(Pending, Option<u8>),
 }
 
 /// One value of a run.
-#[tactic(auto, unfolding(crate::specs::Reading::value_step))]
+#[tactic(auto, unfolding(crate::specs::inner::Reading::value_step))]
 fn value_step(
     letters: Letters,
     pending: Pending,
@@ -106,7 +106,7 @@ fn values_step(
 }
 
 /// A pair of a run.
-#[tactic(auto, unfolding(crate::specs::Reading::pair_step))]
+#[tactic(auto, unfolding(crate::specs::inner::Reading::pair_step))]
 pub(crate) fn pair_step(
     letters: Letters,
     pending: Pending,

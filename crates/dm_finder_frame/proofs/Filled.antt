@@ -5,10 +5,9 @@ use Rattle.std.proofs.Common.{◌≡◌, ℕ, zero, suc, ◌+◌, ◌*◌, ◌<�
 use Rattle.std.proofs.lemmas.Nat.{mul-add-lt, div-mul-add, mod-mul-add}
 use Rattle.std.proofs.lemmas.List.Edits.{fill_by_more}
 use Rattle.std.proofs.lemmas.List.FromFn.{fill_by_all, sum_by-map-range_with_len_more}
-use Rattle.dm_check_blocks.specs.declared.size.Size.{Size}
-use Rattle.dm_placement.specs.Square.{Square}
 use Rattle.dm_finder_frame.specs.Frame.{is_wrong}
-use Rattle.dm_finder_frame.specs.Lines.{IsFilledTo, wrong_among}
+use Rattle.dm_finder_frame.specs.Grids.{GridView}
+use Rattle.dm_finder_frame.specs.inner.Lines.{IsFilledTo, wrong_among}
 
 -- nothing is filled yet
 pub nothing_filled : (n : ℕ) (value : ℕ → ℕ → Bool) (xs : List Bool) → length xs ≡ n * n → IsFilledTo n (0 * n) value xs
@@ -41,20 +40,20 @@ all_filled n r value xs e before =
     fill_by_all (λ i. value (i / n) (i % n)) xs (n * n) false before.count (λ k h. before.filled k (omega arith))
 
 -- one module more is looked at
-pub one_more : (s : Size) (g : Square) (first n : ℕ) → wrong_among s g first (n + 1) ≡ wrong_among s g first n + cond (is_wrong s g (first + n)) 1 0
-one_more s g first n = sum_by-map-range_with_len_more (λ (wrong : Bool). cond wrong 1 0) (is_wrong s g) first n (first + n) refl
+pub one_more : (g : GridView) (first n : ℕ) → wrong_among g first (n + 1) ≡ wrong_among g first n + cond (is_wrong g (first + n)) 1 0
+one_more g first n = sum_by-map-range_with_len_more (λ (wrong : Bool). cond wrong 1 0) (is_wrong g) first n (first + n) refl
 
--- some modules, and those behind them
-pub joined : (s : Size) (g : Square) (m n : ℕ) → wrong_among s g 0 (m + n) ≡ wrong_among s g 0 m + wrong_among s g m n
-joined s g m zero = ap (λ x. wrong_among s g 0 x) (add-zero m) ∙ sym (add-zero (wrong_among s g 0 m))
-joined s g m (suc n) =
-    let a = one_more s g 0 (m + n) in
-    let b = one_more s g m n in
-    let c = joined s g m n in
-    let one : ℕ → ℕ = λ i. cond (is_wrong s g i) 1 0 in
+-- some modules, and those after them
+pub joined : (g : GridView) (m n : ℕ) → wrong_among g 0 (m + n) ≡ wrong_among g 0 m + wrong_among g m n
+joined g m zero = ap (λ x. wrong_among g 0 x) (add-zero m) ∙ sym (add-zero (wrong_among g 0 m))
+joined g m (suc n) =
+    let a = one_more g 0 (m + n) in
+    let b = one_more g m n in
+    let c = joined g m n in
+    let one : ℕ → ℕ = λ i. cond (is_wrong g i) 1 0 in
     let z : one (0 + (m + n)) ≡ one (m + n) = ap one (zero-add (m + n)) in
-    let behind : m + suc n ≡ m + n + 1 = omega arith in
+    let after : m + suc n ≡ m + n + 1 = omega arith in
     let next : suc n ≡ n + 1 = omega arith in
-    let left : wrong_among s g 0 (m + suc n) ≡ wrong_among s g 0 (m + n + 1) = ap (wrong_among s g 0) behind in
-    let right : wrong_among s g m (suc n) ≡ wrong_among s g m (n + 1) = ap (wrong_among s g m) next in
+    let left : wrong_among g 0 (m + suc n) ≡ wrong_among g 0 (m + n + 1) = ap (wrong_among g 0) after in
+    let right : wrong_among g m (suc n) ≡ wrong_among g m (n + 1) = ap (wrong_among g m) next in
     omega (arith, a, b, c, z, left, right)

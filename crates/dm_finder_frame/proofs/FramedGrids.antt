@@ -7,7 +7,8 @@ use Rattle.std.proofs.lemmas.List.FromFn.{fill_by_all, get_or-map-range_with_len
 use Rattle.dm_check_blocks.specs.declared.size.Size.{Size}
 use Rattle.dm_check_blocks.specs.Sizes.{side, region, across, mapping}
 use Rattle.dm_placement.specs.Square.{Square, IsWhole, module_at}
-use Rattle.dm_finder_frame.specs.Frame.{is_frame, frame_module, mapping_place, grid_place, grid_module, framed_modules, framed, unframed_modules, unframed, wrong_module, is_wrong, border, UnframeUndoesFrame, FrameHasNoWrongModule}
+use Rattle.dm_finder_frame.specs.Frame.{is_on_frame, frame_value, mapping_place, grid_place, grid_module, grid_modules, grid_of_matrix, matrix_modules, matrix_of_grid, wrong_module, is_wrong, wrong_frame_modules, UnframeUndoesFrame, FrameHasNoWrongModule}
+use Rattle.dm_finder_frame.specs.Grids.{GridView, IsWholeGrid, grid_module_at}
 use Rattle.dm_finder_frame.proofs.GridPlaces.{fills_side, some_region, grid_place_rest, grid_place_below, mapping_of_grid_place, inside_no_frame}
 
 pub positive : (n i : ℕ) → i < n * n → 0 < n
@@ -22,22 +23,24 @@ pub column_below : (n i : ℕ) → i < n * n → i % n < n
 column_below n i h = mod_below i n (positive n i h)
 
 -- the module of a grid made from a mapping matrix
-pub framed_at : (s : Size) (m : Square) (r c : ℕ) → r < side s → c < side s → module_at (framed s m) r c ≡ grid_module s m r c
-unfolding framed_modules
-framed_at s m r c hr hc =
+pub grid_at : (s : Size) (m : Square) (r c : ℕ) → r < side s → c < side s → grid_module_at (grid_of_matrix s m) r c ≡ grid_module s m r c
+unfolding grid_modules
+grid_at s m r c hr hc =
     let n = side s in
     get_or-map-range_with_len (λ k. grid_module s m (k / n) (k % n)) 0 (n * n) (r * n + c) (r * n + c) false
     (mul-add-lt r n c n hr hc) (zero-add _)
     ∙ ap (λ x. grid_module s m x ((r * n + c) % n)) (div-mul-add r n c hc)
     ∙ ap (λ x. grid_module s m r x) (mod-mul-add r n c hc)
 
-pub framed_is_whole : (s : Size) (m : Square) → IsWhole (framed s m)
-unfolding framed_modules
-framed_is_whole s m = length-map-range_with_len _ 0 (side s * side s)
+-- a grid made from a mapping matrix has all its modules
+pub grid_is_whole : (s : Size) (m : Square) → IsWholeGrid (grid_of_matrix s m)
+unfolding grid_modules
+grid_is_whole s m = length-map-range_with_len _ 0 (side s * side s)
 
-pub unframed_is_whole : (s : Size) (g : Square) → IsWhole (unframed s g)
-unfolding unframed_modules
-unframed_is_whole s g = length-map-range_with_len _ 0 (mapping s * mapping s)
+-- the mapping matrix of a grid has all its modules
+pub matrix_is_whole : (g : GridView) → IsWhole (matrix_of_grid g)
+unfolding matrix_modules
+matrix_is_whole g = length-map-range_with_len _ 0 (mapping g.size * mapping g.size)
 
 -- a place of the mapping matrix lies within the grid, on no frame
 pub place_within : (s : Size) (r : ℕ) → r < mapping s → grid_place (region s) r < side s
@@ -45,28 +48,29 @@ place_within s r h =
     let some = some_region s in
     subst (λ (x : ℕ). grid_place (region s) r < x) (fills_side s) (grid_place_below (region s) (across s) r (omega arith) h)
 
-pub place_inside : (s : Size) (r c : ℕ) → is_frame (region s) (grid_place (region s) r % (region s + 2)) (grid_place (region s) c % (region s + 2)) ≡ false
+pub place_inside : (s : Size) (r c : ℕ) → is_on_frame (region s) (grid_place (region s) r % (region s + 2)) (grid_place (region s) c % (region s + 2)) ≡ false
 place_inside s r c =
     let h = region s in
     let some = some_region s in
     let z : 0 < h = omega arith in
-    ap (λ x. is_frame h x (grid_place h c % (h + 2))) (grid_place_rest h r z) ∙ ap (λ x. is_frame h (r % h + 1) x) (grid_place_rest h c z)
+    ap (λ x. is_on_frame h x (grid_place h c % (h + 2))) (grid_place_rest h r z) ∙ ap (λ x. is_on_frame h (r % h + 1) x) (grid_place_rest h c z)
     ∙ inside_no_frame h (r % h) (c % h) (mod_below r h z) (mod_below c h z)
 
+-- The mapping matrix of the grid of a mapping matrix is that matrix.
 pub unframe_undoes_frame : (s : Size) → UnframeUndoesFrame s
-unfolding unframed_modules
+unfolding matrix_modules
 unframe_undoes_frame s m whole same =
     let n = mapping s in
     let h = region s in
     let some = some_region s in
     let z : 0 < h = omega arith in
-    let f : ℕ → Bool = λ i. module_at (framed s m) (grid_place h (i / n)) (grid_place h (i % n)) in
+    let f : ℕ → Bool = λ i. grid_module_at (grid_of_matrix s m) (grid_place h (i / n)) (grid_place h (i % n)) in
     sym (same_square m n (map f (range_with_len 0 (n * n))) same
     (fill_by_all f m.modules (n * n) false (whole ∙ ap (λ x. x * x) same)
     (λ i l.
     let at : i / n * m.side + i % n ≡ i = ap (λ x. i / n * x + i % n) same ∙ div-add-mod' i n in
-    sym (framed_at s m (grid_place h (i / n)) (grid_place h (i % n)) (place_within s (i / n) (row_below n i l)) (place_within s (i % n) (column_below n i l))
-    ∙ ap (λ b. cond b (frame_module h (grid_place h (i / n) % (h + 2)) (grid_place h (i % n) % (h + 2)))
+    sym (grid_at s m (grid_place h (i / n)) (grid_place h (i % n)) (place_within s (i / n) (row_below n i l)) (place_within s (i % n) (column_below n i l))
+    ∙ ap (λ b. cond b (frame_value h (grid_place h (i / n) % (h + 2)) (grid_place h (i % n) % (h + 2)))
     (module_at m (mapping_place h (grid_place h (i / n))) (mapping_place h (grid_place h (i % n))))) (place_inside s (i / n) (i % n))
     ∙ ap (λ x. module_at m x (mapping_place h (grid_place h (i % n)))) (mapping_of_grid_place h (i / n) z)
     ∙ ap (λ x. module_at m (i / n) x) (mapping_of_grid_place h (i % n) z)
@@ -86,16 +90,17 @@ none_counted : (xs : List ℕ) → count_by (λ (wrong : Bool). wrong) (map (λ 
 none_counted [] = refl
 none_counted (x ∷ xs) = none_counted xs
 
+-- No module of a grid made from a mapping matrix is wrong.
 pub frame_has_no_wrong_module : (s : Size) → FrameHasNoWrongModule s
-unfolding border
+unfolding wrong_frame_modules
 frame_has_no_wrong_module s m =
     let n = side s in
     let h = region s in
     ap (count_by (λ (wrong : Bool). wrong))
-    (fill_by_all (λ (i : ℕ). false) (map (is_wrong s (framed s m)) (range_with_len 0 (n * n))) (n * n) false
-    (length-map-range_with_len (is_wrong s (framed s m)) 0 (n * n))
+    (fill_by_all (λ (i : ℕ). false) (map (is_wrong (grid_of_matrix s m)) (range_with_len 0 (n * n))) (n * n) false
+    (length-map-range_with_len (is_wrong (grid_of_matrix s m)) 0 (n * n))
     (λ i l.
-    get_or-map-range_with_len (is_wrong s (framed s m)) 0 (n * n) i i false l (zero-add i)
-    ∙ ap (λ d. wrong_module h d (i / n % (h + 2)) (i % n % (h + 2))) (framed_at s m (i / n) (i % n) (row_below n i l) (column_below n i l))
-    ∙ none_wrong (is_frame h (i / n % (h + 2)) (i % n % (h + 2))) _ _))
+    get_or-map-range_with_len (is_wrong (grid_of_matrix s m)) 0 (n * n) i i false l (zero-add i)
+    ∙ ap (λ d. wrong_module h d (i / n % (h + 2)) (i % n % (h + 2))) (grid_at s m (i / n) (i % n) (row_below n i l) (column_below n i l))
+    ∙ none_wrong (is_on_frame h (i / n % (h + 2)) (i % n % (h + 2))) _ _))
     ∙ none_counted (range_with_len 0 (n * n))

@@ -9,8 +9,8 @@ use Rattle.dm_check_blocks.specs.declared.size.Size.{Size}
 use Rattle.dm_check_blocks.specs.declared.size.Size.TheVariants.{Side10}
 use Rattle.dm_check_blocks.specs.Sizes.{row, side, region, across, mapping}
 use Rattle.dm_finder_frame.specs.declared.line.Line.{Line}
-use Rattle.dm_finder_frame.specs.Frame.{is_frame, mapping_place, grid_place}
-use Rattle.dm_finder_frame.specs.Lines.{AreLines}
+use Rattle.dm_finder_frame.specs.Frame.{is_on_frame, mapping_place, grid_place}
+use Rattle.dm_finder_frame.specs.inner.Lines.{AreLines}
 
 pub fills_side : (s : Size) → across s * (region s + 2) ≡ side s
 unfolding row
@@ -84,10 +84,10 @@ grid_of_mapping_place h r l m =
     ap (λ x. x * (h + 2) + mapping_place h r % h + 1) d ∙ ap (λ x. r / (h + 2) * (h + 2) + x + 1) t ∙ omega (arith, e)
 
 -- what the test of a frame tells
-pub inside_no_frame : (h a b : ℕ) → a < h → b < h → is_frame h (a + 1) (b + 1) ≡ false
+pub inside_no_frame : (h a b : ℕ) → a < h → b < h → is_on_frame h (a + 1) (b + 1) ≡ false
 inside_no_frame h a b k l = grind (arith, nat_tests)
 
-pub no_frame_inside : (h a b : ℕ) → a < h + 2 → b < h + 2 → is_frame h a b ≡ false → (1 ≤ a) × (a ≤ h) × (1 ≤ b) × (b ≤ h)
+pub no_frame_inside : (h a b : ℕ) → a < h + 2 → b < h + 2 → is_on_frame h a b ≡ false → (1 ≤ a) × (a ≤ h) × (1 ≤ b) × (b ≤ h)
 no_frame_inside h a b k l e =
     let f = or_parts (eqb a 0 || eqb a (h + 1)) (eqb b 0 || eqb b (h + 1)) e in
     let x = or_parts (eqb a 0) (eqb a (h + 1)) f.0 in

@@ -1,5 +1,5 @@
 pub mod GridPlaces
 pub mod FramedGrids
 pub mod Filled
-pub mod TurnedModules
-pub mod SizeOfSide
+pub mod FlippedModules
+pub mod Flips

@@ -1,5 +1,5 @@
 pub mod Frame
-pub mod Grids
 pub mod GridOutcome
-pub mod Lines
+pub mod Grids
 pub mod UnframeOutcome
+pub mod inner

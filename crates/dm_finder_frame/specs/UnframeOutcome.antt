@@ -1,15 +1,21 @@
 -- What taking the finder patterns off a grid answers (this project's own rule): `Border` exactly where more than an
 -- eighth of their modules are wrong.
-use Rattle.std.specs.Prelude.{◌≡◌, ◌*◌, ◌<◌, ◌≤◌, Result, Ok, Err}
-use Rattle.dm_check_blocks.specs.declared.size.Size.{Size}
-use Rattle.dm_placement.specs.Square.{Square}
+use Rattle.std.specs.Prelude.{ℕ, ◌≡◌, ◌*◌, ◌<◌, ◌≤◌, Result, Ok, Err}
 use Rattle.dm_finder_frame.specs.declared.unframing.Framed.{Framed}
 use Rattle.dm_finder_frame.specs.declared.fault.FrameFault.{FrameFault}
 use Rattle.dm_finder_frame.specs.declared.fault.FrameFault.TheVariants.{Border, Memory}
-use Rattle.dm_finder_frame.specs.Frame.{border, frame_modules, unframed}
+use Rattle.dm_finder_frame.specs.Frame.{wrong_frame_modules, frame_module_count, matrix_of_grid}
+use Rattle.dm_finder_frame.specs.Grids.{GridView}
 
--- at a grid of a size
-abbrev pub Unframes : {A : Type 0} → Size → Square → Result (Framed A) FrameFault → Type 0
-Unframes s g (Ok f) = (8 * border s g ≤ frame_modules s) × (f.size ≡ s) × (f.matrix ≡ unframed s g) × (f.wrong ≡ border s g)
-Unframes s g (Err (Border wrong)) = (frame_modules s < 8 * border s g) × (wrong ≡ border s g)
-Unframes s g (Err Memory) = 8 * border s g ≤ frame_modules s
+-- at most an eighth of the modules of the finder patterns are wrong
+abbrev pub HasGoodFrame : GridView → Type 0
+HasGoodFrame g = 8 * wrong_frame_modules g ≤ frame_module_count g.size
+
+-- more than an eighth of them are wrong, and this is their number
+abbrev pub HasBadFrame : GridView → ℕ → Type 0
+HasBadFrame g wrong = (frame_module_count g.size < 8 * wrong_frame_modules g) × (wrong ≡ wrong_frame_modules g)
+
+abbrev pub Unframes : {A : Type 0} → GridView → Result (Framed A) FrameFault → Type 0
+Unframes g (Ok f) = HasGoodFrame g × (f.size ≡ g.size) × (f.matrix ≡ matrix_of_grid g) × (f.wrong ≡ wrong_frame_modules g)
+Unframes g (Err (Border wrong)) = HasBadFrame g wrong
+Unframes g (Err Memory) = HasGoodFrame g

@@ -1,22 +1,27 @@
 //! What is refused.
 
 use std::alloc::AllocError;
+use thiserror::Error;
 
 /// Why modules make no grid.
-#[derive(Clone, Copy, Debug, PartialEq, Eq)]
+#[derive(Clone, Copy, Debug, PartialEq, Eq, Error)]
 pub enum GridFault {
     /// The side is not that of a symbol, or the modules are not as many as a square of that side has.
+    #[error("the modules do not fill a symbol of that side")]
     Side,
     /// The allocator refused its memory.
+    #[error("out of memory")]
     Memory,
 }
 
 /// Why the finder patterns cannot be taken off a grid.
-#[derive(Clone, Copy, Debug, PartialEq, Eq)]
+#[derive(Clone, Copy, Debug, PartialEq, Eq, Error)]
 pub enum FrameFault {
-    /// So many modules of the finder patterns are wrong: more than an eighth of them.
+    /// More than an eighth of the finder patterns' modules are wrong; this is their number.
+    #[error("{wrong} modules of the finder patterns are wrong")]
     Border { wrong: u16 },
     /// The allocator refused its memory.
+    #[error("out of memory")]
     Memory,
 }
 

@@ -2,10 +2,10 @@
 
 ghost use Rattle.std.specs.Prelude.{◌≡◌, ◌<◌, ◌+◌, ◌*◌, IfOk};
 ghost use Rattle.dm_check_blocks.specs.Sizes.{mapping, side};
-ghost use Rattle.dm_finder_frame.specs.Frame.{framed, grid_module};
-ghost use Rattle.dm_finder_frame.specs.Lines.{AreLines, IsFilledTo};
+ghost use Rattle.dm_finder_frame.specs.Frame.{grid_module, grid_of_matrix};
+ghost use Rattle.dm_finder_frame.specs.inner.Lines.{AreLines, IsFilledTo};
 
-use crate::grid::{Grid, grid_of};
+use crate::grid::Grid;
 use crate::line::{Lines, lines_of};
 use crate::region::frame_value;
 use dm_check_blocks::Size;
@@ -57,13 +57,14 @@ fn frame_row<A: Allocator>(
     }
 }
 
-/// The whole symbol of a mapping matrix: its data regions, each within its finder pattern (ISO/IEC 16022, clause 5.7).
+/// The whole symbol of a mapping matrix: its data regions, each within its finder pattern
+/// (ISO/IEC 16022:2006, 5.8).
 ///
 /// # Errors
 /// Where the allocator refuses its memory.
 pub fn frame<A: Allocator>(alloc: A, size: Size, matrix: &Matrix<A>) -> Result<Grid<A>, AllocError>
     requires same_side { matrix.now.side ≡ mapping size }
-    ensures framed { IfOk result (λ grid. grid ≡ framed size matrix.now) }
+    ensures { IfOk result (λ grid. grid ≡ grid_of_matrix size matrix.now) }
 {
     let side = size.side();
     let lines = lines_of(size);
@@ -71,5 +72,5 @@ pub fn frame<A: Allocator>(alloc: A, size: Size, matrix: &Matrix<A>) -> Result<G
     for row in 0..side {
         frame_row(size, matrix, &lines, row, &mut modules);
     }
-    Ok(grid_of(size, modules))
+    Ok(Grid::from_modules(size, modules))
 }

@@ -1,6 +1,8 @@
-//! Laws of the finder patterns: each function's contract is the law, and its body does nothing.
+//! Laws of the finder patterns and of flipped modules: each function's contract is the law, and its body does nothing.
 
-ghost use Rattle.dm_finder_frame.specs.Frame.{FrameHasNoWrongModule, TurnsOneModule, UnframeUndoesFrame, framed, unframed};
+ghost use Rattle.std.specs.Prelude.{◌≡◌, ℕ, List, [], ◌∷◌, ◌++◌};
+ghost use Rattle.dm_finder_frame.specs.Frame.{FlipsOneModule, FrameHasNoWrongModule, UnframeUndoesFrame, grid_of_matrix, matrix_of_grid};
+ghost use Rattle.dm_finder_frame.specs.Grids.{GridView, IsWholeGrid, flipped, grid_with_flipped};
 ghost use Rattle.dm_placement.specs.Square.{IsWhole, Square};
 
 use dm_check_blocks::Size;
@@ -12,16 +14,23 @@ pub fn unframe_undoes_frame(size: Size)
     ensures wrong { FrameHasNoWrongModule size }
 {}
 
-/// To turn over one module of a grid is to turn over the module of the mapping matrix at its cell, or, on a finder
-/// pattern, none.
-#[tactic(auto, using(crate::proofs::TurnedModules::turns_one_module))]
-pub fn one_module_of_the_grid(size: Size)
-    ensures { TurnsOneModule size }
+/// To flip one module of a grid is to flip the module of the mapping matrix at its cell, or, on a finder pattern, none.
+#[tactic(auto, using(crate::proofs::FlippedModules::flips_one_module))]
+pub fn one_module_of_the_grid()
+    ensures { FlipsOneModule }
 {}
 
 /// The grid of any mapping matrix, and the mapping matrix of any grid, has all its modules.
-#[tactic(auto, using(crate::proofs::FramedGrids::framed_is_whole, crate::proofs::FramedGrids::unframed_is_whole))]
-pub fn squares_are_whole(size: Size)
-    ensures framed { (m : Square) → IsWhole (framed size m) }
-    ensures unframed { (g : Square) → IsWhole (unframed size g) }
+#[tactic(auto, using(crate::proofs::FramedGrids::grid_is_whole, crate::proofs::FramedGrids::matrix_is_whole))]
+pub fn squares_are_whole()
+    ensures grid { (size : Size) → (m : Square) → IsWholeGrid (grid_of_matrix size m) }
+    ensures matrix { (g : GridView) → IsWhole (matrix_of_grid g) }
+{}
+
+/// Flipped modules leave a grid's size as it is, and its number of modules; one flip more is one more at the list's end.
+pub fn flips_are_made_in_order()
+    ensures size { (g : GridView) (flips : List (ℕ × ℕ)) → (flipped g flips).size ≡ g.size }
+    ensures whole { (g : GridView) (flips : List (ℕ × ℕ)) → IsWholeGrid g → IsWholeGrid (flipped g flips) }
+    ensures more { (g : GridView) (flips : List (ℕ × ℕ)) (flip : ℕ × ℕ)
+        → flipped g (flips ++ flip ∷ []) ≡ grid_with_flipped (flipped g flips) flip.0 flip.1 }
 {}

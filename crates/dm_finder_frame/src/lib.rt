@@ -1,5 +1,5 @@
 //! Finder patterns of ECC 200 symbols: the frame round each data region, and the whole symbol as a grid of modules
-//! (ISO/IEC 16022, clause 5.7).
+//! (ISO/IEC 16022:2006, 5.5 and 5.8).
 //!
 //! `frame` cuts a mapping matrix into its data regions and puts the finder pattern round each. `unframe` takes the
 //! finder patterns off a grid and counts their wrong modules; it refuses a grid with too many of them.

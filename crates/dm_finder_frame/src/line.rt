@@ -2,7 +2,7 @@
 
 ghost use Rattle.std.specs.Prelude.{◌≡◌, ◌<◌, ◌≤◌};
 ghost use Rattle.dm_check_blocks.specs.Sizes.{mapping, region, side};
-ghost use Rattle.dm_finder_frame.specs.Lines.{AreGridPlaces, AreLines, line_at};
+ghost use Rattle.dm_finder_frame.specs.inner.Lines.{AreGridPlaces, AreLines, line_at};
 
 use dm_check_blocks::Size;
 
@@ -23,10 +23,11 @@ pub(crate) struct Line {
     pub(crate) on_frame: bool,
 }
 
-/// The rows of a grid, which are its columns too. What stands behind them has no meaning.
+/// The rows of a grid, which are its columns too. The entries after them have no meaning.
 pub(crate) type Lines = [Line; MOST_LINES];
 
-/// For each row of a mapping matrix that of the grid, and so for its columns. What stands behind them has no meaning.
+/// For each row of a mapping matrix the row of the grid where it stands, and so for its columns. The entries after them
+/// have no meaning.
 pub(crate) type GridPlaces = [u16; MOST_PLACES];
 
 // The line of a number.

@@ -2,12 +2,12 @@
 
 ghost use Rattle.std.specs.Prelude.{◌≡◌, ◌<◌, ◌≤◌, IfSome};
 ghost use Rattle.dm_check_blocks.specs.Sizes.{mapping, side};
-ghost use Rattle.dm_finder_frame.specs.Frame.{frame_module, mapping_cell};
+ghost use Rattle.dm_finder_frame.specs.Frame.{frame_value, mapping_cell};
 
 use dm_check_blocks::Size;
 
 /// The row and the column in the mapping matrix of a grid's module, or `None` on a finder pattern; all from 0
-/// (ISO/IEC 16022, clause 5.7).
+/// (ISO/IEC 16022:2006, 5.8).
 pub fn cell_of(size: Size, row: u16, column: u16) -> Option<(u16, u16)>
     requires row_in { row < side size }
     requires column_in { column < side size }
@@ -30,7 +30,7 @@ pub fn cell_of(size: Size, row: u16, column: u16) -> Option<(u16, u16)>
 /// Whether the finder pattern is dark at a place of a framed region.
 pub(crate) fn frame_value(region: u16, r: u16, c: u16) -> bool
     requires { region ≤ 24 }
-    ensures { result ≡ frame_module region r c }
+    ensures { result ≡ frame_value region r c }
 {
     if c == 0 || r == region + 1 {
         true

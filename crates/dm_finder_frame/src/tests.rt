@@ -70,3 +70,33 @@ fn refuses_other_grids(rt: HostRuntime) -> Result<(), Fail> {
     assert_eq!(rt; fault, Some(GridFault::Side));
     Ok(())
 }
+
+#[test]
+fn faults_say_what_is_wrong(rt: HostRuntime) -> Result<(), Fail> {
+    let text = format!(in rt.alloc(); "{}", FrameFault::Border { wrong: 27 })?;
+    assert_eq!(rt;
+        text.as_str(),
+        "27 modules of the finder patterns are wrong"
+    );
+    let text = format!(in rt.alloc(); "{}", FrameFault::Memory)?;
+    assert_eq!(rt; text.as_str(), "out of memory");
+    let text = format!(in rt.alloc(); "{}", GridFault::Side)?;
+    assert_eq!(rt;
+        text.as_str(),
+        "the modules do not fill a symbol of that side"
+    );
+    Ok(())
+}
+
+#[test]
+fn flips_are_made_one_after_another(rt: HostRuntime) -> Result<(), Fail> {
+    let light = Grid::of_modules(rt.alloc(), 10, &[false; 100])?;
+    let flipped = light.with_flips(rt.alloc(), &[(1, 2), (9, 0), (1, 2), (3, 4)])?;
+    for row in 0..10u16 {
+        for column in 0..10u16 {
+            let dark = (row, column) == (9, 0) || (row, column) == (3, 4);
+            assert_eq!(rt; flipped.module(row, column), dark);
+        }
+    }
+    Ok(())
+}

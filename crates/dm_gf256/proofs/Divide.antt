@@ -6,14 +6,16 @@ use Rattle.dm_gf256.specs.Field.{product, power}
 use Rattle.dm_gf256.specs.Polynomial.{value, add_scaled}
 use Rattle.dm_gf256.proofs.Linear.{product-xor_r, product-xor_l, xor_interchange}
 use Rattle.dm_gf256.proofs.Ring.{product_comm, product_assoc, product-zero_l, product-zero_r, one-product, power_byte, power-add}
-use Rattle.dm_gf256.proofs.Steps.{value-push}
+use Rattle.dm_gf256.proofs.LoopSteps.{value-push}
 
+-- adding a multiple keeps the length
 pub length-add_scaled : (f : ℕ) (ts ss : List ℕ) → length (add_scaled f ts ss) ≡ length ts
 unfolding add_scaled
 length-add_scaled f [] ss = refl
 length-add_scaled f (t ∷ ts) [] = refl
 length-add_scaled f (t ∷ ts) (s ∷ ss) = ap suc (length-add_scaled f ts ss)
 
+-- the value of a sum of multiples is the sum of the values' multiples
 pub value-add_scaled : (f : ℕ) (ts ss : List ℕ) (x : ℕ) → length ts ≡ length ss → value (add_scaled f ts ss) x ≡ bit_xor (value ts x) (product f (value ss x))
 unfolding add_scaled value
 value-add_scaled f [] [] x e = sym (product-zero_r f)
@@ -30,6 +32,7 @@ value-add_scaled f (t ∷ ts) (s ∷ ss) x e =
     (ap (λ v. bit_xor v (product f (value ss x))) (product_assoc f s p ∙ ap (λ n. product f (product s (power x n))) l)
     ∙ sym (product-xor_r f (product s (power x (length ss))) (value ss x)))
 
+-- the value of two lists joined: the first is shifted by the second's length
 pub value-append : (xs ys : List ℕ) (x : ℕ) → x < 256 → value (xs ++ ys) x ≡ bit_xor (product (value xs x) (power x (length ys))) (value ys x)
 unfolding value
 value-append [] ys x h = sym (ap (λ t. bit_xor t (value ys x)) (product-zero_l _))
@@ -82,6 +85,7 @@ value-divide_step r rs gs u x e h z =
     ∙ ap (λ t. bit_xor t (product u p))
     (xor_comm (product x (value rs x)) (product r p) ∙ ap (λ t. bit_xor t (product x (value rs x))) top ∙ sym (product-xor_r x (product r (power x n)) (value rs x)))
 
+-- a sum of multiples, place by place
 pub get_or-add_scaled : (f : ℕ) (ts ss : List ℕ) (k : ℕ) → length ts ≡ length ss → get_or (add_scaled f ts ss) k 0 ≡ bit_xor (get_or ts k 0) (product f (get_or ss k 0))
 unfolding add_scaled
 get_or-add_scaled f [] [] k e = sym (product-zero_r f)
@@ -90,6 +94,7 @@ get_or-add_scaled f (t ∷ ts) [] k e = absurd (omega arith)
 get_or-add_scaled f (t ∷ ts) (s ∷ ss) zero e = refl
 get_or-add_scaled f (t ∷ ts) (s ∷ ss) (suc k) e = get_or-add_scaled f ts ss k (omega arith)
 
+-- a list that is the sum of multiples at each place is that sum
 pub add_scaled-by_places : (f : ℕ) (xs ts ss : List ℕ) → length xs ≡ length ts → length ts ≡ length ss → ((k : ℕ) → k < length ts → get_or xs k 0 ≡ bit_xor (get_or ts k 0) (product f (get_or ss k 0))) → xs ≡ add_scaled f ts ss
 unfolding add_scaled
 add_scaled-by_places f [] [] ss d e h = refl

@@ -1,4 +1,4 @@
--- One turn of `Gf::eval`.
+-- One step of `Gf::eval`.
 use Rattle.std.proofs.Common.{◌≡◌, ℕ, ◌+◌, ◌<◌, sym, ap, ◌∙◌, List, length, take, get_or}
 use Rattle.std.proofs.lemmas.List.{map_more}
 use Rattle.std.specs.Int.Bits.{bit_xor}
@@ -6,8 +6,9 @@ use Rattle.dm_gf256.specs.declared.element.Gf.{Gf}
 use Rattle.dm_gf256.specs.Elements.{numbers}
 use Rattle.dm_gf256.specs.Field.{product}
 use Rattle.dm_gf256.specs.Polynomial.{value}
-use Rattle.dm_gf256.proofs.Steps.{value-push}
+use Rattle.dm_gf256.proofs.LoopSteps.{value-push}
 
+-- one step of `eval`: the value of one coefficient more
 pub value-more : (gs : List Gf) (d : Gf) (i x s : ℕ) → i < length gs → (get_or gs i d).0 < 256 → s ≡ value (numbers (take i gs)) x → bit_xor (product s x) (get_or gs i d).0 ≡ value (numbers (take (i + 1) gs)) x
 value-more gs d i x s l b h =
     ap (λ t. bit_xor (product t x) (get_or gs i d).0) h

@@ -1,9 +1,9 @@
-pub mod Checks
+pub mod TablesByComputing
 pub mod Divide
 pub mod Evals
 pub mod Linear
 pub mod Ring
-pub mod Steps
+pub mod LoopSteps
 pub mod Tables
 pub mod Vanish
-pub mod Words
+pub mod OneBlockWord

@@ -6,7 +6,7 @@ use Rattle.std.specs.Int.Bits.{bit_xor, xor_self}
 use Rattle.std.proofs.lemmas.Nat.{xor_lt, pow_pos, xor_block}
 use Rattle.dm_gf256.specs.Field.{plain, reduced, product, power}
 use Rattle.dm_gf256.proofs.Linear.{product-xor_r, product-xor_l}
-use Rattle.dm_gf256.proofs.Checks.{all_below}
+use Rattle.dm_gf256.proofs.TablesByComputing.{all_below}
 
 -- what the checker finds at each number below n
 pub all_below-at : (n : ℕ) (p : ℕ → Bool) → all_below n p ≡ true → (k : ℕ) → k < n → p k ≡ true
@@ -18,6 +18,7 @@ all_below-at (suc n) p t k h =
     (λ (l : n ≤ k). let e : k ≡ n = omega arith in ap p e ∙ parts.0)
     (cases_lt k n)
 
+-- a number of k + 1 bits is its highest bit and the rest
 high_bit : (k b : ℕ) → 2 ^ k ≤ b → b < 2 ^ suc k → (b - 2 ^ k < 2 ^ k) × (bit_xor (2 ^ k) (b - 2 ^ k) ≡ b)
 high_bit k b p q =
     let two : 2 ^ suc k ≡ 2 * 2 ^ k = pow-succ' 2 k in
@@ -37,15 +38,19 @@ by_bits P z s (suc k) h b l =
     subst P (q.1) (s (2 ^ k) (b - 2 ^ k) (h k (omega arith)) (low _ (q.0))))
     (cases_lt b (2 ^ k))
 
+-- a times 0 is 0
 pub product-zero_r : (a : ℕ) → product a 0 ≡ 0
 product-zero_r a = product-xor_r a 0 0 ∙ xor_self (product a 0)
 
+-- 0 times a is 0
 pub product-zero_l : (a : ℕ) → product 0 a ≡ 0
 product-zero_l a = product-xor_l 0 0 a ∙ xor_self (product 0 a)
 
+-- to reduce modulo 256 twice is to reduce once
 mod_mod : (a : ℕ) → a % 256 % 256 ≡ a % 256
 mod_mod a = omega arith
 
+-- a remainder modulo 256 is below 256
 byte : (a : ℕ) → a % 256 < 256
 byte a = omega arith
 
@@ -59,19 +64,23 @@ basis_comm : all_below 8 (λ i. all_below 8 (λ j. eqb (product (2 ^ i) (2 ^ j))
 unfolding all_below product reduced plain
 basis_comm = refl
 
+-- the product of powers of 2 below 256 is associative, by computing
 basis_assoc : all_below 8 (λ i. all_below 8 (λ j. all_below 8 (λ k. eqb (product (product (2 ^ i) (2 ^ j)) (2 ^ k)) (product (2 ^ i) (product (2 ^ j) (2 ^ k)))))) ≡ true
 unfolding all_below product reduced plain
 basis_assoc = refl
 
+-- 1 is neutral at the powers of 2 below 256, by computing
 basis_one : all_below 8 (λ i. eqb (product 1 (2 ^ i)) (2 ^ i)) ≡ true
 unfolding all_below product reduced plain
 basis_one = refl
 
+-- two powers of 2 below 256 commute, and their product is a byte
 basis_comm-at : (i : ℕ) → i < 8 → (j : ℕ) → j < 8 → (product (2 ^ i) (2 ^ j) ≡ product (2 ^ j) (2 ^ i)) × (product (2 ^ i) (2 ^ j) < 256)
 basis_comm-at i p j q =
     let parts = and_parts _ _ (all_below-at 8 _ (all_below-at 8 _ basis_comm i p) j q) in
     (eqb-true _ _ (parts.0), ltb-true _ _ (parts.1))
 
+-- three powers of 2 below 256 are associative
 basis_assoc-at : (i : ℕ) → i < 8 → (j : ℕ) → j < 8 → (k : ℕ) → k < 8 → product (product (2 ^ i) (2 ^ j)) (2 ^ k) ≡ product (2 ^ i) (product (2 ^ j) (2 ^ k))
 basis_assoc-at i p j q k r = eqb-true _ _ (all_below-at 8 _ (all_below-at 8 _ (all_below-at 8 _ basis_assoc i p) j q) k r)
 
@@ -81,15 +90,18 @@ agree f g F G h =
     by_bits (λ b. f b ≡ g b) (F 0 0 ∙ xor_self (f 0) ∙ sym (G 0 0 ∙ xor_self (g 0)))
     (λ a b p q. F a b ∙ ap (λ t. bit_xor t (f b)) p ∙ ap (λ t. bit_xor (g a) t) q ∙ sym (G a b)) 8 h
 
+-- the product of bytes is commutative
 comm_below : (a : ℕ) → a < 256 → (b : ℕ) → b < 256 → product a b ≡ product b a
 comm_below a p =
     agree (λ b. product a b) (λ b. product b a) (product-xor_r a) (λ x y. product-xor_l x y a)
     (λ j jl. agree (λ a. product a (2 ^ j)) (λ a. product (2 ^ j) a) (λ x y. product-xor_l x y (2 ^ j)) (product-xor_r (2 ^ j))
     (λ i il. (basis_comm-at i il j jl).0) a p)
 
+-- the product is commutative
 pub product_comm : (a b : ℕ) → product a b ≡ product b a
 product_comm a b = sym (product-mod a b) ∙ comm_below (a % 256) (byte a) (b % 256) (byte b) ∙ product-mod b a
 
+-- the product of bytes is a byte
 byte_below : (a : ℕ) → a < 256 → (b : ℕ) → b < 256 → product a b < 256
 byte_below a p =
     by_bits (λ b. product a b < 256) (rw (product-zero_r a) (omega arith))
@@ -97,9 +109,11 @@ byte_below a p =
     (λ j jl. by_bits (λ a. product a (2 ^ j) < 256) (rw (product-zero_l (2 ^ j)) (omega arith))
     (λ x y h k. rw (product-xor_l x y (2 ^ j)) (xor_lt 8 _ _ h k)) 8 (λ i il. (basis_comm-at i il j jl).1) a p)
 
+-- every product is a byte
 pub product_byte : (a b : ℕ) → product a b < 256
 product_byte a b = let P : ℕ → Type 0 = λ t. t < 256 in subst P (product-mod a b) (byte_below (a % 256) (byte a) (b % 256) (byte b))
 
+-- the product of bytes is associative
 assoc_below : (a : ℕ) → a < 256 → (b : ℕ) → b < 256 → (c : ℕ) → c < 256 → product (product a b) c ≡ product a (product b c)
 assoc_below a p b q =
     agree (λ c. product (product a b) c) (λ c. product a (product b c)) (product-xor_r (product a b))
@@ -112,20 +126,24 @@ assoc_below a p b q =
     (λ x y. product-xor_l x y _)
     (λ i il. basis_assoc-at i il j jl k kl) a p) b q)
 
+-- the first factor may be reduced modulo 256
 product-mod_l : (a b : ℕ) → product (a % 256) b ≡ product a b
 unfolding product
 product-mod_l a b = rw (mod_mod a) refl
 
+-- the second factor may be reduced modulo 256
 product-mod_r : (a b : ℕ) → product a (b % 256) ≡ product a b
 unfolding product
 product-mod_r a b = rw (mod_mod b) refl
 
+-- the product is associative
 pub product_assoc : (a b c : ℕ) → product (product a b) c ≡ product a (product b c)
 product_assoc a b c =
     ap (λ t. product t c) (sym (product-mod a b)) ∙ sym (product-mod_r _ c)
     ∙ assoc_below (a % 256) (byte a) (b % 256) (byte b) (c % 256) (byte c)
     ∙ product-mod_l a _ ∙ ap (product a) (product-mod b c)
 
+-- 1 times a byte is the byte
 pub one-product : (a : ℕ) → a < 256 → product 1 a ≡ a
 one-product = agree (product 1) (λ b. b) (product-xor_r 1) (λ a b. refl) (λ i il. eqb-true _ _ (all_below-at 8 _ basis_one i il))
 
@@ -133,10 +151,12 @@ one-product = agree (product 1) (λ b. b) (product-xor_r 1) (λ a b. refl) (λ i
 unfoldable pub inverse : ℕ → ℕ
 inverse a = power a 254
 
+-- each nonzero byte times its inverse is 1, by computing
 inverses : all_below 255 (λ k. eqb (product (suc k) (inverse (suc k))) 1) ≡ true
 unfolding all_below product reduced plain power inverse
 inverses = refl
 
+-- a nonzero byte times its inverse is 1
 pub product-inverse : (a : ℕ) → 0 < a → a < 256 → product a (inverse a) ≡ 1
 product-inverse (suc k) p q = eqb-true _ _ (all_below-at 255 _ inverses k (omega arith))
 product-inverse zero p q = absurd (omega arith)
@@ -146,15 +166,18 @@ orders : all_below 254 (λ k. ltb 1 (power 2 (suc k))) ≡ true
 unfolding all_below product reduced plain power
 orders = refl
 
+-- 2 to a power from 1 to 254 is above 1
 pub power_above_one : (d : ℕ) → 0 < d → d < 255 → 1 < power 2 d
 power_above_one (suc k) p q = ltb-true _ _ (all_below-at 254 _ orders k (omega arith))
 power_above_one zero p q = absurd (omega arith)
 
+-- a power of a byte is a byte
 pub power_byte : (x k : ℕ) → x < 256 → power x k < 256
 unfolding power
 power_byte x zero h = omega arith
 power_byte x (suc k) h = product_byte x _
 
+-- the power of a sum is the product of the powers
 pub power-add : (x i j : ℕ) → x < 256 → power x (i + j) ≡ product (power x i) (power x j)
 unfolding power
 power-add x zero j h = rw (zero-add j) (sym (one-product _ (power_byte x j h)))
@@ -162,6 +185,7 @@ power-add x (suc i) j h =
     let e : suc i + j ≡ suc (i + j) = omega arith in
     ap (power x) e ∙ ap (product x) (power-add x i j h) ∙ sym (product_assoc x (power x i) (power x j))
 
+-- an inverse is a byte
 pub inverse_byte : (a : ℕ) → a < 256 → inverse a < 256
 unfolding inverse
 inverse_byte a h = power_byte a 254 h
@@ -173,9 +197,11 @@ product_cancel a b c p q r s e =
     λ x l. sym (product_assoc (inverse a) a x) ∙ ap (λ t. product t x) (product_comm (inverse a) a ∙ product-inverse a p q) ∙ one-product x l in
     sym (back b r) ∙ ap (product (inverse a)) e ∙ back c s
 
+-- no product of nonzero elements is 0
 pub product_zero : (a b : ℕ) → 0 < a → a < 256 → b < 256 → product a b ≡ 0 → b ≡ 0
 product_zero a b p q r e = product_cancel a b 0 p q r (omega arith) (e ∙ sym (product-zero_r a))
 
+-- no power of 2 is 0
 pub power_two_pos : (k : ℕ) → k < 255 → 0 < power 2 k
 unfolding power
 power_two_pos zero h = omega arith

@@ -1,11 +1,11 @@
--- The field of 256 elements of ISO/IEC 16022, clause 5.2.9 and Annex E (error correction): polynomials over two
--- elements of degree at most 7, written as numbers below 256 (bit i is the coefficient of x^i), modulo
+-- The field of 256 elements of ISO/IEC 16022, clause 5.7 and Annex E (error detection and correction): polynomials
+-- over two elements of degree at most 7, written as numbers below 256 (bit i is the coefficient of x^i), modulo
 -- x^8 + x^5 + x^3 + x^2 + 1, which is the number 301. The sum of two elements is their exclusive or.
 use Rattle.std.specs.Prelude.{ℕ, zero, suc, ◌+◌, ◌*◌, ◌^◌, ◌%◌}
 use Rattle.std.specs.Int.{bit_at}
 use Rattle.std.specs.Int.Bits.{bit_xor}
 
--- the plain product of a and the low k bits of b: a sum without carries
+-- the plain product of a and the lowest k bits of b, added without carries
 unfoldable pub plain : ℕ → ℕ → ℕ → ℕ
 plain zero a b = 0
 plain (suc k) a b = bit_xor (plain k a b) (bit_at b k * (a * 2 ^ k))

@@ -1,4 +1,4 @@
 pub mod Elements
-pub mod Exponents
 pub mod Field
 pub mod Polynomial
+pub mod inner

@@ -1,8 +1,8 @@
 //! The field of 256 elements over which Data Matrix ECC 200 computes its check words: polynomials over two
-//! elements modulo x^8 + x^5 + x^3 + x^2 + 1, with 2 as the primitive element (ISO/IEC 16022, Annex E).
+//! elements modulo x^8 + x^5 + x^3 + x^2 + 1, with 2 as the primitive element (ISO/IEC 16022:2006, Annex E).
 //!
-//! Proved: each operation is that of the definition in `specs/Field.antt`, though it works by tables; the
-//! laws of the field; and that two block words with few differences are one.
+//! Proved: each operation gives what the definition in `specs/Field.antt` says, though it works by tables; the
+//! laws of the field; and that two block words that differ in few places are equal.
 #![tactic(auto)]
 
 mod by_bits;

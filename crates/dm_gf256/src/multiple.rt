@@ -1,4 +1,4 @@
-//! Sums of words, the step of the encoder and of elimination.
+//! Adding a multiple of one word to another: the step of the encoder and of elimination.
 
 ghost use Rattle.std.specs.Prelude.{◌≡◌, length};
 ghost use Rattle.dm_gf256.specs.Polynomial.{add_scaled};

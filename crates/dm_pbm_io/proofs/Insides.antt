@@ -1,5 +1,7 @@
 -- The pixels inside the quiet zone of a picture.
 use Rattle.std.proofs.Common.{◌≡◌, ℕ, ◌+◌, ◌-◌, ◌*◌, ◌/◌, ◌%◌, ◌<◌, ◌≤◌, Bool, false, List, ◌++◌, length, get_or, map, slice_index_or, sym, ap, ◌∙◌, arith, ⊎_elim}
+use Rattle.dm_pbm_io.specs.Image.{Picture}
+use Rattle.dm_pbm_io.specs.SymbolImage.{modules_inside}
 use Rattle.std.specs.List.{between, range_with_len}
 use Rattle.std.proofs.lemmas.List.{get_or_append_left, get_or-append_right, length-append}
 use Rattle.std.proofs.lemmas.List.Edits.{length-between, get_or-between}
@@ -21,7 +23,8 @@ row_within w s row e h =
 -- one row more
 pub row_taken : (pixels old new : List Bool) (w s row : ℕ) → w ≡ s + 2 → row < s → length pixels ≡ w * w
     → new ≡ old ++ between ((row + 1) * w + 1) ((row + 1) * w + 1 + s) pixels
-    → old ≡ map (inner_module pixels w s) (range_with_len 0 (row * s)) → new ≡ map (inner_module pixels w s) (range_with_len 0 ((row + 1) * s))
+    → old ≡ map (inner_module pixels w s) (range_with_len 0 (row * s))
+    → new ≡ map (inner_module pixels w s) (range_with_len 0 ((row + 1) * s))
 row_taken pixels old new w s row ew hr whole en eo =
     let f = inner_module pixels w s in
     let start = (row + 1) * w + 1 in
@@ -46,5 +49,10 @@ row_taken pixels old new w s row ew hr whole en eo =
     get_or-append_right old part (row * s) k false before l
     ∙ get_or-between pixels start (start + s) c false (omega arith)
     ∙ ap (λ (x : ℕ). get_or pixels x false) place
-    ∙ sym (ap (λ (x : ℕ). get_or pixels ((x + 1) * w + (k % s + 1)) false) above ∙ ap (λ (x : ℕ). get_or pixels ((row + 1) * w + (x + 1)) false) beside))
+    ∙ sym (ap (λ (x : ℕ). get_or pixels ((x + 1) * w + (k % s + 1)) false) above
+    ∙ ap (λ (x : ℕ). get_or pixels ((row + 1) * w + (x + 1)) false) beside))
     (cases_lt k (row * s)))
+
+-- all modules inside the quiet zone
+pub length-inside : (p : Picture) → length (modules_inside p) ≡ (p.width - 2) * (p.width - 2)
+length-inside p = length-map-range_with_len (inner_module p.pixels p.width (p.width - 2)) 0 ((p.width - 2) * (p.width - 2))

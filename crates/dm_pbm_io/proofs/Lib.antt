@@ -1,3 +1,4 @@
+pub mod Streaming
 pub mod Walking
 pub mod Stage
 pub mod Rows
@@ -6,6 +7,7 @@ pub mod Written
 pub mod RoundTrip
 pub mod OneImage
 pub mod NotRefused
-pub mod Borders
+pub mod QuietZone
 pub mod Insides
 pub mod Shapes
+pub mod TakenBack

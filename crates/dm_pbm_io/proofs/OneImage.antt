@@ -5,16 +5,17 @@ use Rattle.std.proofs.lemmas.List.Elements.{filter-append}
 use Rattle.dm_pbm_io.specs.Comments.{is_hidden, in_comment, signs_from, signs}
 use Rattle.dm_pbm_io.specs.Header.{magic, IsHeaderBody}
 use Rattle.dm_pbm_io.specs.Raster.{stride, row_of, IsPackedRaster, digit_of, is_pixel_digit, IsPlainRaster}
-use Rattle.dm_pbm_io.specs.Image.{Picture, IsRaster, SpellsBehind}
+use Rattle.dm_pbm_io.specs.Image.{Picture, IsRaster, SpellsAfterMagic}
 use Rattle.dm_pbm_io.specs.Laws.{HasOneImage}
-use Rattle.dm_pbm_io.specs.Walk.{walk}
-use Rattle.dm_pbm_io.specs.declared.header.Place.TheVariants.{AfterMagic, Done}
+use Rattle.dm_pbm_io.specs.inner.HeaderStates.{walk}
+use Rattle.dm_pbm_io.specs.declared.header.HeaderState.TheVariants.{AfterMagic, Done}
 use Rattle.dm_pbm_io.proofs.Walking.{walk-append, spelled_walks, at_done}
 use Rattle.dm_pbm_io.proofs.Stage.{in_comment-append, signs-append}
 use Rattle.dm_pbm_io.proofs.Rows.{digit_kept, length-packed}
 
 -- of two fronts of one list, one is a front of the other
-pub fronts : (a b x y : List ℕ) → a ++ x ≡ b ++ y → ((d : List ℕ) × (b ≡ a ++ d) × (x ≡ d ++ y)) ⊎ ((d : List ℕ) × (a ≡ b ++ d) × (y ≡ d ++ x))
+pub fronts : (a b x y : List ℕ) → a ++ x ≡ b ++ y
+    → ((d : List ℕ) × (b ≡ a ++ d) × (x ≡ d ++ y)) ⊎ ((d : List ℕ) × (a ≡ b ++ d) × (y ≡ d ++ x))
 fronts [] b x y e = inl (b, refl, e)
 fronts (u ∷ a) [] x y e = inr (u ∷ a, refl, sym e)
 fronts (u ∷ a) (v ∷ b) x y e =
@@ -42,18 +43,26 @@ closed_none (b ∷ d) e c =
       | false ↦ λ f k. cc
     ] e c
 
-pub signs_behind : (a d : List ℕ) → in_comment false a ≡ false → (signs (a ++ d) ≡ signs a ++ signs d) × (in_comment false (a ++ d) ≡ in_comment false d)
-signs_behind a d c = (signs-append false a d ∙ ap (λ v. signs a ++ signs_from v d) c, in_comment-append false a d ∙ ap (λ v. in_comment v d) c)
+pub signs_after : (a d : List ℕ) → in_comment false a ≡ false
+    → (signs (a ++ d) ≡ signs a ++ signs d) × (in_comment false (a ++ d) ≡ in_comment false d)
+signs_after a d c = (
+  signs-append false a d ∙ ap (λ v. signs a ++ signs_from v d) c,
+  in_comment-append false a d
+      ∙ ap (λ v. in_comment v d) c,
+)
 
-pub done_walk : (body : List ℕ) (w h : ℕ) → IsHeaderBody body w h → walk (Some AfterMagic) (signs body) ≡ Some (Done (min w 1025) (min h 1025))
+pub done_walk : (body : List ℕ) (w h : ℕ) → IsHeaderBody body w h
+    → walk (Some AfterMagic) (signs body) ≡ Some (Done (min w 1025) (min h 1025))
 done_walk body w h b = spelled_walks (signs body) w h b.size
 
 -- a header that goes on with d is no header, unless d is nothing
-header_ends : (a d : List ℕ) (w h w' h' : ℕ) → IsHeaderBody a w h → IsHeaderBody (a ++ d) w' h' → (d ≡ []) × (min w' 1025 ≡ min w 1025) × (min h' 1025 ≡ min h 1025)
+header_ends : (a d : List ℕ) (w h w' h' : ℕ) → IsHeaderBody a w h → IsHeaderBody (a ++ d) w' h'
+    → (d ≡ []) × (min w' 1025 ≡ min w 1025) × (min h' 1025 ≡ min h 1025)
 header_ends a d w h w' h' p q =
-    let s = signs_behind a d p.closed in
+    let s = signs_after a d p.closed in
     let runs : walk (Some (Done (min w 1025) (min h 1025))) (signs d) ≡ Some (Done (min w' 1025) (min h' 1025)) =
-    ap (λ v. walk v (signs d)) (sym (done_walk a w h p)) ∙ sym (walk-append (Some AfterMagic) (signs a) (signs d)) ∙ ap (walk (Some AfterMagic)) (sym s.0) ∙ done_walk (a ++ d) w' h' q in
+    ap (λ v. walk v (signs d)) (sym (done_walk a w h p)) ∙ sym (walk-append (Some AfterMagic) (signs a) (signs d))
+    ∙ ap (walk (Some AfterMagic)) (sym s.0) ∙ done_walk (a ++ d) w' h' q in
     let ends = at_done (min w 1025) (min h 1025) (signs d) (min w' 1025) (min h' 1025) runs in
     (closed_none d ends.0 (sym s.1 ∙ q.closed), ends.1, ends.2)
 
@@ -67,7 +76,8 @@ same_fronts (u ∷ a) (v ∷ b) x y n e =
     let t : a ++ x ≡ b ++ y = cc in
     let m = same_fronts a b x y (omega arith) t in (cc (h, m.0), m.1)
 
-same_rows : (n : ℕ) (a b : List (List ℕ)) → AllByRecursion (λ r. length r ≡ n) a → AllByRecursion (λ r. length r ≡ n) b → length a ≡ length b → concat a ≡ concat b → a ≡ b
+same_rows : (n : ℕ) (a b : List (List ℕ)) → AllByRecursion (λ r. length r ≡ n) a → AllByRecursion (λ r. length r ≡ n) b
+    → length a ≡ length b → concat a ≡ concat b → a ≡ b
 same_rows n [] [] p q l e = refl
 same_rows n [] (v ∷ b) p q l e = absurd (omega arith)
 same_rows n (u ∷ a) [] p q l e = absurd (omega arith)
@@ -77,7 +87,8 @@ same_rows n (u ∷ a) (v ∷ b) p q l e =
     let m = same_fronts u v (concat a) (concat b) (one ∙ sym two) e in
     let rest = same_rows n a b p.1 q.1 (omega arith) m.1 in cc (m.0, rest)
 
-one_packed : (a b x y : List ℕ) (w h : ℕ) (p q : List Bool) → IsPackedRaster a w h p → IsPackedRaster b w h q → a ++ x ≡ b ++ y → (a ≡ b) × (p ≡ q)
+one_packed : (a b x y : List ℕ) (w h : ℕ) (p q : List Bool) → IsPackedRaster a w h p → IsPackedRaster b w h q
+    → a ++ x ≡ b ++ y → (a ≡ b) × (p ≡ q)
 one_packed a b x y w h p q r s e =
     let m = same_fronts a b x y (length-packed a w h p r ∙ sym (length-packed b w h q s)) e in
     let rows = same_rows (stride w) r.rows s.rows r.each s.each (r.count ∙ sym s.count) (sym r.raster_is ∙ m.0 ∙ s.raster_is) in
@@ -102,26 +113,30 @@ pub length-digits : (p : List Bool) → length (map digit_of p) ≡ length p
 length-digits [] = refl
 length-digits (x ∷ p) = ap suc (length-digits p)
 
--- the last of a list behind a front that isn't all of it
-pub last_behind : (a d f : List ℕ) (z : ℕ) → a ++ d ≡ f ++ z ∷ [] → 0 < length d → (g : List ℕ) × (d ≡ g ++ z ∷ [])
-last_behind [] d f z e n = (f, e)
-last_behind (u ∷ a) d [] z e n =
+-- the last of a list after a front that isn't all of it
+pub last_after : (a d f : List ℕ) (z : ℕ) → a ++ d ≡ f ++ z ∷ [] → 0 < length d → (g : List ℕ) × (d ≡ g ++ z ∷ [])
+last_after [] d f z e n = (f, e)
+last_after (u ∷ a) d [] z e n =
     let t : a ++ d ≡ [] = cc in
     let l : length (a ++ d) ≡ 0 = ap length t in
     absurd (omega (arith, length-append a d))
-last_behind (u ∷ a) d (v ∷ f) z e n = let t : a ++ d ≡ f ++ z ∷ [] = cc in last_behind a d f z t n
+last_after (u ∷ a) d (v ∷ f) z e n = let t : a ++ d ≡ f ++ z ∷ [] = cc in last_after a d f z t n
 
 -- a byte outside of a comment at the end is a sign
 pub shown_last : (h : Bool) (z : ℕ) → in_comment h (z ∷ []) ≡ false → signs_from h (z ∷ []) ≡ z ∷ []
 shown_last h z c = ap (λ v. cond v [] (z ∷ [])) c
 
-digits_behind : (d g : List ℕ) (p : Bool) → d ≡ g ++ digit_of p ∷ [] → in_comment false d ≡ false → 0 < length (filter is_pixel_digit (signs d))
-digits_behind d g p e c =
+digits_after : (d g : List ℕ) (p : Bool) → d ≡ g ++ digit_of p ∷ [] → in_comment false d ≡ false
+    → 0 < length (filter is_pixel_digit (signs d))
+digits_after d g p e c =
     let inside = in_comment false g in
-    let shut : in_comment inside (digit_of p ∷ []) ≡ false = sym (in_comment-append false g (digit_of p ∷ [])) ∙ ap (in_comment false) (sym e) ∙ c in
-    let text : signs d ≡ signs g ++ digit_of p ∷ [] = ap signs e ∙ signs-append false g (digit_of p ∷ []) ∙ ap (λ t. signs g ++ t) (shown_last inside (digit_of p) shut) in
+    let shut : in_comment inside (digit_of p ∷ []) ≡ false = sym (in_comment-append false g (digit_of p ∷ []))
+    ∙ ap (in_comment false) (sym e) ∙ c in
+    let text : signs d ≡ signs g ++ digit_of p ∷ [] = ap signs e ∙ signs-append false g (digit_of p ∷ [])
+    ∙ ap (λ t. signs g ++ t) (shown_last inside (digit_of p) shut) in
     let kept : filter is_pixel_digit (signs d) ≡ filter is_pixel_digit (signs g) ++ digit_of p ∷ [] =
-    ap (filter is_pixel_digit) text ∙ filter-append is_pixel_digit (signs g) (digit_of p ∷ []) ∙ ap (λ t. filter is_pixel_digit (signs g) ++ t) (digit_kept p) in
+    ap (filter is_pixel_digit) text ∙ filter-append is_pixel_digit (signs g) (digit_of p ∷ [])
+    ∙ ap (λ t. filter is_pixel_digit (signs g) ++ t) (digit_kept p) in
     rw kept (simp length-append (omega arith))
 
 pub no_more : (d : List ℕ) → (0 < length d → ⊥) → d ≡ []
@@ -131,19 +146,23 @@ no_more (b ∷ d) n = absurd (n (omega arith))
 -- a plain raster that goes on with d is none of as many pixels, unless d is nothing
 plain_ends : (a d : List ℕ) (count : ℕ) (p q : List Bool) → IsPlainRaster a count p → IsPlainRaster (a ++ d) count q → (d ≡ []) × (p ≡ q)
 plain_ends a d count p q r s =
-    let b = signs_behind a d r.closed in
+    let b = signs_after a d r.closed in
     let shut = sym b.1 ∙ s.closed in
     let kept : map digit_of q ≡ map digit_of p ++ filter is_pixel_digit (signs d) =
-    sym s.shows.digits ∙ ap (filter is_pixel_digit) b.0 ∙ filter-append is_pixel_digit (signs a) (signs d) ∙ ap (λ t. t ++ filter is_pixel_digit (signs d)) r.shows.digits in
+    sym s.shows.digits ∙ ap (filter is_pixel_digit) b.0 ∙ filter-append is_pixel_digit (signs a) (signs d)
+    ∙ ap (λ t. t ++ filter is_pixel_digit (signs d)) r.shows.digits in
     let long : length q ≡ length p + length (filter is_pixel_digit (signs d)) =
-    sym (length-digits q) ∙ ap length kept ∙ length-append (map digit_of p) (filter is_pixel_digit (signs d)) ∙ ap (λ n. n + length (filter is_pixel_digit (signs d))) (length-digits p) in
+    sym (length-digits q) ∙ ap length kept ∙ length-append (map digit_of p) (filter is_pixel_digit (signs d))
+    ∙ ap (λ n. n + length (filter is_pixel_digit (signs d))) (length-digits p) in
     let none : length (filter is_pixel_digit (signs d)) ≡ 0 = omega (arith, r.count_is, s.count_is) in
-    let empty : d ≡ [] = no_more d (λ n. let last = last_behind a d s.front (digit_of s.last) s.ends n in
-    let some = digits_behind d last.0 s.last last.1 shut in omega arith) in
-    let same : map digit_of q ≡ map digit_of p = kept ∙ ap (λ t. map digit_of p ++ filter is_pixel_digit (signs t)) empty ∙ append-nil (map digit_of p) in
+    let empty : d ≡ [] = no_more d (λ n. let last = last_after a d s.front (digit_of s.last) s.ends n in
+    let some = digits_after d last.0 s.last last.1 shut in omega arith) in
+    let same : map digit_of q ≡ map digit_of p = kept ∙ ap (λ t. map digit_of p ++ filter is_pixel_digit (signs t)) empty
+    ∙ append-nil (map digit_of p) in
     (empty, sym (same_digits q p same))
 
-one_plain : (a b x y : List ℕ) (count : ℕ) (p q : List Bool) → IsPlainRaster a count p → IsPlainRaster b count q → a ++ x ≡ b ++ y → (a ≡ b) × (p ≡ q)
+one_plain : (a b x y : List ℕ) (count : ℕ) (p q : List Bool) → IsPlainRaster a count p → IsPlainRaster b count q
+    → a ++ x ≡ b ++ y → (a ≡ b) × (p ≡ q)
 one_plain a b x y count p q r s e =
     elim (fronts a b x y e) [
       | inl d ↦ let m = plain_ends a d.0 count p q r (rw d.1 at s) in
@@ -152,11 +171,13 @@ one_plain a b x y count p q r s e =
           (d.1 ∙ ap (λ t. b ++ t) m.0 ∙ append-nil b, sym m.1)
     ]
 
-one_raster : (plain : Bool) (a b x y : List ℕ) (w h : ℕ) (p q : List Bool) → IsRaster plain a w h p → IsRaster plain b w h q → a ++ x ≡ b ++ y → (a ≡ b) × (p ≡ q)
+one_raster : (plain : Bool) (a b x y : List ℕ) (w h : ℕ) (p q : List Bool) → IsRaster plain a w h p
+    → IsRaster plain b w h q → a ++ x ≡ b ++ y → (a ≡ b) × (p ≡ q)
 one_raster true a b x y w h p q r s e = one_plain a b x y (w * h) p q r s e
 one_raster false a b x y w h p q r s e = one_packed a b x y w h p q r s e
 
-pub one_header : (a b x y : List ℕ) (w h w' h' : ℕ) → IsHeaderBody a w h → IsHeaderBody b w' h' → a ++ x ≡ b ++ y → (a ≡ b) × (min w 1025 ≡ min w' 1025) × (min h 1025 ≡ min h' 1025)
+pub one_header : (a b x y : List ℕ) (w h w' h' : ℕ) → IsHeaderBody a w h → IsHeaderBody b w' h' → a ++ x ≡ b ++ y
+    → (a ≡ b) × (min w 1025 ≡ min w' 1025) × (min h 1025 ≡ min h' 1025)
 one_header a b x y w h w' h' p q e =
     elim (fronts a b x y e) [
       | inl d ↦ let m = header_ends a d.0 w h w' h' p (rw d.1 at q) in
@@ -171,32 +192,39 @@ one_magic false false x y e = (refl, cc)
 one_magic true false x y e = let h : ◌≡◌ {A = ℕ} 49 52 = cc in absurd (omega arith)
 one_magic false true x y e = let h : ◌≡◌ {A = ℕ} 52 49 = cc in absurd (omega arith)
 
-same_picture : (p q : Picture) → p.width ≡ q.width → p.height ≡ q.height → p.pixels ≡ q.pixels → p.plain ≡ q.plain → p ≡ q
+-- pictures with the same fields
+pub same_picture : (p q : Picture) → p.width ≡ q.width → p.height ≡ q.height → p.pixels ≡ q.pixels → p.plain ≡ q.plain → p ≡ q
 same_picture p q w h x f = λ i. record { width = w i; height = h i; pixels = x i; plain = f i }
 
 pub capped_same : (m n : ℕ) → m ≤ 1024 → n ≤ 1024 → min m 1025 ≡ min n 1025 → m ≡ n
 capped_same m n a b e = omega arith
 
-pub raster_moved : (b c : Bool) (raster : List ℕ) (w h w' h' : ℕ) (pixels : List Bool) → b ≡ c → w ≡ w' → h ≡ h' → IsRaster c raster w' h' pixels → IsRaster b raster w h pixels
+pub raster_moved : (b c : Bool) (raster : List ℕ) (w h w' h' : ℕ) (pixels : List Bool) → b ≡ c → w ≡ w' → h ≡ h'
+    → IsRaster c raster w' h' pixels → IsRaster b raster w h pixels
 raster_moved b c raster w h w' h' pixels e f g r = rw (e, f, g) r
 
-one_behind : (a b x y : List ℕ) (p q : Picture) → p.plain ≡ q.plain → SpellsBehind a p → SpellsBehind b q → a ++ x ≡ b ++ y → (a ≡ b) × (p ≡ q)
-one_behind a b x y p q form r s e =
+one_after_magic : (a b x y : List ℕ) (p q : Picture) → p.plain ≡ q.plain → SpellsAfterMagic a p → SpellsAfterMagic b q
+    → a ++ x ≡ b ++ y → (a ≡ b) × (p ≡ q)
+one_after_magic a b x y p q form r s e =
     let split : r.body ++ (r.raster ++ x) ≡ s.body ++ (s.raster ++ y) =
-    sym (append_assoc r.body r.raster x) ∙ ap (λ t. t ++ x) (sym r.bytes_are) ∙ e ∙ ap (λ t. t ++ y) s.bytes_are ∙ append_assoc s.body s.raster y in
-    let head = one_header r.body s.body (r.raster ++ x) (s.raster ++ y) p.width p.height q.width q.height r.header.header s.header.header split in
+    sym (append_assoc r.body r.raster x) ∙ ap (λ t. t ++ x) (sym r.bytes_are) ∙ e ∙ ap (λ t. t ++ y) s.bytes_are
+    ∙ append_assoc s.body s.raster y in
+    let head = one_header r.body s.body (r.raster ++ x)
+    (s.raster ++ y) p.width p.height q.width q.height r.header.header s.header.header split in
     let w = capped_same p.width q.width r.header.width_within s.header.width_within head.1 in
     let h = capped_same p.height q.height r.header.height_within s.header.height_within head.2 in
     let rest = same_fronts r.body s.body (r.raster ++ x) (s.raster ++ y) (ap length head.0) split in
-    let one = one_raster p.plain r.raster s.raster x y p.width p.height p.pixels q.pixels r.raster_is (raster_moved p.plain q.plain s.raster p.width p.height q.width q.height q.pixels form w h s.raster_is) rest.1 in (
+    let one = one_raster p.plain r.raster s.raster x y p.width p.height p.pixels q.pixels r.raster_is
+    (raster_moved p.plain q.plain s.raster p.width p.height q.width q.height q.pixels form w h s.raster_is) rest.1 in (
       r.bytes_are ∙ ap (λ t. t ++ r.raster) head.0 ∙ ap (λ t. s.body ++ t) one.0 ∙ sym s.bytes_are,
       same_picture p q w h one.1 form,
     )
 
 pub one_image : HasOneImage
 one_image a b x y p q r s e =
-    let split : magic p.plain ++ (r.behind ++ x) ≡ magic q.plain ++ (s.behind ++ y) =
-    sym (append_assoc (magic p.plain) r.behind x) ∙ ap (λ t. t ++ x) (sym r.bytes_are) ∙ e ∙ ap (λ t. t ++ y) s.bytes_are ∙ append_assoc (magic q.plain) s.behind y in
-    let m = one_magic p.plain q.plain (r.behind ++ x) (s.behind ++ y) split in
-    let one = one_behind r.behind s.behind x y p q m.0 r.spells s.spells m.1 in
-    (r.bytes_are ∙ ap (λ f. magic f ++ r.behind) m.0 ∙ ap (λ t. magic q.plain ++ t) one.0 ∙ sym s.bytes_are, one.1)
+    let split : magic p.plain ++ (r.rest ++ x) ≡ magic q.plain ++ (s.rest ++ y) =
+    sym (append_assoc (magic p.plain) r.rest x) ∙ ap (λ t. t ++ x) (sym r.bytes_are) ∙ e ∙ ap (λ t. t ++ y) s.bytes_are
+    ∙ append_assoc (magic q.plain) s.rest y in
+    let m = one_magic p.plain q.plain (r.rest ++ x) (s.rest ++ y) split in
+    let one = one_after_magic r.rest s.rest x y p q m.0 r.spells s.spells m.1 in
+    (r.bytes_are ∙ ap (λ f. magic f ++ r.rest) m.0 ∙ ap (λ t. magic q.plain ++ t) one.0 ∙ sym s.bytes_are, one.1)

@@ -30,7 +30,8 @@ bits_single : (b : ℕ) → flat_map bits (b ∷ []) ≡ bits b
 bits_single b = append-nil (bits b)
 
 -- one more byte of a row
-pub row_more : (width at b : ℕ) (row : List ℕ) → length row ≡ at → 8 * at < width → row_of width (row ++ b ∷ []) ≡ row_of width row ++ take (min (width - 8 * at) 8) (bits b)
+pub row_more : (width at b : ℕ) (row : List ℕ) → length row ≡ at → 8 * at < width
+    → row_of width (row ++ b ∷ []) ≡ row_of width row ++ take (min (width - 8 * at) 8) (bits b)
 row_more width at b row n room =
     let long : length (flat_map bits row) ≡ 8 * at = length-bits row ∙ ap (λ k. 8 * k) n in
     let whole : row_of width row ≡ flat_map bits row = take_all width (flat_map bits row) (omega arith) in
@@ -51,33 +52,41 @@ all-append : {X : Type 0} (P : X → Type 0) (xs : List X) (x : X) → AllByRecu
 all-append P [] x h p = (p, tt)
 all-append P (y ∷ xs) x h p = (h.0, all-append P xs x h.1 p)
 
-pub packed_more : (raster row : List ℕ) (width height : ℕ) (pixels : List Bool) → IsPackedRaster raster width height pixels → length row ≡ stride width → IsPackedRaster (raster ++ row) width (height + 1) (pixels ++ row_of width row)
+pub packed_more : (raster row : List ℕ) (width height : ℕ) (pixels : List Bool)
+    → IsPackedRaster raster width height pixels → length row ≡ stride width
+    → IsPackedRaster (raster ++ row) width (height + 1) (pixels ++ row_of width row)
 packed_more raster row width height pixels p n = record {
   rows = p.rows ++ row ∷ [];
   count = let e = p.count in simp length-append (omega arith);
   each = all-append (λ r. length r ≡ stride width) p.rows row p.each n;
   raster_is = sym (concat-append p.rows (row ∷ []) ∙ ap (λ r. concat p.rows ++ r) (append-nil row) ∙ ap (λ r. r ++ row) (sym p.raster_is));
-  pixels_are = sym (flat_map-append (row_of width) p.rows (row ∷ []) ∙ ap (λ r. flat_map (row_of width) p.rows ++ r) (append-nil (row_of width row)) ∙ ap (λ r. r ++ row_of width row) (sym p.pixels_are));
+  pixels_are = sym (flat_map-append (row_of width) p.rows (row ∷ [])
+      ∙ ap (λ r. flat_map (row_of width) p.rows ++ r) (append-nil (row_of width row)) ∙ ap (λ r. r ++ row_of width row) (sym p.pixels_are));
 }
 
 length-concat : (n : ℕ) (rows : List (List ℕ)) → AllByRecursion (λ r. length r ≡ n) rows → length (concat rows) ≡ length rows * n
 length-concat n [] h = omega arith
 length-concat n (r ∷ rows) h = let e = length-concat n rows h.1 in let f = h.0 in simp length-append (grind arith)
 
-pub length-packed : (raster : List ℕ) (width height : ℕ) (pixels : List Bool) → IsPackedRaster raster width height pixels → length raster ≡ height * stride width
-length-packed raster width height pixels p = ap length p.raster_is ∙ length-concat (stride width) p.rows p.each ∙ ap (λ n. n * stride width) p.count
+pub length-packed : (raster : List ℕ) (width height : ℕ) (pixels : List Bool) → IsPackedRaster raster width height pixels
+    → length raster ≡ height * stride width
+length-packed raster width height pixels p = ap length p.raster_is ∙ length-concat (stride width) p.rows p.each
+    ∙ ap (λ n. n * stride width) p.count
 
 pub part_of : (row height n part : ℕ) → row < height → part < n → row * n + part < height * n
-part_of row height n part h p = let h' : row + 1 ≤ height = omega arith in let m : (row + 1) * n ≤ height * n = mul-le-mul_right n h' in grind arith
+part_of row height n part h p = let h' : row + 1 ≤ height = omega arith in let m :
+    (row + 1) * n ≤ height * n = mul-le-mul_right n h' in grind arith
 
 -- one more sign of a plain raster
-pub white_more : (text : List ℕ) (s : ℕ) (pixels : List Bool) → ShowsPixels text pixels → is_white s ≡ true → ShowsPixels (text ++ s ∷ []) pixels
+pub white_more : (text : List ℕ) (s : ℕ) (pixels : List Bool) → ShowsPixels text pixels → is_white s ≡ true
+    → ShowsPixels (text ++ s ∷ []) pixels
 white_more text s pixels p h =
     let sign : is_plain_sign s ≡ true = rw h refl in
     let other : is_pixel_digit s ≡ false = grind (arith, nat_tests) in
     record {
       allowed = list_all-append is_plain_sign text (s ∷ []) ∙ rw (p.allowed, sign) refl;
-      digits = filter-append is_pixel_digit text (s ∷ []) ∙ ap (λ t. filter is_pixel_digit text ++ cond t (s ∷ []) []) other ∙ append-nil (filter is_pixel_digit text) ∙ p.digits;
+      digits = filter-append is_pixel_digit text (s ∷ [])
+          ∙ ap (λ t. filter is_pixel_digit text ++ cond t (s ∷ []) []) other ∙ append-nil (filter is_pixel_digit text) ∙ p.digits;
     }
 
 digit_allowed : (pixel : Bool) → list_all is_plain_sign (digit_of pixel ∷ []) ≡ true
@@ -88,7 +97,8 @@ pub digit_kept : (pixel : Bool) → filter is_pixel_digit (digit_of pixel ∷ []
 digit_kept true = refl
 digit_kept false = refl
 
-pub digit_more : (text : List ℕ) (pixel : Bool) (pixels : List Bool) → ShowsPixels text pixels → ShowsPixels (text ++ digit_of pixel ∷ []) (pixels ++ pixel ∷ [])
+pub digit_more : (text : List ℕ) (pixel : Bool) (pixels : List Bool) → ShowsPixels text pixels
+    → ShowsPixels (text ++ digit_of pixel ∷ []) (pixels ++ pixel ∷ [])
 digit_more text pixel pixels p = record {
   allowed = list_all-append is_plain_sign text (digit_of pixel ∷ []) ∙ rw p.allowed (digit_allowed pixel);
   digits = filter-append is_pixel_digit text (digit_of pixel ∷ []) ∙ ap (λ t. filter is_pixel_digit text ++ t) (digit_kept pixel)

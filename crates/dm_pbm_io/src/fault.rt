@@ -1,20 +1,157 @@
-//! Why no image was read.
+//! What is refused.
+
+ghost use Rattle.std.specs.Prelude.{◌≡◌};
+ghost use Rattle.dm_pbm_io.specs.FaultNames.{pbm_fault_name, shape_fault_name};
+ghost use Rattle.dm_pbm_io.specs.declared.fault.HeaderFault.TheVariants as header_faults;
+ghost use Rattle.dm_pbm_io.specs.declared.fault.RasterFault.TheVariants as raster_faults;
+ghost use Rattle.dm_pbm_io.specs.declared.fault.ShapeFault.TheVariants as shape_faults;
+ghost use Rattle.dm_pbm_io.specs.inner.Narrow.{byte_fault, header_fault, raster_fault};
+
+use std::alloc::AllocError;
+use thiserror::Error;
 
 /// Why no image was read.
-#[derive(Clone, Copy, Debug, PartialEq, Eq)]
+#[derive(Clone, Copy, Debug, PartialEq, Eq, Error)]
 pub enum PbmFault {
-    /// The first two bytes are no magic number.
+    /// The first two bytes are not `P1` or `P4`, or there is one byte alone.
+    #[error("the input does not begin with P1 or P4")]
     Magic,
-    /// A byte that the header can't have there.
+    /// A byte that the header can't have there, a width or height of 0, or a header of more than 4,096 bytes.
+    #[error("the header is invalid")]
     Header,
-    /// Too wide, too high, or a plain raster of too many bytes.
+    /// Wider or higher than 1,024, or a plain raster of more than 4,194,304 bytes.
+    #[error("the image is too large")]
     TooLarge,
     /// The input ends inside the image.
+    #[error("the input ends inside the image")]
     Cut,
     /// A byte that a plain raster can't have.
+    #[error("the raster has a byte that is no pixel")]
     Pixel,
     /// The reader failed.
+    #[error("the input could not be read")]
     Read,
-    /// No memory for the pixels.
+    /// The allocator refused memory for the pixels.
+    #[error("out of memory")]
     Memory,
+}
+
+impl PbmFault {
+    /// The fault's own name.
+    pub fn name(self) -> &'static str
+        ensures { result.now ≡ pbm_fault_name self }
+    {
+        match self {
+            PbmFault::Magic => "Magic",
+            PbmFault::Header => "Header",
+            PbmFault::TooLarge => "TooLarge",
+            PbmFault::Cut => "Cut",
+            PbmFault::Pixel => "Pixel",
+            PbmFault::Read => "Read",
+            PbmFault::Memory => "Memory",
+        }
+    }
+}
+
+/// Why an image is no grid.
+#[derive(Clone, Copy, Debug, PartialEq, Eq, Error)]
+pub enum ShapeFault {
+    /// It isn't square, its side less the quiet zone is not that of a symbol, or it hasn't all its pixels.
+    #[error("the image has not the shape of a symbol")]
+    Shape,
+    /// The allocator refused memory for the modules.
+    #[error("out of memory")]
+    Memory,
+}
+
+impl ShapeFault {
+    /// The fault's own name.
+    pub fn name(self) -> &'static str
+        ensures { result.now ≡ shape_fault_name self }
+    {
+        match self {
+            ShapeFault::Shape => "Shape",
+            ShapeFault::Memory => "Memory",
+        }
+    }
+}
+
+impl From<AllocError> for ShapeFault {
+    ghost from_gives = { λ _ fault. fault ≡ shape_faults.Memory };
+
+    fn from(_: AllocError) -> Self {
+        ShapeFault::Memory
+    }
+}
+
+/// Why no byte came where one was needed.
+#[derive(Clone, Copy)]
+pub(crate) enum ByteFault {
+    Cut,
+    Read,
+}
+
+/// Why a header was not read.
+#[derive(Clone, Copy)]
+pub(crate) enum HeaderFault {
+    Header,
+    Byte(ByteFault),
+}
+
+/// Why a raster was not read.
+#[derive(Clone, Copy)]
+pub(crate) enum RasterFault {
+    TooLarge,
+    Pixel,
+    Byte(ByteFault),
+}
+
+impl From<ByteFault> for HeaderFault {
+    ghost from_gives = { λ fault whole. whole ≡ header_faults.Byte fault };
+
+    fn from(fault: ByteFault) -> Self {
+        HeaderFault::Byte(fault)
+    }
+}
+
+impl From<ByteFault> for RasterFault {
+    ghost from_gives = { λ fault whole. whole ≡ raster_faults.Byte fault };
+
+    fn from(fault: ByteFault) -> Self {
+        RasterFault::Byte(fault)
+    }
+}
+
+impl From<ByteFault> for PbmFault {
+    ghost from_gives = { λ fault whole. whole ≡ byte_fault fault };
+
+    fn from(fault: ByteFault) -> Self {
+        match fault {
+            ByteFault::Cut => PbmFault::Cut,
+            ByteFault::Read => PbmFault::Read,
+        }
+    }
+}
+
+impl From<HeaderFault> for PbmFault {
+    ghost from_gives = { λ fault whole. whole ≡ header_fault fault };
+
+    fn from(fault: HeaderFault) -> Self {
+        match fault {
+            HeaderFault::Header => PbmFault::Header,
+            HeaderFault::Byte(fault) => PbmFault::from(fault),
+        }
+    }
+}
+
+impl From<RasterFault> for PbmFault {
+    ghost from_gives = { λ fault whole. whole ≡ raster_fault fault };
+
+    fn from(fault: RasterFault) -> Self {
+        match fault {
+            RasterFault::TooLarge => PbmFault::TooLarge,
+            RasterFault::Pixel => PbmFault::Pixel,
+            RasterFault::Byte(fault) => PbmFault::from(fault),
+        }
+    }
 }

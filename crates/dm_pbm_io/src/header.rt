@@ -1,25 +1,24 @@
 //! The header of an image.
 
-ghost use Rattle.std.specs.Prelude.{◌≡◌, ◌≤◌, IsTrue, IfSome};
+ghost use Rattle.std.specs.Prelude.{◌≡◌, ◌≤◌, ℕ, min, IsTrue, IfSome, List, MatchResult};
+ghost use Rattle.std.specs.Char.{is_ascii_digit};
 ghost use Rattle.dm_pbm_io.specs.Comments.{is_white, is_hidden};
-ghost use Rattle.dm_pbm_io.specs.Header.{is_digit};
-ghost use Rattle.std.specs.Prelude.{ℕ, min, List, MatchResult};
-ghost use Rattle.std.specs.Io.KnownBytes.{Consumes};
 ghost use Rattle.dm_pbm_io.specs.Header.{IsHeaderBody};
-ghost use Rattle.dm_pbm_io.specs.HeaderFaults.{StopsInHeader};
-ghost use Rattle.dm_pbm_io.specs.Walk.{next_place, with_digit, HasNumber};
+ghost use Rattle.dm_pbm_io.specs.Stops.{StopsInHeader};
+ghost use Rattle.dm_pbm_io.specs.inner.HeaderStates.{next_state, with_digit, HasNumber};
+ghost use Rattle.dm_pbm_io.specs.inner.Narrow.{header_fault};
+ghost use Rattle.dm_pbm_io.specs.inner.Streaming.{Takes, TakesUntil};
 
-use crate::bytes::next_byte;
-use crate::fault::PbmFault;
-use std::io::Read;
+use crate::fault::HeaderFault;
+use crate::limits::HEADER_BYTES;
+use crate::source::{ByteSource, next_byte};
 
-const HEADER_BYTES: u16 = 4096;
-
+/// What every width and height above the greatest is read as.
 const ABOVE_SIDES: u16 = 1025;
 
-/// Where in the text behind the magic number the reader is.
+/// How far the reader is in the text after the magic number; with the numbers that it has read.
 #[derive(Clone, Copy, Debug, PartialEq, Eq)]
-pub(crate) enum Place {
+pub(crate) enum HeaderState {
     AfterMagic,
     BeforeWidth,
     InWidth(u16),
@@ -35,13 +34,7 @@ pub(crate) fn is_white(byte: u8) -> bool
     matches!(byte, 9..=13 | 32)
 }
 
-fn is_digit(byte: u8) -> bool
-    ensures { result ≡ is_digit byte }
-{
-    byte.is_ascii_digit()
-}
-
-/// Whether a comment hides the byte, inside or outside of which it comes.
+/// Whether a comment hides the byte, which comes inside of one or outside.
 pub(crate) fn is_hidden(inside: bool, byte: u8) -> bool
     ensures { result ≡ is_hidden inside byte }
 {
@@ -55,64 +48,65 @@ pub(crate) fn is_hidden(inside: bool, byte: u8) -> bool
 /// The number with one more digit. Above the greatest side it stays.
 fn with_digit(number: u16, digit: u8) -> u16
     requires number { number ≤ 1025 }
-    requires digit { IsTrue (is_digit digit) }
+    requires digit { IsTrue (is_ascii_digit digit) }
     ensures { result ≡ with_digit number digit }
 {
     (10 * number + u16::from(digit - b'0')).min(ABOVE_SIDES)
 }
 
-impl Place {
-    /// The place behind one more sign, or None where no header has that sign.
-    pub(crate) fn next(self, sign: u8) -> Option<Place>
+impl HeaderState {
+    /// The state after one more sign, or `None` where no header has that sign.
+    pub(crate) fn next(self, sign: u8) -> Option<HeaderState>
         requires { HasNumber self }
-        ensures next { result ≡ next_place self sign }
+        ensures next { result ≡ next_state self sign }
         ensures number { IfSome result HasNumber }
     {
         let white = is_white(sign);
+        let digit = sign.is_ascii_digit();
         match self {
-            Place::AfterMagic if white => Some(Place::BeforeWidth),
-            Place::BeforeWidth if white => Some(self),
-            Place::BeforeWidth if is_digit(sign) => Some(Place::InWidth(with_digit(0, sign))),
-            Place::InWidth(n) if is_digit(sign) => Some(Place::InWidth(with_digit(n, sign))),
-            Place::InWidth(n) if white && n != 0 => Some(Place::BeforeHeight(n)),
-            Place::BeforeHeight(_) if white => Some(self),
-            Place::BeforeHeight(w) if is_digit(sign) => Some(Place::InHeight(
+            HeaderState::AfterMagic if white => Some(HeaderState::BeforeWidth),
+            HeaderState::BeforeWidth if white => Some(self),
+            HeaderState::BeforeWidth if digit => Some(HeaderState::InWidth(with_digit(0, sign))),
+            HeaderState::InWidth(n) if digit => Some(HeaderState::InWidth(with_digit(n, sign))),
+            HeaderState::InWidth(n) if white && n != 0 => Some(HeaderState::BeforeHeight(n)),
+            HeaderState::BeforeHeight(_) if white => Some(self),
+            HeaderState::BeforeHeight(w) if digit => Some(HeaderState::InHeight(
                 w,
                 with_digit(0, sign),
             )),
-            Place::InHeight(w, n) if is_digit(sign) => Some(Place::InHeight(
+            HeaderState::InHeight(w, n) if digit => Some(HeaderState::InHeight(
                 w,
                 with_digit(n, sign),
             )),
-            Place::InHeight(w, n) if white && n != 0 => Some(Place::Done(w, n)),
+            HeaderState::InHeight(w, n) if white && n != 0 => Some(HeaderState::Done(w, n)),
             _ => None,
         }
     }
 }
 
-/// The width and the height that the header tells behind its magic number. What is above 1,025 is 1,025.
-pub(crate) fn read_size<R: Read>(reader: &mut R) -> Result<(u16, u16), PbmFault>
+/// The width and the height that the header gives after its magic number. What is above 1,025 is 1,025.
+pub(crate) fn read_size<M, S: ByteSource<M>>(source: &mut S) -> Result<(u16, u16), HeaderFault>
     ensures { MatchResult result
-        (λ size. (body : List ℕ) × (width : ℕ) × (height : ℕ)
-        × Consumes (R.remaining reader.old) (R.remaining reader.new) body
+        (λ size. (body : List ℕ) × (width : ℕ) × (height : ℕ) × Takes (S.view source.old) (S.view source.new) body
         × IsHeaderBody body width height × (size.0 ≡ min width 1025) × (size.1 ≡ min height 1025))
-        (λ fault. (body : List ℕ) × Consumes (R.remaining reader.old) (R.remaining reader.new) body
-        × StopsInHeader fault body (R.remaining reader.new)) }
+        (λ fault. (body : List ℕ)
+        × TakesUntil (S.view source.old) (S.view source.new) body (header_fault fault)
+        × StopsInHeader body (S.view source.new).remaining (header_fault fault)) }
 {
-    let mut place = Place::AfterMagic;
+    let mut state = HeaderState::AfterMagic;
     let mut inside = false;
     for count in 2..HEADER_BYTES {
-        let byte = next_byte(reader)?;
+        let byte = next_byte(source)?;
         inside = is_hidden(inside, byte);
         if !inside {
-            place = match place.next(byte) {
-                None => return Err(PbmFault::Header),
+            state = match state.next(byte) {
+                None => return Err(HeaderFault::Header),
                 Some(next) => next,
             };
-            if let Place::Done(width, height) = place {
+            if let HeaderState::Done(width, height) = state {
                 return Ok((width, height));
             }
         }
     }
-    Err(PbmFault::Header)
+    Err(HeaderFault::Header)
 }

@@ -3,18 +3,20 @@
 ghost use Rattle.std.specs.Prelude.{◌≡◌, ◌<◌, ◌≤◌, ◌*◌, ℕ, List, [], ◌∷◌, vec_capacity, MatchResult, MatchOption};
 ghost use Rattle.std.specs.Io.KnownBytes.{Consumes, Keeps, IsAtEnd};
 ghost use Rattle.dm_pbm_io.specs.Header.{magic};
-ghost use Rattle.dm_pbm_io.specs.Image.{IsNoMagic, IsRaster, StopsInRaster, Spells, SpellsBehind, Refuses, RefusesBehind};
+ghost use Rattle.dm_pbm_io.specs.Image.{IsNoMagic, IsRaster, Spells, SpellsAfterMagic, Refuses, RefusesAfterMagic};
+ghost use Rattle.dm_pbm_io.specs.Stops.{StopsInRaster};
 ghost use Rattle.dm_pbm_io.specs.Shown.{picture};
+ghost use Rattle.dm_pbm_io.specs.inner.Narrow.{raster_fault};
+ghost use Rattle.dm_pbm_io.specs.inner.Streaming.{FindsEnd, Takes, TakesUntil};
 
-use crate::bytes::read_byte;
-use crate::fault::PbmFault;
+use crate::fault::{PbmFault, RasterFault};
 use crate::header::read_size;
+use crate::limits::GREATEST_SIDE;
 use crate::raster::{read_packed, read_plain};
+use crate::source::{ByteSource, read_byte};
+use relay_streams::Input;
 use std::alloc::{Allocator, Global};
 use std::io::Read;
-
-/// The greatest width and the greatest height.
-pub const GREATEST_SIDE: u16 = 1024;
 
 /// An image of black and white pixels, row by row; true is black.
 #[derive(Drop)]
@@ -22,6 +24,7 @@ pub struct Image<A: Allocator = Global> {
     pub width: u16,
     pub height: u16,
     pub pixels: Vec<bool, A>,
+    /// Whether its form is plain (`P1`), and not packed (`P4`).
     pub plain: bool,
 }
 
@@ -39,19 +42,18 @@ fn magic_of(first: u8, second: u8) -> Option<bool>
     }
 }
 
-/// Whether an image of a plain raster begins, or None at the end of the input.
-fn read_magic<R: Read>(reader: &mut R) -> Result<Option<bool>, PbmFault>
+/// Whether an image of a plain raster begins, or `None` at the end of the input.
+fn read_magic<M, S: ByteSource<M>>(source: &mut S) -> Result<Option<bool>, PbmFault>
     ensures { MatchResult result
-        (λ found. MatchOption found
-        (Keeps (R.remaining reader.old) (R.remaining reader.new) × IsAtEnd (R.remaining reader.new))
-        (λ plain. Consumes (R.remaining reader.old) (R.remaining reader.new) (magic plain)))
-        (λ fault. (taken : List ℕ) × Consumes (R.remaining reader.old) (R.remaining reader.new) taken
-        × Refuses fault taken (R.remaining reader.new)) }
+        (λ found. MatchOption found (FindsEnd (S.view source.old) (S.view source.new))
+        (λ plain. Takes (S.view source.old) (S.view source.new) (magic plain)))
+        (λ fault. (taken : List ℕ) × TakesUntil (S.view source.old) (S.view source.new) taken fault
+        × Refuses fault taken (S.view source.new).remaining) }
 {
-    let Some(first) = read_byte(reader)? else {
+    let Some(first) = read_byte(source)? else {
         return Ok(None);
     };
-    let Some(second) = read_byte(reader)? else {
+    let Some(second) = read_byte(source)? else {
         return Err(PbmFault::Magic);
     };
     match magic_of(first, second) {
@@ -61,44 +63,44 @@ fn read_magic<R: Read>(reader: &mut R) -> Result<Option<bool>, PbmFault>
 }
 
 /// The pixels of an image, for which there is room.
-fn read_raster<R: Read, A: Allocator>(
-    reader: &mut R,
+fn read_raster<M, S: ByteSource<M>, A: Allocator>(
+    source: &mut S,
     pixels: &mut Vec<bool, A>,
     plain: bool,
     width: u16,
     height: u16,
-) -> Result<(), PbmFault>
+) -> Result<(), RasterFault>
     requires empty { pixels.old.items ≡ [] }
-    requires width { (0 < width) × (width ≤ 1024) }
-    requires height { (0 < height) × (height ≤ 1024) }
+    requires width { (0 < width) × (width ≤ GREATEST_SIDE) }
+    requires height { (0 < height) × (height ≤ GREATEST_SIDE) }
     requires room { width * height ≤ vec_capacity pixels.old }
     ensures { MatchResult result
-        (λ _. (raster : List ℕ) × Consumes (R.remaining reader.old) (R.remaining reader.new) raster
+        (λ _. (raster : List ℕ) × Takes (S.view source.old) (S.view source.new) raster
         × IsRaster plain raster width height pixels.new.items)
-        (λ fault. (raster : List ℕ) × Consumes (R.remaining reader.old) (R.remaining reader.new) raster
-        × StopsInRaster plain fault raster width height (R.remaining reader.new)) }
+        (λ fault. (raster : List ℕ) × TakesUntil (S.view source.old) (S.view source.new) raster (raster_fault fault)
+        × StopsInRaster plain raster width height (S.view source.new).remaining (raster_fault fault)) }
 {
     let (width, height) = (usize::from(width), usize::from(height));
     if plain {
-        read_plain(reader, pixels, width * height)
+        read_plain(source, pixels, width * height)
     } else {
-        read_packed(reader, pixels, width, height)
+        Ok(read_packed(source, pixels, width, height)?)
     }
 }
 
-/// The image behind its magic number.
-fn read_behind<R: Read, A: Allocator + Copy>(
+/// The image after its magic number.
+fn read_after_magic<M, S: ByteSource<M>, A: Allocator + Copy>(
     alloc: A,
-    reader: &mut R,
+    source: &mut S,
     plain: bool,
 ) -> Result<Image<A>, PbmFault>
     ensures { MatchResult result
-        (λ image. (taken : List ℕ) × Consumes (R.remaining reader.old) (R.remaining reader.new) taken
-        × SpellsBehind taken (picture image) × (image.plain ≡ plain))
-        (λ fault. (taken : List ℕ) × Consumes (R.remaining reader.old) (R.remaining reader.new) taken
-        × RefusesBehind plain fault taken (R.remaining reader.new)) }
+        (λ image. (taken : List ℕ) × Takes (S.view source.old) (S.view source.new) taken
+        × SpellsAfterMagic taken (picture image) × (image.plain ≡ plain))
+        (λ fault. (taken : List ℕ) × TakesUntil (S.view source.old) (S.view source.new) taken fault
+        × RefusesAfterMagic plain fault taken (S.view source.new).remaining) }
 {
-    let (width, height) = read_size(reader)?;
+    let (width, height) = read_size(source)?;
     if width > GREATEST_SIDE || height > GREATEST_SIDE {
         return Err(PbmFault::TooLarge);
     }
@@ -106,7 +108,7 @@ fn read_behind<R: Read, A: Allocator + Copy>(
     let Ok(mut pixels) = Vec::with_capacity(alloc, count) else {
         return Err(PbmFault::Memory);
     };
-    read_raster(reader, &mut pixels, plain, width, height)?;
+    read_raster(source, &mut pixels, plain, width, height)?;
     Ok(Image {
         width,
         height,
@@ -115,7 +117,32 @@ fn read_behind<R: Read, A: Allocator + Copy>(
     })
 }
 
-/// The next image, or None at the end of the input. No byte behind the image is taken.
+/// The next image of a source, or `None` at its end. No byte after the image is taken.
+fn read_from<M, S: ByteSource<M>, A: Allocator + Copy>(
+    alloc: A,
+    source: &mut S,
+) -> Result<Option<Image<A>>, PbmFault>
+    ensures { MatchResult result
+        (λ found. MatchOption found (FindsEnd (S.view source.old) (S.view source.new))
+        (λ image. (taken : List ℕ) × Takes (S.view source.old) (S.view source.new) taken
+        × Spells taken (picture image)))
+        (λ fault. (taken : List ℕ) × TakesUntil (S.view source.old) (S.view source.new) taken fault
+        × Refuses fault taken (S.view source.new).remaining) }
+{
+    let Some(plain) = read_magic(source)? else {
+        return Ok(None);
+    };
+    let image = read_after_magic(alloc, source, plain)?;
+    Ok(Some(image))
+}
+
+/// The next image, or `None` at the end of the input, from any reader. No byte after the image is taken.
+///
+/// Of a bare reader no contract can say that a read has failed. So here only tests limit the fault `Read` to a reader
+/// that failed; [`Image::read`] proves it.
+///
+/// # Errors
+/// As [`Image::read`].
 pub fn read_image<R: Read, A: Allocator + Copy>(
     alloc: A,
     reader: &mut R,
@@ -128,9 +155,32 @@ pub fn read_image<R: Read, A: Allocator + Copy>(
         (λ fault. (taken : List ℕ) × Consumes (R.remaining reader.old) (R.remaining reader.new) taken
         × Refuses fault taken (R.remaining reader.new)) }
 {
-    let Some(plain) = read_magic(reader)? else {
-        return Ok(None);
-    };
-    let image = read_behind(alloc, reader, plain)?;
-    Ok(Some(image))
+    read_from(alloc, reader)
+}
+
+impl<A: Allocator + Copy> Image<A> {
+    ghost use Rattle.std.specs.Prelude.{◌≡◌, ◌⊎◌, ℕ, List, true, IsErrOf, MatchResult, MatchOption};
+    ghost use Rattle.std.specs.Io.KnownBytes.{Consumes, Keeps, IsAtEnd};
+    ghost use Rattle.dm_pbm_io.specs.Image.{Spells, Refuses};
+    ghost use Rattle.dm_pbm_io.specs.Shown.{picture};
+
+    /// The next image, or `None` at the end of the input. No byte after the image is taken.
+    ///
+    /// # Errors
+    /// `Magic`, `Header`, `TooLarge`, `Cut` and `Pixel` at the first byte with which no image goes on, or at the end
+    /// of the input inside an image; `Memory` after the header, where the allocator refuses the pixels; `Read` where a
+    /// read failed.
+    pub fn read<R: Read>(alloc: A, input: &mut Input<R>) -> Result<Option<Image<A>>, PbmFault>
+        ensures read { MatchResult result
+            (λ found. MatchOption found
+            (Keeps input.old.remaining input.new.remaining × IsAtEnd input.new.remaining)
+            (λ image. (taken : List ℕ) × Consumes input.old.remaining input.new.remaining taken
+            × Spells taken (picture image)))
+            (λ fault. (taken : List ℕ) × Consumes input.old.remaining input.new.remaining taken
+            × Refuses fault taken input.new.remaining) }
+        ensures failed { IsErrOf result PbmFault.Read → input.new.has_failed ≡ true }
+        ensures kept { IsErrOf result PbmFault.Read ⊎ (input.new.has_failed ≡ input.old.has_failed) }
+    {
+        read_from(alloc, input)
+    }
 }

@@ -1,7 +1,9 @@
 //! The laws of reading and writing.
 
+ghost use Rattle.std.specs.Prelude.{Bool};
+ghost use Rattle.dm_finder_frame.specs.Grids.{GridView, IsWholeGrid};
 ghost use Rattle.dm_pbm_io.specs.Image.{Picture};
-ghost use Rattle.dm_pbm_io.specs.Laws.{HasOneImage, IsNotRefused, IsReadable, IsReadBack, IsWrittenReadable};
+ghost use Rattle.dm_pbm_io.specs.Laws.{HasOneImage, IsNotRefused, IsReadable, IsReadBack, IsTakenBack, IsWrittenReadable};
 
 /// What is written for an image that can be read begins with a spelling of that image.
 pub fn written_is_readable()
@@ -21,4 +23,9 @@ pub fn not_refused()
 /// What is written for an image is read as that image.
 pub fn read_back()
     ensures { (p : Picture) → IsReadable p → IsReadBack p }
+{}
+
+/// The grid inside the quiet zone of a grid's image is that grid.
+pub fn taken_back()
+    ensures { (g : GridView) (plain : Bool) → IsWholeGrid g → IsTakenBack g plain }
 {}

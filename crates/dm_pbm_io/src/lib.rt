@@ -1,30 +1,36 @@
 //! Images of symbols in Netpbm's PBM: packed (`P4`) and plain (`P1`).
 //!
-//! [`read_image`] reads one image from a reader, one byte at a time and no byte past it, so that several images may
-//! follow one another; [`write_image`] writes one. [`image_of`] draws a grid inside its quiet zone, [`grid_of`] takes
-//! the grid out of an image. Where this project is more lenient than Netpbm's manual pages, the definitions in
-//! `specs/` say so.
+//! [`Image::read`] reads one image from an [`Input`](relay_streams::Input), one byte at a time and no byte past it, so
+//! that several images may follow one another; [`Image::write`] writes one to an [`Output`](relay_streams::Output),
+//! row by row. [`read_image`] and [`write_image`] do the same over any reader and writer. [`image_of`] draws a grid
+//! inside its quiet zone, [`grid_of`] takes the grid out of an image. Where this project is more lenient than Netpbm's
+//! manual pages, the definitions in `specs/` say so.
 //!
 //! Proved: the bytes taken spell the image that was read, and no other; each refusal comes exactly where the
-//! definitions put it; what is written is the definition's text, and reads back as the image; `grid_of` refuses
-//! exactly the images that have not the shape of a symbol.
+//! definitions put it; what is written is the definition's text, and reads back as the image; `Image::read` answers
+//! `Read`, and `Image::write` its fault, only where the input or the output has failed; the image of a grid is the
+//! definition's picture, and gives that grid back; `grid_of` refuses exactly the images that have not the shape of a
+//! symbol. Only tested: that `read_image` and `write_image` answer those faults only where the reader or the writer
+//! failed.
 #![tactic(auto)]
 
-mod bytes;
 mod fault;
 mod header;
 mod image;
 pub mod laws;
-mod quiet;
+mod limits;
 mod raster;
-mod shape;
+mod sink;
+mod source;
+mod symbol_image;
 mod write;
 
-pub use fault::PbmFault;
-pub use image::{GREATEST_SIDE, Image, read_image};
-pub use quiet::image_of;
-pub use shape::{ShapeFault, grid_of};
-pub use write::{WriteFault, write_image};
+pub use fault::{PbmFault, ShapeFault};
+pub use image::{Image, read_image};
+pub use limits::{GREATEST_SIDE, HEADER_BYTES, PLAIN_BYTES};
+pub use relay_streams::WriteFault;
+pub use symbol_image::{grid_of, image_of};
+pub use write::write_image;
 
 #[cfg(test)]
 mod tests;

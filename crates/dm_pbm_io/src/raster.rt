@@ -1,18 +1,16 @@
 //! The rasters of packed and plain images.
 
-ghost use Rattle.std.specs.Prelude.{◌≡◌, ℕ, ◌+◌, ◌*◌, ◌<◌, ◌≤◌, List, [], ◌∷◌, ◌++◌, Bool, length, take, vec_len, vec_capacity, MatchResult, MatchOption, false};
-ghost use Rattle.std.specs.Io.KnownBytes.{Consumes};
+ghost use Rattle.std.specs.Prelude.{◌≡◌, ℕ, ◌+◌, ◌*◌, ◌<◌, ◌≤◌, List, [], ◌∷◌, ◌++◌, length, take, vec_len, vec_capacity, MatchResult, MatchOption, false};
 ghost use Rattle.dm_pbm_io.specs.Raster.{bits, stride, row_of, digit_of, is_pixel_digit, IsPackedRaster, IsPlainRaster};
-ghost use Rattle.dm_pbm_io.specs.RasterFaults.{StopsInPlain, StopsInPacked};
-ghost use Rattle.dm_pbm_io.specs.Taking.{HasNoByte};
+ghost use Rattle.dm_pbm_io.specs.Stops.{HasNoByte, StopsInPlain, StopsInPacked};
+ghost use Rattle.dm_pbm_io.specs.inner.Narrow.{byte_fault, raster_fault};
+ghost use Rattle.dm_pbm_io.specs.inner.Streaming.{Takes, TakesUntil};
 
-use crate::bytes::next_byte;
-use crate::fault::PbmFault;
+use crate::fault::{ByteFault, RasterFault};
 use crate::header::{is_hidden, is_white};
+use crate::limits::{GREATEST_SIDE, PLAIN_BYTES};
+use crate::source::{ByteSource, next_byte};
 use std::alloc::Allocator;
-use std::io::Read;
-
-const PLAIN_BYTES: u32 = 4_194_304;
 
 /// Adds a pixel, for which there is room.
 fn push_pixel<A: Allocator>(pixels: &mut Vec<bool, A>, pixel: bool)
@@ -52,23 +50,23 @@ fn pixel_of(sign: u8) -> Option<bool>
 }
 
 /// The plain raster of `count` pixels.
-pub(crate) fn read_plain<R: Read, A: Allocator>(
-    reader: &mut R,
+pub(crate) fn read_plain<M, S: ByteSource<M>, A: Allocator>(
+    source: &mut S,
     pixels: &mut Vec<bool, A>,
     count: usize,
-) -> Result<(), PbmFault>
+) -> Result<(), RasterFault>
     requires empty { pixels.old.items ≡ [] }
     requires some { 0 < count }
     requires room { count ≤ vec_capacity pixels.old }
     ensures { MatchResult result
-        (λ _. (raster : List ℕ) × Consumes (R.remaining reader.old) (R.remaining reader.new) raster
+        (λ _. (raster : List ℕ) × Takes (S.view source.old) (S.view source.new) raster
         × IsPlainRaster raster count pixels.new.items)
-        (λ fault. (raster : List ℕ) × Consumes (R.remaining reader.old) (R.remaining reader.new) raster
-        × StopsInPlain fault raster count (R.remaining reader.new)) }
+        (λ fault. (raster : List ℕ) × TakesUntil (S.view source.old) (S.view source.new) raster (raster_fault fault)
+        × StopsInPlain raster count (S.view source.new).remaining (raster_fault fault)) }
 {
     let mut inside = false;
     for taken in 0..PLAIN_BYTES {
-        let byte = next_byte(reader)?;
+        let byte = next_byte(source)?;
         inside = is_hidden(inside, byte);
         if inside {
             continue;
@@ -77,57 +75,57 @@ pub(crate) fn read_plain<R: Read, A: Allocator>(
             continue;
         }
         let Some(pixel) = pixel_of(byte) else {
-            return Err(PbmFault::Pixel);
+            return Err(RasterFault::Pixel);
         };
         push_pixel(pixels, pixel);
         if pixels.len() == count {
             return Ok(());
         }
     }
-    Err(PbmFault::TooLarge)
+    Err(RasterFault::TooLarge)
 }
 
 /// One row of a packed raster.
-fn read_packed_row<R: Read, A: Allocator>(
-    reader: &mut R,
+fn read_packed_row<M, S: ByteSource<M>, A: Allocator>(
+    source: &mut S,
     pixels: &mut Vec<bool, A>,
     width: usize,
-) -> Result<(), PbmFault>
-    requires width { width ≤ 1024 }
+) -> Result<(), ByteFault>
+    requires width { width ≤ GREATEST_SIDE }
     requires room { vec_len pixels.old + width ≤ vec_capacity pixels.old }
     ensures bytes { MatchResult result
-        (λ _. (row : List ℕ) × Consumes (R.remaining reader.old) (R.remaining reader.new) row
+        (λ _. (row : List ℕ) × Takes (S.view source.old) (S.view source.new) row
         × (length row ≡ stride width) × (pixels.new.items ≡ pixels.old.items ++ row_of width row))
-        (λ fault. (part : List ℕ) × Consumes (R.remaining reader.old) (R.remaining reader.new) part
-        × (length part < stride width) × HasNoByte fault (R.remaining reader.new)) }
+        (λ fault. (part : List ℕ) × TakesUntil (S.view source.old) (S.view source.new) part (byte_fault fault)
+        × (length part < stride width) × HasNoByte (S.view source.new).remaining (byte_fault fault)) }
     ensures capacity { vec_capacity pixels.old ≤ vec_capacity pixels.new }
 {
     for at in 0..width.div_ceil(8) {
-        let byte = next_byte(reader)?;
+        let byte = next_byte(source)?;
         push_bits(pixels, byte, (width - 8 * at).min(8));
     }
     Ok(())
 }
 
 /// The packed raster of `height` rows.
-pub(crate) fn read_packed<R: Read, A: Allocator>(
-    reader: &mut R,
+pub(crate) fn read_packed<M, S: ByteSource<M>, A: Allocator>(
+    source: &mut S,
     pixels: &mut Vec<bool, A>,
     width: usize,
     height: usize,
-) -> Result<(), PbmFault>
+) -> Result<(), ByteFault>
     requires empty { pixels.old.items ≡ [] }
-    requires width { width ≤ 1024 }
-    requires height { height ≤ 1024 }
+    requires width { width ≤ GREATEST_SIDE }
+    requires height { height ≤ GREATEST_SIDE }
     requires room { width * height ≤ vec_capacity pixels.old }
     ensures { MatchResult result
-        (λ _. (raster : List ℕ) × Consumes (R.remaining reader.old) (R.remaining reader.new) raster
+        (λ _. (raster : List ℕ) × Takes (S.view source.old) (S.view source.new) raster
         × IsPackedRaster raster width height pixels.new.items)
-        (λ fault. (raster : List ℕ) × Consumes (R.remaining reader.old) (R.remaining reader.new) raster
-        × StopsInPacked fault raster width height (R.remaining reader.new)) }
+        (λ fault. (raster : List ℕ) × TakesUntil (S.view source.old) (S.view source.new) raster (byte_fault fault)
+        × StopsInPacked raster width height (S.view source.new).remaining (byte_fault fault)) }
 {
     for row in 0..height {
-        read_packed_row(reader, pixels, width)?;
+        read_packed_row(source, pixels, width)?;
     }
     Ok(())
 }

@@ -1,9 +1,10 @@
-//! Worked rows, and a reader and a writer that fail in mid-stream.
+//! Worked rows, and readers and writers that fail in mid-stream or are interrupted.
 
 ghost use Rattle.std.specs.Prelude.{◌≡◌, ◌*◌, IfOk, length};
 
 use crate::{Image, PbmFault, ShapeFault, grid_of, image_of, read_image, write_image};
 use dm_finder_frame::Grid;
+use relay_streams::{Input, Output};
 use std::alloc::{AllocError, Global};
 use std::io;
 use std::io::{Error, ErrorKind, Read, Write};
@@ -27,6 +28,54 @@ impl Read for FailingReader<'_> {
         buf[0] = self.bytes[0];
         self.bytes = &self.bytes[1..];
         self.passes -= 1;
+        Ok(1)
+    }
+}
+
+/// Gives its bytes one at a time, and is interrupted once before each of them and before its end.
+#[derive(Drop)]
+struct InterruptedReader<'a> {
+    bytes: &'a [u8],
+    rests: bool,
+}
+
+impl Read for InterruptedReader<'_> {
+    fn read(&mut self, buf: &mut [u8]) -> io::Result<usize> {
+        self.rests = !self.rests;
+        if self.rests {
+            return Err(Error::from(ErrorKind::Interrupted));
+        }
+        if buf.is_empty() || self.bytes.is_empty() {
+            return Ok(0);
+        }
+        buf[0] = self.bytes[0];
+        self.bytes = &self.bytes[1..];
+        Ok(1)
+    }
+}
+
+/// Gives its bytes, and then that many spaces.
+#[derive(Drop)]
+struct SpacesAfter<'a> {
+    bytes: &'a [u8],
+    spaces: u32,
+}
+
+impl Read for SpacesAfter<'_> {
+    fn read(&mut self, buf: &mut [u8]) -> io::Result<usize> {
+        if buf.is_empty() {
+            return Ok(0);
+        }
+        if !self.bytes.is_empty() {
+            buf[0] = self.bytes[0];
+            self.bytes = &self.bytes[1..];
+            return Ok(1);
+        }
+        if self.spaces == 0 {
+            return Ok(0);
+        }
+        buf[0] = b' ';
+        self.spaces -= 1;
         Ok(1)
     }
 }
@@ -58,11 +107,14 @@ impl Write for FailingWriter {
     }
 }
 
-fn fault_of(alloc: Global, mut bytes: &[u8]) -> Option<PbmFault> {
-    match read_image(alloc, &mut bytes) {
+/// The fault of an input, and whether its reader has failed.
+fn fault_of<R: Read + Drop>(alloc: Global, reader: R) -> (Option<PbmFault>, bool) {
+    let mut input = Input::new(reader);
+    let fault = match Image::read(alloc, &mut input) {
         Ok(_) => None,
         Err(fault) => Some(fault),
-    }
+    };
+    (fault, input.has_failed())
 }
 
 fn small(alloc: Global, plain: bool) -> Result<Image, AllocError>
@@ -101,7 +153,35 @@ fn refuses(rt: HostRuntime) {
         (b"P1 2 1\n1 #0\n", Some(PbmFault::Cut)),
     ];
     for (bytes, want) in rows {
-        assert_eq!(rt; fault_of(alloc, bytes), want, "{bytes:?}");
+        assert_eq!(rt; fault_of(alloc, bytes), (want, false), "{bytes:?}");
+        let interrupted = InterruptedReader {
+            bytes,
+            rests: false,
+        };
+        assert_eq!(rt;
+            fault_of(alloc, interrupted),
+            (want, false),
+            "interrupted, {bytes:?}"
+        );
+    }
+}
+
+#[test]
+fn refuses_at_its_limits(rt: HostRuntime) {
+    let alloc = rt.alloc();
+    let rows: [(&[u8], u32, PbmFault); 4] = [
+        (b"P4", 4_093, PbmFault::Cut),
+        (b"P4", 4_094, PbmFault::Header),
+        (b"P1 2 1\n1", 4_194_302, PbmFault::Cut),
+        (b"P1 2 1\n1", 4_194_303, PbmFault::TooLarge),
+    ];
+    for (bytes, spaces, want) in rows {
+        let reader = SpacesAfter { bytes, spaces };
+        assert_eq!(rt;
+            fault_of(alloc, reader),
+            (Some(want), false),
+            "{spaces} spaces"
+        );
     }
 }
 
@@ -114,49 +194,133 @@ fn writes_and_reads(rt: HostRuntime) -> Result<(), Fail> {
     ] {
         let image = small(alloc, plain)?;
         let mut bytes = Vec::new(alloc);
-        let written = write_image(&mut bytes, &image);
-        assert!(rt; written.is_ok());
-        assert_eq!(rt; bytes.as_slice(), want);
+        write_image(&mut bytes, &image)?;
+        assert_eq!(rt; bytes.as_slice(), want, "plain {plain}");
+        let mut output = Output::new(Vec::new(alloc));
+        image.write(&mut output)?;
+        assert_eq!(rt; output.into_writer().as_slice(), want, "plain {plain}");
         let mut rest = bytes.as_slice();
-        let read = read_image(alloc, &mut rest);
-        if let Ok(Some(again)) = read {
-            assert_eq!(rt; again.pixels.as_slice(), image.pixels.as_slice());
-            assert_eq!(rt; again.width, 10);
-        } else {
-            assert!(rt; false);
-        }
+        let again = read_image(alloc, &mut rest)?.ok_or("no image")?;
+        assert_eq!(rt;
+            again.pixels.as_slice(),
+            image.pixels.as_slice(),
+            "plain {plain}"
+        );
+        assert_eq!(rt; (again.width, again.height, again.plain), (10, 1, plain));
+        let mut interrupted = Input::new(InterruptedReader {
+            bytes: bytes.as_slice(),
+            rests: false,
+        });
+        let again = Image::read(alloc, &mut interrupted)?.ok_or("no image")?;
+        assert_eq!(rt;
+            again.pixels.as_slice(),
+            image.pixels.as_slice(),
+            "plain {plain}"
+        );
+        assert!(rt; !interrupted.has_failed());
     }
+    Ok(())
+}
+
+#[test]
+fn images_follow_one_another(rt: HostRuntime) -> Result<(), Fail> {
+    let alloc = rt.alloc();
+    let mut input = Input::new(b"P4 8 1\n\xffP4 1 2\n\x80\x00P1 1 1 1P".as_slice());
+    for (width, height) in [(8, 1), (1, 2), (1, 1)] {
+        let image = Image::read(alloc, &mut input)?.ok_or("no image")?;
+        assert_eq!(rt; (image.width, image.height), (width, height));
+    }
+    assert_eq!(rt; Image::read(alloc, &mut input).err(), Some(PbmFault::Magic));
+    assert!(rt; Image::read(alloc, &mut input)?.is_none());
+    assert!(rt; !input.has_failed());
     Ok(())
 }
 
 #[test]
 fn fails_in_mid_stream(rt: HostRuntime) -> Result<(), Fail> {
     let alloc = rt.alloc();
-    let image = small(alloc, false)?;
-    let mut whole = Vec::new(alloc);
-    assert!(rt; write_image(&mut whole, &image).is_ok());
-    for passes in 0..whole.len() {
-        let mut reader = FailingReader {
-            bytes: whole.as_slice(),
-            passes,
-        };
-        let read = read_image(alloc, &mut reader);
-        assert!(rt; matches!(&read, Err(PbmFault::Read)), "reader, {passes}");
-        let mut writer = FailingWriter {
-            bytes: Vec::new(alloc),
-            passes,
-        };
-        assert!(rt;
-            write_image(&mut writer, &image).is_err(),
-            "writer, {passes}"
-        );
-        assert!(rt; whole.as_slice().starts_with(writer.bytes.as_slice()));
-        assert_eq!(rt; writer.bytes.len(), passes);
+    for plain in [false, true] {
+        let image = small(alloc, plain)?;
+        let mut whole = Vec::new(alloc);
+        write_image(&mut whole, &image)?;
+        for passes in 0..whole.len() - 1 {
+            let mut bare = FailingReader {
+                bytes: whole.as_slice(),
+                passes,
+            };
+            let fault = read_image(alloc, &mut bare).err();
+            assert_eq!(rt; fault, Some(PbmFault::Read), "bare reader, {passes}");
+            let reader = FailingReader {
+                bytes: whole.as_slice(),
+                passes,
+            };
+            assert_eq!(rt;
+                fault_of(alloc, reader),
+                (Some(PbmFault::Read), true),
+                "{passes}"
+            );
+            let mut output = Output::new(FailingWriter {
+                bytes: Vec::new(alloc),
+                passes,
+            });
+            assert!(rt; image.write(&mut output).is_err(), "writer, {passes}");
+            assert!(rt; output.has_failed(), "writer, {passes}");
+            let written = output.into_writer().bytes;
+            assert!(rt; whole.starts_with(&written), "writer, {passes}");
+            assert_eq!(rt; written.len(), passes, "writer, {passes}");
+        }
     }
     Ok(())
 }
 
-// The symbol of side 10 that bears the digits 123456, as the standard draws it.
+// A black image of one row.
+fn black_row(alloc: Global, width: u16, plain: bool) -> Result<Image, AllocError>
+    ensures { IfOk result (λ image. length image.pixels.items ≡ image.width * image.height) }
+{
+    let pixels = vec![in alloc; true; usize::from(width)]?;
+    Ok(Image {
+        width,
+        height: 1,
+        pixels,
+        plain,
+    })
+}
+
+#[test]
+fn wide_rows_are_written(rt: HostRuntime) -> Result<(), Fail> {
+    let alloc = rt.alloc();
+    let mut packed = Vec::new(alloc);
+    write_image(&mut packed, &black_row(alloc, 2_500, false)?)?;
+    let (header, row) = packed.split_at(packed.len().min(10));
+    assert_eq!(rt; header, b"P4\n2500 1\n".as_slice());
+    assert_eq!(rt; row.len(), 313);
+    let (full, last) = row.split_at(row.len().min(312));
+    assert!(rt; full.iter().all(|byte| *byte == 0xff));
+    assert_eq!(rt; last, b"\xf0".as_slice());
+    let rows: [(u16, &[u8], [usize; 2]); 4] = [
+        (69, b"P1\n69 1\n", [69, 0]),
+        (70, b"P1\n70 1\n", [70, 0]),
+        (71, b"P1\n71 1\n", [70, 1]),
+        (140, b"P1\n140 1\n", [70, 70]),
+    ];
+    for (width, header, lines) in rows {
+        let mut want = Vec::from_slice(alloc, header)?;
+        for digits in lines {
+            for _ in 0..digits {
+                want.push(b'1')?;
+            }
+            if digits > 0 {
+                want.push(b'\n')?;
+            }
+        }
+        let mut plain = Vec::new(alloc);
+        write_image(&mut plain, &black_row(alloc, width, true)?)?;
+        assert_eq!(rt; plain.as_slice(), want.as_slice(), "{width} pixels");
+    }
+    Ok(())
+}
+
+// The symbol of side 10 that carries the digits 123456, as the standard draws it.
 const SYMBOL: [&[u8]; 10] = [
     b"1010101010",
     b"1100101101",
@@ -174,6 +338,9 @@ const DRAWN: &[u8] =
     b"P1\n12 12\n000000000000\n010101010100\n011001011010\n011000001000\n011000111010\n011000010000\n\
 010000011110\n011101100000\n011110110010\n010011101000\n011111111110\n000000000000\n";
 
+const PACKED: &[u8] =
+    b"P4\n12 12\n\x00\x00\x55\x40\x65\xa0\x60\x80\x63\xa0\x61\x00\x41\xe0\x76\x00\x7b\x20\x4e\x80\x7f\xe0\x00\x00";
+
 #[test]
 fn draws_a_symbol_and_takes_it_back(rt: HostRuntime) -> Result<(), Fail> {
     let alloc = rt.alloc();
@@ -185,17 +352,26 @@ fn draws_a_symbol_and_takes_it_back(rt: HostRuntime) -> Result<(), Fail> {
             }
         }
     }
-    let grid = Grid::of_modules(alloc, 10, &modules).ok().ok_or("no grid")?;
-    let image = image_of(alloc, &grid, true)?;
-    let mut bytes = Vec::new(alloc);
-    assert!(rt; image.pixels.len() == 144 && image.width == 12 && image.height == 12);
-    assert!(rt; write_image(&mut bytes, &image).is_ok());
-    assert_eq!(rt; bytes.as_slice(), DRAWN);
-    let again = grid_of(alloc, &image).ok().ok_or("no grid again")?;
-    for r in 0..10u16 {
-        for c in 0..10u16 {
-            assert!(rt; again.side() == 10 && grid.side() == 10);
-            assert_eq!(rt; again.module(r, c), grid.module(r, c));
+    let grid = Grid::of_modules(alloc, 10, &modules)?;
+    for (plain, want) in [(true, DRAWN), (false, PACKED)] {
+        let image = image_of(alloc, &grid, plain)?;
+        let mut bytes = Vec::new(alloc);
+        assert_eq!(rt;
+            (image.pixels.len(), image.width, image.height),
+            (144, 12, 12)
+        );
+        write_image(&mut bytes, &image)?;
+        assert_eq!(rt; bytes.as_slice(), want, "plain {plain}");
+        let again = grid_of(alloc, &image)?;
+        for r in 0..10u16 {
+            for c in 0..10u16 {
+                assert!(rt; again.side() == 10 && grid.side() == 10);
+                assert_eq!(rt;
+                    again.module(r, c),
+                    grid.module(r, c),
+                    "row {r}, column {c}"
+                );
+            }
         }
     }
     Ok(())
@@ -222,4 +398,10 @@ fn an_image_without_a_symbols_shape_is_refused(rt: HostRuntime) -> Result<(), Fa
         assert!(rt; refused, "{width} by {height}");
     }
     Ok(())
+}
+
+#[test]
+fn faults_are_named(rt: HostRuntime) {
+    assert_eq!(rt; PbmFault::TooLarge.name(), "TooLarge");
+    assert_eq!(rt; ShapeFault::Shape.name(), "Shape");
 }

@@ -1,48 +1,47 @@
-//! The writing of images.
+//! The writing of images. A writer gets the header in one piece, a packed row in one piece of up to 1,024 pixels, and a
+//! plain row line by line. The pieces are made on the stack.
 
-ghost use Rattle.std.specs.Prelude.{◌≡◌, ◌<◌, ◌≤◌, ◌+◌, ◌*◌, ℕ, [], ◌∷◌, ◌++◌, ◌%◌, ◌==◌, ◌||◌, false, length, drop, slice_index_or, OnOk};
+ghost use Rattle.std.specs.Prelude.{◌≡◌, ◌<◌, ◌≤◌, ◌*◌, true, [], ◌∷◌, ◌++◌, false, length, drop, map, slice_index_or, OnOk, OnErr};
 ghost use Rattle.std.specs.Io.KnownBytes.{Appends};
 ghost use Rattle.std.specs.Fmt.{decimal};
 ghost use Rattle.dm_pbm_io.specs.Header.{magic};
 ghost use Rattle.dm_pbm_io.specs.Raster.{stride, digit_of};
 ghost use Rattle.dm_pbm_io.specs.Shown.{picture};
-ghost use Rattle.dm_pbm_io.specs.Writing.{number_of, line_end, packed, plain_row, row_text, rows_text, written};
+ghost use Rattle.dm_pbm_io.specs.Writing.{number_of, packed, plain_row, row_text, rows_text, written};
+ghost use Rattle.dm_pbm_io.specs.inner.Streaming.{Adds};
 
 use crate::image::Image;
+use crate::sink::ByteSink;
+use arrayvec::{ArrayString, ArrayVec};
+use itoa::Buffer;
+use relay_streams::{Output, WriteFault};
 use std::alloc::Allocator;
 use std::io::Write;
 
-/// Why an image was not written.
-#[derive(Clone, Copy, Debug, PartialEq, Eq)]
-pub enum WriteFault {
-    /// The writer failed.
-    Write,
-}
+/// The most pixels of a packed row that are written at once.
+const PACKED_PIXELS: usize = 1024;
 
-/// Writes these bytes.
-fn put<W: Write>(writer: &mut W, bytes: &[u8]) -> Result<(), WriteFault>
-    ensures { OnOk result (Appends (W.contents writer.old) (W.contents writer.new) bytes.now) }
-{
-    match writer.write_all(bytes) {
-        Ok(()) => Ok(()),
-        Err(_) => Err(WriteFault::Write),
-    }
-}
+/// The bytes of that many packed pixels.
+const PACKED_BYTES: usize = 128;
 
-fn write_header<W: Write>(
-    writer: &mut W,
-    plain: bool,
-    width: u16,
-    height: u16,
-) -> Result<(), WriteFault>
-    ensures { OnOk result (Appends (W.contents writer.old) (W.contents writer.new)
-        (magic plain ++ (10 ∷ (decimal width ++ (32 ∷ (decimal height ++ 10 ∷ [])))))) }
+/// The most digits of a line of a plain row.
+const LINE_DIGITS: usize = 70;
+
+/// The bytes of such a line, its end counted.
+const LINE_BYTES: usize = 71;
+
+/// The header.
+fn header_text(plain: bool, width: u16, height: u16) -> ArrayString<16>
+    ensures { result.bytes ≡ magic plain ++ (10 ∷ (decimal width ++ (32 ∷ (decimal height ++ 10 ∷ [])))) }
 {
-    let digit = if plain { '1' } else { '4' };
-    match write!(writer, "P{digit}\n{width} {height}\n") {
-        Ok(()) => Ok(()),
-        Err(_) => Err(WriteFault::Write),
-    }
+    let mut digits = Buffer::new();
+    let mut text = ArrayString::new();
+    text.push_str(if plain { "P1\n" } else { "P4\n" });
+    text.push_str(digits.format(width));
+    text.push_str(" ");
+    text.push_str(digits.format(height));
+    text.push_str("\n");
+    text
 }
 
 /// Whether the k-th pixel of a row is black. Past its end they are light.
@@ -63,89 +62,138 @@ fn byte_of(row: &[bool]) -> u8
     byte as u8
 }
 
-/// The pixels behind the first eight.
-fn behind_byte(row: &[bool]) -> &[bool]
+/// The pixels after the first eight.
+fn after_byte(row: &[bool]) -> &[bool]
     ensures { result.now ≡ drop 8 row.now }
 {
     if row.len() < 8 { &[] } else { &row[8..] }
 }
 
-fn write_packed_row<W: Write>(writer: &mut W, row: &[bool]) -> Result<(), WriteFault>
-    requires { length row.now ≤ 65535 }
-    ensures { OnOk result (Appends (W.contents writer.old) (W.contents writer.new) (packed (stride (length row.now)) row.now)) }
+/// The bytes of a piece of a packed row.
+fn packed_bytes(piece: &[bool]) -> ArrayVec<u8, PACKED_BYTES>
+    requires { length piece.now ≤ PACKED_PIXELS }
+    ensures { result.items ≡ packed (stride (length piece.now)) piece.now }
+{
+    let mut bytes = ArrayVec::new();
+    let mut rest = piece;
+    for at in 0..piece.len().div_ceil(8) {
+        bytes.push(byte_of(rest));
+        rest = after_byte(rest);
+    }
+    bytes
+}
+
+/// Writes a packed row.
+fn write_packed_row<M, K: ByteSink<M>>(sink: &mut K, row: &[bool]) -> Result<(), WriteFault>
+    requires { length row.now ≤ u16.MAX }
+    ensures written { OnOk result
+        (Adds (K.view sink.old) (K.view sink.new) (packed (stride (length row.now)) row.now)) }
+    ensures failed { OnErr result ((K.view sink.new).has_failed ≡ true) }
 {
     let mut rest = row;
-    for at in 0..row.len().div_ceil(8) {
-        put(writer, &[byte_of(rest)])?;
-        rest = behind_byte(rest);
+    for piece in 0..row.len().div_ceil(PACKED_PIXELS) {
+        let (front, later) = rest.split_at(rest.len().min(PACKED_PIXELS));
+        sink.put_text(&packed_bytes(front))?;
+        rest = later;
     }
     Ok(())
 }
 
-/// A pixel's digit, and a line end where one follows.
-fn plain_text(pixel: bool, ends: bool) -> &'static [u8]
-    ensures { result.now ≡ digit_of pixel ∷ line_end ends }
+/// The digit of a pixel.
+fn digit_of(pixel: bool) -> u8
+    ensures { result ≡ digit_of pixel }
 {
-    match (pixel, ends) {
-        (true, true) => b"1\n",
-        (true, false) => b"1",
-        (false, true) => b"0\n",
-        (false, false) => b"0",
+    if pixel { b'1' } else { b'0' }
+}
+
+/// The digits of a line of a plain row, and its end.
+fn line_text(line: &[bool]) -> ArrayVec<u8, LINE_BYTES>
+    requires { length line.now ≤ LINE_DIGITS }
+    ensures { result.items ≡ map digit_of line.now ++ 10 ∷ [] }
+{
+    let mut text = ArrayVec::new();
+    for i in 0..line.len() {
+        text.push(digit_of(line[i]));
     }
+    text.push(b'\n');
+    text
 }
 
-/// Whether a line end stands behind the i-th digit of a row of `len`.
-fn ends_line(i: usize, len: usize) -> bool
-    requires { i < len }
-    ensures { result ≡ (((i + 1) % 70 == 0) || (i + 1 == len)) }
+/// Writes a plain row, line by line.
+fn write_plain_row<M, K: ByteSink<M>>(sink: &mut K, row: &[bool]) -> Result<(), WriteFault>
+    requires { length row.now ≤ u16.MAX }
+    ensures written { OnOk result (Adds (K.view sink.old) (K.view sink.new) (plain_row 0 row.now)) }
+    ensures failed { OnErr result ((K.view sink.new).has_failed ≡ true) }
 {
-    (i + 1) % 70 == 0 || i + 1 == len
-}
-
-fn write_plain_row<W: Write>(writer: &mut W, row: &[bool]) -> Result<(), WriteFault>
-    requires { length row.now ≤ 65535 }
-    ensures { OnOk result (Appends (W.contents writer.old) (W.contents writer.new) (plain_row 0 row.now)) }
-{
-    for i in 0..row.len() {
-        put(writer, plain_text(row[i], ends_line(i, row.len())))?;
+    let mut rest = row;
+    for line in 0..row.len().div_ceil(LINE_DIGITS) {
+        let (front, later) = rest.split_at(rest.len().min(LINE_DIGITS));
+        sink.put_text(&line_text(front))?;
+        rest = later;
     }
     Ok(())
 }
 
 /// Writes a row in one of the two forms.
-fn write_row<W: Write>(writer: &mut W, plain: bool, row: &[bool]) -> Result<(), WriteFault>
-    requires { length row.now ≤ 65535 }
-    ensures { OnOk result (Appends (W.contents writer.old) (W.contents writer.new) (row_text plain (length row.now) row.now)) }
+fn write_row<M, K: ByteSink<M>>(sink: &mut K, plain: bool, row: &[bool]) -> Result<(), WriteFault>
+    requires { length row.now ≤ u16.MAX }
+    ensures written { OnOk result
+        (Adds (K.view sink.old) (K.view sink.new) (row_text plain (length row.now) row.now)) }
+    ensures failed { OnErr result ((K.view sink.new).has_failed ≡ true) }
 {
     if plain {
-        write_plain_row(writer, row)
+        write_plain_row(sink, row)
     } else {
-        write_packed_row(writer, row)
+        write_packed_row(sink, row)
     }
 }
 
-fn write_rows<W: Write>(
-    writer: &mut W,
+/// Writes the rows of an image.
+fn write_rows<M, K: ByteSink<M>>(
+    sink: &mut K,
     plain: bool,
     width: usize,
     height: usize,
     pixels: &[bool],
 ) -> Result<(), WriteFault>
-    requires width { width ≤ 65535 }
-    requires height { height ≤ 65535 }
+    requires width { width ≤ u16.MAX }
+    requires height { height ≤ u16.MAX }
     requires pixels { length pixels.now ≡ width * height }
-    ensures { OnOk result (Appends (W.contents writer.old) (W.contents writer.new) (rows_text plain width height pixels.now)) }
+    ensures written { OnOk result
+        (Adds (K.view sink.old) (K.view sink.new) (rows_text plain width height pixels.now)) }
+    ensures failed { OnErr result ((K.view sink.new).has_failed ≡ true) }
 {
     let mut rest = pixels;
     for count in 0..height {
         let (row, below) = rest.split_at(width);
-        write_row(writer, plain, row)?;
+        write_row(sink, plain, row)?;
         rest = below;
     }
     Ok(())
 }
 
-/// Writes the image in its own form.
+/// Writes an image in its own form.
+fn write_to<M, K: ByteSink<M>, A: Allocator>(
+    sink: &mut K,
+    image: &Image<A>,
+) -> Result<(), WriteFault>
+    requires { length image.now.pixels.items ≡ image.now.width * image.now.height }
+    ensures written { OnOk result (Adds (K.view sink.old) (K.view sink.new) (written (picture image.now))) }
+    ensures failed { OnErr result ((K.view sink.new).has_failed ≡ true) }
+{
+    let (width, height) = (usize::from(image.width), usize::from(image.height));
+    let header = header_text(image.plain, image.width, image.height);
+    sink.put_text(header.as_bytes())?;
+    write_rows(sink, image.plain, width, height, image.pixels.as_slice())
+}
+
+/// Writes the image in its own form to any writer. No memory is taken.
+///
+/// Of a bare writer no contract can say that a write has failed. So here only tests limit the fault to a writer that
+/// failed; [`Image::write`] proves it.
+///
+/// # Errors
+/// As [`Image::write`].
 pub fn write_image<W: Write, A: Allocator>(
     writer: &mut W,
     image: &Image<A>,
@@ -153,7 +201,26 @@ pub fn write_image<W: Write, A: Allocator>(
     requires { length image.now.pixels.items ≡ image.now.width * image.now.height }
     ensures { OnOk result (Appends (W.contents writer.old) (W.contents writer.new) (written (picture image.now))) }
 {
-    let (width, height) = (usize::from(image.width), usize::from(image.height));
-    write_header(writer, image.plain, image.width, image.height)?;
-    write_rows(writer, image.plain, width, height, image.pixels.as_slice())
+    write_to(writer, image)
+}
+
+impl<A: Allocator> Image<A> {
+    ghost use Rattle.std.specs.Prelude.{◌≡◌, ◌*◌, true, length, OnOk, OnErr};
+    ghost use Rattle.std.specs.Io.KnownBytes.{Appends};
+    ghost use Rattle.dm_pbm_io.specs.Shown.{picture};
+    ghost use Rattle.dm_pbm_io.specs.Writing.{written};
+
+    /// Writes the image in its own form. No memory is taken.
+    ///
+    /// # Errors
+    /// `Write` where the writer failed; some of the bytes may have gone out.
+    pub fn write<W: Write>(&self, output: &mut Output<W>) -> Result<(), WriteFault>
+        requires { length self.now.pixels.items ≡ self.now.width * self.now.height }
+        ensures written { OnOk result
+            (Appends output.old.contents output.new.contents (written (picture self.now))) }
+        ensures kept { OnOk result (output.new.has_failed ≡ output.old.has_failed) }
+        ensures failed { OnErr result (output.new.has_failed ≡ true) }
+    {
+        write_to(output, self)
+    }
 }

@@ -9,10 +9,12 @@ use Rattle.std.proofs.lemmas.Bool.{eqb-true}
 use Rattle.dm_placement.specs.Placement.{number_of}
 use Rattle.dm_placement.proofs.ListTests.{passes_at}
 
+-- a bit as a number
 pub byte_number : (b : Bool) → bool_byte b ≡ cond b 1 0
 byte_number true = refl
 byte_number false = refl
 
+-- one digit more doubles the bound
 pub more_below : (w b : ℕ) (d : Bool) → b < 8 → w < 2 ^ b → 2 * w + cond d 1 0 < 2 ^ (b + 1)
 more_below w b true h l = let e = pow-suc 2 b in grind (arith, e)
 more_below w b false h l = let e = pow-suc 2 b in grind (arith, e)
@@ -46,9 +48,11 @@ word_below f = below (f 0) (f 1) (f 2) (f 3) (f 4) (f 5) (f 6) (f 7)
 
 -- the digits of a byte make it again, computed for each byte
 
+-- each byte is the number of its eight digits, by computing
 again : list_all (λ w. eqb (number_of (map (λ i. eqb (bit_at w (7 - i)) 1) (range_with_len 0 8))) w) (range_with_len 0 256) ≡ true
 again = refl
 
+-- a byte is the number of its eight digits
 pub digits_again : (w : ℕ) → w < 2 ^ 8 → number_of (map (λ i. eqb (bit_at w (7 - i)) 1) (range_with_len 0 8)) ≡ w
 digits_again w h =
     let test : ℕ → Bool = λ w. eqb (number_of (map (λ i. eqb (bit_at w (7 - i)) 1) (range_with_len 0 8))) w in

@@ -12,6 +12,7 @@ use Rattle.dm_placement.proofs.PlacedMatrix.{cells_apart}
 use Rattle.dm_placement.proofs.ShapesSound.{bit_count}
 use Rattle.dm_placement.proofs.Tiled.{tiled_size}
 
+-- every cell is that of exactly one bit, or free
 pub each_cell_once : (s : Size) → EachCellOnce s
 each_cell_once s =
     let n = mapping s in

@@ -16,4 +16,4 @@ pub mod PlacedBits
 pub mod PlacedMatrix
 pub mod BinaryDigits
 pub mod LiftedWords
-pub mod TurnedBits
+pub mod FlippedBits

@@ -15,6 +15,7 @@ is_marked [] r c = true
 is_marked (x ∷ xs) zero c = eqb (bit_at x c) 1
 is_marked (x ∷ xs) (suc r) c = is_marked xs r c
 
+-- marks a cell in the rows of bits
 abbrev pub mark : List ℕ → ℕ → ℕ → List ℕ
 mark [] r c = []
 mark (x ∷ xs) zero c = (x + 2 ^ c) ∷ xs
@@ -25,17 +26,21 @@ abbrev pub marked : List ℕ → List Cell → Option (List ℕ)
 marked rows [] = Some rows
 marked rows (p ∷ ps) = cond (is_marked rows p.row p.column) None (marked (mark rows p.row p.column) ps)
 
+-- the test for 1
 pub eqb-one : (a : ℕ) → eqb a 1 ≡ true → a ≡ 1
 eqb-one a e = eqb-true a 1 e
 
+-- a bit that isn't 1 is 0
 pub not_one : (a : ℕ) → a < 2 → eqb a 1 ≡ false → a ≡ 0
 not_one a h e = elim (eqb_tells a 1) [ inl w ↦ absurd (cc) | inr w ↦ (let ne : a ≢ 1 = w.1 in omega arith) ]
 
+-- adding the power of a bit that isn't set sets that bit
 pub bit_at-add_pow : (x c i : ℕ) → bit_at x c ≡ 0 → bit_at (x + 2 ^ c) i ≡ max (bit_at x i) (bit_at (2 ^ c) i)
 bit_at-add_pow x c i e =
     let z : bit_and x (2 ^ c) ≡ 0 = and_pow x c ∙ ap (λ b. b * 2 ^ c) e ∙ zero-mul (2 ^ c) in
     ap (λ v. bit_at v i) (sym (or_disjoint x (2 ^ c) z)) ∙ bit_at_or x (2 ^ c) i
 
+-- a marked cell is marked
 pub mark_same : (rows : List ℕ) (r c : ℕ) → is_marked rows r c ≡ false → is_marked (mark rows r c) r c ≡ true
 mark_same [] r c e = refl
 mark_same (x ∷ xs) zero c e =
@@ -45,6 +50,7 @@ mark_same (x ∷ xs) zero c e =
     eq-eqb _ _ (omega (arith, b, s, l))
 mark_same (x ∷ xs) (suc r) c e = mark_same xs r c e
 
+-- marking keeps the marks
 pub mark_keeps : (rows : List ℕ) (r c i j : ℕ) → is_marked rows r c ≡ false → is_marked rows i j ≡ true → is_marked (mark rows r c) i j ≡ true
 mark_keeps [] r c i j e h = h
 mark_keeps (x ∷ xs) zero c zero j e h =
@@ -56,6 +62,7 @@ mark_keeps (x ∷ xs) zero c (suc i) j e h = h
 mark_keeps (x ∷ xs) (suc r) c zero j e h = h
 mark_keeps (x ∷ xs) (suc r) c (suc i) j e h = mark_keeps xs r c i j e h
 
+-- setting a bit sets no other
 mark_only_bit : (x c j : ℕ) → eqb (bit_at x c) 1 ≡ false → eqb (bit_at (x + 2 ^ c) j) 1 ≡ true → (eqb (bit_at x j) 1 ≡ true) ⊎ (j ≡ c)
 mark_only_bit x c j e h =
     elim (eqb_tells j c) [
@@ -67,6 +74,7 @@ mark_only_bit x c j e h =
           eq-eqb _ _ (omega (arith, b, o, z)))
     ]
 
+-- marking a cell marks no other
 pub mark_only : (rows : List ℕ) (r c i j : ℕ) → is_marked rows r c ≡ false → is_marked (mark rows r c) i j ≡ true
     → (is_marked rows i j ≡ true) ⊎ ((i ≡ r) × (j ≡ c))
 mark_only [] r c i j e h = inl h
@@ -76,13 +84,16 @@ mark_only (x ∷ xs) (suc r) c zero j e h = inl h
 mark_only (x ∷ xs) (suc r) c (suc i) j e h =
     elim (mark_only xs r c i j e h) [ inl w ↦ inl w | inr w ↦ inr (ap suc w.0, w.1) ]
 
+-- a marking that succeeds met no marked cell
 not_both : (b : Bool) (o : Option (List ℕ)) (f : List ℕ) → cond b None o ≡ Some f → (b ≡ false) × (o ≡ Some f)
 not_both true o f e = absurd (cc)
 not_both false o f e = (refl, e)
 
+-- equal options have equal values
 some_same : (a b : List ℕ) → Some a ≡ Some b → a ≡ b
 some_same a b e = cc
 
+-- marking a list keeps the marks
 pub marked_keeps : (rows : List ℕ) (ps : List Cell) (f : List ℕ) (r c : ℕ) → marked rows ps ≡ Some f
     → is_marked rows r c ≡ true → is_marked f r c ≡ true
 marked_keeps rows [] f r c e h = subst (λ (l : List ℕ). is_marked l r c ≡ true) (some_same rows f e) h

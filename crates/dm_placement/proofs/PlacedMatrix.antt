@@ -12,8 +12,7 @@ use Rattle.dm_check_blocks.specs.Sizes.{mapping}
 use Rattle.dm_placement.specs.declared.shape.Cell.{Cell}
 use Rattle.dm_placement.specs.Cells.{cell_at, bit_cells, dark_cells, light_cells}
 use Rattle.dm_placement.specs.Placement.{is_cell, placed_module, placed_modules, placed, bit_of, is_dark}
-use Rattle.dm_placement.specs.Square.{Square}
-use Rattle.dm_placement.specs.WalkSteps.{IsIn}
+use Rattle.dm_placement.specs.Square.{Square, IsIn}
 use Rattle.dm_placement.proofs.AllCells.{all_cells, IsTiled}
 use Rattle.dm_placement.proofs.CellLists.{same_cell}
 use Rattle.dm_placement.proofs.PlacedBits.{IsPlaced, front_cell, dark_cell, light_cell, all_length}
@@ -22,6 +21,7 @@ use Rattle.dm_placement.proofs.PlacedBits.{IsPlaced, front_cell, dark_cell, ligh
 pub is_cell_same : (p : Cell) → is_cell p p ≡ true
 is_cell_same p = ap (λ b. b && eqb p.column p.column) (eq-eqb p.row p.row refl) ∙ eq-eqb p.column p.column refl
 
+-- cells that pass the test are one
 pub is_cell_tells : (p q : Cell) → is_cell p q ≡ true → p ≡ q
 is_cell_tells p q e =
     let b = and_parts (eqb p.row q.row) (eqb p.column q.column) e in
@@ -38,6 +38,7 @@ any_found p (q ∷ qs) e = by_test (is_cell p q) refl (any_found p qs)
     by_test true t k = (0, omega arith, is_cell_tells p q t)
     by_test false t k = let w = k (sym (ap (λ b. b || list_any (is_cell p) qs) t) ∙ e) in (suc w.0, omega arith, w.2)
 
+-- a cell of a list is found in it
 any_at : (p : Cell) (qs : List Cell) (j : ℕ) → j < length qs → p ≡ get_or qs j (cell_at 0 0) → list_any (is_cell p) qs ≡ true
 any_at p [] j h e = absurd (omega arith)
 any_at p (q ∷ qs) zero h e = let t : is_cell p q ≡ true = ap (λ x. is_cell p x) (sym e) ∙ is_cell_same p in rw t refl
@@ -67,6 +68,7 @@ first_below test (q ∷ qs) (suc j) d h e = by_test (test q) (first_below test q
     by_test true k = omega arith
     by_test false k = omega arith
 
+-- a test that some element passes has a first position
 some_position : (test : Cell → Bool) (qs : List Cell) (j : ℕ) (d : Cell) → j < length qs → test (get_or qs j d) ≡ true
     → position test qs ≡ None → ⊥
 some_position test qs j d h e none =
@@ -119,6 +121,7 @@ module_of_placed n words m p t k h = by_position (position (is_cell p) (bit_cell
         ap (is_dark m) (is_cell_tells p _ w.1) ∙ k.bits i w.0
     by_position None e = free (list_any (is_cell p) (dark_cells n)) refl e
 
+-- the square of a side with these modules
 abbrev square : ℕ → List Bool → Square
 square n xs = record { side = n; modules = xs }
 

@@ -7,11 +7,12 @@ use Rattle.std.proofs.lemmas.Bool.{eq-eqb}
 use Rattle.std.proofs.lemmas.Bool.Decides.{eqb_tells}
 use Rattle.std.proofs.lemmas.List.{get_or-replicate, length-replicate}
 use Rattle.dm_placement.specs.declared.shape.Cell.{Cell}
-use Rattle.dm_placement.specs.WalkSteps.{AllIn}
+use Rattle.dm_placement.specs.inner.WalkSteps.{AllIn}
 use Rattle.dm_placement.specs.Square.{Square, with_module, with_dark, light_square}
 use Rattle.dm_placement.proofs.MarkedCells.{is_marked, bit_at-add_pow, not_one}
 use Rattle.dm_placement.proofs.WalkMirror.{mark_bit, take_cell, take_cells}
 
+-- a marked bit is set
 mark_bit_same : (x c : ℕ) → eqb (bit_at (mark_bit x c) c) 1 ≡ true
 mark_bit_same x c = by_test (eqb (bit_at x c) 1) refl
   where
@@ -23,6 +24,7 @@ mark_bit_same x c = by_test (eqb (bit_at x c) 1) refl
         let l = bit_at-lt x c in
         eq-eqb _ _ (omega (arith, b, s, l))
 
+-- marking one bit leaves the others
 mark_bit_other : (x c j : ℕ) → j ≢ c → bit_at (mark_bit x c) j ≡ bit_at x j
 mark_bit_other x c j ne = by_test (eqb (bit_at x c) 1) refl
   where
@@ -33,11 +35,13 @@ mark_bit_other x c j ne = by_test (eqb (bit_at x c) 1) refl
         let z = bit_at-pow_other c j ne in
         omega (arith, b, z)
 
+-- a taken cell is marked
 take_cell_same : (rows : List ℕ) (r c : ℕ) → is_marked (take_cell rows r c) r c ≡ true
 take_cell_same [] r c = refl
 take_cell_same (x ∷ xs) zero c = mark_bit_same x c
 take_cell_same (x ∷ xs) (suc r) c = take_cell_same xs r c
 
+-- taking one cell leaves the others
 take_cell_other : (rows : List ℕ) (r c i j : ℕ) → (i ≡ r → j ≡ c → ⊥) → is_marked (take_cell rows r c) i j ≡ is_marked rows i j
 take_cell_other [] r c i j ne = refl
 take_cell_other (x ∷ xs) zero c zero j ne = ap (λ b. eqb b 1) (mark_bit_other x c j (λ e. ne refl e))
@@ -51,6 +55,7 @@ pub record IsTable (n : ℕ) (rows : List ℕ) (m : Square) : Type 0 where
   pub size : length m.modules ≡ n * n
   pub same : (r c : ℕ) → r < n → c < n → get_or m.modules (r * n + c) false ≡ is_marked rows r c
 
+-- one cell taken in both tables
 table_one : (n : ℕ) (rows : List ℕ) (m : Square) (i j r c : ℕ) → IsTable n rows m → i < n → j < n → r < n → c < n
     → get_or (set m.modules (i * n + j) true) (r * n + c) false ≡ is_marked (take_cell rows i j) r c
 table_one n rows m i j r c t hi hj hr hc =
@@ -70,6 +75,7 @@ table_one n rows m i j r c t hi hj hr hc =
           ∙ sym (take_cell_other rows i j r c (λ a b. w.1 (ap (λ k. k * n + j) (sym a) ∙ ap (λ k. r * n + k) (sym b)))))
     ]
 
+-- a list of cells taken in both tables
 pub table_dark : (n : ℕ) (rows : List ℕ) (m : Square) (ps : List Cell) → AllIn n ps → IsTable n rows m
     → IsTable n (take_cells rows ps) (with_dark m ps)
 table_dark n rows m [] a t = t
@@ -82,11 +88,13 @@ table_dark n rows m (p ∷ ps) a t =
           ∙ table_one n rows m p.row p.column r c t a.0.0 a.0.1 hr hc;
     })
 
+-- at first nothing is marked
 pub no_marks : (n r c : ℕ) → r < n → is_marked (replicate n 0) r c ≡ false
 no_marks zero r c h = absurd (omega arith)
 no_marks (suc n) zero c h = ap (λ b. eqb b 1) (bit_at-zero c)
 no_marks (suc n) (suc r) c h = no_marks n r c (omega arith)
 
+-- at first both tables are empty
 pub table_light : (n : ℕ) → IsTable n (replicate n 0) (light_square n)
 table_light n = record {
   side = refl;

@@ -2,21 +2,25 @@
 use Rattle.std.proofs.Common.{◌≡◌, ℕ, ◌-◌, ◌^◌, refl, List, [], ◌∷◌, Option, Some, None, Bool, true, false, eqb, ltb, ◌&&◌, replicate}
 use Rattle.std.specs.List.{list_all}
 use Rattle.dm_placement.proofs.AllCells.{all_cells}
-use Rattle.dm_placement.specs.Cells.{shapes, anchors, corner_before, is_anchor, is_left_out, is_in_square, rising_diagonal, falling_diagonal, bit_cells, dark_cells, light_cells, shape_cells, near_anchor}
+use Rattle.dm_placement.specs.Cells.{shapes, anchors, corner_before, is_anchor, is_left_out, is_in_square, rising_diagonal, falling_diagonal, bit_cells, dark_cells, light_cells, shape_cells, cell_from_anchor}
 use Rattle.dm_placement.proofs.MarkedCells.{marked}
 
+-- whether the rows of bits are full
 abbrev pub are_full : ℕ → List ℕ → Bool
 are_full n [] = true
 are_full n (x ∷ xs) = eqb x (2 ^ n - 1) && are_full n xs
 
+-- whether marking succeeded and filled the rows
 abbrev pub is_filled : ℕ → Option (List ℕ) → Bool
 is_filled n (Some rows) = are_full n rows
 is_filled n None = false
 
+-- whether the cells of all bits and the free cells fill the square
 unfoldable pub is_tiled : ℕ → Bool
-unfolding shapes anchors corner_before is_anchor is_left_out is_in_square rising_diagonal falling_diagonal bit_cells dark_cells light_cells shape_cells near_anchor
+unfolding shapes anchors corner_before is_anchor is_left_out is_in_square rising_diagonal falling_diagonal bit_cells dark_cells light_cells shape_cells cell_from_anchor
 is_tiled n = is_filled n (marked (replicate n 0) (all_cells n)) && list_all (λ p. ltb p.column n) (all_cells n)
 
+-- each side in turn, by computing
 pub is_tiled_8 : is_tiled 8 ≡ true
 unfolding is_tiled
 is_tiled_8 = refl

@@ -4,23 +4,26 @@ use Rattle.std.proofs.Common.{◌≡◌, ℕ, zero, suc, ◌+◌, ◌-◌, ◌*�
 use Rattle.std.specs.Int.{bit_at}
 use Rattle.dm_placement.specs.declared.shape.Cell.{Cell}
 use Rattle.dm_placement.specs.declared.shape.Shape.{Shape}
-use Rattle.dm_placement.specs.Cells.{shapes, anchors, corner_before, is_anchor, is_left_out, is_in_square, rising_diagonal, falling_diagonal, near_anchor, shape_cells}
-use Rattle.dm_placement.specs.WalkSteps.{word_at, corner_at}
+use Rattle.dm_placement.specs.Cells.{shapes, anchors, corner_before, is_anchor, is_left_out, is_in_square, rising_diagonal, falling_diagonal, cell_from_anchor, shape_cells}
+use Rattle.dm_placement.specs.inner.WalkSteps.{word_at, corner_at}
 use Rattle.dm_placement.proofs.MarkedCells.{is_marked}
 
 -- bit c of row r set, whatever it was
 abbrev pub mark_bit : ℕ → ℕ → ℕ
 mark_bit x c = cond (eqb (bit_at x c) 1) x (x + 2 ^ c)
 
+-- takes a cell in the rows of bits
 abbrev pub take_cell : List ℕ → ℕ → ℕ → List ℕ
 take_cell [] r c = []
 take_cell (x ∷ xs) zero c = mark_bit x c ∷ xs
 take_cell (x ∷ xs) (suc r) c = x ∷ take_cell xs r c
 
+-- takes the cells of a list
 abbrev pub take_cells : List ℕ → List Cell → List ℕ
 take_cells rows [] = rows
 take_cells rows (p ∷ ps) = take_cells (take_cell rows p.row p.column) ps
 
+-- takes the cells of words
 abbrev pub take_words : ℕ → List ℕ → List Shape → List ℕ
 take_words n rows [] = rows
 take_words n rows (s ∷ ss) = take_words n (take_cells rows (shape_cells n s)) ss
@@ -30,11 +33,12 @@ pub data Phase : Type 0 where
   Up : Phase
   Down : Phase
 
+-- words in front of those that come later
 abbrev pub before : List Shape → Option (List Shape) → Option (List Shape)
 before xs None = None
 before xs (Some ys) = Some (xs ++ ys)
 
--- what the walk places from a place on, in at most so many steps
+-- what the walk places from a position on, in at most this many steps
 abbrev pub run : ℕ → ℕ → Phase → ℕ → ℕ → List ℕ → Option (List Shape)
 run zero n phase r c rows = None
 run (suc f) n Start r c rows =
@@ -53,9 +57,10 @@ run (suc f) n Down r c rows =
 
 -- the walk of a whole square
 unfoldable pub GivesShapes : ℕ → Type 0
-unfolding shapes anchors corner_before is_anchor is_left_out is_in_square rising_diagonal falling_diagonal near_anchor shape_cells word_at corner_at
+unfolding shapes anchors corner_before is_anchor is_left_out is_in_square rising_diagonal falling_diagonal cell_from_anchor shape_cells word_at corner_at
 GivesShapes n = run (n * n) n Start 6 2 (replicate n 0) ≡ Some (shapes n)
 
+-- each side in turn, by computing
 pub gives_shapes_8 : GivesShapes 8
 unfolding GivesShapes
 gives_shapes_8 = refl

@@ -8,7 +8,7 @@ use Rattle.dm_placement.specs.declared.shape.Cell.{Cell}
 use Rattle.dm_placement.specs.declared.shape.Shape.{Shape}
 use Rattle.dm_placement.specs.declared.shape.Shape.TheVariants.{Plain}
 use Rattle.dm_placement.specs.Cells.{cell_at, shapes, shape_cells, bit_cells}
-use Rattle.dm_placement.specs.WalkSteps.{AllPlaceable, cells_of_all, word_at, corner_at}
+use Rattle.dm_placement.specs.inner.WalkSteps.{AllPlaceable, cells_of_all, word_at, corner_at}
 use Rattle.dm_placement.specs.Square.{Square, module_at, with_dark}
 use Rattle.dm_placement.proofs.MarkedCells.{is_marked}
 use Rattle.dm_placement.proofs.WalkMirror.{take_cells, take_words, Phase, Start, Up, Down, before, run}
@@ -26,6 +26,7 @@ pub record Remains (n : ℕ) (phase : Phase) (r c : ℕ) (cells : List Cell) (m 
   pub placed : cells ≡ cells_of_all n done
   pub table : IsTable n rows m
 
+-- both tables after the cells of sound words are taken
 table_words : (n : ℕ) (ss : List Shape) (rows : List ℕ) (m : Square) → AllSound n ss → IsTable n rows m
     → IsTable n (take_words n rows ss) (with_dark m (cells_of_all n ss))
 table_words n [] rows m a t = t
@@ -34,6 +35,7 @@ table_words n (s ∷ ss) rows m a t =
     (table_words n ss (take_cells rows (shape_cells n s)) (with_dark m (shape_cells n s)) a.2
     (table_dark n rows m (shape_cells n s) a.1 t))
 
+-- words in front of a list that was found
 pub before_some : (xs : List Shape) (o : Option (List Shape)) (rest : List Shape) → before xs o ≡ Some rest
     → (ys : List Shape) × (o ≡ Some ys) × (rest ≡ xs ++ ys)
 before_some xs None rest e = absurd (cc)
@@ -69,12 +71,14 @@ advanced n phase phase' r c r' c' fuel cells cells' m m' xs all k step ec em =
 
 -- ---- the steps
 
+-- the walk's step before a sweep, by its test
 start_test : (n fuel r c : ℕ) (rows : List ℕ) (rest : List Shape) (b : Bool) → (ltb r (n + 2) || ltb c (n + 2)) ≡ b
     → run fuel n Start r c rows ≡ Some rest
     → (f : ℕ) × (elim b as (λ _. Option (List Shape)) [ true ↦ before (corner_at n r c) (run f n Up r c (take_words n rows (corner_at n r c))) | false ↦ Some [] ] ≡ Some rest)
 start_test n zero r c rows rest b e h = absurd (cc)
 start_test n (suc f) r c rows rest b e h = (f, rw (e, run) at h)
 
+-- the walk's step in an upward sweep, by its test
 up_test : (n fuel r c : ℕ) (rows : List ℕ) (rest : List Shape) (b : Bool) → (leb 2 r && ltb c (n + 2)) ≡ b
     → run fuel n Up r c rows ≡ Some rest
     → (f : ℕ) × (elim b as (λ _. Option (List Shape)) [
@@ -84,6 +88,7 @@ up_test : (n fuel r c : ℕ) (rows : List ℕ) (rest : List Shape) (b : Bool) �
 up_test n zero r c rows rest b e h = absurd (cc)
 up_test n (suc f) r c rows rest b e h = (f, rw (e, run) at h)
 
+-- the walk's step in a downward sweep, by its test
 down_test : (n fuel r c : ℕ) (rows : List ℕ) (rest : List Shape) (b : Bool) → (ltb r (n + 2) && leb 2 c) ≡ b
     → run fuel n Down r c rows ≡ Some rest
     → (f : ℕ) × (elim b as (λ _. Option (List Shape)) [
@@ -93,6 +98,7 @@ down_test : (n fuel r c : ℕ) (rows : List ℕ) (rest : List Shape) (b : Bool) 
 down_test n zero r c rows rest b e h = absurd (cc)
 down_test n (suc f) r c rows rest b e h = (f, rw (e, run) at h)
 
+-- where the walk ends no words remain
 pub start_done : (n r c : ℕ) (cells : List Cell) (m : Square) → Remains n Start r c cells m
     → (ltb r (n + 2) || ltb c (n + 2)) ≡ false → cells ≡ bit_cells n
 unfolding bit_cells
@@ -104,6 +110,7 @@ start_done n r c cells m k e =
     some_same : (a b : List Shape) → Some a ≡ Some b → a ≡ b
     some_same a b e = cc
 
+-- a corner shape placed
 pub start_step : (n r c : ℕ) (cells cells' : List Cell) (m m' : Square) → AllSound n (shapes n) → Remains n Start r c cells m
     → (ltb r (n + 2) || ltb c (n + 2)) ≡ true
     → cells' ≡ cells ++ cells_of_all n (corner_at n r c) → m' ≡ with_dark m (cells_of_all n (corner_at n r c))
@@ -112,12 +119,14 @@ start_step n r c cells cells' m m' all k e ec em =
     let t = start_test n k.fuel r c k.rows k.rest true e k.walked in
     advanced n Start Up r c r c t.0 cells cells' m m' (corner_at n r c) all k t.1 ec em
 
+-- the end of an upward sweep
 pub up_end : (n r c : ℕ) (cells : List Cell) (m : Square) → Remains n Up r c cells m → (leb 2 r && ltb c (n + 2)) ≡ false
     → Remains n Down (r + 1) (c + 3) cells m
 up_end n r c cells m k e =
     let t = up_test n k.fuel r c k.rows k.rest false e k.walked in
     record { fuel = t.0; rows = k.rows; done = k.done; rest = k.rest; walked = t.1; whole = k.whole; placed = k.placed; table = k.table }
 
+-- the end of a downward sweep
 pub down_end : (n r c : ℕ) (cells : List Cell) (m : Square) → Remains n Down r c cells m → (ltb r (n + 2) && leb 2 c) ≡ false
     → Remains n Start (r + 3) (c + 1) cells m
 down_end n r c cells m k e =
@@ -145,6 +154,7 @@ same_word n rows m r c t =
     if_inside true a b xs e = ap (λ v. cond (not v) xs []) (e refl)
     if_inside false a b xs e = refl
 
+-- a visit in an upward sweep
 pub up_step : (n r c : ℕ) (cells cells' : List Cell) (m m' : Square) → AllSound n (shapes n) → Remains n Up r c cells m
     → (leb 2 r && ltb c (n + 2)) ≡ true
     → cells' ≡ cells ++ cells_of_all n (word_at n r c (module_at m (r - 2) (c - 2)))
@@ -156,6 +166,7 @@ up_step n r c cells cells' m m' all k e ec em =
     advanced n Up Up r c (r - 2) (c + 2) t.0 cells cells' m m' (word_at n r c (is_marked k.rows (r - 2) (c - 2))) all k t.1
     (ec ∙ ap (λ l. cells ++ cells_of_all n l) (sym w)) (em ∙ ap (λ l. with_dark m (cells_of_all n l)) (sym w))
 
+-- a visit in a downward sweep
 pub down_step : (n r c : ℕ) (cells cells' : List Cell) (m m' : Square) → AllSound n (shapes n) → Remains n Down r c cells m
     → (ltb r (n + 2) && leb 2 c) ≡ true
     → cells' ≡ cells ++ cells_of_all n (word_at n r c (module_at m (r - 2) (c - 2)))
@@ -175,6 +186,7 @@ up_placeable n r c cells m all k e =
     let b = before_some (word_at n r c (is_marked k.rows (r - 2) (c - 2))) _ k.rest t.1 in
     subst (λ (l : List Shape). AllPlaceable n l) (same_word n k.rows m r c k.table) (AllSound-placeable n _ (next_sound n _ b.0 k all b.2))
 
+-- the word of a visit in a downward sweep may stand
 pub down_placeable : (n r c : ℕ) (cells : List Cell) (m : Square) → AllSound n (shapes n) → Remains n Down r c cells m
     → (ltb r (n + 2) && leb 2 c) ≡ true → AllPlaceable n (word_at n r c (module_at m (r - 2) (c - 2)))
 down_placeable n r c cells m all k e =

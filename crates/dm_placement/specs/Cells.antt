@@ -7,10 +7,11 @@ use Rattle.dm_placement.specs.declared.shape.Cell.{Cell}
 use Rattle.dm_placement.specs.declared.shape.Shape.{Shape}
 use Rattle.dm_placement.specs.declared.shape.Shape.TheVariants.{Plain, CornerOne, CornerTwo}
 
+-- the cell of a row and a column
 abbrev pub cell_at : ℕ → ℕ → Cell
 cell_at r c = record { row = r; column = c }
 
--- the cells with row + column = s, by falling row and by rising row
+-- the cells of the diagonal of sum s, those with row + column = s, by falling row and by rising row
 unfoldable pub falling_diagonal : ℕ → List Cell
 falling_diagonal s = map (λ c. cell_at (s - c) c) (range_with_len 0 (s + 1))
 
@@ -21,7 +22,7 @@ rising_diagonal s = map (λ r. cell_at r (s - r)) (range_with_len 0 (s + 1))
 unfoldable pub is_in_square : ℕ → Cell → Bool
 is_in_square n p = nat_lt p.row n && nat_lt p.column n
 
--- one of the two cells that are no anchor where the second corner shape stands
+-- one of the two cells that are left out as anchors where the second corner shape stands
 unfoldable pub is_left_out : ℕ → Cell → Bool
 is_left_out n p = (n % 8 == 6) && (((p.row == n - 2) && (p.column == 0)) || ((p.row == 0) && (p.column == n - 2)))
 
@@ -46,23 +47,26 @@ corner_before n s =
 unfoldable pub shapes : ℕ → List Shape
 shapes n = flat_map (λ s. corner_before n s ++ map Plain (anchors n s)) (range_with_len 0 (2 * n))
 
--- What leaves the matrix at the top comes in again at the bottom, and what leaves it at the left at the right, each
--- moved along by 4 - ((n + 4) mod 8). Rows and columns are counted here from -n.
+-- What leaves the matrix at the top comes in again at the bottom, and what leaves it at the left comes in again at the
+-- right, each moved along by 4 - ((n + 4) mod 8). Here 0 stands for row or column -n, and n for row or column 0, since
+-- ℕ has no negative numbers.
 abbrev wrap_row : ℕ → ℕ → ℕ → Cell
 wrap_row n r c = if nat_lt r n then cell_at (r + n) (c + 4 - (n + 4) % 8) else cell_at r c
 
 abbrev wrap_column : ℕ → Cell → Cell
-wrap_column n p = if nat_lt p.column n then cell_at (p.row + 4 - (n + 4) % 8 - n) p.column else cell_at (p.row - n) (p.column - n)
+wrap_column n p =
+    if nat_lt p.column n then cell_at (p.row + 4 - (n + 4) % 8 - n) p.column
+    else cell_at (p.row - n) (p.column - n)
 
--- the cell so far above and left of an anchor
-unfoldable pub near_anchor : ℕ → Cell → ℕ → ℕ → Cell
-near_anchor n p up left = wrap_column n (wrap_row n (p.row + n - up) (p.column + n - left))
+-- the cell that stands `up` rows above and `left` columns left of an anchor, wrapped into the matrix
+unfoldable pub cell_from_anchor : ℕ → Cell → ℕ → ℕ → Cell
+cell_from_anchor n p up left = wrap_column n (wrap_row n (p.row + n - up) (p.column + n - left))
 
 -- the cells of bits 1 to 8 of a word
 unfoldable pub shape_cells : ℕ → Shape → List Cell
 shape_cells n (Plain p) =
-    near_anchor n p 2 2 ∷ near_anchor n p 2 1 ∷ near_anchor n p 1 2 ∷ near_anchor n p 1 1 ∷
-    near_anchor n p 1 0 ∷ near_anchor n p 0 2 ∷ near_anchor n p 0 1 ∷ near_anchor n p 0 0 ∷ []
+    cell_from_anchor n p 2 2 ∷ cell_from_anchor n p 2 1 ∷ cell_from_anchor n p 1 2 ∷ cell_from_anchor n p 1 1 ∷
+    cell_from_anchor n p 1 0 ∷ cell_from_anchor n p 0 2 ∷ cell_from_anchor n p 0 1 ∷ cell_from_anchor n p 0 0 ∷ []
 shape_cells n CornerOne =
     cell_at (n - 1) 0 ∷ cell_at (n - 1) 1 ∷ cell_at (n - 1) 2 ∷ cell_at 0 (n - 2) ∷
     cell_at 0 (n - 1) ∷ cell_at 1 (n - 1) ∷ cell_at 2 (n - 1) ∷ cell_at 3 (n - 1) ∷ []
@@ -74,7 +78,7 @@ shape_cells n CornerTwo =
 unfoldable pub bit_cells : ℕ → List Cell
 bit_cells n = flat_map (shape_cells n) (shapes n)
 
--- the free cells that are dark, and those that are light
+-- The free cells, which no word reaches: two that are dark and two that are light, or none.
 unfoldable pub dark_cells : ℕ → List Cell
 dark_cells n = if n * n % 8 == 4 then cell_at (n - 1) (n - 1) ∷ cell_at (n - 2) (n - 2) ∷ [] else []
 

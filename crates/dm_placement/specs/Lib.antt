@@ -1,4 +1,4 @@
 pub mod Square
 pub mod Cells
-pub mod WalkSteps
 pub mod Placement
+pub mod inner

@@ -1,13 +1,17 @@
 -- A square of modules, row by row from the top left, as contracts see a mapping matrix (ISO/IEC 16022, Annex F)
--- and a whole symbol (clause 5.7).
-use Rattle.std.specs.Prelude.{ℕ, ◌≡◌, ◌+◌, ◌*◌, Bool, true, false, not, List, [], ◌∷◌, length, get_or, set, replicate}
+-- and a whole symbol (clause 5.8).
+use Rattle.std.specs.Prelude.{ℕ, ◌≡◌, ◌<◌, ◌+◌, ◌*◌, Bool, true, false, not, List, [], ◌∷◌, length, get_or, set, replicate}
 use Rattle.dm_placement.specs.declared.shape.Cell.{Cell}
 
 pub record Square : Type 0 where
   pub side : ℕ
   pub modules : List Bool
 
--- it has all its modules
+-- a cell lies in a square of side n
+abbrev pub IsIn : ℕ → Cell → Type 0
+IsIn n p = (p.row < n) × (p.column < n)
+
+-- a square has all its modules
 abbrev pub IsWhole : Square → Type 0
 IsWhole m = length m.modules ≡ m.side * m.side
 
@@ -23,9 +27,9 @@ light_square n = record { side = n; modules = replicate (n * n) false }
 abbrev pub with_module : Square → ℕ → ℕ → Bool → Square
 with_module m r c dark = record { side = m.side; modules = set m.modules (r * m.side + c) dark }
 
--- one module turned over, dark to light or light to dark
-abbrev pub with_turned : Square → ℕ → ℕ → Square
-with_turned m r c = with_module m r c (not (module_at m r c))
+-- one module flipped, dark to light or light to dark
+abbrev pub with_flipped : Square → ℕ → ℕ → Square
+with_flipped m r c = with_module m r c (not (module_at m r c))
 
 -- each of the cells made dark
 abbrev pub with_dark : Square → List Cell → Square

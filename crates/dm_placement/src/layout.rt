@@ -1,4 +1,4 @@
-//! The cells of all bits of a size, kept.
+//! The cells of all bits of a size, kept for several symbols.
 
 ghost use Rattle.std.specs.Prelude.{◌≡◌, ◌<◌, IfOk};
 ghost use Rattle.dm_check_blocks.specs.declared.size.Size.{Size};
@@ -41,7 +41,7 @@ impl<A: Allocator + Copy> Layout<A> {
 }
 
 impl<A: Allocator> Layout<A> {
-    /// The size that it is the layout of.
+    /// The size whose layout it is.
     pub fn size(&self) -> Size
         ensures { result ≡ self.now }
     {

@@ -1,9 +1,9 @@
-//! The words that a mapping matrix bears.
+//! The words that a mapping matrix holds.
 
 ghost use Rattle.std.specs.Prelude.{◌≡◌, ◌≤◌, ◌+◌, IfOk, length};
 ghost use Rattle.dm_check_blocks.specs.Sizes.{mapping, all_words};
 ghost use Rattle.dm_placement.specs.Placement.{lifted, word_from};
-ghost use Rattle.dm_placement.specs.WalkSteps.{AllIn};
+ghost use Rattle.dm_placement.specs.inner.WalkSteps.{AllIn};
 
 use crate::layout::Layout;
 use crate::matrix::Matrix;
@@ -11,7 +11,7 @@ use crate::shape::Cell;
 use dm_check_blocks::Size;
 use std::alloc::{AllocError, Allocator};
 
-// The word whose bits stand at the next eight cells of a list.
+// The word whose bits stand at the eight cells of a list from `from` on.
 fn word_at_cells<A: Allocator>(cells: &[Cell], from: usize, matrix: &Matrix<A>) -> u8
     requires room { from + 8 ≤ length cells.now }
     requires in_matrix { AllIn matrix.now.side cells.now }
@@ -25,8 +25,8 @@ fn word_at_cells<A: Allocator>(cells: &[Cell], from: usize, matrix: &Matrix<A>) 
     word
 }
 
-/// The words that a mapping matrix bears, each bit read at its cell by Annex F of ISO/IEC 16022: a dark module is a
-/// bit 1. Free cells bear none.
+/// The words that a mapping matrix holds, each bit read at its cell by Annex F of ISO/IEC 16022: a dark module is a
+/// bit 1. Free cells hold no bit.
 ///
 /// # Errors
 /// Where the allocator refuses its memory.
@@ -58,8 +58,9 @@ pub fn lift_with<A: Allocator>(
 {
     let size = layout.size();
     let cells = layout.cells();
-    let mut words = Vec::new(alloc);
-    for k in 0..size.data_words() + size.check_words() {
+    let count = size.all_words();
+    let mut words = Vec::with_capacity(alloc, count)?;
+    for k in 0..count {
         words.push(word_at_cells(cells, 8 * k, matrix))?;
     }
     Ok(words)

@@ -5,14 +5,14 @@ ghost use Rattle.dm_check_blocks.specs.Sizes.{all_words};
 ghost use Rattle.dm_placement.specs.Cells.{dark_cells};
 ghost use Rattle.dm_placement.specs.Placement.{placed};
 ghost use Rattle.dm_placement.specs.Square.{light_square, with_dark};
-ghost use Rattle.dm_placement.specs.WalkSteps.{IsSideSound};
+ghost use Rattle.dm_placement.specs.inner.WalkSteps.{IsSideSound};
 
 use crate::layout::Layout;
 use crate::matrix::{Matrix, light_of_side};
 use dm_check_blocks::Size;
 use std::alloc::{AllocError, Allocator};
 
-// A matrix with its free cells as they are to be, and all others light.
+// A matrix in which the dark free cells are dark, and all other cells are light.
 #[tactic(auto, unfolding(crate::specs::Cells::dark_cells))]
 fn blank<A: Allocator>(alloc: A, side: u16) -> Result<Matrix<A>, AllocError>
     requires { IsSideSound side }

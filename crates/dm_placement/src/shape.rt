@@ -1,8 +1,8 @@
 //! The shapes in which the eight bits of a word stand on the mapping matrix.
 
 ghost use Rattle.std.specs.Prelude.{◌≡◌, ◌<◌, ◌≤◌};
-ghost use Rattle.dm_placement.specs.Cells.{near_anchor, shape_cells};
-ghost use Rattle.dm_placement.specs.WalkSteps.{IsAnchor, IsPlaceable, AllIn, IsSideSound};
+ghost use Rattle.dm_placement.specs.Cells.{cell_from_anchor, shape_cells};
+ghost use Rattle.dm_placement.specs.inner.WalkSteps.{MayBeAnchor, IsPlaceable, AllIn, IsSideSound};
 
 /// A module of the mapping matrix, by its row and its column, both from 0.
 #[derive(Clone, Copy, Debug, PartialEq, Eq)]
@@ -11,7 +11,8 @@ pub struct Cell {
     pub column: u16,
 }
 
-/// The shape of a word: the plain one at its anchor, or one of the two that span two corners.
+/// The shape of a word: the plain one at its anchor, or one of the two that span two corners. The third and the fourth
+/// corner shape of Annex F occur in rectangles only.
 #[derive(Clone, Copy, Debug, PartialEq, Eq)]
 pub enum Shape {
     Plain(Cell),
@@ -26,18 +27,19 @@ fn cell_at(row: u16, column: u16) -> Cell
     Cell { row, column }
 }
 
-// The cell so far above and left of an anchor, with the wrap at the top and at the left.
-#[tactic(auto, unfolding(crate::specs::Cells::near_anchor))]
-fn near(side: u16, anchor: Cell, up: u16, left: u16) -> Cell
+// The cell that stands `up` rows above and `left` columns left of an anchor. What leaves the matrix at the top comes in
+// again at the bottom, and what leaves it at the left comes in again at the right.
+#[tactic(auto, unfolding(crate::specs::Cells::cell_from_anchor))]
+fn cell_from_anchor(side: u16, anchor: Cell, up: u16, left: u16) -> Cell
     requires side { IsSideSound side }
-    requires anchor { IsAnchor side anchor }
+    requires anchor { MayBeAnchor side anchor }
     requires up_two { up ≤ 2 }
     requires left_two { left ≤ 2 }
-    ensures cell { result ≡ near_anchor side anchor up left }
+    ensures cell { result ≡ cell_from_anchor side anchor up left }
     ensures in_rows { result.row < side }
     ensures in_columns { result.column < side }
 {
-    // counted from -side
+    // Here 0 stands for row or column -side, and side for row or column 0.
     let mut row = anchor.row + side - up;
     let mut column = anchor.column + side - left;
     if row < side {
@@ -64,14 +66,14 @@ pub(crate) fn cells_of(side: u16, shape: Shape) -> [Cell; 8]
 {
     match shape {
         Shape::Plain(p) => [
-            near(side, p, 2, 2),
-            near(side, p, 2, 1),
-            near(side, p, 1, 2),
-            near(side, p, 1, 1),
-            near(side, p, 1, 0),
-            near(side, p, 0, 2),
-            near(side, p, 0, 1),
-            near(side, p, 0, 0),
+            cell_from_anchor(side, p, 2, 2),
+            cell_from_anchor(side, p, 2, 1),
+            cell_from_anchor(side, p, 1, 2),
+            cell_from_anchor(side, p, 1, 1),
+            cell_from_anchor(side, p, 1, 0),
+            cell_from_anchor(side, p, 0, 2),
+            cell_from_anchor(side, p, 0, 1),
+            cell_from_anchor(side, p, 0, 0),
         ],
         Shape::CornerOne => [
             cell_at(side - 1, 0),

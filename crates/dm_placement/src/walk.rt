@@ -1,14 +1,18 @@
 //! The walk over the mapping matrix that places word after word, with a table of taken cells
 //! (ISO/IEC 16022, Annex F).
 
-ghost use Rattle.std.specs.Prelude.{◌≡◌, ◌++◌, ◌-◌, IfOk, OnOk};
+ghost use Rattle.std.specs.Prelude.{◌≡◌, ◌++◌, IfOk, OnOk};
 ghost use Rattle.dm_placement.specs.Cells.{shape_cells, bit_cells};
-ghost use Rattle.dm_placement.specs.Square.{with_dark, module_at};
-ghost use Rattle.dm_placement.specs.WalkSteps.{IsSideSound, IsMappingSide, IsPlaceable, AllPlaceable, cells_of_all, word_at, corner_at};
+ghost use Rattle.dm_placement.specs.Square.{with_dark};
+ghost use Rattle.dm_placement.specs.inner.WalkSteps.{IsSideSound, IsMappingSide, IsPlaceable, AllPlaceable, cells_of_all, next_word, corner_at};
 
 use crate::matrix::{Matrix, light_of_side};
 use crate::shape::{Cell, Shape, cells_of};
 use std::alloc::{AllocError, Allocator};
+
+/// The walk counts rows and columns from this many above and left of the matrix: it never goes further out on those
+/// sides.
+const MARGIN: u16 = 2;
 
 // Places a word: its cells are the next ones, and they are taken.
 fn put<A: Allocator>(
@@ -30,8 +34,8 @@ fn put<A: Allocator>(
     Ok(())
 }
 
-// Places the next word at a place of the walk, where that is a free cell of the matrix.
-#[tactic(auto, unfolding(crate::specs::WalkSteps::word_at))]
+// Places the next word at a position of the walk, where that is a cell of the matrix that is not taken.
+#[tactic(auto, unfolding(crate::specs::inner::WalkSteps::word_at))]
 fn visit<A: Allocator>(
     cells: &mut Vec<Cell, A>,
     taken: &mut Matrix<A>,
@@ -40,27 +44,29 @@ fn visit<A: Allocator>(
     column: u16,
 ) -> Result<(), AllocError>
     requires side { IsSideSound side }
-    requires fits { AllPlaceable side (word_at side row column (module_at taken.old (row - 2) (column - 2))) }
+    requires fits { AllPlaceable side (next_word side taken.old row column) }
     requires same_side { taken.old.side ≡ side }
-    ensures placed { OnOk result (cells.new.items ≡ cells.old.items ++ cells_of_all side (word_at side row column (module_at taken.old (row - 2) (column - 2)))) }
-    ensures marked { OnOk result (taken.new ≡ with_dark taken.old (cells_of_all side (word_at side row column (module_at taken.old (row - 2) (column - 2))))) }
+    ensures placed { OnOk result (cells.new.items
+        ≡ cells.old.items ++ cells_of_all side (next_word side taken.old row column)) }
+    ensures marked { OnOk result (taken.new
+        ≡ with_dark taken.old (cells_of_all side (next_word side taken.old row column))) }
 {
-    if row < 2 || row >= side + 2 || column < 2 || column >= side + 2 {
+    if row < MARGIN || row >= side + MARGIN || column < MARGIN || column >= side + MARGIN {
         return Ok(());
     }
-    if taken.module(row - 2, column - 2) {
+    if taken.module(row - MARGIN, column - MARGIN) {
         return Ok(());
     }
     let anchor = Cell {
-        row: row - 2,
-        column: column - 2,
+        row: row - MARGIN,
+        column: column - MARGIN,
     };
     put(cells, taken, side, Shape::Plain(anchor))
 }
 
-// Places the corner shape that an upward sweep begins with, if any.
-#[tactic(auto, unfolding(crate::specs::WalkSteps::corner_at))]
-fn turn<A: Allocator>(
+// Places the corner shape that an upward sweep from this position begins with, if any.
+#[tactic(auto, unfolding(crate::specs::inner::WalkSteps::corner_at))]
+fn place_corner<A: Allocator>(
     cells: &mut Vec<Cell, A>,
     taken: &mut Matrix<A>,
     side: u16,
@@ -69,12 +75,13 @@ fn turn<A: Allocator>(
 ) -> Result<(), AllocError>
     requires side { IsSideSound side }
     requires same_side { taken.old.side ≡ side }
-    ensures placed { OnOk result (cells.new.items ≡ cells.old.items ++ cells_of_all side (corner_at side row column)) }
+    ensures placed { OnOk result (cells.new.items
+        ≡ cells.old.items ++ cells_of_all side (corner_at side row column)) }
     ensures marked { OnOk result (taken.new ≡ with_dark taken.old (cells_of_all side (corner_at side row column))) }
 {
-    if row == side + 2 && column == 2 {
+    if row == side + MARGIN && column == MARGIN {
         put(cells, taken, side, Shape::CornerOne)
-    } else if row == side && column == 2 && side % 4 != 0 {
+    } else if row == side && column == MARGIN && side % 4 != 0 {
         put(cells, taken, side, Shape::CornerTwo)
     } else {
         Ok(())
@@ -92,19 +99,21 @@ pub(crate) fn walk_cells<A: Allocator + Copy>(
 {
     let mut cells = Vec::with_capacity(alloc, side as usize * side as usize)?;
     let mut taken = light_of_side(alloc, side)?;
-    // counted from 2 above and left of the matrix, which the walk leaves by no more
-    let mut row = 6;
-    let mut column = 2;
-    'sweeps: while row < side + 2 || column < side + 2 {
-        turn(&mut cells, &mut taken, side, row, column)?;
-        'up: while row >= 2 && column < side + 2 {
+    // the standard starts in row 4 and column 0
+    let mut row = 4 + MARGIN;
+    let mut column = MARGIN;
+    'sweeps: while row < side + MARGIN || column < side + MARGIN {
+        place_corner(&mut cells, &mut taken, side, row, column)?;
+        // up and to the right
+        'up: while row >= MARGIN && column < side + MARGIN {
             visit(&mut cells, &mut taken, side, row, column)?;
             row -= 2;
             column += 2;
         }
         row += 1;
         column += 3;
-        'down: while row < side + 2 && column >= 2 {
+        // down and to the left
+        'down: while row < side + MARGIN && column >= MARGIN {
             visit(&mut cells, &mut taken, side, row, column)?;
             row += 2;
             column -= 2;

@@ -4,7 +4,7 @@
 //! call in turn, until [`Refusing::is_spent`] says that the call came to its end with none refused.
 //!
 //! Proved: each method returns and is safe, and `Refusing` is an allocator, so that what owns memory of it owns
-//! memory of the allocator within. Which allocation is refused stands behind a `Cell`, of which a contract says
+//! memory of the allocator within. Which allocation is refused is kept in a `Cell`, of which a contract says
 //! nothing, and is for the tests to show.
 #![tactic(auto)]
 

@@ -1,4 +1,2 @@
-pub mod Inputs
 pub mod ReadLines
-pub mod Readings
-pub mod Refusals
+pub mod GridLines

@@ -1,27 +1,33 @@
--- What `draw` writes, and when it refuses.
-use Rattle.std.specs.Prelude.{◌≡◌, ℕ, Bool, true, List, Option}
+-- What `draw` writes.
+use Rattle.std.specs.Prelude.{◌≡◌, ℕ, Bool, true, List, IfSome}
+use Rattle.std.specs.Io.KnownBytes.{Appends}
 use Rattle.dm_check_blocks.specs.declared.size.Size.{Size}
 use Rattle.dm_encodation.specs.declared.scheme.Scheme.{Scheme}
-use Rattle.dm_placement.specs.Placement.{placed}
-use Rattle.dm_finder_frame.specs.Frame.{framed}
-use Rattle.dm_pbm_io.specs.Grid.{IsImageOf}
+use Rattle.dm_symbol.specs.Symbols.{grid_of_words}
 use Rattle.dm_pbm_io.specs.Image.{Picture}
-use Rattle.relay.specs.Words.{BearsDocument, RefusesWords}
-use Rattle.relay.specs.declared.refusal.Refusal.{Refusal}
-use Rattle.relay.specs.declared.refusal.Refusal.TheVariants.{Side, Read, TooLong, Memory, Write}
+use Rattle.dm_pbm_io.specs.SymbolImage.{image_with_quiet_zone}
+use Rattle.dm_pbm_io.specs.Writing.{written}
+use Rattle.relay_streams.specs.Streams.{InputView, OutputView}
+use Rattle.relay_streams.specs.Refusal.{refused_line}
+use Rattle.relay_streams.specs.FaultNames.{write_fault_name}
+use Rattle.relay_streams.specs.declared.fault.WriteFault.{WriteFault}
+use Rattle.relay.specs.Documents.{CarriesDocument, document_of}
 
--- the picture is that of the one symbol of this side that bears the document, in the form that was asked for
+-- the picture is that of the one symbol of this side that carries the document, in the form that was asked for
 pub record DrawsDocument (n : ℕ) (scheme : Scheme) (plain : Bool) (document : List ℕ) (p : Picture) : Type 0 where
   pub size : Size
   pub words : List ℕ
-  pub symbol : BearsDocument n scheme document size words
-  pub drawn : IsImageOf p (framed size (placed size words))
-  pub form : p.plain ≡ plain
+  pub symbol : CarriesDocument n scheme document size words
+  pub drawn : p ≡ image_with_quiet_zone (grid_of_words size words) plain
 
--- what stands where `draw` refuses: as for `words`, and the output comes last
-abbrev pub RefusesDraw : ℕ → Scheme → Option (List ℕ) → Bool → Refusal → Type 0
-RefusesDraw n scheme input failed Side = RefusesWords n scheme input Side
-RefusesDraw n scheme input failed Read = RefusesWords n scheme input Read
-RefusesDraw n scheme input failed TooLong = RefusesWords n scheme input TooLong
-RefusesDraw n scheme input failed Memory = RefusesWords n scheme input Memory
-RefusesDraw n scheme input failed Write = failed ≡ true
+-- that picture was written, and nothing else
+abbrev pub PrintsDrawing : ℕ → Scheme → Bool → InputView → OutputView → OutputView → Type 0
+PrintsDrawing n scheme plain input old new =
+    IfSome input.remaining (λ bytes.
+    (p : Picture) × DrawsDocument n scheme plain (document_of bytes) p × Appends old.contents new.contents (written p))
+
+-- the output has refused a write, and the line that says so was written to the other
+pub record PrintsWriteRefusal (output old new : OutputView) : Type 0 where
+  pub failed : output.has_failed ≡ true
+  pub fault : WriteFault
+  pub printed : Appends old.contents new.contents (refused_line (write_fault_name fault))

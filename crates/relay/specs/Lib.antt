@@ -1,6 +1,7 @@
+pub mod Documents
 pub mod Draw
-pub mod Lines
 pub mod Read
 pub mod ReadLines
-pub mod Turns
+pub mod Refusals
 pub mod Words
+pub mod inner

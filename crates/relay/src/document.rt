@@ -1,27 +1,24 @@
 //! Documents on the standard input.
 
-ghost use Rattle.std.specs.Prelude.{◌≡◌, IfOk, IfErr, IfSome};
-ghost use Rattle.relay.specs.Words.{document_of, IsInputFault};
+ghost use Rattle.std.specs.Prelude.{◌≡◌, true, IfOk, IfSome, IsErrOf};
+ghost use Rattle.relay.specs.Documents.{document_of};
+ghost use Rattle.relay_streams.specs.declared.fault.InputFault.TheVariants as input_faults;
 
-use crate::refusal::Refusal;
+use relay_streams::{Input, InputFault};
 use std::alloc::Allocator;
-use std::io::{ErrorKind, Read};
+use std::io::Read;
 
 /// One byte more than the greatest document: 16 labels of side 132, each of 2,600 digits.
-const DOCUMENT_BYTES: u64 = 41_601;
+pub const DOCUMENT_BYTES: usize = 41_601;
 
 /// Reads a document, at most `DOCUMENT_BYTES` of it.
-pub fn read_document<A: Allocator + Copy, R: Read + Drop>(
+pub(crate) fn read_document<A: Allocator, R: Read>(
     alloc: A,
-    reader: R,
-) -> Result<Vec<u8, A>, Refusal>
-    ensures document { IfOk result (λ document. IfSome (R.remaining reader) (λ input. document.items ≡ document_of input)) }
-    ensures refused { IfErr result IsInputFault }
+    input: &mut Input<R>,
+) -> Result<Vec<u8, A>, InputFault>
+    ensures document { IfOk result (λ document.
+        IfSome input.old.remaining (λ bytes. document.items ≡ document_of bytes)) }
+    ensures failed { IsErrOf result input_faults.Read → input.new.has_failed ≡ true }
 {
-    let mut document = Vec::new(alloc);
-    match reader.take(DOCUMENT_BYTES).read_to_end(&mut document) {
-        Ok(_) => Ok(document),
-        Err(error) if error.kind() == ErrorKind::OutOfMemory => Err(Refusal::Memory),
-        Err(_) => Err(Refusal::Read),
-    }
+    input.read_up_to(alloc, DOCUMENT_BYTES)
 }

@@ -1,81 +1,57 @@
 //! `relay draw`: the image of a symbol.
 
-ghost use Rattle.std.specs.Prelude.{◌≡◌, ◌⊎◌, ◌*◌, ℕ, true, length, IfOk, IfErr, IfSome, OnOk, OnErr};
-ghost use Rattle.std.specs.Io.KnownBytes.{Appends};
+ghost use Rattle.std.specs.Prelude.{◌≡◌, ◌⊎◌, ◌*◌, true, length, IfOk, IfErr, IfSome};
 ghost use Rattle.dm_check_blocks.specs.Sizes.{all_words};
-ghost use Rattle.dm_placement.specs.Placement.{placed};
-ghost use Rattle.dm_finder_frame.specs.Frame.{framed};
-ghost use Rattle.dm_pbm_io.specs.Grid.{IsImageOf};
-ghost use Rattle.dm_pbm_io.specs.Image.{Picture};
+ghost use Rattle.dm_symbol.specs.Symbols.{grid_of_words};
 ghost use Rattle.dm_pbm_io.specs.Shown.{picture};
-ghost use Rattle.dm_pbm_io.specs.Writing.{written};
-ghost use Rattle.relay.specs.declared.refusal.Refusal.{Refusal};
-ghost use Rattle.relay.specs.Draw.{DrawsDocument, RefusesDraw};
-ghost use Rattle.relay.specs.Lines.{refusal_line};
-ghost use Rattle.relay.specs.Words.{RefusesWords, document_of};
+ghost use Rattle.dm_pbm_io.specs.SymbolImage.{image_with_quiet_zone};
+ghost use Rattle.relay.specs.Documents.{PrintsRefusal, RefusesSymbol, document_of};
+ghost use Rattle.relay.specs.Draw.{DrawsDocument, PrintsDrawing, PrintsWriteRefusal};
 
-use crate::output::{Output, WriteFault};
-use crate::refusal::Refusal;
-use crate::symbol::{Symbol, read_symbol};
+use crate::document_symbol::{Symbol, read_symbol};
+use crate::refusal::SymbolRefusal;
 use dm_encodation::Scheme;
-use dm_finder_frame::frame;
-use dm_pbm_io::{Image, image_of, write_image};
-use dm_placement::place;
+use dm_pbm_io::{Image, image_of};
+use dm_symbol::draw_words;
+use relay_streams::{Input, Output};
 use std::alloc::{AllocError, Allocator};
 use std::io::{Read, Write};
 
 // The image of a symbol.
-fn drawn<A: Allocator + Copy>(
+fn image_of_symbol<A: Allocator + Copy>(
     alloc: A,
     symbol: &Symbol<A>,
     plain: bool,
 ) -> Result<Image<A>, AllocError>
     requires { length symbol.now.words.items ≡ all_words symbol.now.size }
-    ensures drawn { IfOk result (λ image. IsImageOf (picture image) (framed symbol.now.size (placed symbol.now.size symbol.now.words.items))) }
-    ensures form { IfOk result (λ image. image.plain ≡ plain) }
+    ensures image { IfOk result (λ image.
+        picture image ≡ image_with_quiet_zone (grid_of_words symbol.now.size symbol.now.words.items) plain) }
+    ensures count { IfOk result (λ image. length image.pixels.items ≡ image.width * image.height) }
 {
-    let matrix = place(alloc, symbol.size, &symbol.words)?;
-    let grid = frame(alloc, symbol.size, &matrix)?;
+    let grid = draw_words(alloc, symbol.size, &symbol.words)?;
     image_of(alloc, &grid, plain)
 }
 
-// The image of the document that the reader gives.
-fn read_drawn<A: Allocator + Copy, R: Read>(
+// The image of the document that the input gives.
+fn image_of_document<A: Allocator + Copy, R: Read>(
     alloc: A,
-    reader: &mut R,
+    input: &mut Input<R>,
     side: u16,
     scheme: Scheme,
     plain: bool,
-) -> Result<Image<A>, Refusal>
-    ensures drawn { IfOk result (λ image. IfSome (R.remaining reader.old) (λ input. DrawsDocument side scheme plain (document_of input) (picture image))) }
+) -> Result<Image<A>, SymbolRefusal>
+    ensures drawn { IfOk result (λ image. IfSome input.old.remaining (λ bytes.
+        DrawsDocument side scheme plain (document_of bytes) (picture image))) }
     ensures count { IfOk result (λ image. length image.pixels.items ≡ image.width * image.height) }
-    ensures refused { IfErr result (RefusesWords side scheme (R.remaining reader.old)) }
+    ensures refused { IfErr result (RefusesSymbol side scheme input.old input.new) }
 {
-    let symbol = match read_symbol(alloc, reader, side, scheme) {
+    let symbol = match read_symbol(alloc, input, side, scheme) {
         Ok(symbol) => symbol,
         Err(refusal) => return Err(refusal),
     };
-    match drawn(alloc, &symbol, plain) {
+    match image_of_symbol(alloc, &symbol, plain) {
         Ok(image) => Ok(image),
-        Err(_) => Err(Refusal::Memory),
-    }
-}
-
-// Writes the image, or notes that the output has refused it.
-fn put_image<A: Allocator, W: Write>(
-    output: &mut Output<W>,
-    image: &Image<A>,
-) -> Result<(), WriteFault>
-    requires { length image.now.pixels.items ≡ image.now.width * image.now.height }
-    ensures written { OnOk result (Appends (W.contents output.old.writer) (W.contents output.new.writer) (written (picture image.now))) }
-    ensures refused { OnErr result (output.new.failed ≡ true) }
-{
-    match write_image(&mut output.writer, image) {
-        Ok(()) => Ok(()),
-        Err(_) => {
-            output.failed = true;
-            Err(WriteFault)
-        }
+        Err(_) => Err(SymbolRefusal::Memory),
     }
 }
 
@@ -85,7 +61,7 @@ fn put_image<A: Allocator, W: Write>(
 /// encoded and drawn, and the output comes last: no byte is written before the whole image is made.
 pub fn draw_command<A: Allocator + Copy, R: Read, W: Write, E: Write>(
     alloc: A,
-    reader: &mut R,
+    input: &mut Input<R>,
     output: &mut Output<W>,
     errors: &mut Output<E>,
     side: u16,
@@ -93,18 +69,24 @@ pub fn draw_command<A: Allocator + Copy, R: Read, W: Write, E: Write>(
     plain: bool,
 ) -> u8
     ensures status { (result ≡ 0) ⊎ (result ≡ 1) }
-    ensures drawn { result ≡ 0 → IfSome (R.remaining reader.old) (λ input. (p : Picture) × DrawsDocument side scheme plain (document_of input) p × Appends (W.contents output.old.writer) (W.contents output.new.writer) (written p)) }
+    ensures drawn { result ≡ 0 → PrintsDrawing side scheme plain input.old output.old output.new }
     ensures silent { result ≡ 0 → errors.new ≡ errors.old }
-    ensures refused { result ≡ 1 → (errors.new.failed ≡ true) ⊎ ((refusal : Refusal) × RefusesDraw side scheme (R.remaining reader.old) output.new.failed refusal × Appends (E.contents errors.old.writer) (E.contents errors.new.writer) (refusal_line refusal)) }
-    ensures nothing_else { result ≡ 1 → (output.new.failed ≡ true) ⊎ (output.new ≡ output.old) }
+    ensures refused { result ≡ 1 → (errors.new.has_failed ≡ true)
+        ⊎ PrintsRefusal side scheme input.old input.new errors.old errors.new
+        ⊎ PrintsWriteRefusal output.new errors.old errors.new }
+    ensures nothing_else { result ≡ 1 → (output.new.has_failed ≡ true) ⊎ (output.new ≡ output.old) }
 {
-    let refusal = match read_drawn(alloc, reader, side, scheme, plain) {
-        Ok(image) => match put_image(output, &image) {
-            Ok(()) => return 0,
-            Err(_) => Refusal::Write,
+    match image_of_document(alloc, input, side, scheme, plain) {
+        Ok(image) => match image.write(output) {
+            Ok(()) => 0,
+            Err(fault) => {
+                let _ = errors.put_refusal(fault.name());
+                1
+            }
         },
-        Err(refusal) => refusal,
-    };
-    let _ = errors.put(refusal.line());
-    1
+        Err(refusal) => {
+            let _ = errors.put_refusal(refusal.name());
+            1
+        }
+    }
 }

@@ -1,22 +1,22 @@
 //! The program over its own streams.
 
 use crate::draw::draw_command;
-use crate::errors::ErrorWriter;
-use crate::output::Output;
 use crate::read::read_command;
+use crate::standard_error::ErrorWriter;
 use crate::words::words_command;
 use relay_line::{Command, LineFault, command_line};
+use relay_streams::Output;
 use std::rt::Env;
 use std::{env, io};
 
-// Does a command.
-fn done<R: AllocGlobal + Input + Print + Eprint>(rt: &R, command: Command) -> u8 {
-    let mut reader = rt.reader();
+// Does a command, and answers its exit status.
+fn run_command<R: AllocGlobal + Input + Print + Eprint>(rt: &R, command: Command) -> u8 {
+    let mut input = relay_streams::Input::new(rt.reader());
     let mut output = Output::new(io::writer(rt));
     match command {
         Command::Words { side, scheme } => words_command(
             rt.alloc(),
-            &mut reader,
+            &mut input,
             &mut output,
             side,
             scheme,
@@ -27,19 +27,19 @@ fn done<R: AllocGlobal + Input + Print + Eprint>(rt: &R, command: Command) -> u8
             plain,
         } => draw_command(
             rt.alloc(),
-            &mut reader,
+            &mut input,
             &mut output,
             &mut Output::new(ErrorWriter::new(rt)),
             side,
             scheme,
             plain,
         ),
-        Command::Read => read_command(rt.alloc(), &mut reader, &mut output),
+        Command::Read => read_command(rt.alloc(), &mut input, &mut output),
     }
 }
 
-// Shows why a line wasn't taken.
-fn refused<R: Print + Eprint>(rt: &R, fault: &LineFault) -> u8 {
+// Shows why a line wasn't taken, and answers the exit status.
+fn show_fault<R: Print + Eprint>(rt: &R, fault: &LineFault) -> u8 {
     let shown = match fault {
         LineFault::Line { text, status: 0 } => print!(rt; "{text}"),
         LineFault::Line { text, .. } => eprint!(rt; "{text}"),
@@ -63,7 +63,7 @@ pub fn run<R: AllocGlobal + Input + Print + Eprint + Env>(rt: &R) -> u8 {
         return 2;
     };
     match command_line(rt.alloc(), words.as_slice()) {
-        Ok(command) => done(rt, command),
-        Err(fault) => refused(rt, &fault),
+        Ok(command) => run_command(rt, command),
+        Err(fault) => show_fault(rt, &fault),
     }
 }

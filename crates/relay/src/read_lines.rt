@@ -4,9 +4,10 @@ ghost use Rattle.std.specs.Prelude.{◌≡◌, ◌++◌, string_bytes, IfOk, OnO
 ghost use Rattle.dm_check_blocks.specs.Sizes.{side};
 ghost use Rattle.dm_append_label.specs.Pages.{id_words};
 ghost use Rattle.hex.specs.Hex.{encode_lower};
-ghost use Rattle.relay.specs.ReadLines.{hexadecimal, label_line, line_behind, symbol_line};
+ghost use Rattle.relay.specs.ReadLines.{hexadecimal, label_line, line_end, symbol_line};
 
-use dm_append_label::{Corrected, FileId, Opened};
+use dm_append_label::{FileId, Page};
+use dm_symbol::Corrected;
 use std::alloc::{AllocError, Allocator};
 use std::fmt::Write as _;
 
@@ -22,15 +23,16 @@ fn hexadecimal_of<A: Allocator + Copy>(alloc: A, bytes: &[u8]) -> Result<String<
     hex::encode(alloc, bytes)
 }
 
-// Appends to a line how good the symbol is, and its bytes.
-fn push_behind<A: Allocator + Copy>(
+// Appends to a line how much of the symbol was wrong, its bytes, and the line's end.
+fn push_line_end<A: Allocator + Copy>(
     alloc: A,
     line: &mut String<A>,
     corrected: u16,
     wrong: u16,
     bytes: &[u8],
 ) -> Result<(), AllocError>
-    ensures { OnOk result (string_bytes line.new ≡ string_bytes line.old ++ line_behind corrected wrong bytes.now) }
+    ensures { OnOk result
+        (string_bytes line.new ≡ string_bytes line.old ++ line_end corrected wrong bytes.now) }
 {
     let text = hexadecimal_of(alloc, bytes)?;
     write!(line, " corrected {corrected} wrong {wrong} {text}\n")?;
@@ -48,20 +50,21 @@ fn identification_of<A: Allocator + Copy>(alloc: A, id: FileId) -> Result<String
 /// The line of a label.
 pub(crate) fn line_of_label<A: Allocator + Copy>(
     alloc: A,
-    opened: &Opened<A>,
+    page: &Page<A>,
+    symbol: &Corrected<A>,
 ) -> Result<String<A>, AllocError>
-    ensures { IfOk result (λ line. string_bytes line ≡ label_line opened.now.page opened.now.corrected opened.now.wrong) }
+    ensures { IfOk result (λ line.
+        string_bytes line ≡ label_line page.now symbol.now.corrected symbol.now.wrong) }
 {
-    let page = &opened.page;
     let id = identification_of(alloc, page.id())?;
     let (m, n) = (page.m(), page.n());
     let mut line = String::new(alloc);
     write!(line, "label {id} {m}/{n}")?;
-    push_behind(
+    push_line_end(
         alloc,
         &mut line,
-        opened.corrected,
-        opened.wrong,
+        symbol.corrected(),
+        symbol.wrong(),
         page.bytes(),
     )?;
     Ok(line)
@@ -73,11 +76,12 @@ pub(crate) fn line_of_symbol<A: Allocator + Copy>(
     symbol: &Corrected<A>,
     bytes: &[u8],
 ) -> Result<String<A>, AllocError>
-    ensures { IfOk result (λ line. string_bytes line ≡ symbol_line (side symbol.now.size) symbol.now.corrected symbol.now.wrong bytes.now) }
+    ensures { IfOk result (λ line. string_bytes line ≡
+        symbol_line (side symbol.now.size) symbol.now.corrected symbol.now.wrong bytes.now) }
 {
-    let side = symbol.size.side();
+    let side = symbol.size().side();
     let mut line = String::new(alloc);
     write!(line, "symbol {side}")?;
-    push_behind(alloc, &mut line, symbol.corrected, symbol.wrong, bytes)?;
+    push_line_end(alloc, &mut line, symbol.corrected(), symbol.wrong(), bytes)?;
     Ok(line)
 }

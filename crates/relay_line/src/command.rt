@@ -16,6 +16,6 @@ pub enum Command {
         scheme: Scheme,
         plain: bool,
     },
-    /// Reads images of symbols, and prints what each bears.
+    /// Reads images of symbols, and prints what each carries.
     Read,
 }

@@ -17,7 +17,7 @@ const READ_LINES: &str = "Each image gives a line:\n  \
     label IIII m/n corrected C wrong W HEX  label m of n, with the file identification IIII\n  \
     symbol SIDE corrected C wrong W HEX     another symbol\n  \
     refused NAME                            none that can be read\n\n\
-    C words were wrong and were put right, W modules of the finder patterns are wrong, and HEX is the\n\
+    C words were wrong and were corrected, W modules of the finder patterns are wrong, and HEX is the\n\
     bytes in hexadecimal, or `-` for none.";
 
 /// The names of the encodations.
@@ -83,7 +83,7 @@ fn draw<'a>(alloc: Global) -> Result<Command<'a>, AllocError> {
 fn read<'a>(alloc: Global) -> Command<'a> {
     Command::new(alloc, "read")
         .about(
-            "Reads PBM images from standard input, one pixel per module, and prints what each bears",
+            "Reads PBM images from standard input, one pixel per module, and prints what each carries",
         )
         .after_help(READ_LINES)
 }

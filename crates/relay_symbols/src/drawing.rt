@@ -1,14 +1,10 @@
-//! From the words of a symbol to its image.
+//! From a grid to the bytes of its image.
 
-ghost use Rattle.std.specs.Prelude.{◌≡◌, IfOk, length};
-ghost use Rattle.dm_check_blocks.specs.Sizes.{all_words};
-ghost use Rattle.dm_append_label.specs.Labels.{grid_of};
-ghost use Rattle.relay_symbols.specs.Images.{ShowsGrid};
+ghost use Rattle.std.specs.Prelude.{◌≡◌, IfOk};
+ghost use Rattle.dm_pbm_io.specs.SymbolImage.{p4};
 
-use dm_check_blocks::Size;
-use dm_finder_frame::{Grid, frame};
+use dm_finder_frame::Grid;
 use dm_pbm_io::{image_of, write_image};
-use dm_placement::place;
 use std::alloc::{AllocError, Allocator};
 
 /// The bytes of a grid's image.
@@ -16,7 +12,7 @@ pub(crate) fn grid_image<A: Allocator + Copy>(
     alloc: A,
     grid: &Grid<A>,
 ) -> Result<Vec<u8, A>, AllocError>
-    ensures { IfOk result (λ bytes. ShowsGrid grid.now bytes.items) }
+    ensures { IfOk result (λ bytes. bytes.items ≡ p4 grid.now) }
 {
     let image = image_of(alloc, grid, false)?;
     let mut bytes = Vec::new(alloc);
@@ -24,18 +20,4 @@ pub(crate) fn grid_image<A: Allocator + Copy>(
         Ok(()) => Ok(bytes),
         Err(_) => Err(AllocError),
     }
-}
-
-/// The bytes of the image of a symbol's words.
-pub(crate) fn words_image<A: Allocator + Copy>(
-    alloc: A,
-    size: Size,
-    words: &[u8],
-) -> Result<Vec<u8, A>, AllocError>
-    requires { length words.now ≡ all_words size }
-    ensures { IfOk result (λ bytes. ShowsGrid (grid_of size words.now) bytes.items) }
-{
-    let matrix = place(alloc, size, words)?;
-    let grid = frame(alloc, size, &matrix)?;
-    grid_image(alloc, &grid)
 }

@@ -32,7 +32,7 @@ fn label_image<A: Allocator + Copy>(alloc: A, side: u16, text: &[u8]) -> Option<
 
 /// Draws the label of this side of page 1 of 2, under the identification 0, that has this text, in ASCII encodation,
 /// and answers the image's bytes, which stand at the front of `image`. Answers 0, and leaves `image` as it is, where no
-/// size has this side, the text does not fit behind the head, the image has no room, or memory is refused.
+/// size has this side, the text does not fit after the head, the image has no room, or memory is refused.
 #[unsafe(no_mangle)]
 pub extern "C" fn relay_label_from_text(
     alloc: Global,
@@ -61,7 +61,7 @@ fn page_bytes<A: Allocator + Copy>(alloc: A, image: &[u8]) -> Option<Vec<u8, A>>
 
 /// Opens the label of the image that `image` begins with, corrects it, and answers the number of its page's bytes,
 /// which stand at the front of `bytes`. Answers `usize::MAX`, and leaves `bytes` as they are, where `image` begins with
-/// no image of a label, too many words are wrong, the words have no head or no text behind it, the bytes have no room,
+/// no image of a label, too many words are wrong, the words have no head or no text after it, the bytes have no room,
 /// or memory is refused.
 #[unsafe(no_mangle)]
 pub extern "C" fn relay_page_from_image(alloc: Global, image: &[u8], bytes: &mut [u8]) -> usize

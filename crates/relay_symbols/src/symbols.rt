@@ -3,12 +3,12 @@
 ghost use Rattle.std.specs.Prelude.{◌≡◌, ◌≢◌, ◌≤◌, ◌^◌, ◌-◌, IfSome, length, take};
 ghost use Rattle.relay_symbols.specs.Symbols.{DrawsText, DrawsWords, ReadsText};
 
-use crate::drawing::words_image;
+use crate::drawing::grid_image;
 use crate::opening::grid_from;
 use crate::putting::put;
-use dm_append_label::{Corrected, corrected_words};
-use dm_check_blocks::{Size, complete};
+use dm_check_blocks::Size;
 use dm_encodation::{Scheme, decode, encode};
+use dm_symbol::{correct_grid, draw_symbol, draw_words};
 use std::alloc::{Allocator, Global};
 
 // The bytes of the image of the symbol of a text.
@@ -17,12 +17,14 @@ fn text_image<A: Allocator + Copy>(alloc: A, side: u16, text: &[u8]) -> Option<V
 {
     let size = Size::of_side(side)?;
     let data = encode(alloc, Scheme::Ascii, text, &[], size).ok()?;
-    let words = complete(alloc, size, &data).ok()?;
-    words_image(alloc, size, &words).ok()
+    let Ok(grid) = draw_symbol(alloc, size, &data) else {
+        return None;
+    };
+    grid_image(alloc, &grid).ok()
 }
 
-/// Draws the symbol of this side that bears the text, in ASCII encodation with no head, and answers the image's bytes,
-/// which stand at the front of `image`. Answers 0, and leaves `image` as it is, where no size has this side, the text
+/// Draws the symbol of this side that carries the text, in ASCII encodation with no head, and answers the image's
+/// bytes, which stand at the front of `image`. Answers 0, and leaves `image` as it is, where no size has this side, the text
 /// does not fit, the image has no room, or memory is refused.
 #[unsafe(no_mangle)]
 pub extern "C" fn relay_symbol_from_text(
@@ -46,10 +48,11 @@ fn image_of_words<A: Allocator + Copy>(alloc: A, side: u16, words: &[u8]) -> Opt
     ensures { IfSome result (λ bytes. DrawsWords side words.now bytes.items) }
 {
     let size = Size::of_side(side)?;
-    if words.len() != size.data_words() + size.check_words() {
+    if words.len() != size.all_words() {
         return None;
     }
-    words_image(alloc, size, words).ok()
+    let grid = draw_words(alloc, size, words).ok()?;
+    grid_image(alloc, &grid).ok()
 }
 
 /// Draws the grid of all words of a symbol of this side, data words first, whether they are those of a symbol or not,
@@ -77,10 +80,10 @@ fn text_of<A: Allocator + Copy>(alloc: A, image: &[u8]) -> Option<Vec<u8, A>>
     ensures { IfSome result (λ text. ReadsText image.now text.items) }
 {
     let grid = grid_from(alloc, image)?;
-    let Ok(Corrected { size, words, .. }) = corrected_words(alloc, &grid) else {
+    let Ok(symbol) = correct_grid(alloc, &grid) else {
         return None;
     };
-    decode(alloc, &words[..size.data_words()], 0).ok()
+    decode(alloc, symbol.data(), 0).ok()
 }
 
 /// Reads the symbol of the image that `image` begins with, corrects it, and answers the length of its text, which

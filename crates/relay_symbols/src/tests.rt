@@ -3,7 +3,7 @@ use crate::{
     relay_text_from_image,
 };
 
-// All words of the symbol of side 10 that bears the digits 123456, and its image.
+// All words of the symbol of side 10 that carries the digits 123456, and its image.
 const WORDS: [u8; 8] = [142, 164, 186, 114, 25, 5, 88, 102];
 
 const IMAGE: &[u8] = b"P4\n12 12\n\
@@ -22,7 +22,7 @@ fn draws_and_reads_the_worked_example(rt: HostRuntime) {
     assert_eq!(rt; &text, b"123456");
 }
 
-// Two wrong words are put right, and three, one of them a check word, are not.
+// Two wrong words are corrected, and three, one of them a check word, are not.
 #[test]
 fn corrects_what_it_reads(rt: HostRuntime) {
     let cases = [

@@ -2,7 +2,8 @@
 
 use crate::failing::{FailingReader, FailingWriter};
 use dm_encodation::Scheme;
-use relay::{Output, draw_command};
+use relay::draw_command;
+use relay_streams::{Input, Output};
 
 // The digits 123456 in a symbol of side 10, inside its quiet zone, in PBM's plain form.
 const DRAWN: &[u8] = b"P1\n12 12\n\
@@ -21,12 +22,12 @@ const DRAWN: &[u8] = b"P1\n12 12\n\
 
 #[test]
 fn draws_the_worked_example(rt: HostRuntime) {
-    let mut reader = b"123456".as_slice();
+    let mut input = Input::new(b"123456".as_slice());
     let mut output = Output::new(Vec::new(rt.alloc()));
     let mut errors = Output::new(Vec::new(rt.alloc()));
     let status = draw_command(
         rt.alloc(),
-        &mut reader,
+        &mut input,
         &mut output,
         &mut errors,
         10,
@@ -34,8 +35,8 @@ fn draws_the_worked_example(rt: HostRuntime) {
         true,
     );
     assert_eq!(rt; status, 0);
-    assert_eq!(rt; output.writer.as_slice(), DRAWN);
-    assert_eq!(rt; errors.writer.as_slice(), b"".as_slice());
+    assert_eq!(rt; output.writer().as_slice(), DRAWN);
+    assert_eq!(rt; errors.writer().as_slice(), b"".as_slice());
 }
 
 // Each refusal is a line on the standard error, and the output stays empty.
@@ -46,12 +47,12 @@ fn refuses_on_the_standard_error(rt: HostRuntime) {
         (b"".as_slice(), 11, b"refused Side\n".as_slice()),
     ];
     for (document, side, line) in cases {
-        let mut reader = document;
+        let mut input = Input::new(document);
         let mut output = Output::new(Vec::new(rt.alloc()));
         let mut errors = Output::new(Vec::new(rt.alloc()));
         let status = draw_command(
             rt.alloc(),
-            &mut reader,
+            &mut input,
             &mut output,
             &mut errors,
             side,
@@ -59,8 +60,8 @@ fn refuses_on_the_standard_error(rt: HostRuntime) {
             false,
         );
         assert_eq!(rt; status, 1);
-        assert_eq!(rt; output.writer.as_slice(), b"".as_slice());
-        assert_eq!(rt; errors.writer.as_slice(), line);
+        assert_eq!(rt; output.writer().as_slice(), b"".as_slice());
+        assert_eq!(rt; errors.writer().as_slice(), line);
     }
 }
 
@@ -69,12 +70,12 @@ fn refuses_on_the_standard_error(rt: HostRuntime) {
 #[test]
 fn names_the_stream_that_failed(rt: HostRuntime) {
     for passes in 0..DRAWN.len() {
-        let mut reader = b"123456".as_slice();
+        let mut input = Input::new(b"123456".as_slice());
         let mut output = Output::new(FailingWriter::new(Vec::new(rt.alloc()), passes));
         let mut errors = Output::new(Vec::new(rt.alloc()));
         let status = draw_command(
             rt.alloc(),
-            &mut reader,
+            &mut input,
             &mut output,
             &mut errors,
             10,
@@ -82,16 +83,16 @@ fn names_the_stream_that_failed(rt: HostRuntime) {
             true,
         );
         assert_eq!(rt; status, 1, "{passes}");
-        assert!(rt; DRAWN.starts_with(output.writer.taken()), "{passes}");
-        assert_eq!(rt; errors.writer.as_slice(), b"refused Write\n".as_slice());
+        assert!(rt; DRAWN.starts_with(output.writer().taken()), "{passes}");
+        assert_eq!(rt; errors.writer().as_slice(), b"refused Write\n".as_slice());
     }
     for passes in 0..6 {
-        let mut reader = FailingReader::new(b"123456", passes);
+        let mut input = Input::new(FailingReader::new(b"123456", passes));
         let mut output = Output::new(Vec::new(rt.alloc()));
         let mut errors = Output::new(Vec::new(rt.alloc()));
         let status = draw_command(
             rt.alloc(),
-            &mut reader,
+            &mut input,
             &mut output,
             &mut errors,
             10,
@@ -99,7 +100,7 @@ fn names_the_stream_that_failed(rt: HostRuntime) {
             true,
         );
         assert_eq!(rt; status, 1, "{passes}");
-        assert_eq!(rt; output.writer.as_slice(), b"".as_slice());
-        assert_eq!(rt; errors.writer.as_slice(), b"refused Read\n".as_slice());
+        assert_eq!(rt; output.writer().as_slice(), b"".as_slice());
+        assert_eq!(rt; errors.writer().as_slice(), b"refused Read\n".as_slice());
     }
 }

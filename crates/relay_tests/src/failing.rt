@@ -2,7 +2,7 @@
 
 use std::io::{Error, ErrorKind, Read, Result, Write};
 
-/// A reader that gives its bytes one at a time, and fails once so many were given.
+/// A reader that gives its bytes one at a time, and fails after that many.
 #[derive(Drop)]
 pub struct FailingReader<'a> {
     bytes: &'a [u8],
@@ -75,7 +75,7 @@ impl Read for EndlessReader<'_> {
     }
 }
 
-/// A writer that keeps what it takes, one byte at a time, and fails once so many were taken.
+/// A writer that keeps what it takes, one byte at a time, and fails after that many.
 #[derive(Drop)]
 pub struct FailingWriter {
     taken: Vec<u8>,

@@ -5,7 +5,8 @@ use dm_append_label::{FileId, Page, cut, seal};
 use dm_check_blocks::Size;
 use dm_encodation::Scheme;
 use dm_pbm_io::{image_of, write_image};
-use relay::{MOST_IMAGES, Output, draw_command, read_command};
+use relay::{MOST_IMAGES, draw_command, read_command};
+use relay_streams::{Input, Output};
 use std::alloc::Global;
 use std::io::Read;
 use std::test::Fail;
@@ -14,19 +15,19 @@ const READ: &[u8] = b"symbol 10 corrected 0 wrong 0 313233343536\n";
 
 // The image of the digits 123456.
 fn drawn(alloc: Global, plain: bool) -> Vec<u8> {
-    let mut reader = b"123456".as_slice();
+    let mut input = Input::new(b"123456".as_slice());
     let mut output = Output::new(Vec::new(alloc));
     let mut errors = Output::new(Vec::new(alloc));
     draw_command(
         alloc,
-        &mut reader,
+        &mut input,
         &mut output,
         &mut errors,
         10,
         Scheme::Ascii,
         plain,
     );
-    output.writer
+    output.into_writer()
 }
 
 // The images of the labels of a document under the identification of number 0.
@@ -48,10 +49,11 @@ fn labels(alloc: Global, document: &[u8], size: Size, scheme: Scheme) -> Result<
 }
 
 // What `read` prints, and its status.
-fn read<R: Read + Drop>(alloc: Global, mut reader: R) -> (Vec<u8>, u8) {
+fn read<R: Read + Drop>(alloc: Global, reader: R) -> (Vec<u8>, u8) {
+    let mut input = Input::new(reader);
     let mut output = Output::new(Vec::new(alloc));
-    let status = read_command(alloc, &mut reader, &mut output);
-    (output.writer, status)
+    let status = read_command(alloc, &mut input, &mut output);
+    (output.into_writer(), status)
 }
 
 #[test]
@@ -74,7 +76,7 @@ fn reads_what_draw_has_drawn(rt: HostRuntime) -> Result<(), Fail> {
     Ok(())
 }
 
-// The lines of labels tell the identification, the place among the labels and the bytes.
+// The lines of labels show the identification, the place among the labels and the bytes.
 #[test]
 fn reads_labels(rt: HostRuntime) -> Result<(), Fail> {
     let images = labels(rt.alloc(), b"1234", Size::Side12, Scheme::Ascii)?;
@@ -141,7 +143,7 @@ fn reads_each_form_or_names_why_not(rt: HostRuntime) -> Result<(), Fail> {
 
 // A refused image does not end the command, and an image of 13 pixels a side is no symbol.
 #[test]
-fn goes_on_behind_a_refused_image(rt: HostRuntime) -> Result<(), Fail> {
+fn goes_on_after_a_refused_image(rt: HostRuntime) -> Result<(), Fail> {
     let one = drawn(rt.alloc(), false);
     let odd = [b"P4 13 13\n".as_slice(), [0; 26].as_slice()].concat(rt.alloc())?;
     let light = [b"P4 12 12\n".as_slice(), [0; 24].as_slice()].concat(rt.alloc())?;
@@ -170,14 +172,14 @@ fn ends_where_a_stream_fails(rt: HostRuntime) {
         );
     }
     for passes in 0..READ.len() {
-        let mut reader = image.as_slice();
+        let mut input = Input::new(image.as_slice());
         let mut output = Output::new(FailingWriter::new(Vec::new(rt.alloc()), passes));
         assert_eq!(rt;
-            read_command(rt.alloc(), &mut reader, &mut output),
+            read_command(rt.alloc(), &mut input, &mut output),
             1,
             "{passes}"
         );
-        assert!(rt; READ.starts_with(output.writer.taken()), "{passes}");
+        assert!(rt; READ.starts_with(output.writer().taken()), "{passes}");
     }
 }
 

@@ -3,13 +3,13 @@
 
 use dm_append_label::{FileId, LabelFault, Page, SealFault, open_label, seal, still_near};
 use dm_check_blocks::Size;
-use dm_corrector::correct_symbol;
 use dm_encodation::{DecodeFault, Scheme, decode};
-use dm_finder_frame::{FrameFault, Grid, unframe};
+use dm_finder_frame::Grid;
 use dm_pbm_io::{PbmFault, ShapeFault, grid_of, read_image};
-use dm_placement::lift;
+use dm_symbol::{SymbolFault, correct_grid};
 use refusing::Refusing;
-use relay::{Output, draw_command, read_command, words_command};
+use relay::{draw_command, read_command, words_command};
+use relay_streams::{Input, Output};
 use std::alloc::Allocator;
 use std::test::Fail;
 
@@ -26,15 +26,15 @@ enum Fault {
 fn words_command_is_refused_by_name(rt: HostRuntime) -> Result<(), Fail> {
     for passes in 0..MOST_GROWTHS {
         let memory = Refusing::new(rt.alloc(), passes);
-        let mut reader = b"123456".as_slice();
+        let mut input = Input::new(b"123456".as_slice());
         let mut output = Output::new(Vec::new(rt.alloc()));
-        let status = words_command(&memory, &mut reader, &mut output, 10, Scheme::Ascii);
+        let status = words_command(&memory, &mut input, &mut output, 10, Scheme::Ascii);
         if !memory.is_spent() {
             assert_eq!(rt; (status, passes > 0), (0, true));
             return Ok(());
         }
         assert_eq!(rt; status, 1, "{passes}");
-        assert_eq!(rt; output.writer.as_slice(), b"refused Memory\n".as_slice());
+        assert_eq!(rt; output.writer().as_slice(), b"refused Memory\n".as_slice());
     }
     Err("growths without end".into())
 }
@@ -43,12 +43,12 @@ fn words_command_is_refused_by_name(rt: HostRuntime) -> Result<(), Fail> {
 fn draw_command_is_refused_by_name(rt: HostRuntime) -> Result<(), Fail> {
     for passes in 0..MOST_GROWTHS {
         let memory = Refusing::new(rt.alloc(), passes);
-        let mut reader = b"123456".as_slice();
+        let mut input = Input::new(b"123456".as_slice());
         let mut output = Output::new(Vec::new(rt.alloc()));
         let mut errors = Output::new(Vec::new(rt.alloc()));
         let status = draw_command(
             &memory,
-            &mut reader,
+            &mut input,
             &mut output,
             &mut errors,
             10,
@@ -60,20 +60,20 @@ fn draw_command_is_refused_by_name(rt: HostRuntime) -> Result<(), Fail> {
             return Ok(());
         }
         assert_eq!(rt; status, 1, "{passes}");
-        assert_eq!(rt; output.writer.as_slice(), b"".as_slice());
-        assert_eq!(rt; errors.writer.as_slice(), b"refused Memory\n".as_slice());
+        assert_eq!(rt; output.writer().as_slice(), b"".as_slice());
+        assert_eq!(rt; errors.writer().as_slice(), b"refused Memory\n".as_slice());
     }
     Err("growths without end".into())
 }
 
 #[test]
 fn read_command_is_refused_by_name(rt: HostRuntime) -> Result<(), Fail> {
-    let mut reader = b"123456".as_slice();
+    let mut input = Input::new(b"123456".as_slice());
     let mut image = Output::new(Vec::new(rt.alloc()));
     let mut errors = Output::new(Vec::new(rt.alloc()));
     draw_command(
         rt.alloc(),
-        &mut reader,
+        &mut input,
         &mut image,
         &mut errors,
         10,
@@ -82,15 +82,15 @@ fn read_command_is_refused_by_name(rt: HostRuntime) -> Result<(), Fail> {
     );
     for passes in 0..MOST_GROWTHS {
         let memory = Refusing::new(rt.alloc(), passes);
-        let mut reader = image.writer.as_slice();
+        let mut input = Input::new(image.writer().as_slice());
         let mut output = Output::new(Vec::new(rt.alloc()));
-        let status = read_command(&memory, &mut reader, &mut output);
+        let status = read_command(&memory, &mut input, &mut output);
         if !memory.is_spent() {
             assert_eq!(rt; (status, passes > 0), (0, true));
             return Ok(());
         }
         assert_eq!(rt; status, 1, "{passes}");
-        assert_eq!(rt; output.writer.as_slice(), b"refused Memory\n".as_slice());
+        assert_eq!(rt; output.writer().as_slice(), b"refused Memory\n".as_slice());
     }
     Err("growths without end".into())
 }
@@ -107,19 +107,12 @@ fn document_of<A: Allocator + Copy>(alloc: A, mut bytes: &[u8]) -> Result<Vec<u8
         Err(ShapeFault::Memory) => return Err(Fault::Memory),
         Err(ShapeFault::Shape) => return Err(Fault::Other),
     };
-    let framed = match unframe(alloc, &grid) {
-        Ok(framed) => framed,
-        Err(FrameFault::Memory) => return Err(Fault::Memory),
-        Err(FrameFault::Border { .. }) => return Err(Fault::Other),
+    let symbol = match correct_grid(alloc, &grid) {
+        Ok(symbol) => symbol,
+        Err(SymbolFault::Memory) => return Err(Fault::Memory),
+        Err(_) => return Err(Fault::Other),
     };
-    let Ok(mut words) = lift(alloc, framed.size, &framed.matrix) else {
-        return Err(Fault::Memory);
-    };
-    let words = words.as_mut_slice();
-    if correct_symbol(framed.size, words).is_err() {
-        return Err(Fault::Other);
-    }
-    match decode(alloc, &words[..framed.size.data_words()], 0) {
+    match decode(alloc, symbol.data(), 0) {
         Ok(document) => Ok(document),
         Err(DecodeFault::Memory) => Err(Fault::Memory),
         Err(_) => Err(Fault::Other),
@@ -128,12 +121,12 @@ fn document_of<A: Allocator + Copy>(alloc: A, mut bytes: &[u8]) -> Result<Vec<u8
 
 #[test]
 fn the_way_from_an_image_is_refused_by_name(rt: HostRuntime) -> Result<(), Fail> {
-    let mut reader = b"123456".as_slice();
+    let mut input = Input::new(b"123456".as_slice());
     let mut output = Output::new(Vec::new(rt.alloc()));
     let mut errors = Output::new(Vec::new(rt.alloc()));
     draw_command(
         rt.alloc(),
-        &mut reader,
+        &mut input,
         &mut output,
         &mut errors,
         18,
@@ -142,7 +135,7 @@ fn the_way_from_an_image_is_refused_by_name(rt: HostRuntime) -> Result<(), Fail>
     );
     for passes in 0..MOST_GROWTHS {
         let memory = Refusing::new(rt.alloc(), passes);
-        let document = document_of(&memory, output.writer.as_slice());
+        let document = document_of(&memory, output.writer().as_slice());
         if !memory.is_spent() {
             let document = document.map_err(|_| "refused without a refused growth")?;
             assert_eq!(rt; document.as_slice(), b"123456".as_slice());

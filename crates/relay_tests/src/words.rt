@@ -2,7 +2,8 @@
 
 use crate::failing::{FailingReader, FailingWriter};
 use dm_encodation::Scheme;
-use relay::{Output, words_command};
+use relay::words_command;
+use relay_streams::{Input, Output};
 use std::test::Fail;
 
 const WORKED: &[u8] = b"142 164 186 114 25 5 88 102\n";
@@ -26,12 +27,15 @@ fn prints_or_refuses(rt: HostRuntime) -> Result<(), Fail> {
         (long.as_slice(), 132, b"refused TooLong\n".as_slice(), 1),
     ];
     for (document, side, begins, status) in cases {
-        let mut reader = document;
+        let mut input = Input::new(document);
         let mut output = Output::new(Vec::new(rt.alloc()));
-        let answered = words_command(rt.alloc(), &mut reader, &mut output, side, Scheme::Ascii);
+        let answered = words_command(rt.alloc(), &mut input, &mut output, side, Scheme::Ascii);
         assert_eq!(rt; answered, status);
-        assert!(rt; output.writer.as_slice().starts_with(begins), "side {side}");
-        assert_eq!(rt; output.writer.as_slice().last(), Some(&b'\n'));
+        assert!(rt;
+            output.writer().as_slice().starts_with(begins),
+            "side {side}"
+        );
+        assert_eq!(rt; output.writer().as_slice().last(), Some(&b'\n'));
     }
     Ok(())
 }
@@ -39,12 +43,12 @@ fn prints_or_refuses(rt: HostRuntime) -> Result<(), Fail> {
 #[test]
 fn a_reader_that_fails_is_refused(rt: HostRuntime) {
     for passes in 0..6usize {
-        let mut reader = FailingReader::new(b"123456", passes);
+        let mut input = Input::new(FailingReader::new(b"123456", passes));
         let mut output = Output::new(Vec::new(rt.alloc()));
-        let status = words_command(rt.alloc(), &mut reader, &mut output, 10, Scheme::Ascii);
+        let status = words_command(rt.alloc(), &mut input, &mut output, 10, Scheme::Ascii);
         assert_eq!(rt; status, 1, "after {passes} bytes");
         assert_eq!(rt;
-            output.writer.as_slice(),
+            output.writer().as_slice(),
             b"refused Read\n".as_slice(),
             "after {passes} bytes"
         );
@@ -54,13 +58,13 @@ fn a_reader_that_fails_is_refused(rt: HostRuntime) {
 #[test]
 fn a_writer_that_fails_ends_with_one(rt: HostRuntime) {
     for passes in 0..WORKED.len() {
-        let mut reader = b"123456".as_slice();
+        let mut input = Input::new(b"123456".as_slice());
         let mut output = Output::new(FailingWriter::new(Vec::new(rt.alloc()), passes));
-        let status = words_command(rt.alloc(), &mut reader, &mut output, 10, Scheme::Ascii);
+        let status = words_command(rt.alloc(), &mut input, &mut output, 10, Scheme::Ascii);
         assert_eq!(rt; status, 1, "after {passes} bytes");
-        assert!(rt; output.failed);
+        assert!(rt; output.has_failed());
         assert_eq!(rt;
-            output.writer.taken(),
+            output.writer().taken(),
             &WORKED[..passes],
             "after {passes} bytes"
         );

@@ -2,7 +2,7 @@ use Rattle.std.proofs.Common.{◌≡◌, ◌∷◌, sym, ◌∙◌, ap, arith, l
 use Rattle.dm_gf256.specs.Field.{product, power}
 use Rattle.dm_gf256.specs.Polynomial.{value}
 use Rattle.dm_gf256.proofs.Ring.{product-zero_l, power_byte}
-use Rattle.dm_check_blocks.proofs.Remainders.{zeros_value, turn, whole}
+use Rattle.dm_check_blocks.proofs.Remainders.{zeros_value, next_word, whole}
 use Rattle.dm_check_blocks.proofs.checks.fill.Goals as goal
 
 pub loop-word-init : goal.loop-word-init
@@ -11,7 +11,7 @@ loop-word-init c = λ x h z. zeros_value c.loop-check.checks x (λ k l. c.loop-c
 
 pub loop-word-preserved : goal.loop-word-preserved
 loop-word-preserved c = λ x h z.
-    turn c.args.message.now c.loop-word.word-index x _ (value c.loop-word.checks x) (value c.step.new.checks x) c.loop-word-test.true (omega arith) (c.loop-word.invariant x h z) (c.step.ensures x h z)
+    next_word c.args.message.now c.loop-word.word-index x _ (value c.loop-word.checks x) (value c.step.new.checks x) c.loop-word-test.true (omega arith) (c.loop-word.invariant x h z) (c.step.ensures x h z)
 
 pub returns : goal.returns
 returns c = λ k p q.

@@ -1,13 +1,12 @@
-use Rattle.std.proofs.Common.{◌≡◌, ◌+◌, ◌++◌, ◌∙◌, ap, arith, drop, get_or, length}
-use Rattle.dm_check_blocks.specs.Sizes.{data_words, all_words}
+use Rattle.std.proofs.Common.{◌≡◌, ◌++◌, ◌∙◌, ap, arith, drop, get_or, length}
+use Rattle.dm_check_blocks.specs.Sizes.{all_words}
 use Rattle.dm_check_blocks.proofs.Symbols.{completes_taken, one_symbol}
 use Rattle.dm_check_blocks.proofs.symbol.complete.Goals as goal
 
 pub returns : goal.returns
 returns g c =
     let s = c.args.size in let message = c.args.message.now in let words = c.complete_blocks.new.words in
-    let n = c.data_words-2.result + c.check_words-2.result in
-    let all : n ≡ all_words s = ap (λ t. t + c.check_words-2.result) c.data_words-2.ensures.value ∙ ap (λ t. data_words s + t) c.check_words-2.ensures.value in
+    let all : c.all_words-2.result ≡ all_words s = c.all_words-2.ensures.value in
     let started : c.extend_from_slice.new.self.items ≡ message = c.in_ok-extend_from_slice.ensures.items ∙ ap (λ t. t ++ message) c.in_ok-words.ensures.items in
     let long : length words ≡ c.resize.new.self.len = c.complete_blocks.auto.words ∙ c.as_mut_slice.ensures.len in
     let whole : length words ≡ all_words s = long ∙ c.in_ok-resize.ensures.len ∙ all in

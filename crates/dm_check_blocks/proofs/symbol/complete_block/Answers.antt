@@ -1,9 +1,9 @@
-use Rattle.std.proofs.Common.{◌≡◌, ◌/◌, ◌++◌, ℕ, List, sym, ◌∙◌, ap, inl, arith, length, length-take, take, replicate}
+use Rattle.std.proofs.Common.{◌≡◌, ◌++◌, ℕ, List, sym, ◌∙◌, ap, inl, arith, length, length-take, take, replicate}
 use Rattle.std.proofs.lemmas.List.{get_or-take}
 use Rattle.dm_gf256.specs.Field.{power}
 use Rattle.dm_gf256.specs.Polynomial.{value}
-use Rattle.dm_check_blocks.specs.Sizes.{data_words}
-use Rattle.dm_check_blocks.specs.Blocks.{position, block_data, block_of}
+use Rattle.dm_check_blocks.specs.Sizes.{block_data}
+use Rattle.dm_check_blocks.specs.Blocks.{position, block_of}
 use Rattle.dm_check_blocks.proofs.Interleaving.{block_of-parts, position_in_data}
 use Rattle.dm_check_blocks.proofs.symbol.complete_block.Goals as goal
 
@@ -11,10 +11,10 @@ pub returns-clause-completed : goal.returns-clause-completed
 returns-clause-completed c =
     let s = c.args.size in let b = c.args.block in
     let data' = c.data_of_block-data.result in
-    let d : ℕ = c.data_words.result / c.blocks-2.result in
-    let whole : d ≡ block_data s = ap (λ t. t / c.blocks-2.result) c.data_words.ensures.value ∙ ap (λ t. data_words s / t) c.blocks-2.ensures.value in
-    let few = c.data_words.ensures.sound.most_block_data in
-    let most = c.data_words.ensures.sound.most_checks in
+    let d : ℕ = c.block_data.result in
+    let whole : d ≡ block_data s = c.block_data.ensures.value in
+    let few = c.block_data.ensures.sound.most_block_data in
+    let most = c.block_data.ensures.sound.most_checks in
     let n = length c.args.generator.now in
     let zeros : length (take n (let z : List ℕ = replicate 68 0 in z)) ≡ n = simp length-take (omega arith) in
     let long : length c.fill.new.checks ≡ n = c.fill.auto.checks ∙ zeros in

@@ -1,6 +1,6 @@
-use Rattle.std.proofs.Common.{◌≡◌, ◌/◌, ◌∙◌, ap, arith, get_or, length-set, refl}
+use Rattle.std.proofs.Common.{◌≡◌, ap, arith, get_or, length-set, refl}
 use Rattle.dm_check_blocks.specs.Blocks.{position}
-use Rattle.dm_check_blocks.specs.Sizes.{data_words, blocks}
+use Rattle.dm_check_blocks.specs.Sizes.{block_data}
 use Rattle.dm_check_blocks.proofs.Interleaving.{gathered_more}
 use Rattle.dm_check_blocks.proofs.symbol.data_of_block.Goals as goal
 
@@ -9,9 +9,8 @@ loop-i-init c = record { size = refl; read = λ j q. absurd (omega arith) }
 
 pub loop-i-preserved : goal.loop-i-preserved
 loop-i-preserved c =
-    let whole : c.data_words.result / c.blocks-2.result ≡ data_words c.args.size / blocks c.args.size =
-    ap (λ t. t / c.blocks-2.result) c.data_words.ensures.value ∙ ap (λ t. data_words c.args.size / t) c.blocks-2.ensures.value in
-    let few = c.data_words.ensures.sound.most_block_data in
+    let whole : c.block_data-i-end.result ≡ block_data c.args.size = c.block_data-i-end.ensures.value in
+    let few = c.block_data-i-end.ensures.sound.most_block_data in
     record {
       size = simp length-set c.loop-i.invariant.size;
       read =

@@ -1,7 +1,7 @@
 use Rattle.std.proofs.Common.{refl, ◌∙◌, arith}
 use Rattle.dm_gf256.specs.Polynomial.{differ}
 use Rattle.dm_corrector.proofs.Differences.{differ_other, differ_same}
-use Rattle.dm_corrector.proofs.Words.{all_bytes}
+use Rattle.dm_corrector.proofs.WordsByPlace.{all_bytes}
 use Rattle.dm_corrector.proofs.block.differing.Goals.{then-left-i, else-left-i}
 use Rattle.dm_corrector.proofs.block.differing.Goals as goal
 

@@ -1,7 +1,7 @@
 use Rattle.std.proofs.Common.{◌≡◌, ◌<◌, ◌+◌, ℕ, get_or, true, false}
 use Rattle.dm_gf256.specs.Elements.{numbers}
-use Rattle.dm_corrector.specs.Polynomials.{combination}
-use Rattle.dm_corrector.specs.Rows.{row_at}
+use Rattle.dm_corrector.specs.Locators.{combination}
+use Rattle.dm_corrector.specs.inner.Rows.{row_at}
 use Rattle.dm_corrector.proofs.elimination.pivot.Given as goal
 
 abbrev pub invariant-loop-k : goal.invariant-loop-k

@@ -1,6 +1,6 @@
 use Rattle.std.proofs.Common.{◌∙◌, ◌+◌, get_or}
 use Rattle.dm_gf256.specs.Elements.{numbers}
-use Rattle.dm_corrector.specs.Rows.{row_at}
+use Rattle.dm_corrector.specs.inner.Rows.{row_at}
 use Rattle.dm_corrector.proofs.RowsReduced.{whole_row}
 use Rattle.dm_corrector.proofs.elimination.row_equation.Goals as goal
 

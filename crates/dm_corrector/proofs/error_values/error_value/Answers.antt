@@ -3,7 +3,7 @@ use Rattle.std.specs.Int.Bits.{bit_xor}
 use Rattle.dm_gf256.proofs.Ring.{one-product, power_byte}
 use Rattle.dm_gf256.proofs.Vanish.{value-moment}
 use Rattle.dm_gf256.specs.Field.{product, power}
-use Rattle.dm_corrector.proofs.ErrorTurns.{moment-unweighed, scale_pos, told, next_sum, next_scale}
+use Rattle.dm_corrector.proofs.ErrorValueSteps.{moment-unweighed, scale_pos, error_found, next_sum, next_scale}
 use Rattle.dm_corrector.proofs.ErrorValues.{others, turn_same, scale_same}
 use Rattle.dm_corrector.proofs.error_values.error_value.Goals.{then-root-at, else-root-at}
 use Rattle.dm_corrector.proofs.error_values.error_value.Goals as goal
@@ -13,7 +13,7 @@ unfolding others
 loop-index-init c = record {
   size = c.first_sums-sums.ensures.size;
   sums = λ w s k h. c.first_sums-sums.ensures.values k (omega arith) ∙ s k (omega arith) ∙ value-moment w (suc k) ∙ sym (moment-unweighed c.args.at w (suc k));
-  scale = c.alpha-locator.ensures ∙ sym (one-product (power 2 c.args.at) (power_byte 2 c.args.at (omega arith)));
+  scale = c.alpha-position_value.ensures ∙ sym (one-product (power 2 c.args.at) (power_byte 2 c.args.at (omega arith)));
 }
 
 pub loop-index-preserved : goal.loop-index-preserved
@@ -33,7 +33,7 @@ loop-index-preserved c =
             scale =
                 w.scale-is
                 ∙ next_scale c.args.at f c.args.roots.now c.loop-index.index c.loop-index.scale w.mul-scale.result.0 c.loop-index-test.true refl w.if-root-at.true c.loop-index.invariant.scale
-                (w.mul-scale.ensures ∙ ap (λ t. product c.loop-index.scale (bit_xor t w.alpha-other.result.0)) c.alpha-locator.ensures
+                (w.mul-scale.ensures ∙ ap (λ t. product c.loop-index.scale (bit_xor t w.alpha-other.result.0)) c.alpha-position_value.ensures
                 ∙ ap (λ t. product c.loop-index.scale (bit_xor (power 2 c.args.at) t)) w.alpha-other.ensures);
           })
       | else-root-at w ↦
@@ -55,5 +55,5 @@ inv-requires c = scale_pos c.args.at c.args.roots.now c.loop-index.index c.loop-
 pub returns : goal.returns
 returns c = λ w s y none.
     c.mul.ensures
-    ∙ told c.args.at c.args.roots.now w c.loop-index.index _ c.inv.result.0 c.loop-index.scale c.loop-index-test.false c.requires.place c.requires.places none y
+    ∙ error_found c.args.at c.args.roots.now w c.loop-index.index _ c.inv.result.0 c.loop-index.scale c.loop-index-test.false c.requires.place c.requires.places none y
     (c.loop-index.invariant.sums w s 0 (omega arith)) c.loop-index.invariant.scale c.inv.ensures

@@ -2,7 +2,7 @@ use Rattle.std.proofs.Common.{◌≡◌, ◌≤◌, ◌+◌, ℕ, suc, get_or, l
 use Rattle.dm_gf256.specs.Field.{product, power}
 use Rattle.dm_gf256.specs.Elements.{numbers}
 use Rattle.dm_gf256.proofs.Vanish.{moment, weigh}
-use Rattle.dm_corrector.specs.Corrections.{AreSyndromes}
+use Rattle.dm_corrector.specs.inner.Syndromes.{AreSyndromes}
 use Rattle.dm_corrector.proofs.ErrorValues.{others}
 use Rattle.dm_corrector.proofs.error_values.error_value.Given as goal
 

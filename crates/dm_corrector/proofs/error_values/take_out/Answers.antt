@@ -1,14 +1,16 @@
-use Rattle.std.proofs.Common.{sym, ap, subst, List, ◌∙◌, ◌≡◌, ◌<◌, ◌≤◌, ◌-◌, ◌+◌, arith, length, ℕ, get_or, take, ⊎_elim}
+use Rattle.std.proofs.Common.{refl, sym, ap, subst, List, ◌∙◌, ◌≡◌, ◌<◌, ◌≤◌, ◌-◌, ◌+◌, arith, length, ℕ, get_or, take, ⊎_elim}
 use Rattle.std.proofs.lemmas.List.{take_all}
 use Rattle.std.proofs.lemmas.List.Elements.{recursion_from_All}
 use Rattle.std.specs.List.{Contains}
 use Rattle.std.specs.Int.Bits.{bit_xor, xor_zero_r}
-use Rattle.dm_corrector.proofs.Words.{sum_word-by_places}
+use Rattle.dm_gf256.proofs.OneBlockWord.{differ-self}
+use Rattle.dm_corrector.proofs.WordsByPlace.{sum_word-by_places}
 use Rattle.dm_corrector.proofs.Entries.{entry-get, entry_byte}
 use Rattle.dm_corrector.proofs.ErrorValues.{Among, among_or_not, among_from_contains}
 use Rattle.dm_corrector.proofs.RootSearch.{descends_below}
-use Rattle.dm_corrector.proofs.TakingOut.{below_first, done_more, rest_more}
-use Rattle.dm_corrector.specs.Polynomials.{entry}
+use Rattle.dm_corrector.proofs.Differences.{differ-set_le}
+use Rattle.dm_corrector.proofs.TakingOutSteps.{below_first, done_more, rest_more}
+use Rattle.dm_corrector.specs.inner.Polynomials.{entry}
 use Rattle.dm_corrector.proofs.error_values.take_out.Goals as goal
 
 pub overflow_sub-place : goal.overflow_sub-place
@@ -29,6 +31,13 @@ error_value-requires-clause-place c =
     let h : get_or c.args.roots.now c.loop-root.root-index 0 < length c.args.block.now = below_first (length c.args.block.now) c.args.roots.now c.loop-root.root-index c.requires.falling c.loop-root-test.true in
     omega arith
 
+pub loop-root-init : goal.loop-root-init
+loop-root-init c = record {
+  done = λ w m b z none k j s a. absurd a;
+  rest = λ k j s a. refl;
+  few = omega (arith, differ-self c.args.block.now);
+}
+
 pub loop-root-preserved : goal.loop-root-preserved
 loop-root-preserved c =
     let i = c.loop-root.root-index in
@@ -41,6 +50,7 @@ loop-root-preserved c =
           done_more c.args.block.now c.loop-root.block w c.args.roots.now i p c.error_value.result c.loop-root.auto.block m c.loop-root-test.true c.requires.falling s
           (c.error_value.ensures w z (entry_byte w f (recursion_from_All (λ x. x < 256) w b)) (λ j d q. none j d)) (c.loop-root.invariant.done w m b z none) c.loop-root.invariant.rest;
       rest = rest_more c.args.block.now c.loop-root.block c.args.roots.now i p _ c.loop-root-test.true s c.loop-root.invariant.rest;
+      few = omega (arith, differ-set_le c.args.block.now c.loop-root.block p (bit_xor (get_or c.loop-root.block p 0) c.error_value.result), c.loop-root.invariant.few);
     }
 
 -- each place is corrected: there is a root, or there is no error
@@ -59,7 +69,7 @@ by_places old now w roots i l n none done rest k h =
     ∙ ap (bit_xor (get_or old k 0)) (sym (sym (entry-get w j k (omega arith)) ∙ none j (λ q. a (subst P (sym all) (among_from_contains roots j q))))))
     (among_or_not j (take i roots))
 
-pub returns : goal.returns
-returns c = λ w e b s none.
+pub returns-clause-taken : goal.returns-clause-taken
+returns-clause-taken c = λ w e b s none.
     sum_word-by_places c.loop-root.block c.args.block.now w c.loop-root.auto.block e
     (by_places c.args.block.now c.loop-root.block w c.args.roots.now c.loop-root.root-index c.loop-root-test.false e none (c.loop-root.invariant.done w e b s none) c.loop-root.invariant.rest)

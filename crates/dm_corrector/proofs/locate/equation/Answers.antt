@@ -1,5 +1,5 @@
 use Rattle.std.proofs.Common.{refl, arith}
-use Rattle.dm_corrector.specs.Polynomials.{combination}
+use Rattle.dm_corrector.specs.Locators.{combination}
 use Rattle.dm_corrector.proofs.Combinations.{combination_more}
 use Rattle.dm_corrector.proofs.locate.equation.Goals as goal
 

@@ -1,8 +1,8 @@
 use Rattle.std.proofs.Common.{◌≡◌, ◌<◌, ◌≤◌, ◌/◌, ◌+◌, refl, sym, ap, ◌∙◌, arith, get_or, length, ⊎_elim}
 use Rattle.std.proofs.lemmas.Bool.{cases_lt, false≢true}
 use Rattle.dm_gf256.specs.Elements.{numbers}
-use Rattle.dm_corrector.specs.Polynomials.{combination}
-use Rattle.dm_corrector.proofs.Words.{all_bytes, same_default}
+use Rattle.dm_corrector.specs.Locators.{combination}
+use Rattle.dm_corrector.proofs.WordsByPlace.{all_bytes, same_default}
 use Rattle.dm_corrector.proofs.SyndromeWords.{some_nonzero}
 use Rattle.dm_corrector.proofs.massey.is_locator.Goals as goal
 

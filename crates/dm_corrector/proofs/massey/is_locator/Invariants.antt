@@ -1,6 +1,6 @@
 use Rattle.std.proofs.Common.{◌≡◌, ◌<◌, ◌+◌, ℕ, get_or}
 use Rattle.dm_gf256.specs.Elements.{numbers}
-use Rattle.dm_corrector.specs.Polynomials.{combination}
+use Rattle.dm_corrector.specs.Locators.{combination}
 use Rattle.dm_corrector.proofs.massey.is_locator.Given as goal
 
 abbrev pub invariant-loop-from : goal.invariant-loop-from

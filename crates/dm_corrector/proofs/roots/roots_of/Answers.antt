@@ -9,7 +9,7 @@ use Rattle.dm_corrector.proofs.Evaluation.{zeros_at}
 use Rattle.dm_corrector.proofs.LowValues.{root_from_inverse, inverse_from_root, two_inverse}
 use Rattle.dm_corrector.proofs.RootBound.{fewer_roots}
 use Rattle.dm_corrector.proofs.RootSearch.{room, falling_more, past_more, roots_more, all_more, all_same}
-use Rattle.dm_corrector.specs.Polynomials.{at_low}
+use Rattle.dm_corrector.specs.inner.Polynomials.{at_low}
 use Rattle.dm_corrector.proofs.roots.roots_of.Goals as goal
 use Rattle.dm_corrector.proofs.roots.roots_of.Goals.{then-values-place-eq0, else-values-place-eq0}
 

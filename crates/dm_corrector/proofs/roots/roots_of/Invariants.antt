@@ -3,7 +3,7 @@ use Rattle.std.specs.List.{All, Contains}
 use Rattle.dm_gf256.specs.Elements.{numbers}
 use Rattle.dm_gf256.specs.Field.{power}
 use Rattle.dm_corrector.proofs.RootBound.{AllRoots}
-use Rattle.dm_corrector.specs.Polynomials.{at_low, Descends}
+use Rattle.dm_corrector.specs.inner.Polynomials.{at_low, Descends}
 use Rattle.dm_corrector.proofs.roots.roots_of.Given as goal
 
 abbrev pub invariant-loop-place : goal.invariant-loop-place

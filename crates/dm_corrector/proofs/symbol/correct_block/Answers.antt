@@ -1,4 +1,4 @@
-use Rattle.std.proofs.Common.{◌≡◌, ◌<◌, ◌≤◌, ◌+◌, ◌*◌, ◌/◌, ◌%◌, ℕ, List, sym, ap, ◌∙◌, subst, arith, length, length-take, get_or, Result, Ok, Err, OnErr}
+use Rattle.std.proofs.Common.{◌≡◌, ◌<◌, ◌≤◌, ◌+◌, ◌*◌, ◌%◌, ℕ, List, sym, ap, ◌∙◌, subst, arith, length, length-take, get_or, Result, Ok, Err, OnErr}
 use Rattle.std.proofs.lemmas.Nat.{mod-mul-add}
 use Rattle.dm_gf256.specs.Polynomial.{differ}
 use Rattle.dm_check_blocks.specs.declared.size.Size.{Size}
@@ -21,27 +21,24 @@ carried s checks b old new block after n e f c =
     let R : List ℕ → Type 0 = λ v. Corrects checks block v in
     subst P n (subst Q e (subst R f c))
 
-quotient : (m n p q : ℕ) → m ≡ p → n ≡ q → m / n ≡ p / q
-quotient m n p q e f = ap (λ t. t / n) e ∙ ap (λ t. p / t) f
-
 pub returns-in_err-changed-clause-none : goal.returns-in_err-changed-clause-none
 returns-in_err-changed-clause-none c = on_any_err c.from_residual.result (λ w r.
     let s = c.args.size in
     let b = c.args.number in
     let t = c.blocks-blocks.ensures.sound in
-    let n : length c.args.words.now / c.blocks-blocks.result ≡ block_length s = quotient _ _ _ _ c.requires.count c.blocks-blocks.ensures.value in
+    let n : c.block_length.result ≡ block_length s = c.block_length.ensures.value in
     let longest : block_length s ≤ 243 = t.longest_block in
     let m : length c.gather.new.block ≡ block_length s = c.gather.auto.block ∙ simp length-take (omega arith) in
     let before : c.gather.new.block ≡ block_of s b c.args.words.now =
     is_block s b c.args.words.now c.gather.new.block t m (λ i l. c.gather.ensures i (simp length-take (omega arith)) ∙ ap (λ k. get_or c.args.words.now (i * k + b) 0) c.blocks-blocks.ensures.value) in
-    let checks : c.check_words.result / c.blocks-blocks.result ≡ block_checks s = quotient _ _ _ _ c.check_words.ensures.value c.blocks-blocks.ensures.value in
+    let checks : c.block_checks.result ≡ block_checks s = c.block_checks.ensures.value in
     c.in_err-changed.ensures.none w (rw (checks, before) r))
 
 pub scatter-requires-clause-inside : goal.scatter-requires-clause-inside
 scatter-requires-clause-inside c = λ k h.
     let s = c.args.size in
     let t = c.blocks-blocks.ensures.sound in
-    let n : length c.args.words.now / c.blocks-blocks.result ≡ block_length s = quotient _ _ _ _ c.requires.count c.blocks-blocks.ensures.value in
+    let n : c.block_length.result ≡ block_length s = c.block_length.ensures.value in
     let longest : block_length s ≤ 243 = t.longest_block in
     let m : length c.gather.new.block ≡ block_length s = c.gather.auto.block ∙ simp length-take (omega arith) in
     let same : length c.correct.new.block ≡ length c.gather.new.block = c.correct.auto.block in
@@ -55,7 +52,7 @@ returns-clause-near c =
     let s = c.args.size in
     let b = c.args.number in
     let t = c.blocks-blocks.ensures.sound in
-    let n : length c.args.words.now / c.blocks-blocks.result ≡ block_length s = quotient _ _ _ _ c.requires.count c.blocks-blocks.ensures.value in
+    let n : c.block_length.result ≡ block_length s = c.block_length.ensures.value in
     let longest : block_length s ≤ 243 = t.longest_block in
     let m : length c.gather.new.block ≡ block_length s = c.gather.auto.block ∙ simp length-take (omega arith) in
     let same : length c.correct.new.block ≡ length c.gather.new.block = c.correct.auto.block in
@@ -63,7 +60,7 @@ returns-clause-near c =
     is_block s b c.args.words.now c.gather.new.block t m (λ i l. c.gather.ensures i (simp length-take (omega arith)) ∙ ap (λ k. get_or c.args.words.now (i * k + b) 0) c.blocks-blocks.ensures.value) in
     let after : c.correct.new.block ≡ block_of s b c.scatter.new.words =
     is_block s b c.scatter.new.words c.correct.new.block t (same ∙ m) (λ i l. sym (c.scatter.ensures.own i (omega arith)) ∙ ap (λ k. get_or c.scatter.new.words (i * k + b) 0) c.blocks-blocks.ensures.value) in
-    carried s _ b c.args.words.now c.scatter.new.words c.gather.new.block c.correct.new.block (quotient _ _ _ _ c.check_words.ensures.value c.blocks-blocks.ensures.value) before after c.in_ok-changed.ensures.near
+    carried s _ b c.args.words.now c.scatter.new.words c.gather.new.block c.correct.new.block c.block_checks.ensures.value before after c.in_ok-changed.ensures.near
 
 pub returns-clause-others : goal.returns-clause-others
 returns-clause-others c = λ b l d.
@@ -80,13 +77,14 @@ returns-clause-changed c = λ before same e.
     let s = c.args.size in
     let b = c.args.number in
     let t = c.blocks-blocks.ensures.sound in
-    let n : length c.args.words.now / c.blocks-blocks.result ≡ block_length s = quotient _ _ _ _ c.requires.count c.blocks-blocks.ensures.value in
+    let n : c.block_length.result ≡ block_length s = c.block_length.ensures.value in
     let longest : block_length s ≤ 243 = t.longest_block in
     let m : length c.gather.new.block ≡ block_length s = c.gather.auto.block ∙ simp length-take (omega arith) in
     let kept : length c.correct.new.block ≡ length c.gather.new.block = c.correct.auto.block in
     let move : (words : List ℕ) (k : ℕ) → get_or words (k * c.blocks-blocks.result + b) 0 ≡ get_or words (k * blocks s + b) 0 = λ words k. ap (λ n. get_or words (k * n + b) 0) c.blocks-blocks.ensures.value in
     let alike : (k : ℕ) → k < block_length s → get_or c.args.words.now (k * c.blocks-blocks.result + b) 0 ≡ get_or before (k * c.blocks-blocks.result + b) 0 =
     λ k l. move c.args.words.now k ∙ sym (block_of-at s b c.args.words.now k t l) ∙ ap (λ x. get_or x k 0) (sym e) ∙ block_of-at s b before k t l ∙ sym (move before k) in
-    c.scatter.ensures.changed before c.gather.new.block same (sym kept)
-    (λ k l. (c.gather.ensures k (simp length-take (omega arith)) ∙ alike k (omega arith), alike k (omega arith)))
+    let gathered : (k : ℕ) → k < length c.gather.new.block → get_or c.gather.new.block k 0 ≡ get_or c.args.words.now (k * c.blocks-blocks.result + b) 0 =
+    λ k l. c.gather.ensures k (simp length-take (omega arith)) in
+    c.scatter.ensures.changed before c.gather.new.block same (sym kept) (λ k l. gathered k l ∙ alike k (omega arith)) gathered
     ∙ ap (λ v. differ before c.args.words.now + v) (sym c.in_ok-changed.ensures.changed)

@@ -1,12 +1,12 @@
 use Rattle.std.proofs.Common.{◌≡◌, ◌<◌, ◌≤◌, ◌+◌, ℕ, List, sym, ap, ◌∙◌, subst, arith, length}
 use Rattle.dm_gf256.specs.Polynomial.{differ}
-use Rattle.dm_gf256.proofs.Words.{differ-self}
+use Rattle.dm_gf256.proofs.OneBlockWord.{differ-self}
 use Rattle.dm_check_blocks.specs.Sizes.{all_words, blocks, block_checks, block_length}
 use Rattle.dm_check_blocks.specs.Blocks.{block_of}
 use Rattle.dm_corrector.specs.Corrections.{Corrects}
 use Rattle.dm_corrector.proofs.Corrected.{one_correction}
 use Rattle.dm_corrector.proofs.Differences.{differ_le}
-use Rattle.dm_corrector.proofs.Words.{all_bytes}
+use Rattle.dm_corrector.proofs.WordsByPlace.{all_bytes}
 use Rattle.dm_corrector.proofs.SymbolBlocks.{same_symbol, length-block_of}
 use Rattle.dm_corrector.proofs.symbol.correct_symbol.Goals as goal
 

@@ -46,7 +46,7 @@ loop-k-init c = record {
 }
 
 pub returns-clause-changed : goal.returns-clause-changed
-returns-clause-changed c = λ before old e f h.
+returns-clause-changed c = λ before old e f from_before from_words.
     let n : length c.args.block.now ≤ c.loop-k.k = c.loop-k-test.false in
-    c.loop-k.invariant.changed before old e f h
+    c.loop-k.invariant.changed before old e f (λ i l. (from_before i (omega arith), sym (from_words i (omega arith)) ∙ from_before i (omega arith)))
     ∙ ap (λ v. differ before c.args.words.now + v) (ap (λ v. differ v (take c.loop-k.k c.args.block.now)) (take_all c.loop-k.k old (omega arith)) ∙ ap (differ old) (take_all c.loop-k.k c.args.block.now n))

@@ -4,7 +4,7 @@ use Rattle.std.specs.Int.Bits.{bit_xor}
 use Rattle.dm_gf256.specs.Field.{product, power}
 use Rattle.dm_gf256.specs.Polynomial.{value}
 use Rattle.dm_corrector.proofs.Evaluation.{value_more, zeros_at}
-use Rattle.dm_corrector.proofs.Words.{all_bytes}
+use Rattle.dm_corrector.proofs.WordsByPlace.{all_bytes}
 use Rattle.dm_corrector.proofs.syndromes.syndromes_of.Goals as goal
 
 pub loop-word-init : goal.loop-word-init

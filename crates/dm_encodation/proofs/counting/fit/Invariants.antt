@@ -1,5 +1,5 @@
 use Rattle.std.proofs.Common.{take}
-use Rattle.dm_encodation.specs.Counting.{Counts}
+use Rattle.dm_encodation.specs.inner.Counting.{Counts}
 use Rattle.dm_encodation.proofs.Prefixes.{FitsSoFar}
 use Rattle.dm_encodation.proofs.counting.fit.Given as goal
 

@@ -1,14 +1,14 @@
 use Rattle.std.proofs.Common.{drop, ◌+◌, arith, sym, ap, ◌∙◌, List, ℕ, Ok}
 use Rattle.std.proofs.lemmas.Result.{err_from_is_err_and}
-use Rattle.dm_encodation.specs.Seen.{bytes_of}
-use Rattle.dm_encodation.specs.Reading.{reading, prepend}
+use Rattle.dm_encodation.specs.inner.StepViews.{bytes_of}
+use Rattle.dm_encodation.specs.inner.Reading.{reading, prepend}
 use Rattle.dm_encodation.specs.declared.mode.Mode.TheVariants.{Ascii}
-use Rattle.dm_encodation.proofs.Turns.{goes_on, fails_at, finishes, fails_last, fails_so}
+use Rattle.dm_encodation.proofs.DecodeLoopSteps.{goes_on, fails_at, finishes, fails_last, fails_so}
 use Rattle.dm_encodation.proofs.decoding.collect.Goals as goal
 
 pub returns-in_err-next-clause-fails : goal.returns-in_err-next-clause-fails
 returns-in_err-next-clause-fails g c =
-    let p = err_from_is_err_and c.from_residual.result c.from_residual.ensures.1 in
+    let p = err_from_is_err_and c.from_residual-in_err-next.result c.from_residual-in_err-next.ensures.1 in
     let total = reading Ascii (c.args.from + 1) (drop c.args.from c.args.words.now) in
     rw (p.1, p.2) (fails_so c.in_err-next.field-0.0 total (fails_at c.loop-at.mode c.loop-at.at c.args.words.now c.loop-at.out.items c.in_err-next.field-0.0 total c.loop-at-test.true c.in_err-next.ensures.step c.loop-at.invariant.so_far))
 

@@ -1,6 +1,6 @@
 use Rattle.std.proofs.Common.{◌≡◌, ◌+◌, drop}
-use Rattle.dm_encodation.specs.Seen.{IsMode}
-use Rattle.dm_encodation.specs.Reading.{prepend, reading}
+use Rattle.dm_encodation.specs.inner.StepViews.{IsMode}
+use Rattle.dm_encodation.specs.inner.Reading.{prepend, reading}
 use Rattle.dm_encodation.specs.declared.mode.Mode.TheVariants.{Ascii}
 use Rattle.dm_encodation.proofs.decoding.collect.Given as goal
 

@@ -1,3 +1,4 @@
+use Rattle.std.proofs.Common.{refl}
 use Rattle.dm_encodation.specs.Written.{text}
 use Rattle.dm_encodation.proofs.Counters.{short_base_256}
 use Rattle.dm_encodation.proofs.encoding.push_text.Goals as goal
@@ -5,13 +6,13 @@ use Rattle.dm_encodation.proofs.encoding.push_text.Goals as goal
 pub push_base_256-requires-clause-short : goal.push_base_256-requires-clause-short
 push_base_256-requires-clause-short g c = short_base_256 c.args.bytes.now (rw c.in-Base256.is at c.requires.short)
 
-pub returns-in-Ascii : goal.returns-in-Ascii
+pub returns-in_ok-push_ascii-in-Ascii : goal.returns-in_ok-push_ascii-in-Ascii
 unfolding text
-returns-in-Ascii g c = rw c.in-Ascii.is c.push_ascii.ensures
+returns-in_ok-push_ascii-in-Ascii g c = rw c.in-Ascii.is (record { words = c.in_ok-push_ascii-in-Ascii.ensures; in_run = refl })
 
-pub returns-in-Base256 : goal.returns-in-Base256
+pub returns-in_ok-push_base_256-in-Base256 : goal.returns-in_ok-push_base_256-in-Base256
 unfolding text
-returns-in-Base256 g c = rw c.in-Base256.is c.push_base_256.ensures
+returns-in_ok-push_base_256-in-Base256 g c = rw c.in-Base256.is (record { words = c.in_ok-push_base_256-in-Base256.ensures; in_run = refl })
 
 pub returns-in-C40 : goal.returns-in-C40
 unfolding text

@@ -1,24 +1,24 @@
 use Rattle.std.proofs.Common.{◌≡◌, ◌+◌, ◌*◌, ap, ◌∙◌, arith, ℕ}
 use Rattle.dm_check_blocks.specs.Sizes.{side}
-use Rattle.dm_finder_frame.specs.Frame.{border}
-use Rattle.dm_finder_frame.specs.Lines.{wrong_among}
+use Rattle.dm_finder_frame.specs.Frame.{wrong_frame_modules}
+use Rattle.dm_finder_frame.specs.inner.Lines.{wrong_among}
 use Rattle.dm_finder_frame.proofs.Filled.{joined}
 use Rattle.dm_finder_frame.proofs.unframing.wrong_count.Goals as goal
 
 pub loop-row-preserved : goal.loop-row-preserved
 loop-row-preserved g c =
-    let n = side c.args.size in
+    let n = side c.args.grid.now.size in
     let r = c.loop-row.row in
-    let both = joined c.args.size c.args.grid.now (r * n) n in
+    let both = joined c.args.grid.now (r * n) n in
     let below : (r + 1) * n ≡ r * n + n = omega arith in
     record {
-      counted = omega (arith, both, ap (wrong_among c.args.size c.args.grid.now 0) below, c.wrong_in_row-wrong.ensures.count);
+      counted = omega (arith, both, ap (wrong_among c.args.grid.now 0) below, c.wrong_in_row-wrong.ensures.count);
       most = omega arith;
     }
 
 pub returns : goal.returns
-unfolding border
+unfolding wrong_frame_modules
 returns g c =
-    let n = side c.args.size in
+    let n = side c.args.grid.now.size in
     let end : c.loop-row.row * n ≡ n * n = ap (λ (x : ℕ). x * n) (omega (arith, c.side-row-end.ensures.value)) in
-    c.loop-row.invariant.counted ∙ ap (wrong_among c.args.size c.args.grid.now 0) end
+    c.loop-row.invariant.counted ∙ ap (wrong_among c.args.grid.now 0) end

@@ -1,10 +1,10 @@
 use Rattle.std.proofs.Common.{◌≡◌, ◌≤◌, ◌*◌}
 use Rattle.dm_check_blocks.specs.Sizes.{side}
-use Rattle.dm_finder_frame.specs.Lines.{wrong_among}
+use Rattle.dm_finder_frame.specs.inner.Lines.{wrong_among}
 use Rattle.dm_finder_frame.proofs.unframing.wrong_count.Given as goal
 
 abbrev pub invariant-loop-row : goal.invariant-loop-row
 invariant-loop-row g l = record {
-  counted : l.wrong ≡ wrong_among l.size l.grid 0 (l.row * side l.size);
-  most : l.wrong ≤ l.row * side l.size;
+  counted : l.wrong ≡ wrong_among l.grid 0 (l.row * side l.grid.size);
+  most : l.wrong ≤ l.row * side l.grid.size;
 }

@@ -1,4 +1,4 @@
-use Rattle.dm_gf256.proofs.Steps.{double_low, double_high}
+use Rattle.dm_gf256.proofs.LoopSteps.{double_low, double_high}
 use Rattle.dm_gf256.proofs.by_bits.double.Goals as goal
 
 pub returns-then-a-lt128 : goal.returns-then-a-lt128

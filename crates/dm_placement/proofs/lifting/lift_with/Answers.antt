@@ -5,7 +5,7 @@ use Rattle.dm_check_blocks.specs.Sizes.{mapping, all_words}
 use Rattle.dm_placement.specs.declared.shape.Cell.{Cell}
 use Rattle.dm_placement.specs.Cells.{bit_cells}
 use Rattle.dm_placement.specs.Placement.{word_from, lifted}
-use Rattle.dm_placement.specs.WalkSteps.{AllIn}
+use Rattle.dm_placement.specs.inner.WalkSteps.{AllIn}
 use Rattle.dm_placement.proofs.ShapesSound.{all_in_bits, bit_count}
 use Rattle.dm_placement.proofs.lifting.lift_with.Goals as goal
 

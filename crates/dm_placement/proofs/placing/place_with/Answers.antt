@@ -5,7 +5,7 @@ use Rattle.dm_check_blocks.specs.Sizes.{mapping}
 use Rattle.dm_placement.specs.declared.shape.Cell.{Cell}
 use Rattle.dm_placement.specs.Cells.{cell_at, dark_cells}
 use Rattle.dm_placement.specs.Square.{Square, with_module, with_dark, light_square}
-use Rattle.dm_placement.specs.WalkSteps.{AllIn}
+use Rattle.dm_placement.specs.inner.WalkSteps.{AllIn}
 use Rattle.dm_placement.proofs.CellLists.{all_in_at}
 use Rattle.dm_placement.proofs.EachSize.{side_is_sound}
 use Rattle.dm_placement.proofs.PlacedBits.{Placing, placing_start, placing_step, placing_end}

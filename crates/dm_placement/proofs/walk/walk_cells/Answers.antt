@@ -7,7 +7,7 @@ use Rattle.dm_placement.proofs.ShapesSound.{sound}
 use Rattle.dm_placement.proofs.WalkStart.{starts}
 use Rattle.dm_placement.proofs.WalkTests.{up_holds, up_fails_row, up_fails_column, down_holds, down_fails_row, down_fails_column, start_holds_row, start_holds_column, start_fails}
 use Rattle.dm_placement.proofs.walk.walk_cells.Goals as goal
-use Rattle.dm_placement.proofs.walk.walk_cells.Goals.{then-row-side, else-row-side+then-column-side, then-up-test+else-column-side-2, else-up-test, then-down-test+else-column-ge2, else-down-test}
+use Rattle.dm_placement.proofs.walk.walk_cells.Goals.{then-row-side, else-row-side+then-column-side, then-up-test+else-column-side-2, else-up-test, then-down-test+else-column-ge-MARGIN, else-down-test}
 
 pub sweeps-init : goal.sweeps-init
 sweeps-init g c =
@@ -27,8 +27,8 @@ up-init g c =
       | else-row-side+then-column-side w ↦ start_holds_column c.args.side c.sweeps.row c.sweeps.column w.if-column-side.true
     ] in
     record {
-      remains = start_step c.args.side c.sweeps.row c.sweeps.column c.sweeps.cells.items c.turn.new.cells.items c.sweeps.taken c.turn.new.taken
-          (sound c.args.side c.requires.mapping) c.sweeps.invariant.remains test c.in_ok-turn.ensures.placed c.in_ok-turn.ensures.marked;
+      remains = start_step c.args.side c.sweeps.row c.sweeps.column c.sweeps.cells.items c.place_corner.new.cells.items c.sweeps.taken c.place_corner.new.taken
+          (sound c.args.side c.requires.mapping) c.sweeps.invariant.remains test c.in_ok-place_corner.ensures.placed c.in_ok-place_corner.ensures.marked;
       column_in = elim c.if-row-side.branch [ then-row-side w ↦ omega arith | else-row-side+then-column-side w ↦ omega arith ];
       row_in = elim c.if-row-side.branch [ then-row-side w ↦ omega arith | else-row-side+then-column-side w ↦ omega arith ];
       same_sum = refl;
@@ -67,12 +67,12 @@ down-init g c =
 pub visit-requires-in-down-clause-fits : goal.visit-requires-in-down-clause-fits
 visit-requires-in-down-clause-fits g c =
     down_placeable c.args.side c.down.row c.down.column c.down.cells.items c.down.taken (sound c.args.side c.requires.mapping) c.down.invariant.remains
-    (down_holds c.args.side c.down.row c.down.column c.down-test.true c.if-column-ge2.true)
+    (down_holds c.args.side c.down.row c.down.column c.down-test.true c.if-column-ge-MARGIN.true)
 
 pub down-preserved : goal.down-preserved
 down-preserved g c = record {
   remains = down_step c.args.side c.down.row c.down.column c.down.cells.items c.visit-in-down.new.cells.items c.down.taken c.visit-in-down.new.taken
-      (sound c.args.side c.requires.mapping) c.down.invariant.remains (down_holds c.args.side c.down.row c.down.column c.down-test.true c.if-column-ge2.true)
+      (sound c.args.side c.requires.mapping) c.down.invariant.remains (down_holds c.args.side c.down.row c.down.column c.down-test.true c.if-column-ge-MARGIN.true)
       c.in_ok-visit-2.ensures.placed c.in_ok-visit-2.ensures.marked;
   column_in = omega arith;
   row_in = λ h. omega arith;
@@ -84,12 +84,12 @@ pub sweeps-preserved : goal.sweeps-preserved
 sweeps-preserved g c =
     let test : (ltb c.down.row (c.args.side + 2) && leb 2 c.down.column) ≡ false =
     elim c.down-test.branch [
-      | then-down-test+else-column-ge2 w ↦ down_fails_column c.args.side c.down.row c.down.column w.if-column-ge2.false
+      | then-down-test+else-column-ge-MARGIN w ↦ down_fails_column c.args.side c.down.row c.down.column w.if-column-ge-MARGIN.false
       | else-down-test w ↦ down_fails_row c.args.side c.down.row c.down.column w.down-test.false
     ] in
     record {
       remains = down_end c.args.side c.down.row c.down.column c.down.cells.items c.down.taken c.down.invariant.remains test;
-      left = elim c.down-test.branch [ then-down-test+else-column-ge2 w ↦ λ h. omega arith | else-down-test w ↦ λ h. omega arith ];
+      left = elim c.down-test.branch [ then-down-test+else-column-ge-MARGIN w ↦ λ h. omega arith | else-down-test w ↦ λ h. omega arith ];
       top = λ h. omega arith;
     }
 

@@ -6,7 +6,7 @@ use Rattle.dm_check_blocks.specs.Sizes.{mapping}
 use Rattle.dm_placement.specs.declared.shape.Cell.{Cell}
 use Rattle.dm_placement.specs.Cells.{cell_at, bit_cells}
 use Rattle.dm_placement.specs.Placement.{IsBit, cell}
-use Rattle.dm_placement.specs.WalkSteps.{IsIn}
+use Rattle.dm_placement.specs.Square.{IsIn}
 use Rattle.dm_placement.proofs.CellLists.{all_in_at}
 use Rattle.dm_placement.proofs.EachSize.{few_words}
 use Rattle.dm_placement.proofs.ShapesSound.{all_in_bits, bit_count}

@@ -1,0 +1,5 @@
+-- Private: only contracts inside this crate cite what stands in this folder.
+pub mod Polynomials
+pub mod Rows
+pub mod Scattering
+pub mod Syndromes

@@ -1,0 +1,336 @@
+-- What is read word by word, the grammar reads.
+use Rattle.std.proofs.Common.{◌≡◌, ℕ, zero, suc, ◌+◌, ◌-◌, ◌*◌, ◌/◌, ◌%◌, ◌<◌, ◌≤◌, ◌≢◌, ◌⊎◌, inl, inr, Bool, true, false, cond, eqb, leb, ltb, List, [], ◌∷◌, ◌++◌, length, Result, Ok, Err, refl, sym, ap, subst, ◌∙◌, append_assoc, arith}
+use Rattle.std.specs.List.{flat_map, AllByRecursion}
+use Rattle.std.proofs.lemmas.Bool.{eqb-true, eqb-false, leb-true, ltb-true, ltb-false, le-leb, lt-leb, cases_lt}
+use Rattle.std.proofs.lemmas.List.{append-nil, length-append}
+use Rattle.std.proofs.lemmas.List.Concat.{flat_map-append}
+use Rattle.dm_encodation.specs.declared.letters.Letters.{Letters}
+use Rattle.dm_encodation.specs.declared.mode.Pending.{Pending}
+use Rattle.dm_encodation.specs.declared.mode.Mode.{Mode}
+use Rattle.dm_encodation.specs.declared.mode.Mode.TheVariants.{Ascii, Upper, Run, Half, Length, LongLength, Bytes, Rest, Padded}
+use Rattle.dm_encodation.specs.declared.mode.ValueFault.TheVariants.{Fnc1, Missing}
+use Rattle.dm_encodation.specs.declared.fault.DecodeFault.TheVariants.{Reserved}
+use Rattle.dm_encodation.specs.Characters.{Triple, IsTriple, triple_values, pair}
+use Rattle.dm_encodation.specs.Words.{state_255, randomised}
+use Rattle.dm_encodation.specs.Grammar
+use Rattle.dm_encodation.specs.Grammar.{latch, IsLength, EndsOpen, Segment, Reads}
+use Rattle.dm_encodation.specs.inner.Reading.{◌>>=◌, prepend, Stepped, Valued, no_pending, upper_step, at_pair, pair_step, values_step, value_255, bytes_left, step, ended, finish, reading}
+use Rattle.dm_encodation.proofs.AsciiStepCases.{AsciiStep, ascii_view}
+use Rattle.dm_encodation.proofs.ReadsToReading.{bind_ok, ok_is, values_joined, randomised-append, length-randomised}
+use Rattle.dm_encodation.proofs.TakenValues.{chars_from}
+
+-- Where a reader stands: the mode, where its segment began, the segment's words so far, and the bytes given since.
+pub data InMode : Mode → ℕ → List ℕ → List ℕ → Type 0 where
+  ascii : {p : ℕ} → InMode Ascii p [] []
+  upper : {p : ℕ} → InMode Upper p (235 ∷ []) []
+  run : {t : Letters} {s : Pending} {p : ℕ} {given : List ℕ} (triples : List Triple) → AllByRecursion IsTriple triples
+      → values_step t no_pending (flat_map triple_values triples) ≡ Ok (s, given) → InMode (Run t s) p (latch t ∷ flat_map pair triples) given
+  half : {t : Letters} {s : Pending} {p a : ℕ} {given : List ℕ} (triples : List Triple) → AllByRecursion IsTriple triples
+      → values_step t no_pending (flat_map triple_values triples) ≡ Ok (s, given) → a ≢ 254 → a < 256 → InMode (Half t s a) p (latch t ∷ (flat_map pair triples ++ a ∷ [])) given
+  length_due : {p : ℕ} → InMode Length p (231 ∷ []) []
+  long_length : {p v : ℕ} → 250 ≤ v → v < 256 → InMode (LongLength v) p (231 ∷ state_255 (p + 1) v ∷ []) []
+  bytes : {p n : ℕ} (len bs : List ℕ) → IsLength len (length bs + suc n) → AllByRecursion (λ b. b < 256) bs
+      → InMode (Bytes (suc n) p) p (231 ∷ randomised (p + 1) (len ++ bs)) bs
+  rest : {p : ℕ} (bs : List ℕ) → AllByRecursion (λ b. b < 256) bs → InMode Rest p (231 ∷ randomised (p + 1) (0 ∷ bs)) bs
+  padded : {p : ℕ} (any : List ℕ) → InMode Padded p (129 ∷ any) []
+
+-- After one more word: the segment goes on, or it is whole.
+abbrev pub Advanced : ℕ → List ℕ → List ℕ → Mode → Type 0
+Advanced p words given m = InMode m p words given ⊎ ((m ≡ Ascii) × ((after : List ℕ) → Segment p words after given))
+
+abbrev pub goes_to : Mode × List ℕ → Stepped
+goes_to x = Ok x
+
+-- ---- tests
+
+pub chosen : {A : Type 0} (b : Bool) (x y z : A) → cond b x y ≡ z → ((b ≡ true) × (x ≡ z)) ⊎ ((b ≡ false) × (y ≡ z))
+chosen true x y z e = inl (refl, e)
+chosen false x y z e = inr (refl, e)
+
+pub unless : {A E : Type 0} (b : Bool) (f : E) (r : Result A E) (out : A) → cond b (Err f) r ≡ Ok out → (b ≡ false) × (r ≡ Ok out)
+unless true f r out e = absurd cc
+unless false f r out e = (refl, e)
+
+pub only_if : {A E : Type 0} (b : Bool) (f : E) (x out : A) → cond b (Ok x) (Err f) ≡ Ok out → (b ≡ true) × (x ≡ out)
+only_if true f x out e = (refl, cc)
+only_if false f x out e = absurd cc
+
+-- ---- Base 256
+
+shifted_back : (w s : ℕ) → w < 256 → 0 < s → s < 256
+    → (let b = cond (leb s w) (w - s) (w + 256 - s) in cond (leb (b + s) 255) (b + s) (b + s - 256)) ≡ w
+shifted_back w s lw ls hs =
+    elim (cases_lt w s) [
+      | inl less ↦
+          let t : leb s w ≡ false = lt-leb _ _ less in
+          let u : leb (w + 256 - s + s) 255 ≡ false = lt-leb _ _ (omega arith) in
+          rw (t, u) (omega arith)
+      | inr le ↦
+          let t : leb s w ≡ true = le-leb _ _ le in
+          let u : leb (w - s + s) 255 ≡ true = le-leb _ _ (omega arith) in
+          rw (t, u) (omega arith)
+    ]
+
+pub state_255-value_255 : (p w : ℕ) → w < 256 → state_255 p (value_255 p w) ≡ w
+unfolding value_255 state_255
+state_255-value_255 p w lt = shifted_back w ((149 * p) % 255 + 1) lt (omega arith) (omega arith)
+
+below_shift : (w s : ℕ) → w < 256 → 0 < s → s < 256 → cond (leb s w) (w - s) (w + 256 - s) < 256
+below_shift w s lw ls hs =
+    elim (cases_lt w s) [
+      | inl less ↦ let t : leb s w ≡ false = lt-leb _ _ less in rw t (omega arith)
+      | inr le ↦ let t : leb s w ≡ true = le-leb _ _ le in rw t (omega arith)
+    ]
+
+pub value_255-below : (p w : ℕ) → w < 256 → value_255 p w < 256
+unfolding value_255
+value_255-below p w lt = below_shift w ((149 * p) % 255 + 1) lt (omega arith) (omega arith)
+
+-- one more value of Base 256
+push_value : (p : ℕ) (xs : List ℕ) (w : ℕ) → w < 256 → randomised p xs ++ w ∷ [] ≡ randomised p (xs ++ value_255 (p + length xs) w ∷ [])
+push_value p xs w lt = sym (randomised-append p xs (value_255 (p + length xs) w ∷ []) ∙ ap (λ (v : ℕ). randomised p xs ++ v ∷ []) (state_255-value_255 (p + length xs) w lt))
+
+-- ---- runs
+
+pub values_below : (triples : List Triple) → AllByRecursion IsTriple triples → AllByRecursion (λ v. v < 40) (flat_map triple_values triples)
+values_below [] fits = tt
+values_below (tr ∷ triples) fits = (fits.0.0, (fits.0.1, (fits.0.2, values_below triples fits.1)))
+
+-- a pair that was taken
+pub record TakesPair (t : Letters) (s : Pending) (w x : ℕ) (out : Mode × List ℕ) : Type 0 where
+  pub triple : Triple
+  pub is_triple : IsTriple triple
+  pub spelled : pair triple ≡ w ∷ x ∷ []
+  pub to : Pending × List ℕ
+  pub taken : values_step t s (triple_values triple) ≡ Ok to
+  pub out_is : (Run t to.0, to.1) ≡ out
+
+from_at_pair : (t : Letters) (p w : ℕ) (r : Valued) (out : Mode × List ℕ) → at_pair t p w r ≡ Ok out → (o : Pending × List ℕ) × (r ≡ Ok o) × ((Run t o.0, o.1) ≡ out)
+from_at_pair t p w (Ok o) out e = (o, refl, cc)
+from_at_pair t p w (Err Fnc1) out e = absurd cc
+from_at_pair t p w (Err Missing) out e = absurd cc
+
+pub takes_pair : (t : Letters) (s : Pending) (p w x : ℕ) (out : Mode × List ℕ) → x < 256 → pair_step t s p w x ≡ Ok out → TakesPair t s w x out
+unfolding pair_step
+takes_pair t s p w x out lt e =
+    let v = 256 * w + x in
+    let a = unless (eqb v 0) _ _ out e in
+    let b = unless (ltb 64000 v) _ _ out a.1 in
+    let n0 = eqb-false v 0 a.0 in
+    let n1 = ltb-false 64000 v b.0 in
+    let c = from_at_pair t p w _ out b.1 in
+    let low : 1 ≤ v = elim (cases_lt 0 v) [ inl pos ↦ pos | inr le ↦ absurd (n0 (omega arith)) ] in
+    let whole : 1600 * ((v - 1) / 1600) + 40 * ((v - 1) / 40 % 40) + (v - 1) % 40 + 1 ≡ v = omega arith in
+    let d : v / 256 ≡ w = omega arith in
+    let m : v % 256 ≡ x = omega arith in
+    record {
+      triple = record { first = (v - 1) / 1600; second = (v - 1) / 40 % 40; third = (v - 1) % 40 };
+      is_triple = (omega arith, omega arith, omega arith);
+      spelled = rw (whole, d, m) refl;
+      to = c.0;
+      taken = c.1;
+      out_is = c.2;
+    }
+
+-- ---- one more word
+
+from_ascii : {p w : ℕ} {out : Mode × List ℕ} (q : ℕ) → AsciiStep p w (Ok out) → Advanced q (w ∷ []) out.1 out.0
+from_ascii q (AsciiStep.character b lt e) = inr (refl, λ after. subst (λ (w : ℕ). Segment q (w ∷ []) after (b ∷ [])) (sym e) (Grammar.Segment.character lt))
+from_ascii q (AsciiStep.digits m n lm ln e) = inr (refl, λ after. subst (λ (w : ℕ). Segment q (w ∷ []) after ((48 + m) ∷ (48 + n) ∷ [])) (sym e) (Grammar.Segment.digits lm ln))
+from_ascii q (AsciiStep.pad e) = inl (subst (λ (w : ℕ). InMode Padded q (w ∷ []) []) (sym e) (InMode.padded []))
+from_ascii q (AsciiStep.to_run t e) = inl (subst (λ (w : ℕ). InMode (Run t no_pending) q (w ∷ []) []) (sym e) (InMode.run [] tt refl))
+from_ascii q (AsciiStep.to_bytes e) = inl (subst (λ (w : ℕ). InMode Length q (w ∷ []) []) (sym e) InMode.length_due)
+from_ascii q (AsciiStep.to_upper e) = inl (subst (λ (w : ℕ). InMode Upper q (w ∷ []) []) (sym e) InMode.upper)
+
+from_upper : (p w : ℕ) (out : Mode × List ℕ) (q : ℕ) → upper_step p w ≡ Ok out → Advanced q (235 ∷ w ∷ []) out.1 out.0
+unfolding upper_step
+from_upper p w out q e =
+    let a = unless (eqb w 0) _ _ out e in
+    let b = only_if (leb w 128) _ _ out a.1 in
+    let n0 = eqb-false w 0 a.0 in
+    let le = leb-true w 128 b.0 in
+    let pos : 1 ≤ w = elim (cases_lt 0 w) [ inl pos ↦ pos | inr le ↦ absurd (n0 (omega arith)) ] in
+    let back : w - 1 + 1 ≡ w = omega arith in
+    let byte_given = w + 127 in
+    let byte : w - 1 + 128 ≡ byte_given = omega arith in
+    let segment : (after : List ℕ) → Segment q (235 ∷ w ∷ []) after ((w + 127) ∷ []) = λ after.
+    subst (λ (w : ℕ). Segment q (235 ∷ w ∷ []) after (byte_given ∷ [])) back (subst (λ (v : ℕ). Segment q (235 ∷ (w - 1 + 1) ∷ []) after (v ∷ [])) byte (Grammar.Segment.upper (omega arith))) in
+    subst (λ (o : Mode × List ℕ). Advanced q (235 ∷ w ∷ []) o.1 o.0) b.1 (inr (refl, segment))
+
+plus_none : (n : ℕ) → n ≡ 0 + n
+plus_none n = omega arith
+
+-- Base 256: what is left of this many bytes
+left : (q n : ℕ) (len bs : List ℕ) → IsLength len (length bs + n) → AllByRecursion (λ b. b < 256) bs
+    → Advanced q (231 ∷ randomised (q + 1) (len ++ bs)) bs (bytes_left n q)
+left q zero len bs is fits = let e : length bs + 0 ≡ length bs = omega arith in inr (refl, λ after. Grammar.Segment.bytes len (rw e at is) fits)
+left q (suc n) len bs is fits = inl (InMode.bytes len bs is fits)
+
+from_length : (p q w : ℕ) (out : Mode × List ℕ) → w < 256 → step Length (q + 1) w ≡ Ok out → Advanced q (231 ∷ w ∷ []) out.1 out.0
+unfolding step
+from_length p q w out lt e =
+    let n = value_255 (q + 1) w in
+    let word = state_255-value_255 (q + 1) w lt in
+    let below = value_255-below (q + 1) w lt in
+    elim (chosen (eqb n 0) _ _ _ e) [
+      | inl is ↦
+          let o = ok_is _ out (Ok out) (sym is.1) refl in
+          let zero_word : state_255 (q + 1) 0 ≡ w = ap (state_255 (q + 1)) (sym (eqb-true n 0 is.0)) ∙ word in
+          subst (λ (o : Mode × List ℕ). Advanced q (231 ∷ w ∷ []) o.1 o.0) o (inl (subst (λ (w : ℕ). InMode Rest q (231 ∷ w ∷ []) []) zero_word (InMode.rest [] tt)))
+      | inr isnt ↦
+          let n0 = eqb-false n 0 isnt.0 in
+          let pos : 0 < n = elim (cases_lt 0 n) [ inl pos ↦ pos | inr le ↦ absurd (n0 (omega arith)) ] in
+          elim (chosen (ltb n 250) _ _ _ isnt.1) [
+            | inl is ↦
+                let o = ok_is _ out (Ok out) (sym is.1) refl in
+                let back : q + 1 - 1 ≡ q = omega arith in
+                let whole : Advanced q (231 ∷ w ∷ []) [] (bytes_left n q) = subst (λ (w : ℕ). Advanced q (231 ∷ w ∷ []) [] (bytes_left n q)) word (left q n (n ∷ []) [] (subst (IsLength (n ∷ [])) (plus_none n) (Grammar.IsLength.one pos (ltb-true n 250 is.0))) tt) in
+                subst (λ (o : Mode × List ℕ). Advanced q (231 ∷ w ∷ []) o.1 o.0) o (subst (λ (k : ℕ). Advanced q (231 ∷ w ∷ []) [] (bytes_left n k)) (sym back) whole)
+            | inr isnt2 ↦
+                let o = ok_is _ out (Ok out) (sym isnt2.1) refl in
+                subst (λ (o : Mode × List ℕ). Advanced q (231 ∷ w ∷ []) o.1 o.0) o (inl (subst (λ (w : ℕ). InMode (LongLength n) q (231 ∷ w ∷ []) []) word (InMode.long_length (ltb-false n 250 isnt2.0) below)))
+          ]
+    ]
+
+pub triples_pushed : (triples : List Triple) (tr : Triple) → AllByRecursion IsTriple triples → IsTriple tr → AllByRecursion IsTriple (triples ++ tr ∷ [])
+triples_pushed [] tr fits f = (f, tt)
+triples_pushed (x ∷ xs) tr fits f = (fits.0, triples_pushed xs tr fits.1 f)
+
+fits_pushed : (bs : List ℕ) (b : ℕ) → AllByRecursion (λ b. b < 256) bs → b < 256 → AllByRecursion (λ b. b < 256) (bs ++ b ∷ [])
+fits_pushed [] b fits f = (f, tt)
+fits_pushed (x ∷ xs) b fits f = (fits.0, fits_pushed xs b fits.1 f)
+
+pred_is : (n : ℕ) → suc n - 1 ≡ n
+pred_is n = omega arith
+
+pub advance : {m : Mode} {q : ℕ} {front given : List ℕ} (w : ℕ) (out : Mode × List ℕ) → InMode m q front given → w < 256 → step m (q + length front) w ≡ Ok out
+    → Advanced q (front ++ w ∷ []) (given ++ out.1) out.0
+unfolding step
+advance {q = q} w out InMode.ascii lt e = from_ascii q (subst (λ (r : Stepped). AsciiStep (q + 0) w r) e (ascii_view (q + 0) w))
+advance {q = q} w out InMode.upper lt e = from_upper (q + 1) w out q e
+advance {q = q} w out (InMode.run {t = t} {s = s} {given = given} triples fits taken) lt e =
+    elim (chosen (eqb w 254) _ _ _ e) [
+      | inl is ↦
+          let o = ok_is _ out (Ok out) (sym is.1) refl in
+          let chars = chars_from t (flat_map triple_values triples) given s (values_below triples fits) taken in
+          let segment : (after : List ℕ) → Segment q (latch t ∷ (flat_map pair triples ++ w ∷ [])) after (given ++ []) = λ after.
+          subst (λ (bs : List ℕ). Segment q (latch t ∷ (flat_map pair triples ++ w ∷ [])) after bs) (sym (append-nil given))
+          (subst (λ (x : ℕ). Segment q (latch t ∷ (flat_map pair triples ++ x ∷ [])) after given) (sym (eqb-true w 254 is.0)) (Grammar.Segment.run triples fits chars)) in
+          subst (λ (o : Mode × List ℕ). Advanced q (latch t ∷ (flat_map pair triples ++ w ∷ [])) (given ++ o.1) o.0) o (inr (refl, segment))
+      | inr isnt ↦
+          let o = ok_is _ out (Ok out) (sym isnt.1) refl in
+          subst (λ (o : Mode × List ℕ). Advanced q (latch t ∷ (flat_map pair triples ++ w ∷ [])) (given ++ o.1) o.0) o
+          (inl (subst (λ (bs : List ℕ). InMode (Half t s w) q (latch t ∷ (flat_map pair triples ++ w ∷ [])) bs) (sym (append-nil given)) (InMode.half triples fits taken (eqb-false w 254 isnt.0) lt)))
+    ]
+advance {q = q} w out (InMode.half {t = t} {s = s} {a = a} {given = given} triples fits taken ne la) lt e =
+    let r = takes_pair t s _ a w out lt e in
+    let one = r.triple ∷ [] in
+    let values : flat_map triple_values (triples ++ one) ≡ flat_map triple_values triples ++ triple_values r.triple = flat_map-append triple_values triples one in
+    let joined : values_step t no_pending (flat_map triple_values (triples ++ one)) ≡ Ok (r.to.0, given ++ r.to.1) =
+    ap (values_step t no_pending) values ∙ values_joined t no_pending (flat_map triple_values triples) (triple_values r.triple) (s, given) r.to taken r.taken in
+    let words : flat_map pair (triples ++ one) ≡ (flat_map pair triples ++ a ∷ []) ++ w ∷ [] =
+    flat_map-append pair triples one ∙ ap (λ (l : List ℕ). flat_map pair triples ++ l) (r.spelled) ∙ sym (append_assoc (flat_map pair triples) (a ∷ []) (w ∷ [])) in
+    subst (λ (o : Mode × List ℕ). Advanced q (latch t ∷ ((flat_map pair triples ++ a ∷ []) ++ w ∷ [])) (given ++ o.1) o.0) r.out_is
+    (inl (subst (λ (l : List ℕ). InMode (Run t r.to.0) q (latch t ∷ l) (given ++ r.to.1)) words (InMode.run (triples ++ one) (triples_pushed triples r.triple fits r.is_triple) joined)))
+advance {q = q} w out InMode.length_due lt e = from_length q q w out lt e
+advance {q = q} w out (InMode.long_length {v = v} low high) lt e =
+    let k : q + 2 ≡ q + 1 + 1 = omega arith in
+    let back : q + 2 - 2 ≡ q = omega arith in
+    let x = value_255 (q + 1 + 1) w in
+    let word = state_255-value_255 (q + 1 + 1) w lt in
+    let at : cond (ltb x 250) (Ok (bytes_left (250 * (v - 249) + x) (q + 2 - 2), [])) (Err (Reserved (q + 1 + 1) w)) ≡ Ok out = subst (λ (j : ℕ). cond (ltb (value_255 j w) 250) (Ok (bytes_left (250 * (v - 249) + value_255 j w) (q + 2 - 2), [])) (Err (Reserved j w)) ≡ Ok out) k e in
+    let r = only_if (ltb x 250) _ _ out at in
+    let whole = left q (250 * (v - 249) + x) (v ∷ x ∷ []) [] (subst (IsLength (v ∷ x ∷ [])) (plus_none (250 * (v - 249) + x)) (Grammar.IsLength.two low high (ltb-true x 250 r.0))) tt in
+    let placed : Advanced q (231 ∷ state_255 (q + 1) v ∷ w ∷ []) [] (bytes_left (250 * (v - 249) + x) q) = subst (λ (w : ℕ). Advanced q (231 ∷ state_255 (q + 1) v ∷ w ∷ []) [] (bytes_left (250 * (v - 249) + x) q)) word whole in
+    subst (λ (o : Mode × List ℕ). Advanced q (231 ∷ state_255 (q + 1) v ∷ w ∷ []) o.1 o.0) r.1
+    (subst (λ (j : ℕ). Advanced q (231 ∷ state_255 (q + 1) v ∷ w ∷ []) [] (bytes_left (250 * (v - 249) + x) j)) (sym back) placed)
+advance {q = q} w out (InMode.bytes {n = n} len bs is fits) lt e =
+    let p = q + 1 + length (len ++ bs) in
+    let k : q + suc (length (randomised (q + 1) (len ++ bs))) ≡ p = omega (arith, length-randomised (q + 1) (len ++ bs)) in
+    let b = value_255 p w in
+    let e2 : step (Bytes (suc n) q) p w ≡ Ok out = subst (λ (j : ℕ). step (Bytes (suc n) q) j w ≡ Ok out) k e in
+    let e3 : goes_to (bytes_left (suc n - 1) q, b ∷ []) ≡ Ok out = e2 in
+    let e4 : goes_to (bytes_left n q, b ∷ []) ≡ Ok out = subst (λ (i : ℕ). goes_to (bytes_left i q, b ∷ []) ≡ Ok out) (pred_is n) e3 in
+    let o : (bytes_left n q, b ∷ []) ≡ out = ok_is (bytes_left n q, b ∷ []) out (goes_to (bytes_left n q, b ∷ [])) refl e4 in
+    let words : randomised (q + 1) (len ++ (bs ++ b ∷ [])) ≡ randomised (q + 1) (len ++ bs) ++ w ∷ [] =
+    ap (randomised (q + 1)) (sym (append_assoc len bs (b ∷ []))) ∙ sym (push_value (q + 1) (len ++ bs) w lt) in
+    let is2 : IsLength len (length (bs ++ b ∷ []) + n) = subst (IsLength len) (omega (arith, length-append bs (b ∷ []))) is in
+    subst (λ (o : Mode × List ℕ). Advanced q (231 ∷ (randomised (q + 1) (len ++ bs) ++ w ∷ [])) (bs ++ o.1) o.0) o
+    (subst (λ (l : List ℕ). Advanced q (231 ∷ l) (bs ++ b ∷ []) (bytes_left n q)) words (left q n len (bs ++ b ∷ []) is2 (fits_pushed bs b fits (value_255-below p w lt))))
+advance {q = q} w out (InMode.rest bs fits) lt e =
+    let p = q + 1 + length (0 ∷ bs) in
+    let k : q + length (231 ∷ randomised (q + 1) (0 ∷ bs)) ≡ p = omega (arith, length-randomised (q + 1 + 1) bs) in
+    let b = value_255 p w in
+    let e2 : step Rest p w ≡ Ok out = subst (λ (j : ℕ). step Rest j w ≡ Ok out) k e in
+    let o : (Rest, b ∷ []) ≡ out = ok_is (Rest, b ∷ []) out (goes_to (Rest, b ∷ [])) refl e2 in
+    subst (λ (o : Mode × List ℕ). Advanced q (231 ∷ (randomised (q + 1) (0 ∷ bs) ++ w ∷ [])) (bs ++ o.1) o.0) o
+    (inl (subst (λ (l : List ℕ). InMode Rest q (231 ∷ l) (bs ++ b ∷ [])) (sym (push_value (q + 1) (0 ∷ bs) w lt)) (InMode.rest (bs ++ b ∷ []) (fits_pushed bs b fits (value_255-below p w lt)))))
+advance {q = q} w out (InMode.padded any) lt e =
+    let o : (Padded, []) ≡ out = ok_is _ out (Ok out) (sym e) refl in
+    subst (λ (o : Mode × List ℕ). Advanced q (129 ∷ (any ++ w ∷ [])) o.1 o.0) o (inl (InMode.padded (any ++ w ∷ [])))
+
+nothing_more : {q : ℕ} (front given : List ℕ) → Segment q front [] given → Reads q front given
+nothing_more {q = q} front given segment =
+    subst (λ (l : List ℕ). Reads q l given) (append-nil front) (subst (λ (l : List ℕ). Reads q (front ++ []) l) (append-nil given) (Grammar.Reads.joined front [] given [] segment Grammar.Reads.nothing))
+
+-- a last word in ASCII
+single : {p a : ℕ} {r : Stepped} (q k : ℕ) (bs : List ℕ) → AsciiStep p a r → (r >>= λ n. prepend n.1 (ended n.0 k)) ≡ Ok bs → Reads q (a ∷ []) bs
+single q k bs (AsciiStep.nothing x) e = absurd cc
+single q k bs (AsciiStep.unsupported x) e = absurd cc
+single {a = a} q k bs (AsciiStep.character b lt is) e =
+    subst (λ (l : List ℕ). Reads q (a ∷ []) l) (ok_is (b ∷ []) bs (Ok (b ∷ [])) refl e) (subst (λ (w : ℕ). Reads q (w ∷ []) (b ∷ [])) (sym is) (nothing_more ((b + 1) ∷ []) (b ∷ []) (Grammar.Segment.character lt)))
+single {a = a} q k bs (AsciiStep.digits m n lm ln is) e =
+    subst (λ (l : List ℕ). Reads q (a ∷ []) l) (ok_is ((48 + m) ∷ (48 + n) ∷ []) bs _ refl e) (subst (λ (w : ℕ). Reads q (w ∷ []) ((48 + m) ∷ (48 + n) ∷ [])) (sym is) (nothing_more ((130 + (10 * m + n)) ∷ []) ((48 + m) ∷ (48 + n) ∷ []) (Grammar.Segment.digits lm ln)))
+single {a = a} q k bs (AsciiStep.pad is) e = subst (λ (l : List ℕ). Reads q (a ∷ []) l) (ok_is [] bs _ refl e) (subst (λ (w : ℕ). Reads q (w ∷ []) []) (sym is) Grammar.Reads.padded)
+single {a = a} q k bs (AsciiStep.to_run t is) e =
+    subst (λ (l : List ℕ). Reads q (a ∷ []) l) (ok_is [] bs _ refl e) (subst (λ (w : ℕ). Reads q (w ∷ []) []) (sym is) (nothing_more (latch t ∷ []) [] (Grammar.Segment.open_run [] tt (chars_from t [] [] no_pending tt refl) tt)))
+single q k bs (AsciiStep.to_bytes is) e = absurd cc
+single q k bs (AsciiStep.to_upper is) e = absurd cc
+
+-- the end of the words
+at_end : {m : Mode} {q : ℕ} {front given : List ℕ} (p : ℕ) (bs : List ℕ) → InMode m q front given → finish m p ≡ Ok bs → Reads q front (given ++ bs)
+unfolding finish
+at_end {q = q} p bs InMode.ascii e = subst (λ (l : List ℕ). Reads q [] l) (ok_is [] bs _ refl e) Grammar.Reads.nothing
+at_end p bs InMode.upper e = absurd cc
+at_end {q = q} p bs (InMode.run {t = t} {s = s} {given = given} triples fits taken) e =
+    let chars = chars_from t (flat_map triple_values triples) given s (values_below triples fits) taken in
+    subst (λ (l : List ℕ). Reads q (latch t ∷ flat_map pair triples) (given ++ l)) (ok_is [] bs _ refl e)
+    (subst (λ (l : List ℕ). Reads q (latch t ∷ flat_map pair triples) l) (sym (append-nil given)) (nothing_more (latch t ∷ flat_map pair triples) given (Grammar.Segment.open_run triples fits chars tt)))
+at_end {q = q} p bs (InMode.half {t = t} {s = s} {a = a} {given = given} triples fits taken ne lt) e =
+    let chars = chars_from t (flat_map triple_values triples) given s (values_below triples fits) taken in
+    Grammar.Reads.joined (latch t ∷ flat_map pair triples) (a ∷ []) given bs (Grammar.Segment.open_run triples fits chars ne)
+    (single (q + length (latch t ∷ flat_map pair triples)) p bs (ascii_view (p - 1) a) e)
+at_end p bs InMode.length_due e = absurd cc
+at_end p bs (InMode.long_length low high) e = absurd cc
+at_end p bs (InMode.bytes len xs is fits) e = absurd cc
+at_end {q = q} p bs (InMode.rest xs fits) e =
+    subst (λ (l : List ℕ). Reads q (231 ∷ randomised (q + 1) (0 ∷ xs)) (xs ++ l)) (ok_is [] bs _ refl e)
+    (subst (λ (l : List ℕ). Reads q (231 ∷ randomised (q + 1) (0 ∷ xs)) l) (sym (append-nil xs)) (nothing_more (231 ∷ randomised (q + 1) (0 ∷ xs)) xs (Grammar.Segment.rest fits)))
+at_end {q = q} p bs (InMode.padded any) e = subst (λ (l : List ℕ). Reads q (129 ∷ any) l) (ok_is [] bs _ refl e) Grammar.Reads.padded
+
+pub sound : (words : List ℕ) {m : Mode} {q : ℕ} {front given : List ℕ} (bs : List ℕ) → AllByRecursion (λ w. w < 256) words → InMode m q front given
+    → reading m (q + length front) words ≡ Ok bs → Reads q (front ++ words) (given ++ bs)
+unfolding reading
+sound [] {m = m} {q = q} {front = front} {given = given} bs fits i e = subst (λ (l : List ℕ). Reads q l (given ++ bs)) (sym (append-nil front)) (at_end (q + length front) bs i e)
+sound (w ∷ words) {m = m} {q = q} {front = front} {given = given} bs fits i e =
+    let p = q + length front in
+    let a = bind_ok (step m p w) (λ n. prepend n.1 (reading n.0 (p + 1) words)) bs e in
+    let out = a.0 in
+    let b = bind_ok (reading out.0 (p + 1) words) (λ more. Ok (out.1 ++ more)) bs a.2 in
+    let more = b.0 in
+    let longer = front ++ w ∷ [] in
+    let k : p + 1 ≡ q + length longer = omega (arith, length-append front (w ∷ [])) in
+    let whole : Reads q (longer ++ words) ((given ++ out.1) ++ more) =
+    elim (advance w out i fits.0 a.1) [
+      | inl inside ↦ sound words more fits.1 inside (subst (λ (j : ℕ). reading out.0 j words ≡ Ok more) k b.1)
+      | inr ended ↦
+          let k0 : p + 1 ≡ q + length longer + length {A = ℕ} [] = omega (arith, length-append front (w ∷ [])) in
+          let r : reading Ascii (q + length longer + length {A = ℕ} []) words ≡ Ok more = subst (λ (m : Mode). reading m (q + length longer + length {A = ℕ} []) words ≡ Ok more) ended.0 (subst (λ (j : ℕ). reading out.0 j words ≡ Ok more) k0 b.1) in
+          Grammar.Reads.joined longer words (given ++ out.1) more (ended.1 words) (sound words more fits.1 (InMode.ascii {p = q + length longer}) r)
+    ] in
+    let bytes_are : (given ++ out.1) ++ more ≡ given ++ bs = append_assoc given out.1 more ∙ ap (λ (l : List ℕ). given ++ l) (ok_is (out.1 ++ more) bs _ refl b.2) in
+    subst (λ (l : List ℕ). Reads q l (given ++ bs)) (append_assoc front (w ∷ []) words) (subst (λ (l : List ℕ). Reads q (longer ++ words) l) bytes_are whole)
+
+-- from ASCII on
+pub reads_from : (p : ℕ) (words bs : List ℕ) → AllByRecursion (λ w. w < 256) words → reading Ascii p words ≡ Ok bs → Reads p words bs
+reads_from p words bs fits e = let k : p + 0 ≡ p = omega arith in sound words bs fits (InMode.ascii {p = p}) (subst (λ (j : ℕ). reading Ascii j words ≡ Ok bs) (sym k) e)

@@ -1,0 +1,61 @@
+-- What a counter of words knows of the bytes so far.
+use Rattle.std.specs.Prelude.{◌≡◌, ℕ, ◌+◌, ◌*◌, ◌/◌, ◌<◌, ◌^◌, List, [], ◌∷◌, length, take, drop, Bool, false, ◌&&◌, ◌==◌, nat_le, if◌then◌else◌}
+use Rattle.std.specs.Char.{is_ascii_digit}
+use Rattle.std.specs.List.{flat_map}
+use Rattle.dm_encodation.specs.Characters.{values_of}
+use Rattle.dm_encodation.specs.Written.{ascii, run_length}
+use Rattle.dm_encodation.specs.declared.letters.Letters.{Letters}
+use Rattle.dm_encodation.specs.declared.letters.Letters.TheVariants.{Capital, Small}
+use Rattle.dm_encodation.specs.declared.counter.RunCounter.{RunCounter}
+use Rattle.dm_encodation.specs.declared.counter.AsciiCounter.{AsciiCounter}
+use Rattle.dm_encodation.specs.declared.counter.Counter.{Counter}
+use Rattle.dm_encodation.specs.declared.counter.Counter.TheVariants as counters
+use Rattle.dm_encodation.specs.declared.scheme.Scheme.{Scheme}
+use Rattle.dm_encodation.specs.declared.scheme.Scheme.TheVariants.{Ascii, C40, Text, Base256}
+
+-- whether a text in ASCII ends in a digit that has a word of its own
+unfoldable pub has_lone_digit : List ℕ → Bool
+has_lone_digit [] = false
+has_lone_digit (b ∷ []) = is_ascii_digit b
+has_lone_digit (b ∷ c ∷ bs) = if is_ascii_digit b && is_ascii_digit c then has_lone_digit bs else has_lone_digit (c ∷ bs)
+
+-- a counter of a text in ASCII
+pub record CountsAscii (bytes : List ℕ) (c : AsciiCounter) : Type 0 where
+  pub words : c.words ≡ length (ascii bytes)
+  pub lone : c.lone_digit ≡ has_lone_digit bytes
+
+-- how many words n bytes need in Base 256
+abbrev pub base_256_need : ℕ → ℕ
+base_256_need n = if n == 0 then 0 else if nat_le n 249 then n + 2 else n + 3
+
+-- how many words a run of this many values needs, with this many words in ASCII after it
+abbrev pub run_need : ℕ → ℕ → ℕ
+run_need run after =
+    if run == 0 then after else
+    if after == 0 then 1 + run / 3 * 2 else 2 + run / 3 * 2 + after
+
+-- a counter of a text in C40 or Text
+pub record CountsRun (t : Letters) (bytes : List ℕ) (c : RunCounter) : Type 0 where
+  pub values : c.values ≡ length (flat_map (values_of t) bytes)
+  pub run : c.run ≡ length (flat_map (values_of t) (take (run_length t bytes) bytes))
+  pub after : CountsAscii (drop (run_length t bytes) bytes) c.after
+
+-- how the counter of a scheme counts
+abbrev pub Counts : Scheme → List ℕ → Counter → Type 0
+Counts Ascii bytes (counters.Ascii c) = CountsAscii bytes c
+Counts C40 bytes (counters.Run Capital c) = CountsRun Capital bytes c
+Counts Text bytes (counters.Run Small c) = CountsRun Small bytes c
+Counts Base256 bytes (counters.Base256 n) = n ≡ length bytes
+Counts _ _ _ = ⊥
+
+-- no sum of a run's counter overflows
+pub record IsSmallRun (c : RunCounter) : Type 0 where
+  pub values : c.values < 2 ^ 100
+  pub run : c.run < 2 ^ 100
+  pub after : c.after.words < 2 ^ 100
+
+-- no sum of a scheme's counter overflows
+abbrev pub IsSmall : Counter → Type 0
+IsSmall (counters.Ascii c) = c.words < 2 ^ 100
+IsSmall (counters.Run t c) = IsSmallRun c
+IsSmall (counters.Base256 n) = n < 2 ^ 100

@@ -1,8 +1,0 @@
--- The exponents by which the code multiplies: a nonzero element of the field is a power of 2, and the sum of two
--- exponents is that of the product. Only private contracts cite this.
-use Rattle.std.specs.Prelude.{◌≡◌, ℕ, ◌<◌, ◌⊎◌}
-use Rattle.dm_gf256.specs.Field.{power}
-
--- e is the exponent of the element a: the power e of 2 is a; for zero, which no power is, 510
-abbrev pub IsExponent : ℕ → ℕ → Type 0
-IsExponent a e = ((e < 255) × (power 2 e ≡ a)) ⊎ ((e ≡ 510) × (a ≡ 0))

@@ -1,0 +1,76 @@
+-- What a source has given, step by step, and what it remembers.
+use Rattle.std.proofs.Common.{◌≡◌, ℕ, List, [], ◌++◌, refl, ◌∙◌, subst, append-nil}
+use Rattle.std.specs.Prelude.{◌≢◌}
+use Rattle.std.proofs.KnownBytes.{Appends-trans, Appends-nil, Consumes-trans, Consumes-kept, Consumes-nil}
+use Rattle.relay_streams.specs.Streams.{InputView, OutputView}
+use Rattle.dm_pbm_io.specs.inner.Streaming.{Takes, FindsEnd, Remembers, TakesUntil, Adds}
+use Rattle.dm_pbm_io.specs.declared.fault.PbmFault.{PbmFault}
+use Rattle.dm_pbm_io.specs.declared.fault.PbmFault.TheVariants.{Magic, Header, TooLarge, Cut, Pixel, Read, Memory}
+
+-- nothing is taken yet
+pub takes-nil : (a : InputView) → Takes a a []
+takes-nil a = record { consumed = Consumes-nil a.remaining; kept = refl }
+
+-- first some bytes, and then more
+pub takes-trans : (a b c : InputView) (bs cs : List ℕ) → Takes a b bs → Takes b c cs → Takes a c (bs ++ cs)
+takes-trans a b c bs cs p q =
+    record { consumed = Consumes-trans a.remaining b.remaining c.remaining bs cs p.consumed q.consumed; kept = q.kept ∙ p.kept }
+
+-- what the source remembers is not changed by what was taken before
+remembers-after : (a b c : InputView) (fault : PbmFault) → b.has_failed ≡ a.has_failed → Remembers b c fault → Remembers a c fault
+remembers-after a b c fault same r = record { failed = r.failed; kept = λ n. r.kept n ∙ same }
+
+-- a fault that is not `Read` leaves what the source remembers
+pub remembers-other : (a b : InputView) (fault : PbmFault) → b.has_failed ≡ a.has_failed → fault ≢ Read → Remembers a b fault
+remembers-other a b fault same n = record { failed = λ e. absurd (n e); kept = λ _. same }
+
+-- a fault after some bytes
+pub until-trans : (a b c : InputView) (bs cs : List ℕ) (fault : PbmFault) → Takes a b bs → TakesUntil b c cs fault
+    → TakesUntil a c (bs ++ cs) fault
+until-trans a b c bs cs fault p q = record {
+  consumed = Consumes-trans a.remaining b.remaining c.remaining bs cs p.consumed q.consumed;
+  remembers = remembers-after a b c fault p.kept q.remembers;
+}
+
+-- a fault that took nothing more
+pub until-here : (a b c : InputView) (bs : List ℕ) (fault : PbmFault) → Takes a b bs → TakesUntil b c [] fault → TakesUntil a c bs fault
+until-here a b c bs fault p q = subst (λ xs. TakesUntil a c xs fault) (append-nil bs) (until-trans a b c bs [] fault p q)
+
+-- a fault of the bytes that were taken
+pub until-now : (a b : InputView) (bs : List ℕ) (fault : PbmFault) → Takes a b bs → fault ≢ Read → TakesUntil a b bs fault
+until-now a b bs fault p n = record { consumed = p.consumed; remembers = remembers-other a b fault p.kept n }
+
+-- a fault at the end
+pub until-end : (a b c : InputView) (bs : List ℕ) (fault : PbmFault) → Takes a b bs → FindsEnd b c → fault ≢ Read → TakesUntil a c bs fault
+until-end a b c bs fault p q n = record {
+  consumed = Consumes-kept a.remaining b.remaining c.remaining bs p.consumed q.nothing;
+  remembers = remembers-other a c fault (q.kept ∙ p.kept) n;
+}
+
+-- the faults that are not `Read`
+pub magic_not_read : Magic ≢ Read
+magic_not_read e = cc
+
+pub header_not_read : Header ≢ Read
+header_not_read e = cc
+
+pub too_large_not_read : TooLarge ≢ Read
+too_large_not_read e = cc
+
+pub cut_not_read : Cut ≢ Read
+cut_not_read e = cc
+
+pub pixel_not_read : Pixel ≢ Read
+pixel_not_read e = cc
+
+pub memory_not_read : Memory ≢ Read
+memory_not_read e = cc
+
+-- nothing is written yet
+pub adds-nil : (a : OutputView) → Adds a a []
+adds-nil a = record { appended = Appends-nil a.contents; kept = refl }
+
+-- first some text, and then more
+pub adds-trans : (a b c : OutputView) (bs cs : List ℕ) → Adds a b bs → Adds b c cs → Adds a c (bs ++ cs)
+adds-trans a b c bs cs p q =
+    record { appended = Appends-trans a.contents b.contents c.contents bs cs p.appended q.appended; kept = q.kept ∙ p.kept }

@@ -1,0 +1,51 @@
+-- The grid inside the quiet zone of the image of a grid is that grid.
+use Rattle.std.proofs.Common.{◌≡◌, ℕ, ◌+◌, ◌-◌, ◌*◌, ◌/◌, ◌%◌, ◌<◌, Bool, false, get_or, map, refl, sym, ap, ◌∙◌, arith}
+use Rattle.std.specs.List.{range_with_len}
+use Rattle.std.proofs.lemmas.List.FromFn.{fill_by_all, get_or-map-range_with_len, length-map-range_with_len}
+use Rattle.std.proofs.lemmas.Nat.{div-mul-add, mod-mul-add, mul-add-lt}
+use Rattle.std.proofs.Math.Nat.{mod-lt, mod-add-div, div-lt_iff_lt-mul}
+use Rattle.dm_check_blocks.specs.Sizes.{side}
+use Rattle.dm_finder_frame.specs.Grids.{GridView, square_of, IsWholeGrid}
+use Rattle.dm_pbm_io.specs.SymbolImage.{pixel_with_quiet_zone, pixels_with_quiet_zone}
+use Rattle.dm_pbm_io.specs.Laws.{IsTakenBack}
+use Rattle.dm_pbm_io.proofs.Insides.{inner_module}
+use Rattle.dm_pbm_io.proofs.QuietZone.{within}
+use Rattle.dm_pbm_io.proofs.Shapes.{smallest_side}
+
+-- the pixel of a module
+module_again : (g : GridView) (k : ℕ) → k < side g.size * side g.size
+    → get_or g.modules k false ≡ inner_module (pixels_with_quiet_zone (square_of g)) (side g.size + 2) (side g.size) k
+module_again g k h =
+    let n = side g.size in
+    let small = smallest_side g.size in
+    let row : k / n < n = (div-lt_iff_lt-mul {k = n} {x = k} {y = n} (omega (arith, small))).1 h in
+    let column : k % n < n = mod-lt k (omega (arith, small)) in
+    let is : k / n * n + k % n ≡ k = let e = mod-add-div k n in omega (arith, e) in
+    let at = (k / n + 1) * (n + 2) + (k % n + 1) in
+    let pixel : ℕ → Bool = λ i. pixel_with_quiet_zone (square_of g) (i / (n + 2)) (i % (n + 2)) in
+    let inside = mul-add-lt (k / n + 1) (n + 2) (k % n + 1) (n + 2) (omega arith) (omega arith) in
+    let above : at / (n + 2) ≡ k / n + 1 = div-mul-add (k / n + 1) (n + 2) (k % n + 1) (omega arith) in
+    let beside : at % (n + 2) ≡ k % n + 1 = mod-mul-add (k / n + 1) (n + 2) (k % n + 1) (omega arith) in
+    sym (get_or-map-range_with_len pixel 0 ((n + 2) * (n + 2)) at at false inside (omega arith)
+    ∙ ap (λ r. pixel_with_quiet_zone (square_of g) r (at % (n + 2))) above
+    ∙ ap (λ c. pixel_with_quiet_zone (square_of g) (k / n + 1) c) beside
+    ∙ within (square_of g) (k / n) (k % n) row column ∙ ap (λ i. get_or g.modules i false) is)
+
+pub taken_back : (g : GridView) (plain : Bool) → IsWholeGrid g → IsTakenBack g plain
+taken_back g plain whole =
+    let n = side g.size in
+    let pixels = pixels_with_quiet_zone (square_of g) in
+    let less : n + 2 - 2 ≡ n = omega arith in
+    let modules : g.modules ≡ map (inner_module pixels (n + 2) n) (range_with_len 0 (n * n)) =
+    fill_by_all (inner_module pixels (n + 2) n) g.modules (n * n) false whole (λ k h. module_again g k h) in (
+      record {
+        square = refl;
+        size = g.size;
+        side = refl;
+        count = length-map-range_with_len (λ i. pixel_with_quiet_zone (square_of g) (i / (n + 2)) (i % (n + 2))) 0 ((n + 2) * (n + 2));
+      },
+      record {
+        side = refl;
+        modules = modules ∙ ap (λ m. map (inner_module pixels (n + 2) m) (range_with_len 0 (m * m))) (sym less);
+      },
+    )

@@ -1,0 +1,8 @@
+use Rattle.std.proofs.Common.{◌+◌}
+use Rattle.dm_check_blocks.specs.Sizes.{side}
+use Rattle.dm_finder_frame.specs.Grids.{square_of}
+use Rattle.dm_pbm_io.specs.inner.Drawing.{IsDrawnTo}
+use Rattle.dm_pbm_io.proofs.symbol_image.image_of.Given as goal
+
+abbrev pub invariant-loop-row : goal.invariant-loop-row
+invariant-loop-row g l = IsDrawnTo (square_of l.grid) (side l.grid.size + 2) l.row l.pixels.items

@@ -1,0 +1,35 @@
+//! Where the bytes of an image go: a writer that remembers whether it has failed, or any writer.
+
+ghost use Rattle.std.specs.Prelude.{◌≡◌, true, OnOk, OnErr};
+ghost use Rattle.relay_streams.specs.Streams.{OutputView};
+ghost use Rattle.dm_pbm_io.specs.inner.Streaming.{Adds};
+
+use crate::source::{Bare, Remembering};
+use relay_streams::{Output, WriteFault, put_to};
+use std::io::Write;
+
+/// A taker of bytes. The mark `M` keeps the two impls apart.
+pub(crate) trait ByteSink<M> {
+    ghost view: { Self → OutputView };
+
+    /// Writes the whole text.
+    fn put_text(&mut self, text: &[u8]) -> Result<(), WriteFault>
+        ensures written { OnOk result (Adds (view self.old) (view self.new) text.now) }
+        ensures failed { OnErr result ((view self.new).has_failed ≡ true) };
+}
+
+impl<W: Write> ByteSink<Remembering> for Output<W> {
+    ghost view = { λ output. output };
+
+    fn put_text(&mut self, text: &[u8]) -> Result<(), WriteFault> {
+        self.put(text)
+    }
+}
+
+impl<W: Write> ByteSink<Bare> for W {
+    ghost view = { λ writer. record { contents = W.contents writer; has_failed = true } };
+
+    fn put_text(&mut self, text: &[u8]) -> Result<(), WriteFault> {
+        put_to(self, text)
+    }
+}

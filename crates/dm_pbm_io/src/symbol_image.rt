@@ -1,0 +1,95 @@
+//! From a grid to its image, inside a quiet zone one pixel wide, and back.
+
+ghost use Rattle.std.specs.Prelude.{◌≡◌, ◌+◌, ◌*◌, ◌<◌, ◌≤◌, IfOk, IsErrOf, length};
+ghost use Rattle.dm_check_blocks.specs.Sizes as sizes;
+ghost use Rattle.dm_finder_frame.specs.Grids.{square_of};
+ghost use Rattle.dm_pbm_io.specs.SymbolImage.{HasShape, IsGridInside, image_with_quiet_zone, modules_inside};
+ghost use Rattle.dm_pbm_io.specs.Shown.{picture};
+ghost use Rattle.dm_pbm_io.specs.inner.Drawing.{IsDrawnTo};
+
+use crate::fault::ShapeFault;
+use crate::image::Image;
+use dm_check_blocks::Size;
+use dm_finder_frame::Grid;
+use std::alloc::{AllocError, Allocator};
+
+// Draws a row of a grid into the light pixels of its image.
+fn draw_row<B: Allocator>(grid: &Grid<B>, row: u16, pixels: &mut [bool])
+    requires row_in { row < sizes.side grid.now.size }
+    requires above { IsDrawnTo (square_of grid.now) (sizes.side grid.now.size + 2) row pixels.old }
+    ensures { IsDrawnTo (square_of grid.now) (sizes.side grid.now.size + 2) (row + 1) pixels.new }
+{
+    let side = grid.side() as usize;
+    let _size = grid.size();
+    let start = (row as usize + 1) * (side + 2) + 1;
+    pixels[start..start + side].copy_from_slice(grid.row(row));
+}
+
+/// The image of a grid: one pixel per module, inside a quiet zone of one light pixel on each side.
+pub fn image_of<A: Allocator + Copy, B: Allocator>(
+    alloc: A,
+    grid: &Grid<B>,
+    plain: bool,
+) -> Result<Image<A>, AllocError>
+    ensures image { IfOk result (λ image. picture image ≡ image_with_quiet_zone grid.now plain) }
+    ensures count { IfOk result (λ image. length image.pixels.items ≡ image.width * image.height) }
+{
+    let side = grid.size().side();
+    let width = side + 2;
+    let mut pixels = vec![in alloc; false; width as usize * width as usize]?;
+    for row in 0..side {
+        draw_row(grid, row, &mut pixels);
+    }
+    Ok(Image {
+        width,
+        height: width,
+        pixels,
+        plain,
+    })
+}
+
+// The pixels inside the quiet zone, row by row.
+fn modules_of<A: Allocator + Copy, B: Allocator>(
+    alloc: A,
+    image: &Image<B>,
+) -> Result<Vec<bool, A>, AllocError>
+    requires square { image.now.width ≡ image.now.height }
+    requires zone { 3 ≤ image.now.width }
+    requires count { length image.now.pixels.items ≡ image.now.width * image.now.height }
+    ensures { IfOk result (λ modules. modules.items ≡ modules_inside (picture image.now)) }
+{
+    let width = image.width as usize;
+    let side = width - 2;
+    let mut modules = Vec::with_capacity(alloc, side * side)?;
+    for row in 0..side {
+        let start = (row + 1) * width + 1;
+        modules.extend_from_slice(&image.pixels[start..start + side])?;
+    }
+    Ok(modules)
+}
+
+/// The grid of the pixels inside the quiet zone, one pixel wide on each side, whose own pixels aren't looked at.
+///
+/// # Errors
+/// `Shape` where the image isn't square, its side less the quiet zone is not one of the 23, or it hasn't
+/// width * height pixels; `Memory` where the allocator refuses.
+pub fn grid_of<A: Allocator + Copy, B: Allocator>(
+    alloc: A,
+    image: &Image<B>,
+) -> Result<Grid<A>, ShapeFault>
+    ensures grid { IfOk result (λ grid. HasShape (picture image.now) × IsGridInside (picture image.now) grid) }
+    ensures shape { IsErrOf result ShapeFault.Shape → HasShape (picture image.now) → ⊥ }
+    ensures memory { IsErrOf result ShapeFault.Memory → HasShape (picture image.now) }
+{
+    let count = image.width as usize * image.height as usize;
+    if image.width != image.height || image.pixels.len() != count {
+        return Err(ShapeFault::Shape);
+    }
+    if image.width < 3 {
+        return Err(ShapeFault::Shape);
+    }
+    let Some(size) = Size::of_side(image.width - 2) else {
+        return Err(ShapeFault::Shape);
+    };
+    Ok(Grid::from_modules(size, modules_of(alloc, image)?))
+}

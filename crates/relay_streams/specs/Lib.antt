@@ -1,0 +1,3 @@
+pub mod FaultNames
+pub mod Refusal
+pub mod Streams

@@ -1,0 +1,28 @@
+-- What contracts see of a reader and of a writer: the bytes, where they are known, and whether it has failed.
+use Rattle.std.specs.Prelude.{◌≡◌, ◌≤◌, ℕ, Bool, List, [], ◌∷◌, length, take, Option, IfSome, MatchOption}
+use Rattle.std.specs.Io.KnownBytes.{Keeps, Consumes, IsAtEnd}
+
+-- the bytes that are left to read, and whether a read has failed
+pub record InputView : Type 0 where
+  pub remaining : Option (List ℕ)
+  pub has_failed : Bool
+
+-- the bytes that were written, and whether a write has failed
+pub record OutputView : Type 0 where
+  pub contents : Option (List ℕ)
+  pub has_failed : Bool
+
+-- what a read of one byte found: the first byte of those that were left, which is taken, or their end
+abbrev pub GivesNext : Option (List ℕ) → Option (List ℕ) → Option ℕ → Type 0
+GivesNext old new found =
+    MatchOption found (Keeps old new × IsAtEnd new) (λ byte. Consumes old new (byte ∷ []))
+
+-- the first `limit` of the bytes that were left, or all where they are fewer, and no other, are taken
+pub record TakesFirst (old new : Option (List ℕ)) (limit : ℕ) (bytes : List ℕ) : Type 0 where
+  pub first : IfSome old (λ left. bytes ≡ take limit left)
+  pub consumed : Consumes old new bytes
+  pub bound : length bytes ≤ limit
+
+-- some of the bytes that were left, at most `limit`, are taken
+abbrev pub TakesPart : Option (List ℕ) → Option (List ℕ) → ℕ → Type 0
+TakesPart old new limit = (part : List ℕ) × Consumes old new part × (length part ≤ limit)

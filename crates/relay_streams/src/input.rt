@@ -1,0 +1,173 @@
+//! Readers that remember whether a read has failed.
+
+ghost use Rattle.std.specs.IoError.{error_kind};
+ghost use Rattle.std.specs.Prelude.{◌≢◌, IfOk, IfErr, OnErr};
+ghost use Rattle.std.specs.Io.{ReadsAtMost};
+ghost use Rattle.std.specs.Io.KnownBytes.{Keeps, ReadConsumes};
+ghost use Rattle.relay_streams.specs.Streams.{GivesNext, TakesFirst, TakesPart};
+
+use crate::fault::{InputFault, ReadFault};
+use std::alloc::Allocator;
+use std::io;
+use std::io::{Error, ErrorKind, Read};
+use std::marker::Model;
+
+/// A reader, and whether a read has failed.
+#[derive(Drop)]
+pub struct Input<R: Read> {
+    reader: R,
+    failed: bool,
+}
+
+impl<R: Read> Model for Input<R> {
+    ghost use Rattle.relay_streams.specs.Streams.{InputView};
+
+    ghost Value = { InputView };
+
+    ghost view = { λ input. record { remaining = R.remaining input.reader; has_failed = input.failed } };
+}
+
+/// Reads some bytes, at least one where there is room for one and the input has not ended. A read that a signal
+/// interrupts is made again, so its error is never handed on.
+fn read_some<R: Read>(reader: &mut R, buffer: &mut [u8]) -> io::Result<usize>
+    ensures bound { ReadsAtMost result buffer.new }
+    ensures bytes { ReadConsumes (R.remaining reader.old) (R.remaining reader.new) result buffer.new }
+    ensures retried { IfErr result (λ error. error_kind error ≢ ErrorKind.Interrupted) }
+{
+    for _ in 0..u64::MAX {
+        match reader.read(buffer) {
+            Ok(count) => return Ok(count),
+            Err(error) => {
+                if error.kind() != ErrorKind::Interrupted {
+                    return Err(error);
+                }
+            }
+        }
+    }
+    Err(Error::from(ErrorKind::Other))
+}
+
+/// Reads some bytes, with this crate's fault.
+fn read_piece<R: Read>(reader: &mut R, buffer: &mut [u8]) -> Result<usize, ReadFault>
+    ensures bound { ReadsAtMost result buffer.new }
+    ensures bytes { ReadConsumes (R.remaining reader.old) (R.remaining reader.new) result buffer.new }
+{
+    match read_some(reader, buffer) {
+        Ok(count) => Ok(count),
+        Err(_) => Err(ReadFault::Read),
+    }
+}
+
+/// The next byte of any reader, or `None` at its end. A read that a signal interrupts is made again. Of a bare reader
+/// no contract says that a read has failed: [`Input::next_byte`] says it.
+pub fn next_byte_of<R: Read>(reader: &mut R) -> Result<Option<u8>, ReadFault>
+    ensures given { IfOk result (GivesNext (R.remaining reader.old) (R.remaining reader.new)) }
+    ensures none_taken { OnErr result (Keeps (R.remaining reader.old) (R.remaining reader.new)) }
+{
+    let mut one = [0u8; 1];
+    if read_piece(reader, &mut one)? == 0 {
+        return Ok(None);
+    }
+    Ok(Some(one[0]))
+}
+
+/// The most bytes that one read asks for.
+const PIECE: usize = 1024;
+
+/// The first `limit` bytes that a reader has left, or all where they are fewer.
+fn read_first<R: Read, A: Allocator>(
+    reader: &mut R,
+    alloc: A,
+    limit: usize,
+) -> Result<Vec<u8, A>, InputFault>
+    ensures taken { IfOk result
+        (λ bytes. TakesFirst (R.remaining reader.old) (R.remaining reader.new) limit bytes.items) }
+    ensures part { OnErr result (TakesPart (R.remaining reader.old) (R.remaining reader.new) limit) }
+{
+    let mut taken = Vec::new(alloc);
+    let mut piece = [0u8; PIECE];
+    for _ in 0..limit {
+        if taken.len() == limit {
+            return Ok(taken);
+        }
+        let room = (limit - taken.len()).min(PIECE);
+        let count = read_piece(reader, &mut piece[..room])?;
+        if count == 0 {
+            return Ok(taken);
+        }
+        taken.extend_from_slice(&piece[..count])?;
+    }
+    Ok(taken)
+}
+
+impl<R: Read> Input<R> {
+    ghost use Rattle.std.specs.Prelude.{◌≡◌, ◌⊎◌, true, false, IfOk, OnOk, OnErr, IsErrOf};
+    ghost use Rattle.std.specs.Io.KnownBytes.{Keeps};
+    ghost use Rattle.relay_streams.specs.Streams.{GivesNext, TakesFirst, TakesPart};
+
+    /// The reader, of which no read has failed.
+    pub fn new(reader: R) -> Self
+        ensures remaining { result.remaining ≡ R.remaining reader }
+        ensures whole { result.has_failed ≡ false }
+    {
+        Input {
+            reader,
+            failed: false,
+        }
+    }
+
+    /// Whether a read has failed.
+    pub fn has_failed(&self) -> bool
+        ensures { result ≡ self.now.has_failed }
+    {
+        self.failed
+    }
+
+    /// The reader, with the bytes that it has left.
+    pub fn into_reader(self) -> R
+        ensures { R.remaining result ≡ self.remaining }
+    {
+        let Input { reader, failed: _ } = self;
+        reader
+    }
+
+    /// The next byte, or `None` at the end. A read that a signal interrupts is made again.
+    ///
+    /// # Errors
+    /// `Read` where the reader failed; nothing was taken.
+    pub fn next_byte(&mut self) -> Result<Option<u8>, ReadFault>
+        ensures given { IfOk result (GivesNext self.old.remaining self.new.remaining) }
+        ensures kept { OnOk result (self.new.has_failed ≡ self.old.has_failed) }
+        ensures failed { OnErr result (self.new.has_failed ≡ true) }
+        ensures none_taken { OnErr result (Keeps self.old.remaining self.new.remaining) }
+    {
+        let next = next_byte_of(&mut self.reader);
+        if next.is_err() {
+            self.failed = true;
+        }
+        next
+    }
+
+    /// The first `limit` bytes that are left, or all where they are fewer. A read that a signal interrupts is made
+    /// again.
+    ///
+    /// # Errors
+    /// `Read` where the reader failed; `Memory` where the allocator refuses. The bytes that were taken until then are
+    /// lost.
+    pub fn read_up_to<A: Allocator>(
+        &mut self,
+        alloc: A,
+        limit: usize,
+    ) -> Result<Vec<u8, A>, InputFault>
+        ensures taken { IfOk result (λ bytes. TakesFirst self.old.remaining self.new.remaining limit bytes.items) }
+        ensures failed { IsErrOf result InputFault.Read → self.new.has_failed ≡ true }
+        ensures kept { IsErrOf result InputFault.Read ⊎ (self.new.has_failed ≡ self.old.has_failed) }
+        ensures part { OnErr result (TakesPart self.old.remaining self.new.remaining limit) }
+    {
+        let taken = read_first(&mut self.reader, alloc, limit);
+        if matches!(&taken, Err(InputFault::Read)) {
+            self.failed = true;
+        }
+        taken
+    }
+}
