@@ -1,0 +1,87 @@
+//! One file that is replaced whole: what a store in a file and a set in a folder share.
+
+use crate::store::{LoadFault, ReplaceFault};
+use std::alloc::{AllocError, Allocator};
+use std::fs::OpenFile;
+use std::io::{ErrorKind, Read, Write};
+use std::path::Path;
+use std::rt::Files;
+use std::{fs, io};
+
+// What a load answers to an error of the file system.
+pub(crate) fn load_fault_of(error: &io::Error) -> LoadFault {
+    match error.kind() {
+        ErrorKind::OutOfMemory => LoadFault::Memory,
+        _ => LoadFault::Device,
+    }
+}
+
+// The first `limit + 1` bytes of the file at `path`, or `None` where it isn't there.
+pub(crate) fn load_file<R: Files, A: Allocator>(
+    alloc: A,
+    runtime: &R,
+    path: &str,
+    limit: usize,
+) -> Result<Option<Vec<u8, A>>, LoadFault> {
+    let file = match fs::open(runtime, path) {
+        Ok(file) => file,
+        Err(error) => {
+            return match error.kind() {
+                ErrorKind::NotFound => Ok(None),
+                _ => Err(load_fault_of(&error)),
+            };
+        }
+    };
+    let mut bytes = Vec::new(alloc);
+    let most = (limit as u64).saturating_add(1);
+    match file.take(most).read_to_end(&mut bytes) {
+        Ok(_) => Ok(Some(bytes)),
+        Err(error) => Err(load_fault_of(&error)),
+    }
+}
+
+// Writes the bytes to the file at `path`, in place of what it held, and syncs it.
+fn write_file<R: Files>(runtime: &R, path: &str, bytes: &[u8]) -> io::Result<()> {
+    let mut file = fs::create(runtime, path)?;
+    file.write_all(bytes)?;
+    file.sync_all()
+}
+
+// Syncs the folder that has the entry `path`, so that what was renamed, made or removed there stays so.
+pub(crate) fn sync_folder_of<R: Files>(runtime: &R, path: &str) -> io::Result<()> {
+    let folder = match Path::new(path).parent() {
+        Some(parent) if !parent.as_str().is_empty() => parent.as_str(),
+        _ => ".",
+    };
+    fs::open(runtime, folder)?.sync_all()
+}
+
+// The path of the file that the new bytes go to first.
+pub(crate) fn new_path_of<A: Allocator>(alloc: A, path: &str) -> Result<String<A>, AllocError> {
+    format!(in alloc; "{path}.new")
+}
+
+// Writes the bytes to `new_path` and renames that file to `path`.
+fn write_and_rename<R: Files>(
+    runtime: &R,
+    path: &str,
+    new_path: &str,
+    bytes: &[u8],
+) -> io::Result<()> {
+    write_file(runtime, new_path, bytes)?;
+    fs::rename(runtime, new_path, path)?;
+    sync_folder_of(runtime, path)
+}
+
+// Puts the bytes into the file at `path` by way of `new_path`. The first holds the old or the new bytes at each moment.
+pub(crate) fn replace_file<R: Files>(
+    runtime: &R,
+    path: &str,
+    new_path: &str,
+    bytes: &[u8],
+) -> Result<(), ReplaceFault> {
+    match write_and_rename(runtime, path, new_path, bytes) {
+        Ok(()) => Ok(()),
+        Err(_) => Err(ReplaceFault::Device),
+    }
+}

@@ -1,0 +1,125 @@
+//! A map from keys, with contracts over the finite map that it holds.
+
+ghost use Rattle.std.specs.Prelude.{◌≡◌, ◌↔◌, take, None, IsTrue, IfOk, OnOk, OnErr};
+ghost use Rattle.std.specs.Option.{option_copied};
+ghost use Rattle.std.specs.Ordering.{nat_cmp};
+ghost use Rattle.std.specs.FinMap as map;
+
+use std::alloc::{AllocError, Allocator, Global};
+use std::collections::{BTreeMap, btree_map};
+use std::marker::Model;
+
+/// Values by their key, which contracts see as a finite map from numbers to what they see of the values.
+#[derive(Drop)]
+pub struct KeyMap<V, A: Allocator + Copy = Global> {
+    tree: BTreeMap<u16, V, A>,
+}
+
+impl<V, A: Allocator + Copy> Model for KeyMap<V, A> {
+    ghost use Rattle.std.specs.Ordering.{nat_cmp};
+    ghost use Rattle.std.specs.FinMap as map;
+    ghost use Rattle.std.specs.Coded.{coded_ℕ};
+
+    ghost Value = { map.FinMap nat_cmp V };
+
+    ghost coded = { map.code coded_ℕ V.code };
+
+    ghost view = { λ k. map.from_entries k.tree.entries };
+}
+
+impl<V, A: Allocator + Copy> KeyMap<V, A> {
+    ghost use Rattle.std.specs.Borrow.{sem};
+    ghost use Rattle.std.specs.Option.{option_copied_mut};
+    ghost use Rattle.dm_store.specs.Lending.{LendsValue};
+
+    /// A map that holds nothing. It takes no memory.
+    pub fn new(alloc: A) -> Self
+        ensures { result ≡ map.empty }
+    {
+        KeyMap {
+            tree: BTreeMap::new(alloc),
+        }
+    }
+
+    /// How many keys there are.
+    pub fn len(&self) -> usize
+        ensures { result ≡ map.len self.now }
+    {
+        self.tree.len()
+    }
+
+    /// Whether there is no key.
+    pub fn is_empty(&self) -> bool
+        ensures { IsTrue result ↔ (map.len self.now ≡ 0) }
+    {
+        self.len() == 0
+    }
+
+    /// The value at a key.
+    pub fn get(&self, key: u16) -> Option<&V>
+        ensures { option_copied result ≡ map.get self.now key }
+    {
+        self.tree.get(&key)
+    }
+
+    /// The value at a key, lent to be changed.
+    pub fn get_mut(&mut self, key: u16) -> Option<&mut V>
+        ensures* writes_back { sem 𝓛 (LendsValue V.row A.row A.Allocator self.entry key result) }
+        ensures value { option_copied_mut result ≡ map.get self.old key }
+    {
+        self.tree.get_mut(&key)
+    }
+
+    /// The entries, by rising key.
+    pub fn iter(&self) -> btree_map::Iter<'_, u16, V>
+        ensures { result ≡ map.entries self.now }
+    {
+        self.tree.iter()
+    }
+
+    /// The keys, rising: all, or the first `count` where there are more.
+    pub fn first_keys(&self, alloc: A, count: usize) -> Result<Vec<u16, A>, AllocError>
+        ensures { IfOk result (λ keys. keys.items ≡ take count (map.keys self.now)) }
+    {
+        first_keys(alloc, &self.tree, count)
+    }
+
+    /// Puts a value at a key, and gives the one that was there. It takes memory only where the key is new.
+    pub fn insert(&mut self, key: u16, value: V) -> Result<Option<V>, AllocError>
+    where
+        V: Drop,
+        ensures ok { OnOk result (self.new ≡ map.insert self.old key value) }
+        ensures before { IfOk result (λ before. before ≡ map.get self.old key) }
+        ensures absent { OnErr result (map.get self.old key ≡ None) }
+        ensures err { OnErr result (self.new ≡ self.old) }
+    {
+        Ok(self.tree.insert(key, value)?)
+    }
+
+    /// Takes away the value at a key, and gives it.
+    pub fn remove(&mut self, key: u16) -> Option<V>
+        ensures after { self.new ≡ map.remove self.old key }
+        ensures before { result ≡ map.get self.old key }
+    {
+        self.tree.remove(&key)
+    }
+}
+
+// The first `count` keys of a tree.
+fn first_keys<V, A: Allocator + Copy>(
+    alloc: A,
+    tree: &BTreeMap<u16, V, A>,
+    count: usize,
+) -> Result<Vec<u16, A>, AllocError>
+    ensures { IfOk result (λ keys.
+        keys.items ≡ take count (map.keys (map.from_entries {R = nat_cmp} tree.now.entries))) }
+{
+    let mut keys = Vec::new(alloc);
+    for (key, _) in tree {
+        if keys.len() == count {
+            return Ok(keys);
+        }
+        keys.push(*key)?;
+    }
+    Ok(keys)
+}

@@ -1,0 +1,182 @@
+//! A set of stores in memory.
+
+ghost use Rattle.std.specs.Prelude.{◌≡◌, ◌+◌, ◌↔◌, true, option_map, IsErrOf};
+ghost use Rattle.std.specs.FinMap as map;
+
+use crate::key_map::KeyMap;
+use crate::mem_store::{NextSave, copy_of};
+use crate::set::{RemoveFault, StoreSet};
+use crate::store::{LoadFault, ReplaceFault};
+use std::alloc::{AllocError, Allocator, Global};
+use std::marker::Model;
+use std::mem;
+
+// Saved bytes, which contracts see as their list.
+#[derive(Drop)]
+struct SavedBytes<A: Allocator> {
+    bytes: Vec<u8, A>,
+}
+
+impl<A: Allocator> Model for SavedBytes<A> {
+    ghost use Rattle.std.specs.Prelude.{List, ℕ};
+
+    ghost Value = { List ℕ };
+
+    ghost view = { λ s. s.bytes.items };
+}
+
+impl<A: Allocator> SavedBytes<A> {
+    fn new(bytes: Vec<u8, A>) -> Self
+        ensures { result ≡ bytes.items }
+    {
+        SavedBytes { bytes }
+    }
+
+    fn as_slice(&self) -> &[u8]
+        ensures { result.now ≡ self.now }
+    {
+        self.bytes.as_slice()
+    }
+}
+
+/// A set of stores in memory, which is honest and fails exactly where it was set to.
+#[derive(Drop)]
+pub struct MemSet<A: Allocator + Copy = Global> {
+    alloc: A,
+    held: KeyMap<SavedBytes<A>, A>,
+    next_save: NextSave,
+    fails_loads: bool,
+}
+
+impl<A: Allocator + Copy> Model for MemSet<A> {
+    ghost use Rattle.std.specs.Prelude.{true};
+    ghost use Rattle.dm_store.specs.Sets.{SavedSet};
+    ghost use Rattle.dm_store.specs.Codes.{saved_set_code};
+    ghost use Rattle.dm_store.specs.Settings.{load_plan_of, save_plan_of};
+
+    ghost Value = { SavedSet };
+
+    ghost coded = { saved_set_code };
+
+    ghost view = { λ m. record {
+      content = m.held;
+      is_honest = true;
+      load_plan = load_plan_of m.fails_loads;
+      save_plan = save_plan_of m.next_save;
+    } };
+}
+
+impl<A: Allocator + Copy> MemSet<A> {
+    ghost use Rattle.dm_store.specs.Saved.{LoadsFine, SavesFine};
+    ghost use Rattle.dm_store.specs.Settings.{load_plan_of, save_plan_of};
+
+    /// A set that holds nothing. It takes no memory.
+    pub fn new(alloc: A) -> MemSet<A>
+        ensures { result ≡ record {
+          content = map.empty;
+          is_honest = true;
+          load_plan = LoadsFine;
+          save_plan = SavesFine;
+        } }
+    {
+        MemSet {
+            alloc,
+            held: KeyMap::new(alloc),
+            next_save: NextSave::Fine,
+            fails_loads: false,
+        }
+    }
+
+    /// Sets what the next replace, or the next remove of a key that is there, does, and that one alone. A call refused
+    /// for lack of memory leaves the setting.
+    pub fn set_next(&mut self, next: NextSave)
+        ensures { self.new ≡ record self.old { save_plan = save_plan_of next } }
+    {
+        self.next_save = next;
+    }
+
+    /// Sets whether loads, of keys and of bytes, answer a device fault, until it is set anew.
+    pub fn set_load(&mut self, fails: bool)
+        ensures { self.new ≡ record self.old { load_plan = load_plan_of fails } }
+    {
+        self.fails_loads = fails;
+    }
+
+    /// The bytes saved under a key, lent and not copied.
+    pub fn content(&self, key: u16) -> Option<&[u8]>
+        ensures { option_map (λ bytes. bytes.now) result ≡ map.get self.now.content key }
+    {
+        match self.held.get(key) {
+            Some(saved) => Some(saved.as_slice()),
+            None => None,
+        }
+    }
+}
+
+impl<A: Allocator + Copy> StoreSet for MemSet<A> {
+    ghost use Rattle.dm_store.specs.Saved.{LoadsOpen};
+    ghost use Rattle.dm_store.specs.Sets.{ListsKeys, LoadsKey};
+
+    type Memory = A;
+
+    ghost state = { λ set. set };
+
+    fn keys(&mut self, limit: usize) -> Result<Vec<u16, A>, LoadFault>
+        ensures lists { ListsKeys (λ keys. keys.items) self.old limit result self.new }
+        ensures device { IsErrOf result LoadFault.Device ↔ (self.old.load_plan ≡ LoadsOpen) }
+    {
+        if self.fails_loads {
+            return Err(LoadFault::Device);
+        }
+        match self.held.first_keys(self.alloc, limit.saturating_add(1)) {
+            Ok(keys) => Ok(keys),
+            Err(AllocError) => Err(LoadFault::Memory),
+        }
+    }
+
+    fn load(&mut self, key: u16, limit: usize) -> Result<Option<Vec<u8, A>>, LoadFault>
+        ensures loads { LoadsKey (λ bytes. bytes.items) self.old key limit result self.new }
+        ensures device { IsErrOf result LoadFault.Device ↔ (self.old.load_plan ≡ LoadsOpen) }
+    {
+        if self.fails_loads {
+            return Err(LoadFault::Device);
+        }
+        let Some(saved) = self.held.get(key) else {
+            return Ok(None);
+        };
+        match copy_of(self.alloc, saved.as_slice(), limit) {
+            Ok(copy) => Ok(Some(copy)),
+            Err(AllocError) => Err(LoadFault::Memory),
+        }
+    }
+
+    fn replace(&mut self, key: u16, bytes: &[u8]) -> Result<(), ReplaceFault> {
+        let Ok(copy) = Vec::from_slice(self.alloc, bytes) else {
+            return Err(ReplaceFault::Memory);
+        };
+        if self.next_save != NextSave::FaultOld {
+            let saved = SavedBytes::new(copy);
+            if self.held.insert(key, saved).is_err() {
+                return Err(ReplaceFault::Memory);
+            }
+        }
+        match mem::replace(&mut self.next_save, NextSave::Fine) {
+            NextSave::Fine => Ok(()),
+            NextSave::FaultOld | NextSave::FaultNew => Err(ReplaceFault::Device),
+        }
+    }
+
+    fn remove(&mut self, key: u16) -> Result<(), RemoveFault> {
+        if self.held.get(key).is_none() {
+            return Ok(());
+        }
+        let next = mem::replace(&mut self.next_save, NextSave::Fine);
+        if next != NextSave::FaultOld {
+            self.held.remove(key);
+        }
+        match next {
+            NextSave::Fine => Ok(()),
+            NextSave::FaultOld | NextSave::FaultNew => Err(RemoveFault::Device),
+        }
+    }
+}

@@ -1,0 +1,162 @@
+//! A store in memory.
+
+ghost use Rattle.std.specs.Prelude.{◌≡◌, ◌+◌, ◌↔◌, true, None, Some, option_map, take, IfOk, IsErrOf};
+
+use crate::store::{LoadFault, ReplaceFault, Store};
+use std::alloc::{AllocError, Allocator, Global};
+use std::marker::Model;
+use std::mem;
+
+/// What the next save of a store or a set in memory does.
+#[derive(Clone, Copy, Debug, PartialEq, Eq)]
+pub enum NextSave {
+    /// It is done.
+    Fine,
+    /// It meets a device fault that leaves the old content.
+    FaultOld,
+    /// It meets a device fault that leaves the new content.
+    FaultNew,
+}
+
+/// A store in memory, which is honest and fails exactly where it was set to.
+#[derive(Drop)]
+pub struct MemStore<A: Allocator + Copy = Global> {
+    alloc: A,
+    held: Option<Vec<u8, A>>,
+    next_save: NextSave,
+    fails_loads: bool,
+}
+
+impl<A: Allocator + Copy> Model for MemStore<A> {
+    ghost use Rattle.std.specs.Prelude.{true, option_map};
+    ghost use Rattle.dm_store.specs.Saved.{Saved};
+    ghost use Rattle.dm_store.specs.Codes.{saved_code};
+    ghost use Rattle.dm_store.specs.Settings.{load_plan_of, save_plan_of};
+
+    ghost Value = { Saved };
+
+    ghost coded = { saved_code };
+
+    ghost view = { λ m. record {
+      content = option_map (λ bytes. bytes.items) m.held;
+      is_honest = true;
+      load_plan = load_plan_of m.fails_loads;
+      save_plan = save_plan_of m.next_save;
+    } };
+}
+
+impl<A: Allocator + Copy> MemStore<A> {
+    ghost use Rattle.dm_store.specs.Saved.{LoadsFine, SavesFine};
+    ghost use Rattle.dm_store.specs.Settings.{load_plan_of, save_plan_of};
+
+    /// A store that holds nothing. It takes no memory.
+    pub fn new(alloc: A) -> MemStore<A>
+        ensures { result ≡ record {
+          content = None;
+          is_honest = true;
+          load_plan = LoadsFine;
+          save_plan = SavesFine;
+        } }
+    {
+        MemStore {
+            alloc,
+            held: None,
+            next_save: NextSave::Fine,
+            fails_loads: false,
+        }
+    }
+
+    /// A store that holds these bytes. It takes no memory.
+    pub fn with(alloc: A, bytes: Vec<u8, A>) -> MemStore<A>
+        ensures { result ≡ record {
+          content = Some bytes.items;
+          is_honest = true;
+          load_plan = LoadsFine;
+          save_plan = SavesFine;
+        } }
+    {
+        MemStore {
+            alloc,
+            held: Some(bytes),
+            next_save: NextSave::Fine,
+            fails_loads: false,
+        }
+    }
+
+    /// Sets what the next replace does, and that one alone. A replace refused for lack of memory leaves the setting.
+    pub fn set_next(&mut self, next: NextSave)
+        ensures { self.new ≡ record self.old { save_plan = save_plan_of next } }
+    {
+        self.next_save = next;
+    }
+
+    /// Sets whether loads answer a device fault, until it is set anew.
+    pub fn set_load(&mut self, fails: bool)
+        ensures { self.new ≡ record self.old { load_plan = load_plan_of fails } }
+    {
+        self.fails_loads = fails;
+    }
+
+    /// The bytes held, lent and not copied.
+    pub fn content(&self) -> Option<&[u8]>
+        ensures { option_map (λ bytes. bytes.now) result ≡ self.now.content }
+    {
+        match &self.held {
+            Some(bytes) => Some(bytes.as_slice()),
+            None => None,
+        }
+    }
+}
+
+// A copy of the bytes, or of the first `limit + 1` where they are longer.
+pub(crate) fn copy_of<A: Allocator + Copy>(
+    alloc: A,
+    bytes: &[u8],
+    limit: usize,
+) -> Result<Vec<u8, A>, AllocError>
+    ensures { IfOk result (λ copy. copy.items ≡ take (limit + 1) bytes.now) }
+{
+    let shown = if limit < bytes.len() {
+        &bytes[..limit + 1]
+    } else {
+        bytes
+    };
+    Vec::from_slice(alloc, shown)
+}
+
+impl<A: Allocator + Copy> Store for MemStore<A> {
+    ghost use Rattle.dm_store.specs.Saved.{Loads, LoadsOpen};
+
+    type Memory = A;
+
+    ghost state = { λ store. store };
+
+    fn load(&mut self, limit: usize) -> Result<Option<Vec<u8, A>>, LoadFault>
+        ensures loads { Loads (λ bytes. bytes.items) self.old limit result self.new }
+        ensures device { IsErrOf result LoadFault.Device ↔ (self.old.load_plan ≡ LoadsOpen) }
+    {
+        if self.fails_loads {
+            return Err(LoadFault::Device);
+        }
+        let Some(bytes) = &self.held else {
+            return Ok(None);
+        };
+        match copy_of(self.alloc, bytes.as_slice(), limit) {
+            Ok(copy) => Ok(Some(copy)),
+            Err(AllocError) => Err(LoadFault::Memory),
+        }
+    }
+
+    fn replace(&mut self, bytes: &[u8]) -> Result<(), ReplaceFault> {
+        let Ok(copy) = Vec::from_slice(self.alloc, bytes) else {
+            return Err(ReplaceFault::Memory);
+        };
+        if self.next_save != NextSave::FaultOld {
+            self.held = Some(copy);
+        }
+        match mem::replace(&mut self.next_save, NextSave::Fine) {
+            NextSave::Fine => Ok(()),
+            NextSave::FaultOld | NextSave::FaultNew => Err(ReplaceFault::Device),
+        }
+    }
+}

@@ -1,0 +1,45 @@
+//! What a set of stores promises, and its fault beside those of a store.
+
+ghost use Rattle.std.specs.Prelude.{◌≡◌};
+
+use crate::store::{LoadFault, ReplaceFault};
+use std::alloc::Allocator;
+use thiserror::Error;
+
+/// Why a remove was not done.
+#[derive(Clone, Copy, Debug, PartialEq, Eq, Error)]
+pub enum RemoveFault {
+    /// The key holds its old bytes or nothing, and which of them is settled.
+    #[error("the device failed")]
+    Device,
+    /// There was no memory for the call, and the key holds its old bytes.
+    #[error("out of memory")]
+    Memory,
+}
+
+/// A place for one list of bytes under each key.
+pub trait StoreSet: Drop {
+    ghost use Rattle.dm_store.specs.Sets.{SavedSet, ListsKeys, LoadsKey, ReplacesKey, RemovesKey};
+
+    /// What the keys and the bytes that a load gives are allocated in.
+    type Memory: Allocator;
+
+    /// What it holds, whether it is honest, and its plans.
+    ghost state: { Self → SavedSet };
+
+    /// The keys under which bytes are saved, rising: all, or the first `limit + 1` where there are more.
+    fn keys(&mut self, limit: usize) -> Result<Vec<u16, Self::Memory>, LoadFault>
+        ensures { ListsKeys (λ keys. keys.items) (state self.old) limit result (state self.new) };
+
+    /// The bytes saved under a key, or their first `limit + 1` where they are longer, or `None` where nothing is saved.
+    fn load(&mut self, key: u16, limit: usize) -> Result<Option<Vec<u8, Self::Memory>>, LoadFault>
+        ensures { LoadsKey (λ bytes. bytes.items) (state self.old) key limit result (state self.new) };
+
+    /// Puts the bytes in place of those saved under a key, if any.
+    fn replace(&mut self, key: u16, bytes: &[u8]) -> Result<(), ReplaceFault>
+        ensures { ReplacesKey (state self.old) key bytes.now result (state self.new) };
+
+    /// Takes away what is saved under a key.
+    fn remove(&mut self, key: u16) -> Result<(), RemoveFault>
+        ensures { RemovesKey (state self.old) key result (state self.new) };
+}

@@ -1,0 +1,47 @@
+//! What a store promises, and its faults.
+
+ghost use Rattle.std.specs.Prelude.{◌≡◌};
+
+use std::alloc::Allocator;
+use thiserror::Error;
+
+/// Why a load gave nothing.
+#[derive(Clone, Copy, Debug, PartialEq, Eq, Error)]
+pub enum LoadFault {
+    /// The device didn't give what it holds.
+    #[error("the device failed")]
+    Device,
+    /// There was no memory for what is held.
+    #[error("out of memory")]
+    Memory,
+}
+
+/// Why a replace was not done.
+#[derive(Clone, Copy, Debug, PartialEq, Eq, Error)]
+pub enum ReplaceFault {
+    /// The device holds the old or the new bytes, and which of them is settled.
+    #[error("the device failed")]
+    Device,
+    /// There was no memory for the call, and the old bytes are held.
+    #[error("out of memory")]
+    Memory,
+}
+
+/// A place for one list of bytes.
+pub trait Store: Drop {
+    ghost use Rattle.dm_store.specs.Saved.{Saved, Loads, Replaces};
+
+    /// What the bytes that a load gives are allocated in.
+    type Memory: Allocator;
+
+    /// What it holds, whether it is honest, and its plans.
+    ghost state: { Self → Saved };
+
+    /// The saved bytes, or their first `limit + 1` where they are longer, or `None` where nothing is saved.
+    fn load(&mut self, limit: usize) -> Result<Option<Vec<u8, Self::Memory>>, LoadFault>
+        ensures { Loads (λ bytes. bytes.items) (state self.old) limit result (state self.new) };
+
+    /// Puts the bytes in place of the saved ones.
+    fn replace(&mut self, bytes: &[u8]) -> Result<(), ReplaceFault>
+        ensures { Replaces (state self.old) bytes.now result (state self.new) };
+}

@@ -1,0 +1,194 @@
+//! Each growth refused in turn, over each call that takes memory: the call answers Memory and changes nothing, until no
+//! growth is refused, and then it is done.
+
+use crate::calls::{Call, SetCall, holds, run, run_set};
+use crate::folder::{entry_of, new_folder};
+use dm_store::{
+    FileSet, FileStore, FuseSet, FuseStore, Kept, KeyMap, LoadFault, MemSet, MemStore, NextSave,
+    RemoveFault, ReplaceFault, Store, StoreSet,
+};
+use refusing::Refusing;
+use std::fs;
+use std::test::Fail;
+
+// More growths than any of these calls asks for.
+const MOST_GROWTHS: u64 = 100;
+
+#[test]
+fn a_replace_of_a_store_is_refused(rt: HostRuntime) -> Result<(), Fail> {
+    for passes in 0..MOST_GROWTHS {
+        let memory = Refusing::new(rt.alloc(), passes);
+        let mut store = MemStore::new(&memory);
+        store.set_next(NextSave::FaultNew);
+        if store.replace(b"one") == Err(ReplaceFault::Memory) {
+            assert!(rt; memory.is_spent() && holds(store.content(), None));
+            assert_eq!(rt;
+                store.replace(b"one"),
+                Err(ReplaceFault::Device),
+                "the setting stands"
+            );
+        }
+        assert!(rt; holds(store.content(), Some(b"one".as_slice())));
+        if !memory.is_spent() {
+            assert!(rt; passes > 0);
+            return Ok(());
+        }
+    }
+    Err("growths without end".into())
+}
+
+#[test]
+fn a_load_of_a_store_is_refused(rt: HostRuntime) -> Result<(), Fail> {
+    for passes in 1..MOST_GROWTHS {
+        let memory = Refusing::new(rt.alloc(), passes);
+        let mut store = MemStore::new(&memory);
+        store.replace(b"one")?;
+        if let Err(fault) = store.load(9) {
+            assert_eq!(rt; (fault, memory.is_spent()), (LoadFault::Memory, true));
+            run(&rt, &mut store, &[Call::Load(9, Ok(Some(b"one")))]);
+        }
+        if !memory.is_spent() {
+            return Ok(());
+        }
+    }
+    Err("growths without end".into())
+}
+
+// Forty keys, so that the map grows more than once.
+#[test]
+fn a_replace_of_a_set_is_refused(rt: HostRuntime) -> Result<(), Fail> {
+    for passes in 0..MOST_GROWTHS {
+        let memory = Refusing::new(rt.alloc(), passes);
+        let mut set = MemSet::new(&memory);
+        for key in 0..40u16 {
+            if set.replace(key, b"one") == Err(ReplaceFault::Memory) {
+                assert!(rt; memory.is_spent() && holds(set.content(key), None));
+                set.replace(key, b"one")?;
+            }
+        }
+        if !memory.is_spent() {
+            assert!(rt; passes > 40);
+            return Ok(());
+        }
+    }
+    Err("growths without end".into())
+}
+
+#[test]
+fn a_load_of_a_set_is_refused(rt: HostRuntime) -> Result<(), Fail> {
+    for passes in 1..MOST_GROWTHS {
+        let memory = Refusing::new(rt.alloc(), passes);
+        let mut set = MemSet::new(&memory);
+        if set.replace(1, b"one").is_err() {
+            continue;
+        }
+        let loaded = set.load(1, 9).is_ok();
+        let listed = set.keys(9).is_ok();
+        assert_eq!(rt; memory.is_spent(), !(loaded && listed));
+        if !memory.is_spent() {
+            return Ok(());
+        }
+        run_set(
+            &rt,
+            &mut set,
+            &[
+                SetCall::Load(1, 9, Ok(Some(b"one"))),
+                SetCall::Keys(9, Ok(&[1])),
+            ],
+        );
+    }
+    Err("growths without end".into())
+}
+
+// A fuse answers a refusal of the store within as it is, and counts the call.
+#[test]
+fn a_fuse_passes_a_refusal_on(rt: HostRuntime) {
+    let memory = Refusing::new(rt.alloc(), 0);
+    let mut store = FuseStore::new(MemStore::new(&memory), 0, Kept::New);
+    run(
+        &rt,
+        &mut store,
+        &[
+            Call::Replace(b"one", Err(ReplaceFault::Memory)),
+            Call::Replace(b"one", Err(ReplaceFault::Device)),
+        ],
+    );
+    let memory = Refusing::new(rt.alloc(), 0);
+    let mut set = FuseSet::new(MemSet::new(&memory), 1, Kept::Old);
+    run_set(
+        &rt,
+        &mut set,
+        &[
+            SetCall::Replace(1, b"one", Err(ReplaceFault::Memory)),
+            SetCall::Replace(1, b"one", Err(ReplaceFault::Device)),
+        ],
+    );
+}
+
+#[test]
+fn an_insert_into_a_map_is_refused(rt: HostRuntime) -> Result<(), Fail> {
+    for passes in 0..MOST_GROWTHS {
+        let memory = Refusing::new(rt.alloc(), passes);
+        let mut map = KeyMap::new(&memory);
+        for key in 0..40u16 {
+            if map.insert(key, key).is_err() {
+                assert!(rt; memory.is_spent() && map.len() == usize::from(key));
+                map.insert(key, key)?;
+            }
+        }
+        let listed = map.first_keys(&memory, 99).is_ok();
+        assert_eq!(rt; map.len(), 40);
+        if !memory.is_spent() {
+            assert!(rt; listed && passes > 1);
+            return Ok(());
+        }
+    }
+    Err("growths without end".into())
+}
+
+// A store in a file: what is refused leaves the file as it was.
+#[test]
+fn a_call_of_a_file_is_refused(rt: HostRuntime) -> Result<(), Fail> {
+    let folder = new_folder(&rt, "refused")?;
+    let path = entry_of(rt.alloc(), folder.as_str(), "ledger")?;
+    for passes in 1..MOST_GROWTHS {
+        fs::write(&rt, path.as_str(), b"one".as_slice())?;
+        let memory = Refusing::new(rt.alloc(), passes);
+        let mut store = FileStore::new(&memory, &rt, String::from_str(&memory, path.as_str())?);
+        if store.replace(b"two") == Err(ReplaceFault::Memory) {
+            run(&rt, &mut store, &[Call::Load(9, Ok(Some(b"one")))]);
+        } else if let Err(fault) = store.load(9) {
+            assert_eq!(rt; (fault, memory.is_spent()), (LoadFault::Memory, true));
+        }
+        if !memory.is_spent() {
+            fs::remove_dir_all(&rt, folder.as_str())?;
+            return Ok(());
+        }
+    }
+    Err("growths without end".into())
+}
+
+// A set in a folder: what is refused leaves the folder as it was, and does not make it.
+#[test]
+fn a_call_of_a_folder_is_refused(rt: HostRuntime) -> Result<(), Fail> {
+    let above = new_folder(&rt, "refused-set")?;
+    for passes in 1..MOST_GROWTHS {
+        let folder = format!(in rt.alloc(); "{above}/{passes}")?;
+        let memory = Refusing::new(rt.alloc(), passes);
+        let mut set = FileSet::new(&memory, &rt, String::from_str(&memory, folder.as_str())?);
+        if set.replace(1, b"one") == Err(ReplaceFault::Memory) {
+            assert!(rt; memory.is_spent() && !fs::exists(&rt, folder.as_str())?);
+        } else if let Err(fault) = set.keys(9) {
+            assert_eq!(rt; (fault, memory.is_spent()), (LoadFault::Memory, true));
+        } else if let Err(fault) = set.load(1, 9) {
+            assert_eq!(rt; (fault, memory.is_spent()), (LoadFault::Memory, true));
+        } else if set.remove(1) == Err(RemoveFault::Memory) {
+            run_set(&rt, &mut set, &[SetCall::Keys(9, Ok(&[1]))]);
+        }
+        if !memory.is_spent() {
+            fs::remove_dir_all(&rt, above.as_str())?;
+            return Ok(());
+        }
+    }
+    Err("growths without end".into())
+}
