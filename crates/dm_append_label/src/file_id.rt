@@ -2,7 +2,7 @@
 
 use std::marker::Model;
 
-/// The identification that all labels of one document carry (ISO/IEC 16022, clause 5.6.2): two words of 1 to 254, or,
+/// The identification that all labels of one document carry (ISO/IEC 16022:2006, 5.6.3): two words of 1 to 254, or,
 /// as this project counts them, a number from 0 to 64,515. Ordered by number.
 #[derive(Clone, Copy, Debug, PartialEq, Eq, PartialOrd, Ord, Hash)]
 pub struct FileId {

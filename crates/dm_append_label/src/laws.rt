@@ -5,6 +5,7 @@ ghost use Rattle.std.specs.Ordering.{nat_cmp};
 ghost use Rattle.dm_append_label.specs.Parts.{EachCutIs, HasOneCut};
 
 use crate::file_id::FileId;
+use crate::opening::MOST_PAGE_BYTES;
 use std::cmp::Ordering;
 
 /// Identifications are ordered by number.
@@ -13,6 +14,11 @@ pub fn identifications_are_ordered_by_number(one: FileId, other: FileId) -> Orde
 {
     one.cmp(&other)
 }
+
+/// The most bytes of a page, by number: no definition moves with the constant.
+pub fn page_bytes_by_number()
+    ensures { MOST_PAGE_BYTES ≡ 2600 }
+{}
 
 /// A document has one list of parts at most; these are 2 to 16, each fits a label, and joined they are the document.
 pub fn parts_of_a_document()

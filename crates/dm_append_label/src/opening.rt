@@ -49,9 +49,9 @@ pub fn page_of<A: Allocator + Copy>(alloc: A, symbol: &Corrected<A>) -> Result<P
 }
 
 /// Opens a label, from any grid: corrects the words of its symbol and reads the page after the head. A grid that is
-/// near a label, so that each of its blocks has no more wrong words than can be corrected, opens as that label's page or
-/// not at all, and it opens where its finder patterns are within their limit (ISO/IEC 16022:2006, 5.6 and 5.7, Annexes
-/// A, E and F).
+/// near a label, so that each of its blocks has no more wrong words than can be corrected, opens as that label's page
+/// or not at all, and it opens where its finder patterns are within their limit (ISO/IEC 16022:2006, 5.6 and 5.7,
+/// Annexes A, E and F).
 ///
 /// # Errors
 /// The first fault that applies, in the order of `LabelFault`.

@@ -1,4 +1,7 @@
-use crate::{FileId, LabelFault, Page, SealFault, cut, open_label, seal, seal_with, still_near};
+use crate::{
+    FileId, HeadFault, LabelFault, Page, PageFault, SealFault, cut, open_label, seal, seal_with,
+    still_near,
+};
 use dm_check_blocks::Size;
 use dm_encodation::{DecodeFault, Scheme, fit};
 use dm_finder_frame::{Grid, cell_of, matrix_of};
@@ -408,9 +411,35 @@ fn faults_say_what_is_wrong(rt: HostRuntime) -> Result<(), Fail> {
             "the sequence indicator 32 is invalid",
         ),
         (LabelFault::FileId, "the file identification is invalid"),
+        (
+            LabelFault::Block { block: 7 },
+            "block 7 has more wrong words than can be corrected",
+        ),
+        (LabelFault::Memory, "out of memory"),
     ] {
         assert_eq!(rt; format!(in rt.alloc(); "{fault}")?.as_str(), text);
     }
+    for (fault, text) in [
+        (HeadFault::NotAppended, "the symbol is not a label"),
+        (
+            HeadFault::Sequence { word: 32 },
+            "the sequence indicator 32 is invalid",
+        ),
+        (HeadFault::FileId, "the file identification is invalid"),
+    ] {
+        assert_eq!(rt; format!(in rt.alloc(); "{fault}")?.as_str(), text);
+        let page = PageFault::Head(fault);
+        assert_eq!(rt; format!(in rt.alloc(); "{page}")?.as_str(), text);
+    }
+    let text = format!(in rt.alloc(); "{}", DecodeFault::Cut { at: 3 })?;
+    let page = format!(in rt.alloc(); "{}", PageFault::Content(DecodeFault::Cut { at: 3 }))?;
+    let label = format!(in rt.alloc(); "{}", LabelFault::Content(DecodeFault::Cut { at: 3 }))?;
+    assert_eq!(rt; page.as_str(), text.as_str());
+    assert_eq!(rt; label.as_str(), text.as_str());
+    let text = format!(in rt.alloc(); "{}", PageFault::Memory)?;
+    assert_eq!(rt; text.as_str(), "out of memory");
+    let text = format!(in rt.alloc(); "{}", SealFault::Memory)?;
+    assert_eq!(rt; text.as_str(), "out of memory");
     let text = format!(in rt.alloc(); "{}", SealFault::TooLong)?;
     assert_eq!(rt; text.as_str(), "the page does not fit a label of this size");
     Ok(())

@@ -27,7 +27,8 @@ pub fn squares_are_whole()
     ensures matrix { (g : GridView) → IsWhole (matrix_of_grid g) }
 {}
 
-/// Flipped modules leave a grid's size as it is, and its number of modules; one flip more is one more at the list's end.
+/// Flipped modules leave a grid's size as it is, and its number of modules; one flip more is one more at the list's
+/// end.
 pub fn flips_are_made_in_order()
     ensures size { (g : GridView) (flips : List (ℕ × ℕ)) → (flipped g flips).size ≡ g.size }
     ensures whole { (g : GridView) (flips : List (ℕ × ℕ)) → IsWholeGrid g → IsWholeGrid (flipped g flips) }

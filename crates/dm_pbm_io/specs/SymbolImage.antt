@@ -29,12 +29,9 @@ image_with_quiet_zone g plain = record {
   plain = plain;
 }
 
--- the bytes of a grid's image, packed or plain
+-- the bytes of a grid's packed image
 abbrev pub p4 : GridView → List ℕ
 p4 g = written (image_with_quiet_zone g false)
-
-abbrev pub p1 : GridView → List ℕ
-p1 g = written (image_with_quiet_zone g true)
 
 -- the pixels inside the quiet zone of a picture, row by row
 abbrev pub modules_inside : Picture → List Bool

@@ -1,9 +1,18 @@
 //! The laws of reading and writing.
 
-ghost use Rattle.std.specs.Prelude.{Bool};
+ghost use Rattle.std.specs.Prelude.{Bool, ◌≡◌};
 ghost use Rattle.dm_finder_frame.specs.Grids.{GridView, IsWholeGrid};
 ghost use Rattle.dm_pbm_io.specs.Image.{Picture};
 ghost use Rattle.dm_pbm_io.specs.Laws.{HasOneImage, IsNotRefused, IsReadable, IsReadBack, IsTakenBack, IsWrittenReadable};
+
+use crate::limits::{GREATEST_SIDE, HEADER_BYTES, PLAIN_BYTES};
+
+/// The limits by number: no definition moves with a constant.
+pub fn limits_by_number()
+    ensures side { GREATEST_SIDE ≡ 1024 }
+    ensures header { HEADER_BYTES ≡ 4096 }
+    ensures plain { PLAIN_BYTES ≡ 4194304 }
+{}
 
 /// What is written for an image that can be read begins with a spelling of that image.
 pub fn written_is_readable()

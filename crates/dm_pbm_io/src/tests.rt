@@ -405,3 +405,25 @@ fn faults_are_named(rt: HostRuntime) {
     assert_eq!(rt; PbmFault::TooLarge.name(), "TooLarge");
     assert_eq!(rt; ShapeFault::Shape.name(), "Shape");
 }
+
+#[test]
+fn faults_say_what_is_wrong(rt: HostRuntime) -> Result<(), Fail> {
+    for (fault, text) in [
+        (PbmFault::Magic, "the input does not begin with P1 or P4"),
+        (PbmFault::Header, "the header is invalid"),
+        (PbmFault::TooLarge, "the image is too large"),
+        (PbmFault::Cut, "the input ends inside the image"),
+        (PbmFault::Pixel, "the raster has a byte that is no pixel"),
+        (PbmFault::Read, "the input could not be read"),
+        (PbmFault::Memory, "out of memory"),
+    ] {
+        assert_eq!(rt; format!(in rt.alloc(); "{fault}")?.as_str(), text);
+    }
+    for (fault, text) in [
+        (ShapeFault::Shape, "the image has not the shape of a symbol"),
+        (ShapeFault::Memory, "out of memory"),
+    ] {
+        assert_eq!(rt; format!(in rt.alloc(); "{fault}")?.as_str(), text);
+    }
+    Ok(())
+}

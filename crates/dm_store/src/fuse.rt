@@ -3,12 +3,12 @@
 ghost use Rattle.std.specs.Prelude.{◌≡◌, Some, None};
 ghost use Rattle.dm_store.specs.Turns.{turn_of_load, turn_of_save, after_call};
 
-/// What is held after the save that a fuse stops first.
+/// What the first call that a fuse stops leaves, where that call is a save.
 #[derive(Clone, Copy, Debug, PartialEq, Eq)]
 pub enum Kept {
-    /// The old content, as the save never comes to the store within.
+    /// The old content: the save is not passed to the store within.
     Old,
-    /// The new content, as the save is made there and only its answer is lost.
+    /// The new content: the save is made there, and a device fault is answered in place of its `Ok`.
     New,
 }
 

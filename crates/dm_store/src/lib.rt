@@ -6,12 +6,13 @@
 //! - A load changes nothing. Of an honest store it gives the content, cut after `limit + 1` bytes or keys. It meets a
 //!   device fault only where loads may.
 //! - After a save that answers `Ok` an honest store holds the new content. After `Memory` nothing has changed. After
-//!   `Device` it holds the old or the new content, as its plan for the save said. No other key changes.
+//!   `Device` it holds the old or the new content, as its plan for the save said. An honest set changes no other key.
 //! - No call changes the honesty or what loads may do.
 //!
-//! [`MemStore`] and [`MemSet`] are honest, and fail exactly where they were set to. [`FuseStore`] and [`FuseSet`]
-//! stop after a number of calls, over any store or set. [`FileStore`] and [`FileSet`] claim nothing of their files:
-//! what these hold after a stop is tested, and not proved. [`KeyMap`] is the map that a set in memory is made of.
+//! [`MemStore`] and [`MemSet`] are honest, and meet a device fault exactly where they were set to. [`FuseStore`] and
+//! [`FuseSet`] stop after a number of calls, over any store or set. [`FileStore`] and [`FileSet`] claim nothing of
+//! their files: what these hold after a stop is tested, and not proved. [`KeyMap`] is the map that a set in memory is
+//! made of.
 #![tactic(auto)]
 
 mod file_set;

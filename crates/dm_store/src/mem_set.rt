@@ -39,7 +39,7 @@ impl<A: Allocator> SavedBytes<A> {
     }
 }
 
-/// A set of stores in memory, which is honest and fails exactly where it was set to.
+/// A set of stores in memory, which is honest and meets a device fault exactly where it was set to.
 #[derive(Drop)]
 pub struct MemSet<A: Allocator + Copy = Global> {
     alloc: A,

@@ -18,7 +18,7 @@ pub enum NextSave {
     FaultNew,
 }
 
-/// A store in memory, which is honest and fails exactly where it was set to.
+/// A store in memory, which is honest and meets a device fault exactly where it was set to.
 #[derive(Drop)]
 pub struct MemStore<A: Allocator + Copy = Global> {
     alloc: A,

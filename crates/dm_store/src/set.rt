@@ -6,7 +6,7 @@ use crate::store::{LoadFault, ReplaceFault};
 use std::alloc::Allocator;
 use thiserror::Error;
 
-/// Why a remove was not done.
+/// Why a remove failed.
 #[derive(Clone, Copy, Debug, PartialEq, Eq, Error)]
 pub enum RemoveFault {
     /// The key holds its old bytes or nothing, and which of them is settled.

@@ -11,12 +11,12 @@ pub enum LoadFault {
     /// The device didn't give what it holds.
     #[error("the device failed")]
     Device,
-    /// There was no memory for what is held.
+    /// There was no memory for the call.
     #[error("out of memory")]
     Memory,
 }
 
-/// Why a replace was not done.
+/// Why a replace failed.
 #[derive(Clone, Copy, Debug, PartialEq, Eq, Error)]
 pub enum ReplaceFault {
     /// The device holds the old or the new bytes, and which of them is settled.

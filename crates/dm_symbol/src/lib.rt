@@ -6,9 +6,9 @@
 //! the way back for many grids: it keeps the placement of the size that it has read last. [`still_near`] says whether
 //! flipped modules leave a grid within what is corrected.
 //!
-//! Proved: a drawn grid is that of the one symbol that begins with the data words; a grid is corrected exactly where its
-//! finder patterns are within their limit and each of its blocks is within the correctable number of wrong words, and to
-//! the only words of which that holds; so a grid near a symbol's grid gives that symbol's words.
+//! Proved: a drawn grid is that of the one symbol that begins with the data words; a grid is corrected exactly where
+//! its finder patterns are within their limit and each of its blocks is within the correctable number of wrong words,
+//! and to the only words of which that holds; so a grid near a symbol's grid gives that symbol's words.
 #![tactic(auto)]
 
 mod correcting;

@@ -2,6 +2,7 @@
 
 ghost use Rattle.std.specs.Prelude.{◌≡◌, true, IfOk, IfSome, IsErrOf};
 ghost use Rattle.relay.specs.Documents.{document_of};
+ghost use Rattle.relay_streams.specs.Streams.{TakesPart};
 ghost use Rattle.relay_streams.specs.declared.fault.InputFault.TheVariants as input_faults;
 
 use relay_streams::{Input, InputFault};
@@ -18,6 +19,7 @@ pub(crate) fn read_document<A: Allocator, R: Read>(
 ) -> Result<Vec<u8, A>, InputFault>
     ensures document { IfOk result (λ document.
         IfSome input.old.remaining (λ bytes. document.items ≡ document_of bytes)) }
+    ensures part { TakesPart input.old.remaining input.new.remaining DOCUMENT_BYTES }
     ensures failed { IsErrOf result input_faults.Read → input.new.has_failed ≡ true }
 {
     input.read_up_to(alloc, DOCUMENT_BYTES)

@@ -4,9 +4,10 @@ ghost use Rattle.std.specs.Prelude.{◌≡◌, ◌<◌, length, IfOk, IfErr, IfS
 ghost use Rattle.dm_check_blocks.specs.Sizes as sizes;
 ghost use Rattle.dm_encodation.specs.Written.{need_of};
 ghost use Rattle.dm_encodation.specs.declared.fault.EncodeFault.TheVariants as encode_faults;
+ghost use Rattle.relay_streams.specs.Streams.{TakesPart};
 ghost use Rattle.relay.specs.Documents.{CarriesDocument, RefusesSymbol, document_of};
 
-use crate::document::read_document;
+use crate::document::{DOCUMENT_BYTES, read_document};
 use crate::refusal::SymbolRefusal;
 use dm_check_blocks::{Size, complete};
 use dm_encodation::{EncodeFault, Scheme, encode};
@@ -52,6 +53,7 @@ pub(crate) fn read_symbol<A: Allocator + Copy, R: Read>(
     ensures symbol { IfOk result (λ symbol. IfSome input.old.remaining (λ bytes.
         CarriesDocument side scheme (document_of bytes) symbol.size symbol.words.items)) }
     ensures refused { IfErr result (RefusesSymbol side scheme input.old input.new) }
+    ensures part { TakesPart input.old.remaining input.new.remaining DOCUMENT_BYTES }
 {
     let Some(size) = Size::of_side(side) else {
         return Err(SymbolRefusal::Side);

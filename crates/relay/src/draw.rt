@@ -5,9 +5,11 @@ ghost use Rattle.dm_check_blocks.specs.Sizes.{all_words};
 ghost use Rattle.dm_symbol.specs.Symbols.{grid_of_words};
 ghost use Rattle.dm_pbm_io.specs.Shown.{picture};
 ghost use Rattle.dm_pbm_io.specs.SymbolImage.{image_with_quiet_zone};
+ghost use Rattle.relay_streams.specs.Streams.{TakesPart};
 ghost use Rattle.relay.specs.Documents.{PrintsRefusal, RefusesSymbol, document_of};
 ghost use Rattle.relay.specs.Draw.{DrawsDocument, PrintsDrawing, PrintsWriteRefusal};
 
+use crate::document::DOCUMENT_BYTES;
 use crate::document_symbol::{Symbol, read_symbol};
 use crate::refusal::SymbolRefusal;
 use dm_encodation::Scheme;
@@ -44,6 +46,7 @@ fn image_of_document<A: Allocator + Copy, R: Read>(
         DrawsDocument side scheme plain (document_of bytes) (picture image))) }
     ensures count { IfOk result (λ image. length image.pixels.items ≡ image.width * image.height) }
     ensures refused { IfErr result (RefusesSymbol side scheme input.old input.new) }
+    ensures part { TakesPart input.old.remaining input.new.remaining DOCUMENT_BYTES }
 {
     let symbol = match read_symbol(alloc, input, side, scheme) {
         Ok(symbol) => symbol,
@@ -69,6 +72,7 @@ pub fn draw_command<A: Allocator + Copy, R: Read, W: Write, E: Write>(
     plain: bool,
 ) -> u8
     ensures status { (result ≡ 0) ⊎ (result ≡ 1) }
+    ensures part { TakesPart input.old.remaining input.new.remaining DOCUMENT_BYTES }
     ensures drawn { result ≡ 0 → PrintsDrawing side scheme plain input.old output.old output.new }
     ensures silent { result ≡ 0 → errors.new ≡ errors.old }
     ensures refused { result ≡ 1 → (errors.new.has_failed ≡ true)

@@ -1,14 +1,16 @@
 //! The commands of `relay`, each a function over an input and outputs that answers the exit status, and `run`, which
 //! calls them with the program's own streams.
 //!
-//! Proved, of inputs and outputs whose bytes a contract can name (slices and vectors; of the system's own streams
-//! none can): on status 0 a command has written exactly what it is for, and on status 1 the one line that names a refusal for
-//! which there was a reason, or an output has refused a write.
+//! Proved, of inputs and outputs whose bytes a contract can name (slices and vectors; of the system's own streams none
+//! can): on status 0 a command has written exactly what it is for. On status 1 `words` and `draw` have written the one
+//! line that names a refusal for which there was a reason, `read` such a line for each image that has one, or an output
+//! has refused a write.
 #![tactic(auto)]
 
 mod document;
 mod document_symbol;
 mod draw;
+pub mod laws;
 mod program;
 mod read;
 mod read_grid;
@@ -17,6 +19,7 @@ mod refusal;
 mod standard_error;
 mod words;
 
+pub use document::DOCUMENT_BYTES;
 pub use draw::draw_command;
 pub use program::run;
 pub use read::{MOST_IMAGES, read_command};

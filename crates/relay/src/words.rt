@@ -3,9 +3,11 @@
 ghost use Rattle.std.specs.Prelude.{◌≡◌, ◌⊎◌, ◌++◌, ◌∷◌, true, IfOk, IfErr, IfSome, OnOk, string_bytes};
 ghost use Rattle.std.specs.List.{flat_map};
 ghost use Rattle.std.specs.Fmt.{decimal};
+ghost use Rattle.relay_streams.specs.Streams.{TakesPart};
 ghost use Rattle.relay.specs.Documents.{PrintsRefusal, RefusesSymbol, document_of};
 ghost use Rattle.relay.specs.Words.{IsLineOf, PrintsWords, words_line};
 
+use crate::document::DOCUMENT_BYTES;
 use crate::document_symbol::read_symbol;
 use crate::refusal::SymbolRefusal;
 use dm_encodation::Scheme;
@@ -48,6 +50,7 @@ fn line_of_document<A: Allocator + Copy, R: Read>(
     ensures line { IfOk result (λ line. IfSome input.old.remaining (λ bytes.
         IsLineOf side scheme (document_of bytes) (string_bytes line))) }
     ensures refused { IfErr result (RefusesSymbol side scheme input.old input.new) }
+    ensures part { TakesPart input.old.remaining input.new.remaining DOCUMENT_BYTES }
 {
     let symbol = match read_symbol(alloc, input, side, scheme) {
         Ok(symbol) => symbol,
@@ -70,6 +73,7 @@ pub fn words_command<A: Allocator + Copy, R: Read, W: Write>(
     scheme: Scheme,
 ) -> u8
     ensures status { (result ≡ 0) ⊎ (result ≡ 1) }
+    ensures part { TakesPart input.old.remaining input.new.remaining DOCUMENT_BYTES }
     ensures printed { result ≡ 0 → PrintsWords side scheme input.old output.old output.new }
     ensures refused { result ≡ 1 → (output.new.has_failed ≡ true)
         ⊎ PrintsRefusal side scheme input.old input.new output.old output.new }

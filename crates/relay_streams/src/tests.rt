@@ -201,3 +201,16 @@ fn the_reader_is_given_back(rt: HostRuntime) {
     assert_eq!(rt; input.next_byte(), Ok(Some(b'r')));
     assert_eq!(rt; input.into_reader(), b"elay".as_slice());
 }
+
+#[test]
+fn faults_say_what_is_wrong(rt: HostRuntime) -> Result<(), Fail> {
+    let text = format!(in rt.alloc(); "{}", ReadFault::Read)?;
+    assert_eq!(rt; text.as_str(), "the input could not be read");
+    let text = format!(in rt.alloc(); "{}", InputFault::Read)?;
+    assert_eq!(rt; text.as_str(), "the input could not be read");
+    let text = format!(in rt.alloc(); "{}", InputFault::Memory)?;
+    assert_eq!(rt; text.as_str(), "out of memory");
+    let text = format!(in rt.alloc(); "{}", WriteFault::Write)?;
+    assert_eq!(rt; text.as_str(), "the output could not be written");
+    Ok(())
+}

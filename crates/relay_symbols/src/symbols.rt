@@ -24,8 +24,8 @@ fn text_image<A: Allocator + Copy>(alloc: A, side: u16, text: &[u8]) -> Option<V
 }
 
 /// Draws the symbol of this side that carries the text, in ASCII encodation with no head, and answers the image's
-/// bytes, which stand at the front of `image`. Answers 0, and leaves `image` as it is, where no size has this side, the text
-/// does not fit, the image has no room, or memory is refused.
+/// bytes, which stand at the front of `image`. Answers 0, and leaves `image` as it is, where no size has this side,
+/// the text does not fit, the image has no room, or memory is refused.
 #[unsafe(no_mangle)]
 pub extern "C" fn relay_symbol_from_text(
     alloc: Global,

@@ -1,11 +1,11 @@
 //! `relay read` over streams of every kind.
 
 use crate::failing::{EndlessReader, FailingReader, FailingWriter};
-use dm_append_label::{FileId, Page, cut, seal};
+use dm_append_label::{FileId, LabelFault, Page, cut, seal};
 use dm_check_blocks::Size;
-use dm_encodation::Scheme;
-use dm_pbm_io::{image_of, write_image};
-use relay::{MOST_IMAGES, draw_command, read_command};
+use dm_encodation::{DecodeFault, Scheme};
+use dm_pbm_io::{PbmFault, image_of, write_image};
+use relay::{MOST_IMAGES, ReadRefusal, draw_command, read_command};
 use relay_streams::{Input, Output};
 use std::alloc::Global;
 use std::io::Read;
@@ -244,6 +244,33 @@ fn refuses_random_strings_by_name(rt: HostRuntime) -> Result<(), Fail> {
             assert!(rt; line.starts_with(b"refused "), "{string}");
         }
         assert_eq!(rt; status, 1, "{string}");
+    }
+    Ok(())
+}
+
+#[test]
+fn refusals_say_what_is_wrong(rt: HostRuntime) -> Result<(), Fail> {
+    for (refusal, text) in [
+        (
+            ReadRefusal::Image(PbmFault::Cut),
+            "the input ends inside the image",
+        ),
+        (
+            ReadRefusal::Shape,
+            "the image has not the shape of a symbol",
+        ),
+        (
+            ReadRefusal::Label(LabelFault::NotAppended),
+            "the symbol is not a label",
+        ),
+        (
+            ReadRefusal::Text(DecodeFault::Cut { at: 3 }),
+            "what begins at position 3 is cut off",
+        ),
+        (ReadRefusal::Memory, "out of memory"),
+        (ReadRefusal::TooMany, "the input has too many images"),
+    ] {
+        assert_eq!(rt; format!(in rt.alloc(); "{refusal}")?.as_str(), text);
     }
     Ok(())
 }

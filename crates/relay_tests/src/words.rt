@@ -2,7 +2,7 @@
 
 use crate::failing::{FailingReader, FailingWriter};
 use dm_encodation::Scheme;
-use relay::words_command;
+use relay::{SymbolRefusal, words_command};
 use relay_streams::{Input, Output};
 use std::test::Fail;
 
@@ -69,4 +69,20 @@ fn a_writer_that_fails_ends_with_one(rt: HostRuntime) {
             "after {passes} bytes"
         );
     }
+}
+
+#[test]
+fn refusals_say_what_is_wrong(rt: HostRuntime) -> Result<(), Fail> {
+    for (refusal, text) in [
+        (SymbolRefusal::Side, "the side is not that of a symbol"),
+        (SymbolRefusal::Read, "the input could not be read"),
+        (
+            SymbolRefusal::TooLong,
+            "the document does not fit the symbol",
+        ),
+        (SymbolRefusal::Memory, "out of memory"),
+    ] {
+        assert_eq!(rt; format!(in rt.alloc(); "{refusal}")?.as_str(), text);
+    }
+    Ok(())
 }

@@ -51,6 +51,7 @@ pub fn key_replaced<S: StoreSet>(set: &mut S, key: u16, bytes: &[u8]) -> Result<
 pub fn key_removed<S: StoreSet>(set: &mut S, key: u16) -> Result<(), RemoveFault>
     ensures honesty { (S.state set.new).is_honest ≡ (S.state set.old).is_honest }
     ensures loads { (S.state set.new).load_plan ≡ (S.state set.old).load_plan }
+    ensures saves { IsErrOf result RemoveFault.Memory → (S.state set.new).save_plan ≡ (S.state set.old).save_plan }
     ensures fine { (S.state set.old).save_plan ≡ SavesFine → (S.state set.new).save_plan ≡ SavesFine }
     ensures seen { IsTrue (S.state set.old).is_honest
         → SeesKey (S.state set.old) key None (outcome_of_remove result) (S.state set.new) }

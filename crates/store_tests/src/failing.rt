@@ -41,7 +41,7 @@ fn count(passes: &Passes) -> io::Result<()> {
     match passes.get() {
         Some(0) => {
             passes.set(None);
-            Err(io::Error::from(ErrorKind::Other))
+            Err(io::Error::from(ErrorKind::PermissionDenied))
         }
         Some(left) => {
             passes.set(Some(left - 1));

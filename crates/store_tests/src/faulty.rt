@@ -1,10 +1,10 @@
-//! Each call on the file system failing in turn: the store answers Device, and its file holds the old or the new bytes
-//! whole.
+//! Each call on the file system failing in turn: the store or the set answers Device, and its file holds the old or the
+//! new bytes whole.
 
-use crate::calls::{Call, run};
+use crate::calls::{Call, SetCall, run, run_set};
 use crate::failing::FailingFiles;
 use crate::folder::{entry_of, new_folder};
-use dm_store::{FileStore, LoadFault, ReplaceFault, Store};
+use dm_store::{FileSet, FileStore, LoadFault, RemoveFault, ReplaceFault, Store, StoreSet};
 use std::fs;
 use std::test::Fail;
 
@@ -54,6 +54,63 @@ fn a_load_of_a_file_fails_with_its_device(rt: HostRuntime) -> Result<(), Fail> {
         }
     }
     assert!(rt; faults > 1, "open and read");
+    fs::remove_dir_all(&rt, folder.as_str())?;
+    Ok(())
+}
+
+// The first replace, which makes the folder too.
+#[test]
+fn a_replace_of_a_set_fails_with_its_device(rt: HostRuntime) -> Result<(), Fail> {
+    let above = new_folder(&rt, "faulty-set")?;
+    let mut faults = 0u8;
+    for calls in 0..MOST_CALLS {
+        let folder = format!(in rt.alloc(); "{above}/{calls}")?;
+        let failing = FailingFiles::new(rt.clone()?, calls);
+        let files = (&failing, rt.alloc());
+        let answer = FileSet::new(rt.alloc(), &files, folder.clone()?).replace(1, b"one");
+        let mut set = FileSet::new(rt.alloc(), &rt, folder);
+        if answer == Err(ReplaceFault::Device) {
+            faults = faults.saturating_add(1);
+            run_set(&rt, &mut set, &[SetCall::Replace(1, b"one", Ok(()))]);
+        } else {
+            assert_eq!(rt; answer, Ok(()), "{calls}");
+        }
+        run_set(&rt, &mut set, &[SetCall::Load(1, 9, Ok(Some(b"one")))]);
+    }
+    assert_eq!(rt;
+        faults,
+        9,
+        "make the folder, open the one above, sync it, and the six of a file"
+    );
+    fs::remove_dir_all(&rt, above.as_str())?;
+    Ok(())
+}
+
+#[test]
+fn other_calls_of_a_set_fail_with_its_device(rt: HostRuntime) -> Result<(), Fail> {
+    let folder = new_folder(&rt, "faulty-remove")?;
+    let mut set = FileSet::new(rt.alloc(), &rt, folder.clone()?);
+    let mut removes = 0u8;
+    let mut lists = 0u8;
+    for calls in 0..MOST_CALLS {
+        set.replace(1, b"one")?;
+        let failing = FailingFiles::new(rt.clone()?, calls);
+        let files = (&failing, rt.alloc());
+        let mut faulty = FileSet::new(rt.alloc(), &files, folder.clone()?);
+        if faulty.remove(1) == Err(RemoveFault::Device) {
+            removes = removes.saturating_add(1);
+        } else {
+            run_set(&rt, &mut set, &[SetCall::Keys(9, Ok(&[]))]);
+        }
+        let failing = FailingFiles::new(rt.clone()?, calls);
+        let files = (&failing, rt.alloc());
+        if let Err(fault) = FileSet::new(rt.alloc(), &files, folder.clone()?).keys(9) {
+            assert_eq!(rt; fault, LoadFault::Device);
+            lists = lists.saturating_add(1);
+        }
+    }
+    assert_eq!(rt; removes, 3, "remove, open the folder, sync it");
+    assert_eq!(rt; lists, 1, "open the folder");
     fs::remove_dir_all(&rt, folder.as_str())?;
     Ok(())
 }

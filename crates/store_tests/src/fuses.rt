@@ -111,3 +111,24 @@ fn a_fuse_may_hold_a_fuse(rt: HostRuntime) {
     assert!(rt; !store.spent());
     assert!(rt; store.into_inner().spent());
 }
+
+#[test]
+fn a_fuse_passes_a_fault_of_a_load_on(rt: HostRuntime) {
+    let mut within = MemStore::new(rt.alloc());
+    within.set_load(true);
+    let mut store = FuseStore::new(within, 9, Kept::Old);
+    run(&rt, &mut store, &[Call::Load(9, Err(LoadFault::Device))]);
+    assert!(rt; !store.spent());
+    let mut within = MemSet::new(rt.alloc());
+    within.set_load(true);
+    let mut set = FuseSet::new(within, 9, Kept::Old);
+    run_set(
+        &rt,
+        &mut set,
+        &[
+            SetCall::Keys(9, Err(LoadFault::Device)),
+            SetCall::Load(1, 9, Err(LoadFault::Device)),
+        ],
+    );
+    assert!(rt; !set.spent());
+}

@@ -14,11 +14,17 @@ mod folder;
 #[cfg(test)]
 mod fuses;
 #[cfg(test)]
+mod listing;
+#[cfg(test)]
 mod maps;
 #[cfg(test)]
 mod memory;
 #[cfg(test)]
+mod noting;
+#[cfg(test)]
 mod on_files;
+#[cfg(test)]
+mod order;
 #[cfg(test)]
 mod refused;
 

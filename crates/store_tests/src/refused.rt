@@ -155,9 +155,15 @@ fn a_call_of_a_file_is_refused(rt: HostRuntime) -> Result<(), Fail> {
         fs::write(&rt, path.as_str(), b"one".as_slice())?;
         let memory = Refusing::new(rt.alloc(), passes);
         let mut store = FileStore::new(&memory, &rt, String::from_str(&memory, path.as_str())?);
-        if store.replace(b"two") == Err(ReplaceFault::Memory) {
-            run(&rt, &mut store, &[Call::Load(9, Ok(Some(b"one")))]);
-        } else if let Err(fault) = store.load(9) {
+        let held: &[u8] = match store.replace(b"two") {
+            Ok(()) => b"two",
+            Err(fault) => {
+                assert_eq!(rt; (fault, memory.is_spent()), (ReplaceFault::Memory, true));
+                b"one"
+            }
+        };
+        assert_eq!(rt; fs::read(&rt, path.as_str())?.as_slice(), held);
+        if let Err(fault) = store.load(9) {
             assert_eq!(rt; (fault, memory.is_spent()), (LoadFault::Memory, true));
         }
         if !memory.is_spent() {
@@ -176,14 +182,21 @@ fn a_call_of_a_folder_is_refused(rt: HostRuntime) -> Result<(), Fail> {
         let folder = format!(in rt.alloc(); "{above}/{passes}")?;
         let memory = Refusing::new(rt.alloc(), passes);
         let mut set = FileSet::new(&memory, &rt, String::from_str(&memory, folder.as_str())?);
-        if set.replace(1, b"one") == Err(ReplaceFault::Memory) {
-            assert!(rt; memory.is_spent() && !fs::exists(&rt, folder.as_str())?);
+        let replaced = set.replace(1, b"one");
+        assert_eq!(rt; fs::exists(&rt, folder.as_str())?, replaced.is_ok());
+        if let Err(fault) = replaced {
+            assert_eq!(rt; (fault, memory.is_spent()), (ReplaceFault::Memory, true));
         } else if let Err(fault) = set.keys(9) {
             assert_eq!(rt; (fault, memory.is_spent()), (LoadFault::Memory, true));
         } else if let Err(fault) = set.load(1, 9) {
             assert_eq!(rt; (fault, memory.is_spent()), (LoadFault::Memory, true));
-        } else if set.remove(1) == Err(RemoveFault::Memory) {
-            run_set(&rt, &mut set, &[SetCall::Keys(9, Ok(&[1]))]);
+        } else {
+            let removed = set.remove(1);
+            if let Err(fault) = removed {
+                assert_eq!(rt; (fault, memory.is_spent()), (RemoveFault::Memory, true));
+            }
+            let file = format!(in rt.alloc(); "{folder}/0001")?;
+            assert_eq!(rt; fs::exists(&rt, file.as_str())?, removed.is_err());
         }
         if !memory.is_spent() {
             fs::remove_dir_all(&rt, above.as_str())?;
