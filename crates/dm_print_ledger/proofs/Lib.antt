@@ -1,0 +1,13 @@
+pub mod RangeTests
+pub mod RangeLaws
+pub mod OutLaws
+pub mod InLaws
+pub mod FormatLaws
+pub mod FirstLaws
+pub mod ParseLaws
+pub mod GiverLaws
+pub mod LedgerLaws
+pub mod LabelLaws
+pub mod OpeningLaws
+pub mod PrintingLaws
+pub mod RefusalLaws

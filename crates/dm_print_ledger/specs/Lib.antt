@@ -1,0 +1,13 @@
+pub mod Creating
+pub mod FaultNames
+pub mod Givers
+pub mod Ledger
+pub mod Moving
+pub mod Numbers
+pub mod Opening
+pub mod Printing
+pub mod Ranges
+pub mod Saving
+pub mod Tickets
+pub mod Views
+pub mod inner

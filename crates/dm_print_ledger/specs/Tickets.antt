@@ -1,0 +1,22 @@
+-- The ten bytes of a ticket.
+use Rattle.std.specs.Prelude.{◌≡◌, ◌/◌, ◌%◌, ℕ, List, [], ◌∷◌, length}
+use Rattle.dm_print_ledger.specs.declared.range.Range.{Range}
+use Rattle.dm_print_ledger.specs.Ranges.{IsRange}
+use Rattle.dm_print_ledger.specs.Numbers.{number_in}
+use Rattle.dm_print_ledger.specs.Views.{TicketView}
+
+-- giver, serial, receiver, first and last number, in two bytes each
+unfoldable pub ticket_bytes : TicketView → List ℕ
+ticket_bytes ticket =
+    ticket.giver / 256 ∷ ticket.giver % 256 ∷ ticket.serial / 256 ∷ ticket.serial % 256 ∷
+    ticket.receiver / 256 ∷ ticket.receiver % 256 ∷
+    ticket.range.first / 256 ∷ ticket.range.first % 256 ∷ ticket.range.last / 256 ∷ ticket.range.last % 256 ∷ []
+
+-- the range that the last four of ten bytes spell
+abbrev pub range_in : List ℕ → Range
+range_in bytes = record { first = number_in bytes 6; last = number_in bytes 8 }
+
+-- ten bytes, of which the last four spell a range of identifications
+pub record AreOfTicket (bytes : List ℕ) : Type 0 where
+  pub ten : length bytes ≡ 10
+  pub in_range : IsRange (range_in bytes)

@@ -1,0 +1,37 @@
+//! Printers: each document gets an identification of its own, which no printer gives twice.
+//!
+//! [`Printer::create`] makes a printer over a store, and [`Printer::open`] goes on with what a store holds.
+//! [`Printer::print`] makes the labels of a document as a [`Job`]. [`Printer::give`] hands a [`Range`] of free
+//! identifications to another printer by a [`Ticket`], which that printer's [`Printer::take`] makes free there.
+//!
+//! Proved: each call says of every identification whether it is free afterwards. A job has exactly the labels of the
+//! parts of its document, in order, under the least identification that was free. Over an honest store the change is
+//! saved before a job or a ticket is given, so a printer that is opened again goes on with it. Each refusal is the
+//! first that applies, and all but a failed save leave the printer and its store as they were. A sound ledger is read
+//! back as it was saved, and all other bytes are refused by name.
+#![tactic(auto)]
+
+mod creating;
+mod fault;
+mod first_format;
+mod format;
+mod free;
+mod giver;
+mod job;
+mod ledger;
+mod moving;
+mod opening;
+mod printer;
+mod printing;
+mod range;
+#[cfg(test)]
+mod tests;
+mod ticket;
+
+pub use creating::CreateRefused;
+pub use fault::{CreateFault, GiveFault, OpenFault, PrintFault, TakeFault};
+pub use job::Job;
+pub use opening::OpenRefused;
+pub use printer::Printer;
+pub use range::{GREATEST, Range};
+pub use ticket::Ticket;

@@ -1,0 +1,91 @@
+//! Printers, and the one way in which they save.
+
+ghost use Rattle.std.specs.Prelude.{◌≡◌, ◌≤◌, false, OnOk, IsErrOf};
+
+use crate::format::bytes_of;
+use crate::free::count;
+use crate::ledger::Ledger;
+use dm_store::{MemStore, NextSave, ReplaceFault, Store};
+use std::alloc::{Allocator, Global};
+use std::marker::Model;
+
+/// A printer: it prints each document under an identification of its own, and gives free identifications to other
+/// printers and takes them from others. Its store holds what it remembers.
+#[derive(Drop)]
+pub struct Printer<S: Store, A: Allocator + Copy = Global> {
+    pub(crate) alloc: A,
+    pub(crate) store: S,
+    pub(crate) ledger: Ledger,
+    pub(crate) is_failed: bool,
+}
+
+impl<S: Store, A: Allocator + Copy> Model for Printer<S, A> {
+    ghost use Rattle.dm_print_ledger.specs.Views.{PrinterView};
+    ghost use Rattle.dm_print_ledger.specs.Saving.{IsInOrder};
+
+    ghost Value = { PrinterView };
+
+    ghost view = { λ p. record { saved = S.state p.store; ledger = p.ledger; is_failed = p.is_failed } };
+
+    ghost invariant = { λ p. IsInOrder (S.state p.store) p.ledger p.is_failed };
+}
+
+impl<S: Store, A: Allocator + Copy> Printer<S, A> {
+    ghost use Rattle.dm_print_ledger.specs.Ledger.{IsSound};
+    ghost use Rattle.dm_print_ledger.specs.Ranges.{free_count};
+    ghost use Rattle.dm_print_ledger.specs.Saving.{Saves, FailsToSave};
+
+    /// How many identifications are free, as last known to be saved: 0 to 64,516.
+    pub fn left(&self) -> u32
+        ensures value { result ≡ free_count self.now.ledger.free }
+        ensures bound { result ≤ 64516 }
+    {
+        count(self.ledger.free.as_slice())
+    }
+
+    /// Gives its store back.
+    pub fn close(self) -> S
+        ensures { S.state result ≡ self.saved }
+    {
+        let Printer {
+            alloc: _,
+            store,
+            ledger: _,
+            is_failed: _,
+        } = self;
+        store
+    }
+
+    /// Saves a ledger, and goes on with it.
+    pub(crate) fn save(&mut self, next: Ledger) -> Result<(), ReplaceFault>
+        requires running { self.old.is_failed ≡ false }
+        requires sound { IsSound next }
+        ensures ok { OnOk result (Saves self.old next self.new) }
+        ensures memory { IsErrOf result ReplaceFault.Memory → self.new ≡ self.old }
+        ensures device { IsErrOf result ReplaceFault.Device → FailsToSave self.old next self.new }
+    {
+        let bytes = bytes_of(&next);
+        match self.store.replace(bytes.as_slice()) {
+            Ok(()) => {
+                self.ledger = next;
+                Ok(())
+            }
+            Err(ReplaceFault::Memory) => Err(ReplaceFault::Memory),
+            Err(ReplaceFault::Device) => {
+                self.is_failed = true;
+                Err(ReplaceFault::Device)
+            }
+        }
+    }
+}
+
+impl<A: Allocator + Copy> Printer<MemStore<A>, A> {
+    ghost use Rattle.dm_store.specs.Settings.{save_plan_of};
+
+    /// Sets what the next save does, and that one alone.
+    pub fn set_next(&mut self, next: NextSave)
+        ensures { self.new ≡ record self.old { saved = record self.old.saved { save_plan = save_plan_of next } } }
+    {
+        self.store.set_next(next);
+    }
+}

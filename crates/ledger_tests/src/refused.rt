@@ -1,0 +1,184 @@
+// Each growth of each call is refused in turn: the call answers Memory, the printer and its saved bytes are as before,
+// and the same call made again is done.
+use dm_append_label::open_label;
+use dm_check_blocks::Size;
+use dm_encodation::Scheme;
+use dm_print_ledger::{
+    CreateFault, GiveFault, Job, OpenFault, PrintFault, Printer, Range, TakeFault, Ticket,
+};
+use dm_store::MemStore;
+use refusing::Refusing;
+use std::alloc::Allocator;
+use std::process::Abort;
+use std::test::Fail;
+
+// More growths than all calls together ask for.
+const MOST_GROWTHS: u64 = 1000;
+
+// What is saved after each call. The ticket that is taken has the numbers 20 and 21 of printer 1.
+const CREATED: &[u8] = b"DMLG\x02\x00\x00\x00\x00\x01\x00\x00\x00\x09\x00\xff\xf5";
+
+const PRINTED: &[u8] = b"DMLG\x02\x00\x00\x00\x00\x01\x00\x01\x00\x09\x00\xff\xf6";
+
+const GIVEN: &[u8] = b"DMLG\x02\x00\x00\x00\x01\x01\x00\x01\x00\x04\x00\xff\xfb";
+
+const TAKEN: &[u8] =
+    b"DMLG\x02\x00\x00\x00\x01\x02\x00\x01\x00\x04\x00\x14\x00\x15\x01\x00\x01\x00\x00\xff\xf9";
+
+// The calls, in the order in which they are made.
+#[derive(Clone, Copy)]
+enum Call {
+    Create,
+    Open,
+    Print,
+    Give,
+    Take,
+}
+
+// A printer over a store in memory.
+type MemPrinter<A> = Printer<MemStore<A>, A>;
+
+// The printer of the number 0 that a store gives.
+fn opened<A: Allocator + Copy>(rt: &impl Abort, alloc: A, store: MemStore<A>) -> MemPrinter<A> {
+    match Printer::open(alloc, store, 0) {
+        Ok(printer) => Some(printer),
+        Err(_) => None,
+    }
+    .expect(rt, "it is opened")
+}
+
+// The printer opened again on what it has saved, which is this.
+fn unchanged<A: Allocator + Copy>(
+    rt: &impl Abort,
+    alloc: A,
+    printer: MemPrinter<A>,
+    saved: &[u8],
+) -> MemPrinter<A> {
+    let store = printer.close();
+    assert!(rt; store.content() == Some(saved));
+    opened(rt, alloc, store)
+}
+
+fn range(first: u16, last: u16) -> Range {
+    Range { first, last }
+}
+
+// A printer of the numbers 0 to 9, and whether its creation was refused at first.
+fn create<A: Allocator + Copy>(rt: &impl Abort, alloc: A) -> (MemPrinter<A>, bool) {
+    match Printer::create(alloc, MemStore::new(alloc), 0, range(0, 9)) {
+        Ok(printer) => (printer, false),
+        Err(refused) => {
+            assert!(rt; refused.fault == CreateFault::Memory && refused.store.content().is_none());
+            let again = match Printer::create(alloc, refused.store, 0, range(0, 9)) {
+                Ok(printer) => Some(printer),
+                Err(_) => None,
+            };
+            (again.expect(rt, "it is created"), true)
+        }
+    }
+}
+
+// The printer opened again, and whether that was refused at first.
+fn open<A: Allocator + Copy>(
+    rt: &impl Abort,
+    alloc: A,
+    printer: MemPrinter<A>,
+) -> (MemPrinter<A>, bool) {
+    match Printer::open(alloc, printer.close(), 0) {
+        Ok(printer) => (printer, false),
+        Err(refused) => {
+            assert!(rt; refused.fault == OpenFault::Memory);
+            assert!(rt; refused.store.content() == Some(CREATED));
+            (opened(rt, alloc, refused.store), true)
+        }
+    }
+}
+
+// Whether the labels of a job are those of this document, under the identification 0.
+fn is_whole<A: Allocator + Copy>(
+    alloc: A,
+    job: &mut Job<A>,
+    document: &[u8],
+) -> Result<bool, Fail> {
+    let mut read = Vec::new(alloc);
+    for _ in 0..job.count() {
+        let Some(grid) = job.next_label() else {
+            return Ok(false);
+        };
+        let page = open_label(alloc, &grid)?.page;
+        read.extend_from_slice(page.bytes())?;
+    }
+    Ok(job.id().number() == 0 && read.as_slice() == document)
+}
+
+// All calls in order, over an allocator that refuses one growth: the call that was refused, if one was.
+fn refused_call<A: Allocator + Copy>(rt: &impl Abort, alloc: A) -> Result<Option<Call>, Fail> {
+    let mut refused = None;
+    let (printer, is_refused) = create(rt, alloc);
+    if is_refused {
+        refused = Some(Call::Create);
+    }
+    let (mut printer, is_refused) = open(rt, alloc, printer);
+    if is_refused {
+        refused = Some(Call::Open);
+    }
+    let document = b"three parts";
+    let mut job = match printer.print(document, Size::Side14, Scheme::Ascii) {
+        Ok(job) => job,
+        Err(fault) => {
+            assert!(rt; fault == PrintFault::Memory && printer.left() == 10);
+            printer = unchanged(rt, alloc, printer, CREATED);
+            refused = Some(Call::Print);
+            printer.print(document, Size::Side14, Scheme::Ascii)?
+        }
+    };
+    let ticket = match printer.give(1, range(5, 9)) {
+        Ok(ticket) => ticket,
+        Err(fault) => {
+            assert!(rt; fault == GiveFault::Memory && printer.left() == 9);
+            printer = unchanged(rt, alloc, printer, PRINTED);
+            refused = Some(Call::Give);
+            printer.give(1, range(5, 9))?
+        }
+    };
+    assert_eq!(rt; ticket.bytes(), [0, 0, 0, 0, 0, 1, 0, 5, 0, 9]);
+    let ticket = Ticket::of_bytes(&[0, 1, 0, 0, 0, 0, 0, 20, 0, 21]).expect(rt, "a ticket");
+    if let Err(fault) = printer.take(&ticket) {
+        assert!(rt; fault == TakeFault::Memory && printer.left() == 4);
+        printer = unchanged(rt, alloc, printer, GIVEN);
+        refused = Some(Call::Take);
+        printer.take(&ticket)?;
+    }
+    let store = printer.close();
+    assert!(rt; store.content() == Some(TAKEN));
+    if refused.is_some() {
+        assert!(rt; is_whole(alloc, &mut job, document)?);
+    }
+    Ok(refused)
+}
+
+#[test]
+fn each_growth_is_refused(rt: HostRuntime) -> Result<(), Fail> {
+    let mut refusals = [0u32; 5];
+    for passes in 0..MOST_GROWTHS {
+        let memory = Refusing::new(rt.alloc(), passes);
+        match refused_call(&rt, &memory)? {
+            Some(call) => {
+                assert!(rt; memory.is_spent());
+                let count = &mut refusals[call as usize];
+                *count = count.saturating_add(1);
+            }
+            None => {
+                if !memory.is_spent() {
+                    // Each call takes memory, and a print much more of it than the others.
+                    for count in refusals {
+                        assert!(rt; count > 0);
+                    }
+                    assert!(rt; refusals[Call::Print as usize] > refusals[Call::Give as usize]);
+                    return Ok(());
+                }
+            }
+        }
+    }
+    Err("growths without end".into())
+}
