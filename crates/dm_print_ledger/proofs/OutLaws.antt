@@ -286,7 +286,7 @@ tail_out : (from : ℕ) (one : Range) (ranges new : List Range) (range : Range) 
     IsOut (one.last + 2) ranges range new → IsOut from (one ∷ ranges) range (one ∷ new)
 tail_out from one ranges new range rise h some out =
     let c : free_count new + size_of range ≡ free_count ranges = out.count in
-    -- the range is covered behind this one, so no number of this one is in it
+    -- the range is covered after this one, so no number of this one is in it
     let behind : one.last < range.first =
     elim (cases_lt one.last range.first) [
       | inl l ↦ l
