@@ -1,2 +1,4 @@
+pub mod PrintedLabels
+pub mod Telling
 pub mod ReadLines
 pub mod GridLines

@@ -1,7 +1,12 @@
+pub mod Commands
 pub mod Documents
 pub mod Draw
+pub mod Print
+pub mod PrinterLines
+pub mod Printers
 pub mod Read
 pub mod ReadLines
 pub mod Refusals
+pub mod Telling
 pub mod Words
 pub mod inner

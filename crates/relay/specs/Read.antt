@@ -114,3 +114,8 @@ pub record PrintsInput (input rest : InputView) (output written : OutputView) (s
   pub consumed : Consumes input.remaining rest.remaining (images_taken ++ end_taken)
   pub appended : Appends output.contents written.contents (image_lines ++ end_line)
   pub status_is : status ≡ (if any_refused || end_refused then 1 else 0)
+
+-- How `read` ends: the lines of its input were written, or the output has refused a write.
+abbrev pub EndsRead : InputView → InputView → OutputView → ℕ → OutputView → Type 0
+EndsRead input rest old status new =
+    ((new.has_failed ≡ true) × (status ≡ 1)) ⊎ PrintsInput input rest old new status

@@ -1,12 +1,13 @@
 -- What `words` prints.
-use Rattle.std.specs.Prelude.{◌≡◌, ℕ, List, [], ◌∷◌, ◌++◌, IfSome}
+use Rattle.std.specs.Prelude.{◌≡◌, ◌⊎◌, ℕ, true, List, [], ◌∷◌, ◌++◌, IfSome}
 use Rattle.std.specs.List.{flat_map}
 use Rattle.std.specs.Fmt.{decimal}
 use Rattle.std.specs.Io.KnownBytes.{Appends}
 use Rattle.dm_check_blocks.specs.declared.size.Size.{Size}
 use Rattle.dm_encodation.specs.declared.scheme.Scheme.{Scheme}
-use Rattle.relay_streams.specs.Streams.{InputView, OutputView}
-use Rattle.relay.specs.Documents.{CarriesDocument, document_of}
+use Rattle.relay_streams.specs.Streams.{InputView, OutputView, TakesPart}
+use Rattle.relay.specs.Documents.{CarriesDocument, PrintsRefusal, document_of}
+use Rattle.relay.specs.declared.document.TheConstants.{DOCUMENT_BYTES}
 
 -- the words in decimal, a space between each two, and a line end
 abbrev pub words_line : List ℕ → List ℕ
@@ -25,3 +26,12 @@ abbrev pub PrintsWords : ℕ → Scheme → InputView → OutputView → OutputV
 PrintsWords n scheme input old new =
     IfSome input.remaining (λ bytes.
     (line : List ℕ) × IsLineOf n scheme (document_of bytes) line × Appends old.contents new.contents line)
+
+-- How `words` ends, from an input and an output to both and the exit status: the words were printed; or the line of a
+-- refusal for which there was a reason was, or the output has refused a write.
+pub record EndsWords (n : ℕ) (scheme : Scheme) (input rest : InputView) (old : OutputView) (status : ℕ) (new : OutputView)
+    : Type 0 where
+  pub status_is : (status ≡ 0) ⊎ (status ≡ 1)
+  pub part : TakesPart input.remaining rest.remaining DOCUMENT_BYTES
+  pub printed : status ≡ 0 → PrintsWords n scheme input old new
+  pub refused : status ≡ 1 → (new.has_failed ≡ true) ⊎ PrintsRefusal n scheme input rest old new

@@ -1,13 +1,13 @@
 //! `relay draw`: the image of a symbol.
 
-ghost use Rattle.std.specs.Prelude.{◌≡◌, ◌⊎◌, ◌*◌, true, length, IfOk, IfErr, IfSome};
+ghost use Rattle.std.specs.Prelude.{◌≡◌, ◌*◌, length, IfOk, IfErr, IfSome};
 ghost use Rattle.dm_check_blocks.specs.Sizes.{all_words};
 ghost use Rattle.dm_symbol.specs.Symbols.{grid_of_words};
 ghost use Rattle.dm_pbm_io.specs.Shown.{picture};
 ghost use Rattle.dm_pbm_io.specs.SymbolImage.{image_with_quiet_zone};
 ghost use Rattle.relay_streams.specs.Streams.{TakesPart};
-ghost use Rattle.relay.specs.Documents.{PrintsRefusal, RefusesSymbol, document_of};
-ghost use Rattle.relay.specs.Draw.{DrawsDocument, PrintsDrawing, PrintsWriteRefusal};
+ghost use Rattle.relay.specs.Documents.{RefusesSymbol, document_of};
+ghost use Rattle.relay.specs.Draw.{DrawsDocument, EndsDraw};
 
 use crate::document::DOCUMENT_BYTES;
 use crate::document_symbol::{Symbol, read_symbol};
@@ -71,14 +71,7 @@ pub fn draw_command<A: Allocator + Copy, R: Read, W: Write, E: Write>(
     scheme: Scheme,
     plain: bool,
 ) -> u8
-    ensures status { (result ≡ 0) ⊎ (result ≡ 1) }
-    ensures part { TakesPart input.old.remaining input.new.remaining DOCUMENT_BYTES }
-    ensures drawn { result ≡ 0 → PrintsDrawing side scheme plain input.old output.old output.new }
-    ensures silent { result ≡ 0 → errors.new ≡ errors.old }
-    ensures refused { result ≡ 1 → (errors.new.has_failed ≡ true)
-        ⊎ PrintsRefusal side scheme input.old input.new errors.old errors.new
-        ⊎ PrintsWriteRefusal output.new errors.old errors.new }
-    ensures nothing_else { result ≡ 1 → (output.new.has_failed ≡ true) ⊎ (output.new ≡ output.old) }
+    ensures { EndsDraw side scheme plain input.old input.new output.old errors.old result output.new errors.new }
 {
     match image_of_document(alloc, input, side, scheme, plain) {
         Ok(image) => match image.write(output) {

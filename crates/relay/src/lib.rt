@@ -7,22 +7,36 @@
 //! has refused a write.
 #![tactic(auto)]
 
+mod commands;
 mod document;
 mod document_symbol;
 mod draw;
+mod ended;
+mod give;
 pub mod laws;
+mod ledger;
+mod opening;
+mod print;
+mod printer_lines;
 mod program;
 mod read;
 mod read_grid;
 mod read_lines;
 mod refusal;
 mod standard_error;
+mod take;
 mod words;
 
+pub use commands::{do_command, file_of};
 pub use document::DOCUMENT_BYTES;
 pub use draw::draw_command;
+pub use ended::Ended;
+pub use give::give_command;
+pub use ledger::ledger_command;
+pub use print::{PrintOptions, print_command};
 pub use program::run;
 pub use read::{MOST_IMAGES, read_command};
 pub use refusal::{ReadRefusal, SymbolRefusal};
 pub use relay_line::{Command, LineFault, command_line};
+pub use take::take_command;
 pub use words::words_command;

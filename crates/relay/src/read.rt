@@ -2,7 +2,7 @@
 
 ghost use Rattle.std.specs.Prelude.{◌≡◌, ◌⊎◌, if◌then◌else◌, true, false, IfOk, OnErr};
 ghost use Rattle.dm_pbm_io.specs.Shown.{picture};
-ghost use Rattle.relay.specs.Read.{PrintsInput};
+ghost use Rattle.relay.specs.Read.{EndsRead};
 ghost use Rattle.relay.specs.inner.Steps.{EndsAtMost, GoesOn, HasEnded, MakesStep, PrintsLine};
 
 use crate::read_grid::line_of_image;
@@ -118,8 +118,7 @@ pub fn read_command<A: Allocator + Copy, R: Read, W: Write>(
     output: &mut Output<W>,
 ) -> u8
     ensures status { (result ≡ 0) ⊎ (result ≡ 1) }
-    ensures printed { ((output.new.has_failed ≡ true) × (result ≡ 1))
-        ⊎ PrintsInput input.old input.new output.old output.new result }
+    ensures printed { EndsRead input.old input.new output.old result output.new }
 {
     let mut reader = SymbolReader::new();
     let mut refused = false;

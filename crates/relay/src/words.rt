@@ -1,11 +1,11 @@
 //! `relay words`: the words of a symbol, in decimal.
 
-ghost use Rattle.std.specs.Prelude.{◌≡◌, ◌⊎◌, ◌++◌, ◌∷◌, true, IfOk, IfErr, IfSome, OnOk, string_bytes};
+ghost use Rattle.std.specs.Prelude.{◌≡◌, ◌++◌, ◌∷◌, IfOk, IfErr, IfSome, OnOk, string_bytes};
 ghost use Rattle.std.specs.List.{flat_map};
 ghost use Rattle.std.specs.Fmt.{decimal};
 ghost use Rattle.relay_streams.specs.Streams.{TakesPart};
-ghost use Rattle.relay.specs.Documents.{PrintsRefusal, RefusesSymbol, document_of};
-ghost use Rattle.relay.specs.Words.{IsLineOf, PrintsWords, words_line};
+ghost use Rattle.relay.specs.Documents.{RefusesSymbol, document_of};
+ghost use Rattle.relay.specs.Words.{EndsWords, IsLineOf, words_line};
 
 use crate::document::DOCUMENT_BYTES;
 use crate::document_symbol::read_symbol;
@@ -72,11 +72,7 @@ pub fn words_command<A: Allocator + Copy, R: Read, W: Write>(
     side: u16,
     scheme: Scheme,
 ) -> u8
-    ensures status { (result ≡ 0) ⊎ (result ≡ 1) }
-    ensures part { TakesPart input.old.remaining input.new.remaining DOCUMENT_BYTES }
-    ensures printed { result ≡ 0 → PrintsWords side scheme input.old output.old output.new }
-    ensures refused { result ≡ 1 → (output.new.has_failed ≡ true)
-        ⊎ PrintsRefusal side scheme input.old input.new output.old output.new }
+    ensures { EndsWords side scheme input.old input.new output.old result output.new }
 {
     match line_of_document(alloc, input, side, scheme) {
         Ok(line) => u8::from(output.put(line.as_bytes()).is_err()),

@@ -1,17 +1,36 @@
 -- What a command line gives.
-use Rattle.std.specs.Prelude.{◌≡◌, ℕ, ◌≤◌, ◌⊎◌, List, codes}
+use Rattle.std.specs.Prelude.{◌≡◌, ℕ, ◌≤◌, ◌⊎◌, List, codes, Option, MatchOption}
 use Rattle.dm_encodation.specs.declared.scheme.Scheme.{Scheme}
 use Rattle.dm_encodation.specs.declared.scheme.Scheme.TheVariants.{Ascii, C40, Text, Base256}
 use Rattle.relay_line.specs.declared.command.Command.{Command}
-use Rattle.relay_line.specs.declared.command.Command.TheVariants.{Words, Draw, Read}
+use Rattle.relay_line.specs.declared.command.Command.TheVariants.{Words, Draw, Read, Ledger, Print, Give, Take}
 use Rattle.relay_line.specs.declared.fault.LineFault.{LineFault}
 use Rattle.relay_line.specs.declared.fault.LineFault.TheVariants.{Line, Memory}
 
--- each number is in the range that the help names
+-- each number is in the range that the help names; those that are not named here are from 0 to 65,535
 abbrev pub HasNumbersInRange : Command → Type 0
 HasNumbersInRange (Words side scheme) = (10 ≤ side) × (side ≤ 132)
 HasNumbersInRange (Draw side scheme plain) = (10 ≤ side) × (side ≤ 132)
 HasNumbersInRange Read = Unit {0}
+HasNumbersInRange (Ledger file number first last) = Unit {0}
+HasNumbersInRange (Print file number side scheme) = (10 ≤ side) × (side ≤ 132)
+HasNumbersInRange (Give file number to first last) = Unit {0}
+HasNumbersInRange (Take file number ticket) = Unit {0}
+
+-- the name by which a command is asked for
+abbrev pub command_name : Command → List ℕ
+command_name (Words side scheme) = codes "words"
+command_name (Draw side scheme plain) = codes "draw"
+command_name Read = codes "read"
+command_name (Ledger file number first last) = codes "ledger"
+command_name (Print file number side scheme) = codes "print"
+command_name (Give file number to first last) = codes "give"
+command_name (Take file number ticket) = codes "take"
+
+-- The command is the one of this name, the word after the program's own, or `words` with its defaults where there is no
+-- such word.
+abbrev pub IsNamed : Option (List ℕ) → Command → Type 0
+IsNamed name command = MatchOption name (command ≡ Words 10 Ascii) (λ given. given ≡ command_name command)
 
 -- a refused line ends with 2, help that was asked for with 0
 abbrev pub HasStatus : LineFault → Type 0

@@ -2,15 +2,15 @@
 
 use dm_encodation::Scheme;
 
-/// A command with its options, by name.
+/// A command with its options, by name. A `side` is a number from 10 to 132, which need not be one of the sizes.
 #[derive(Clone, Copy, Debug, PartialEq, Eq)]
-pub enum Command {
-    /// Prints the words of a symbol. `side` is a number from 10 to 132, which need not be one of the sizes.
+pub enum Command<'a> {
+    /// Prints the words of a symbol.
     Words {
         side: u16,
         scheme: Scheme,
     },
-    /// Draws a symbol, in PBM's plain form or packed. `side` is as for `Words`.
+    /// Draws a symbol, in PBM's plain form or packed.
     Draw {
         side: u16,
         scheme: Scheme,
@@ -18,4 +18,32 @@ pub enum Command {
     },
     /// Reads images of symbols, and prints what each carries.
     Read,
+    /// Makes the ledger of the printer of a number, to which the identifications from first to last are free.
+    Ledger {
+        file: &'a str,
+        number: u16,
+        first: u16,
+        last: u16,
+    },
+    /// Prints a document as labels.
+    Print {
+        file: &'a str,
+        number: u16,
+        side: u16,
+        scheme: Scheme,
+    },
+    /// Gives the identifications from first to last to the printer `to`.
+    Give {
+        file: &'a str,
+        number: u16,
+        to: u16,
+        first: u16,
+        last: u16,
+    },
+    /// Takes a ticket, which is in hexadecimal.
+    Take {
+        file: &'a str,
+        number: u16,
+        ticket: &'a str,
+    },
 }

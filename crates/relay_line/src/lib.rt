@@ -6,6 +6,7 @@
 
 mod command;
 mod fault;
+mod help;
 mod options;
 mod parse;
 #[cfg(test)]

@@ -3,22 +3,10 @@
 ghost use Rattle.std.specs.Prelude.{◌≡◌, IfSome};
 ghost use Rattle.relay_line.specs.Line.{scheme_name};
 
+use crate::help;
 use clap::{Arg, ArgAction, Command, value_parser};
 use dm_encodation::Scheme;
 use std::alloc::{AllocError, Global};
-
-/// What stands below the help of the whole program.
-const STATUSES: &str = "Without a command, relay does `words` with its defaults.\n\n\
-    Exit status: 0 where all was done, 1 where something was refused (a line `refused NAME` says what), \
-    2 where the command line was.";
-
-/// What stands below the help of `read`.
-const READ_LINES: &str = "Each image gives a line:\n  \
-    label IIII m/n corrected C wrong W HEX  label m of n, with the file identification IIII\n  \
-    symbol SIDE corrected C wrong W HEX     another symbol\n  \
-    refused NAME                            none that can be read\n\n\
-    C words were wrong and were corrected, W modules of the finder patterns are wrong, and HEX is the\n\
-    bytes in hexadecimal, or `-` for none.";
 
 /// The names of the encodations.
 static SCHEMES: [&str; 4] = ["ascii", "c40", "text", "base256"];
@@ -40,27 +28,18 @@ fn side<'a>(alloc: Global) -> Arg<'a> {
     Arg::new(alloc, "side")
         .long("side")
         .value_name("SIDE")
-        .help(
-            "modules along a side of the symbol: 10 to 26 by twos, 32, 36, 40, 44, 48, 52, 64, 72, 80, 88, 96, 104, 120 or 132",
-        )
+        .help(help::SIDE)
         .value_parser(value_parser!(u16).range(10..=132))
-        .default_value("10")
 }
 
 fn scheme<'a>(alloc: Global) -> Arg<'a> {
     Arg::new(alloc, "scheme")
         .long("scheme")
         .value_name("SCHEME")
-        .help("how the bytes are encoded")
+        .help(help::SCHEME)
         .value_parser(SCHEMES.as_slice())
+        .hide_possible_values(true)
         .default_value("ascii")
-}
-
-fn words<'a>(alloc: Global) -> Result<Command<'a>, AllocError> {
-    Command::new(alloc, "words")
-        .about("Reads a document from standard input and prints the words of its symbol in decimal")
-        .arg(side(alloc))?
-        .arg(scheme(alloc))
 }
 
 fn plain<'a>(alloc: Global) -> Arg<'a> {
@@ -70,22 +49,113 @@ fn plain<'a>(alloc: Global) -> Arg<'a> {
         .action(ArgAction::SetTrue)
 }
 
+// The file of a ledger.
+fn file<'a>(alloc: Global) -> Arg<'a> {
+    Arg::new(alloc, "file")
+        .long("file")
+        .value_name("PATH")
+        .help("the file that holds the ledger")
+        .required(true)
+}
+
+// An option whose value is a number from 0 to 65,535.
+fn number_option<'a>(alloc: Global, name: &'a str, text: &'a str) -> Arg<'a> {
+    Arg::new(alloc, name)
+        .long(name)
+        .value_name("N")
+        .help(text)
+        .value_parser(value_parser!(u16))
+}
+
+// The printer's own number.
+fn number<'a>(alloc: Global) -> Arg<'a> {
+    number_option(alloc, "number", "the printer's number")
+}
+
+fn first<'a>(alloc: Global) -> Arg<'a> {
+    number_option(alloc, "first", "the first identification, from 0").required(true)
+}
+
+fn last<'a>(alloc: Global) -> Arg<'a> {
+    number_option(alloc, "last", "the last identification, up to 64515").required(true)
+}
+
+fn words<'a>(alloc: Global) -> Result<Command<'a>, AllocError> {
+    Command::new(alloc, "words")
+        .about("Prints the words of a document's symbol, in decimal")
+        .override_usage("relay words [--side SIDE] [--scheme SCHEME] < DOCUMENT")
+        .after_help(help::WORDS)
+        .arg(side(alloc).default_value("10"))?
+        .arg(scheme(alloc))
+}
+
 fn draw<'a>(alloc: Global) -> Result<Command<'a>, AllocError> {
     Command::new(alloc, "draw")
-        .about(
-            "Reads a document from standard input and draws its symbol as a PBM image, one pixel per module",
-        )
-        .arg(side(alloc))?
+        .about("Draws a document's symbol as a PBM image")
+        .override_usage("relay draw [--side SIDE] [--scheme SCHEME] [--plain] < DOCUMENT > IMAGE")
+        .after_help(help::DRAW)
+        .arg(side(alloc).default_value("10"))?
         .arg(scheme(alloc))?
         .arg(plain(alloc))
 }
 
 fn read<'a>(alloc: Global) -> Command<'a> {
     Command::new(alloc, "read")
-        .about(
-            "Reads PBM images from standard input, one pixel per module, and prints what each carries",
-        )
-        .after_help(READ_LINES)
+        .about("Prints what the symbols in PBM images carry")
+        .override_usage("relay read < IMAGES")
+        .after_help(help::READ)
+}
+
+fn ledger<'a>(alloc: Global) -> Result<Command<'a>, AllocError> {
+    Command::new(alloc, "ledger")
+        .about("Makes the ledger of a printer")
+        .override_usage("relay ledger --file PATH --first N --last N [--number N]")
+        .after_help(help::LEDGER)
+        .arg(file(alloc))?
+        .arg(first(alloc))?
+        .arg(last(alloc))?
+        .arg(number(alloc).default_value("0"))
+}
+
+fn print<'a>(alloc: Global) -> Result<Command<'a>, AllocError> {
+    Command::new(alloc, "print")
+        .about("Prints a document as labels that carry one identification")
+        .override_usage(help::PRINT_USAGE)
+        .after_help(help::PRINT)
+        .arg(file(alloc))?
+        .arg(side(alloc).required(true))?
+        .arg(scheme(alloc))?
+        .arg(number(alloc).default_value("0"))
+}
+
+fn give<'a>(alloc: Global) -> Result<Command<'a>, AllocError> {
+    Command::new(alloc, "give")
+        .about("Gives free identifications to another printer, by a ticket")
+        .override_usage("relay give --file PATH --number N --to N --first N --last N")
+        .after_help(help::GIVE)
+        .arg(file(alloc))?
+        .arg(number(alloc).required(true))?
+        .arg(number_option(alloc, "to", "the number of the other printer").required(true))?
+        .arg(first(alloc))?
+        .arg(last(alloc))
+}
+
+fn ticket<'a>(alloc: Global) -> Arg<'a> {
+    Arg::new(alloc, "ticket")
+        .long("ticket")
+        .value_name("HEX")
+        .help("the 20 digits that `give` has printed")
+        .required(true)
+}
+
+fn take<'a>(alloc: Global) -> Result<Command<'a>, AllocError> {
+    Command::new(alloc, "take")
+        .about("Takes the identifications of a ticket")
+        .override_usage("relay take --file PATH --number N --ticket HEX")
+        .after_help(help::TAKE)
+        .arg(file(alloc))?
+        .arg(number(alloc).required(true))?
+        .arg(ticket(alloc))
 }
 
 /// The whole program.
@@ -93,9 +163,14 @@ pub fn relay<'a>(alloc: Global) -> Result<Command<'a>, AllocError> {
     Command::new(alloc, "relay")
         .bin_name("relay")?
         .about("Relays documents printed as Data Matrix labels")
-        .after_help(STATUSES)
+        .override_usage("relay [COMMAND] [OPTIONS]")
+        .after_help(help::PROGRAM)
         .disable_help_subcommand(true)
         .subcommand(words(alloc)?)?
         .subcommand(draw(alloc)?)?
-        .subcommand(read(alloc))
+        .subcommand(read(alloc))?
+        .subcommand(ledger(alloc)?)?
+        .subcommand(print(alloc)?)?
+        .subcommand(give(alloc)?)?
+        .subcommand(take(alloc)?)
 }

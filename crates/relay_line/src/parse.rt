@@ -1,7 +1,7 @@
 //! From words to a command.
 
-ghost use Rattle.std.specs.Prelude.{◌≤◌, IfOk, IfErr, IfSome};
-ghost use Rattle.relay_line.specs.Line.{HasNumbersInRange, HasStatus};
+ghost use Rattle.std.specs.Prelude.{◌≡◌, ◌≤◌, option_map, slice_get, IfOk, IfErr, IfSome};
+ghost use Rattle.relay_line.specs.Line.{HasNumbersInRange, HasStatus, IsNamed, command_name};
 
 use crate::command::Command;
 use crate::fault::LineFault;
@@ -30,6 +30,16 @@ fn fault_of(alloc: Global, error: &Error) -> LineFault
     }
 }
 
+// The fault of a command that the parser knows and the table of commands doesn't. No line has it.
+fn unknown(alloc: Global) -> LineFault
+    ensures { HasStatus result }
+{
+    match String::from_str(alloc, "error: this command is unknown\n") {
+        Ok(text) => LineFault::Line { text, status: 2 },
+        Err(_) => LineFault::Memory,
+    }
+}
+
 // The side and the encodation. The parser has refused all that is not in range, so neither is missing here.
 fn symbol_of(matches: &ArgMatches<'_>) -> Option<(u16, Scheme)>
     ensures { IfSome result (λ symbol. (10 ≤ symbol.0) × (symbol.0 ≤ 132)) }
@@ -41,40 +51,109 @@ fn symbol_of(matches: &ArgMatches<'_>) -> Option<(u16, Scheme)>
     Some((side, scheme))
 }
 
-// The command of a name, with its options.
-fn command_of(name: &str, options: &ArgMatches<'_>) -> Option<Command>
-    ensures { IfSome result HasNumbersInRange }
+// The commands on symbols.
+fn symbol_command_of<'a>(name: &str, options: &ArgMatches<'a>) -> Option<Command<'a>>
+    ensures ranges { IfSome result HasNumbersInRange }
+    ensures named { IfSome result (λ command. name.now ≡ command_name command) }
 {
-    if name == "read" {
-        return Some(Command::Read);
-    }
-    let (side, scheme) = symbol_of(options)?;
     match name {
-        "draw" => Some(Command::Draw {
-            side,
-            scheme,
-            plain: options.get_flag("plain"),
+        "words" => {
+            let (side, scheme) = symbol_of(options)?;
+            Some(Command::Words { side, scheme })
+        }
+        "draw" => {
+            let (side, scheme) = symbol_of(options)?;
+            Some(Command::Draw {
+                side,
+                scheme,
+                plain: options.get_flag("plain"),
+            })
+        }
+        "read" => Some(Command::Read),
+        _ => None,
+    }
+}
+
+// The commands of printers.
+fn printer_command_of<'a>(name: &str, options: &ArgMatches<'a>) -> Option<Command<'a>>
+    ensures ranges { IfSome result HasNumbersInRange }
+    ensures named { IfSome result (λ command. name.now ≡ command_name command) }
+{
+    let file = options.get_str("file")?;
+    let number = options.get_one::<u16>("number")?;
+    match name {
+        "ledger" => Some(Command::Ledger {
+            file,
+            number,
+            first: options.get_one::<u16>("first")?,
+            last: options.get_one::<u16>("last")?,
         }),
-        _ => Some(Command::Words { side, scheme }),
+        "print" => {
+            let (side, scheme) = symbol_of(options)?;
+            Some(Command::Print {
+                file,
+                number,
+                side,
+                scheme,
+            })
+        }
+        "give" => Some(Command::Give {
+            file,
+            number,
+            to: options.get_one::<u16>("to")?,
+            first: options.get_one::<u16>("first")?,
+            last: options.get_one::<u16>("last")?,
+        }),
+        "take" => Some(Command::Take {
+            file,
+            number,
+            ticket: options.get_str("ticket")?,
+        }),
+        _ => None,
+    }
+}
+
+// The command of a name, with its options.
+fn command_of<'a>(name: &str, options: &ArgMatches<'a>) -> Option<Command<'a>>
+    ensures ranges { IfSome result HasNumbersInRange }
+    ensures named { IfSome result (λ command. name.now ≡ command_name command) }
+{
+    match name {
+        "words" | "draw" | "read" => symbol_command_of(name, options),
+        _ => printer_command_of(name, options),
+    }
+}
+
+// The command of a name, with the options that the parser found.
+fn given_command<'a>(name: &str, matches: &ArgMatches<'a>) -> Option<Command<'a>>
+    ensures ranges { IfSome result HasNumbersInRange }
+    ensures named { IfSome result (λ command. name.now ≡ command_name command) }
+{
+    match matches.subcommand() {
+        Some((_, options)) => command_of(name, options),
+        None => None,
     }
 }
 
 /// Reads the program's words, the first of which is its name, as the system hands them over. Without a
 /// command it is `words` with its defaults. No option of a command is taken before the command's name.
-pub fn command_line<'a, S: AsStr>(alloc: Global, words: &'a [S]) -> Result<Command, LineFault>
+pub fn command_line<'a, S: AsStr>(alloc: Global, words: &'a [S]) -> Result<Command<'a>, LineFault>
     ensures ranges { IfOk result HasNumbersInRange }
+    ensures named { IfOk result (IsNamed (option_map S.text (slice_get words.now 1))) }
     ensures status { IfErr result HasStatus }
 {
     let matches = match relay(alloc)?.try_get_matches_from(words) {
         Ok(matches) => matches,
         Err(error) => return Err(fault_of(alloc, &error)),
     };
-    let command = match matches.subcommand() {
-        Some((name, options)) => command_of(name, options),
-        None => Some(Command::Words {
+    let Some(name) = words.get(1) else {
+        return Ok(Command::Words {
             side: LEAST_SIDE,
             scheme: Scheme::Ascii,
-        }),
+        });
     };
-    command.ok_or(LineFault::Memory)
+    match given_command(name.as_str(), &matches) {
+        Some(command) => Ok(command),
+        None => Err(unknown(alloc)),
+    }
 }

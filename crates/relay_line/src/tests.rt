@@ -1,5 +1,7 @@
 use crate::{Command, LineFault, command_line};
 use dm_encodation::Scheme;
+use std::alloc::Global;
+use std::process::Abort;
 use std::test::Fail;
 
 const DEFAULT: Command = Command::Words {
@@ -36,12 +38,72 @@ fn takes_a_line(rt: HostRuntime) -> Result<(), Fail> {
     Ok(())
 }
 
+// The commands that say what is free, and that use it.
+#[test]
+fn takes_a_line_of_a_ledger(rt: HostRuntime) -> Result<(), Fail> {
+    let line = [
+        "relay", "ledger", "--file", "f", "--first", "0", "--last", "9",
+    ];
+    let wanted = Command::Ledger {
+        file: "f",
+        number: 0,
+        first: 0,
+        last: 9,
+    };
+    assert_eq!(rt; command_line(rt.alloc(), &line)?, wanted);
+    let line = [
+        "relay", "print", "--file=f", "--side", "12", "--number", "65535",
+    ];
+    let wanted = Command::Print {
+        file: "f",
+        number: 65_535,
+        side: 12,
+        scheme: Scheme::Ascii,
+    };
+    assert_eq!(rt; command_line(rt.alloc(), &line)?, wanted);
+    Ok(())
+}
+
+// The commands that move what is free.
+#[test]
+fn takes_a_line_of_a_ticket(rt: HostRuntime) -> Result<(), Fail> {
+    let line = [
+        "relay", "give", "--file", "f", "--number", "1", "--to", "2", "--first", "3", "--last", "4",
+    ];
+    let wanted = Command::Give {
+        file: "f",
+        number: 1,
+        to: 2,
+        first: 3,
+        last: 4,
+    };
+    assert_eq!(rt; command_line(rt.alloc(), &line)?, wanted);
+    let line = ["relay", "take", "--file", "f", "--number", "1", "--ticket="];
+    let wanted = Command::Take {
+        file: "f",
+        number: 1,
+        ticket: "",
+    };
+    assert_eq!(rt; command_line(rt.alloc(), &line)?, wanted);
+    Ok(())
+}
+
 // The text of a refused line, and its status.
-fn refused(line: &[&str], alloc: std::alloc::Global) -> Option<(String, u8)> {
+fn refused(line: &[&str], alloc: Global) -> Option<(String, u8)> {
     match command_line(alloc, line) {
         Err(LineFault::Line { text, status }) => Some((text, status)),
         _ => None,
     }
+}
+
+// Each of these lines is refused with the status 2 and a text.
+fn all_are_refused(rt: &impl Abort, alloc: Global, lines: &[&[&str]]) -> Result<(), Fail> {
+    for line in lines {
+        let (text, status) = refused(line, alloc).ok_or("the line was taken")?;
+        assert_eq!(rt; status, 2, "{text}");
+        assert!(rt; text.as_str().starts_with("error: "), "{text}");
+    }
+    Ok(())
 }
 
 // No option is taken before a command's name, twice, abbreviated, out of its range or without a value; no other
@@ -67,21 +129,50 @@ fn refuses_a_line(rt: HostRuntime) -> Result<(), Fail> {
         ["relay", "read", "--side", "12"].as_slice(),
         ["relay", "read", "image.pbm"].as_slice(),
     ];
-    for line in lines {
-        let (text, status) = refused(line, rt.alloc()).ok_or("the line was taken")?;
-        assert_eq!(rt; status, 2, "{text}");
-        assert!(rt; text.as_str().starts_with("error: "), "{text}");
-    }
-    Ok(())
+    all_are_refused(&rt, rt.alloc(), &lines)
 }
 
+// No command of printers lacks a file or a number that it must have, or takes one out of its range.
+#[test]
+fn refuses_a_line_of_printers(rt: HostRuntime) -> Result<(), Fail> {
+    let lines = [
+        ["relay", "ledger", "--first", "0", "--last", "9"].as_slice(),
+        [
+            "relay", "ledger", "--file", "f", "--first", "0", "--last", "65536",
+        ]
+        .as_slice(),
+        ["relay", "print", "--file", "f"].as_slice(),
+        ["relay", "print", "--file", "f", "--side", "9"].as_slice(),
+        [
+            "relay", "give", "--file", "f", "--to", "2", "--first", "3", "--last", "4",
+        ]
+        .as_slice(),
+        ["relay", "take", "--file", "f", "--ticket", "00"].as_slice(),
+        [
+            "relay", "take", "--file", "f", "--number", "1", "--ticket", "-1",
+        ]
+        .as_slice(),
+    ];
+    all_are_refused(&rt, rt.alloc(), &lines)
+}
+
+// Each command has help, of lines of at most 80 columns, with an example.
 #[test]
 fn helps(rt: HostRuntime) -> Result<(), Fail> {
     let (text, status) = refused(&["relay", "--help"], rt.alloc()).ok_or("no help")?;
     assert_eq!(rt; status, 0);
     assert!(rt; text.as_str().contains("Usage: relay [COMMAND]"), "{text}");
-    let (text, status) = refused(&["relay", "words", "--help"], rt.alloc()).ok_or("no help")?;
-    assert_eq!(rt; status, 0);
-    assert!(rt; text.as_str().contains("[default: 10]"), "{text}");
+    for line in text.as_str().lines() {
+        assert!(rt; line.chars().count() <= 80, "{line}");
+    }
+    for command in ["words", "draw", "read", "ledger", "print", "give", "take"] {
+        let line = ["relay", command, "--help"];
+        let (text, status) = refused(&line, rt.alloc()).ok_or("no help")?;
+        assert_eq!(rt; status, 0);
+        assert!(rt; text.as_str().contains("\nExample:\n"), "{text}");
+        for line in text.as_str().lines() {
+            assert!(rt; line.chars().count() <= 80, "{line}");
+        }
+    }
     Ok(())
 }

@@ -6,6 +6,8 @@
 mod draw;
 mod failing;
 #[cfg(test)]
+mod printers;
+#[cfg(test)]
 mod read;
 #[cfg(test)]
 mod refused;

@@ -1,0 +1,86 @@
+//! What stands below the help of the program and of each command. No line is longer than 80 columns.
+
+pub const SIDE: &str = "modules along a side: 10 to 26 by twos, 32, 36, 40,\n\
+    44, 48, 52, 64, 72, 80, 88, 96, 104, 120 or\n\
+    132";
+
+pub const SCHEME: &str = "how the bytes are encoded: ascii, c40, text or\nbase256";
+
+pub const PROGRAM: &str = "\
+Without a command, relay does `words` with its defaults. `relay COMMAND --help`
+says more of each.
+
+Exit status: 0 where all was done; 1 where something was refused, which a line
+`refused NAME` says; 2 where the command line was refused. README.md lists the
+names.";
+
+pub const WORDS: &str = "\
+A word is one of the numbers from 0 to 255 that a symbol holds. Side 10 holds 6
+digits or 1 byte, side 132 holds 2608 digits or 1301 bytes; docs/RECIPES.md has
+the whole table. A refusal goes to standard output.
+
+Example:
+  printf 123456 | relay words";
+
+pub const DRAW: &str = "\
+The image has one pixel per module, and around the symbol a quiet zone of one
+light pixel, which a scanner needs. Side 10 holds 6 digits or 1 byte, side 132
+holds 2608 digits or 1301 bytes; docs/RECIPES.md has the whole table, and says
+how to enlarge and print images. A refusal goes to standard error.
+
+Example:
+  printf 123456 | relay draw --side 18 > symbol.pbm";
+
+pub const READ: &str = "\
+An image has one pixel per module, and around the symbol a quiet zone of one
+pixel. Packed images may follow one another. Each gives a line:
+  label IIII m/n corrected C wrong W HEX
+                  label m of n, with the file identification IIII
+  symbol SIDE corrected C wrong W HEX
+                  another symbol
+  refused NAME    none that can be read
+C words were wrong and were corrected, W modules of the finder patterns are
+wrong, and HEX is the bytes in hexadecimal, or `-` for none.
+
+Example:
+  relay read < symbol.pbm";
+
+pub const LEDGER: &str = "\
+A ledger is what a printer remembers: which identifications are free. Give no
+identification to two ledgers. Prints `left N`, how many are free. A refusal
+goes to standard output, and a file that holds something is not written over.
+
+Example:
+  relay ledger --file north.ledger --first 0 --last 9999 --number 1";
+
+pub const PRINT_USAGE: &str =
+    "relay print --file PATH --side SIDE [--scheme SCHEME] [--number N]\n         < DOCUMENT > IMAGES";
+
+pub const PRINT: &str = "\
+The document is cut into 2 to 16 labels, which carry the least identification
+that is free. It is saved as used, then `printed IIII n left N` goes to standard
+error (the identification, the number of labels, how many are left), and then
+the labels to standard output, as packed PBM images one after another. What was
+printed and is lost is printed again under another identification.
+
+A label holds four words less than a symbol: at side 18 28 digits or 12 bytes,
+at side 132 2600 digits or 1297 bytes. A refusal goes to standard error.
+
+Example:
+  relay print --file north.ledger --number 1 --side 52 < letter > labels.pbm";
+
+pub const GIVE: &str = "\
+The identifications are saved as gone, and then `ticket HEX` is printed. Only
+the printer that it is for can take it, and only once. A ticket that is lost
+takes its identifications with it. A refusal goes to standard output.
+
+Example:
+  relay give --file north.ledger --number 1 --to 2 --first 5000 --last 5999";
+
+pub const TAKE: &str = "\
+Prints `taken left N`, how many identifications are free then. A ticket is
+taken once, and tickets of one giver in the order in which they were given. A
+refusal goes to standard output.
+
+Example:
+  relay take --file south.ledger --number 2 --ticket 0001000000021388176f";
