@@ -419,6 +419,11 @@ fn faults_say_what_is_wrong(rt: HostRuntime) -> Result<(), Fail> {
     ] {
         assert_eq!(rt; format!(in rt.alloc(); "{fault}")?.as_str(), text);
     }
+    Ok(())
+}
+
+#[test]
+fn faults_of_heads_and_pages_say_what_is_wrong(rt: HostRuntime) -> Result<(), Fail> {
     for (fault, text) in [
         (HeadFault::NotAppended, "the symbol is not a label"),
         (
@@ -442,5 +447,18 @@ fn faults_say_what_is_wrong(rt: HostRuntime) -> Result<(), Fail> {
     assert_eq!(rt; text.as_str(), "out of memory");
     let text = format!(in rt.alloc(); "{}", SealFault::TooLong)?;
     assert_eq!(rt; text.as_str(), "the page does not fit a label of this size");
+    Ok(())
+}
+
+#[test]
+fn a_document_without_parts_says_what_is_wrong(rt: HostRuntime) -> Result<(), Fail> {
+    let Err(fault) = cut(b"", Size::Side10, Scheme::Ascii) else {
+        return Err("a label of side 10".into());
+    };
+    let text = format!(in rt.alloc(); "{fault}")?;
+    assert_eq!(rt;
+        text.as_str(),
+        "the document does not fit sixteen labels of this size"
+    );
     Ok(())
 }

@@ -26,14 +26,14 @@ pairs_more make bytes at i count below =
     ∙ ap (λ a. make (number_in bytes (at + 4 * i)) (number_in bytes (at + 4 * i + 2)) ∷ pairs_in make bytes a (count - (i + 1))) f
 
 -- what stands after a front
-behind : (front rest : List ℕ) (at k : ℕ) → length front ≡ at → get_or (front ++ rest) (at + k) 0 ≡ get_or rest k 0
-behind front rest at k e = subst (λ (a : ℕ). get_or (front ++ rest) (a + k) 0 ≡ get_or rest k 0) e (get_or-append-add front rest k 0)
+after_front : (front rest : List ℕ) (at k : ℕ) → length front ≡ at → get_or (front ++ rest) (at + k) 0 ≡ get_or rest k 0
+after_front front rest at k e = subst (λ (a : ℕ). get_or (front ++ rest) (a + k) 0 ≡ get_or rest k 0) e (get_or-append-add front rest k 0)
 
 -- the number that stands after a front
 first_number : (front rest : List ℕ) (n b at : ℕ) → length front ≡ at → number_in (front ++ (n / 256 ∷ n % 256 ∷ rest)) at ≡ n
 first_number front rest n b at e =
     let p : get_or (front ++ (n / 256 ∷ n % 256 ∷ rest)) at 0 ≡ n / 256 = get_or_at front (n / 256) (n % 256 ∷ rest) 0 at e in
-    let q : get_or (front ++ (n / 256 ∷ n % 256 ∷ rest)) (at + 1) 0 ≡ n % 256 = behind front (n / 256 ∷ n % 256 ∷ rest) at 1 e in
+    let q : get_or (front ++ (n / 256 ∷ n % 256 ∷ rest)) (at + 1) 0 ≡ n % 256 = after_front front (n / 256 ∷ n % 256 ∷ rest) at 1 e in
     ap (λ x. 256 * x + get_or (front ++ (n / 256 ∷ n % 256 ∷ rest)) (at + 1) 0) p ∙ ap (λ x. 256 * (n / 256) + x) q ∙ joins n
 
 -- the number that stands two bytes after a front
@@ -42,9 +42,9 @@ second_number : (front rest : List ℕ) (a b n at : ℕ) → length front ≡ at
 second_number front rest a b n at e =
     let all : List ℕ = front ++ (a ∷ b ∷ n / 256 ∷ n % 256 ∷ rest) in
     let p : get_or (front ++ (a ∷ b ∷ n / 256 ∷ n % 256 ∷ rest)) (at + 2) 0
-    ≡ n / 256 = behind front (a ∷ b ∷ n / 256 ∷ n % 256 ∷ rest) at 2 e in
+    ≡ n / 256 = after_front front (a ∷ b ∷ n / 256 ∷ n % 256 ∷ rest) at 2 e in
     let q : get_or (front ++ (a ∷ b ∷ n / 256 ∷ n % 256 ∷ rest)) (at + 3) 0
-    ≡ n % 256 = behind front (a ∷ b ∷ n / 256 ∷ n % 256 ∷ rest) at 3 e in
+    ≡ n % 256 = after_front front (a ∷ b ∷ n / 256 ∷ n % 256 ∷ rest) at 3 e in
     let s : at + 2 + 1 ≡ at + 3 = omega arith in
     let r : get_or (front ++ (a ∷ b ∷ n / 256 ∷ n % 256 ∷ rest)) (at + 2 + 1) 0
     ≡ n % 256 = ap (λ i. get_or (front ++ (a ∷ b ∷ n / 256 ∷ n % 256 ∷ rest)) i 0) s ∙ q in
@@ -191,7 +191,7 @@ read_again l =
     (giver_count (ledger_bytes l)))) free
     ∙ ap (λ g. view_of l.number l.next_serial l.free g) givers
 
--- bytes that spell a ledger have its size, and spell the one that is read from them
+-- bytes of a sound ledger have the size that their counts ask for
 pub size_spelled : (bytes : List ℕ) (l : LedgerView) → IsSound l → bytes ≡ ledger_bytes l → HasSize bytes
 size_spelled bytes l sound e = subst HasSize (sym e) (has_size l sound)
 
@@ -199,7 +199,7 @@ size_spelled bytes l sound e = subst HasSize (sym e) (has_size l sound)
 pub read_spelled : (bytes : List ℕ) (l : LedgerView) → bytes ≡ ledger_bytes l → read_from bytes ≡ l
 read_spelled bytes l e = ap read_from e ∙ read_again l
 
--- where the ledger that is read is not sound, or has other bytes, none has these
+-- where the ledger that is read is not sound, the bytes spell none
 pub not_sound : (bytes : List ℕ) (read : LedgerView) → read ≡ read_from bytes → ¬ IsSound read → (l : LedgerView) → IsSound l →
     ¬ (bytes ≡ ledger_bytes l)
 not_sound bytes read e wrong l sound h = wrong (subst IsSound (sym (e ∙ read_spelled bytes l h)) sound)

@@ -3,7 +3,8 @@ use Rattle.std.proofs.Common.{◌≡◌, ◌+◌, ◌≤◌, ◌<◌, ◌⊎◌,
 use Rattle.std.specs.Prelude.{nat_lt, ◌==◌, if◌then◌else◌}
 use Rattle.std.proofs.lemmas.Bool.{lt-ltb, le-ltb, eq-eqb, ne_eqb, cond-true, cond-false, eqb-true, cases_lt, cases_eq}
 use Rattle.dm_print_ledger.specs.declared.giver.Giver.{Giver}
-use Rattle.dm_print_ledger.specs.Givers.{last_taken, GiversFrom, givers_with, Notes}
+use Rattle.dm_print_ledger.specs.Givers.{last_taken, GiversFrom, Notes}
+use Rattle.dm_print_ledger.specs.inner.Changes.{givers_with}
 
 -- no giver below the first number is listed
 none_below : (from : ℕ) (givers : List Giver) (number : ℕ) → GiversFrom from givers → number < from → last_taken givers number ≡ None
@@ -14,12 +15,7 @@ none_below from (giver ∷ givers) number rise low =
     cond-false (giver.number == number) (Some giver.serial) (last_taken givers number) (ne_eqb _ _ ne)
     ∙ none_below (giver.number + 1) givers number rise.1 (omega arith)
 
--- givers that rise from a number rise from a lower one
-givers_lower : (from low : ℕ) (givers : List Giver) → low ≤ from → GiversFrom from givers → GiversFrom low givers
-givers_lower from low [] less rise = tt
-givers_lower from low (giver ∷ givers) less rise = (let a : from ≤ giver.number = rise.0 in omega arith, rise.1)
-
--- which of the three cases the list is in
+-- after a giver below the new one comes what the rest gives
 with_past : (giver : Giver) (givers : List Giver) (last : Giver) → giver.number < last.number →
     givers_with (giver ∷ givers) last ≡ giver ∷ givers_with givers last
 with_past giver givers last h = cond-true (nat_lt giver.number last.number) (giver ∷ givers_with givers last) _ (lt-ltb _ _ h)
@@ -146,7 +142,7 @@ with_new (giver ∷ givers) last h =
     some_none : {A : Type 0} (n : ℕ) (o : Option ℕ) → o ≡ Some n → o ≡ None → A
     some_none n o e f = cc
 
--- a sixty-fifth
+-- givers that one more makes too many are 64, and it is not one of them
 pub one_too_many : (givers : List Giver) (last : Giver) → GiversFrom 0 givers → length givers ≤ 64 →
     64 < length (givers_with givers last) →
     (last_taken givers last.number ≡ None) × (length givers ≡ 64)
@@ -157,7 +153,7 @@ one_too_many givers last rise few many = go (last_taken givers last.number) refl
     go (Some serial) e = let n : length (givers_with givers last) ≤ length givers = with_known 0 givers last serial rise e in absurd
         (omega arith)
 
--- where the givers with one more are few, it is not a 65th
+-- where the givers with one more are few, it is listed or they were fewer
 pub not_one_too_many : (givers : List Giver) (last : Giver) → length (givers_with givers last) ≤ 64 →
     ¬ ((last_taken givers last.number ≡ None) × (length givers ≡ 64))
 not_one_too_many givers last few h =

@@ -44,8 +44,8 @@ meets_free from (one ∷ ranges) range rise some h =
       | inl here ↦
           let n : (n : ℕ) × (is_in one n ≡ true) × (is_in range n ≡ true) = common one range rise.1 some here in
           (n.0, n.2, free_here one ranges n.0 n.1)
-      | inr behind ↦
-          let n : HasFree ranges range = meets_free (one.last + 2) ranges range rise.2 some behind in
+      | inr later ↦
+          let n : HasFree ranges range = meets_free (one.last + 2) ranges range rise.2 some later in
           (n.0, n.1, free_after one ranges n.0 n.2)
     ]
 
@@ -67,11 +67,11 @@ meets_none (one ∷ ranges) range h = λ n inside.
           ]
         ]
 
--- a range is taken after the first one, and shares no number with it
+-- a range of which no number is free has none in the rest
 taken_after : (one : Range) (ranges : List Range) (range : Range) → AreTaken (one ∷ ranges) range → AreTaken ranges range
 taken_after one ranges range taken = λ n inside. (or_parts (is_in one n) (is_free ranges n) (taken n inside)).1
 
--- a number outside the first range is free only in the rest
+-- a range of which no number is free has none in the first range
 taken_apart : (one : Range) (ranges : List Range) (range : Range) (n : ℕ) → AreTaken (one ∷ ranges) range → is_in range n ≡ true →
     is_in one n ≡ false
 taken_apart one ranges range n taken inside = (or_parts (is_in one n) (is_free ranges n) (taken n inside)).0
@@ -219,11 +219,11 @@ in_from_all from (one ∷ ranges) range rise low is =
             | inr near' ↦
                 let h : IsRange (hull one range) = record { not_empty = omega arith; within = omega arith } in
                 let l : from ≤ min one.first range.first = omega arith in
-                let behind : RiseFrom from ranges = rise_lower (one.last + 2) from ranges (omega arith) rise.2 in
+                let rest_rises : RiseFrom from ranges = rise_lower (one.last + 2) from ranges (omega arith) rise.2 in
                 subst P (sym (cond-false (nat_lt (range.last + 1) one.first) (range ∷ one ∷ ranges) (union_of ranges (hull one range))
                 (le-ltb _ _ near')))
                 (touch_in from one ranges (union_of ranges (hull one range)) range rise some near near'
-                (in_from_all from ranges (hull one range) behind l h))
+                (in_from_all from ranges (hull one range) rest_rises l h))
           ])
     ]
 

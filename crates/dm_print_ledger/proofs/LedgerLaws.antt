@@ -1,16 +1,14 @@
 -- What a ledger is after a print, a ticket given, and a ticket taken.
-use Rattle.std.proofs.Common.{◌≡◌, ◌+◌, ◌≤◌, ◌<◌, inl, ℕ, Bool, true, false, List, [], ◌∷◌, length, refl, sym, ◌∙◌, subst, arith, Some, IsSomeAnd, get_or}
-use Rattle.dm_store.specs.Saved.{Saved}
+use Rattle.std.proofs.Common.{◌≡◌, ◌+◌, ◌≤◌, ◌<◌, ℕ, Bool, true, false, List, [], ◌∷◌, length, refl, sym, ◌∙◌, subst, arith, get_or}
 use Rattle.dm_print_ledger.specs.declared.range.Range.{Range}
 use Rattle.dm_print_ledger.specs.declared.giver.Giver.{Giver}
 use Rattle.dm_print_ledger.specs.Ranges.{IsRange, is_free, RiseFrom, AreFree, AreTaken, IsLeastFree, TakesOut, PutsIn, free_count, AreRanges}
-use Rattle.dm_print_ledger.specs.inner.Changes.{without, union_of}
-use Rattle.dm_print_ledger.specs.Givers.{GiversFrom, givers_with, Notes}
-use Rattle.dm_print_ledger.specs.Ledger.{IsSound, Spells, ledger_bytes}
+use Rattle.dm_print_ledger.specs.inner.Changes.{without, union_of, givers_with}
+use Rattle.dm_print_ledger.specs.Givers.{GiversFrom, Notes}
+use Rattle.dm_print_ledger.specs.Ledger.{IsSound}
 use Rattle.dm_print_ledger.specs.Views.{LedgerView, TicketView}
 use Rattle.dm_print_ledger.specs.Printing.{single, Uses}
 use Rattle.dm_print_ledger.specs.Moving.{GivesAway, TakesIn, LeavesTooMany, JoinsTooMany, JoinsFew}
-use Rattle.dm_print_ledger.specs.Saving.{HoldsLedger}
 use Rattle.dm_print_ledger.proofs.RangeTests.{both, at_least, at_most}
 use Rattle.dm_print_ledger.proofs.RangeLaws.{least_free, first_is_free, from_first, one_list}
 use Rattle.dm_print_ledger.proofs.OutLaws.{any_covers, gap, takes_out, first_out}
@@ -109,20 +107,13 @@ pub joins_few : (old : LedgerView) (ticket : TicketView) → IsSound old → IsR
     length (union_of old.free ticket.range) ≤ 64 → JoinsFew old.free ticket.range
 joins_few old ticket sound is none few = (union_of old.free ticket.range, puts_in old.free ticket.range sound.ranges is none, few)
 
--- ranges with the same numbers as others are those
+-- what a range taken out leaves is one list
 pub out_once : (old : List Range) (range : Range) (a b : List Range) → TakesOut old range a → TakesOut old range b → a ≡ b
 out_once old range a b p q = one_list 0 a b p.ranges q.ranges (λ n. p.free n ∙ sym (q.free n))
 
 -- what a range put in leaves is one list
 pub in_once : (old : List Range) (range : Range) (a b : List Range) → PutsIn old range a → PutsIn old range b → a ≡ b
 in_once old range a b p q = one_list 0 a b p.ranges q.ranges (λ n. p.free n ∙ sym (q.free n))
-
--- a store whose content is a sound ledger's bytes holds it
-pub holds_bytes : (saved : Saved) (ledger : LedgerView) → IsSound ledger → saved.content ≡ Some (ledger_bytes ledger) →
-    HoldsLedger saved ledger
-holds_bytes saved ledger sound e =
-    let s : Spells (ledger_bytes ledger) ledger = record { sound = sound; spelled = inl refl } in
-    subst (λ o. IsSomeAnd o (λ bytes. Spells bytes ledger)) (sym e) s
 
 -- a ledger with other ranges is sound
 pub sound_with : (old new : LedgerView) → IsSound old → AreRanges new.free → length new.free ≤ 64 → new.givers ≡ old.givers → IsSound new

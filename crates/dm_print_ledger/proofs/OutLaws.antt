@@ -2,7 +2,7 @@
 use Rattle.std.proofs.Common.{◌≡◌, ◌+◌, ◌-◌, ◌≤◌, ◌<◌, ◌⊎◌, ℕ, Bool, true, false, ◌&&◌, not, List, [], ◌∷◌, ◌++◌, refl, sym, ◌∙◌, ap, subst, inl, inr, arith, length, append_assoc}
 use Rattle.std.specs.List.{list_any}
 use Rattle.std.specs.Prelude.{nat_lt, MatchBool}
-use Rattle.std.proofs.lemmas.Bool.{leb-true, le-leb, lt-leb, ltb-true, ltb-false, or_left, or_cases, or_from, or_parts, and_parts, and_from, and_left, le-ltb, cond_both, cond-true, cond-false, cases_lt, cases_Bool}
+use Rattle.std.proofs.lemmas.Bool.{leb-true, le-leb, lt-leb, ltb-true, ltb-false, or_cases, or_from, or_parts, and_parts, and_from, and_left, le-ltb, cond_both, cond-true, cond-false, cases_lt, cases_Bool}
 use Rattle.dm_print_ledger.specs.declared.range.Range.{Range}
 use Rattle.dm_print_ledger.specs.Ranges.{IsRange, is_in, is_free, RiseFrom, free_count, size_of, AreFree, HasTaken, TakesOut}
 use Rattle.dm_print_ledger.specs.inner.Changes.{covers, below, above, without}
@@ -41,7 +41,7 @@ covered_free (one ∷ ranges) range h = λ n inside.
           let low : range.first ≤ n = at_least range n inside in
           let high : n ≤ range.last = at_most range n inside in
           free_here one ranges n (in_from one n (omega arith) (omega arith))
-      | inr behind ↦ free_after one ranges n (covered_free ranges range behind n inside)
+      | inr later ↦ free_after one ranges n (covered_free ranges range later n inside)
     ]
 
 -- some number of a range that is not covered is not free
@@ -66,7 +66,7 @@ gap from (one ∷ ranges) range rise some h =
             not_free one ranges (one.last + 1) (not_in_above one (one.last + 1) (omega arith))
                 (below_not_free (one.last + 2) ranges (one.last + 1) rise.2 (omega arith)),
           )
-          | inl behind ↦
+          | inl past ↦
               let found : HasTaken ranges range = gap (one.last + 2) ranges range rise.2 some (any_parts one ranges range h).1 in
               let low : range.first ≤ found.0 = at_least range found.0 found.1 in
               (found.0, found.1, not_free one ranges found.0 (not_in_above one found.0 (omega arith)) found.2)
@@ -239,16 +239,16 @@ head_free from one ranges range rise some h n =
             let l : range.last < n = high.0 in
             let m : n ≤ one.last = high.1 in
             still_free free inside (free_here one ranges n (in_from one n (omega arith) m)) (not_in_above range n l)
-        | inr behind ↦ elim (cases_lt n (one.last + 2)) [
-          | inl near ↦ both (is_free ranges n) behind (below_not_free (one.last + 2) ranges n rise.2 near)
-          | inr far ↦ still_free free inside (free_after one ranges n behind) (not_in_above range n (omega arith))
+        | inr later ↦ elim (cases_lt n (one.last + 2)) [
+          | inl near ↦ both (is_free ranges n) later (below_not_free (one.last + 2) ranges n rise.2 near)
+          | inr far ↦ still_free free inside (free_after one ranges n later) (not_in_above range n (omega arith))
         ]
       ]
     ])
     (λ f.
     let outside : is_in range n ≡ false = is_outside (is_free (one ∷ ranges) n) (is_in range n) f in
     elim (free_cases one ranges n (was_free (is_free (one ∷ ranges) n) (is_in range n) f)) [
-      | inr behind ↦ below_rest one range (above one range ++ ranges) n (above_rest one range ranges n behind)
+      | inr later ↦ below_rest one range (above one range ++ ranges) n (above_rest one range ranges n later)
       | inl here ↦
           let l : one.first ≤ n = at_least one n here in
           let m : n ≤ one.last = at_most one n here in
@@ -287,7 +287,7 @@ tail_out : (from : ℕ) (one : Range) (ranges new : List Range) (range : Range) 
 tail_out from one ranges new range rise h some out =
     let c : free_count new + size_of range ≡ free_count ranges = out.count in
     -- the range is covered after this one, so no number of this one is in it
-    let behind : one.last < range.first =
+    let past : one.last < range.first =
     elim (cases_lt one.last range.first) [
       | inl l ↦ l
       | inr g ↦ both (is_free ranges range.first) (covered_free ranges range h range.first
@@ -326,11 +326,11 @@ out_from from (one ∷ ranges) range rise some h =
           subst (λ (new : List Range). IsOut from (one ∷ ranges) range new) (sym (head_is one ranges range here rest))
           (head_out from one ranges range rise some here)
       | inr past ↦
-          let behind : any_covers ranges range ≡ true = elim (or_cases (covers one range) (any_covers ranges range) h)
+          let later : any_covers ranges range ≡ true = elim (or_cases (covers one range) (any_covers ranges range) h)
           [ inl here ↦ both (covers one range) here past | inr rest ↦ rest ] in
           subst (λ (new : List Range). IsOut from (one ∷ ranges) range new) (sym (tail_is one ranges range past))
-          (tail_out from one ranges (without ranges range) range rise behind some
-          (out_from (one.last + 2) ranges range rise.2 some behind))
+          (tail_out from one ranges (without ranges range) range rise later some
+          (out_from (one.last + 2) ranges range rise.2 some later))
     ]
 
 -- the ranges without a range have just its numbers less
@@ -345,7 +345,7 @@ takes_out ranges range rise some h =
       count = out.count;
     }
 
--- the first number of all taken out, there are no more ranges than before
+-- the part above a range is one range at most
 above_length : (one range : Range) (ranges : List Range) → length (above one range ++ ranges) ≤ length ranges + 1
 above_length one range ranges =
     cond_both (nat_lt range.last one.last) (upper one range ∷ []) [] (λ part. length (part ++ ranges) ≤ length ranges + 1)
@@ -366,14 +366,6 @@ first_out one ranges rise =
     ∙ ap (λ part. part ++ (above one first ++ ranges)) nothing in
     let few : length (above one first ++ ranges) ≤ length ranges + 1 = above_length one first ranges in
     subst (λ (new : List Range). length new ≤ length (one ∷ ranges)) (sym is) (omega arith)
-
--- the first number is covered
-pub first_covered : (one : Range) (ranges : List Range) → RiseFrom 0 (one ∷ ranges) →
-    (let first : Range = record { first = one.first; last = one.first } in any_covers (one ∷ ranges) first ≡ true)
-first_covered one ranges rise =
-    let some : one.first ≤ one.last = rise.1.not_empty in
-    let first : Range = record { first = one.first; last = one.first } in
-    or_left (covers one first) (any_covers ranges first) (covers_from one first (let l : one.first ≤ one.first = omega arith in l) some)
 
 -- a test for a range that is covered
 pub are_free_by : (ranges : List Range) (range : Range) (test : Bool) → RiseFrom 0 ranges → IsRange range →

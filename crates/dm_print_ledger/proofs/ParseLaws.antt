@@ -16,7 +16,7 @@ pub fifth_is_one : (l : FirstLedger) → get_or (first_ledger_bytes l) 4 0 ≡ 1
 unfolding first_ledger_bytes
 fifth_is_one l = refl
 
--- a ledger has at least 13 bytes and at most 525
+-- a ledger has at least 13 bytes
 pub least_length : (bytes : List ℕ) (l : LedgerView) → Spells bytes l → 13 ≤ length bytes
 least_length bytes l s = elim s.spelled [
   | inl e ↦ let n = ap length e ∙ length-ledger_bytes l in omega arith

@@ -7,23 +7,9 @@ use Rattle.dm_print_ledger.specs.declared.fault.PrintFault.TheVariants as printi
 use Rattle.dm_append_label.specs.Parts.{AreEnds, parts_from}
 use Rattle.dm_print_ledger.specs.Ledger.{IsSound}
 use Rattle.dm_print_ledger.specs.Views.{LedgerView, PrinterView, JobView}
-use Rattle.dm_print_ledger.specs.Saving.{Saves}
-use Rattle.dm_print_ledger.specs.Printing.{Uses, IsJobOf, PrintsJob, CannotPrint, CanPrint}
+use Rattle.dm_print_ledger.specs.Printing.{Uses, IsJobOf, CannotPrint, CanPrint}
 use Rattle.dm_print_ledger.specs.inner.Making.{Makes, MakesNone}
 use Rattle.dm_print_ledger.proofs.RangeTests.{both}
-
--- a printer that saved a ledger goes on with it
-pub saves_its : (old new : PrinterView) (next : LedgerView) → Saves old next new → Saves old new.ledger new
-saves_its old new next s = subst (λ (l : LedgerView). Saves old l new) (sym s.ledger) s
-
--- what was made is printed once the ledger is saved
-pub prints_job : (old new : PrinterView) (next : LedgerView) (size : Size) (scheme : Scheme) (document : List ℕ) (job : JobView) →
-    (made : Makes old.ledger size scheme document job next) → Saves old next new → PrintsJob old size scheme made.parts job new
-prints_job old new next size scheme document job made saved = record {
-  used = subst (λ (l : LedgerView). Uses old.ledger job.id l) (sym saved.ledger) made.used;
-  job_is = made.job_is;
-  saved = saves_its old new next saved;
-}
 
 -- where a document can be printed, no refusal stands
 pub can_print : (p : PrinterView) (size : Size) (scheme : Scheme) (document : List ℕ) (fault : PrintFault) →

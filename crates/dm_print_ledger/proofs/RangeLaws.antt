@@ -107,13 +107,6 @@ count_bound from (one ∷ ranges) rise =
     let rest : free_count ranges ≤ 64516 - (one.last + 2) = count_bound (one.last + 2) ranges rise.2 in
     omega arith
 
--- where none are counted there is no range
-pub none_counted : (from : ℕ) (ranges : List Range) → RiseFrom from ranges → free_count ranges ≡ 0 → ranges ≡ []
-none_counted from [] rise none = refl
-none_counted from (one ∷ ranges) rise none =
-    let some : one.first ≤ one.last = rise.1.not_empty in
-    absurd (omega arith)
-
 -- at most 64,516 numbers are free
 pub all_bound : (ranges : List Range) → RiseFrom 0 ranges → free_count ranges ≤ 64516
 all_bound ranges rise = omega (arith, count_bound 0 ranges rise)

@@ -1,5 +1,5 @@
 -- The printers from which tickets were taken, each with the serial of the last.
-use Rattle.std.specs.Prelude.{◌≡◌, ◌+◌, ◌≤◌, ℕ, Option, Some, None, List, [], ◌∷◌, nat_lt, ◌==◌, if◌then◌else◌}
+use Rattle.std.specs.Prelude.{◌≡◌, ◌+◌, ◌≤◌, ℕ, Option, Some, None, List, [], ◌∷◌, ◌==◌, if◌then◌else◌}
 use Rattle.dm_print_ledger.specs.declared.giver.Giver.{Giver}
 
 -- the serial of the last ticket taken from a printer
@@ -14,14 +14,6 @@ GiversFrom from (giver ∷ givers) = (from ≤ giver.number) × GiversFrom (give
 
 abbrev pub AreGivers : List Giver → Type 0
 AreGivers givers = GiversFrom 0 givers
-
--- the list of givers that a ticket taken leaves
-abbrev pub givers_with : List Giver → Giver → List Giver
-givers_with [] last = last ∷ []
-givers_with (giver ∷ givers) last =
-    if nat_lt giver.number last.number then giver ∷ givers_with givers last else
-    if giver.number == last.number then last ∷ givers else
-    last ∷ giver ∷ givers
 
 -- a ticket of this serial was the last from this printer, and all else is as before
 pub record Notes (old : List Giver) (number serial : ℕ) (new : List Giver) : Type 0 where

@@ -5,6 +5,7 @@ use Rattle.std.specs.List.{flat_map}
 use Rattle.dm_print_ledger.specs.declared.range.Range.{Range}
 use Rattle.dm_print_ledger.specs.declared.giver.Giver.{Giver}
 use Rattle.dm_print_ledger.specs.declared.first_format.FirstLedger.{FirstLedger}
+use Rattle.dm_print_ledger.specs.declared.limits.TheConstants.{GREATEST, MOST_RANGES, MOST_GIVERS}
 use Rattle.dm_print_ledger.specs.Givers.{AreGivers}
 use Rattle.dm_print_ledger.specs.Numbers.{two_bytes}
 use Rattle.dm_print_ledger.specs.Ranges.{AreRanges, free_count}
@@ -12,12 +13,13 @@ use Rattle.dm_print_ledger.specs.Views.{LedgerView}
 
 -- ---- version 2
 
--- Its free numbers are 64 ranges at most, which rise and do not touch, and its givers are 64 at most, which rise.
+-- Its free numbers are at most 64 ranges (`MOST_RANGES`), which rise and do not touch, and its givers are at most 64
+-- (`MOST_GIVERS`), which rise.
 pub record IsSound (ledger : LedgerView) : Type 0 where
   pub ranges : AreRanges ledger.free
-  pub few_ranges : length ledger.free ≤ 64
+  pub few_ranges : length ledger.free ≤ MOST_RANGES
   pub givers : AreGivers ledger.givers
-  pub few_givers : length ledger.givers ≤ 64
+  pub few_givers : length ledger.givers ≤ MOST_GIVERS
 
 abbrev pub range_bytes : Range → List ℕ
 range_bytes range = range.first / 256 ∷ range.first % 256 ∷ range.last / 256 ∷ range.last % 256 ∷ []
@@ -40,7 +42,7 @@ ledger_bytes ledger =
 -- identifications first to last, of which those from next on are free
 pub record IsFirst (ledger : FirstLedger) : Type 0 where
   pub not_empty : ledger.first ≤ ledger.last
-  pub within : ledger.last ≤ 64515
+  pub within : ledger.last ≤ GREATEST
   pub from_first : ledger.first ≤ ledger.next
   pub to_last : ledger.next ≤ ledger.last + 1
 

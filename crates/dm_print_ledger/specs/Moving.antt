@@ -1,6 +1,7 @@
 -- What a printer does to a part of its free numbers, and to a ticket.
 use Rattle.std.specs.Prelude.{◌≡◌, ◌≢◌, ◌+◌, ◌<◌, ◌≤◌, ℕ, List, length, true, false, None, Ok, Err, Result, IsSomeAnd, IfSome}
 use Rattle.dm_print_ledger.specs.declared.range.Range.{Range}
+use Rattle.dm_print_ledger.specs.declared.limits.TheConstants.{MOST_RANGES, MOST_GIVERS}
 use Rattle.dm_print_ledger.specs.declared.fault.GiveFault.{GiveFault}
 use Rattle.dm_print_ledger.specs.declared.fault.GiveFault.TheVariants as giving
 use Rattle.dm_print_ledger.specs.declared.fault.TakeFault.{TakeFault}
@@ -29,18 +30,18 @@ pub record TakesIn (old : LedgerView) (ticket : TicketView) (new : LedgerView) :
   pub next_serial : new.next_serial ≡ old.next_serial
   pub givers : Notes old.givers ticket.giver ticket.serial new.givers
 
--- the free numbers without a range's, or with them, need more than 64 ranges
+-- the free numbers without a range's, or with them, need more ranges than a ledger has
 abbrev pub LeavesTooMany : List Range → Range → Type 0
-LeavesTooMany old range = (ranges : List Range) × TakesOut old range ranges × (64 < length ranges)
+LeavesTooMany old range = (ranges : List Range) × TakesOut old range ranges × (MOST_RANGES < length ranges)
 
 abbrev pub LeavesFew : List Range → Range → Type 0
-LeavesFew old range = (ranges : List Range) × TakesOut old range ranges × (length ranges ≤ 64)
+LeavesFew old range = (ranges : List Range) × TakesOut old range ranges × (length ranges ≤ MOST_RANGES)
 
 abbrev pub JoinsTooMany : List Range → Range → Type 0
-JoinsTooMany old range = (ranges : List Range) × PutsIn old range ranges × (64 < length ranges)
+JoinsTooMany old range = (ranges : List Range) × PutsIn old range ranges × (MOST_RANGES < length ranges)
 
 abbrev pub JoinsFew : List Range → Range → Type 0
-JoinsFew old range = (ranges : List Range) × PutsIn old range ranges × (length ranges ≤ 64)
+JoinsFew old range = (ranges : List Range) × PutsIn old range ranges × (length ranges ≤ MOST_RANGES)
 
 -- why a range cannot be given: what comes before is as it should be, and this is not
 abbrev pub CannotGive : PrinterView → ℕ → Range → GiveFault → Type 0
@@ -93,9 +94,9 @@ IsNew ledger ticket = IfSome (last_taken ledger.givers ticket.giver) (λ last. l
 abbrev pub IsOld : LedgerView → TicketView → Type 0
 IsOld ledger ticket = IsSomeAnd (last_taken ledger.givers ticket.giver) (λ last. ticket.serial ≤ last)
 
--- its giver would be one more than 64
+-- its giver would be one more than a ledger has
 abbrev pub IsOneTooMany : LedgerView → TicketView → Type 0
-IsOneTooMany ledger ticket = (last_taken ledger.givers ticket.giver ≡ None) × (length ledger.givers ≡ 64)
+IsOneTooMany ledger ticket = (last_taken ledger.givers ticket.giver ≡ None) × (length ledger.givers ≡ MOST_GIVERS)
 
 -- why a ticket cannot be taken: what comes before is as it should be, and this is not
 abbrev pub CannotTake : PrinterView → TicketView → TakeFault → Type 0

@@ -1,11 +1,12 @@
 -- Free numbers, kept as ranges.
 use Rattle.std.specs.Prelude.{◌≡◌, ◌+◌, ◌-◌, ◌≤◌, ℕ, Bool, true, false, ◌&&◌, ◌||◌, not, List, [], ◌∷◌, nat_le}
 use Rattle.dm_print_ledger.specs.declared.range.Range.{Range}
+use Rattle.dm_print_ledger.specs.declared.limits.TheConstants.{GREATEST}
 
 -- there are numbers in it, each of an identification
 pub record IsRange (range : Range) : Type 0 where
   pub not_empty : range.first ≤ range.last
-  pub within : range.last ≤ 64515
+  pub within : range.last ≤ GREATEST
 
 -- the number is in the range
 abbrev pub is_in : Range → ℕ → Bool

@@ -1,6 +1,7 @@
 -- The ten bytes of a ticket.
 use Rattle.std.specs.Prelude.{◌≡◌, ◌/◌, ◌%◌, ℕ, List, [], ◌∷◌, length}
 use Rattle.dm_print_ledger.specs.declared.range.Range.{Range}
+use Rattle.dm_print_ledger.specs.declared.limits.TheConstants.{TICKET_BYTES}
 use Rattle.dm_print_ledger.specs.Ranges.{IsRange}
 use Rattle.dm_print_ledger.specs.Numbers.{number_in}
 use Rattle.dm_print_ledger.specs.Views.{TicketView}
@@ -18,5 +19,5 @@ range_in bytes = record { first = number_in bytes 6; last = number_in bytes 8 }
 
 -- ten bytes, of which the last four spell a range of identifications
 pub record AreOfTicket (bytes : List ℕ) : Type 0 where
-  pub ten : length bytes ≡ 10
+  pub ten : length bytes ≡ TICKET_BYTES
   pub in_range : IsRange (range_in bytes)

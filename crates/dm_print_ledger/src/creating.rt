@@ -7,8 +7,9 @@ ghost use Rattle.dm_print_ledger.specs.Ledger.{IsSound, ledger_bytes};
 ghost use Rattle.dm_print_ledger.specs.Ranges.{IsRange};
 
 use crate::fault::CreateFault;
-use crate::format::{MOST_BYTES, bytes_of};
+use crate::format::bytes_of;
 use crate::ledger::Ledger;
+use crate::limits::MOST_BYTES;
 use crate::printer::Printer;
 use crate::range::{Range, is_range};
 use arrayvec::ArrayVec;

@@ -4,7 +4,7 @@ ghost use Rattle.std.specs.Prelude.{◌≡◌, ◌<◌, ◌+◌, ◌↔◌, IfSo
 ghost use Rattle.dm_print_ledger.specs.Ledger.{first_ledger_bytes, IsFirst};
 ghost use Rattle.dm_print_ledger.specs.Numbers.{number_in};
 
-use crate::range::GREATEST;
+use crate::limits::GREATEST;
 
 /// The identifications `first` to `last`, of which those from `next` on are free.
 #[derive(Clone, Copy, Debug, PartialEq, Eq)]

@@ -11,14 +11,12 @@ ghost use Rattle.dm_print_ledger.specs.inner.Reading.{pairs_in, make_range, make
 ghost use Rattle.dm_print_ledger.specs.Views.{LedgerView};
 
 use crate::first_format::{FirstLedger, first_ledger_of_bytes, number_at};
-use crate::free::{MOST_RANGES, count};
-use crate::giver::{Giver, MOST_GIVERS};
+use crate::free::count;
+use crate::giver::Giver;
 use crate::ledger::Ledger;
+use crate::limits::{MOST_BYTES, MOST_GIVERS, MOST_RANGES};
 use crate::range::{Range, is_range};
 use arrayvec::ArrayVec;
-
-/// The most bytes of a saved ledger.
-pub(crate) const MOST_BYTES: usize = 525;
 
 /// Why bytes are no ledger of a printer.
 #[derive(Clone, Copy, Debug, PartialEq, Eq)]
@@ -44,7 +42,7 @@ fn mark() -> ArrayVec<u8, MOST_BYTES>
 
 // Adds a number in two bytes.
 fn push_number(bytes: &mut ArrayVec<u8, MOST_BYTES>, number: u16)
-    requires { length bytes.old.items + 2 ≤ 525 }
+    requires { length bytes.old.items + 2 ≤ MOST_BYTES }
     ensures { bytes.new.items ≡ bytes.old.items ++ two_bytes number }
 {
     bytes.push((number / 256) as u8);
@@ -53,7 +51,7 @@ fn push_number(bytes: &mut ArrayVec<u8, MOST_BYTES>, number: u16)
 
 // Adds ranges in four bytes each.
 fn push_ranges(bytes: &mut ArrayVec<u8, MOST_BYTES>, ranges: &[Range])
-    requires { length bytes.old.items + 4 * length ranges.now ≤ 525 }
+    requires { length bytes.old.items + 4 * length ranges.now ≤ MOST_BYTES }
     ensures items { bytes.new.items ≡ bytes.old.items ++ flat_map range_bytes ranges.now }
     ensures len { length bytes.new.items ≡ length bytes.old.items + 4 * length ranges.now }
 {
@@ -65,7 +63,7 @@ fn push_ranges(bytes: &mut ArrayVec<u8, MOST_BYTES>, ranges: &[Range])
 
 // Adds givers in four bytes each.
 fn push_givers(bytes: &mut ArrayVec<u8, MOST_BYTES>, givers: &[Giver])
-    requires { length bytes.old.items + 4 * length givers.now ≤ 525 }
+    requires { length bytes.old.items + 4 * length givers.now ≤ MOST_BYTES }
     ensures items { bytes.new.items ≡ bytes.old.items ++ flat_map giver_bytes givers.now }
     ensures len { length bytes.new.items ≡ length bytes.old.items + 4 * length givers.now }
 {
@@ -124,7 +122,7 @@ fn are_givers(givers: &[Giver]) -> bool
 
 // That many ranges, from a place on.
 fn ranges_at(bytes: &[u8], at: usize, count: usize) -> ArrayVec<Range, MOST_RANGES>
-    requires few { count ≤ 64 }
+    requires few { count ≤ MOST_RANGES }
     requires long { at + 4 * count ≤ length bytes.now }
     ensures { result.items ≡ pairs_in make_range bytes.now at count }
 {
@@ -139,7 +137,7 @@ fn ranges_at(bytes: &[u8], at: usize, count: usize) -> ArrayVec<Range, MOST_RANG
 
 // That many givers, from a place on.
 fn givers_at(bytes: &[u8], at: usize, count: usize) -> ArrayVec<Giver, MOST_GIVERS>
-    requires few { count ≤ 64 }
+    requires few { count ≤ MOST_GIVERS }
     requires long { at + 4 * count ≤ length bytes.now }
     ensures { result.items ≡ pairs_in make_giver bytes.now at count }
 {

@@ -5,11 +5,9 @@ ghost use Rattle.std.specs.List.{list_any};
 ghost use Rattle.dm_print_ledger.specs.Ranges.{AreRanges, IsRange, AreFree, AreTaken, HasFree, HasTaken, free_count};
 ghost use Rattle.dm_print_ledger.specs.inner.Changes.{covers, meets, parts, without as ranges_without, union_of as ranges_union};
 
+use crate::limits::{GREATEST, MOST_RANGES};
 use crate::range::Range;
 use arrayvec::ArrayVec;
-
-/// The most ranges that a ledger has.
-pub const MOST_RANGES: usize = 64;
 
 /// More ranges than a ledger has.
 #[derive(Clone, Copy, Debug, PartialEq, Eq)]
@@ -20,7 +18,7 @@ pub(crate) struct TooMany;
 pub(crate) fn count(ranges: &[Range]) -> u32
     requires { AreRanges ranges.now }
     ensures value { result ≡ free_count ranges.now }
-    ensures bound { result ≤ 64516 }
+    ensures bound { result ≤ GREATEST + 1 }
 {
     let mut total = 0;
     for one in ranges {
@@ -95,8 +93,8 @@ pub(crate) fn without(
     range: Range,
 ) -> Result<ArrayVec<Range, MOST_RANGES>, TooMany>
     ensures ok { IfOk result (λ left. left.items ≡ ranges_without ranges.now range) }
-    ensures few { IfOk result (λ left. length left.items ≤ 64) }
-    ensures err { OnErr result (64 < length (ranges_without ranges.now range)) }
+    ensures few { IfOk result (λ left. length left.items ≤ MOST_RANGES) }
+    ensures err { OnErr result (MOST_RANGES < length (ranges_without ranges.now range)) }
 {
     let mut left = ArrayVec::new();
     for one in ranges {
@@ -114,8 +112,8 @@ pub(crate) fn union_of(
     range: Range,
 ) -> Result<ArrayVec<Range, MOST_RANGES>, TooMany>
     ensures ok { IfOk result (λ all. all.items ≡ ranges_union ranges.now range) }
-    ensures few { IfOk result (λ all. length all.items ≤ 64) }
-    ensures err { OnErr result (64 < length (ranges_union ranges.now range)) }
+    ensures few { IfOk result (λ all. length all.items ≤ MOST_RANGES) }
+    ensures err { OnErr result (MOST_RANGES < length (ranges_union ranges.now range)) }
 {
     let mut all = ArrayVec::new();
     let mut pending = range;

@@ -1,13 +1,12 @@
 //! The printers from which tickets were taken.
 
 ghost use Rattle.std.specs.Prelude.{◌≡◌, ◌≤◌, ◌<◌, IfOk, OnErr, length};
-ghost use Rattle.dm_print_ledger.specs.Givers.{last_taken as last_taken_of, givers_with as givers_with_of};
+ghost use Rattle.dm_print_ledger.specs.Givers.{last_taken as last_taken_of};
+ghost use Rattle.dm_print_ledger.specs.inner.Changes.{givers_with as givers_with_of};
 
 use crate::free::TooMany;
+use crate::limits::MOST_GIVERS;
 use arrayvec::ArrayVec;
-
-/// The most givers that a ledger has.
-pub const MOST_GIVERS: usize = 64;
 
 /// A printer from which tickets were taken, and the serial of the last of them.
 #[derive(Clone, Copy, Debug, Default, PartialEq, Eq)]
@@ -34,8 +33,8 @@ pub(crate) fn givers_with(
     last: Giver,
 ) -> Result<ArrayVec<Giver, MOST_GIVERS>, TooMany>
     ensures ok { IfOk result (λ all. all.items ≡ givers_with_of givers.now last) }
-    ensures few { IfOk result (λ all. length all.items ≤ 64) }
-    ensures err { OnErr result (64 < length (givers_with_of givers.now last)) }
+    ensures few { IfOk result (λ all. length all.items ≤ MOST_GIVERS) }
+    ensures err { OnErr result (MOST_GIVERS < length (givers_with_of givers.now last)) }
 {
     let mut all = ArrayVec::new();
     for (i, giver) in givers.iter().enumerate() {

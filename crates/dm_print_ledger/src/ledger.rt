@@ -7,8 +7,9 @@ ghost use Rattle.dm_print_ledger.specs.Printing.{Uses};
 ghost use Rattle.dm_print_ledger.specs.Moving.{GivesAway, TakesIn, LeavesTooMany, JoinsTooMany, JoinsFew, IsOneTooMany};
 ghost use Rattle.dm_print_ledger.specs.Givers.{last_taken};
 
-use crate::free::{MOST_RANGES, TooMany, union_of, without};
-use crate::giver::{Giver, MOST_GIVERS, givers_with};
+use crate::free::{TooMany, union_of, without};
+use crate::giver::{Giver, givers_with};
+use crate::limits::{GREATEST, MOST_GIVERS, MOST_RANGES};
 use crate::range::Range;
 use crate::ticket::Ticket;
 use arrayvec::ArrayVec;
@@ -45,7 +46,7 @@ pub(crate) enum TakingFault {
 
 // A copy of the givers.
 fn copy_of(givers: &[Giver]) -> ArrayVec<Giver, MOST_GIVERS>
-    requires { length givers.now ≤ 64 }
+    requires { length givers.now ≤ MOST_GIVERS }
     ensures { result.items ≡ givers.now }
 {
     let mut copy = ArrayVec::new();
@@ -59,7 +60,7 @@ fn copy_of(givers: &[Giver]) -> ArrayVec<Giver, MOST_GIVERS>
 pub(crate) fn least_free(ranges: &[Range]) -> Option<u16>
     requires { AreRanges ranges.now }
     ensures some { IfSome result (IsLeastFree ranges.now) }
-    ensures below { IfSome result (λ n. n ≤ 64515) }
+    ensures below { IfSome result (λ n. n ≤ GREATEST) }
     ensures counted { OnSome result (0 < free_count ranges.now) }
     ensures none { IfNone result (free_count ranges.now ≡ 0) }
 {

@@ -55,10 +55,7 @@ impl<S: Store, A: Allocator + Copy> Printer<S, A> {
         // Each refusal stands wherever it applies.
         ensures exact { (fault : GiveFault) → CannotGive self.old receiver range fault → IsErrOf result fault }
     {
-        let next = match self.ledger_after_give(receiver, range) {
-            Ok(next) => next,
-            Err(fault) => return Err(fault),
-        };
+        let next = self.ledger_after_give(receiver, range)?;
         let ticket = Ticket {
             giver: self.ledger.number,
             serial: self.ledger.next_serial,
@@ -114,10 +111,7 @@ impl<S: Store, A: Allocator + Copy> Printer<S, A> {
         // Each refusal stands wherever it applies.
         ensures exact { (fault : TakeFault) → CannotTake self.old ticket.now fault → IsErrOf result fault }
     {
-        let next = match self.ledger_after_take(*ticket) {
-            Ok(next) => next,
-            Err(fault) => return Err(fault),
-        };
+        let next = self.ledger_after_take(*ticket)?;
         match self.save(next) {
             Ok(()) => Ok(()),
             Err(ReplaceFault::Memory) => Err(TakeFault::Memory),

@@ -6,8 +6,9 @@ ghost use Rattle.dm_print_ledger.specs.Opening.{HasOpenFault};
 ghost use Rattle.dm_print_ledger.specs.Saving.{HoldsLedger};
 
 use crate::fault::OpenFault;
-use crate::format::{LedgerFault, MOST_BYTES, parse};
+use crate::format::{LedgerFault, parse};
 use crate::ledger::Ledger;
+use crate::limits::MOST_BYTES;
 use crate::printer::Printer;
 use dm_store::{LoadFault, Store};
 use std::alloc::Allocator;

@@ -1,10 +1,11 @@
 //! Printers, and the one way in which they save.
 
-ghost use Rattle.std.specs.Prelude.{◌≡◌, ◌≤◌, false, OnOk, IsErrOf};
+ghost use Rattle.std.specs.Prelude.{◌≡◌, ◌≤◌, ◌+◌, false, OnOk, IsErrOf};
 
 use crate::format::bytes_of;
 use crate::free::count;
 use crate::ledger::Ledger;
+use crate::limits::GREATEST;
 use dm_store::{MemStore, NextSave, ReplaceFault, Store};
 use std::alloc::{Allocator, Global};
 use std::marker::Model;
@@ -38,7 +39,7 @@ impl<S: Store, A: Allocator + Copy> Printer<S, A> {
     /// How many identifications are free, as last known to be saved: 0 to 64,516.
     pub fn left(&self) -> u32
         ensures value { result ≡ free_count self.now.ledger.free }
-        ensures bound { result ≤ 64516 }
+        ensures bound { result ≤ GREATEST + 1 }
     {
         count(self.ledger.free.as_slice())
     }

@@ -63,10 +63,7 @@ impl<S: Store, A: Allocator + Copy> Printer<S, A> {
         ensures exact { (fault : PrintFault) → CannotPrint self.old size scheme document.now fault
             → IsErrOf result fault }
     {
-        let (job, used) = match self.make_job(document, size, scheme) {
-            Ok(made) => made,
-            Err(fault) => return Err(fault),
-        };
+        let (job, used) = self.make_job(document, size, scheme)?;
         match self.save(used) {
             Ok(()) => Ok(job),
             Err(ReplaceFault::Memory) => Err(PrintFault::Memory),

@@ -71,6 +71,14 @@ fn reopened<A: Allocator + Copy>(
     .expect(rt, "it is opened")
 }
 
+// The number alone.
+fn single(number: u16) -> Range {
+    Range {
+        first: number,
+        last: number,
+    }
+}
+
 // The number under which four digits are printed.
 fn printed<A: Allocator + Copy>(printer: &mut Printer<MemStore<A>, A>) -> Result<u16, PrintFault> {
     Ok(
@@ -173,8 +181,27 @@ fn the_range_is_used_up(rt: HostRuntime) {
         (printed(&mut last), last.left()),
         (Err(PrintFault::Exhausted), 0)
     );
+    let range = Range { first: 0, last: 9 };
+    let again = Printer::create(alloc, last.close(), 0, range).err();
+    assert!(rt; again.is_some_and(|refused| refused.fault == CreateFault::Exists));
     let whole = created(&rt, alloc, 0, 0, 64_515);
     assert_eq!(rt; whole.left(), 64_516);
+}
+
+#[test]
+fn identifications_are_the_two_words_of_their_numbers(rt: HostRuntime) -> Result<(), Fail> {
+    let rows = [
+        (0, (1, 1)),
+        (1, (1, 2)),
+        (254, (2, 1)),
+        (64_515, (254, 254)),
+    ];
+    for (number, words) in rows {
+        let mut printer = created(&rt, rt.alloc(), 0, number, number);
+        let job = printer.print(b"1234", Size::Side12, Scheme::Ascii)?;
+        assert_eq!(rt; job.id().words(), words);
+    }
+    Ok(())
 }
 
 #[test]
@@ -280,9 +307,8 @@ fn a_part_of_a_range_moves(rt: HostRuntime) -> Result<(), Fail> {
 }
 
 #[test]
-fn what_cannot_be_given(rt: HostRuntime) -> Result<(), Fail> {
-    let alloc = rt.alloc();
-    let mut printer = created(&rt, alloc, 7, 100, 300);
+fn what_cannot_be_given(rt: HostRuntime) {
+    let mut printer = created(&rt, rt.alloc(), 7, 100, 300);
     let rows = [
         (8, 5, 4, GiveFault::Range),
         (7, 100, 64_516, GiveFault::Range),
@@ -293,54 +319,51 @@ fn what_cannot_be_given(rt: HostRuntime) -> Result<(), Fail> {
     for (receiver, first, last, fault) in rows {
         assert_eq!(rt; printer.give(receiver, Range { first, last }), Err(fault));
     }
-    // Each second number leaves, so that 63 numbers and the rest are free.
+    assert_eq!(rt; printer.left(), 201);
+}
+
+// Each second number leaves, so that 63 numbers and the rest are free.
+#[test]
+fn sixty_four_ranges_remain(rt: HostRuntime) -> Result<(), Fail> {
+    let mut printer = created(&rt, rt.alloc(), 7, 100, 300);
     for i in 0..63 {
         let number = 101 + 2 * i;
-        printer.give(
-            8,
-            Range {
-                first: number,
-                last: number,
-            },
-        )?;
+        printer.give(8, single(number))?;
     }
-    let middle = Range {
-        first: 227,
-        last: 227,
-    };
     assert_eq!(rt;
-        (printer.left(), printer.give(8, middle)),
+        (printer.left(), printer.give(8, single(227))),
         (138, Err(GiveFault::Ranges))
     );
-    printer.give(
-        8,
-        Range {
-            first: 226,
-            last: 227,
-        },
-    )?;
+    let edge = Range {
+        first: 226,
+        last: 227,
+    };
+    printer.give(8, edge)?;
     let store = printer.close();
     assert_eq!(rt; store.content().map(|bytes| bytes.len()), Some(13 + 4 * 64));
-    // The last serial that a ticket has is 65,534. Whether the numbers are free is asked before.
+    Ok(())
+}
+
+// The last serial that a ticket has is 65,534. Whether the numbers are free is asked before.
+#[test]
+fn the_last_serial_is_given(rt: HostRuntime) -> Result<(), Fail> {
     let saved = b"DMLG\x02\x00\x07\xff\xfe\x01\x00\x02\x00\x09\x00\xff\xf7";
-    let mut printer = opened(&rt, alloc, saved, 7)?;
-    let ticket = printer.give(8, Range { first: 2, last: 2 })?;
+    let mut printer = opened(&rt, rt.alloc(), saved, 7)?;
+    let ticket = printer.give(8, single(2))?;
     assert_eq!(rt; ticket.serial, 65_534);
     let rows = [(2, GiveFault::NotFree), (3, GiveFault::Serials)];
     for (number, fault) in rows {
-        let range = Range {
-            first: number,
-            last: number,
-        };
-        assert_eq!(rt; (printer.give(8, range), printer.left()), (Err(fault), 7));
+        assert_eq!(rt;
+            (printer.give(8, single(number)), printer.left()),
+            (Err(fault), 7)
+        );
     }
     Ok(())
 }
 
 #[test]
-fn what_cannot_be_taken(rt: HostRuntime) -> Result<(), Fail> {
-    let alloc = rt.alloc();
-    let mut printer = created(&rt, alloc, 8, 10, 20);
+fn what_cannot_be_taken(rt: HostRuntime) {
+    let mut printer = created(&rt, rt.alloc(), 8, 10, 20);
     let rows: [(&[u8], TakeFault); 5] = [
         (&[0, 7, 0, 0, 0, 9, 0, 5, 0, 9], TakeFault::Receiver),
         (&[0, 8, 0, 0, 0, 8, 0, 5, 0, 9], TakeFault::Receiver),
@@ -352,7 +375,13 @@ fn what_cannot_be_taken(rt: HostRuntime) -> Result<(), Fail> {
         let ticket = Ticket::of_bytes(bytes).expect(&rt, "a ticket");
         assert_eq!(rt; printer.take(&ticket), Err(fault));
     }
-    // Numbers that touch are joined, so that 64 tickets of 64 givers leave two ranges; a 65th giver is refused.
+    assert_eq!(rt; printer.left(), 11);
+}
+
+// Numbers that touch are joined, so that 64 tickets of 64 givers leave two ranges; a 65th giver is refused.
+#[test]
+fn tickets_of_sixty_four_givers_are_taken(rt: HostRuntime) {
+    let mut printer = created(&rt, rt.alloc(), 8, 10, 20);
     for giver in 0..65u8 {
         let bytes = [1, giver, 0, 3, 0, 8, 1, giver, 1, giver];
         let ticket = Ticket::of_bytes(&bytes).expect(&rt, "a ticket");
@@ -374,12 +403,11 @@ fn what_cannot_be_taken(rt: HostRuntime) -> Result<(), Fail> {
         let ticket = Ticket::of_bytes(bytes).expect(&rt, "a ticket");
         assert_eq!(rt; printer.take(&ticket), answer);
     }
-    let store = printer.close();
     // One range, 10 to 319, and 64 givers.
+    let store = printer.close();
     let content = store.content().expect(&rt, "a ledger");
     assert!(rt; content.starts_with(b"DMLG\x02\x00\x08\x00\x00\x01\x00\x0a\x01\x3f\x40"));
     assert_eq!(rt; content.len(), 17 + 4 * 64);
-    Ok(())
 }
 
 #[test]
@@ -423,9 +451,8 @@ fn tickets_of_bytes(rt: HostRuntime) {
     assert!(rt; Ticket::of_bytes(&[0, 0, 0, 0, 0, 1, 0, 5, 0xfc, 0x04]).is_none());
 }
 
-// Ledgers of both versions, and why other bytes are none of a printer with the number 7.
 #[test]
-fn ledgers_of_both_versions(rt: HostRuntime) -> Result<(), Fail> {
+fn a_ledger_of_version_1_goes_on(rt: HostRuntime) -> Result<(), Fail> {
     let alloc = rt.alloc();
     let first = b"DMLG\x01\x00\x00\x00\x09\x00\x01\xff\xfe";
     let mut printer = opened(&rt, alloc, first, 7)?;
@@ -433,80 +460,107 @@ fn ledgers_of_both_versions(rt: HostRuntime) -> Result<(), Fail> {
     let saved = b"DMLG\x02\x00\x07\x00\x00\x01\x00\x02\x00\x09\x00\xff\xf7";
     let printer = reopened(&rt, alloc, printer, saved, 7);
     assert_eq!(rt; printer.left(), 8);
-    let used_up = opened(
-        &rt,
-        alloc,
-        b"DMLG\x01\x00\x00\x00\x09\x00\x0a\xff\xf5",
-        65_535,
-    )?;
-    assert_eq!(rt; used_up.left(), 0);
-    let damaged = Some(OpenFault::Damaged);
-    let rows: [(&[u8], Option<OpenFault>); 24] = [
-        (b"", Some(OpenFault::NotALedger)),
-        (b"DML", Some(OpenFault::NotALedger)),
-        (b"DMPG\x02", Some(OpenFault::NotALedger)),
-        (b"DMLG", damaged),
-        (b"DMLG\x03", Some(OpenFault::Version)),
-        (b"DMLG\x00", Some(OpenFault::Version)),
-        // Version 1: 12 and 14 bytes, a wrong check, a next number that is out of the range, no range, a great number.
-        (b"DMLG\x01\x00\x00\x00\x09\x00\x01\xff", damaged),
-        (b"DMLG\x01\x00\x00\x00\x09\x00\x01\xff\xfe\x00", damaged),
-        (b"DMLG\x01\x00\x00\x00\x09\x00\x01\xff\xff", damaged),
-        (b"DMLG\x01\x00\x00\x00\x09\x00\x0b\xff\xf4", damaged),
-        (b"DMLG\x01\x00\x02\x00\x09\x00\x01\xff\xfe", damaged),
-        (b"DMLG\x01\x00\x09\x00\x08\x00\x09\xff\xf6", damaged),
-        (b"DMLG\x01\xfc\x04\xfc\x04\xfc\x04\x03\xfb", damaged),
-        // Version 2: ranges that touch, that meet, that fall, and that don't; no range; a great number.
-        (
-            b"DMLG\x02\x00\x07\x00\x00\x02\x00\x02\x00\x09\x00\x0a\x00\x0b\x00\xff\xf5",
-            damaged,
-        ),
-        (
-            b"DMLG\x02\x00\x07\x00\x00\x02\x00\x02\x00\x09\x00\x09\x00\x0b\x00\xff\xf4",
-            damaged,
-        ),
-        (
-            b"DMLG\x02\x00\x07\x00\x00\x02\x00\x0b\x00\x0c\x00\x02\x00\x09\x00\xff\xf5",
-            damaged,
-        ),
-        (
-            b"DMLG\x02\x00\x07\x00\x00\x02\x00\x02\x00\x09\x00\x0b\x00\x0c\x00\xff\xf5",
-            None,
-        ),
-        (
-            b"DMLG\x02\x00\x07\x00\x00\x01\x00\x09\x00\x02\x00\xff\xff",
-            damaged,
-        ),
-        (
-            b"DMLG\x02\x00\x07\x00\x00\x01\xfc\x04\xfc\x04\x00\xff\xfe",
-            damaged,
-        ),
-        // No free number, givers that rise and that don't, and another printer's number.
-        (b"DMLG\x02\x00\x07\xff\xff\x00\x00\xff\xff", None),
-        (
-            b"DMLG\x02\x00\x07\x00\x00\x00\x02\x00\x01\x00\x05\x00\x02\x00\x00\xff\xff",
-            None,
-        ),
-        (
-            b"DMLG\x02\x00\x07\x00\x00\x00\x02\x00\x02\x00\x05\x00\x02\x00\x06\xff\xff",
-            damaged,
-        ),
-        (
-            b"DMLG\x02\x00\x08\x00\x00\x00\x00\xff\xff",
-            Some(OpenFault::Number),
-        ),
-        (b"DMLG\x02\x00\x08\x00\x00\x00\x00\xff\xfe", damaged),
-    ];
-    for (bytes, fault) in rows {
+    let used_up = b"DMLG\x01\x00\x00\x00\x09\x00\x0a\xff\xf5";
+    let mut printer = opened(&rt, alloc, used_up, 65_535)?;
+    assert_eq!(rt;
+        (printer.left(), printed(&mut printer)),
+        (0, Err(PrintFault::Exhausted))
+    );
+    Ok(())
+}
+
+// Why bytes are no ledger of a printer with the number 7, of whatever version.
+const OF_NO_PRINTER: [(&[u8], OpenFault); 14] = [
+    (b"", OpenFault::NotALedger),
+    (b"DML", OpenFault::NotALedger),
+    (b"DMPG\x02", OpenFault::NotALedger),
+    (b"DMLG", OpenFault::Damaged),
+    (b"DMLG\x03", OpenFault::Version),
+    (b"DMLG\x00", OpenFault::Version),
+    // Version 1: 12 and 14 bytes, a wrong check, a next number that is out of the range, no range, a great number.
+    (b"DMLG\x01\x00\x00\x00\x09\x00\x01\xff", OpenFault::Damaged),
+    (
+        b"DMLG\x01\x00\x00\x00\x09\x00\x01\xff\xfe\x00",
+        OpenFault::Damaged,
+    ),
+    (
+        b"DMLG\x01\x00\x00\x00\x09\x00\x01\xff\xff",
+        OpenFault::Damaged,
+    ),
+    (
+        b"DMLG\x01\x00\x00\x00\x09\x00\x0b\xff\xf4",
+        OpenFault::Damaged,
+    ),
+    (
+        b"DMLG\x01\x00\x02\x00\x09\x00\x01\xff\xfe",
+        OpenFault::Damaged,
+    ),
+    (
+        b"DMLG\x01\x00\x09\x00\x08\x00\x09\xff\xf6",
+        OpenFault::Damaged,
+    ),
+    (
+        b"DMLG\x01\xfc\x04\xfc\x04\xfc\x04\x03\xfb",
+        OpenFault::Damaged,
+    ),
+    (
+        b"DMLG\x02\x00\x08\x00\x00\x00\x00\xff\xff",
+        OpenFault::Number,
+    ),
+];
+
+// Bytes of version 2, and whether they are a ledger: ranges that touch, that meet, that fall, and that don't; no range;
+// a great number; no free number; givers that rise, and that don't; a wrong check, of another number too.
+const OF_VERSION_2: [(&[u8], bool); 10] = [
+    (
+        b"DMLG\x02\x00\x07\x00\x00\x02\x00\x02\x00\x09\x00\x0a\x00\x0b\x00\xff\xf5",
+        false,
+    ),
+    (
+        b"DMLG\x02\x00\x07\x00\x00\x02\x00\x02\x00\x09\x00\x09\x00\x0b\x00\xff\xf4",
+        false,
+    ),
+    (
+        b"DMLG\x02\x00\x07\x00\x00\x02\x00\x0b\x00\x0c\x00\x02\x00\x09\x00\xff\xf5",
+        false,
+    ),
+    (
+        b"DMLG\x02\x00\x07\x00\x00\x02\x00\x02\x00\x09\x00\x0b\x00\x0c\x00\xff\xf5",
+        true,
+    ),
+    (
+        b"DMLG\x02\x00\x07\x00\x00\x01\x00\x09\x00\x02\x00\xff\xff",
+        false,
+    ),
+    (
+        b"DMLG\x02\x00\x07\x00\x00\x01\xfc\x04\xfc\x04\x00\xff\xfe",
+        false,
+    ),
+    (b"DMLG\x02\x00\x07\xff\xff\x00\x00\xff\xff", true),
+    (
+        b"DMLG\x02\x00\x07\x00\x00\x00\x02\x00\x01\x00\x05\x00\x02\x00\x00\xff\xff",
+        true,
+    ),
+    (
+        b"DMLG\x02\x00\x07\x00\x00\x00\x02\x00\x02\x00\x05\x00\x02\x00\x06\xff\xff",
+        false,
+    ),
+    (b"DMLG\x02\x00\x08\x00\x00\x00\x00\xff\xfe", false),
+];
+
+#[test]
+fn bytes_of_both_versions(rt: HostRuntime) -> Result<(), Fail> {
+    let alloc = rt.alloc();
+    for (bytes, fault) in OF_NO_PRINTER {
+        assert!(rt; fault_of(alloc, bytes, 7)? == Some(fault));
+    }
+    for (bytes, is_ledger) in OF_VERSION_2 {
+        let fault = (!is_ledger).then_some(OpenFault::Damaged);
         assert!(rt; fault_of(alloc, bytes, 7)? == fault);
     }
-    match Printer::open(alloc, MemStore::new(alloc), 7) {
-        Ok(_) => Err("a printer over nothing".into()),
-        Err(refused) => {
-            assert_eq!(rt; refused.fault, OpenFault::Absent);
-            Ok(())
-        }
-    }
+    let absent = Printer::open(alloc, MemStore::new(alloc), 7).err();
+    assert!(rt; absent.is_some_and(|refused| refused.fault == OpenFault::Absent));
+    Ok(())
 }
 
 // Number 7, next serial 3, numbers 2 to 9, and serial 5 from printer 3.
@@ -568,6 +622,132 @@ fn bytes_are_cut_and_added(rt: HostRuntime) -> Result<(), Fail> {
         let mut bytes = SOUND.to_vec(alloc)?;
         bytes.push(value)?;
         assert!(rt; fault_of(alloc, bytes.as_slice(), 7)? == Some(OpenFault::Damaged));
+    }
+    Ok(())
+}
+
+#[test]
+fn faults_of_a_new_printer(rt: HostRuntime) -> Result<(), Fail> {
+    for (fault, name, text) in [
+        (CreateFault::Exists, "Exists", "something is saved already"),
+        (CreateFault::Range, "Range", "the range is invalid"),
+        (CreateFault::Device, "Device", "the device failed"),
+        (CreateFault::Memory, "Memory", "out of memory"),
+    ] {
+        assert_eq!(rt; fault.name(), name);
+        assert_eq!(rt; format!(in rt.alloc(); "{fault}")?.as_str(), text);
+    }
+    Ok(())
+}
+
+#[test]
+fn faults_of_a_printer_that_is_opened(rt: HostRuntime) -> Result<(), Fail> {
+    for (fault, name, text) in [
+        (OpenFault::Absent, "Absent", "nothing is saved"),
+        (OpenFault::NotALedger, "NotALedger", "this is not a ledger"),
+        (
+            OpenFault::Version,
+            "Version",
+            "the version of the ledger is unknown",
+        ),
+        (OpenFault::Damaged, "Damaged", "the ledger is damaged"),
+        (OpenFault::Device, "Device", "the device failed"),
+        (OpenFault::Memory, "Memory", "out of memory"),
+        (
+            OpenFault::Number,
+            "Number",
+            "the ledger is another printer's",
+        ),
+    ] {
+        assert_eq!(rt; fault.name(), name);
+        assert_eq!(rt; format!(in rt.alloc(); "{fault}")?.as_str(), text);
+    }
+    Ok(())
+}
+
+#[test]
+fn faults_of_a_print(rt: HostRuntime) -> Result<(), Fail> {
+    for (fault, name, text) in [
+        (PrintFault::Failed, "Failed", "a save failed before"),
+        (
+            PrintFault::TooLong,
+            "TooLong",
+            "the document does not fit sixteen labels of this size",
+        ),
+        (
+            PrintFault::Exhausted,
+            "Exhausted",
+            "no identification is free",
+        ),
+        (PrintFault::Memory, "Memory", "out of memory"),
+        (PrintFault::Save, "Save", "the save failed"),
+    ] {
+        assert_eq!(rt; fault.name(), name);
+        assert_eq!(rt; format!(in rt.alloc(); "{fault}")?.as_str(), text);
+    }
+    Ok(())
+}
+
+#[test]
+fn faults_of_a_range_that_is_given(rt: HostRuntime) -> Result<(), Fail> {
+    for (fault, name, text) in [
+        (GiveFault::Failed, "Failed", "a save failed before"),
+        (GiveFault::Range, "Range", "the range is invalid"),
+        (
+            GiveFault::Receiver,
+            "Receiver",
+            "a printer gives nothing to itself",
+        ),
+        (
+            GiveFault::NotFree,
+            "NotFree",
+            "a number of the range is not free",
+        ),
+        (GiveFault::Serials, "Serials", "no serial is left"),
+        (
+            GiveFault::Ranges,
+            "Ranges",
+            "more than 64 ranges would remain",
+        ),
+        (GiveFault::Memory, "Memory", "out of memory"),
+        (GiveFault::Save, "Save", "the save failed"),
+    ] {
+        assert_eq!(rt; fault.name(), name);
+        assert_eq!(rt; format!(in rt.alloc(); "{fault}")?.as_str(), text);
+    }
+    Ok(())
+}
+
+#[test]
+fn faults_of_a_ticket_that_is_taken(rt: HostRuntime) -> Result<(), Fail> {
+    for (fault, name, text) in [
+        (TakeFault::Failed, "Failed", "a save failed before"),
+        (
+            TakeFault::Receiver,
+            "Receiver",
+            "the ticket is not for this printer",
+        ),
+        (TakeFault::Old, "Old", "the ticket is old"),
+        (
+            TakeFault::Overlap,
+            "Overlap",
+            "a number of the ticket is free here",
+        ),
+        (
+            TakeFault::Ranges,
+            "Ranges",
+            "more than 64 ranges would be free",
+        ),
+        (
+            TakeFault::Givers,
+            "Givers",
+            "tickets of 64 other printers were taken",
+        ),
+        (TakeFault::Memory, "Memory", "out of memory"),
+        (TakeFault::Save, "Save", "the save failed"),
+    ] {
+        assert_eq!(rt; fault.name(), name);
+        assert_eq!(rt; format!(in rt.alloc(); "{fault}")?.as_str(), text);
     }
     Ok(())
 }

@@ -5,16 +5,29 @@ use dm_encodation::Scheme;
 use dm_print_ledger::{
     CreateFault, GiveFault, OpenFault, PrintFault, Printer, Range, TakeFault, Ticket,
 };
-use dm_store::{FuseStore, Kept, MemStore};
+use dm_store::{FuseStore, Kept, MemStore, Store};
 use std::alloc::Allocator;
 use std::process::Abort;
 use std::test::Fail;
 
-// A printer over a store in memory, behind a fuse.
-type FusedPrinter<A> = Printer<FuseStore<MemStore<A>>, A>;
+// A store in memory that stops after some calls, and a printer over it.
+type FusedStore<A> = FuseStore<MemStore<A>>;
+
+type FusedPrinter<A> = Printer<FusedStore<A>, A>;
 
 // The device calls: a load and a save for create, a load for open, and a save for each of the others.
 const CALLS: u32 = 7;
+
+// Numbers of the printer 0, and a ticket of the printer 1 for it.
+const GIVEN: Range = Range { first: 5, last: 6 };
+
+const TAKEN: [u8; 10] = [0, 1, 0, 0, 0, 0, 0, 20, 0, 21];
+
+// What is saved in the end: serial 1, the numbers after the second job's but 5 and 6, and those that were taken. The
+// least number that is free, and the check, are still to be filled in.
+const SAVED: [u8; 29] =
+    *b"DMLG\x02\x00\x00\x00\x01\x03\x00\x00\x00\x04\x00\x07\x00\x09\x00\x14\x00\x15\
+    \x01\x00\x01\x00\x00\xff\x00";
 
 // What left the printer: the identifications of its jobs, and the ticket, if one was given.
 #[derive(Clone, Copy)]
@@ -23,19 +36,34 @@ struct Left {
     ticket: Option<Ticket>,
 }
 
-// The printer of the number 0 over what a store holds, behind a fuse that lets all further calls through.
-fn opened<A: Allocator + Copy>(
-    rt: &impl Abort,
-    alloc: A,
-    store: FuseStore<MemStore<A>>,
-) -> FusedPrinter<A> {
+// What a stopped store holds, in a store that passes all further calls on.
+fn whole<A: Allocator + Copy>(rt: &impl Abort, store: FusedStore<A>) -> FusedStore<A> {
     assert!(rt; store.spent());
-    let whole = FuseStore::new(store.into_inner(), 1000, Kept::Old);
-    match Printer::open(alloc, whole, 0) {
+    FuseStore::new(store.into_inner(), 1000, Kept::Old)
+}
+
+// The printer of the number 0 over what a stopped store holds.
+fn opened<A: Allocator + Copy>(rt: &impl Abort, alloc: A, store: FusedStore<A>) -> FusedPrinter<A> {
+    match Printer::open(alloc, whole(rt, store), 0) {
         Ok(printer) => Some(printer),
         Err(_) => None,
     }
     .expect(rt, "it is opened")
+}
+
+// The printer opened again after a save failed; before that it answers `Failed` alone.
+fn opened_again<A: Allocator + Copy>(
+    rt: &impl Abort,
+    alloc: A,
+    printer: FusedPrinter<A>,
+) -> FusedPrinter<A> {
+    let mut printer = printer;
+    let ticket = Ticket::of_bytes(&TAKEN).expect(rt, "a ticket");
+    let fault = printer.print(b"", Size::Side12, Scheme::Ascii).err();
+    assert_eq!(rt; fault, Some(PrintFault::Failed));
+    assert_eq!(rt; printer.give(3, GIVEN), Err(GiveFault::Failed));
+    assert_eq!(rt; printer.take(&ticket), Err(TakeFault::Failed));
+    opened(rt, alloc, printer.close())
 }
 
 // A printer of the numbers 0 to 9, created over a store that may stop; where the first ledger was saved although the
@@ -43,7 +71,7 @@ fn opened<A: Allocator + Copy>(
 fn created<A: Allocator + Copy>(
     rt: &impl Abort,
     alloc: A,
-    store: FuseStore<MemStore<A>>,
+    store: FusedStore<A>,
     is_saved: bool,
 ) -> FusedPrinter<A> {
     let range = Range { first: 0, last: 9 };
@@ -51,9 +79,8 @@ fn created<A: Allocator + Copy>(
         Ok(printer) => return printer,
         Err(refused) => refused,
     };
-    assert!(rt; refused.fault == CreateFault::Device && refused.store.spent());
-    let whole = FuseStore::new(refused.store.into_inner(), 1000, Kept::Old);
-    match Printer::create(alloc, whole, 0, range) {
+    assert!(rt; refused.fault == CreateFault::Device);
+    match Printer::create(alloc, whole(rt, refused.store), 0, range) {
         Ok(printer) => {
             assert!(rt; !is_saved);
             Some(printer)
@@ -80,7 +107,7 @@ fn printed<A: Allocator + Copy>(
         Ok(job) => job,
         Err(fault) => {
             assert!(rt; fault == PrintFault::Save);
-            printer = opened(rt, alloc, printer.close());
+            printer = opened_again(rt, alloc, printer);
             printer.print(b"1234", Size::Side12, Scheme::Ascii)?
         }
     };
@@ -88,13 +115,56 @@ fn printed<A: Allocator + Copy>(
     Ok((printer, id))
 }
 
-// All calls over a store that stops after this many device calls.
+// The ticket of the numbers 5 and 6, asked for again where the save stopped. Where that save was made the numbers are
+// gone, and no ticket has them.
+fn given<A: Allocator + Copy>(
+    rt: &impl Abort,
+    alloc: A,
+    printer: FusedPrinter<A>,
+    kept: Kept,
+) -> (FusedPrinter<A>, Option<Ticket>) {
+    let mut printer = printer;
+    if let Ok(ticket) = printer.give(3, GIVEN) {
+        return (printer, Some(ticket));
+    }
+    let mut printer = opened_again(rt, alloc, printer);
+    match printer.give(3, GIVEN) {
+        Ok(ticket) => (printer, Some(ticket)),
+        Err(fault) => {
+            assert!(rt; fault == GiveFault::NotFree && kept == Kept::New);
+            (printer, None)
+        }
+    }
+}
+
+// A ticket is taken, again where the save stopped. Where that save was made the ticket is old.
+fn taken<A: Allocator + Copy>(
+    rt: &impl Abort,
+    alloc: A,
+    printer: FusedPrinter<A>,
+    kept: Kept,
+) -> FusedPrinter<A> {
+    let mut printer = printer;
+    let ticket = Ticket::of_bytes(&TAKEN).expect(rt, "a ticket");
+    if let Err(fault) = printer.take(&ticket) {
+        assert!(rt; fault == TakeFault::Save);
+        printer = opened_again(rt, alloc, printer);
+        let answer = match kept {
+            Kept::Old => Ok(()),
+            Kept::New => Err(TakeFault::Old),
+        };
+        assert_eq!(rt; printer.take(&ticket), answer);
+    }
+    printer
+}
+
+// All calls over a store that stops after this many device calls, and the store in the end.
 fn run<A: Allocator + Copy>(
     rt: &impl Abort,
     alloc: A,
     passes: u32,
     kept: Kept,
-) -> Result<(Left, MemStore<A>), Fail> {
+) -> Result<(Left, FusedStore<A>), Fail> {
     let store = FuseStore::new(MemStore::new(alloc), passes, kept);
     let printer = created(rt, alloc, store, passes == 1 && kept == Kept::New);
     let printer = match Printer::open(alloc, printer.close(), 0) {
@@ -104,36 +174,15 @@ fn run<A: Allocator + Copy>(
             opened(rt, alloc, refused.store)
         }
     };
-    let (mut printer, first) = printed(rt, alloc, printer)?;
-    let range = Range { first: 5, last: 6 };
-    let ticket = match printer.give(3, range) {
-        Ok(ticket) => Some(ticket),
-        Err(fault) => {
-            assert!(rt; fault == GiveFault::Save && passes == 4);
-            printer = opened(rt, alloc, printer.close());
-            // Where the save was made the numbers are gone, and no ticket has them.
-            match printer.give(3, range) {
-                Ok(ticket) => Some(ticket),
-                Err(fault) => {
-                    assert!(rt; fault == GiveFault::NotFree && kept == Kept::New);
-                    None
-                }
-            }
-        }
-    };
-    let other = Ticket::of_bytes(&[0, 1, 0, 0, 0, 0, 0, 20, 0, 21]).expect(rt, "a ticket");
-    if let Err(fault) = printer.take(&other) {
-        assert!(rt; fault == TakeFault::Save && passes == 5);
-        printer = opened(rt, alloc, printer.close());
-        let answer = match kept {
-            Kept::Old => Ok(()),
-            Kept::New => Err(TakeFault::Old),
-        };
-        assert_eq!(rt; printer.take(&other), answer);
-    }
+    let (printer, first) = printed(rt, alloc, printer)?;
+    let (printer, ticket) = given(rt, alloc, printer, kept);
+    let printer = taken(rt, alloc, printer, kept);
     let (printer, second) = printed(rt, alloc, printer)?;
-    let ids = [first, second];
-    Ok((Left { ids, ticket }, printer.close().into_inner()))
+    let left = Left {
+        ids: [first, second],
+        ticket,
+    };
+    Ok((left, printer.close()))
 }
 
 // The identifications of the two jobs: that of a print whose save was made is lost.
@@ -158,19 +207,20 @@ fn the_store_stops_at_each_call(rt: HostRuntime) -> Result<(), Fail> {
     let alloc = rt.alloc();
     for kept in [Kept::Old, Kept::New] {
         for passes in 0..=CALLS {
-            let (left, store) = run(&rt, alloc, passes, kept)?;
+            let (left, mut store) = run(&rt, alloc, passes, kept)?;
             assert_eq!(rt; left.ids, ids_after(passes, kept));
             let is_lost = passes == 4 && kept == Kept::New;
             assert_eq!(rt; left.ticket.is_none(), is_lost);
             if let Some(ticket) = left.ticket {
                 assert_eq!(rt; ticket.bytes(), [0, 0, 0, 0, 0, 3, 0, 5, 0, 6]);
             }
-            // What is saved: serial 1, the numbers after the second job's but 5 and 6, and those that were taken.
-            let mut saved =
-                *b"DMLG\x02\x00\x00\x00\x01\x03\x00\x00\x00\x04\x00\x07\x00\x09\x00\x14\x00\x15\x01\x00\x01\x00\x00\xff\x00";
+            let mut saved = SAVED;
             let (least, check) = least_and_check(passes, kept);
             saved[11] = least;
             saved[28] = check;
+            // Where no call was stopped, the next one would be.
+            assert_eq!(rt; store.load(0).is_err(), passes == CALLS);
+            let store = store.into_inner();
             assert!(rt; store.content() == Some(saved.as_slice()));
         }
     }

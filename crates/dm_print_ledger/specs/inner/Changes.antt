@@ -1,6 +1,7 @@
--- The lists of ranges that a range taken out, or put in, leaves.
-use Rattle.std.specs.Prelude.{◌+◌, ◌-◌, Bool, ◌&&◌, List, [], ◌∷◌, ◌++◌, nat_le, nat_lt, if◌then◌else◌, min, max}
+-- The lists of ranges that a range taken out, or put in, leaves; and the list of givers after a ticket is taken.
+use Rattle.std.specs.Prelude.{◌+◌, ◌-◌, Bool, ◌&&◌, List, [], ◌∷◌, ◌++◌, nat_le, nat_lt, ◌==◌, if◌then◌else◌, min, max}
 use Rattle.dm_print_ledger.specs.declared.range.Range.{Range}
+use Rattle.dm_print_ledger.specs.declared.giver.Giver.{Giver}
 
 -- one range has all numbers of the other
 abbrev pub covers : Range → Range → Bool
@@ -35,3 +36,11 @@ union_of (one ∷ ranges) range =
     if nat_lt (one.last + 1) range.first then one ∷ union_of ranges range else
     if nat_lt (range.last + 1) one.first then range ∷ one ∷ ranges else
     union_of ranges (hull one range)
+
+-- the list of givers that a ticket taken leaves
+abbrev pub givers_with : List Giver → Giver → List Giver
+givers_with [] last = last ∷ []
+givers_with (giver ∷ givers) last =
+    if nat_lt giver.number last.number then giver ∷ givers_with givers last else
+    if giver.number == last.number then last ∷ givers else
+    last ∷ giver ∷ givers

@@ -2,6 +2,7 @@
 use Rattle.std.specs.Prelude.{◌≡◌, ◌≤◌, ◌+◌, ◌*◌, ℕ, List, [], ◌∷◌, length, slice_index, zero, suc}
 use Rattle.dm_print_ledger.specs.declared.range.Range.{Range}
 use Rattle.dm_print_ledger.specs.declared.giver.Giver.{Giver}
+use Rattle.dm_print_ledger.specs.declared.limits.TheConstants.{MOST_RANGES, MOST_GIVERS}
 use Rattle.dm_print_ledger.specs.Numbers.{number_in}
 use Rattle.dm_print_ledger.specs.Views.{LedgerView}
 
@@ -25,8 +26,8 @@ giver_count bytes = slice_index bytes (10 + 4 * range_count bytes)
 
 -- there are as many bytes as the counts ask for
 pub record HasSize (bytes : List ℕ) : Type 0 where
-  pub ranges : range_count bytes ≤ 64
-  pub givers : giver_count bytes ≤ 64
+  pub ranges : range_count bytes ≤ MOST_RANGES
+  pub givers : giver_count bytes ≤ MOST_GIVERS
   pub size : length bytes ≡ 13 + 4 * range_count bytes + 4 * giver_count bytes
 
 -- the ledger whose numbers stand in the bytes

@@ -4,8 +4,7 @@ use Rattle.dm_print_ledger.specs.declared.giver.Giver.{Giver}
 use Rattle.dm_print_ledger.specs.Ranges.{IsRange}
 use Rattle.dm_print_ledger.specs.Views.{LedgerView, TicketView}
 use Rattle.dm_print_ledger.specs.inner.Reading.{make_giver}
-use Rattle.dm_print_ledger.specs.inner.Changes.{union_of}
-use Rattle.dm_print_ledger.specs.Givers.{givers_with}
+use Rattle.dm_print_ledger.specs.inner.Changes.{union_of, givers_with}
 use Rattle.dm_print_ledger.proofs.LedgerLaws.{takes_in, joins_too_many, joins_few}
 use Rattle.dm_print_ledger.proofs.GiverLaws.{one_too_many, not_one_too_many}
 use Rattle.dm_print_ledger.proofs.ledger.with_taken.Goals as goal
