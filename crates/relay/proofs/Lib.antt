@@ -1,4 +1,6 @@
+pub mod Asked
 pub mod PrintedLabels
+pub mod ScanLaws
 pub mod Telling
 pub mod ReadLines
 pub mod GridLines

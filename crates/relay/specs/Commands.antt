@@ -1,15 +1,18 @@
--- What a command does, from the store of the file that it names, the input and both outputs to the exit status, the store,
--- the input and both outputs. A command that names no file leaves the store as it was.
+-- What a command does, from the store and the set of the file that it names, the input and both outputs to the exit
+-- status, the store, the set, the input and both outputs. What a command does not need it leaves as it was.
 use Rattle.std.specs.Prelude.{◌≡◌, ℕ, List, []}
 use Rattle.dm_store.specs.Saved.{Saved}
+use Rattle.dm_store.specs.Sets.{SavedSet}
 use Rattle.relay_line.specs.declared.command.Command.{Command}
-use Rattle.relay_line.specs.declared.command.Command.TheVariants.{Words, Draw, Read, Ledger, Print, Give, Take}
+use Rattle.relay_line.specs.declared.command.Command.TheVariants.{Words, Draw, Read, Ledger, Print, Give, Take, Scan, Deliver, Forget, Export, Import}
 use Rattle.relay_streams.specs.Streams.{InputView, OutputView}
 use Rattle.relay.specs.Words.{EndsWords}
+use Rattle.relay.specs.Desks.{DeskFiles, EndsDeliver, EndsExport, EndsForget, EndsImport}
 use Rattle.relay.specs.Draw.{EndsDraw}
 use Rattle.relay.specs.Read.{EndsRead}
 use Rattle.relay.specs.Print.{EndsPrint}
 use Rattle.relay.specs.Printers.{EndsLedger, EndsGive, EndsTake}
+use Rattle.relay.specs.Scan.{EndsScan}
 
 -- the path of the file that a command names, if it names one
 abbrev pub file_of_command : Command → List ℕ
@@ -20,32 +23,63 @@ file_of_command (Ledger file number first last) = file.now
 file_of_command (Print file number side scheme) = file.now
 file_of_command (Give file number to first last) = file.now
 file_of_command (Take file number ticket) = file.now
+file_of_command (Scan file capacity) = file.now
+file_of_command (Deliver file id) = file.now
+file_of_command (Forget file id) = file.now
+file_of_command (Export file id) = file.now
+file_of_command (Import file capacity) = file.now
 
--- a store, and the streams of the program
+-- the store at the path that a command names and the set beside it, and the streams of the program
 pub record Surroundings : Type 0 where
   pub saved : Saved
+  pub set : SavedSet
   pub input : InputView
   pub output : OutputView
   pub errors : OutputView
 
-abbrev pub Does : Command → Surroundings → ℕ → Surroundings → Type 0
-Does (Words side scheme) old status new =
+-- no file was changed
+abbrev pub LeavesFiles : Surroundings → Surroundings → Type 0
+LeavesFiles old new = (new.saved ≡ old.saved) × (new.set ≡ old.set)
+
+-- the files of a desk
+abbrev pub desk_files : Surroundings → DeskFiles
+desk_files at = record { joint = at.saved; set = at.set }
+
+-- by the command; `A` is what a desk allocates in
+abbrev pub Does : Type 0 → Command → Surroundings → ℕ → Surroundings → Type 0
+Does A (Words side scheme) old status new =
     EndsWords side scheme old.input new.input old.output status new.output
-    × (new.saved ≡ old.saved) × (new.errors ≡ old.errors)
-Does (Draw side scheme plain) old status new =
+    × LeavesFiles old new × (new.errors ≡ old.errors)
+Does A (Draw side scheme plain) old status new =
     EndsDraw side scheme plain old.input new.input old.output old.errors status new.output new.errors
-    × (new.saved ≡ old.saved)
-Does Read old status new =
+    × LeavesFiles old new
+Does A Read old status new =
     EndsRead old.input new.input old.output status new.output
-    × (new.saved ≡ old.saved) × (new.errors ≡ old.errors)
-Does (Ledger file number first last) old status new =
+    × LeavesFiles old new × (new.errors ≡ old.errors)
+Does A (Ledger file number first last) old status new =
     EndsLedger old.saved number (record { first = first; last = last }) old.output status new.saved new.output
-    × (new.input ≡ old.input) × (new.errors ≡ old.errors)
-Does (Print file number side scheme) old status new =
+    × (new.set ≡ old.set) × (new.input ≡ old.input) × (new.errors ≡ old.errors)
+Does A (Print file number side scheme) old status new =
     EndsPrint old.saved number side scheme old.input new.input old.output old.errors status new.saved new.output new.errors
-Does (Give file number to first last) old status new =
+    × (new.set ≡ old.set)
+Does A (Give file number to first last) old status new =
     EndsGive old.saved number to (record { first = first; last = last }) old.output status new.saved new.output
-    × (new.input ≡ old.input) × (new.errors ≡ old.errors)
-Does (Take file number ticket) old status new =
+    × (new.set ≡ old.set) × (new.input ≡ old.input) × (new.errors ≡ old.errors)
+Does A (Take file number ticket) old status new =
     EndsTake old.saved number ticket.now old.output status new.saved new.output
+    × (new.set ≡ old.set) × (new.input ≡ old.input) × (new.errors ≡ old.errors)
+Does A (Scan file capacity) old status new =
+    EndsScan A (desk_files old) capacity old.input new.input old.output status (desk_files new) new.output
+    × (new.errors ≡ old.errors)
+Does A (Deliver file id) old status new =
+    EndsDeliver (desk_files old) id.now old.output old.errors status (desk_files new) new.output new.errors
+    × (new.input ≡ old.input)
+Does A (Forget file id) old status new =
+    EndsForget (desk_files old) id.now old.output status (desk_files new) new.output
     × (new.input ≡ old.input) × (new.errors ≡ old.errors)
+Does A (Export file id) old status new =
+    EndsExport (desk_files old) id.now old.output old.errors status (desk_files new) new.output new.errors
+    × (new.input ≡ old.input)
+Does A (Import file capacity) old status new =
+    EndsImport (desk_files old) capacity old.input new.input old.output status (desk_files new) new.output
+    × (new.errors ≡ old.errors)

@@ -1,4 +1,6 @@
 pub mod Commands
+pub mod DeskLines
+pub mod Desks
 pub mod Documents
 pub mod Draw
 pub mod Print
@@ -7,6 +9,7 @@ pub mod Printers
 pub mod Read
 pub mod ReadLines
 pub mod Refusals
+pub mod Scan
 pub mod Telling
 pub mod Words
 pub mod inner

@@ -1,4 +1,5 @@
 -- Private: only contracts inside this crate cite what stands in this folder.
 pub mod Images
+pub mod ScanSteps
 pub mod Steps
 pub mod SymbolLines

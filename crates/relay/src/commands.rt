@@ -3,16 +3,21 @@
 ghost use Rattle.std.specs.Prelude.{◌≡◌};
 ghost use Rattle.relay.specs.Commands.{Does, file_of_command};
 
+use crate::deliver::deliver_command;
 use crate::draw::draw_command;
-use crate::ended::Ended;
+use crate::ended::{Ended, EndedDesk};
+use crate::export::export_command;
+use crate::forget::forget_command;
 use crate::give::give_command;
+use crate::import::import_command;
 use crate::ledger::ledger_command;
 use crate::print::{PrintOptions, print_command};
 use crate::read::read_command;
+use crate::scan::scan_command;
 use crate::take::take_command;
 use crate::words::words_command;
 use dm_print_ledger::Range;
-use dm_store::Store;
+use dm_store::{Store, StoreSet};
 use relay_line::Command;
 use relay_streams::{Input, Output};
 use std::alloc::Allocator;
@@ -27,29 +32,51 @@ pub fn file_of<'a>(command: Command<'a>) -> &'a str
         Command::Ledger { file, .. }
         | Command::Print { file, .. }
         | Command::Give { file, .. }
-        | Command::Take { file, .. } => file,
+        | Command::Take { file, .. }
+        | Command::Scan { file, .. }
+        | Command::Deliver { file, .. }
+        | Command::Forget { file, .. }
+        | Command::Export { file, .. }
+        | Command::Import { file, .. } => file,
     }
 }
 
-/// Does a command over the store of the file that it names, an input, and outputs for what it writes and for what the
-/// standard error is for.
-pub fn do_command<A: Allocator + Copy, S: Store, R: Read, W: Write, E: Write>(
+// How a command over a store ends, with the set beside it.
+fn with_set<S: Store, T: StoreSet>(ended: Ended<S>, set: T) -> EndedDesk<S, T>
+    ensures status { result.status ≡ ended.status }
+    ensures store { S.state result.store ≡ S.state ended.store }
+    ensures set { T.state result.set ≡ T.state set }
+{
+    let Ended { status, store } = ended;
+    EndedDesk { status, store, set }
+}
+
+/// Does a command over the store at the path that it names and the set beside it, an input, and outputs for what it
+/// writes and for what the standard error is for.
+pub fn do_command<A: Allocator + Copy, S: Store, T: StoreSet, R: Read, W: Write, E: Write>(
     alloc: A,
     store: S,
+    set: T,
     input: &mut Input<R>,
     output: &mut Output<W>,
     errors: &mut Output<E>,
     command: Command,
-) -> Ended<S>
-    ensures { Does command.entry
-        (record { saved = S.state store; input = input.old; output = output.old; errors = errors.old })
+) -> EndedDesk<S, T>
+    ensures { Does A command.entry
+        (record { saved = S.state store; set = T.state set; input = input.old; output = output.old; errors = errors.old })
         result.status
-        (record { saved = S.state result.store; input = input.new; output = output.new; errors = errors.new }) }
+        (record {
+          saved = S.state result.store;
+          set = T.state result.set;
+          input = input.new;
+          output = output.new;
+          errors = errors.new;
+        }) }
 {
     match command {
         Command::Words { side, scheme } => {
             let status = words_command(alloc, input, output, side, scheme);
-            Ended { status, store }
+            EndedDesk { status, store, set }
         }
         Command::Draw {
             side,
@@ -57,18 +84,21 @@ pub fn do_command<A: Allocator + Copy, S: Store, R: Read, W: Write, E: Write>(
             plain,
         } => {
             let status = draw_command(alloc, input, output, errors, side, scheme, plain);
-            Ended { status, store }
+            EndedDesk { status, store, set }
         }
         Command::Read => {
             let status = read_command(alloc, input, output);
-            Ended { status, store }
+            EndedDesk { status, store, set }
         }
         Command::Ledger {
             file: _,
             number,
             first,
             last,
-        } => ledger_command(alloc, store, output, number, Range { first, last }),
+        } => {
+            let range = Range { first, last };
+            with_set(ledger_command(alloc, store, output, number, range), set)
+        }
         Command::Print {
             file: _,
             number,
@@ -80,7 +110,10 @@ pub fn do_command<A: Allocator + Copy, S: Store, R: Read, W: Write, E: Write>(
                 side,
                 scheme,
             };
-            print_command(alloc, store, input, output, errors, options)
+            with_set(
+                print_command(alloc, store, input, output, errors, options),
+                set,
+            )
         }
         Command::Give {
             file: _,
@@ -88,11 +121,25 @@ pub fn do_command<A: Allocator + Copy, S: Store, R: Read, W: Write, E: Write>(
             to,
             first,
             last,
-        } => give_command(alloc, store, output, number, to, Range { first, last }),
+        } => {
+            let range = Range { first, last };
+            with_set(give_command(alloc, store, output, number, to, range), set)
+        }
         Command::Take {
             file: _,
             number,
             ticket,
-        } => take_command(alloc, store, output, number, ticket),
+        } => with_set(take_command(alloc, store, output, number, ticket), set),
+        Command::Scan { file: _, capacity } => {
+            scan_command(alloc, store, set, input, output, capacity)
+        }
+        Command::Deliver { file: _, id } => {
+            deliver_command(alloc, store, set, output, errors, id)
+        }
+        Command::Forget { file: _, id } => forget_command(alloc, store, set, output, id),
+        Command::Export { file: _, id } => export_command(alloc, store, set, output, errors, id),
+        Command::Import { file: _, capacity } => {
+            import_command(alloc, store, set, input, output, capacity)
+        }
     }
 }

@@ -3,7 +3,7 @@
 ghost use Rattle.std.specs.Prelude.{◌≡◌, MatchResult};
 ghost use Rattle.relay.specs.Telling.{TellsRefusal};
 
-use dm_store::Store;
+use dm_store::{Store, StoreSet};
 use relay_streams::{Output, WriteFault};
 use std::io::Write;
 
@@ -13,6 +13,17 @@ pub struct Ended<S: Store> {
     /// 0 where the command was done, and else 1.
     pub status: u8,
     pub store: S,
+}
+
+/// The exit status of a command, and the stores of a desk's files as the command leaves them.
+#[derive(Drop)]
+pub struct EndedDesk<S: Store, T: StoreSet> {
+    /// 0 where the command was done, and else 1.
+    pub status: u8,
+    /// The store of the joint file.
+    pub store: S,
+    /// The set of the files of documents.
+    pub set: T,
 }
 
 /// The exit status after the line of what was done: 1 where the output has refused it.

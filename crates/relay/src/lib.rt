@@ -8,11 +8,18 @@
 #![tactic(auto)]
 
 mod commands;
+mod deliver;
+mod desk_lines;
+mod desk_opening;
 mod document;
 mod document_symbol;
 mod draw;
 mod ended;
+mod export;
+mod file_id;
+mod forget;
 mod give;
+mod import;
 pub mod laws;
 mod ledger;
 mod opening;
@@ -23,20 +30,26 @@ mod read;
 mod read_grid;
 mod read_lines;
 mod refusal;
+mod scan;
 mod standard_error;
 mod take;
 mod words;
 
 pub use commands::{do_command, file_of};
+pub use deliver::deliver_command;
 pub use document::DOCUMENT_BYTES;
 pub use draw::draw_command;
-pub use ended::Ended;
+pub use ended::{Ended, EndedDesk};
+pub use export::export_command;
+pub use forget::forget_command;
 pub use give::give_command;
+pub use import::{IMPORT_BYTES, import_command};
 pub use ledger::ledger_command;
 pub use print::{PrintOptions, print_command};
 pub use program::run;
 pub use read::{MOST_IMAGES, read_command};
 pub use refusal::{ReadRefusal, SymbolRefusal};
 pub use relay_line::{Command, LineFault, command_line};
+pub use scan::scan_command;
 pub use take::take_command;
 pub use words::words_command;

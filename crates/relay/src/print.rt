@@ -161,7 +161,14 @@ pub fn print_command<A: Allocator + Copy, S: Store, R: Read, W: Write, E: Write>
         Ok(printer) => printer,
         Err(ended) => return ended,
     };
-    let status = print(alloc, &mut printer, output, errors, &document, (size, options.scheme));
+    let status = print(
+        alloc,
+        &mut printer,
+        output,
+        errors,
+        &document,
+        (size, options.scheme),
+    );
     let store = printer.close();
     Ended { status, store }
 }

@@ -65,8 +65,11 @@ pub(crate) fn put_taken<W: Write>(output: &mut Output<W>, left: u32) -> Result<(
     put_left(output, left)
 }
 
-// Writes the two words of an identification in hexadecimal.
-fn put_identification<W: Write>(output: &mut Output<W>, id: FileId) -> Result<(), WriteFault>
+/// Writes the two words of an identification in hexadecimal.
+pub(crate) fn put_identification<W: Write>(
+    output: &mut Output<W>,
+    id: FileId,
+) -> Result<(), WriteFault>
     ensures written { OnOk result
         (Appends output.old.contents output.new.contents (encode_lower (id_words id))) }
     ensures failed { OnErr result (output.new.has_failed ≡ true) }

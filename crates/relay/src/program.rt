@@ -3,9 +3,10 @@
 use crate::commands::{do_command, file_of};
 use crate::ended::refuse;
 use crate::standard_error::ErrorWriter;
-use dm_store::FileStore;
+use dm_store::{FileSet, FileStore};
 use relay_line::{Command, LineFault, command_line};
 use relay_streams::{Input as StreamInput, Output};
+use std::alloc::{AllocError, Global};
 use std::io::{BufReader, BufWriter, ErrorKind, Write};
 use std::rt::{Env, Files};
 use std::{env, io};
@@ -15,8 +16,15 @@ fn refuse_memory<R: Eprint>(rt: &R) -> u8 {
     refuse(&mut Output::new(ErrorWriter::new(rt)), "Memory")
 }
 
+// The folder of a desk's files, beside the path that the command names.
+fn folder_of(alloc: Global, path: &str) -> Result<String, AllocError> {
+    let mut folder = String::from_str(alloc, path)?;
+    folder.push_str(".pages")?;
+    Ok(folder)
+}
+
 // Does a command over the program's input, files and standard error, and an output.
-fn run_to<R: AllocGlobal + Input + Eprint + Files, W: Write>(
+fn run_to<R: AllocGlobal + Input + Eprint + Files + Clone, W: Write>(
     rt: &R,
     output: &mut Output<W>,
     command: Command,
@@ -27,9 +35,13 @@ fn run_to<R: AllocGlobal + Input + Eprint + Files, W: Write>(
     let Ok(path) = String::from_str(rt.alloc(), file_of(command)) else {
         return refuse_memory(rt);
     };
+    let Ok(folder) = folder_of(rt.alloc(), file_of(command)) else {
+        return refuse_memory(rt);
+    };
     let ended = do_command(
         rt.alloc(),
         FileStore::new(rt.alloc(), rt, path),
+        FileSet::new(rt.alloc(), rt, folder),
         &mut StreamInput::new(reader),
         output,
         &mut Output::new(ErrorWriter::new(rt)),
@@ -39,7 +51,10 @@ fn run_to<R: AllocGlobal + Input + Eprint + Files, W: Write>(
 }
 
 // Does a command whose output goes out in large pieces, the last of them here.
-fn run_buffered<R: AllocGlobal + Input + Print + Eprint + Files>(rt: &R, command: Command) -> u8 {
+fn run_buffered<R: AllocGlobal + Input + Print + Eprint + Files + Clone>(
+    rt: &R,
+    command: Command,
+) -> u8 {
     let Ok(writer) = BufWriter::new(rt.alloc(), io::writer(rt)) else {
         return refuse_memory(rt);
     };
@@ -51,10 +66,16 @@ fn run_buffered<R: AllocGlobal + Input + Print + Eprint + Files>(rt: &R, command
     status
 }
 
-// Does a command, and answers its exit status. Each line of `read` goes out before the next image is waited for.
-fn run_command<R: AllocGlobal + Input + Print + Eprint + Files>(rt: &R, command: Command) -> u8 {
+// Does a command, and answers its exit status. Each line of `read` and `scan` goes out before the next image is waited
+// for.
+fn run_command<R: AllocGlobal + Input + Print + Eprint + Files + Clone>(
+    rt: &R,
+    command: Command,
+) -> u8 {
     match command {
-        Command::Read => run_to(rt, &mut Output::new(io::writer(rt)), command),
+        Command::Read | Command::Scan { .. } => {
+            run_to(rt, &mut Output::new(io::writer(rt)), command)
+        }
         _ => run_buffered(rt, command),
     }
 }
@@ -90,7 +111,7 @@ fn show_word_fault<R: Eprint>(rt: &R, error: &io::Error) -> u8 {
 
 /// Does what the program's own words say over its own streams, and answers the exit status: that of the command, or 2
 /// where the line or the words were refused, or 0 where help was asked for.
-pub fn run<R: AllocGlobal + Input + Print + Eprint + Env + Files>(rt: &R) -> u8 {
+pub fn run<R: AllocGlobal + Input + Print + Eprint + Env + Files + Clone>(rt: &R) -> u8 {
     let words = match own_words(rt) {
         Ok(words) => words,
         Err(error) => return show_word_fault(rt, &error),

@@ -73,8 +73,8 @@ fn next_step<A: Allocator + Copy, R: Read, W: Write>(
     }
 }
 
-// Whether the input has ended, or something else comes.
-fn is_at_end<A: Allocator + Copy, R: Read>(alloc: A, input: &mut Input<R>) -> bool
+/// Whether the input has ended, or something else comes.
+pub(crate) fn is_at_end<A: Allocator + Copy, R: Read>(alloc: A, input: &mut Input<R>) -> bool
     ensures ended { result ≡ true → HasEnded input.old input.new }
     ensures another { result ≡ false → GoesOn input.old input.new }
 {
@@ -101,8 +101,8 @@ fn end_at_most<A: Allocator + Copy, R: Read, W: Write>(
     Ok(true)
 }
 
-// The exit status.
-fn status_of(refused: bool) -> u8
+/// The exit status.
+pub(crate) fn status_of(refused: bool) -> u8
     ensures { result ≡ (if refused then 1 else 0) }
 {
     u8::from(refused)

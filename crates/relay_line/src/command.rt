@@ -46,4 +46,29 @@ pub enum Command<'a> {
         number: u16,
         ticket: &'a str,
     },
+    /// Gathers scanned labels at a desk with room for `capacity` documents.
+    Scan {
+        file: &'a str,
+        capacity: u16,
+    },
+    /// Gives the document of an identification, whose two words are in hexadecimal, back.
+    Deliver {
+        file: &'a str,
+        id: &'a str,
+    },
+    /// Lets a document go.
+    Forget {
+        file: &'a str,
+        id: &'a str,
+    },
+    /// Gives the pages that are held of a document, for another desk.
+    Export {
+        file: &'a str,
+        id: &'a str,
+    },
+    /// Takes in the pages that another desk has given.
+    Import {
+        file: &'a str,
+        capacity: u16,
+    },
 }

@@ -84,3 +84,47 @@ refusal goes to standard output.
 
 Example:
   relay take --file south.ledger --number 2 --ticket 0001000000021388176f";
+
+pub const SCAN: &str = "\
+An image has one pixel per module, as for `read`. Its page is saved, and then a
+line says what it was:
+  IIII m/n new       page m of n, with the file identification IIII, is held now
+  IIII m/n again     it was held already
+  IIII m/n complete  it is held now, and so are all other pages
+  refused NAME       nothing was changed
+After `refused Save` nothing more is read; the page may be held. A desk keeps a
+document until it is forgotten. Pages that disagree with those that are held are
+refused, and never joined. An old file of pages at PATH is moved first.
+
+Example:
+  relay scan --file desk < labels.pbm";
+
+pub const DELIVER: &str = "\
+Writes the document, which stays at the desk, and nothing else. Where a page is
+missing nothing is written but `refused Incomplete`, on standard error.
+
+Example:
+  relay deliver --file desk --id 0101 > letter";
+
+pub const FORGET: &str = "\
+Prints `forgotten IIII`. A refusal goes to standard output.
+
+Example:
+  relay forget --file desk --id 0101";
+
+pub const EXPORT: &str = "\
+The pages stay at the desk. `relay import` takes them in at another. A refusal
+goes to standard error.
+
+Example:
+  relay export --file desk --id 0101 > 0101.pages";
+
+pub const IMPORT: &str = "\
+Prints `IIII n added MASK KIND`: the identification, how many pages the document
+has, which of them were added (bit m - 1 for page m, in hexadecimal), and
+whether the document is `complete` now, or `new` pages were added, or all were
+held already (`again`). All are saved at once. A refusal goes to standard
+output.
+
+Example:
+  relay import --file other-desk < 0101.pages";

@@ -49,13 +49,22 @@ fn plain<'a>(alloc: Global) -> Arg<'a> {
         .action(ArgAction::SetTrue)
 }
 
-// The file of a ledger.
-fn file<'a>(alloc: Global) -> Arg<'a> {
+fn path<'a>(alloc: Global, text: &'a str) -> Arg<'a> {
     Arg::new(alloc, "file")
         .long("file")
         .value_name("PATH")
-        .help("the file that holds the ledger")
+        .help(text)
         .required(true)
+}
+
+// The file of a ledger.
+fn file<'a>(alloc: Global) -> Arg<'a> {
+    path(alloc, "the file that holds the ledger")
+}
+
+// The files of a desk.
+fn desk<'a>(alloc: Global) -> Arg<'a> {
+    path(alloc, "the desk; its files stand in the folder PATH.pages")
 }
 
 // An option whose value is a number from 0 to 65,535.
@@ -158,9 +167,76 @@ fn take<'a>(alloc: Global) -> Result<Command<'a>, AllocError> {
         .arg(ticket(alloc))
 }
 
+fn capacity<'a>(alloc: Global) -> Arg<'a> {
+    number_option(alloc, "capacity", "room for that many documents, 1 to 1024").default_value("64")
+}
+
+fn id<'a>(alloc: Global) -> Arg<'a> {
+    Arg::new(alloc, "id")
+        .long("id")
+        .value_name("IIII")
+        .help("the identification: 4 hexadecimal digits")
+        .required(true)
+}
+
+fn scan<'a>(alloc: Global) -> Result<Command<'a>, AllocError> {
+    Command::new(alloc, "scan")
+        .about("Gathers the pages of scanned labels at a desk")
+        .override_usage("relay scan --file PATH [--capacity N] < IMAGES")
+        .after_help(help::SCAN)
+        .arg(desk(alloc))?
+        .arg(capacity(alloc))
+}
+
+fn deliver<'a>(alloc: Global) -> Result<Command<'a>, AllocError> {
+    Command::new(alloc, "deliver")
+        .about("Gives a document back whose pages are all held")
+        .override_usage("relay deliver --file PATH --id IIII > DOCUMENT")
+        .after_help(help::DELIVER)
+        .arg(desk(alloc))?
+        .arg(id(alloc))
+}
+
+fn forget<'a>(alloc: Global) -> Result<Command<'a>, AllocError> {
+    Command::new(alloc, "forget")
+        .about("Lets a document go")
+        .override_usage("relay forget --file PATH --id IIII")
+        .after_help(help::FORGET)
+        .arg(desk(alloc))?
+        .arg(id(alloc))
+}
+
+fn export<'a>(alloc: Global) -> Result<Command<'a>, AllocError> {
+    Command::new(alloc, "export")
+        .about("Writes the pages of a document for another desk")
+        .override_usage("relay export --file PATH --id IIII > PAGES")
+        .after_help(help::EXPORT)
+        .arg(desk(alloc))?
+        .arg(id(alloc))
+}
+
+fn import<'a>(alloc: Global) -> Result<Command<'a>, AllocError> {
+    Command::new(alloc, "import")
+        .about("Takes in the pages that another desk has exported")
+        .override_usage("relay import --file PATH [--capacity N] < PAGES")
+        .after_help(help::IMPORT)
+        .arg(desk(alloc))?
+        .arg(capacity(alloc))
+}
+
+// The commands of desks, added to those of symbols and printers.
+fn with_desks<'a>(alloc: Global, program: Command<'a>) -> Result<Command<'a>, AllocError> {
+    program
+        .subcommand(scan(alloc)?)?
+        .subcommand(deliver(alloc)?)?
+        .subcommand(forget(alloc)?)?
+        .subcommand(export(alloc)?)?
+        .subcommand(import(alloc)?)
+}
+
 /// The whole program.
 pub fn relay<'a>(alloc: Global) -> Result<Command<'a>, AllocError> {
-    Command::new(alloc, "relay")
+    let program = Command::new(alloc, "relay")
         .bin_name("relay")?
         .about("Relays documents printed as Data Matrix labels")
         .override_usage("relay [COMMAND] [OPTIONS]")
@@ -172,5 +248,6 @@ pub fn relay<'a>(alloc: Global) -> Result<Command<'a>, AllocError> {
         .subcommand(ledger(alloc)?)?
         .subcommand(print(alloc)?)?
         .subcommand(give(alloc)?)?
-        .subcommand(take(alloc)?)
+        .subcommand(take(alloc)?)?;
+    with_desks(alloc, program)
 }

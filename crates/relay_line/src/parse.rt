@@ -113,6 +113,37 @@ fn printer_command_of<'a>(name: &str, options: &ArgMatches<'a>) -> Option<Comman
     }
 }
 
+// The commands of desks.
+fn desk_command_of<'a>(name: &str, options: &ArgMatches<'a>) -> Option<Command<'a>>
+    ensures ranges { IfSome result HasNumbersInRange }
+    ensures named { IfSome result (λ command. name.now ≡ command_name command) }
+{
+    let file = options.get_str("file")?;
+    match name {
+        "scan" => Some(Command::Scan {
+            file,
+            capacity: options.get_one::<u16>("capacity")?,
+        }),
+        "deliver" => Some(Command::Deliver {
+            file,
+            id: options.get_str("id")?,
+        }),
+        "forget" => Some(Command::Forget {
+            file,
+            id: options.get_str("id")?,
+        }),
+        "export" => Some(Command::Export {
+            file,
+            id: options.get_str("id")?,
+        }),
+        "import" => Some(Command::Import {
+            file,
+            capacity: options.get_one::<u16>("capacity")?,
+        }),
+        _ => None,
+    }
+}
+
 // The command of a name, with its options.
 fn command_of<'a>(name: &str, options: &ArgMatches<'a>) -> Option<Command<'a>>
     ensures ranges { IfSome result HasNumbersInRange }
@@ -120,7 +151,8 @@ fn command_of<'a>(name: &str, options: &ArgMatches<'a>) -> Option<Command<'a>>
 {
     match name {
         "words" | "draw" | "read" => symbol_command_of(name, options),
-        _ => printer_command_of(name, options),
+        "ledger" | "print" | "give" | "take" => printer_command_of(name, options),
+        _ => desk_command_of(name, options),
     }
 }
 

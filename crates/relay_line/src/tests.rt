@@ -88,6 +88,38 @@ fn takes_a_line_of_a_ticket(rt: HostRuntime) -> Result<(), Fail> {
     Ok(())
 }
 
+// The commands of desks, with their defaults.
+#[test]
+fn takes_a_line_of_a_desk(rt: HostRuntime) -> Result<(), Fail> {
+    let (file, id) = ("f", "0101");
+    let lines = [
+        (
+            ["relay", "scan", "--file", "f"].as_slice(),
+            Command::Scan { file, capacity: 64 },
+        ),
+        (
+            ["relay", "import", "--file", "f", "--capacity", "0"].as_slice(),
+            Command::Import { file, capacity: 0 },
+        ),
+        (
+            ["relay", "deliver", "--file", "f", "--id", "0101"].as_slice(),
+            Command::Deliver { file, id },
+        ),
+        (
+            ["relay", "forget", "--file", "f", "--id", "0101"].as_slice(),
+            Command::Forget { file, id },
+        ),
+        (
+            ["relay", "export", "--file", "f", "--id=0101"].as_slice(),
+            Command::Export { file, id },
+        ),
+    ];
+    for (line, wanted) in lines {
+        assert_eq!(rt; command_line(rt.alloc(), line)?, wanted);
+    }
+    Ok(())
+}
+
 // The text of a refused line, and its status.
 fn refused(line: &[&str], alloc: Global) -> Option<(String, u8)> {
     match command_line(alloc, line) {
@@ -165,7 +197,10 @@ fn helps(rt: HostRuntime) -> Result<(), Fail> {
     for line in text.as_str().lines() {
         assert!(rt; line.chars().count() <= 80, "{line}");
     }
-    for command in ["words", "draw", "read", "ledger", "print", "give", "take"] {
+    for command in [
+        "words", "draw", "read", "ledger", "print", "give", "take", "scan", "deliver", "forget",
+        "export", "import",
+    ] {
         let line = ["relay", command, "--help"];
         let (text, status) = refused(&line, rt.alloc()).ok_or("no help")?;
         assert_eq!(rt; status, 0);

@@ -3,6 +3,8 @@
 #![tactic(auto)]
 
 #[cfg(test)]
+mod desks;
+#[cfg(test)]
 mod draw;
 mod failing;
 #[cfg(test)]

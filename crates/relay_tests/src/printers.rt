@@ -3,10 +3,10 @@
 use crate::failing::FailingWriter;
 use dm_encodation::Scheme;
 use dm_print_ledger::Range;
-use dm_store::{FuseStore, Kept, MemStore};
+use dm_store::{FuseStore, Kept, MemSet, MemStore};
 use refusing::Refusing;
 use relay::{
-    Command, Ended, PrintOptions, do_command, give_command, ledger_command, print_command,
+    Command, EndedDesk, PrintOptions, do_command, give_command, ledger_command, print_command,
     read_command, take_command,
 };
 use relay_streams::{Input, Output};
@@ -346,9 +346,10 @@ fn done<A: Allocator + Copy, W: Write, E: Write>(
     output: &mut Output<W>,
     errors: &mut Output<E>,
     command: Command,
-) -> Ended<MemStore<A>> {
+) -> EndedDesk<MemStore<A>, MemSet<A>> {
     let mut input = Input::new(b"1234".as_slice());
-    do_command(alloc, store, &mut input, output, errors, command)
+    let set = MemSet::new(alloc);
+    do_command(alloc, store, set, &mut input, output, errors, command)
 }
 
 // Each command of the table does what it is named for.

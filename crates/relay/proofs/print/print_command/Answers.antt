@@ -8,7 +8,7 @@ returns-in_default-clause-ends g c = no_side (λ s. c.in_default.ensures.none re
 pub returns-in-Err-clause-ends : goal.returns-in-Err-clause-ends
 returns-in-Err-clause-ends g c =
     not_read c.in-Err.fault (c.in-Some.size, c.in-Some.ensures.found) (λ e. c.in-Err.ensures.failed (ap Err e))
-        (rw c.name.ensures at c.refuse-status-in-Err.ensures)
+    (rw c.name.ensures at c.refuse-status-in-Err.ensures)
 
 pub returns-in-Err-open_printer-clause-ends : goal.returns-in-Err-open_printer-clause-ends
 returns-in-Err-open_printer-clause-ends g c =
@@ -17,5 +17,5 @@ returns-in-Err-open_printer-clause-ends g c =
 pub returns-clause-ends : goal.returns-clause-ends
 returns-clause-ends g c =
     rw c.close-store.ensures (opened c.in-Some.size c.in-Ok.document.items c.in-Ok-open_printer.printer c.print-status.new.printer
-        c.in-Some.ensures.found c.in-Ok.ensures.document c.in-Ok-open_printer.ensures.0
-        (rw (c.in-Ok-open_printer.ensures.1, c.deref.ensures.value) at c.print-status.ensures))
+    c.in-Some.ensures.found c.in-Ok.ensures.document c.in-Ok-open_printer.ensures.0
+    (rw (c.in-Ok-open_printer.ensures.1, c.deref.ensures.value) at c.print-status.ensures))

@@ -19,7 +19,7 @@ loop-grid-preserved g c =
       done ++ c.in-Some.grid ∷ [],
       c.loop-grid.invariant.1 ∙ ap (λ l. done ++ l) left ∙ sym (append_assoc done (c.in-Some.grid ∷ []) c.next_label.new.self.labels),
       rw (flat_map_more p4 [] done c.in-Some.grid) at
-      (Appends-trans _ _ _ _ _ c.loop-grid.invariant.2 c.in_ok-put_image.ensures.written),
+          (Appends-trans _ _ _ _ _ c.loop-grid.invariant.2 c.in_ok-put_image.ensures.written),
     )
 
 pub returns-clause-written : goal.returns-clause-written

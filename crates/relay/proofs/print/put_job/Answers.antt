@@ -13,6 +13,6 @@ returns-in-Ok-put_images g c = all (rw (c.id.ensures, c.count.ensures) at c.in-O
 pub returns-in-Err : goal.returns-in-Err
 returns-in-Err g c =
     some_are_lost c.args.job.labels (printed_line c.args.job.id c.args.job.count c.args.left) c.args.output.now
-        c.args.errors.now c.put_printed.new.output c.put_images.new.output c.refuse.new.output c.refuse.result c.in-Err.fault
-        (λ e. c.in-Err.ensures.memory (ap Err e)) (λ e. c.in-Err.ensures.write (ap Err e)) (rw (c.id.ensures, c.count.ensures) at c.in-Ok.ensures.written)
-        (rw c.name.ensures at c.refuse.ensures)
+    c.args.errors.now c.put_printed.new.output c.put_images.new.output c.refuse.new.output c.refuse.result c.in-Err.fault
+    (λ e. c.in-Err.ensures.memory (ap Err e)) (λ e. c.in-Err.ensures.write (ap Err e)) (rw (c.id.ensures, c.count.ensures) at c.in-Ok.ensures.written)
+    (rw c.name.ensures at c.refuse.ensures)

@@ -1,0 +1,9 @@
+use Rattle.std.specs.Prelude.{◌≡◌, ◌≤◌, length, drop}
+use Rattle.dm_assembly_desk.specs.Pages.{missing_mask}
+use Rattle.dm_assembly_desk.proofs.document.Document.missing.Given as goal
+
+abbrev pub invariant-loop-at : goal.invariant-loop-at
+invariant-loop-at g l = (l.bits ≡ missing_mask (drop l.at l.self-inside.pages.items)) × (l.at ≤ length l.self-inside.pages.items)
+
+abbrev pub decreases-loop-at : goal.decreases-loop-at
+decreases-loop-at g l = l.at

@@ -1,0 +1,183 @@
+use Rattle.std.proofs.Common.{◌≡◌, ◌∙◌, ◌+◌, ◌∷◌, [], List, ℕ, take, Some, Ok, Err, ap, sym, subst, refl}
+use Rattle.std.specs.Prelude.{IsTrue, option_map}
+use Rattle.std.specs.FinMap.{keys as map_keys}
+use Rattle.dm_store.specs.Saved.{Saved, Replaces}
+use Rattle.dm_store.specs.Sets.{SavedSet}
+use Rattle.dm_store.specs.declared.store.ReplaceFault.TheVariants as replaces
+use Rattle.dm_assembly_desk.specs.inner.MovingOn.{MovesEntries}
+use Rattle.dm_assembly_desk.specs.Moving.{HasMoveFault, KeepsFiles, Moves}
+use Rattle.dm_assembly_desk.proofs.MovingAll.{stays, abandoned, joined_done, joined_faulted, moves_done, moves_nothing, moves_none, faulty, all_of_them}
+use Rattle.dm_assembly_desk.proofs.moving.move_pages.Goals as goal
+
+pub returns-in-Ok-None-clause-kept : goal.returns-in-Ok-None-clause-kept
+returns-in-Ok-None-clause-kept g c =
+    let old : Saved = g.O.Store.state c.args.old.now in
+    let set : SavedSet = g.S.StoreSet.state c.args.set.now in
+    subst (λ (s : Saved). KeepsFiles old set s set) (sym c.load.ensures.same) (stays old set)
+
+pub returns-in-Err-Device-clause-kept : goal.returns-in-Err-Device-clause-kept
+returns-in-Err-Device-clause-kept g c =
+    let old : Saved = g.O.Store.state c.args.old.now in
+    let set : SavedSet = g.S.StoreSet.state c.args.set.now in
+    subst (λ (s : Saved). KeepsFiles old set s set) (sym c.load.ensures.same) (stays old set)
+
+pub returns-in-Err-Memory-clause-kept : goal.returns-in-Err-Memory-clause-kept
+returns-in-Err-Memory-clause-kept g c =
+    let old : Saved = g.O.Store.state c.args.old.now in
+    let set : SavedSet = g.S.StoreSet.state c.args.set.now in
+    subst (λ (s : Saved). KeepsFiles old set s set) (sym c.load.ensures.same) (stays old set)
+
+pub returns-in-Err-clause-kept : goal.returns-in-Err-clause-kept
+returns-in-Err-clause-kept g c =
+    let old : Saved = g.O.Store.state c.args.old.now in
+    let set : SavedSet = g.S.StoreSet.state c.args.set.now in
+    subst (λ (s : Saved). KeepsFiles old set s set) (sym c.load.ensures.same) (stays old set)
+
+pub returns-then-count-eq0-clause-kept : goal.returns-then-count-eq0-clause-kept
+returns-then-count-eq0-clause-kept g c =
+    let old : Saved = g.O.Store.state c.args.old.now in
+    let set : SavedSet = g.S.StoreSet.state c.args.set.now in
+    subst (λ (s : Saved). KeepsFiles old set s set) (sym c.load.ensures.same) (stays old set)
+
+pub returns-in-Ok-None-clause-ok : goal.returns-in-Ok-None-clause-ok
+returns-in-Ok-None-clause-ok g c =
+    let old : Saved = g.O.Store.state c.args.old.now in
+    let set : SavedSet = g.S.StoreSet.state c.args.set.now in
+    subst (λ (s : Saved). Moves old set 0 s set) (sym c.load.ensures.same) (moves_none old set (λ honest. rw c.in-Ok-None.field-0-is at (c.in-Ok-None.ensures.saved honest)))
+
+pub returns-in-Err-clause-fault : goal.returns-in-Err-clause-fault
+returns-in-Err-clause-fault g c =
+    let old : Saved = g.O.Store.state c.args.old.now in
+    let set : SavedSet = g.S.StoreSet.state c.args.set.now in
+    let loaded : List ℕ = c.deref.result.now in
+    let loads : IsTrue old.is_honest → Some loaded ≡ option_map (take (42636295 + 1)) old.content =
+    λ honest. ap (λ (bs : List ℕ). Some bs) c.deref.ensures.value ∙ (rw c.in-Ok-Some.field-0-is at (c.in-Ok-Some.ensures.saved honest)) in
+    subst (λ (s : Saved). HasMoveFault old set c.in-Err.fault s set) (sym c.load.ensures.same) (faulty old set loaded c.in-Err.fault loads c.in-Err.ensures.fault)
+
+pub returns-then-count-eq0-clause-ok : goal.returns-then-count-eq0-clause-ok
+returns-then-count-eq0-clause-ok g c =
+    let old : Saved = g.O.Store.state c.args.old.now in
+    let set : SavedSet = g.S.StoreSet.state c.args.set.now in
+    let loaded : List ℕ = c.deref.result.now in
+    let loads : IsTrue old.is_honest → Some loaded ≡ option_map (take (42636295 + 1)) old.content =
+    λ honest. ap (λ (bs : List ℕ). Some bs) c.deref.ensures.value ∙ (rw c.in-Ok-Some.field-0-is at (c.in-Ok-Some.ensures.saved honest)) in
+    subst (λ (s : Saved). Moves old set 0 s set) (sym c.load.ensures.same)
+    (moves_nothing old set loaded (map_keys set.content) c.in-Ok.found.0 c.in-Ok.found.1.now c.in-Ok.ensures.found loads (λ _. refl) c.if-count-eq0.true)
+
+pub returns-in-Err-Device-keys-clause-kept : goal.returns-in-Err-Device-keys-clause-kept
+returns-in-Err-Device-keys-clause-kept g c =
+    let old : Saved = g.O.Store.state c.args.old.now in
+    let set : SavedSet = g.S.StoreSet.state c.args.set.now in
+    subst (λ (s : Saved). KeepsFiles old set s (g.S.StoreSet.state c.keys.new.self)) (sym c.load.ensures.same)
+    (subst (λ (s : SavedSet). KeepsFiles old set old s) (sym c.keys.ensures.same) (stays old set))
+
+pub returns-in-Err-Memory-keys-clause-kept : goal.returns-in-Err-Memory-keys-clause-kept
+returns-in-Err-Memory-keys-clause-kept g c =
+    let old : Saved = g.O.Store.state c.args.old.now in
+    let set : SavedSet = g.S.StoreSet.state c.args.set.now in
+    subst (λ (s : Saved). KeepsFiles old set s (g.S.StoreSet.state c.keys.new.self)) (sym c.load.ensures.same)
+    (subst (λ (s : SavedSet). KeepsFiles old set old s) (sym c.keys.ensures.same) (stays old set))
+
+pub returns-in-Err-Device-move_entries-clause-kept : goal.returns-in-Err-Device-move_entries-clause-kept
+returns-in-Err-Device-move_entries-clause-kept g c =
+    let old : Saved = g.O.Store.state c.args.old.now in
+    let set : SavedSet = g.S.StoreSet.state c.args.set.now in
+    let loaded : List ℕ = c.deref.result.now in
+    let loads : IsTrue old.is_honest → Some loaded ≡ option_map (take (42636295 + 1)) old.content =
+    λ honest. ap (λ (bs : List ℕ). Some bs) c.deref.ensures.value ∙ (rw c.in-Ok-Some.field-0-is at (c.in-Ok-Some.ensures.saved honest)) in
+    let ks : List ℕ = c.deref-3.result.now in
+    let known : IsTrue set.is_honest → ks ≡ map_keys set.content = λ honest.
+    all_of_them set.content ks (λ i. rw (c.deref-3.ensures.value ∙ sym c.deref-2.ensures.value) (c.keys_fit.ensures i)) (c.deref-3.ensures.value ∙ c.in-Ok-keys.ensures.saved honest) in
+    let after : SavedSet = g.S.StoreSet.state c.move_entries.new.set in
+    let m : MovesEntries set ks c.in-Ok.found.0 c.in-Ok.found.1.now (Err replaces.Device) after =
+    subst (λ (s : SavedSet). MovesEntries s ks c.in-Ok.found.0 c.in-Ok.found.1.now (Err replaces.Device) after) c.keys.ensures.same (rw c.in-Err-Device-move_entries.field-0-is at c.in-Err-Device-move_entries.ensures) in
+    subst (λ (s : Saved). KeepsFiles old set s after) (sym c.load.ensures.same)
+    (abandoned old set loaded ks c.in-Ok.found.0 c.in-Ok.found.1.now c.in-Ok.ensures.found loads known after replaces.Device m)
+
+pub returns-in-Err-Memory-move_entries-clause-kept : goal.returns-in-Err-Memory-move_entries-clause-kept
+returns-in-Err-Memory-move_entries-clause-kept g c =
+    let old : Saved = g.O.Store.state c.args.old.now in
+    let set : SavedSet = g.S.StoreSet.state c.args.set.now in
+    let loaded : List ℕ = c.deref.result.now in
+    let loads : IsTrue old.is_honest → Some loaded ≡ option_map (take (42636295 + 1)) old.content =
+    λ honest. ap (λ (bs : List ℕ). Some bs) c.deref.ensures.value ∙ (rw c.in-Ok-Some.field-0-is at (c.in-Ok-Some.ensures.saved honest)) in
+    let ks : List ℕ = c.deref-3.result.now in
+    let known : IsTrue set.is_honest → ks ≡ map_keys set.content = λ honest.
+    all_of_them set.content ks (λ i. rw (c.deref-3.ensures.value ∙ sym c.deref-2.ensures.value) (c.keys_fit.ensures i)) (c.deref-3.ensures.value ∙ c.in-Ok-keys.ensures.saved honest) in
+    let after : SavedSet = g.S.StoreSet.state c.move_entries.new.set in
+    let m : MovesEntries set ks c.in-Ok.found.0 c.in-Ok.found.1.now (Err replaces.Memory) after =
+    subst (λ (s : SavedSet). MovesEntries s ks c.in-Ok.found.0 c.in-Ok.found.1.now (Err replaces.Memory) after) c.keys.ensures.same (rw c.in-Err-Memory-move_entries.field-0-is at c.in-Err-Memory-move_entries.ensures) in
+    subst (λ (s : Saved). KeepsFiles old set s after) (sym c.load.ensures.same)
+    (abandoned old set loaded ks c.in-Ok.found.0 c.in-Ok.found.1.now c.in-Ok.ensures.found loads known after replaces.Memory m)
+
+pub returns-in-Ok-replace-clause-ok : goal.returns-in-Ok-replace-clause-ok
+returns-in-Ok-replace-clause-ok g c =
+    let old : Saved = g.O.Store.state c.args.old.now in
+    let set : SavedSet = g.S.StoreSet.state c.args.set.now in
+    let loaded : List ℕ = c.deref.result.now in
+    let loads : IsTrue old.is_honest → Some loaded ≡ option_map (take (42636295 + 1)) old.content =
+    λ honest. ap (λ (bs : List ℕ). Some bs) c.deref.ensures.value ∙ (rw c.in-Ok-Some.field-0-is at (c.in-Ok-Some.ensures.saved honest)) in
+    let ks : List ℕ = c.deref-3.result.now in
+    let known : IsTrue set.is_honest → ks ≡ map_keys set.content = λ honest.
+    all_of_them set.content ks (λ i. rw (c.deref-3.ensures.value ∙ sym c.deref-2.ensures.value) (c.keys_fit.ensures i)) (c.deref-3.ensures.value ∙ c.in-Ok-keys.ensures.saved honest) in
+    let after : SavedSet = g.S.StoreSet.state c.move_entries.new.set in
+    let m : MovesEntries set ks c.in-Ok.found.0 c.in-Ok.found.1.now (Ok c.in-Ok-move_entries.written) after =
+    subst (λ (s : SavedSet). MovesEntries s ks c.in-Ok.found.0 c.in-Ok.found.1.now (Ok c.in-Ok-move_entries.written) after) c.keys.ensures.same c.in-Ok-move_entries.ensures in
+    let emptied : Saved = g.O.Store.state c.replace.new.self in
+    let p : Replaces old (68 ∷ 77 ∷ 80 ∷ 71 ∷ 1 ∷ 0 ∷ 0 ∷ []) (Ok tt) emptied =
+    subst (λ (s : Saved). Replaces s (68 ∷ 77 ∷ 80 ∷ 71 ∷ 1 ∷ 0 ∷ 0 ∷ []) (Ok tt) emptied) c.load.ensures.same (c.in-Ok-replace.ensures) in
+    moves_done old set loaded ks c.in-Ok.found.0 c.in-Ok.found.1.now c.in-Ok.ensures.found loads known after c.in-Ok-move_entries.written m emptied c.if-count-eq0.false p
+
+pub returns-in-Ok-replace-clause-kept : goal.returns-in-Ok-replace-clause-kept
+returns-in-Ok-replace-clause-kept g c =
+    let old : Saved = g.O.Store.state c.args.old.now in
+    let set : SavedSet = g.S.StoreSet.state c.args.set.now in
+    let loaded : List ℕ = c.deref.result.now in
+    let loads : IsTrue old.is_honest → Some loaded ≡ option_map (take (42636295 + 1)) old.content =
+    λ honest. ap (λ (bs : List ℕ). Some bs) c.deref.ensures.value ∙ (rw c.in-Ok-Some.field-0-is at (c.in-Ok-Some.ensures.saved honest)) in
+    let ks : List ℕ = c.deref-3.result.now in
+    let known : IsTrue set.is_honest → ks ≡ map_keys set.content = λ honest.
+    all_of_them set.content ks (λ i. rw (c.deref-3.ensures.value ∙ sym c.deref-2.ensures.value) (c.keys_fit.ensures i)) (c.deref-3.ensures.value ∙ c.in-Ok-keys.ensures.saved honest) in
+    let after : SavedSet = g.S.StoreSet.state c.move_entries.new.set in
+    let m : MovesEntries set ks c.in-Ok.found.0 c.in-Ok.found.1.now (Ok c.in-Ok-move_entries.written) after =
+    subst (λ (s : SavedSet). MovesEntries s ks c.in-Ok.found.0 c.in-Ok.found.1.now (Ok c.in-Ok-move_entries.written) after) c.keys.ensures.same c.in-Ok-move_entries.ensures in
+    let emptied : Saved = g.O.Store.state c.replace.new.self in
+    let p : Replaces old (68 ∷ 77 ∷ 80 ∷ 71 ∷ 1 ∷ 0 ∷ 0 ∷ []) (Ok tt) emptied =
+    subst (λ (s : Saved). Replaces s (68 ∷ 77 ∷ 80 ∷ 71 ∷ 1 ∷ 0 ∷ 0 ∷ []) (Ok tt) emptied) c.load.ensures.same (c.in-Ok-replace.ensures) in
+    joined_done old set loaded ks c.in-Ok.found.0 c.in-Ok.found.1.now c.in-Ok.ensures.found loads known after c.in-Ok-move_entries.written m emptied p
+
+pub returns-in-Err-Device-replace-clause-kept : goal.returns-in-Err-Device-replace-clause-kept
+returns-in-Err-Device-replace-clause-kept g c =
+    let old : Saved = g.O.Store.state c.args.old.now in
+    let set : SavedSet = g.S.StoreSet.state c.args.set.now in
+    let loaded : List ℕ = c.deref.result.now in
+    let loads : IsTrue old.is_honest → Some loaded ≡ option_map (take (42636295 + 1)) old.content =
+    λ honest. ap (λ (bs : List ℕ). Some bs) c.deref.ensures.value ∙ (rw c.in-Ok-Some.field-0-is at (c.in-Ok-Some.ensures.saved honest)) in
+    let ks : List ℕ = c.deref-3.result.now in
+    let known : IsTrue set.is_honest → ks ≡ map_keys set.content = λ honest.
+    all_of_them set.content ks (λ i. rw (c.deref-3.ensures.value ∙ sym c.deref-2.ensures.value) (c.keys_fit.ensures i)) (c.deref-3.ensures.value ∙ c.in-Ok-keys.ensures.saved honest) in
+    let after : SavedSet = g.S.StoreSet.state c.move_entries.new.set in
+    let m : MovesEntries set ks c.in-Ok.found.0 c.in-Ok.found.1.now (Ok c.in-Ok-move_entries.written) after =
+    subst (λ (s : SavedSet). MovesEntries s ks c.in-Ok.found.0 c.in-Ok.found.1.now (Ok c.in-Ok-move_entries.written) after) c.keys.ensures.same c.in-Ok-move_entries.ensures in
+    let emptied : Saved = g.O.Store.state c.replace.new.self in
+    let p : Replaces old (68 ∷ 77 ∷ 80 ∷ 71 ∷ 1 ∷ 0 ∷ 0 ∷ []) (Err replaces.Device) emptied =
+    subst (λ (s : Saved). Replaces s (68 ∷ 77 ∷ 80 ∷ 71 ∷ 1 ∷ 0 ∷ 0 ∷ []) (Err replaces.Device) emptied) c.load.ensures.same (rw c.in-Err-Device-replace.field-0-is at c.in-Err-Device-replace.ensures) in
+    joined_faulted old set loaded ks c.in-Ok.found.0 c.in-Ok.found.1.now c.in-Ok.ensures.found loads known after c.in-Ok-move_entries.written m emptied replaces.Device p
+
+pub returns-clause-kept : goal.returns-clause-kept
+returns-clause-kept g c =
+    let old : Saved = g.O.Store.state c.args.old.now in
+    let set : SavedSet = g.S.StoreSet.state c.args.set.now in
+    let loaded : List ℕ = c.deref.result.now in
+    let loads : IsTrue old.is_honest → Some loaded ≡ option_map (take (42636295 + 1)) old.content =
+    λ honest. ap (λ (bs : List ℕ). Some bs) c.deref.ensures.value ∙ (rw c.in-Ok-Some.field-0-is at (c.in-Ok-Some.ensures.saved honest)) in
+    let ks : List ℕ = c.deref-3.result.now in
+    let known : IsTrue set.is_honest → ks ≡ map_keys set.content = λ honest.
+    all_of_them set.content ks (λ i. rw (c.deref-3.ensures.value ∙ sym c.deref-2.ensures.value) (c.keys_fit.ensures i)) (c.deref-3.ensures.value ∙ c.in-Ok-keys.ensures.saved honest) in
+    let after : SavedSet = g.S.StoreSet.state c.move_entries.new.set in
+    let m : MovesEntries set ks c.in-Ok.found.0 c.in-Ok.found.1.now (Ok c.in-Ok-move_entries.written) after =
+    subst (λ (s : SavedSet). MovesEntries s ks c.in-Ok.found.0 c.in-Ok.found.1.now (Ok c.in-Ok-move_entries.written) after) c.keys.ensures.same c.in-Ok-move_entries.ensures in
+    let emptied : Saved = g.O.Store.state c.replace.new.self in
+    let p : Replaces old (68 ∷ 77 ∷ 80 ∷ 71 ∷ 1 ∷ 0 ∷ 0 ∷ []) (Err replaces.Memory) emptied =
+    subst (λ (s : Saved). Replaces s (68 ∷ 77 ∷ 80 ∷ 71 ∷ 1 ∷ 0 ∷ 0 ∷ []) (Err replaces.Memory) emptied) c.load.ensures.same (rw c.in-Err-Memory-replace.field-0-is at c.in-Err-Memory-replace.ensures) in
+    joined_faulted old set loaded ks c.in-Ok.found.0 c.in-Ok.found.1.now c.in-Ok.ensures.found loads known after c.in-Ok-move_entries.written m emptied replaces.Memory p

@@ -1,0 +1,58 @@
+-- Moving the documents of a joint file to a set with a file for each of them.
+use Rattle.std.specs.Prelude.{◌≡◌, ℕ, ◌+◌, ◌<◌, List, Option, Some, option_map, IsTrue, IsSomeAnd}
+use Rattle.std.specs.FinMap as map
+use Rattle.std.specs.Option.{option_or}
+use Rattle.dm_store.specs.Saved.{Saved, LoadsFine, SavesFine}
+use Rattle.dm_store.specs.Sets.{SavedSet, Contents}
+use Rattle.dm_assembly_desk.specs.Files.{file}
+use Rattle.dm_assembly_desk.specs.Documents.{Documents}
+use Rattle.dm_assembly_desk.specs.JointFiles.{joint_file, HoldsJointFile, HasJointFileFault}
+use Rattle.dm_assembly_desk.specs.declared.fault.MoveFault.{MoveFault}
+use Rattle.dm_assembly_desk.specs.declared.fault.MoveFault.TheVariants as moves
+
+-- the file of a document: that of the set, or else that of what the joint file has of it
+abbrev pub file_in_either : Contents → Documents → ℕ → Option (List ℕ)
+file_in_either content held id = option_or (map.get content id) (option_map (file id) (map.get held id))
+
+-- Whatever documents the old store holds: what it and the set hold together is on every outcome what it was.
+abbrev pub KeepsFiles : Saved → SavedSet → Saved → SavedSet → Type 0
+KeepsFiles old set old_after set_after = IsTrue old.is_honest → IsTrue set.is_honest →
+    (held : Documents) → HoldsJointFile old.content held → (kept : Documents) × HoldsJointFile old_after.content kept
+    × ((id : ℕ) → file_in_either set_after.content kept id ≡ file_in_either set.content held id)
+
+-- Each document that the two held has its file on the set, and that many keys were written. Where the old store held a
+-- document it holds a joint file of none now; where it held none, nothing was changed.
+pub record MovesAll (old_content : Option (List ℕ)) (start content : Contents) (old_after : Option (List ℕ))
+    (held : Documents) (written : ℕ) : Type 0 where
+  pub holds : HoldsJointFile old_content held
+  pub each : (id : ℕ) → map.get content id ≡ file_in_either start held id
+  pub count : map.len content ≡ map.len start + written
+  pub emptied : (0 < map.len held → old_after ≡ Some (joint_file map.empty))
+      × (map.len held ≡ 0 → (old_after ≡ old_content) × (content ≡ start))
+
+-- what a move that is done leaves
+abbrev pub Moves : Saved → SavedSet → ℕ → Saved → SavedSet → Type 0
+Moves old set written old_after set_after = IsTrue old.is_honest → IsTrue set.is_honest →
+    (held : Documents) × MovesAll old.content set.content set_after.content old_after.content held written
+
+-- nothing is to fail, at the old store and at the set
+pub record AllFine (old : Saved) (set : SavedSet) : Type 0 where
+  pub old_loads : old.load_plan ≡ LoadsFine
+  pub old_saves : old.save_plan ≡ SavesFine
+  pub set_loads : set.load_plan ≡ LoadsFine
+  pub set_saves : set.save_plan ≡ SavesFine
+
+-- the old store holds bytes with this fault, and nothing was changed
+pub record HoldsFaulty (old : Saved) (set : SavedSet) (fault : MoveFault)
+    (old_after : Saved) (set_after : SavedSet) : Type 0 where
+  pub faulty : IsTrue old.is_honest → IsSomeAnd old.content (λ bytes. HasJointFileFault bytes fault)
+  pub same_old : old_after ≡ old
+  pub same_set : set_after ≡ set
+
+-- why not all was moved
+abbrev pub HasMoveFault : Saved → SavedSet → MoveFault → Saved → SavedSet → Type 0
+HasMoveFault old set moves.NotPages old_after set_after = HoldsFaulty old set moves.NotPages old_after set_after
+HasMoveFault old set moves.Version old_after set_after = HoldsFaulty old set moves.Version old_after set_after
+HasMoveFault old set moves.Damaged old_after set_after = HoldsFaulty old set moves.Damaged old_after set_after
+HasMoveFault old set moves.Device old_after set_after = ¬ AllFine old set
+HasMoveFault old set moves.Memory old_after set_after = Unit {0}

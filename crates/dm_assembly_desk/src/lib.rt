@@ -1,0 +1,48 @@
+//! Desks, which gather the pages of documents from scanned labels, and save each document in a file of its own.
+//!
+//! [`Desk::open`] makes a desk over a set of stores, which holds what the set has the files of. [`Desk::accept`] opens
+//! a scanned label and saves its page, [`Desk::pages`] lends what is held of a document, [`Desk::document`] joins its
+//! pages where each of them is held, and [`Desk::forget`] lets it go. [`Desk::export`] gives the pages held of a
+//! document as a file, and [`Desk::import`] adds those of such a file. [`move_pages`] moves the documents of a file of
+//! version 1, in which all stand together, to a set.
+//!
+//! Proved: each answer is that to what is held, and each refusal the first that applies. A page is saved before it is
+//! answered, and one that is held keeps its bytes until its document is forgotten. A document is given only where each
+//! of its pages is held, and then it is these, joined in order. A call on one document leaves all others. All but a
+//! failed save leave the desk and its set as they were; after one that failed the set holds the old or the new file,
+//! and the desk answers `Failed` until it is opened again. A desk that is opened on what an honest set kept holds
+//! exactly that.
+#![tactic(auto)]
+
+mod accepting;
+mod desk;
+mod document;
+mod documents;
+mod exporting;
+mod fault;
+#[cfg(test)]
+mod fault_tests;
+mod file;
+mod forgetting;
+mod importing;
+mod joint_file;
+pub mod laws;
+mod limits;
+mod merging;
+mod moving;
+mod opening;
+mod page_bytes;
+mod pages;
+mod reading;
+mod reply;
+#[cfg(test)]
+mod tests;
+mod writing;
+
+pub use desk::Desk;
+pub use fault::{AskFault, DeskFault, ExportFault, ForgetFault, ImportFault, MoveFault, ScanFault};
+pub use limits::{MOST_CAPACITY, MOST_FILE_BYTES, MOST_JOINT_FILE_BYTES};
+pub use moving::move_pages;
+pub use opening::DeskRefused;
+pub use pages::Pages;
+pub use reply::{Accepted, Held, Imported, Kind};

@@ -1,0 +1,260 @@
+-- A legal and safe history is faithful: what its replies tell of documents is so, by its events and replies alone.
+use Rattle.std.proofs.Common.{◌≡◌, ◌<◌, ◌⊎◌, inl, inr, ℕ, nat_lt, if◌then◌else◌, Option, Some, None, List, [], ◌∷◌, ◌++◌, length, slice_get, refl, ap, sym, ◌∙◌, subst, arith}
+use Rattle.std.proofs.lemmas.List.{length-append}
+use Rattle.std.proofs.lemmas.Bool.Decides.{nat_tests}
+use Rattle.dm_print_ledger.specs.declared.range.Range.{Range}
+use Rattle.dm_event_history.specs.declared.event.Event.{Event}
+use Rattle.dm_event_history.specs.declared.event.Event.TheVariants.{Print, Ask}
+use Rattle.dm_event_history.specs.declared.reply.Reply.{Reply}
+use Rattle.dm_event_history.specs.declared.reply.Reply.TheVariants.{Printed, Document, Stopped}
+use Rattle.dm_event_history.specs.History.{Entry, History, CutDocument, printed_by, prints_as, docs, events_of, replies_of}
+use Rattle.dm_event_history.specs.Legal.{IsLegal, Fits, IsReply, LetsOut, IsUnused, NeverTwice}
+use Rattle.dm_event_history.specs.Safe.{IsSafe, IsReplySafe}
+use Rattle.dm_event_history.specs.Headline.{TellsOfPrint, PrintsUnder, IsFaithfulBy}
+use Rattle.dm_event_history.proofs.Deciding.{if_not, if_so, decided, true_false}
+use Rattle.dm_event_history.proofs.Gotten.{get_more, get_last, get_either, get_beyond}
+use Rattle.dm_event_history.proofs.Printed.{is_cut, prints_as_means}
+
+-- the identification under which labels of each entry left, if any did, the first of them first
+abbrev pub id_of : {A : Type 0} → Entry A → Option ℕ
+id_of e = if nat_lt 0 e.left then Some e.id else None
+
+abbrev pub ids_of : {A : Type 0} → History A → List (Option ℕ)
+ids_of [] = []
+ids_of (e ∷ h) = ids_of h ++ id_of e ∷ []
+
+-- ---- places of the three lists
+
+events_count : {A : Type 0} (h : History A) → length (events_of h) ≡ length h
+events_count [] = refl
+events_count (e ∷ h) = (let t = events_count h in let u = length-append (events_of h) (e.event ∷ []) in omega arith)
+
+replies_count : {A : Type 0} (h : History A) → length (replies_of h) ≡ length h
+replies_count [] = refl
+replies_count (e ∷ h) = (let t = replies_count h in let u = length-append (replies_of h) (e.reply ∷ []) in omega arith)
+
+ids_count : {A : Type 0} (h : History A) → length (ids_of h) ≡ length h
+ids_count [] = refl
+ids_count (e ∷ h) = (let t = ids_count h in let u = length-append (ids_of h) (id_of e ∷ []) in omega arith)
+
+-- what is last stands at that place
+at_last : {X : Type 0} (xs : List X) (x : X) (n : ℕ) → length xs ≡ n → slice_get (xs ++ x ∷ []) n ≡ Some x
+at_last xs x n is = subst (λ (i : ℕ). slice_get (xs ++ x ∷ []) i ≡ Some x) is (get_last xs x)
+
+-- what stands somewhere stood there before, or is the last
+before_or_last : {X : Type 0} (xs : List X) (x y : X) (n i : ℕ) → length xs ≡ n → slice_get (xs ++ x ∷ []) i ≡ Some y →
+    (slice_get xs i ≡ Some y) ⊎ ((i ≡ n) × (x ≡ y))
+before_or_last xs x y n i count is = elim (get_either xs x i) [
+  | inl same ↦ inl (sym same ∙ is)
+  | inr last ↦ inr (last.0 ∙ count, (let a : Some x ≡ Some y = sym last.1 ∙ is in cc))
+]
+
+prints_more : {A : Type 0} (events : List (Event A)) (replies : List (Reply A)) (event : Event A) (reply : Reply A) (i id : ℕ) (document : List ℕ) →
+    PrintsUnder events replies i id document → PrintsUnder (events ++ event ∷ []) (replies ++ reply ∷ []) i id document
+prints_more {A} events replies event reply i id document p = record {
+  stop = p.stop;
+  is_print = (p.is_print.0, p.is_print.1, p.is_print.2, get_more events (event ∷ []) i (Print p.is_print.0 document p.is_print.1 p.is_print.2 p.stop) p.is_print.3);
+  ends = elim p.ends [
+    | inl told ↦ inl (told.0, told.1, get_more replies (reply ∷ []) i (Printed id told.0 told.1) told.2)
+    | inr stopped ↦ inr (get_more replies (reply ∷ []) i Stopped stopped.0, stopped.1, stopped.2)
+  ];
+}
+
+-- ---- one entry
+
+-- a print of which labels left tells so, or was stopped as they left
+last_prints : {A : Type 0} (ranges : List Range) (desks : ℕ) (h : History A) (e : Entry A) (cut : CutDocument) → Fits ranges desks h e → 0 < e.left →
+    printed_by e.event e.parts ≡ Some cut → PrintsUnder (events_of h ++ e.event ∷ []) (replies_of h ++ e.reply ∷ []) (length h) e.id cut.bytes
+last_prints {A} ranges desks h e cut fits some is = by_entry e.event e.reply fits.reply fits.lets_out is
+  where
+    by_entry : (event : Event A) (reply : Reply A) → IsReply ranges h e.id e.left event reply → LetsOut event reply e.parts e.left →
+        printed_by event e.parts ≡ Some cut → PrintsUnder (events_of h ++ event ∷ []) (replies_of h ++ reply ∷ []) (length h) e.id cut.bytes
+    by_entry (Print p document size scheme stop) (Printed id first count) fine lets is =
+        let same : document ≡ cut.bytes = (let a : Some (record { bytes = document; size = size; scheme = scheme; parts = e.parts }) ≡ Some cut = is in cc) in
+        record {
+          stop = stop;
+          is_print = (
+            p,
+            size,
+            scheme,
+            at_last (events_of h) (Print p document size scheme stop) (length h) (events_count h) ∙
+                ap (λ (d : List ℕ). Some (Print p d size scheme stop)) same,
+          );
+          ends = inl (
+            first,
+            count,
+            at_last (replies_of h) (Printed id first count) (length h) (replies_count h) ∙
+                ap (λ (i : ℕ). Some (Printed i first count)) fine.name_is,
+          );
+        }
+    by_entry (Print p document size scheme stop) Stopped fine lets is =
+        let same : document ≡ cut.bytes = (let a : Some (record { bytes = document; size = size; scheme = scheme; parts = e.parts }) ≡ Some cut = is in cc) in
+        record {
+          stop = stop;
+          is_print = (
+            p,
+            size,
+            scheme,
+            at_last (events_of h) (Print p document size scheme stop) (length h) (events_count h) ∙
+                ap (λ (d : List ℕ). Some (Print p d size scheme stop)) same,
+          );
+          ends = elim lets [
+            | inl none ↦ absurd (omega arith)
+            | inr most ↦ inr (at_last (replies_of h) Stopped (length h) (replies_count h), most.0, most.1)
+          ];
+        }
+    by_entry (Print p document size scheme stop) reply fine lets is = absurd (omega arith)
+    by_entry event reply fine lets is = absurd (let x = is in cc (x))
+
+-- an entry that tells of a print let labels out under the identification that it tells
+told_is : {A : Type 0} (ranges : List Range) (h : History A) (e : Entry A) (id first count : ℕ) → IsReply ranges h e.id e.left e.event e.reply →
+    LetsOut e.event e.reply e.parts e.left → e.reply ≡ Printed id first count → (0 < e.left) × (id ≡ e.id)
+told_is {A} ranges h e id first count fine lets is =
+    by_event e.event (subst (λ (r : Reply A). IsReply ranges h e.id e.left e.event r) is fine) (subst (λ (r : Reply A). LetsOut e.event r e.parts e.left) is lets)
+  where
+    by_event : (event : Event A) → IsReply ranges h e.id e.left event (Printed id first count) → LetsOut event (Printed id first count) e.parts e.left →
+        (0 < e.left) × (id ≡ e.id)
+    by_event (Print p document size scheme stop) fine lets = (lets.1, fine.name_is)
+    by_event event fine lets = absurd fine
+
+-- labels left under the entry's identification
+id_some : {A : Type 0} (e : Entry A) → 0 < e.left → id_of e ≡ Some e.id
+id_some e some = if_so (nat_lt 0 e.left) (Some e.id) None (grind (arith, nat_tests, some))
+
+id_means : {A : Type 0} (e : Entry A) (id : ℕ) → id_of e ≡ Some id → (0 < e.left) × (e.id ≡ id)
+id_means {A} e id is = elim (decided (nat_lt 0 e.left)) [
+  | inl some ↦ (grind (arith, nat_tests, some), (let a : Some e.id ≡ Some id = sym (if_so (nat_lt 0 e.left) (Some e.id) None some) ∙ is in cc))
+  | inr none ↦ absurd (let a : None ≡ Some id = sym (if_not (nat_lt 0 e.left) (Some e.id) None (λ so. true_false (nat_lt 0 e.left) so none)) ∙ is in cc)
+]
+
+-- ---- histories
+
+-- under an identification that is unused no label left
+unused_is_none : {A : Type 0} (h : History A) (i id : ℕ) → IsUnused id h → slice_get (ids_of h) i ≡ Some (Some id) → ⊥
+unused_is_none [] i id unused is = cc
+unused_is_none (e ∷ h) i id unused is = elim (before_or_last (ids_of h) (id_of e) (Some id) (length h) i (ids_count h) is) [
+  | inl before ↦ unused_is_none h i id unused.1 before
+  | inr last ↦ (let t = id_means e id last.1 in unused.0 t.0 t.1)
+]
+
+-- what was printed under an identification was printed by an event
+printed_at : {A : Type 0} (ranges : List Range) (desks : ℕ) (h : History A) (id : ℕ) (cut : CutDocument) → IsLegal ranges desks h → docs h id ≡ Some cut →
+    (j : ℕ) × (j < length h) × (slice_get (ids_of h) j ≡ Some (Some id)) × PrintsUnder (events_of h) (replies_of h) j id cut.bytes
+printed_at ranges desks [] id cut legal had = cc
+printed_at {A} ranges desks (e ∷ h) id cut legal had = elim (decided (prints_as e id)) [
+  | inl is ↦
+      (let t = prints_as_means e id is in
+      let own : printed_by e.event e.parts ≡ Some cut = sym (if_so (prints_as e id) (printed_by e.event e.parts) (docs h id) is) ∙ had in (
+        length h,
+        omega arith,
+        at_last (ids_of h) (id_of e) (length h) (ids_count h) ∙ ap (λ (o : Option ℕ). Some o) (id_some e t.0) ∙ ap (λ (k : ℕ). Some (Some k)) t.1,
+        subst (λ (k : ℕ). PrintsUnder (events_of (e ∷ h)) (replies_of (e ∷ h)) (length h) k cut.bytes) t.1
+            (last_prints ranges desks h e cut legal.0 t.0 own),
+      ))
+  | inr not_so ↦
+      (let was = printed_at ranges desks h id cut legal.1
+      (sym (if_not (prints_as e id) (printed_by e.event e.parts) (docs h id) (λ so. true_false (prints_as e id) so not_so)) ∙ had) in
+      let below : was.0 < length h = was.1 in (
+        was.0,
+        omega arith,
+        get_more (ids_of h) (id_of e ∷ []) was.0 (Some id) was.2,
+        prints_more (events_of h) (replies_of h) e.event e.reply was.0 id cut.bytes was.3,
+      ))
+]
+
+-- ---- the headline
+
+faithful_first : {A : Type 0} → (let none : History A = [] in IsFaithfulBy (ids_of none) (events_of none) (replies_of none))
+faithful_first {A} = record {
+  told = λ i id is. absurd (let x = is.2 in cc (x));
+  printed = λ i id is. absurd (cc (is));
+  once = λ i j id a b. absurd (cc (a));
+  given = λ i desk id document a b. absurd (cc (a));
+}
+
+faithful_next : {A : Type 0} (ranges : List Range) (desks : ℕ) (h : History A) (e : Entry A) → IsLegal ranges desks h → Fits ranges desks h e →
+    NeverTwice (e ∷ h) → IsReplySafe h e.event e.reply →
+    IsFaithfulBy (ids_of h) (events_of h) (replies_of h) → IsFaithfulBy (ids_of (e ∷ h)) (events_of (e ∷ h)) (replies_of (e ∷ h))
+faithful_next {A} ranges desks h e legal fits never safe f = record {
+  told = tells;
+  printed = prints;
+  once = one;
+  given = gives;
+}
+  where
+    tells : (i id : ℕ) → TellsOfPrint (replies_of (e ∷ h)) i id → slice_get (ids_of (e ∷ h)) i ≡ Some (Some id)
+    tells i id is = elim (before_or_last (replies_of h) e.reply (Printed id is.0 is.1) (length h) i (replies_count h) is.2) [
+      | inl before ↦ get_more (ids_of h) (id_of e ∷ []) i (Some id) (f.told i id (is.0, is.1, before))
+      | inr last ↦
+          (let t = told_is ranges h e id is.0 is.1 fits.reply fits.lets_out last.1 in
+          subst (λ (k : ℕ). slice_get (ids_of (e ∷ h)) k ≡ Some (Some id)) (sym last.0)
+          (at_last (ids_of h) (id_of e) (length h) (ids_count h) ∙ ap (λ (o : Option ℕ). Some o) (id_some e t.0) ∙ ap (λ (k : ℕ). Some (Some k)) (sym t.1)))
+    ]
+
+    prints : (i id : ℕ) → slice_get (ids_of (e ∷ h)) i ≡ Some (Some id) →
+        (document : List ℕ) × PrintsUnder (events_of (e ∷ h)) (replies_of (e ∷ h)) i id document
+    prints i id is = elim (before_or_last (ids_of h) (id_of e) (Some id) (length h) i (ids_count h) is) [
+      | inl before ↦ (let p = f.printed i id before in (p.0, prints_more (events_of h) (replies_of h) e.event e.reply i id p.0 p.1))
+      | inr last ↦
+          (let t = id_means e id last.1 in
+          let c = is_cut e.event e.reply e.parts e.left fits.lets_out t.0 in
+          let p : PrintsUnder (events_of (e ∷ h)) (replies_of (e ∷ h)) (length h) e.id c.0.bytes = last_prints ranges desks h e c.0 fits t.0 c.1 in (
+            c.0.bytes,
+            subst (λ (k : ℕ). PrintsUnder (events_of (e ∷ h)) (replies_of (e ∷ h)) k id c.0.bytes) (sym last.0)
+                (subst (λ (k : ℕ). PrintsUnder (events_of (e ∷ h)) (replies_of (e ∷ h)) (length h) k c.0.bytes) t.1 p),
+          ))
+    ]
+
+    new : (i id : ℕ) → slice_get (ids_of h) i ≡ Some (Some id) → id_of e ≡ Some id → ⊥
+    new i id before last = (let t = id_means e id last in
+        unused_is_none h i id (subst (λ (k : ℕ). IsUnused k h) t.1 (never.0 t.0)) before)
+
+    one : (i j id : ℕ) → slice_get (ids_of (e ∷ h)) i ≡ Some (Some id) → slice_get (ids_of (e ∷ h)) j ≡ Some (Some id) → i ≡ j
+    one i j id a b = elim (before_or_last (ids_of h) (id_of e) (Some id) (length h) i (ids_count h) a) [
+      | inl first ↦ elim (before_or_last (ids_of h) (id_of e) (Some id) (length h) j (ids_count h) b) [
+        | inl second ↦ f.once i j id first second
+        | inr last ↦ absurd (new i id first last.1)
+      ]
+      | inr here ↦ elim (before_or_last (ids_of h) (id_of e) (Some id) (length h) j (ids_count h) b) [
+        | inl second ↦ absurd (new j id second here.1)
+        | inr last ↦ here.0 ∙ sym last.0
+      ]
+    ]
+
+    gives : (i desk id : ℕ) (document : List ℕ) →
+        slice_get (events_of (e ∷ h)) i ≡ Some (Ask desk id) → slice_get (replies_of (e ∷ h)) i ≡ Some (Document document) →
+        (j : ℕ) × (j < i) × (slice_get (ids_of (e ∷ h)) j ≡ Some (Some id)) × PrintsUnder (events_of (e ∷ h)) (replies_of (e ∷ h)) j id document
+    gives i desk id document asked answered =
+        elim (before_or_last (events_of h) e.event (Ask desk id) (length h) i (events_count h) asked) [
+          | inl was_asked ↦ elim (before_or_last (replies_of h) e.reply (Document document) (length h) i (replies_count h) answered) [
+            | inl was_answered ↦
+                (let g = f.given i desk id document was_asked was_answered in (
+                  g.0,
+                  g.1,
+                  get_more (ids_of h) (id_of e ∷ []) g.0 (Some id) g.2,
+                  prints_more (events_of h) (replies_of h) e.event e.reply g.0 id document g.3,
+                ))
+            | inr last ↦ absurd (let a = get_beyond (events_of h) i (Ask desk id) was_asked in let b = events_count h in let c = last.0 in omega arith)
+          ]
+          | inr asks ↦ elim (before_or_last (replies_of h) e.reply (Document document) (length h) i (replies_count h) answered) [
+            | inl was_answered ↦ absurd (let a = get_beyond (replies_of h) i (Document document) was_answered in let b = replies_count h in let c = asks.0 in omega arith)
+            | inr last ↦
+                (let s : IsReplySafe h (Ask desk id) (Document document) =
+                subst (λ (r : Reply A). IsReplySafe h (Ask desk id) r) last.1 (subst (λ (v : Event A). IsReplySafe h v e.reply) asks.1 safe) in
+                let p = printed_at ranges desks h id s.document legal s.printed in
+                let below : p.0 < length h = p.1 in
+                let i_is : i ≡ length h = asks.0 in (
+                  p.0,
+                  omega arith,
+                  get_more (ids_of h) (id_of e ∷ []) p.0 (Some id) p.2,
+                  subst (λ (d : List ℕ). PrintsUnder (events_of (e ∷ h)) (replies_of (e ∷ h)) p.0 id d) (sym s.same)
+                      (prints_more (events_of h) (replies_of h) e.event e.reply p.0 id s.document.bytes p.3),
+                ))
+          ]
+        ]
+
+pub is_faithful : {A : Type 0} (ranges : List Range) (desks : ℕ) (h : History A) → IsLegal ranges desks h → NeverTwice h → IsSafe h →
+    IsFaithfulBy (ids_of h) (events_of h) (replies_of h)
+is_faithful ranges desks [] legal never safe = faithful_first
+is_faithful ranges desks (e ∷ h) legal never safe =
+    faithful_next ranges desks h e legal.1 legal.0 never safe.0 (is_faithful ranges desks h legal.1 never.1 safe.1)

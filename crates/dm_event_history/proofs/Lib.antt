@@ -1,0 +1,12 @@
+pub mod Deciding
+pub mod Gotten
+pub mod WhoActs
+pub mod Opened
+pub mod FreeNumbers
+pub mod TakenTickets
+pub mod Placing
+pub mod Printed
+pub mod Fresh
+pub mod Holds
+pub mod Faithful
+pub mod WorkedOut

@@ -1,0 +1,103 @@
+-- Which scans are honest, and how honest scans, and imports in an honest history, are refused. `grids` are the labels
+-- that left, in their order.
+use Rattle.std.specs.Prelude.{◌≡◌, ◌≢◌, ◌≤◌, ℕ, Some, List, [], ◌∷◌, length, slice_get, IsSomeAnd}
+use Rattle.std.specs.Ordering.{nat_cmp}
+use Rattle.std.specs.List.Sorted.{IsStrictlySortedBy}
+use Rattle.dm_finder_frame.specs.Grids.{GridView, flipped}
+use Rattle.dm_finder_frame.specs.UnframeOutcome.{HasGoodFrame, HasBadFrame}
+use Rattle.dm_symbol.specs.Symbols.{IsNear}
+use Rattle.dm_append_label.specs.declared.fault.LabelFault.{LabelFault}
+use Rattle.dm_append_label.specs.declared.fault.LabelFault.TheVariants.{Border}
+use Rattle.dm_assembly_desk.specs.declared.fault.ScanFault.{ScanFault}
+use Rattle.dm_assembly_desk.specs.declared.fault.ScanFault.TheVariants as scan_fault
+use Rattle.dm_assembly_desk.specs.declared.fault.ImportFault.{ImportFault}
+use Rattle.dm_assembly_desk.specs.declared.fault.ImportFault.TheVariants as import_fault
+use Rattle.dm_event_history.specs.declared.event.Event.{Event}
+use Rattle.dm_event_history.specs.declared.event.Event.TheVariants.{Scan, Import}
+use Rattle.dm_event_history.specs.declared.reply.Reply.{Reply}
+use Rattle.dm_event_history.specs.declared.reply.Reply.TheVariants.{Scanned, ScanRefused, ImportRefused, NoSuch}
+use Rattle.dm_event_history.specs.History.{History, LabelName, ExportName, out, exports}
+use Rattle.dm_event_history.specs.Holding.{IsPossiblyHeld}
+
+-- a scan's copy of a label, with the modules flipped, is near the label
+abbrev pub IsFair : {A : Type 0} → List GridView → Event A → Type 0
+IsFair grids (Scan desk label flips stop) =
+    (grid : GridView) → slice_get grids label ≡ Some grid → IsNear (flipped grid flips) grid
+IsFair grids event = Unit {0}
+
+-- each event is fair, other than those that were answered `NoSuch`
+abbrev pub IsHonest : {A : Type 0} → List GridView → History A → Type 0
+IsHonest grids [] = Unit {0}
+IsHonest grids (entry ∷ before) = (entry.reply ≢ NoSuch → IsFair grids entry.event) × IsHonest grids before
+
+-- ---- how honest scans are answered
+
+-- the scanned copy of the label has such finder patterns
+pub record IsScannedWith (Frame : GridView → Type 0) (grids : List GridView) (label : ℕ) (flips : List (ℕ × ℕ))
+    : Type 0 where
+  pub grid : GridView
+  pub has_left : slice_get grids label ≡ Some grid
+  pub frame : Frame (flipped grid flips)
+
+-- at most an eighth of the modules of its finder patterns are wrong
+abbrev pub IsFramed : List GridView → ℕ → List (ℕ × ℕ) → Type 0
+IsFramed grids label flips = IsScannedWith HasGoodFrame grids label flips
+
+-- the label is refused for its finder patterns, since more than an eighth of their modules are wrong
+abbrev pub IsBeyond : List GridView → ℕ → List (ℕ × ℕ) → LabelFault → Type 0
+IsBeyond grids label flips (Border wrong) = IsScannedWith (λ grid. HasBadFrame grid wrong) grids label flips
+IsBeyond grids label flips other = ⊥
+
+-- that many other documents have a page that is possibly held: these, by rising identification
+pub record MayHoldOthers {A : Type 0} (before : History A) (desk id count : ℕ) : Type 0 where
+  pub others : List ℕ
+  pub enough : count ≤ length others
+  pub rising : IsStrictlySortedBy nat_cmp others
+  pub each : (i other : ℕ) → slice_get others i ≡ Some other →
+      (other ≢ id) × (m : ℕ) × IsPossiblyHeld before desk other m
+
+-- the desk is full with other documents than the label's
+pub record IsFullForLabel {A : Type 0} (capacities : List ℕ) (before : History A) (desk label : ℕ) : Type 0 where
+  pub name : LabelName
+  pub has_left : slice_get (out before) label ≡ Some name
+  pub full : IsSomeAnd (slice_get capacities desk) (MayHoldOthers before desk name.id)
+
+-- the desk is full with other documents than the export's
+pub record IsFullForExport {A : Type 0} (capacities : List ℕ) (before : History A) (desk export : ℕ) : Type 0 where
+  pub name : ExportName
+  pub has_left : slice_get (exports before) export ≡ Some name
+  pub full : IsSomeAnd (slice_get capacities desk) (MayHoldOthers before desk name.id)
+
+-- why a scan is refused in an honest history: never for a conflict
+abbrev pub IsHonestlyRefused : {A : Type 0} → List GridView → List ℕ → History A →
+    ℕ → ℕ → List (ℕ × ℕ) → ScanFault → Type 0
+IsHonestlyRefused grids capacities before desk label flips scan_fault.Failed = Unit {0}
+IsHonestlyRefused grids capacities before desk label flips (scan_fault.Label fault) = IsBeyond grids label flips fault
+IsHonestlyRefused grids capacities before desk label flips scan_fault.Conflict = ⊥
+IsHonestlyRefused grids capacities before desk label flips scan_fault.Full =
+    IsFramed grids label flips × IsFullForLabel capacities before desk label
+IsHonestlyRefused grids capacities before desk label flips scan_fault.Memory = IsFramed grids label flips
+IsHonestlyRefused grids capacities before desk label flips scan_fault.Save = IsFramed grids label flips
+
+-- why an import is refused in an honest history: never for its bytes
+abbrev pub IsHonestlyNotImported : {A : Type 0} → List ℕ → History A → ℕ → ℕ → ImportFault → Type 0
+IsHonestlyNotImported capacities before desk export import_fault.NotPages = ⊥
+IsHonestlyNotImported capacities before desk export import_fault.Version = ⊥
+IsHonestlyNotImported capacities before desk export import_fault.Damaged = ⊥
+IsHonestlyNotImported capacities before desk export import_fault.Conflict = ⊥
+IsHonestlyNotImported capacities before desk export import_fault.Full = IsFullForExport capacities before desk export
+IsHonestlyNotImported capacities before desk export other = Unit {0}
+
+-- what is so of a reply in an honest history
+abbrev pub IsHonestReply : {A : Type 0} → List GridView → List ℕ → History A → Event A → Reply A → Type 0
+IsHonestReply grids capacities before (Scan desk label flips stop) (Scanned accepted) = IsFramed grids label flips
+IsHonestReply grids capacities before (Scan desk label flips stop) (ScanRefused fault) =
+    IsHonestlyRefused grids capacities before desk label flips fault
+IsHonestReply grids capacities before (Import desk export stop) (ImportRefused fault) =
+    IsHonestlyNotImported capacities before desk export fault
+IsHonestReply grids capacities before event reply = Unit {0}
+
+abbrev pub AreHonestReplies : {A : Type 0} → List GridView → List ℕ → History A → Type 0
+AreHonestReplies grids capacities [] = Unit {0}
+AreHonestReplies grids capacities (entry ∷ before) =
+    IsHonestReply grids capacities before entry.event entry.reply × AreHonestReplies grids capacities before

@@ -1,0 +1,44 @@
+-- What follows from what a history is: laws of histories, which hold whatever printers and desks do otherwise.
+use Rattle.std.specs.Prelude.{◌≡◌, ℕ, true, false, None, List}
+use Rattle.dm_print_ledger.specs.declared.range.Range.{Range}
+use Rattle.dm_print_ledger.specs.Ranges.{is_in}
+use Rattle.dm_event_history.specs.History.{History, docs, events_of, replies_of}
+use Rattle.dm_event_history.specs.Numbers.{free_at}
+use Rattle.dm_event_history.specs.Places.{ArePlaced, IsNoTicketTakenTwice}
+use Rattle.dm_event_history.specs.Holding.{IsSurelyHeld, IsPossiblyHeld}
+use Rattle.dm_event_history.specs.Legal.{AreDisjoint, IsLegal, NeverTwice, MayBeTaken}
+use Rattle.dm_event_history.specs.Safe.{IsSafe}
+use Rattle.dm_event_history.specs.Headline.{IsFaithful}
+
+-- so it is of each legal history of printers that begin with disjoint ranges
+abbrev pub InLegal : (A : Type 0) → (List Range → History A → Type 0) → Type 0
+InLegal A Holds = (ranges : List Range) (desks : ℕ) (h : History A) →
+    AreDisjoint ranges → IsLegal ranges desks h → Holds ranges h
+
+-- each number is in just one place
+abbrev pub EachNumberHasAPlace : Type 0 → Type 0
+EachNumberHasAPlace A = InLegal A (λ ranges h. ArePlaced ranges h)
+
+-- a number that is free was not printed
+abbrev pub FreeIsFresh : Type 0 → Type 0
+FreeIsFresh A = InLegal A (λ ranges h.
+    (printer number : ℕ) → free_at ranges h printer number ≡ true → docs h number ≡ None)
+
+-- no identification is printed twice, and no ticket is taken twice
+abbrev pub NothingTwice : Type 0 → Type 0
+NothingTwice A = InLegal A (λ ranges h. NeverTwice h × IsNoTicketTakenTwice h)
+
+-- of a ticket that a printer may take no number is free anywhere
+abbrev pub TicketsAreElsewhere : Type 0 → Type 0
+TicketsAreElsewhere A = InLegal A (λ ranges h.
+    (printer k : ℕ) (may : MayBeTaken h printer k) (number : ℕ) → is_in may.ticket.range number ≡ true →
+    (other : ℕ) → free_at ranges h other number ≡ false)
+
+-- what is surely held is possibly held
+abbrev pub SurelyIsPossibly : Type 0 → Type 0
+SurelyIsPossibly A = (h : History A) → IsSafe h →
+    (desk id m : ℕ) → IsSurelyHeld h desk id m → IsPossiblyHeld h desk id m
+
+-- the headline: legal and safe histories are faithful
+abbrev pub LegalAndSafeIsFaithful : Type 0 → Type 0
+LegalAndSafeIsFaithful A = InLegal A (λ ranges h. IsSafe h → IsFaithful (events_of h) (replies_of h))

@@ -1,0 +1,267 @@
+-- Which histories are legal: when each reply may be given, how many labels leave, and which identifications move.
+use Rattle.std.specs.Prelude.{◌≡◌, ◌≢◌, ◌↔◌, ◌⊎◌, ◌+◌, ◌<◌, ◌≤◌, ℕ, true, false, Some, List, [], ◌∷◌, length, slice_get, IsSomeAnd, IfSome, AllPairs, All, min}
+use Rattle.dm_check_blocks.specs.Sizes.{side}
+use Rattle.dm_append_label.specs.Parts.{AreParts, HasNoEnds}
+use Rattle.dm_store.specs.declared.fuse.Kept.{Kept}
+use Rattle.dm_print_ledger.specs.declared.range.Range.{Range}
+use Rattle.dm_print_ledger.specs.declared.fault.PrintFault.{PrintFault}
+use Rattle.dm_print_ledger.specs.declared.fault.PrintFault.TheVariants as print_fault
+use Rattle.dm_print_ledger.specs.declared.fault.GiveFault.{GiveFault}
+use Rattle.dm_print_ledger.specs.declared.fault.GiveFault.TheVariants as give_fault
+use Rattle.dm_print_ledger.specs.declared.fault.TakeFault.{TakeFault}
+use Rattle.dm_print_ledger.specs.declared.fault.TakeFault.TheVariants as take_fault
+use Rattle.dm_print_ledger.specs.declared.fault.OpenFault.TheVariants as open_fault
+use Rattle.dm_print_ledger.specs.Ranges.{is_in}
+use Rattle.dm_print_ledger.specs.Views.{TicketView}
+use Rattle.dm_assembly_desk.specs.declared.reply.Kind.TheVariants.{Again}
+use Rattle.dm_assembly_desk.specs.declared.fault.ScanFault.{ScanFault}
+use Rattle.dm_assembly_desk.specs.declared.fault.ScanFault.TheVariants as scan_fault
+use Rattle.dm_assembly_desk.specs.declared.fault.ForgetFault.{ForgetFault}
+use Rattle.dm_assembly_desk.specs.declared.fault.ForgetFault.TheVariants as forget_fault
+use Rattle.dm_assembly_desk.specs.declared.fault.ImportFault.{ImportFault}
+use Rattle.dm_assembly_desk.specs.declared.fault.ImportFault.TheVariants as import_fault
+use Rattle.dm_assembly_desk.specs.declared.fault.DeskFault.TheVariants as desk_fault
+use Rattle.dm_event_history.specs.declared.event.Event.{Event}
+use Rattle.dm_event_history.specs.declared.event.Event.TheVariants.{Print, Scan, RestartPrinter, RestartDesk, Ask, Forget, Give, Take, Export, Import}
+use Rattle.dm_event_history.specs.declared.reply.Reply.{Reply}
+use Rattle.dm_event_history.specs.declared.reply.Reply.TheVariants.{Printed, PrintRefused, Scanned, ScanRefused, Document, AskRefused, Forgotten, ForgetRefused, Given, GiveRefused, Taken, TakeRefused, Exported, ExportRefused, Imported, ImportRefused, Restarted, PrinterRefused, DeskRefused, Stopped, Down, NoSuch, Memory}
+use Rattle.dm_event_history.specs.declared.stop.Stop.{Stop}
+use Rattle.dm_event_history.specs.declared.stop.Stop.TheVariants as stops
+use Rattle.dm_event_history.specs.Actors.{PrinterAt, DeskAt, actor_of}
+use Rattle.dm_event_history.specs.History.{Entry, History, CutDocument, LabelName, printed_by, out, docs, tickets, exports}
+use Rattle.dm_event_history.specs.Running.{is_down, is_failed}
+use Rattle.dm_event_history.specs.Saving.{stop_of, may_save, tells_of_save}
+use Rattle.dm_event_history.specs.Numbers.{free_at, gives, last_serial, opening_count, gone, came}
+
+-- ---- opening ranges
+
+-- one ends before the other begins
+abbrev pub IsApart : Range → Range → Type 0
+IsApart range other = (range.last < other.first) ⊎ (other.last < range.first)
+
+-- no number is in two of the opening ranges
+abbrev pub AreDisjoint : List Range → Type 0
+AreDisjoint ranges = AllPairs IsApart ranges
+
+-- ---- what is named
+
+-- the label has left, and the modules are in its grid
+pub record HasModules {A : Type 0} (before : History A) (label : ℕ) (flips : List (ℕ × ℕ)) : Type 0 where
+  pub name : LabelName
+  pub has_left : slice_get (out before) label ≡ Some name
+  pub document : CutDocument
+  pub printed : docs before name.id ≡ Some document
+  pub within : All (λ flip. (flip.0 < side document.size) × (flip.1 < side document.size)) flips
+
+-- what the event names is there, where there are that many printers and desks
+abbrev pub IsThere : {A : Type 0} → ℕ → ℕ → History A → Event A → Type 0
+IsThere printers desks before (Print printer document size scheme stop) = printer < printers
+IsThere printers desks before (Scan desk label flips stop) = (desk < desks) × HasModules before label flips
+IsThere printers desks before (RestartPrinter printer) = printer < printers
+IsThere printers desks before (RestartDesk desk) = desk < desks
+IsThere printers desks before (Ask desk id) = desk < desks
+IsThere printers desks before (Forget desk id stop) = desk < desks
+IsThere printers desks before (Give printer receiver range stop) = printer < printers
+IsThere printers desks before (Take printer ticket stop) = (printer < printers) × (ticket < length (tickets before))
+IsThere printers desks before (Export desk id) = desk < desks
+IsThere printers desks before (Import desk export stop) = (desk < desks) × (export < length (exports before))
+
+-- ---- stops
+
+-- the save is to meet a device fault
+abbrev pub IsSaveFault : Stop → Type 0
+IsSaveFault stop = (kept : Kept) × (stop ≡ stops.SaveFault kept)
+
+-- the call is to end before its reply
+abbrev pub IsStopping : Stop → Type 0
+IsStopping stops.BeforeSave = Unit {0}
+IsStopping (stops.InSave kept) = Unit {0}
+IsStopping (stops.AfterLabels count) = Unit {0}
+IsStopping stops.None = ⊥
+IsStopping (stops.SaveFault kept) = ⊥
+
+-- the event is a call that is to end before its reply
+abbrev pub IsStopped : {A : Type 0} → Event A → Type 0
+IsStopped event = IsSomeAnd (stop_of event) IsStopping
+
+-- ---- labels that leave
+
+-- no label left, or as many as the stop lets out
+abbrev pub IsSomeLeft : Stop → ℕ → ℕ → Type 0
+IsSomeLeft stop count left = (left ≡ 0) ⊎ ((most : ℕ) × (stop ≡ stops.AfterLabels most) × (left ≡ min most count))
+
+-- how many of the labels of these parts left: all where the print is told, some where it was stopped, else none
+abbrev pub LetsOut : {A : Type 0} → Event A → Reply A → List (List ℕ) → ℕ → Type 0
+LetsOut (Print printer document size scheme stop) (Printed id first count) parts left =
+    (left ≡ length parts) × (0 < left)
+LetsOut (Print printer document size scheme stop) Stopped parts left = IsSomeLeft stop (length parts) left
+LetsOut event reply parts left = left ≡ 0
+
+-- where a label left, these are the parts of what the event prints
+abbrev pub AreItsParts : {A : Type 0} → Event A → List (List ℕ) → ℕ → Type 0
+AreItsParts event parts left =
+    0 < left → IfSome (printed_by event parts) (λ cut. AreParts cut.size cut.scheme cut.bytes cut.parts)
+
+-- ---- replies
+
+-- the identification that is told is the print's, and its labels are numbered on from those that left before
+pub record IsPrinted {A : Type 0} (before : History A) (stop : Stop) (id left name first count : ℕ) : Type 0 where
+  pub no_stop : stop ≡ stops.None
+  pub name_is : name ≡ id
+  pub first_is : first ≡ length (out before)
+  pub count_is : count ≡ left
+
+-- why a document is not printed; `Exhausted` is answered only where as many numbers may have gone, by prints and
+-- gives, as the printer began with and as came
+abbrev pub IsPrintRefused : {A : Type 0} → List Range → History A → ℕ → CutDocument → Stop → PrintFault → Type 0
+IsPrintRefused ranges before printer cut stop print_fault.Failed = is_failed before (PrinterAt printer) ≡ true
+IsPrintRefused ranges before printer cut stop print_fault.TooLong = HasNoEnds cut.size cut.scheme cut.bytes
+IsPrintRefused ranges before printer cut stop print_fault.Exhausted =
+    opening_count ranges printer + came before printer ≤ gone before printer
+IsPrintRefused ranges before printer cut stop print_fault.Memory = Unit {0}
+IsPrintRefused ranges before printer cut stop print_fault.Save = IsSaveFault stop
+
+-- the ticket that is told is the printer's next, with the receiver and the range asked for
+pub record IsGiven {A : Type 0} (before : History A) (printer receiver : ℕ) (range : Range) (stop : Stop)
+    (index : ℕ) (ticket : TicketView) : Type 0 where
+  pub no_stop : stop ≡ stops.None
+  pub index_is : index ≡ length (tickets before)
+  pub ticket_is : ticket ≡ record { giver = printer; serial = gives before printer; receiver = receiver; range = range }
+
+-- why a range is not given
+abbrev pub IsGiveRefused : {A : Type 0} → History A → ℕ → Stop → GiveFault → Type 0
+IsGiveRefused before printer stop give_fault.Failed = is_failed before (PrinterAt printer) ≡ true
+IsGiveRefused before printer stop give_fault.Save = IsSaveFault stop
+IsGiveRefused before printer stop other = Unit {0}
+
+-- why a ticket is not taken: never since one of its numbers is free at the receiver
+abbrev pub IsTakeRefused : {A : Type 0} → History A → ℕ → Stop → TakeFault → Type 0
+IsTakeRefused before printer stop take_fault.Failed = is_failed before (PrinterAt printer) ≡ true
+IsTakeRefused before printer stop take_fault.Overlap = ⊥
+IsTakeRefused before printer stop take_fault.Save = IsSaveFault stop
+IsTakeRefused before printer stop other = Unit {0}
+
+-- why a scan, a forget and an import are refused, whether the history is honest or not
+abbrev pub IsScanRefused : {A : Type 0} → History A → ℕ → Stop → ScanFault → Type 0
+IsScanRefused before desk stop scan_fault.Failed = is_failed before (DeskAt desk) ≡ true
+IsScanRefused before desk stop scan_fault.Save = IsSaveFault stop
+IsScanRefused before desk stop other = Unit {0}
+
+abbrev pub IsForgetRefused : {A : Type 0} → History A → ℕ → Stop → ForgetFault → Type 0
+IsForgetRefused before desk stop forget_fault.Failed = is_failed before (DeskAt desk) ≡ true
+IsForgetRefused before desk stop forget_fault.Save = IsSaveFault stop
+IsForgetRefused before desk stop other = Unit {0}
+
+abbrev pub IsImportRefused : {A : Type 0} → History A → ℕ → Stop → ImportFault → Type 0
+IsImportRefused before desk stop import_fault.Failed = is_failed before (DeskAt desk) ≡ true
+IsImportRefused before desk stop import_fault.Save = IsSaveFault stop
+IsImportRefused before desk stop other = Unit {0}
+
+-- the export that is told is the next, of the document asked for
+pub record IsExported {A : Type 0} (before : History A) (id index told : ℕ) : Type 0 where
+  pub index_is : index ≡ length (exports before)
+  pub id_is : told ≡ id
+
+-- The reply is one to the event: what is so where it is given. A page that was not held is told of only where nothing
+-- stopped its save, and a printer or a desk over its own store is refused its restart for memory alone.
+abbrev pub IsReply : {A : Type 0} → List Range → History A → ℕ → ℕ → Event A → Reply A → Type 0
+IsReply ranges before id left (Print printer document size scheme stop) (Printed name first count) =
+    IsPrinted before stop id left name first count
+IsReply ranges before id left (Print printer document size scheme stop) (PrintRefused fault) =
+    IsPrintRefused ranges before printer (record { bytes = document; size = size; scheme = scheme; parts = [] }) stop
+    fault
+IsReply ranges before id left (Print printer document size scheme stop) Stopped = Unit {0}
+IsReply ranges before id left (Scan desk label flips stop) (Scanned accepted) =
+    accepted.kind ≢ Again → stop ≡ stops.None
+IsReply ranges before id left (Scan desk label flips stop) (ScanRefused fault) = IsScanRefused before desk stop fault
+IsReply ranges before id left (Scan desk label flips stop) Stopped = Unit {0}
+IsReply ranges before id left (RestartPrinter printer) Restarted = Unit {0}
+IsReply ranges before id left (RestartPrinter printer) (PrinterRefused fault) = fault ≡ open_fault.Memory
+IsReply ranges before id left (RestartDesk desk) Restarted = Unit {0}
+IsReply ranges before id left (RestartDesk desk) (DeskRefused fault) = fault ≡ desk_fault.Memory
+IsReply ranges before id left (Ask desk name) (Document bytes) = Unit {0}
+IsReply ranges before id left (Ask desk name) (AskRefused fault) = Unit {0}
+IsReply ranges before id left (Forget desk name stop) Forgotten = stop ≡ stops.None
+IsReply ranges before id left (Forget desk name stop) (ForgetRefused fault) = IsForgetRefused before desk stop fault
+IsReply ranges before id left (Forget desk name stop) Stopped = Unit {0}
+IsReply ranges before id left (Give printer receiver range stop) (Given index ticket) =
+    IsGiven before printer receiver range stop index ticket
+IsReply ranges before id left (Give printer receiver range stop) (GiveRefused fault) =
+    IsGiveRefused before printer stop fault
+IsReply ranges before id left (Give printer receiver range stop) Stopped = Unit {0}
+IsReply ranges before id left (Take printer ticket stop) Taken = stop ≡ stops.None
+IsReply ranges before id left (Take printer ticket stop) (TakeRefused fault) = IsTakeRefused before printer stop fault
+IsReply ranges before id left (Take printer ticket stop) Stopped = Unit {0}
+IsReply ranges before id left (Export desk name) (Exported index told n mask) = IsExported before name index told
+IsReply ranges before id left (Export desk name) (ExportRefused fault) = Unit {0}
+IsReply ranges before id left (Import desk export stop) (Imported imported) =
+    imported.kind ≢ Again → stop ≡ stops.None
+IsReply ranges before id left (Import desk export stop) (ImportRefused fault) = IsImportRefused before desk stop fault
+IsReply ranges before id left (Import desk export stop) Stopped = Unit {0}
+IsReply ranges before id left event Down = Unit {0}
+IsReply ranges before id left event NoSuch = Unit {0}
+IsReply ranges before id left event Memory = Unit {0}
+-- no other reply is given
+IsReply ranges before id left event reply = ⊥
+
+-- an event to which one that is down answers `Down`
+abbrev pub NeedsRunning : {A : Type 0} → Event A → Type 0
+NeedsRunning (RestartPrinter printer) = ⊥
+NeedsRunning (RestartDesk desk) = ⊥
+NeedsRunning event = Unit {0}
+
+-- ---- identifications that move
+
+-- the ticket is this printer's to take: it is for it, with a serial above the last that it took from the same giver
+pub record MayBeTaken {A : Type 0} (before : History A) (printer number : ℕ) : Type 0 where
+  pub ticket : TicketView
+  pub there : slice_get (tickets before) number ≡ Some ticket
+  pub receiver : ticket.receiver ≡ printer
+  pub above : IfSome (last_serial before printer ticket.giver) (λ last. last < ticket.serial)
+
+-- a print, a give or a take may save: what the first two take away is free at their printer
+abbrev pub MayMove : {A : Type 0} → List Range → History A → ℕ → Event A → Type 0
+MayMove ranges before id (Print printer document size scheme stop) = free_at ranges before printer id ≡ true
+MayMove ranges before id (Give printer receiver range stop) =
+    (number : ℕ) → is_in range number ≡ true → free_at ranges before printer number ≡ true
+MayMove ranges before id (Take printer ticket stop) = MayBeTaken before printer ticket
+MayMove ranges before id other = ⊥
+
+-- ---- legal
+
+-- the entry may come after this history, where there is a printer for each range, and that many desks
+pub record Fits {A : Type 0} (ranges : List Range) (desks : ℕ) (before : History A) (entry : Entry A) : Type 0 where
+  pub reply : IsReply ranges before entry.id entry.left entry.event entry.reply
+  pub lets_out : LetsOut entry.event entry.reply entry.parts entry.left
+  pub parts : AreItsParts entry.event entry.parts entry.left
+  -- `NoSuch` stands exactly where something named is not there, and then `Down` exactly where the one named is down
+  pub no_such : entry.reply ≡ NoSuch → ¬ IsThere (length ranges) desks before entry.event
+  pub there : entry.reply ≢ NoSuch → IsThere (length ranges) desks before entry.event
+  pub down : (entry.reply ≡ Down) ↔
+      (IsThere (length ranges) desks before entry.event × NeedsRunning entry.event
+      × (is_down before (actor_of entry.event) ≡ true))
+  -- a call is stopped only where the event says so, and there it is, if the memory that the event needs is there
+  pub stopped : entry.reply ≡ Stopped → IsStopped entry.event
+  pub stops : IsThere (length ranges) desks before entry.event → is_down before (actor_of entry.event) ≡ false →
+      IsStopped entry.event → (entry.reply ≡ Stopped) ⊎ (entry.reply ≡ Memory)
+  -- it saved where the reply tells so or a label left, and only where it may have
+  pub told : tells_of_save entry.reply ≡ true → entry.saved ≡ true
+  pub left_saved : 0 < entry.left → entry.saved ≡ true
+  pub saved : entry.saved ≡ true → may_save entry.event entry.reply ≡ true
+  pub moves : entry.saved ≡ true → MayMove ranges before entry.id entry.event
+
+abbrev pub IsLegal : {A : Type 0} → List Range → ℕ → History A → Type 0
+IsLegal ranges desks [] = Unit {0}
+IsLegal ranges desks (entry ∷ before) = Fits ranges desks before entry × IsLegal ranges desks before
+
+-- ---- printed once
+
+-- no label of the history left under this identification
+abbrev pub IsUnused : {A : Type 0} → ℕ → History A → Type 0
+IsUnused id [] = Unit {0}
+IsUnused id (entry ∷ before) = (0 < entry.left → entry.id ≢ id) × IsUnused id before
+
+-- no two prints of which labels left have one identification
+abbrev pub NeverTwice : {A : Type 0} → History A → Type 0
+NeverTwice [] = Unit {0}
+NeverTwice (entry ∷ before) = (0 < entry.left → IsUnused entry.id before) × NeverTwice before

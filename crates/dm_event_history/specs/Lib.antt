@@ -1,0 +1,14 @@
+pub mod Actors
+pub mod History
+pub mod Running
+pub mod Saving
+pub mod Numbers
+pub mod Places
+pub mod Masks
+pub mod Holding
+pub mod Legal
+pub mod Honest
+pub mod Safe
+pub mod Headline
+pub mod Worked
+pub mod Laws

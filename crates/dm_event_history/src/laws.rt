@@ -1,0 +1,44 @@
+//! Laws of histories: each function's contract is the law. They speak of definitions alone, so the functions do
+//! nothing.
+
+ghost use Rattle.dm_event_history.specs.Laws.{EachNumberHasAPlace, FreeIsFresh, NothingTwice};
+ghost use Rattle.dm_event_history.specs.Laws.{TicketsAreElsewhere, SurelyIsPossibly, LegalAndSafeIsFaithful};
+ghost use Rattle.dm_event_history.specs.Worked.{MovedIs, StoppedIs, TravelledIs};
+
+use std::alloc::Allocator;
+
+/// In a legal history of printers that begin with disjoint ranges each number that a printer began with is in just one
+/// place: free at one printer, on a ticket that was not taken, used, or lost. A number that is free was not printed.
+pub fn each_number_has_a_place<A: Allocator>()
+    ensures places { EachNumberHasAPlace A }
+    ensures fresh { FreeIsFresh A }
+{}
+
+/// In such a history no identification is printed twice, and no ticket is taken twice.
+pub fn nothing_twice<A: Allocator>()
+    ensures { NothingTwice A }
+{}
+
+/// In such a history no number of a ticket that a printer may take is free at any printer.
+pub fn tickets_are_elsewhere<A: Allocator>()
+    ensures { TicketsAreElsewhere A }
+{}
+
+/// In a safe history what a desk surely holds it possibly holds.
+pub fn surely_is_possibly<A: Allocator>()
+    ensures { SurelyIsPossibly A }
+{}
+
+/// The headline: in a legal and safe history of printers that begin with disjoint ranges, whatever document any desk
+/// gives for an identification is the one document printed under it, and no identification is ever printed twice.
+pub fn legal_and_safe_is_faithful<A: Allocator>()
+    ensures { LegalAndSafeIsFaithful A }
+{}
+
+/// Worked histories, of ranges that move, of pages that travel, and of prints that are stopped: what the definitions
+/// say of them is computed.
+pub fn worked_histories<A: Allocator>()
+    ensures moved { MovedIs A }
+    ensures travelled { TravelledIs A }
+    ensures stopped { StoppedIs A }
+{}

@@ -1,0 +1,74 @@
+-- Lists of pages that are joined: which pages are there, one by one, and where two lists disagree.
+use Rattle.std.proofs.Common.{◌≡◌, ◌≢◌, ℕ, zero, suc, ◌≤◌, ◌&&◌, List, [], ◌∷◌, length, Bool, true, false, Option, Some, None, IsSome, refl, arith, Decides}
+use Rattle.std.specs.Prelude.{is_some}
+use Rattle.std.specs.List.{list_all}
+use Rattle.std.specs.Str.{bytes_eq}
+use Rattle.std.proofs.lemmas.Slice.Eq.{bytes_eq-Decides}
+use Rattle.dm_assembly_desk.specs.Pages.{Pages, page}
+use Rattle.dm_assembly_desk.specs.Merging.{agrees_at, agree}
+
+both : (b c : Bool) → (b && c) ≡ true → (b ≡ true) × (c ≡ true)
+both true true e = (refl, refl)
+both true false e = cc
+both false c e = cc
+
+-- where each page is there, any of them is
+pub all_held : (ps : Pages) → list_all is_some ps ≡ true → (m : ℕ) → 1 ≤ m → m ≤ length ps → IsSome (page ps m)
+all_held ps is zero least most = absurd (omega arith)
+all_held [] is (suc m) least most = absurd (omega arith)
+all_held (p ∷ ps) is (suc zero) least most = at p (both (is_some p) (list_all is_some ps) is).0
+  where
+    at : (p : Option (List ℕ)) → is_some p ≡ true → IsSome p
+    at None e = cc
+    at (Some x) e = refl
+all_held (p ∷ ps) is (suc (suc m)) least most =
+    all_held ps (both (is_some p) (list_all is_some ps) is).1 (suc m) (omega arith) (omega arith)
+
+-- where not each page is there, one of them is missing
+pub one_lacks : (ps : Pages) → list_all is_some ps ≡ false → (m : ℕ) × (1 ≤ m) × (m ≤ length ps) × (page ps m ≡ None)
+one_lacks [] is = cc
+one_lacks (None ∷ ps) is = (1, omega arith, omega arith, refl)
+one_lacks (Some x ∷ ps) is = later (one_lacks ps is)
+  where
+    later : ((m : ℕ) × (1 ≤ m) × (m ≤ length ps) × (page ps m ≡ None)) →
+        (m : ℕ) × (1 ≤ m) × (m ≤ suc (length ps)) × (page (Some x ∷ ps) m ≡ None)
+    later (zero, least, most, none) = absurd (omega arith)
+    later (suc m, least, most, none) = (suc (suc m), omega arith, omega arith, none)
+
+-- a page that is held with other bytes than those given
+pub record Differs (own pages : Pages) : Type 0 where
+  pub m : ℕ
+  pub one : List ℕ
+  pub other : List ℕ
+  pub held : page own m ≡ Some one
+  pub filed : page pages m ≡ Some other
+  pub differ : one ≢ other
+
+-- lists that do not agree have such a page
+pub differs : (own pages : Pages) → agree own pages ≡ false → Differs own pages
+differs [] pages is = cc
+differs (p ∷ ps) [] is = cc
+differs (p ∷ ps) (q ∷ qs) is = by_head (agrees_at p q) refl is (differs ps qs)
+  where
+    here : (x y : Option (List ℕ)) → agrees_at x y ≡ false → Differs (x ∷ ps) (y ∷ qs)
+    here None y e = cc
+    here (Some a) None e = cc
+    here (Some a) (Some b) e = record {
+      m = 1;
+      one = a;
+      other = b;
+      held = refl;
+      filed = refl;
+      differ = λ same. let d : Decides (bytes_eq a b) (a ≡ b) = bytes_eq-Decides a b in let t : bytes_eq a b ≡ true = d.1 same in cc (t, e);
+    }
+
+    after : Differs ps qs → Differs (p ∷ ps) (q ∷ qs)
+    after d = shifted d.m d.one d.other d.held d.filed d.differ
+      where
+        shifted : (m : ℕ) (one other : List ℕ) → page ps m ≡ Some one → page qs m ≡ Some other → one ≢ other → Differs (p ∷ ps) (q ∷ qs)
+        shifted zero one other a b c = cc
+        shifted (suc m) one other a b c = record { m = suc (suc m); one = one; other = other; held = a; filed = b; differ = c }
+
+    by_head : (b : Bool) → agrees_at p q ≡ b → (b && agree ps qs) ≡ false → (agree ps qs ≡ false → Differs ps qs) → Differs (p ∷ ps) (q ∷ qs)
+    by_head true x e again = after (again e)
+    by_head false x e again = here p q x

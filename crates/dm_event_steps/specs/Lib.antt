@@ -1,0 +1,10 @@
+pub mod Labels
+pub mod Stands
+pub mod Acts
+pub mod Gathered
+pub mod DeskStands
+pub mod DeskActs
+pub mod Exports
+pub mod Goes
+pub mod Worlds
+pub mod Beginning

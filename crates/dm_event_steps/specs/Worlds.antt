@@ -1,0 +1,147 @@
+-- Worlds of printers and desks: which histories a world stands for, and what one step of it does.
+use Rattle.std.specs.Prelude.{◌≡◌, ◌⊎◌, ◌<◌, ℕ, Some, List, [], ◌∷◌, length, map, slice_get, slice_set, All}
+use Rattle.dm_check_blocks.specs.Sizes.{side}
+use Rattle.dm_finder_frame.specs.Grids.{GridView}
+use Rattle.dm_print_ledger.specs.declared.range.Range.{Range}
+use Rattle.dm_print_ledger.specs.Views.{TicketView}
+use Rattle.dm_event_history.specs.declared.event.Event.{Event}
+use Rattle.dm_event_history.specs.declared.event.Event.TheVariants.{Print, Scan, RestartPrinter, RestartDesk, Ask, Forget, Give, Take, Export, Import}
+use Rattle.dm_event_history.specs.declared.reply.Reply.{Reply}
+use Rattle.dm_event_history.specs.declared.reply.Reply.TheVariants.{NoSuch}
+use Rattle.dm_event_history.specs.Actors.{PrinterAt, DeskAt, actor_of}
+use Rattle.dm_event_history.specs.History.{Entry, History, exports}
+use Rattle.dm_event_history.specs.Legal.{AreDisjoint, IsLegal}
+use Rattle.dm_event_history.specs.Honest.{IsFair, IsHonest, AreHonestReplies}
+use Rattle.dm_event_history.specs.Safe.{IsSafe}
+use Rattle.dm_event_history.specs.Headline.{IsFaithful}
+use Rattle.dm_event_steps.specs.declared.actor.PrinterActor.{PrinterActor}
+use Rattle.dm_event_steps.specs.declared.actor.DeskActor.{DeskActor}
+use Rattle.dm_event_steps.specs.declared.actor.DeskState.{DeskState}
+use Rattle.dm_event_steps.specs.declared.actor.LeftLabel.{LeftLabel}
+use Rattle.dm_event_steps.specs.declared.actor.LeftExport.{LeftExport}
+use Rattle.dm_event_steps.specs.Labels.{grid_of, ShowsDocument}
+use Rattle.dm_event_steps.specs.Exports.{export_name_of, ShowsPages}
+use Rattle.dm_event_steps.specs.Stands.{PrinterStands}
+use Rattle.dm_event_steps.specs.DeskStands.{DeskStands}
+use Rattle.dm_event_steps.specs.Acts.{Left, PrinterActs}
+use Rattle.dm_event_steps.specs.DeskActs.{DeskActs}
+use Rattle.dm_event_steps.specs.Goes.{AreOf}
+
+-- the printers and desks, and the labels, tickets and exports that left
+pub record WorldView (A : Type 0) : Type 0 where
+  pub printers : List (PrinterActor A)
+  pub desks : List (DeskActor A)
+  pub labels : List (LeftLabel A)
+  pub tickets : List TicketView
+  pub exports : List (LeftExport A)
+
+abbrev pub left_of : {A : Type 0} → WorldView A → Left A
+left_of world = record { labels = world.labels; tickets = world.tickets }
+
+abbrev pub grids_of : {A : Type 0} → WorldView A → List GridView
+grids_of world = map grid_of world.labels
+
+-- ---- which histories a world stands for
+
+-- the world, whose printers began with these ranges and whose desks have room for that many documents each
+pub record StandsFor {A : Type 0} (ranges : List Range) (capacities : List ℕ) (world : WorldView A) (h : History A)
+    : Type 0 where
+  pub disjoint : AreDisjoint ranges
+  pub legal : IsLegal ranges (length capacities) h
+  -- in an honest history what desks answer is safe, and what is honest is refused for these reasons alone
+  pub safe : IsHonest (grids_of world) h → IsSafe h
+  pub answers : IsHonest (grids_of world) h → AreHonestReplies (grids_of world) capacities h
+  -- the labels, tickets and exports that left are the history's
+  pub left : AreOf h (left_of world)
+  pub labels : (i : ℕ) (label : LeftLabel A) → slice_get world.labels i ≡ Some label → ShowsDocument h label
+  pub export_names : map export_name_of world.exports ≡ exports h
+  pub exports : (i : ℕ) (export : LeftExport A) → slice_get world.exports i ≡ Some export →
+      ShowsPages (grids_of world) h export
+  -- each printer and each desk stands for its part
+  pub count : length world.printers ≡ length ranges
+  pub printers : (printer : ℕ) (actor : PrinterActor A) → slice_get world.printers printer ≡ Some actor →
+      PrinterStands ranges h printer actor
+  pub desk_count : length world.desks ≡ length capacities
+  pub desks : (desk capacity : ℕ) (actor : DeskActor A) →
+      slice_get capacities desk ≡ Some capacity → slice_get world.desks desk ≡ Some actor →
+      (actor.capacity ≡ capacity) × DeskStands (grids_of world) h desk capacity actor.state
+
+-- ---- steps
+
+-- what an event names is there
+abbrev pub IsNamed : {A : Type 0} → WorldView A → Event A → Type 0
+IsNamed world (Print printer document size scheme stop) = printer < length world.printers
+IsNamed {A} world (Scan desk number flips stop) =
+    (desk < length world.desks) × (label : LeftLabel A) × (slice_get world.labels number ≡ Some label)
+    × All (λ flip. (flip.0 < side label.grid.size) × (flip.1 < side label.grid.size)) flips
+IsNamed world (RestartPrinter printer) = printer < length world.printers
+IsNamed world (RestartDesk desk) = desk < length world.desks
+IsNamed world (Ask desk id) = desk < length world.desks
+IsNamed world (Forget desk id stop) = desk < length world.desks
+IsNamed world (Give printer receiver range stop) = printer < length world.printers
+IsNamed world (Take printer ticket stop) = (printer < length world.printers) × (ticket < length world.tickets)
+IsNamed world (Export desk id) = desk < length world.desks
+IsNamed world (Import desk export stop) = (desk < length world.desks) × (export < length world.exports)
+
+-- the event names a printer, and takes it on
+pub record PrinterSteps {A : Type 0} (old : WorldView A) (event : Event A) (reply : Reply A) (new : WorldView A)
+    : Type 0 where
+  pub printer : ℕ
+  pub named : actor_of event ≡ PrinterAt printer
+  pub there : IsNamed old event
+  pub actor : PrinterActor A
+  pub after : PrinterActor A
+  pub was : slice_get old.printers printer ≡ Some actor
+  pub acts : PrinterActs event actor (left_of old) reply after (left_of new)
+  pub printers : new.printers ≡ slice_set old.printers printer after
+  pub desks : new.desks ≡ old.desks
+  pub exports : new.exports ≡ old.exports
+
+-- the event names a desk, and takes it on
+pub record DeskSteps {A : Type 0} (old : WorldView A) (event : Event A) (reply : Reply A) (new : WorldView A)
+    : Type 0 where
+  pub desk : ℕ
+  pub named : actor_of event ≡ DeskAt desk
+  pub there : IsNamed old event
+  pub actor : DeskActor A
+  pub after : DeskState A
+  pub was : slice_get old.desks desk ≡ Some actor
+  pub acts : DeskActs old.labels event actor.capacity actor.state old.exports reply after new.exports
+  pub desks : new.desks ≡ slice_set old.desks desk (record { capacity = actor.capacity; state = after })
+  pub printers : new.printers ≡ old.printers
+  pub labels : new.labels ≡ old.labels
+  pub tickets : new.tickets ≡ old.tickets
+
+-- one step of a world
+abbrev pub Steps : {A : Type 0} → WorldView A → Event A → Reply A → WorldView A → Type 0
+Steps old event reply new =
+    ((reply ≡ NoSuch) × (new ≡ old) × (¬ IsNamed old event))
+    ⊎ (PrinterSteps old event reply new ⊎ DeskSteps old event reply new)
+
+-- ---- laws
+
+-- what is asked of an event before it: if what it names is there, a scan's copy is near its label
+abbrev pub IsFairIn : {A : Type 0} → WorldView A → Event A → Type 0
+IsFairIn world event = IsNamed world event → IsFair (grids_of world) event
+
+-- A world that stands for a history stands, after a step, for it with one entry more, of that event and that reply. If
+-- the history was honest and the event is fair, the longer one is honest.
+abbrev pub EachStepStands : Type 0 → Type 0
+EachStepStands A = (ranges : List Range) (capacities : List ℕ) (h : History A) (old new : WorldView A)
+    (event : Event A) (reply : Reply A) → StandsFor ranges capacities old h → Steps old event reply new →
+    (entry : Entry A) × (entry.event ≡ event) × (entry.reply ≡ reply) × StandsFor ranges capacities new (entry ∷ h)
+    × (IsFairIn old event → IsHonest (grids_of old) h → IsHonest (grids_of new) (entry ∷ h))
+
+-- the world goes by these events, each of them fair, and answers so
+abbrev pub RunsFairly : {A : Type 0} → WorldView A → List (Event A) → List (Reply A) → WorldView A → Type 0
+RunsFairly old [] [] new = new ≡ old
+RunsFairly {A} old (event ∷ events) (reply ∷ replies) new =
+    (mid : WorldView A) × IsFairIn old event × Steps old event reply mid × RunsFairly mid events replies new
+RunsFairly old [] (reply ∷ replies) new = ⊥
+RunsFairly old (event ∷ events) [] new = ⊥
+
+-- the headline: a world that begins, and runs fairly, is faithful
+abbrev pub EachFairRunIsFaithful : Type 0 → Type 0
+EachFairRunIsFaithful A = (ranges : List Range) (capacities : List ℕ) (old new : WorldView A)
+    (events : List (Event A)) (replies : List (Reply A)) →
+    StandsFor ranges capacities old [] → RunsFairly old events replies new → IsFaithful events replies

@@ -1,0 +1,32 @@
+//! Laws of steps: each function's contract is the law. They speak of definitions alone, so the functions do nothing.
+
+ghost use Rattle.dm_event_steps.specs.Beginning.{EachBeginningStands};
+ghost use Rattle.dm_event_steps.specs.Goes.{EachPrinterGoesOn};
+ghost use Rattle.dm_event_steps.specs.Worlds.{EachFairRunIsFaithful, EachStepStands};
+
+use std::alloc::Allocator;
+
+/// A printer that stands for a legal history of printers with disjoint opening ranges goes on, by each event that
+/// names it, to stand for the history with one entry more, which fits it.
+pub fn each_printer_goes_on<A: Allocator + Copy>()
+    ensures { EachPrinterGoesOn A }
+{}
+
+/// A world of printers with disjoint ranges that were just created, and of desks that hold nothing, stands for the
+/// empty history.
+pub fn each_beginning_stands<A: Allocator + Copy>()
+    ensures { EachBeginningStands A }
+{}
+
+/// A world that stands for a history stands, after a step, for the history with one entry more, of that event and that
+/// reply; and an honest history stays honest by a fair event.
+pub fn each_step_stands<A: Allocator + Copy>()
+    ensures { EachStepStands A }
+{}
+
+/// The headline: whatever a world answers that begins with printers of disjoint ranges, whose scans are near the labels
+/// that they name, is faithful. Whatever document any desk gives for an identification is the one document printed
+/// under it, and no identification is ever printed twice.
+pub fn each_fair_run_is_faithful<A: Allocator + Copy>()
+    ensures { EachFairRunIsFaithful A }
+{}
