@@ -211,7 +211,7 @@ merges_nothing Again id given old is = refl
 merges_nothing New id given old is = absurd cc
 merges_nothing Complete id given old is = absurd cc
 
--- ---- what is told of the pages
+-- ---- what a reply says of the pages
 
 pub names_pages : (capacity : ℕ) (held : Documents) (id : ℕ) (given : Pages) (imported : Imported) → IsEntry id given → import_answer capacity held id given ≡ Ok imported.kind
     → imported.id ≡ id → imported.n ≡ length given → imported.added ≡ added_mask (unwrap_or (get held id) []) given → NamesFile held id given imported

@@ -30,7 +30,7 @@ pub record PrintsUnder {A : Type 0} (events : List (Event A)) (replies : List (R
 -- Each event has in `ids` the identification under which labels left by it, if any did.
 pub record IsFaithfulBy {A : Type 0} (ids : List (Option ℕ)) (events : List (Event A)) (replies : List (Reply A))
     : Type 0 where
-  -- what is told to have been printed was printed, and what was printed is a print's document
+  -- what a reply says was printed was printed, and what was printed is a print's document
   pub told : (i id : ℕ) → TellsOfPrint replies i id → slice_get ids i ≡ Some (Some id)
   pub printed : (i id : ℕ) → slice_get ids i ≡ Some (Some id) →
       (document : List ℕ) × PrintsUnder events replies i id document

@@ -90,7 +90,7 @@ IsStopped event = IsSomeAnd (stop_of event) IsStopping
 abbrev pub IsSomeLeft : Stop → ℕ → ℕ → Type 0
 IsSomeLeft stop count left = (left ≡ 0) ⊎ ((most : ℕ) × (stop ≡ stops.AfterLabels most) × (left ≡ min most count))
 
--- how many of the labels of these parts left: all where the print is told, some where it was stopped, else none
+-- how many of the labels of these parts left: all where a reply says so, some where it was stopped, else none
 abbrev pub LetsOut : {A : Type 0} → Event A → Reply A → List (List ℕ) → ℕ → Type 0
 LetsOut (Print printer document size scheme stop) (Printed id first count) parts left =
     (left ≡ length parts) × (0 < left)
@@ -104,7 +104,7 @@ AreItsParts event parts left =
 
 -- ---- replies
 
--- the identification that is told is the print's, and its labels are numbered on from those that left before
+-- the identification that the reply names is the print's, and its labels are numbered on from those that left before
 pub record IsPrinted {A : Type 0} (before : History A) (stop : Stop) (id left name first count : ℕ) : Type 0 where
   pub no_stop : stop ≡ stops.None
   pub name_is : name ≡ id
@@ -121,7 +121,7 @@ IsPrintRefused ranges before printer cut stop print_fault.Exhausted =
 IsPrintRefused ranges before printer cut stop print_fault.Memory = Unit {0}
 IsPrintRefused ranges before printer cut stop print_fault.Save = IsSaveFault stop
 
--- the ticket that is told is the printer's next, with the receiver and the range asked for
+-- the ticket that the reply names is the printer's next, with the receiver and the range asked for
 pub record IsGiven {A : Type 0} (before : History A) (printer receiver : ℕ) (range : Range) (stop : Stop)
     (index : ℕ) (ticket : TicketView) : Type 0 where
   pub no_stop : stop ≡ stops.None
@@ -157,12 +157,12 @@ IsImportRefused before desk stop import_fault.Failed = is_failed before (DeskAt 
 IsImportRefused before desk stop import_fault.Save = IsSaveFault stop
 IsImportRefused before desk stop other = Unit {0}
 
--- the export that is told is the next, of the document asked for
+-- the export that the reply names is the next, of the document asked for
 pub record IsExported {A : Type 0} (before : History A) (id index told : ℕ) : Type 0 where
   pub index_is : index ≡ length (exports before)
   pub id_is : told ≡ id
 
--- The reply is one to the event: what is so where it is given. A page that was not held is told of only where nothing
+-- The reply is one to the event: what is so where it is given. A page that was not held is replied to as new only where nothing
 -- stopped its save, and a printer or a desk over its own store is refused its restart for memory alone.
 abbrev pub IsReply : {A : Type 0} → List Range → History A → ℕ → ℕ → Event A → Reply A → Type 0
 IsReply ranges before id left (Print printer document size scheme stop) (Printed name first count) =

@@ -106,7 +106,7 @@ is_free capacity held p kind other is =
     let t = free_at capacity (map.len held) p (map.get held p.id) kind other is in
     record { was_missing = t.0; count = t.1 }
 
--- the page is held with these bytes, of so many
+-- the page is held with these bytes, of that many
 pub record HoldsPage (held : Documents) (p : PageView) : Type 0 where
   pub bytes : page_at held p.id p.m ≡ Some p.bytes
   pub count : counted held p.id ≡ Some p.n

@@ -129,7 +129,7 @@ gathered_file {A} capacities grids h d number capacity stop reply view export ki
     (λ m some. (refl, may, (export_name_of export, s.named, refl, has_page grids h export s.shows m some)))
     takes stays (holds_too view.capacity view.held export.id s.shows.pages kind is) (s.runs.gathered honest.1)
 
--- ---- what is told of an import
+-- ---- what a reply says of an import
 
 -- a page of the file that was added was not held, and one that was not added was
 not_added : (held : Documents) (id : ℕ) (pages : Pages) (added m : ℕ) →

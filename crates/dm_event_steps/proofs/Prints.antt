@@ -235,7 +235,7 @@ stopped_outcome {A} ranges desks h p document size scheme stop view mid (Err pri
 stopped_outcome {A} ranges desks h p document size scheme stop view mid (Err print_fault.Save) s may prints =
     absurd prints.1.failed.replaced.follows
 
--- a print that was stopped once so many labels had left
+-- a print that was stopped once that many labels had left
 some_goes : {A : Type 0} (ranges : List Range) (desks : ℕ) (h : History A) (p : ℕ) (document : List ℕ) (size : Size) (scheme : Scheme)
     (most : ℕ) (view mid : PrinterView) (job : JobView) (actor : PrinterActor A) (old new : Left A) →
     p < length ranges → Runs ranges h p view →

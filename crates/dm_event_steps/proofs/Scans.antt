@@ -105,7 +105,7 @@ framed : (grids : List GridView) (number : ℕ) (flips : List (ℕ × ℕ)) (gri
     HasGoodFrame (flipped grid flips) → IsFramed grids number flips
 framed grids number flips grid left frame = record { grid = grid; has_left = left; frame = frame }
 
--- ---- what is told of a page
+-- ---- what a reply says of a page
 
 some_none : (o : Option (List ℕ)) → IsSome o → o ≡ None → ⊥
 some_none None x y = cc

@@ -31,7 +31,7 @@ use Rattle.dm_event_steps.proofs.Ledgers.{numbers_other}
 use Rattle.dm_event_steps.proofs.DeskGoing.{none_leaves}
 use Rattle.dm_event_steps.proofs.WorldGoing.{get_set_same, get_set_other, get_map, get_map_from, honest_before, quiet_other, printer_keeps, desk_keeps, takes_there, forgets_there, fresh_of, grids_more, goes_on}
 
--- ---- what is told by printers and by desks
+-- ---- what the replies of printers and desks say
 
 not_printer : (d p : ℕ) → DeskAt d ≡ PrinterAt p → ⊥
 not_printer d p x = cc

@@ -63,7 +63,13 @@ pub fn do_command<A: Allocator + Copy, S: Store, T: StoreSet, R: Read, W: Write,
     command: Command,
 ) -> EndedDesk<S, T>
     ensures { Does A command.entry
-        (record { saved = S.state store; set = T.state set; input = input.old; output = output.old; errors = errors.old })
+        (record {
+          saved = S.state store;
+          set = T.state set;
+          input = input.old;
+          output = output.old;
+          errors = errors.old;
+        })
         result.status
         (record {
           saved = S.state result.store;

@@ -35,8 +35,8 @@ pub fn deliver_command<A: Allocator + Copy, S: Store, T: StoreSet, W: Write, E: 
     errors: &mut Output<E>,
     text: &str,
 ) -> EndedDesk<S, T>
-    ensures { EndsDeliver (record { joint = S.state store; set = T.state set }) text.now output.old errors.old result.status
-        (record { joint = S.state result.store; set = T.state result.set }) output.new errors.new }
+    ensures { EndsDeliver (record { joint = S.state store; set = T.state set }) text.now output.old errors.old
+        result.status (record { joint = S.state result.store; set = T.state result.set }) output.new errors.new }
 {
     let Some(id) = id_of(text) else {
         let status = refuse(errors, "FileId");

@@ -44,8 +44,8 @@ pub(crate) fn open_desk<A: Allocator + Copy, S: Store, T: StoreSet, W: Write>(
     capacity: u16,
 ) -> Result<OpenDesk<S, T, A>, EndedDesk<S, T>>
     ensures { MatchResult result
-        (λ opened. OpensDesk (record { joint = S.state store; set = T.state set }) capacity (S.state opened.store) opened.desk
-        × (output.new ≡ output.old) × IsInOrder opened.desk)
+        (λ opened. OpensDesk (record { joint = S.state store; set = T.state set }) capacity (S.state opened.store)
+        opened.desk × (output.new ≡ output.old) × IsInOrder opened.desk)
         (λ ended. HasNoDesk (record { joint = S.state store; set = T.state set }) capacity output.old ended.status
         (record { joint = S.state ended.store; set = T.state ended.set }) output.new) }
 {

@@ -26,8 +26,8 @@ fn give<A: Allocator + Copy, S: Store, W: Write>(
     }
 }
 
-/// Gives the identifications of a range to the printer `to`, and prints `ticket HEX`, the ten bytes of the ticket, after
-/// they were saved as gone; or the line `refused NAME`.
+/// Gives the identifications of a range to the printer `to`, and prints `ticket HEX`, the ten bytes of the ticket,
+/// after they were saved as gone; or the line `refused NAME`.
 pub fn give_command<A: Allocator + Copy, S: Store, W: Write>(
     alloc: A,
     store: S,

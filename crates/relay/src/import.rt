@@ -33,8 +33,8 @@ fn import<A: Allocator + Copy, T: StoreSet, W: Write>(
 
 /// Reads the file that `export` has written, at most 41,643 bytes of it, holds and saves its pages that were not held,
 /// and prints `IIII n added MASK KIND`: the identification, how many pages the document has, which of them were added
-/// (bit m - 1 for page m), and whether it was `new`, `again` or `complete`; or the line `refused NAME`. The input is read
-/// before the desk is opened.
+/// (bit m - 1 for page m), and whether it was `new`, `again` or `complete`; or the line `refused NAME`. The input is
+/// read before the desk is opened.
 pub fn import_command<A: Allocator + Copy, S: Store, T: StoreSet, R: Read, W: Write>(
     alloc: A,
     store: S,
@@ -44,8 +44,8 @@ pub fn import_command<A: Allocator + Copy, S: Store, T: StoreSet, R: Read, W: Wr
     capacity: u16,
 ) -> EndedDesk<S, T>
     ensures part { TakesPart input.old.remaining input.new.remaining IMPORT_BYTES }
-    ensures ends { EndsImport (record { joint = S.state store; set = T.state set }) capacity input.old input.new output.old
-        result.status (record { joint = S.state result.store; set = T.state result.set }) output.new }
+    ensures ends { EndsImport (record { joint = S.state store; set = T.state set }) capacity input.old input.new
+        output.old result.status (record { joint = S.state result.store; set = T.state result.set }) output.new }
 {
     let bytes = match input.read_up_to(alloc, IMPORT_BYTES) {
         Ok(bytes) => bytes,

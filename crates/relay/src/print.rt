@@ -131,9 +131,9 @@ fn print<A: Allocator + Copy, S: Store, W: Write, E: Write>(
 }
 
 /// Prints a document as labels under an identification of its own: `printed IIII n left N` goes to `errors`, and then
-/// the labels go to `output` as packed images, one after another. A refusal is a line on `errors`. The side is looked at
-/// first, then the input is read, at most 41,601 bytes of it, then the printer is opened. The identification is saved as
-/// used before the first byte goes out; it stays used where the labels can't be written.
+/// the labels go to `output` as packed images, one after another. A refusal is a line on `errors`. The side is looked
+/// at first, then the input is read, at most 41,601 bytes of it, then the printer is opened. The identification is
+/// saved as used before the first byte goes out; it stays used where the labels can't be written.
 pub fn print_command<A: Allocator + Copy, S: Store, R: Read, W: Write, E: Write>(
     alloc: A,
     store: S,

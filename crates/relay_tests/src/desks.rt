@@ -59,6 +59,20 @@ fn scan(alloc: Global, files: Files, images: &[u8], lines: &mut Output<Vec<u8>>)
     scan_command(alloc, files.store, files.set, &mut input, lines, 64)
 }
 
+fn deliver(
+    alloc: Global,
+    files: Files,
+    document: &mut Output<Vec<u8>>,
+    errors: &mut Output<Vec<u8>>,
+) -> Files {
+    deliver_command(alloc, files.store, files.set, document, errors, "0101")
+}
+
+fn import(alloc: Global, files: Files, bytes: &[u8], lines: &mut Output<Vec<u8>>) -> Files {
+    let mut input = Input::new(bytes);
+    import_command(alloc, files.store, files.set, &mut input, lines, 64)
+}
+
 // Labels in any order, and twice: each line tells what was held, and the whole document is given.
 #[test]
 fn gathers_labels(rt: HostRuntime) -> Result<(), Fail> {
@@ -75,25 +89,11 @@ fn gathers_labels(rt: HostRuntime) -> Result<(), Fail> {
     assert_eq!(rt; files.set.content(0), Some(PAGE_2));
     let files = scan(rt.alloc(), files, &images[IMAGE_BYTES..], &mut lines);
     let mut document = Output::new(Vec::new(rt.alloc()));
-    let files = deliver_command(
-        rt.alloc(),
-        files.store,
-        files.set,
-        &mut document,
-        &mut errors,
-        "0101",
-    );
+    let files = deliver(rt.alloc(), files, &mut document, &mut errors);
     assert_eq!(rt; files.status, 1);
     let files = scan(rt.alloc(), files, &images, &mut lines);
     assert_eq!(rt; files.status, 0);
-    let files = deliver_command(
-        rt.alloc(),
-        files.store,
-        files.set,
-        &mut document,
-        &mut errors,
-        "0101",
-    );
+    let files = deliver(rt.alloc(), files, &mut document, &mut errors);
     assert_eq!(rt; files.status, 0);
     assert_eq!(rt;
         lines.writer().as_slice(),
@@ -154,15 +154,7 @@ fn exports_and_imports(rt: HostRuntime) -> Result<(), Fail> {
     assert_eq!(rt; file.writer().as_slice(), PAGE_2);
     let mut other = no_files(rt.alloc());
     for bytes in [PAGE_2, PAGE_2, b"DMPG\x03".as_slice(), b"".as_slice()] {
-        let mut input = Input::new(bytes);
-        other = import_command(
-            rt.alloc(),
-            other.store,
-            other.set,
-            &mut input,
-            &mut lines,
-            64,
-        );
+        other = import(rt.alloc(), other, bytes, &mut lines);
     }
     let other = scan(rt.alloc(), other, &images[..IMAGE_BYTES], &mut lines);
     assert_eq!(rt; other.status, 0);

@@ -131,51 +131,25 @@ fn prints_labels(rt: HostRuntime) -> Result<(), Fail> {
     Ok(())
 }
 
+// 33 digits, which no 16 labels of side 12 hold.
+const LONG: &[u8] = b"123456789012345678901234567890123";
+
+// A ledger, a document, a side and a printer's number, and the line of the refusal.
+const REFUSED: [(&[u8], &[u8], u16, u16, &[u8]); 8] = [
+    (NEW, b"12", 11, 0, b"refused Side\n"),
+    (NEW, LONG, 12, 0, b"refused TooLong\n"),
+    (NEW, b"12", 10, 0, b"refused TooLong\n"),
+    (NEW, b"12", 12, 7, b"refused Number\n"),
+    (USED_UP, b"12", 12, 0, b"refused Exhausted\n"),
+    (b"DMPG\x02", b"12", 12, 0, b"refused NotALedger\n"),
+    (b"DMLG\x03", b"12", 12, 0, b"refused Version\n"),
+    (b"DMLG\x02", b"12", 12, 0, b"refused Damaged\n"),
+];
+
 // Each refusal is a line on the standard error; nothing is written, and the ledger is as before.
 #[test]
 fn refuses_to_print(rt: HostRuntime) -> Result<(), Fail> {
-    let long = b"123456789012345678901234567890123";
-    let cases = [
-        (NEW, b"12".as_slice(), 11, 0, b"refused Side\n".as_slice()),
-        (NEW, long.as_slice(), 12, 0, b"refused TooLong\n".as_slice()),
-        (
-            NEW,
-            b"12".as_slice(),
-            10,
-            0,
-            b"refused TooLong\n".as_slice(),
-        ),
-        (NEW, b"12".as_slice(), 12, 7, b"refused Number\n".as_slice()),
-        (
-            USED_UP,
-            b"12".as_slice(),
-            12,
-            0,
-            b"refused Exhausted\n".as_slice(),
-        ),
-        (
-            b"DMPG\x02".as_slice(),
-            b"12".as_slice(),
-            12,
-            0,
-            b"refused NotALedger\n".as_slice(),
-        ),
-        (
-            b"DMLG\x03".as_slice(),
-            b"12".as_slice(),
-            12,
-            0,
-            b"refused Version\n".as_slice(),
-        ),
-        (
-            b"DMLG\x02".as_slice(),
-            b"12".as_slice(),
-            12,
-            0,
-            b"refused Damaged\n".as_slice(),
-        ),
-    ];
-    for (ledger, document, side, number, line) in cases {
+    for (ledger, document, side, number, line) in REFUSED {
         let options = PrintOptions {
             number,
             side,
