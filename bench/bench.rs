@@ -7,7 +7,7 @@ mod others;
 mod softcairn;
 mod symbol;
 
-use measure::{greatest_heap, medians};
+use measure::{Spread, greatest_heap, repeats, spread_of};
 use others::{Maker, Reader};
 use softcairn::Buffer;
 use std::fmt;
@@ -150,47 +150,64 @@ fn drawn(size: Size, text: &[u8]) -> Vec<u8> {
     Buffer::new().symbol_from_text(size.side, text).expect("the text fits").to_vec()
 }
 
-/// The time of a library for a work, in microseconds.
-struct Time {
+/// The times of a library for a work, in microseconds, repeat by repeat.
+struct Times {
     work: Work,
     library: &'static str,
     scale: usize,
-    microseconds: f64,
+    microseconds: Vec<f64>,
 }
 
-fn time_of(times: &[Time], work: Work, library: &str) -> Option<f64> {
-    times.iter().find(|time| time.work == work && time.library == library).map(|time| time.microseconds)
+fn times_of<'a>(times: &'a [Times], work: Work, library: &str) -> Option<&'a [f64]> {
+    times.iter().find(|time| time.work == work && time.library == library).map(|time| time.microseconds.as_slice())
 }
 
-fn print_times(times: &[Time]) {
-    println!("| work | library | microseconds | softcairn's time to it |");
+// How one's times are to another's, repeat by repeat.
+fn ratio_of(ours: &[f64], others: &[f64]) -> Spread {
+    let ratios: Vec<f64> = ours.iter().zip(others).map(|(ours, other)| ours / other).collect();
+    spread_of(&ratios)
+}
+
+fn print_times(times: &[Times]) {
+    println!("| work | library | microseconds | softcairn's time to it (quartiles) |");
     println!("|---|---|---:|---:|");
-    for Time { work, library, scale, microseconds } in times {
+    for Times { work, library, scale, microseconds } in times {
         let scaled = if *scale == 1 { String::new() } else { format!(", {scale} pixels a module") };
-        let ours = time_of(times, *work, OURS).expect("the project does every work");
-        println!("| {work} | {library}{scaled} | {microseconds:.2} | {:.3} |", ours / microseconds);
+        let ours = times_of(times, *work, OURS).expect("the project does every work");
+        let Spread { low, middle, high } = ratio_of(ours, microseconds);
+        let time = spread_of(microseconds).middle;
+        println!("| {work} | {library}{scaled} | {time:.2} | {middle:.3} ({low:.3} to {high:.3}) |");
     }
 }
 
-fn print_aim(what: &str, ours: Option<f64>, other: Option<f64>, aim: f64) {
-    match ours.zip(other).map(|(ours, other)| ours / other) {
+fn print_aim(what: &str, ours: Option<&[f64]>, others: Option<&[f64]>, aim: f64) {
+    match ours.zip(others).map(|(ours, others)| ratio_of(ours, others)) {
         None => println!("- {what}: not measured; aim at most {aim}"),
-        Some(ratio) => {
-            let verdict = if ratio <= aim { "reached" } else { "not reached" };
-            println!("- {what}: {ratio:.2}; aim at most {aim}: {verdict}");
+        Some(Spread { low, middle, high }) => {
+            let verdict = if middle <= aim { "reached" } else { "not reached" };
+            println!("- {what}: {middle:.2} ({low:.2} to {high:.2}); aim at most {aim}: {verdict}");
         }
     }
 }
 
-fn print_aims(times: &[Time], size: Size) {
-    let make = Work { kind: Kind::Make, side: size.side, wrong: 0 };
-    let clean = Work { kind: Kind::Read, side: size.side, wrong: 0 };
-    let damaged = Work { kind: Kind::Read, side: size.side, wrong: size.limit() };
-    let ours = |work| time_of(times, work, OURS);
-    let zxing = time_of(times, clean, "ZXing, pure");
-    print_aim(&format!("{make}, to libiec16022"), ours(make), time_of(times, make, "libiec16022"), 0.5);
-    print_aim(&format!("{clean}, to ZXing, pure"), ours(clean), zxing, 0.25);
-    print_aim(&format!("{damaged}, to ZXing, pure, of a clean one"), ours(damaged), zxing, 1.0);
+/// What is aimed at on the sides 52 and 132: the most of libiec16022's time to make a symbol, of ZXing's to read a clean
+/// one, and, to read one with wrong words, of ZXing's to read a clean one.
+const AIMS: [(u16, [f64; 3]); 2] = [(52, [0.45, 0.18, 0.40]), (132, [0.35, 0.18, 0.40])];
+
+fn print_aims(times: &[Times]) {
+    for size in SIZES {
+        let Some((_, [make_aim, clean_aim, damaged_aim])) = AIMS.iter().find(|(side, _)| *side == size.side) else {
+            continue;
+        };
+        let make = Work { kind: Kind::Make, side: size.side, wrong: 0 };
+        let clean = Work { kind: Kind::Read, side: size.side, wrong: 0 };
+        let damaged = Work { kind: Kind::Read, side: size.side, wrong: size.limit() };
+        let ours = |work| times_of(times, work, OURS);
+        let zxing = times_of(times, clean, "ZXing, pure");
+        print_aim(&format!("{make}, to libiec16022"), ours(make), times_of(times, make, "libiec16022"), *make_aim);
+        print_aim(&format!("{clean}, to ZXing, pure"), ours(clean), zxing, *clean_aim);
+        print_aim(&format!("{damaged}, to ZXing, pure, of a clean one"), ours(damaged), zxing, *damaged_aim);
+    }
 }
 
 // The greatest heap of one symbol made and of one read with wrong words.
@@ -222,11 +239,11 @@ fn measure_all() {
     contest.add_opening(greatest, 0);
     contest.add_opening(greatest, greatest.limit());
     let Contest { mut contenders, remarks } = contest;
-    let medians = medians(contenders.iter_mut().map(|contender| &mut contender.call));
-    let times: Vec<Time> = contenders
+    let repeats = repeats(contenders.iter_mut().map(|contender| &mut contender.call));
+    let times: Vec<Times> = contenders
         .iter()
-        .zip(medians)
-        .map(|(Contender { work, library, scale, .. }, microseconds)| Time {
+        .zip(repeats)
+        .map(|(Contender { work, library, scale, .. }, microseconds)| Times {
             work: *work,
             library,
             scale: *scale,
@@ -235,7 +252,7 @@ fn measure_all() {
         .collect();
     print_times(&times);
     println!();
-    print_aims(&times, greatest);
+    print_aims(&times);
     for size in SIZES {
         print_heap(size);
     }

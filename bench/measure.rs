@@ -7,7 +7,7 @@ use std::time::{Duration, Instant};
 /// How long one repeat takes at least.
 const REPEAT: Duration = Duration::from_millis(20);
 
-/// How many repeats there are; the median is told.
+/// How many repeats there are.
 const REPEATS: usize = 21;
 
 fn time_of(calls: u32, work: &mut impl FnMut()) -> Duration {
@@ -27,14 +27,24 @@ fn calls_of(work: &mut impl FnMut()) -> u32 {
     calls
 }
 
-fn median(mut times: Vec<f64>) -> f64 {
-    times.sort_by(f64::total_cmp);
-    times[times.len() / 2]
+/// The median of some numbers, and their quartiles.
+pub struct Spread {
+    pub low: f64,
+    pub middle: f64,
+    pub high: f64,
 }
 
-/// Microseconds of one call of each work, the medians of their repeats. The works take turns, so that what else the
-/// machine does comes to all alike.
-pub fn medians<F: FnMut()>(works: impl Iterator<Item = F>) -> Vec<f64> {
+/// The spread of some numbers, of which there is one at least.
+pub fn spread_of(numbers: &[f64]) -> Spread {
+    let mut sorted = numbers.to_vec();
+    sorted.sort_by(f64::total_cmp);
+    let at = |quarters: usize| sorted[(sorted.len() - 1) * quarters / 4];
+    Spread { low: at(1), middle: at(2), high: at(3) }
+}
+
+/// Microseconds of one call of each work, repeat by repeat. The works take turns, so that what else the machine does
+/// comes to all alike, and the repeats of two works can be compared one by one.
+pub fn repeats<F: FnMut()>(works: impl Iterator<Item = F>) -> Vec<Vec<f64>> {
     let mut works: Vec<(F, u32, Vec<f64>)> = works
         .map(|mut work| {
             let calls = calls_of(&mut work);
@@ -46,7 +56,7 @@ pub fn medians<F: FnMut()>(works: impl Iterator<Item = F>) -> Vec<f64> {
             times.push(time_of(*calls, work).as_secs_f64() * 1e6 / f64::from(*calls));
         }
     }
-    works.into_iter().map(|(_, _, times)| median(times)).collect()
+    works.into_iter().map(|(_, _, times)| times).collect()
 }
 
 static COUNTS: AtomicBool = AtomicBool::new(false);

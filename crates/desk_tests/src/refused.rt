@@ -247,3 +247,23 @@ fn each_growth_is_refused(rt: HostRuntime) -> Result<(), Fail> {
     }
     Err("growths without end".into())
 }
+
+#[test]
+fn memory_for_what_is_held_is_the_last_fault(rt: HostRuntime) -> Result<(), Fail> {
+    for passes in 0..MOST_GROWTHS {
+        let mut set = MemSet::new(rt.alloc());
+        set.replace(0, WHOLE)?;
+        set.replace(9, b"DMPG\x02")?;
+        // The set has memory of its own, so that a growth for what is held is refused.
+        let memory = Refusing::new(rt.alloc(), passes);
+        match Desk::open(&memory, set, 4) {
+            Ok(_) => return Err("a desk over a damaged file".into()),
+            Err(refused) => assert_eq!(rt; refused.fault, DeskFault::Damaged),
+        }
+        if !memory.is_spent() {
+            assert!(rt; passes > 0);
+            return Ok(());
+        }
+    }
+    Err("growths without end".into())
+}

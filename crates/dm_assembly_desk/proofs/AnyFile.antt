@@ -33,7 +33,7 @@ abbrev read_as : ℕ → Pages → Result (ℕ × Pages) FileFault
 read_as id pages = Ok (id, pages)
 
 -- bytes are no more than one file
-one_spelled : (bytes : List ℕ) (key : ℕ) (pages : Pages) (id : ℕ) (others : Pages) → Spells key bytes pages → Spells id bytes others → read_as key pages ≡ read_as id others
+pub one_spelled : (bytes : List ℕ) (key : ℕ) (pages : Pages) (id : ℕ) (others : Pages) → Spells key bytes pages → Spells id bytes others → read_as key pages ≡ read_as id others
 one_spelled bytes key pages id others h k =
     let same : key ≡ id = sym (key_is key bytes pages h) ∙ key_is id bytes others k in
     let moved : Spells id bytes pages = subst (λ (i : ℕ). Spells i bytes pages) same h in

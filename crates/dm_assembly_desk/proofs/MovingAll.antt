@@ -7,7 +7,7 @@ use Rattle.std.specs.Ordering.{nat_cmp}
 use Rattle.std.specs.declared.cmp.Ordering.TheVariants.{Less}
 use Rattle.std.specs.FinMap.{FinMap, entries, get, keys, empty, len, len-entries, len-empty, same_entries_map}
 use Rattle.std.proofs.lemmas.List.{take_all, length-take}
-use Rattle.dm_store.specs.Saved.{Saved, SavePlan, SavesFine, FaultOld, FaultNew, SavesOpen, Faulted, Follows, HeldAfterFault, Replaces}
+use Rattle.dm_store.specs.Saved.{Saved, LoadsOpen, SavePlan, SavesFine, FaultOld, FaultNew, SavesOpen, Faulted, outcome_of, Follows, HeldAfterFault, Replaces}
 use Rattle.dm_store.specs.Sets.{SavedSet, Contents}
 use Rattle.dm_store.specs.declared.store.ReplaceFault.{ReplaceFault}
 use Rattle.dm_store.specs.declared.store.ReplaceFault.TheVariants as replaces
@@ -15,13 +15,14 @@ use Rattle.dm_assembly_desk.specs.Pages.{Pages}
 use Rattle.dm_assembly_desk.specs.Documents.{Documents}
 use Rattle.dm_assembly_desk.specs.JointFiles.{entries_of, joint_file, SpellsAll, HoldsJointFile, IsOfOtherJointVersion, HasJointFileFault}
 use Rattle.dm_assembly_desk.specs.inner.ReadingJoint.{entries_at, ReadsJointFile}
-use Rattle.dm_assembly_desk.specs.Moving.{file_in_either, AllFine, HasMoveFault, KeepsFiles, Moves}
+use Rattle.dm_assembly_desk.specs.Moving.{file_in_either, AllFine, HasMoveFault, KeepsFiles, KeepsPlans, LeavesAlone, AnswersNone, Moves}
 use Rattle.dm_assembly_desk.specs.inner.MovingOn.{Moving, MovesEntries}
 use Rattle.dm_assembly_desk.specs.declared.fault.MoveFault.{MoveFault}
 use Rattle.dm_assembly_desk.specs.declared.fault.MoveFault.TheVariants.{NotPages, Version, Damaged, Device, Memory}
 use Rattle.dm_assembly_desk.proofs.FileLaws.{all_taken, four_of, fifth_of}
 use Rattle.dm_assembly_desk.proofs.Loading.{above, keys_rise, entries_empty}
 use Rattle.dm_assembly_desk.proofs.MovingLaws.{all_found, moved, joined_alone}
+use Rattle.dm_assembly_desk.proofs.MovingSteps.{stays_fine}
 use Rattle.dm_assembly_desk.proofs.JointEntries.{entries_again}
 use Rattle.dm_assembly_desk.proofs.JointFileLaws.{old_again, each_entry, held_rising}
 
@@ -56,6 +57,13 @@ module _ (bytes loaded : List ℕ) (is : loaded ≡ take (42636295 + 1) bytes) w
   fault_of_whole Device h = h
   fault_of_whole Memory h = h
 
+  fault_of_loaded : (fault : MoveFault) → HasJointFileFault bytes fault → HasJointFileFault loaded fault
+  fault_of_loaded NotPages h = λ m. h (sym same_front ∙ m)
+  fault_of_loaded Version h = (same_front ∙ h.0, to_loaded h.1)
+  fault_of_loaded Damaged h = (same_front ∙ h.0, λ o. h.1 (to_whole o), λ held s. h.2 held (whole_old held s))
+  fault_of_loaded Device h = h
+  fault_of_loaded Memory h = h
+
 some_saved : (n : ℕ) (o : Option (List ℕ)) (loaded : List ℕ) → Some loaded ≡ option_map (take n) o → (bytes : List ℕ) × (o ≡ Some bytes) × (loaded ≡ take n bytes)
 some_saved n None loaded e = absurd cc
 some_saved n (Some bytes) loaded e = (bytes, refl, cc)
@@ -64,6 +72,11 @@ pub faulty_content : (content : Option (List ℕ)) (loaded : List ℕ) (fault : 
 faulty_content content loaded fault e h =
     let l = some_saved (42636295 + 1) content loaded e in
     subst (λ (o : Option (List ℕ)). IsSomeAnd o (λ bytes. HasJointFileFault bytes fault)) (sym l.1) (fault_of_whole l.0 loaded l.2 fault h)
+
+pub loaded_fault : (content : Option (List ℕ)) (loaded : List ℕ) (fault : MoveFault) → Some loaded ≡ option_map (take (42636295 + 1)) content → IsSomeAnd content (λ bytes. HasJointFileFault bytes fault) → HasJointFileFault loaded fault
+loaded_fault content loaded fault e h =
+    let l = some_saved (42636295 + 1) content loaded e in
+    fault_of_loaded l.0 loaded l.2 fault (subst (λ (o : Option (List ℕ)). IsSomeAnd o (λ bytes. HasJointFileFault bytes fault)) l.1 h)
 
 pub old_content : (content : Option (List ℕ)) (loaded : List ℕ) (held : Documents) → Some loaded ≡ option_map (take (42636295 + 1)) content → SpellsAll loaded held → HoldsJointFile content held
 old_content content loaded held e s =
@@ -158,6 +171,38 @@ holds_none = record { entries = entries_empty; spelled = sym emptied; short = om
 
 pub stays : (old : Saved) (set : SavedSet) → KeepsFiles old set old set
 stays old set honest set_honest held h = (held, h, λ id. refl)
+
+pub plans_stay : (old : Saved) (set : SavedSet) → KeepsPlans old set old set
+plans_stay old set = record {
+  old_honesty = refl;
+  old_loads = refl;
+  old_saves = λ e. e;
+  set_honesty = refl;
+  set_loads = refl;
+  set_saves = λ e. e;
+}
+
+-- the plans once entries were moved, and once the old file was replaced after that
+module _ (old : Saved) (set : SavedSet) (ks : List ℕ) (count : ℕ) (rest : List ℕ) (after : SavedSet) where
+  pub plans_abandoned : (fault : ReplaceFault) → MovesEntries set ks count rest (Err fault) after → KeepsPlans old set old after
+  plans_abandoned fault m = record {
+    old_honesty = refl;
+    old_loads = refl;
+    old_saves = λ e. e;
+    set_honesty = m.2.same_honesty;
+    set_loads = m.2.same_load_plan;
+    set_saves = m.2.fine;
+  }
+
+  pub plans_replaced : (written : ℕ) → MovesEntries set ks count rest (Ok written) after → (bytes : List ℕ) (answer : Result (Unit {0}) ReplaceFault) (old_after : Saved) → Replaces old bytes answer old_after → KeepsPlans old set old_after after
+  plans_replaced written m bytes answer old_after p = record {
+    old_honesty = p.same_honesty;
+    old_loads = p.same_load_plan;
+    old_saves = λ e. stays_fine old.save_plan (outcome_of answer) old_after.save_plan p.follows e;
+    set_honesty = m.2.same_honesty;
+    set_loads = m.2.same_load_plan;
+    set_saves = m.2.fine;
+  }
 
 -- the entries that were read are those of the documents
 module _ (old : Saved) (set : SavedSet) (loaded : List ℕ) (ks : List ℕ) (count : ℕ) (rest : List ℕ)
@@ -258,3 +303,73 @@ faulty old set loaded Memory loads h = absurd h
 
 pub not_fine : (old : Saved) (set : SavedSet) (bytes : List ℕ) (after : Saved) → Replaces old bytes (Err replaces.Device) after → ¬ AllFine old set
 not_fine old set bytes after p f = subst (λ (plan : SavePlan). Follows plan Faulted after.save_plan) f.old_saves p.follows
+
+-- ---- an old store that has nothing to move
+
+marked : (held : Documents) → take 4 (joint_file held) ≡ 68 ∷ 77 ∷ 80 ∷ 71 ∷ []
+unfolding joint_file
+marked held = refl
+
+fifth : (held : Documents) → slice_get (joint_file held) 4 ≡ Some 1
+unfolding joint_file
+fifth held = refl
+
+no_fault : (bytes : List ℕ) (held : Documents) → SpellsAll bytes held → (fault : MoveFault) → HasJointFileFault bytes fault → ⊥
+no_fault bytes held s NotPages h = h (ap (take 4) s.spelled ∙ marked held)
+no_fault bytes held s Version h =
+    subst (λ (o : Option ℕ). IsSomeAnd o (λ version. version ≢ 1)) (ap (λ (bs : List ℕ). slice_get bs 4) s.spelled ∙ fifth held) h.1 refl
+no_fault bytes held s Damaged h = h.2 held s
+no_fault bytes held s Device h = h
+no_fault bytes held s Memory h = h
+
+one_fault : (bytes : List ℕ) (f g : MoveFault) → HasJointFileFault bytes f → HasJointFileFault bytes g → f ≡ g
+one_fault bytes NotPages NotPages a b = refl
+one_fault bytes NotPages Version a b = absurd (a b.0)
+one_fault bytes NotPages Damaged a b = absurd (a b.0)
+one_fault bytes Version NotPages a b = absurd (b a.0)
+one_fault bytes Version Version a b = refl
+one_fault bytes Version Damaged a b = absurd (b.1 a.1)
+one_fault bytes Damaged NotPages a b = absurd (b a.0)
+one_fault bytes Damaged Version a b = absurd (a.1 b.1)
+one_fault bytes Damaged Damaged a b = refl
+one_fault bytes f Device a b = absurd b
+one_fault bytes f Memory a b = absurd b
+one_fault bytes Device g a b = absurd a
+one_fault bytes Memory g a b = absurd a
+
+abbrev answered : ℕ → Result ℕ MoveFault
+answered written = Ok written
+
+abbrev refused : MoveFault → Result ℕ MoveFault
+refused fault = Err fault
+
+pub leaves_none : (old : Saved) (set : SavedSet) → (IsTrue old.is_honest → None ≡ option_map (take (42636295 + 1)) old.content) → LeavesAlone old set (Ok 0) old set
+leaves_none old set loads honest (Ok written) h = (refl, refl, inl (ap answered (sym h.1)))
+leaves_none old set loads honest (Err fault) h =
+    absurd (subst (λ (o : Option (List ℕ)). IsSomeAnd o (λ bytes. HasJointFileFault bytes fault)) (none_content old.content (loads honest)) h)
+
+pub leaves_failed : (old : Saved) (set : SavedSet) → old.load_plan ≡ LoadsOpen → LeavesAlone old set (Err Device) old set
+leaves_failed old set may honest answer h = (refl, refl, inr may)
+
+pub leaves_refused : (old : Saved) (set : SavedSet) → LeavesAlone old set (Err Memory) old set
+leaves_refused old set honest answer h = (refl, refl, inr tt)
+
+module _ (old : Saved) (set : SavedSet) (loaded : List ℕ)
+    (loads : IsTrue old.is_honest → Some loaded ≡ option_map (take (42636295 + 1)) old.content) where
+  pub leaves_faulty : (fault : MoveFault) → HasJointFileFault loaded fault → LeavesAlone old set (Err fault) old set
+  leaves_faulty fault f honest (Ok written) h = absurd (no_fault loaded empty (spelled_content old.content loaded empty (loads honest) h.0) fault f)
+  leaves_faulty fault f honest (Err other) h = (refl, refl, inl (ap refused (one_fault loaded fault other f (loaded_fault old.content loaded other (loads honest) h))))
+
+  module _ (count : ℕ) (rest : List ℕ) (r : ReadsJointFile loaded count rest) where
+    pub leaves_empty : LeavesAlone old set (Ok 0) old set
+    leaves_empty honest (Ok written) h = (refl, refl, inl (ap answered (sym h.1)))
+    leaves_empty honest (Err fault) h = absurd (no_fault loaded r.held r.spelled fault (loaded_fault old.content loaded fault (loads honest) h))
+
+    has_some : (count ≡ 0 → ⊥) → IsTrue old.is_honest → (answer : Result ℕ MoveFault) → AnswersNone old.content answer → ⊥
+    has_some some honest (Ok written) h =
+        let none : r.held ≡ empty = one_old loaded r.held empty r.spelled (spelled_content old.content loaded empty (loads honest) h.0) in
+        some (r.counted ∙ ap (λ (d : Documents). len d) none ∙ len-empty nat_cmp Pages)
+    has_some some honest (Err fault) h = no_fault loaded r.held r.spelled fault (loaded_fault old.content loaded fault (loads honest) h)
+
+    pub leaves_some : (count ≡ 0 → ⊥) → (result : Result ℕ MoveFault) (old_after : Saved) (set_after : SavedSet) → LeavesAlone old set result old_after set_after
+    leaves_some some result old_after set_after honest answer h = absurd (has_some some honest answer h)

@@ -6,7 +6,7 @@ use Rattle.std.specs.Ordering.{nat_cmp, eq_by_cmp}
 use Rattle.std.specs.FinMap.{entries, get, insert, keys, contains_key-keys}
 use Rattle.std.proofs.lemmas.Bool.{eqb-true}
 use Rattle.std.proofs.lemmas.List.{take_at}
-use Rattle.dm_store.specs.Saved.{SavePlan, SavesFine, FaultOld, FaultNew, SavesOpen, Done, Faulted, Follows, HeldAfterFault}
+use Rattle.dm_store.specs.Saved.{SavePlan, SavesFine, FaultOld, FaultNew, SavesOpen, Outcome, Done, Faulted, Refused, outcome_of, Follows, HeldAfterFault}
 use Rattle.dm_store.specs.Sets.{SavedSet, Contents, ReplacesKey}
 use Rattle.dm_store.specs.declared.store.ReplaceFault.{ReplaceFault}
 use Rattle.dm_store.specs.declared.store.ReplaceFault.TheVariants as replaces
@@ -128,6 +128,15 @@ either FaultNew a b c h = inr h
 either SavesFine a b c h = h
 either SavesOpen a b c h = h
 
+-- a fine plan stays fine, however a save ends
+pub stays_fine : (plan : SavePlan) (outcome : Outcome) (next : SavePlan) → Follows plan outcome next → plan ≡ SavesFine → next ≡ SavesFine
+stays_fine plan outcome next f e = from_fine outcome (subst (λ (p : SavePlan). Follows p outcome next) e f)
+  where
+    from_fine : (end : Outcome) → Follows SavesFine end next → next ≡ SavesFine
+    from_fine Done h = h
+    from_fine Refused h = h
+    from_fine Faulted h = absurd h
+
 module _ (start now : SavedSet) (ks : List ℕ) (all : List (ℕ × Pages)) (e : ℕ × Pages) (rest : List (ℕ × Pages)) (written : ℕ) (c : Carries start now ks all (e ∷ rest) written) where
   pub passes : among e.0 ks ≡ true → Carries start now ks all rest written
   passes there = record {
@@ -169,6 +178,7 @@ module _ (start now : SavedSet) (ks : List ℕ) (all : List (ℕ × Pages)) (e :
     abandons fault r = record {
       same_honesty = r.same_honesty ∙ c.same_honesty;
       same_load_plan = r.same_load_plan ∙ c.same_load_plan;
+      fine = λ fine. stays_fine now.save_plan (outcome_of (Err fault)) after.save_plan r.follows (c.fine fine);
       device = not_fine fault r;
       joined = joined_after fault r;
     }

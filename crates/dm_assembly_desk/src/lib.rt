@@ -1,17 +1,17 @@
 //! Desks, which gather the pages of documents from scanned labels, and save each document in a file of its own.
 //!
-//! [`Desk::open`] makes a desk over a set of stores, which holds what the set has the files of. [`Desk::accept`] opens
-//! a scanned label and saves its page, [`Desk::pages`] lends what is held of a document, [`Desk::document`] joins its
-//! pages where each of them is held, and [`Desk::forget`] lets it go. [`Desk::export`] gives the pages held of a
-//! document as a file, and [`Desk::import`] adds those of such a file. [`move_pages`] moves the documents of a file of
-//! version 1, in which all stand together, to a set.
+//! [`Desk::open`] makes a desk over a set of stores, which holds the documents whose files the set has.
+//! [`Desk::accept`] opens a scanned label and saves its page, [`Desk::pages`] lends what is held of a document,
+//! [`Desk::document`] joins its pages where each of them is held, and [`Desk::forget`] lets it go. [`Desk::export`]
+//! gives the pages held of a document as a file, and [`Desk::import`] adds those of such a file. [`move_pages`] moves
+//! the documents of a file of version 1, in which all stand together, to a set.
 //!
 //! Proved: each answer is that to what is held, and each refusal the first that applies. A page is saved before it is
 //! answered, and one that is held keeps its bytes until its document is forgotten. A document is given only where each
-//! of its pages is held, and then it is these, joined in order. A call on one document leaves all others. All but a
-//! failed save leave the desk and its set as they were; after one that failed the set holds the old or the new file,
-//! and the desk answers `Failed` until it is opened again. A desk that is opened on what an honest set kept holds
-//! exactly that.
+//! of its pages is held, and then it is these, joined in order. A call on one document leaves all others. Every
+//! refusal but a failed save leaves the desk and its set as they were; after one that failed the set holds the old or
+//! the new file, and the desk answers `Failed` until it is opened again. A desk that is opened on what an honest set
+//! kept holds exactly that.
 #![tactic(auto)]
 
 mod accepting;

@@ -2,7 +2,7 @@
 
 ghost use Rattle.std.specs.Prelude.{◌≡◌, ◌<◌, ◌∷◌, ℕ, slice_index_or, IsSome, IfOk, IfErr};
 ghost use Rattle.dm_store.specs.Sets.{ReplacesKey};
-ghost use Rattle.dm_assembly_desk.specs.Moving.{Moves, HasMoveFault, KeepsFiles};
+ghost use Rattle.dm_assembly_desk.specs.Moving.{Moves, HasMoveFault, KeepsFiles, KeepsPlans, LeavesAlone};
 ghost use Rattle.dm_assembly_desk.specs.inner.ReadingJoint.{entries_at};
 ghost use Rattle.dm_assembly_desk.specs.inner.MovingOn.{MovesEntries};
 
@@ -31,6 +31,8 @@ pub fn move_pages<O: Store, S: StoreSet, A: Allocator + Copy>(
     ensures fault { IfErr result (λ fault.
         HasMoveFault (O.state old.old) (S.state set.old) fault (O.state old.new) (S.state set.new)) }
     ensures kept { KeepsFiles (O.state old.old) (S.state set.old) (O.state old.new) (S.state set.new) }
+    ensures exact { LeavesAlone (O.state old.old) (S.state set.old) result (O.state old.new) (S.state set.new) }
+    ensures plans { KeepsPlans (O.state old.old) (S.state set.old) (O.state old.new) (S.state set.new) }
 {
     let bytes = match old.load(MOST_JOINT_FILE_BYTES) {
         Ok(Some(bytes)) => bytes,

@@ -30,7 +30,7 @@ impl<S: StoreSet, A: Allocator + Copy> Desk<S, A> {
     ghost use Rattle.dm_assembly_desk.specs.Opening.{HoldsNone, IsRefusal, MayFailToLoad, Opens};
     ghost use Rattle.dm_assembly_desk.specs.Views.{IsInOrder};
 
-    /// A desk with room for `capacity` documents, 1 to 1,024, which holds what the set has the files of.
+    /// A desk with room for `capacity` documents, 1 to 1,024, which holds the documents whose files the set has.
     ///
     /// # Errors
     /// `Capacity`; the keys' `Device` or `Memory`; `TooMany`; for each key, as they rise, its load's `Device` or

@@ -7,7 +7,7 @@ use dm_append_label::{FileId, LabelFault, Page, seal};
 use dm_check_blocks::Size;
 use dm_encodation::Scheme;
 use dm_finder_frame::Grid;
-use dm_store::{MemSet, MemStore, NextSave, StoreSet};
+use dm_store::{MemSet, MemStore, NextSave, ReplaceFault, Store, StoreSet};
 use std::alloc::{AllocError, Allocator};
 use std::process::Abort;
 use std::test::Fail;
@@ -524,12 +524,45 @@ fn a_joint_file_is_moved(rt: HostRuntime) -> Result<(), Fail> {
     Ok(())
 }
 
+// A file of version 1 with the documents 0 and 2.
+const JOINT_OF_TWO: &[u8] =
+    b"DMPG\x01\x00\x02\x01\x01\x02\x00\x02\x00\x0234\x01\x03\x02\x00\x03\x00\x025\x06\x00\x00";
+
+#[test]
+fn a_move_ends_at_its_first_fault(rt: HostRuntime) -> Result<(), Fail> {
+    let alloc = rt.alloc();
+    for (next, first) in [
+        (NextSave::FaultOld, None),
+        (NextSave::FaultNew, Some(SECOND)),
+    ] {
+        let mut old = MemStore::with(alloc, JOINT_OF_TWO.to_vec(alloc)?);
+        let mut set = MemSet::new(alloc);
+        set.set_next(next);
+        assert!(rt; move_pages(alloc, &mut old, &mut set) == Err(MoveFault::Device));
+        assert!(rt; set.content(0) == first && set.content(2).is_none());
+        assert!(rt; old.content() == Some(JOINT_OF_TWO));
+    }
+    Ok(())
+}
+
+#[test]
+fn nothing_is_saved_where_there_is_no_document(rt: HostRuntime) -> Result<(), Fail> {
+    let alloc = rt.alloc();
+    let mut old = MemStore::with(alloc, JOINT_OF_NONE.to_vec(alloc)?);
+    let mut set = MemSet::new(alloc);
+    old.set_next(NextSave::FaultOld);
+    set.set_next(NextSave::FaultOld);
+    assert!(rt; move_pages(alloc, &mut old, &mut set) == Ok(0));
+    // The next saves are still those that fail.
+    assert!(rt; old.replace(SECOND) == Err(ReplaceFault::Device));
+    assert!(rt; set.replace(0, SECOND) == Err(ReplaceFault::Device));
+    Ok(())
+}
+
 #[test]
 fn two_documents_are_moved(rt: HostRuntime) -> Result<(), Fail> {
     let alloc = rt.alloc();
-    let bytes =
-        b"DMPG\x01\x00\x02\x01\x01\x02\x00\x02\x00\x0234\x01\x03\x02\x00\x03\x00\x025\x06\x00\x00";
-    let mut old = MemStore::with(alloc, bytes.as_slice().to_vec(alloc)?);
+    let mut old = MemStore::with(alloc, JOINT_OF_TWO.to_vec(alloc)?);
     let mut set = MemSet::new(alloc);
     assert!(rt; move_pages(alloc, &mut old, &mut set) == Ok(2));
     assert!(rt; set.content(0) == Some(SECOND));

@@ -11,7 +11,7 @@ use Rattle.dm_assembly_desk.specs.FaultNames.{ask_fault_name, desk_fault_name, e
 use Rattle.dm_assembly_desk.specs.Files.{file}
 use Rattle.dm_assembly_desk.specs.Forgetting.{Forgets}
 use Rattle.dm_assembly_desk.specs.Importing.{ImportsBytes}
-use Rattle.dm_assembly_desk.specs.Moving.{HasMoveFault, KeepsFiles, Moves}
+use Rattle.dm_assembly_desk.specs.Moving.{HasMoveFault, KeepsFiles, KeepsPlans, Moves}
 use Rattle.dm_assembly_desk.specs.Opening.{HasDeskFault, Opens}
 use Rattle.dm_assembly_desk.specs.Pages.{Pages, document_of, missing_mask}
 use Rattle.dm_assembly_desk.specs.Views.{DeskView}
@@ -40,11 +40,13 @@ pub record DeskFiles : Type 0 where
   pub joint : Saved
   pub set : SavedSet
 
--- the documents of the joint file were moved to the set, and nothing that both held was lost
+-- The documents of the joint file were moved to the set, and nothing that both held was lost. Honesty stays, the plans of
+-- loads stay, and fine plans of saves stay fine.
 pub record MovesFiles (before after : DeskFiles) : Type 0 where
   pub written : ℕ
   pub moves : Moves before.joint before.set written after.joint after.set
   pub kept : KeepsFiles before.joint before.set after.joint after.set
+  pub plans : KeepsPlans before.joint before.set after.joint after.set
 
 -- the documents were moved, and then a desk with this room was opened on the set
 pub record OpensDesk (before : DeskFiles) (capacity : ℕ) (joint : Saved) (desk : DeskView) : Type 0 where
@@ -55,7 +57,7 @@ pub record OpensDesk (before : DeskFiles) (capacity : ℕ) (joint : Saved) (desk
 pub data HasNoDesk (before : DeskFiles) (capacity : ℕ) (old : OutputView) : ℕ → DeskFiles → OutputView → Type 0 where
   not_moved : {status : ℕ} {after : DeskFiles} {new : OutputView} (fault : MoveFault)
       → HasMoveFault before.joint before.set fault after.joint after.set
-      → KeepsFiles before.joint before.set after.joint after.set
+      → KeepsFiles before.joint before.set after.joint after.set → KeepsPlans before.joint before.set after.joint after.set
       → TellsRefusal (move_fault_name fault) old new status → HasNoDesk before capacity old status after new
   not_opened : {status : ℕ} {after : DeskFiles} {new : OutputView} (fault : DeskFault) → MovesFiles before after
       → HasDeskFault after.set capacity fault → TellsRefusal (desk_fault_name fault) old new status

@@ -38,6 +38,7 @@ pub record Carries (start now : SavedSet) (ks : List ℕ) (all rest : List (ℕ 
 pub record Abandons (start now : SavedSet) (ks : List ℕ) (all : List (ℕ × Pages)) (fault : ReplaceFault) : Type 0 where
   pub same_honesty : now.is_honest ≡ start.is_honest
   pub same_load_plan : now.load_plan ≡ start.load_plan
+  pub fine : start.save_plan ≡ SavesFine → now.save_plan ≡ SavesFine
   pub device : fault ≡ replaces.Device → start.save_plan ≢ SavesFine
   pub joined : IsTrue start.is_honest → ks ≡ map.keys start.content → (held : Documents) → map.entries held ≡ all →
       (id : ℕ) → file_in_either now.content held id ≡ file_in_either start.content held id
