@@ -5,7 +5,7 @@ use Rattle.relay.proofs.desk_opening.open_desk.Goals as goal
 pub returns-in-Err : goal.returns-in-Err
 returns-in-Err g c =
     not_moved c.in-Err.fault c.in-Err.ensures.fault c.in-Err.ensures.kept c.in-Err.ensures.plans
-        (rw c.name.ensures at c.refuse-status.ensures)
+    (rw c.name.ensures at c.refuse-status.ensures)
 
 pub returns-in-Ok-open : goal.returns-in-Ok-open
 returns-in-Ok-open g c =
@@ -28,10 +28,10 @@ pub returns-in-Err-open : goal.returns-in-Err-open
 returns-in-Err-open g c =
     let same = sym c.in-Err-open.ensures.same in
     not_opened c.in-Err-open.refused.fault
-        (record {
-          written = c.in-Ok.field-0;
-          moves = rw same at c.in-Ok.ensures.ok;
-          kept = rw same at c.in-Ok.ensures.kept;
-          plans = rw same at c.in-Ok.ensures.plans;
-        })
-        (rw same at c.in-Err-open.ensures.fault) (rw c.name-in-Err-open.ensures at c.refuse-status-in-Err-open.ensures)
+    (record {
+      written = c.in-Ok.field-0;
+      moves = rw same at c.in-Ok.ensures.ok;
+      kept = rw same at c.in-Ok.ensures.kept;
+      plans = rw same at c.in-Ok.ensures.plans;
+    })
+    (rw same at c.in-Err-open.ensures.fault) (rw c.name-in-Err-open.ensures at c.refuse-status-in-Err-open.ensures)
