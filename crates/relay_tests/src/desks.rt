@@ -43,6 +43,15 @@ fn labels(alloc: Global) -> Result<Vec<u8>, Fail> {
     Ok(output.into_writer())
 }
 
+// The first of the two images, and the second.
+fn first(images: &[u8]) -> &[u8] {
+    images.get(..IMAGE_BYTES).unwrap_or(&[])
+}
+
+fn second(images: &[u8]) -> &[u8] {
+    images.get(IMAGE_BYTES..).unwrap_or(&[])
+}
+
 // A desk's files in memory.
 type Files = EndedDesk<MemStore, MemSet>;
 
@@ -82,12 +91,12 @@ fn gathers_labels(rt: HostRuntime) -> Result<(), Fail> {
     let files = scan(
         rt.alloc(),
         no_files(rt.alloc()),
-        &images[IMAGE_BYTES..],
+        second(&images),
         &mut lines,
     );
     assert_eq!(rt; files.status, 0);
     assert_eq!(rt; files.set.content(0), Some(PAGE_2));
-    let files = scan(rt.alloc(), files, &images[IMAGE_BYTES..], &mut lines);
+    let files = scan(rt.alloc(), files, second(&images), &mut lines);
     let mut document = Output::new(Vec::new(rt.alloc()));
     let files = deliver(rt.alloc(), files, &mut document, &mut errors);
     assert_eq!(rt; files.status, 1);
@@ -114,7 +123,7 @@ fn forgets(rt: HostRuntime) -> Result<(), Fail> {
     let files = scan(
         rt.alloc(),
         no_files(rt.alloc()),
-        &images[IMAGE_BYTES..],
+        second(&images),
         &mut lines,
     );
     let files = forget_command(rt.alloc(), files.store, files.set, &mut lines, "0101");
@@ -139,7 +148,7 @@ fn exports_and_imports(rt: HostRuntime) -> Result<(), Fail> {
     let files = scan(
         rt.alloc(),
         no_files(rt.alloc()),
-        &images[IMAGE_BYTES..],
+        second(&images),
         &mut lines,
     );
     let files = export_command(
@@ -156,7 +165,7 @@ fn exports_and_imports(rt: HostRuntime) -> Result<(), Fail> {
     for bytes in [PAGE_2, PAGE_2, b"DMPG\x03".as_slice(), b"".as_slice()] {
         other = import(rt.alloc(), other, bytes, &mut lines);
     }
-    let other = scan(rt.alloc(), other, &images[..IMAGE_BYTES], &mut lines);
+    let other = scan(rt.alloc(), other, first(&images), &mut lines);
     assert_eq!(rt; other.status, 0);
     assert_eq!(rt;
         lines.writer().as_slice(),
@@ -198,7 +207,7 @@ fn moves_a_joint_file_first(rt: HostRuntime) -> Result<(), Fail> {
         store: MemStore::with(rt.alloc(), JOINT.to_vec(rt.alloc())?),
         set: MemSet::new(rt.alloc()),
     };
-    let files = scan(rt.alloc(), old, &images[..IMAGE_BYTES], &mut lines);
+    let files = scan(rt.alloc(), old, first(&images), &mut lines);
     assert_eq!(rt; files.status, 0);
     assert_eq!(rt; files.store.content(), Some(NO_DOCUMENTS));
     let damaged = EndedDesk {
@@ -241,7 +250,7 @@ fn ends_after_a_failed_save(rt: HostRuntime) -> Result<(), Fail> {
         assert_eq!(rt; files.status, 1);
         assert_eq!(rt; lines.writer().as_slice(), b"refused Save\n".as_slice());
         let mut lines = Output::new(Vec::new(rt.alloc()));
-        scan(rt.alloc(), files, &images[..IMAGE_BYTES], &mut lines);
+        scan(rt.alloc(), files, first(&images), &mut lines);
         assert_eq!(rt; lines.writer().as_slice(), line);
     }
     Ok(())
@@ -277,7 +286,7 @@ fn holds_what_it_could_not_say(rt: HostRuntime) -> Result<(), Fail> {
     let images = labels(rt.alloc())?;
     for passes in 0..b"0101 2/2 new\n".len() {
         let mut lines = Output::new(FailingWriter::new(Vec::new(rt.alloc()), passes));
-        let mut input = Input::new(&images[IMAGE_BYTES..]);
+        let mut input = Input::new(second(&images));
         let files = scan_command(
             rt.alloc(),
             MemStore::new(rt.alloc()),
@@ -310,7 +319,7 @@ fn scan_is_refused_by_name(rt: HostRuntime) -> Result<(), Fail> {
     let images = labels(rt.alloc())?;
     for passes in 0..MOST_GROWTHS {
         let memory = Refusing::new(rt.alloc(), passes);
-        let (lines, ended) = scanned_with(&memory, rt.alloc(), &images[IMAGE_BYTES..]);
+        let (lines, ended) = scanned_with(&memory, rt.alloc(), second(&images));
         if !memory.is_spent() {
             assert_eq!(rt; (ended.status, passes > 0), (0, true));
             return Ok(());
