@@ -36,5 +36,5 @@ pub use job::Job;
 pub use limits::{GREATEST, MOST_BYTES, MOST_GIVERS, MOST_RANGES, TICKET_BYTES};
 pub use opening::OpenRefused;
 pub use printer::Printer;
-pub use range::Range;
+pub use range::{Range, is_range};
 pub use ticket::Ticket;

@@ -1,0 +1,13 @@
+pub mod LabelsOut
+pub mod PrinterStops
+pub mod ApartRanges
+pub mod FewRanges
+pub mod FreshPrinters
+pub mod DeskSets
+pub mod DeskCalls
+pub mod DeskReplies
+pub mod EmptyDesks
+pub mod Ready
+pub mod OneStep
+pub mod ScannedLabels
+pub mod Runs

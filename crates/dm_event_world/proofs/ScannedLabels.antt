@@ -1,0 +1,46 @@
+-- Scans: which of them name what is there, and which are fair.
+use Rattle.std.proofs.Common.{◌≡◌, ◌↔◌, ◌<◌, ◌≤◌, ℕ, Bool, true, Some, Option, Result, Ok, Err, IfOk, IsTrue, List, All, length, map, slice_get, refl, ap, sym, ◌∙◌, subst, arith}
+use Rattle.std.specs.Prelude.{option_map}
+use Rattle.std.proofs.lemmas.Option.{slice_get-map, slice_get_within}
+use Rattle.dm_check_blocks.specs.Sizes.{side}
+use Rattle.dm_finder_frame.specs.Grids.{GridView, flipped}
+use Rattle.dm_symbol.specs.Symbols.{IsNear}
+use Rattle.dm_event_history.specs.declared.event.Event.{Event}
+use Rattle.dm_event_history.specs.declared.event.Event.TheVariants.{Scan}
+use Rattle.dm_event_history.specs.declared.stop.Stop.{Stop}
+use Rattle.dm_event_history.specs.Honest.{IsFair}
+use Rattle.dm_event_steps.specs.declared.actor.LeftLabel.{LeftLabel}
+use Rattle.dm_event_steps.specs.Labels.{grid_of}
+use Rattle.dm_event_steps.specs.Worlds.{WorldView, IsNamed, IsFairIn, grids_of}
+
+-- each module is in the grid
+abbrev pub AreWithin : GridView → List (ℕ × ℕ) → Type 0
+AreWithin grid flips = All (λ flip. (flip.0 < side grid.size) × (flip.1 < side grid.size)) flips
+
+pub no_label : {A : Type 0} (old : WorldView A) (d label : ℕ) (flips : List (ℕ × ℕ)) (stop : Stop) → length old.labels ≤ label →
+    ¬ IsNamed old (Scan d label flips stop)
+no_label old d label flips stop past named =
+    let within = slice_get_within old.labels label named.1 named.2 in absurd (omega arith)
+
+pub outside : {A : Type 0} (old : WorldView A) (d label : ℕ) (flips : List (ℕ × ℕ)) (stop : Stop) (left : LeftLabel A) →
+    slice_get old.labels label ≡ Some left → (¬ AreWithin left.grid flips) → ¬ IsNamed old (Scan d label flips stop)
+outside {A} old d label flips stop left is out named =
+    let same : named.1 ≡ left = (let e = named.2 in cc) in
+    out (subst (λ (l : LeftLabel A). AreWithin l.grid flips) same named.3)
+
+-- what is near is fair, where the scan names what is there
+pub fair_scan : {A E : Type 0} (old : WorldView A) (event : Event A) (d label : ℕ) (flips : List (ℕ × ℕ)) (stop : Stop)
+    (left : LeftLabel A) (near : Result Bool E) → event ≡ Scan d label flips stop → d < length old.desks →
+    slice_get old.labels label ≡ Some left → AreWithin left.grid flips →
+    IfOk near (λ is_near. IsTrue is_near ↔ IsNear (flipped left.grid flips) left.grid) →
+    IfOk near (λ honest. (honest ≡ true) ↔ IsFairIn old event)
+fair_scan old event d label flips stop left (Err e) event_is there is within near = tt
+fair_scan {A} old event d label flips stop left (Ok honest) event_is there is within near =
+    subst (λ (e : Event A). (honest ≡ true) ↔ IsFairIn old e) (sym event_is) (
+      (λ yes named grid at.
+          let same : left.grid ≡ grid =
+          (let e = sym (ap (option_map grid_of) is) ∙ sym (slice_get-map grid_of old.labels label) ∙ at in cc) in
+          subst (λ (g : GridView). IsNear (flipped g flips) g) same (near.0 yes)),
+      (λ fair. near.1 (fair (there, left, is, within) left.grid
+          (slice_get-map grid_of old.labels label ∙ ap (option_map grid_of) is))),
+    )

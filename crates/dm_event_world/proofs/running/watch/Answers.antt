@@ -1,0 +1,9 @@
+use Rattle.dm_event_world.specs.Watched.{given, replies}
+use Rattle.dm_event_world.proofs.Runs.{runs_fairly}
+use Rattle.dm_event_world.proofs.running.watch.Goals as goal
+
+pub returns-in-Ok-answer_all-clause-headline : goal.returns-in-Ok-answer_all-clause-headline
+returns-in-Ok-answer_all-clause-headline g c = λ honest.
+    c.each_fair_run_is_faithful.ensures c.args.ranges.now c.args.capacities.now c.in-Ok.world c.answer_all.new.world
+    (given c.args.events.now c.in-Ok-answer_all.answers.items) (replies c.in-Ok-answer_all.answers.items) c.in-Ok.ensures.stands
+    (runs_fairly c.in-Ok.world c.answer_all.new.world c.args.events.now c.in-Ok-answer_all.answers.items c.in-Ok-answer_all.ensures honest)

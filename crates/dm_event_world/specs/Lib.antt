@@ -1,0 +1,6 @@
+pub mod FaultNames
+pub mod Left
+pub mod Openings
+pub mod Runs
+pub mod Watched
+pub mod inner

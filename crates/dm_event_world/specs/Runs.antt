@@ -1,0 +1,39 @@
+-- Events of a world, one after another.
+use Rattle.std.specs.Prelude.{◌≡◌, ℕ, List, [], ◌∷◌}
+use Rattle.dm_print_ledger.specs.declared.range.Range.{Range}
+use Rattle.dm_event_history.specs.declared.event.Event.{Event}
+use Rattle.dm_event_history.specs.declared.reply.Reply.{Reply}
+use Rattle.dm_event_history.specs.History.{Entry, History}
+use Rattle.dm_event_history.specs.Honest.{IsHonest}
+use Rattle.dm_event_steps.specs.Worlds.{WorldView, StandsFor, IsFairIn, Steps, grids_of}
+
+-- a history that the world stood for goes on with an entry of this event and this reply, and the world now stands for
+-- the longer one; if it was honest and the event is fair, that is honest
+abbrev pub GoesOn : {A : Type 0} → WorldView A → Event A → Reply A → WorldView A → Type 0
+GoesOn {A} old event reply new = (ranges : List Range) (capacities : List ℕ) (h : History A) →
+    StandsFor ranges capacities old h →
+    (entry : Entry A) × (entry.event ≡ event) × (entry.reply ≡ reply) × StandsFor ranges capacities new (entry ∷ h)
+    × (IsFairIn old event → IsHonest (grids_of old) h → IsHonest (grids_of new) (entry ∷ h))
+
+-- the world takes these events on, one after another, and replies so
+abbrev pub Runs : {A : Type 0} → WorldView A → List (Event A) → List (Reply A) → WorldView A → Type 0
+Runs old [] [] new = new ≡ old
+Runs {A} old (event ∷ events) (reply ∷ replies) new =
+    (mid : WorldView A) × Steps old event reply mid × Runs mid events replies new
+Runs old [] (reply ∷ replies) new = ⊥
+Runs old (event ∷ events) [] new = ⊥
+
+-- the longer history has an entry more for each of these events, with its reply
+abbrev pub Continues : {A : Type 0} → History A → List (Event A) → List (Reply A) → History A → Type 0
+Continues h [] [] after = after ≡ h
+Continues {A} h (event ∷ events) (reply ∷ replies) after =
+    (entry : Entry A) × (entry.event ≡ event) × (entry.reply ≡ reply) × Continues (entry ∷ h) events replies after
+Continues h [] (reply ∷ replies) after = ⊥
+Continues h (event ∷ events) [] after = ⊥
+
+-- a history that the world stood for goes on with an entry for each of these events, with its reply, and the world now
+-- stands for the longer one
+abbrev pub GoesOnByAll : {A : Type 0} → WorldView A → List (Event A) → List (Reply A) → WorldView A → Type 0
+GoesOnByAll {A} old events replies new = (ranges : List Range) (capacities : List ℕ) (h : History A) →
+    StandsFor ranges capacities old h →
+    (after : History A) × Continues h events replies after × StandsFor ranges capacities new after

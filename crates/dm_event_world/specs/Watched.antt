@@ -1,0 +1,56 @@
+-- Runs in which each event is looked at first, and what is so of their answers: the headline.
+use Rattle.std.specs.Prelude.{◌≡◌, ◌↔◌, ℕ, Bool, true, List, [], ◌∷◌}
+use Rattle.dm_print_ledger.specs.declared.range.Range.{Range}
+use Rattle.dm_event_history.specs.declared.event.Event.{Event}
+use Rattle.dm_event_history.specs.declared.reply.Reply.{Reply}
+use Rattle.dm_event_history.specs.Headline.{IsFaithful}
+use Rattle.dm_event_steps.specs.Worlds.{WorldView, IsFairIn, Steps}
+use Rattle.dm_event_world.specs.Openings.{Begins}
+use Rattle.dm_event_world.specs.declared.answers.Answer.{Answer}
+use Rattle.dm_event_world.specs.declared.answers.Answer.TheVariants.{Given, NotGiven}
+
+-- ---- the headline
+
+-- the events that were given to the world
+abbrev pub given : {A : Type 0} → List (Event A) → List (Answer A) → List (Event A)
+given (event ∷ events) (Given is_honest reply ∷ answers) = event ∷ given events answers
+given (event ∷ events) (NotGiven ∷ answers) = given events answers
+given events answers = []
+
+-- its replies to them
+abbrev pub replies : {A : Type 0} → List (Answer A) → List (Reply A)
+replies [] = []
+replies (Given is_honest reply ∷ answers) = reply ∷ replies answers
+replies (NotGiven ∷ answers) = replies answers
+
+-- each of them was found honest before it was given
+abbrev pub AreHonest : {A : Type 0} → List (Answer A) → Type 0
+AreHonest [] = Unit {0}
+AreHonest (Given is_honest reply ∷ answers) = (is_honest ≡ true) × AreHonest answers
+AreHonest (NotGiven ∷ answers) = AreHonest answers
+
+-- If each event was found honest, the replies are faithful: whatever document any desk gave for an identification is
+-- the one document printed under it, and no identification was printed twice.
+abbrev pub IsFaithfulIfHonest : {A : Type 0} → List (Event A) → List (Answer A) → Type 0
+IsFaithfulIfHonest events answers = AreHonest answers → IsFaithful (given events answers) (replies answers)
+
+-- ---- what the answers are
+
+-- An event that is given to the world is one step of it, and found honest exactly where it names nothing that is not
+-- there, or is fair. One that is not given changes nothing.
+abbrev pub Answers : {A : Type 0} → WorldView A → Event A → Answer A → WorldView A → Type 0
+Answers old event (Given is_honest reply) new = ((is_honest ≡ true) ↔ IsFairIn old event) × Steps old event reply new
+Answers old event NotGiven new = new ≡ old
+
+-- so it is for each event
+abbrev pub AnswersAll : {A : Type 0} → WorldView A → List (Event A) → List (Answer A) → WorldView A → Type 0
+AnswersAll old [] [] new = new ≡ old
+AnswersAll {A} old (event ∷ events) (answer ∷ answers) new =
+    (mid : WorldView A) × Answers old event answer mid × AnswersAll mid events answers new
+AnswersAll old [] (answer ∷ answers) new = ⊥
+AnswersAll old (event ∷ events) [] new = ⊥
+
+-- a world began with these ranges and capacities, and answered the events so
+abbrev pub RunsFromTheStart : {A : Type 0} → List Range → List ℕ → List (Event A) → List (Answer A) → Type 0
+RunsFromTheStart {A} ranges capacities events answers =
+    (old : WorldView A) × (new : WorldView A) × Begins ranges capacities old × AnswersAll old events answers new

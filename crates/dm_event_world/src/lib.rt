@@ -1,0 +1,35 @@
+//! Worlds: printers and desks that run, each printer over a store of its own, each desk over a set of its own, and the
+//! labels, tickets and exports that left them. Stops and failed saves are part of the events.
+//!
+//! An event is the single call on the printer or the desk that it names, with the plan of its stop for the next save
+//! ([`World::step`]). A scan gives the desk a copy of the label's grid with some modules flipped. An event is honest
+//! ([`is_honest`]) unless it is a scan of a copy in which more codewords of a block are wrong than can be corrected.
+//!
+//! Proved: a world that begins stands for the empty history, and one that stands for a history stands, after an event,
+//! for it with one entry more ([`World::new`], [`World::step`], [`run`]). So of each run that is watched from its
+//! beginning the headline stands ([`watch`]): if each event was found honest before it came, whatever document any desk
+//! gave for an identification is the one document printed under it, and no identification was printed twice.
+#![tactic(auto)]
+
+mod answers;
+mod call;
+mod desk_act;
+mod desk_moves;
+mod desk_opening;
+#[cfg(test)]
+mod desk_tests;
+mod fault;
+mod printer_act;
+mod printer_opening;
+#[cfg(test)]
+mod printer_tests;
+mod running;
+mod scanned;
+mod steps;
+mod world;
+
+pub use answers::Answer;
+pub use fault::WorldFault;
+pub use running::{run, watch};
+pub use steps::is_honest;
+pub use world::World;
