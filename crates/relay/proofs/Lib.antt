@@ -4,3 +4,5 @@ pub mod ScanLaws
 pub mod Telling
 pub mod ReadLines
 pub mod GridLines
+pub mod Hexadecimal
+pub mod RefusedLines

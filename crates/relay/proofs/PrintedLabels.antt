@@ -26,7 +26,7 @@ pub some_are_lost : (labels : List GridView) (line : List ℕ) (old old_errors m
 some_are_lost labels line old old_errors mid new errors status Memory memory write first told =
     let after = refused_after line (images_fault_name Memory) old_errors mid errors status first told in
     let puts = memory refl in
-    rw after.1 (no_memory puts.done puts.rest puts.all puts.appended after.0)
+    rw after.1 (no_memory puts.done puts.next puts.rest puts.all puts.appended after.0)
 some_are_lost labels line old old_errors mid new errors status Write memory write first told =
     let after = refused_after line (images_fault_name Write) old_errors mid errors status first told in
     rw after.1 (not_written (write refl) after.0)

@@ -4,8 +4,11 @@ use Rattle.std.specs.Prelude.{◌≡◌, ℕ, List, []}
 use Rattle.dm_store.specs.Saved.{Saved}
 use Rattle.dm_store.specs.Sets.{SavedSet}
 use Rattle.relay_line.specs.declared.command.Command.{Command}
-use Rattle.relay_line.specs.declared.command.Command.TheVariants.{Words, Draw, Read, Ledger, Print, Give, Take, Scan, Deliver, Forget, Export, Import}
-use Rattle.relay_streams.specs.Streams.{InputView, OutputView}
+use Rattle.relay_line.specs.declared.command.Command.TheVariants.{Words, Draw, Read, Ledger, Print, Give, Take, Scan, Deliver, Forget, Export, Import, World}
+use Rattle.relay_streams.specs.Streams.{InputView, OutputView, TakesPart}
+use Rattle.relay.specs.declared.document.TheConstants.{DOCUMENT_BYTES}
+use Rattle.relay.specs.declared.import.TheConstants.{IMPORT_BYTES}
+use Rattle.relay.specs.declared.world.TheConstants.{INPUT_BYTES}
 use Rattle.relay.specs.Words.{EndsWords}
 use Rattle.relay.specs.Desks.{DeskFiles, EndsDeliver, EndsExport, EndsForget, EndsImport}
 use Rattle.relay.specs.Draw.{EndsDraw}
@@ -13,6 +16,7 @@ use Rattle.relay.specs.Read.{EndsRead}
 use Rattle.relay.specs.Print.{EndsPrint}
 use Rattle.relay.specs.Printers.{EndsLedger, EndsGive, EndsTake}
 use Rattle.relay.specs.Scan.{EndsScan}
+use Rattle.relay.specs.World.{EndsWorld}
 
 -- the path of the file that a command names, if it names one
 abbrev pub file_of_command : Command → List ℕ
@@ -28,6 +32,7 @@ file_of_command (Deliver file id) = file.now
 file_of_command (Forget file id) = file.now
 file_of_command (Export file id) = file.now
 file_of_command (Import file capacity) = file.now
+file_of_command World = []
 
 -- the store at the path that a command names and the set beside it, and the streams of the program
 pub record Surroundings : Type 0 where
@@ -61,7 +66,7 @@ Does A (Ledger file number first last) old status new =
     × (new.set ≡ old.set) × (new.input ≡ old.input) × (new.errors ≡ old.errors)
 Does A (Print file number side scheme) old status new =
     EndsPrint old.saved number side scheme old.input new.input old.output old.errors status new.saved new.output new.errors
-    × (new.set ≡ old.set)
+    × (new.set ≡ old.set) × TakesPart old.input.remaining new.input.remaining DOCUMENT_BYTES
 Does A (Give file number to first last) old status new =
     EndsGive old.saved number to (record { first = first; last = last }) old.output status new.saved new.output
     × (new.set ≡ old.set) × (new.input ≡ old.input) × (new.errors ≡ old.errors)
@@ -82,4 +87,7 @@ Does A (Export file id) old status new =
     × (new.input ≡ old.input)
 Does A (Import file capacity) old status new =
     EndsImport (desk_files old) capacity old.input new.input old.output status (desk_files new) new.output
-    × (new.errors ≡ old.errors)
+    × (new.errors ≡ old.errors) × TakesPart old.input.remaining new.input.remaining IMPORT_BYTES
+Does A World old status new =
+    EndsWorld A old.input new.input old.output status new.output
+    × LeavesFiles old new × (new.errors ≡ old.errors) × TakesPart old.input.remaining new.input.remaining INPUT_BYTES

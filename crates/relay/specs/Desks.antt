@@ -1,5 +1,5 @@
 -- What `deliver`, `forget`, `export` and `import` do to the files of a desk, and what they write.
-use Rattle.std.specs.Prelude.{◌≡◌, ◌⊎◌, ℕ, List, [], ◌∷◌, Option, true, false, None, Some, Ok, Err, codes, take, is_some, IfSome}
+use Rattle.std.specs.Prelude.{◌≡◌, ◌⊎◌, ℕ, List, [], ◌∷◌, Option, true, false, None, Some, Ok, Err, codes, is_some}
 use Rattle.std.specs.List.{list_all}
 use Rattle.std.specs.FinMap as map
 use Rattle.std.specs.Io.KnownBytes.{Appends}
@@ -26,7 +26,7 @@ use Rattle.dm_assembly_desk.specs.declared.fault.ImportFault.{ImportFault}
 use Rattle.dm_assembly_desk.specs.declared.fault.MoveFault.{MoveFault}
 use Rattle.dm_assembly_desk.specs.declared.reply.Imported.{Imported}
 use Rattle.relay_streams.specs.FaultNames.{input_fault_name}
-use Rattle.relay_streams.specs.Streams.{InputView, OutputView}
+use Rattle.relay_streams.specs.Streams.{InputView, OutputView, TakesFirst}
 use Rattle.relay_streams.specs.declared.fault.InputFault.{InputFault}
 use Rattle.relay.specs.declared.import.TheConstants.{IMPORT_BYTES}
 use Rattle.relay.specs.DeskLines.{forgotten_line, imported_line}
@@ -100,12 +100,12 @@ pub data EndsDeliver (before : DeskFiles) (text : List ℕ) (old old_errors : Ou
       → HasNoDesk before MOST_CAPACITY old_errors status after errors
       → EndsDeliver before text old old_errors status after old errors
   given : {status : ℕ} {new errors : OutputView} (id : ℕ) (joint : Saved) (desk : DeskView) (pages : Pages)
-      → IsTextOfId text id → OpensDesk before MOST_CAPACITY joint desk → map.get desk.held id ≡ Some pages
+      → HasId text → IsTextOfId text id → OpensDesk before MOST_CAPACITY joint desk → map.get desk.held id ≡ Some pages
       → list_all is_some pages ≡ true → TellsBytes (document_of pages) old old_errors status new errors
       → EndsDeliver before text old old_errors status (record { joint = joint; set = desk.saved }) new errors
   refused : {status : ℕ} {errors : OutputView} (id : ℕ) (joint : Saved) (desk : DeskView) (fault : AskFault)
-      → IsTextOfId text id → OpensDesk before MOST_CAPACITY joint desk → HasAskFault (map.get desk.held id) fault
-      → TellsRefusal (ask_fault_name fault) old_errors errors status
+      → HasId text → IsTextOfId text id → OpensDesk before MOST_CAPACITY joint desk
+      → HasAskFault (map.get desk.held id) fault → TellsRefusal (ask_fault_name fault) old_errors errors status
       → EndsDeliver before text old old_errors status (record { joint = joint; set = desk.saved }) old errors
 
 -- why no file is given, by what is held of the document
@@ -122,12 +122,12 @@ pub data EndsExport (before : DeskFiles) (text : List ℕ) (old old_errors : Out
       → HasNoDesk before MOST_CAPACITY old_errors status after errors
       → EndsExport before text old old_errors status after old errors
   given : {status : ℕ} {new errors : OutputView} (id : ℕ) (joint : Saved) (desk : DeskView) (pages : Pages)
-      → IsTextOfId text id → OpensDesk before MOST_CAPACITY joint desk → map.get desk.held id ≡ Some pages
+      → HasId text → IsTextOfId text id → OpensDesk before MOST_CAPACITY joint desk → map.get desk.held id ≡ Some pages
       → TellsBytes (file id pages) old old_errors status new errors
       → EndsExport before text old old_errors status (record { joint = joint; set = desk.saved }) new errors
   refused : {status : ℕ} {errors : OutputView} (id : ℕ) (joint : Saved) (desk : DeskView) (fault : ExportFault)
-      → IsTextOfId text id → OpensDesk before MOST_CAPACITY joint desk → HasExportFault (map.get desk.held id) fault
-      → TellsRefusal (export_fault_name fault) old_errors errors status
+      → HasId text → IsTextOfId text id → OpensDesk before MOST_CAPACITY joint desk
+      → HasExportFault (map.get desk.held id) fault → TellsRefusal (export_fault_name fault) old_errors errors status
       → EndsExport before text old old_errors status (record { joint = joint; set = desk.saved }) old errors
 
 -- ---- what is let go, and what is taken in
@@ -145,8 +145,8 @@ pub data EndsForget (before : DeskFiles) (text : List ℕ) (old : OutputView) : 
       → EndsForget before text old status before new
   no_desk : {status : ℕ} {after : DeskFiles} {new : OutputView} → HasId text
       → HasNoDesk before MOST_CAPACITY old status after new → EndsForget before text old status after new
-  opened : {status : ℕ} {new : OutputView} (id : ℕ) (joint : Saved) (desk after : DeskView) → IsTextOfId text id
-      → OpensDesk before MOST_CAPACITY joint desk → TellsForget id desk old status after new
+  opened : {status : ℕ} {new : OutputView} (id : ℕ) (joint : Saved) (desk after : DeskView) → HasId text
+      → IsTextOfId text id → OpensDesk before MOST_CAPACITY joint desk → TellsForget id desk old status after new
       → EndsForget before text old status (record { joint = joint; set = after.saved }) new
 
 -- what a desk answers to bytes that it is to take in, and the line of it
@@ -156,17 +156,18 @@ pub data TellsImport (bytes : List ℕ) (before : DeskView) (old : OutputView) :
   refused : {status : ℕ} {after : DeskView} {new : OutputView} (fault : ImportFault) → ImportsBytes bytes before (Err fault) after
       → TellsRefusal (import_fault_name fault) old new status → TellsImport bytes before old status after new
 
--- the bytes that the input gives: one more than the greatest file has, or all where they are fewer
-abbrev pub GivesFile : InputView → List ℕ → Type 0
-GivesFile input bytes = IfSome input.remaining (λ all. bytes ≡ take IMPORT_BYTES all)
+-- these bytes were read, and no other: one more than the greatest file has, or all where they are fewer
+abbrev pub ReadsFile : InputView → InputView → List ℕ → Type 0
+ReadsFile input rest bytes = TakesFirst input.remaining rest.remaining IMPORT_BYTES bytes
 
--- how `import` ends: the input was read, the desk was opened and has answered; or the first of these was not done
+-- How `import` ends: the input was read, then the desk was opened, and it has answered; or the input could not be read;
+-- or it was read, and there is no desk.
 pub data EndsImport (before : DeskFiles) (capacity : ℕ) (input rest : InputView) (old : OutputView)
     : ℕ → DeskFiles → OutputView → Type 0 where
   not_read : {status : ℕ} {new : OutputView} (fault : InputFault) → HasInputFault rest fault
       → TellsRefusal (input_fault_name fault) old new status → EndsImport before capacity input rest old status before new
-  no_desk : {status : ℕ} {after : DeskFiles} {new : OutputView} → HasNoDesk before capacity old status after new
-      → EndsImport before capacity input rest old status after new
-  opened : {status : ℕ} {new : OutputView} (bytes : List ℕ) (joint : Saved) (desk after : DeskView) → GivesFile input bytes
-      → OpensDesk before capacity joint desk → TellsImport bytes desk old status after new
+  no_desk : {status : ℕ} {after : DeskFiles} {new : OutputView} (bytes : List ℕ) → ReadsFile input rest bytes
+      → HasNoDesk before capacity old status after new → EndsImport before capacity input rest old status after new
+  opened : {status : ℕ} {new : OutputView} (bytes : List ℕ) (joint : Saved) (desk after : DeskView)
+      → ReadsFile input rest bytes → OpensDesk before capacity joint desk → TellsImport bytes desk old status after new
       → EndsImport before capacity input rest old status (record { joint = joint; set = after.saved }) new

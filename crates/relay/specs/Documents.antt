@@ -6,7 +6,7 @@ use Rattle.dm_check_blocks.specs.Sizes.{IsSide, side, data_words}
 use Rattle.dm_check_blocks.specs.Blocks.{Completes}
 use Rattle.dm_encodation.specs.declared.scheme.Scheme.{Scheme}
 use Rattle.dm_encodation.specs.Written.{filled, need_of}
-use Rattle.relay_streams.specs.Streams.{InputView, OutputView}
+use Rattle.relay_streams.specs.Streams.{InputView, OutputView, TakesFirst}
 use Rattle.relay_streams.specs.Refusal.{refused_line}
 use Rattle.relay.specs.Refusals.{symbol_refusal_name}
 use Rattle.relay.specs.declared.document.TheConstants.{DOCUMENT_BYTES}
@@ -17,6 +17,10 @@ use Rattle.relay.specs.declared.refusal.SymbolRefusal.TheVariants.{Side, Read, T
 -- for every symbol.
 abbrev pub document_of : List ℕ → List ℕ
 document_of input = take DOCUMENT_BYTES input
+
+-- this document was read: it, and no other byte, was taken of the input
+abbrev pub ReadsDocument : InputView → InputView → List ℕ → Type 0
+ReadsDocument input rest document = TakesFirst input.remaining rest.remaining DOCUMENT_BYTES document
 
 -- these words are those of the one symbol of this side that carries the document
 pub record CarriesDocument (n : ℕ) (scheme : Scheme) (document : List ℕ) (size : Size) (words : List ℕ) : Type 0 where

@@ -9,7 +9,9 @@ pub mod Printers
 pub mod Read
 pub mod ReadLines
 pub mod Refusals
+pub mod ReplyLines
 pub mod Scan
 pub mod Telling
 pub mod Words
+pub mod World
 pub mod inner

@@ -1,5 +1,5 @@
 -- What `print` does to the store of a ledger, and what it writes.
-use Rattle.std.specs.Prelude.{◌≡◌, ◌⊎◌, ℕ, List, ◌++◌, Ok, Err, codes, true, IfSome}
+use Rattle.std.specs.Prelude.{◌≡◌, ◌⊎◌, ℕ, List, ◌∷◌, ◌++◌, Ok, Err, codes, true}
 use Rattle.std.specs.List.{flat_map}
 use Rattle.std.specs.Io.KnownBytes.{Appends}
 use Rattle.dm_check_blocks.specs.declared.size.Size.{Size}
@@ -19,7 +19,7 @@ use Rattle.relay_streams.specs.Refusal.{refused_line}
 use Rattle.relay_streams.specs.Streams.{InputView, OutputView}
 use Rattle.relay_streams.specs.declared.fault.InputFault.{InputFault}
 use Rattle.relay_streams.specs.declared.fault.InputFault.TheVariants as input_faults
-use Rattle.relay.specs.Documents.{document_of}
+use Rattle.relay.specs.Documents.{ReadsDocument}
 use Rattle.relay.specs.PrinterLines.{printed_line}
 use Rattle.relay.specs.Printers.{IsNotOpened}
 use Rattle.relay.specs.Telling.{TellsRefusal}
@@ -36,23 +36,20 @@ PrintsButRefuses line name old new =
     (Appends old.contents new.contents (line ++ refused_line name)) ⊎ (new.has_failed ≡ true)
 
 -- How the labels of a job go out, from both outputs to both: first the line, then the images. Without memory for an
--- image the labels before it are out; after a write that failed no clause says how many are.
+-- image the labels before it are out, and it is not; after a write that failed no clause says how many are.
 pub data PrintsLabels (labels : List GridView) (line : List ℕ) (old old_errors : OutputView)
     : ℕ → OutputView → OutputView → Type 0 where
   all : {new errors : OutputView} → Appends old_errors.contents errors.contents line
       → Appends old.contents new.contents (images_of labels) → PrintsLabels labels line old old_errors 0 new errors
   no_line : {errors : OutputView} → errors.has_failed ≡ true → PrintsLabels labels line old old_errors 1 old errors
-  no_memory : {new errors : OutputView} (done rest : List GridView) → labels ≡ done ++ rest
+  no_memory : {new errors : OutputView} (done : List GridView) (next : GridView) (rest : List GridView)
+      → labels ≡ done ++ next ∷ rest
       → Appends old.contents new.contents (images_of done) → PrintsButRefuses line (codes "Memory") old_errors errors
       → PrintsLabels labels line old old_errors 1 new errors
   not_written : {new errors : OutputView} → new.has_failed ≡ true → PrintsButRefuses line (codes "Write") old_errors errors
       → PrintsLabels labels line old old_errors 1 new errors
 
 -- ---- the whole
-
--- the document that the input gives
-abbrev pub GivesDocument : InputView → List ℕ → Type 0
-GivesDocument input document = IfSome input.remaining (λ bytes. document ≡ document_of bytes)
 
 -- why the input gave no document: where it is the reader, a read of it has failed
 abbrev pub HasInputFault : InputView → InputFault → Type 0
@@ -71,7 +68,7 @@ pub data TellsPrint (before : PrinterView) (size : Size) (scheme : Scheme) (docu
 
 -- How `print` ends, from a store, an input and two outputs to the exit status, the store and the outputs: the printer
 -- was opened and has answered to the document; or, in this order, the side is none, the input could not be read, or the
--- printer was not opened.
+-- document was read and the printer was not opened.
 pub data EndsPrint (saved : Saved) (number n : ℕ) (scheme : Scheme) (input rest : InputView) (old old_errors : OutputView)
     : ℕ → Saved → OutputView → OutputView → Type 0 where
   no_side : {status : ℕ} {errors : OutputView} → ¬ IsSide n → rest ≡ input
@@ -80,10 +77,10 @@ pub data EndsPrint (saved : Saved) (number n : ℕ) (scheme : Scheme) (input res
   not_read : {status : ℕ} {errors : OutputView} (fault : InputFault) → IsSide n → HasInputFault rest fault
       → TellsRefusal (input_fault_name fault) old_errors errors status
       → EndsPrint saved number n scheme input rest old old_errors status saved old errors
-  not_opened : {status : ℕ} {after : Saved} {errors : OutputView} → IsSide n
-      → IsNotOpened saved number old_errors status after errors
+  not_opened : {status : ℕ} {after : Saved} {errors : OutputView} (document : List ℕ) → IsSide n
+      → ReadsDocument input rest document → IsNotOpened saved number old_errors status after errors
       → EndsPrint saved number n scheme input rest old old_errors status after old errors
   opened : {status : ℕ} {new errors : OutputView} (size : Size) (document : List ℕ) (before after : PrinterView)
-      → side size ≡ n → GivesDocument input document → Opens saved number before
+      → side size ≡ n → ReadsDocument input rest document → Opens saved number before
       → TellsPrint before size scheme document old old_errors status after new errors
       → EndsPrint saved number n scheme input rest old old_errors status after.saved new errors

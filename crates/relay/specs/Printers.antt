@@ -69,8 +69,8 @@ pub data TellsTake (before : PrinterView) (ticket : TicketView) (old : OutputVie
 pub data EndsTake (saved : Saved) (number : ℕ) (text : List ℕ) (old : OutputView) : ℕ → Saved → OutputView → Type 0 where
   no_ticket : {status : ℕ} {new : OutputView} → ¬ HasTicket text → TellsRefusal (codes "Ticket") old new status
       → EndsTake saved number text old status saved new
-  opened : {status : ℕ} {new : OutputView} (ticket : TicketView) (before after : PrinterView) → IsTextOf text ticket
-      → Opens saved number before → TellsTake before ticket old status after new
+  opened : {status : ℕ} {new : OutputView} (ticket : TicketView) (before after : PrinterView) → HasTicket text
+      → IsTextOf text ticket → Opens saved number before → TellsTake before ticket old status after new
       → EndsTake saved number text old status after.saved new
   not_opened : {status : ℕ} {after : Saved} {new : OutputView} → HasTicket text → IsNotOpened saved number old status after new
       → EndsTake saved number text old status after new

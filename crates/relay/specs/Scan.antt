@@ -76,13 +76,42 @@ pub record ScansInput (A : Type 0) (start : DeskView) (input rest : InputView) (
   pub appended : Appends output.contents written.contents (image_lines ++ end_line)
   pub status_is : status ≡ (if any_refused || end_refused then 1 else 0)
 
+-- ---- an output that has refused a line
+
+-- What comes last after this many images, where its line or an earlier one was refused: what was taken, what is left, and
+-- the desk.
+pub data EndsUnsaid (A : Type 0) (desk : DeskView) : ℕ → List ℕ → InputView → DeskView → Type 0 where
+  image : {count : ℕ} {taken line : List ℕ} {rest : InputView} {refused : Bool} {after : DeskView} (p : Picture)
+      → count < MOST_IMAGES → Spells taken p → ScansPicture A p desk line refused after
+      → EndsUnsaid A desk count taken rest after
+  unread : {count : ℕ} {taken : List ℕ} {rest : InputView} (fault : PbmFault) → count < MOST_IMAGES
+      → IsUnread fault taken rest → EndsUnsaid A desk count taken rest desk
+  too_many : {taken : List ℕ} {rest : InputView} → IsAnother taken rest → EndsUnsaid A desk MOST_IMAGES taken rest desk
+
+-- The output has refused a line. What was taken of the input is images and what comes last, and the desk was handed their
+-- grids, in order, and no other. Which of their lines was refused no clause says, since no contract knows what a writer
+-- holds after a write that failed.
+pub record StopsScanning (A : Type 0) (start : DeskView) (input rest : InputView) (written : OutputView) (status : ℕ)
+    (after : DeskView) : Type 0 where
+  pub count : ℕ
+  pub desk : DeskView
+  pub images_taken : List ℕ
+  pub image_lines : List ℕ
+  pub any_refused : Bool
+  pub end_taken : List ℕ
+  pub scanned : ScansImages A start count images_taken image_lines any_refused desk
+  pub ended : EndsUnsaid A desk count end_taken rest after
+  pub consumed : Consumes input.remaining rest.remaining (images_taken ++ end_taken)
+  pub failed : written.has_failed ≡ true
+  pub status_is : status ≡ 1
+
 -- ---- the command
 
--- The whole input was scanned, or the output has refused a write. Either way each page that was held is held with the
--- same bytes, and what the desk holds is in order with its set.
+-- The whole input was scanned, or the output has refused a line and the images up to one of them were. Either way each
+-- page that was held is held with the same bytes, and what the desk holds is in order with its set.
 pub record TellsScan (A : Type 0) (before : DeskView) (input rest : InputView) (old : OutputView) (status : ℕ)
     (after : DeskView) (new : OutputView) : Type 0 where
-  pub told : ScansInput A before input rest old new status after ⊎ ((new.has_failed ≡ true) × (status ≡ 1))
+  pub told : ScansInput A before input rest old new status after ⊎ StopsScanning A before input rest new status after
   pub kept : KeepsPages before.held after.held
   pub in_order : IsInOrder after
 

@@ -16,6 +16,7 @@ use crate::read::read_command;
 use crate::scan::scan_command;
 use crate::take::take_command;
 use crate::words::words_command;
+use crate::world::world_command;
 use dm_print_ledger::Range;
 use dm_store::{Store, StoreSet};
 use relay_line::Command;
@@ -28,7 +29,7 @@ pub fn file_of<'a>(command: Command<'a>) -> &'a str
     ensures { result.now ≡ file_of_command command.entry }
 {
     match command {
-        Command::Words { .. } | Command::Draw { .. } | Command::Read => "",
+        Command::Words { .. } | Command::Draw { .. } | Command::Read | Command::World => "",
         Command::Ledger { file, .. }
         | Command::Print { file, .. }
         | Command::Give { file, .. }
@@ -146,6 +147,10 @@ pub fn do_command<A: Allocator + Copy, S: Store, T: StoreSet, R: Read, W: Write,
         Command::Export { file: _, id } => export_command(alloc, store, set, output, errors, id),
         Command::Import { file: _, capacity } => {
             import_command(alloc, store, set, input, output, capacity)
+        }
+        Command::World => {
+            let status = world_command(alloc, input, output);
+            EndedDesk { status, store, set }
         }
     }
 }

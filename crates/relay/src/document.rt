@@ -1,7 +1,7 @@
 //! Documents on the standard input.
 
-ghost use Rattle.std.specs.Prelude.{◌≡◌, true, IfOk, IfSome, IsErrOf};
-ghost use Rattle.relay.specs.Documents.{document_of};
+ghost use Rattle.std.specs.Prelude.{◌≡◌, true, IfOk, IsErrOf};
+ghost use Rattle.relay.specs.Documents.{ReadsDocument};
 ghost use Rattle.relay_streams.specs.Streams.{TakesPart};
 ghost use Rattle.relay_streams.specs.declared.fault.InputFault.TheVariants as input_faults;
 
@@ -17,8 +17,7 @@ pub(crate) fn read_document<A: Allocator, R: Read>(
     alloc: A,
     input: &mut Input<R>,
 ) -> Result<Vec<u8, A>, InputFault>
-    ensures document { IfOk result (λ document.
-        IfSome input.old.remaining (λ bytes. document.items ≡ document_of bytes)) }
+    ensures taken { IfOk result (λ document. ReadsDocument input.old input.new document.items) }
     ensures part { TakesPart input.old.remaining input.new.remaining DOCUMENT_BYTES }
     ensures failed { IsErrOf result input_faults.Read → input.new.has_failed ≡ true }
 {

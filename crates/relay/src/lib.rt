@@ -2,9 +2,11 @@
 //! calls them with the program's own streams.
 //!
 //! Proved, of inputs and outputs whose bytes a contract can name (slices and vectors; of the system's own streams none
-//! can): on status 0 a command has written exactly what it is for. On status 1 `words` and `draw` have written the one
-//! line that names a refusal for which there was a reason, `read` such a line for each image that has one, or an output
-//! has refused a write.
+//! can): on status 0 a command has written exactly what it is for. On status 1 it has written a line that names a
+//! refusal for which there was a reason, or an output has refused a write. `read` and `scan` write a line for each
+//! image, `world` one for each event, and `print` may have written its line and images before a refusal; every other
+//! command has then written that line alone. What a command does to its store and its files is what the call of the
+//! printer or of the desk says. `world` plays printers and desks in memory, and carries the headline.
 #![tactic(auto)]
 
 mod commands;
@@ -30,10 +32,12 @@ mod read;
 mod read_grid;
 mod read_lines;
 mod refusal;
+mod reply_lines;
 mod scan;
 mod standard_error;
 mod take;
 mod words;
+mod world;
 
 pub use commands::{do_command, file_of};
 pub use deliver::deliver_command;
@@ -53,3 +57,4 @@ pub use relay_line::{Command, LineFault, command_line};
 pub use scan::scan_command;
 pub use take::take_command;
 pub use words::words_command;
+pub use world::{INPUT_BYTES, world_command};

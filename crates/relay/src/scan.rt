@@ -5,7 +5,8 @@ ghost use Rattle.dm_assembly_desk.specs.Documents.{KeepsPages};
 ghost use Rattle.dm_assembly_desk.specs.Views.{DeskView, IsInOrder};
 ghost use Rattle.dm_pbm_io.specs.Shown.{picture};
 ghost use Rattle.relay.specs.Scan.{EndsScan, ScansPicture, TellsScan};
-ghost use Rattle.relay.specs.inner.ScanSteps.{EndsScansAtMost, MakesScan, ScansLine, ScansStep};
+ghost use Rattle.relay.specs.inner.ScanSteps.{EndsScansAtMost, HandsNext, HandsNone, HandsPicture};
+ghost use Rattle.relay.specs.inner.ScanSteps.{MakesScan, ScansLine, ScansStep};
 
 use crate::desk_lines::put_accepted;
 use crate::desk_opening::open_desk;
@@ -35,6 +36,7 @@ fn scan_image<A: Allocator + Copy, T: StoreSet, W: Write>(
 ) -> Result<Step, WriteFault>
     requires { desk.old.is_failed ≡ false }
     ensures step { IfOk result (λ step. ScansLine A (picture image.now) step desk.old desk.new output.old output.new) }
+    ensures unsaid { OnErr result (HandsPicture A (picture image.now) desk.old desk.new) }
     ensures failed { OnErr result (output.new.has_failed ≡ true) }
     ensures kept { KeepsPages desk.old.held desk.new.held }
     ensures order { IsInOrder desk.old → IsInOrder desk.new }
@@ -75,6 +77,7 @@ fn next_scan<A: Allocator + Copy, T: StoreSet, R: Read, W: Write>(
     requires { desk.old.is_failed ≡ false }
     ensures step { IfOk result (λ step.
         MakesScan A step input.old input.new desk.old desk.new output.old output.new) }
+    ensures unsaid { OnErr result (HandsNext A input.old input.new desk.old desk.new) }
     ensures failed { OnErr result (output.new.has_failed ≡ true) }
     ensures kept { KeepsPages desk.old.held desk.new.held }
     ensures order { IsInOrder desk.old → IsInOrder desk.new }
@@ -105,6 +108,7 @@ fn end_scans_at_most<A: Allocator + Copy, R: Read, W: Write>(
 ) -> Result<bool, WriteFault>
     ensures ended { IfOk result (λ refused.
         (desk : DeskView) → EndsScansAtMost A desk refused input.old input.new output.old output.new) }
+    ensures unsaid { OnErr result ((desk : DeskView) → HandsNone A desk input.old input.new) }
     ensures failed { OnErr result (output.new.has_failed ≡ true) }
 {
     if is_at_end(alloc, input) {

@@ -3,7 +3,7 @@ use Rattle.std.specs.Prelude.{◌≡◌, ℕ, ◌≤◌, ◌⊎◌, List, codes,
 use Rattle.dm_encodation.specs.declared.scheme.Scheme.{Scheme}
 use Rattle.dm_encodation.specs.declared.scheme.Scheme.TheVariants.{Ascii, C40, Text, Base256}
 use Rattle.relay_line.specs.declared.command.Command.{Command}
-use Rattle.relay_line.specs.declared.command.Command.TheVariants.{Words, Draw, Read, Ledger, Print, Give, Take, Scan, Deliver, Forget, Export, Import}
+use Rattle.relay_line.specs.declared.command.Command.TheVariants.{Words, Draw, Read, Ledger, Print, Give, Take, Scan, Deliver, Forget, Export, Import, World}
 use Rattle.relay_line.specs.declared.fault.LineFault.{LineFault}
 use Rattle.relay_line.specs.declared.fault.LineFault.TheVariants.{Line, Memory}
 
@@ -21,6 +21,7 @@ HasNumbersInRange (Deliver file id) = Unit {0}
 HasNumbersInRange (Forget file id) = Unit {0}
 HasNumbersInRange (Export file id) = Unit {0}
 HasNumbersInRange (Import file capacity) = Unit {0}
+HasNumbersInRange World = Unit {0}
 
 -- the name by which a command is asked for
 abbrev pub command_name : Command → List ℕ
@@ -36,6 +37,7 @@ command_name (Deliver file id) = codes "deliver"
 command_name (Forget file id) = codes "forget"
 command_name (Export file id) = codes "export"
 command_name (Import file capacity) = codes "import"
+command_name World = codes "world"
 
 -- The command is the one of this name, the word after the program's own, or `words` with its defaults where there is no
 -- such word.

@@ -71,4 +71,6 @@ pub enum Command<'a> {
         file: &'a str,
         capacity: u16,
     },
+    /// Plays a world of printers and desks by a script.
+    World,
 }

@@ -128,3 +128,13 @@ output.
 
 Example:
   relay import --file other-desk < 0101.pages";
+
+pub const WORLD: &str = "\
+The script names printers, desks, and events: prints, scans, restarts and so on,
+each of which may be stopped where power could go, or meet a save that fails.
+Each event gives a line; the line begins with `! ` where a scanned copy has more
+wrong words than can be corrected. docs/RECIPES.md has the form of a script. No
+file is read or written. A refusal goes to standard output.
+
+Example:
+  printf 'range 0 9\\ndesks 1 4\\nprint 0 12 ascii 31323334 -\\n' | relay world";

@@ -14,4 +14,5 @@ mod tests;
 
 pub use command::Command;
 pub use fault::LineFault;
+pub use options::scheme_of;
 pub use parse::command_line;

@@ -231,7 +231,15 @@ fn with_desks<'a>(alloc: Global, program: Command<'a>) -> Result<Command<'a>, Al
         .subcommand(deliver(alloc)?)?
         .subcommand(forget(alloc)?)?
         .subcommand(export(alloc)?)?
-        .subcommand(import(alloc)?)
+        .subcommand(import(alloc)?)?
+        .subcommand(world(alloc))
+}
+
+fn world<'a>(alloc: Global) -> Command<'a> {
+    Command::new(alloc, "world")
+        .about("Plays printers and desks by a script, in memory")
+        .override_usage("relay world < SCRIPT")
+        .after_help(help::WORLD)
 }
 
 /// The whole program.

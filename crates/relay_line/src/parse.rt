@@ -51,7 +51,7 @@ fn symbol_of(matches: &ArgMatches<'_>) -> Option<(u16, Scheme)>
     Some((side, scheme))
 }
 
-// The commands on symbols.
+// The commands on symbols, and that on worlds, which name no file.
 fn symbol_command_of<'a>(name: &str, options: &ArgMatches<'a>) -> Option<Command<'a>>
     ensures ranges { IfSome result HasNumbersInRange }
     ensures named { IfSome result (λ command. name.now ≡ command_name command) }
@@ -70,6 +70,7 @@ fn symbol_command_of<'a>(name: &str, options: &ArgMatches<'a>) -> Option<Command
             })
         }
         "read" => Some(Command::Read),
+        "world" => Some(Command::World),
         _ => None,
     }
 }
@@ -150,7 +151,7 @@ fn command_of<'a>(name: &str, options: &ArgMatches<'a>) -> Option<Command<'a>>
     ensures named { IfSome result (λ command. name.now ≡ command_name command) }
 {
     match name {
-        "words" | "draw" | "read" => symbol_command_of(name, options),
+        "words" | "draw" | "read" | "world" => symbol_command_of(name, options),
         "ledger" | "print" | "give" | "take" => printer_command_of(name, options),
         _ => desk_command_of(name, options),
     }

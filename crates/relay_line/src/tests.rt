@@ -27,6 +27,10 @@ fn takes_a_line(rt: HostRuntime) -> Result<(), Fail> {
         command_line(rt.alloc(), &["relay", "read"])?,
         Command::Read
     );
+    assert_eq!(rt;
+        command_line(rt.alloc(), &["relay", "world"])?,
+        Command::World
+    );
     for side in ["--side=12", "--side=012", "--side=+12"] {
         let line = ["relay", "words", "--scheme", "ascii", side];
         let wanted = Command::Words {
@@ -159,6 +163,7 @@ fn refuses_a_line(rt: HostRuntime) -> Result<(), Fail> {
         ["relay", "words", "--plain"].as_slice(),
         ["relay", "draw", "--plain=1"].as_slice(),
         ["relay", "read", "--side", "12"].as_slice(),
+        ["relay", "world", "--file", "x"].as_slice(),
         ["relay", "read", "image.pbm"].as_slice(),
     ];
     all_are_refused(&rt, rt.alloc(), &lines)
@@ -199,7 +204,7 @@ fn helps(rt: HostRuntime) -> Result<(), Fail> {
     }
     for command in [
         "words", "draw", "read", "ledger", "print", "give", "take", "scan", "deliver", "forget",
-        "export", "import",
+        "export", "import", "world",
     ] {
         let line = ["relay", command, "--help"];
         let (text, status) = refused(&line, rt.alloc()).ok_or("no help")?;

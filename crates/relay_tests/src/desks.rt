@@ -1,6 +1,6 @@
 //! The commands of desks over stores in memory, and over streams, stores and memory that fail.
 
-use crate::failing::FailingWriter;
+use crate::failing::{FailingReader, FailingWriter};
 use dm_encodation::Scheme;
 use dm_store::{FuseSet, FuseStore, Kept, MemSet, MemStore, NextSave};
 use refusing::Refusing;
@@ -329,4 +329,75 @@ fn scan_is_refused_by_name(rt: HostRuntime) -> Result<(), Fail> {
         assert_eq!(rt; ended.set.content(0), None, "{passes}");
     }
     Err("growths without end".into())
+}
+
+// A text that is no identification, at `forget` and `export` too: no file is looked at.
+#[test]
+fn looks_at_the_text_before_any_file(rt: HostRuntime) -> Result<(), Fail> {
+    for text in ["", "0001", "ff01", "01fg"] {
+        let mut output = Output::new(Vec::new(rt.alloc()));
+        let mut errors = Output::new(Vec::new(rt.alloc()));
+        let store = FuseStore::new(MemStore::new(rt.alloc()), 0, Kept::Old);
+        let set = FuseSet::new(MemSet::new(rt.alloc()), 0, Kept::Old);
+        let forgot = forget_command(rt.alloc(), store, set, &mut output, text);
+        assert_eq!(rt; forgot.status, 1, "{text}");
+        assert!(rt; !forgot.store.spent() && !forgot.set.spent(), "{text}");
+        let (store, set) = (forgot.store, forgot.set);
+        let given = export_command(rt.alloc(), store, set, &mut output, &mut errors, text);
+        assert_eq!(rt; given.status, 1, "{text}");
+        assert!(rt; !given.store.spent() && !given.set.spent(), "{text}");
+        assert_eq!(rt; output.writer().as_slice(), b"refused FileId\n".as_slice());
+        assert_eq!(rt; errors.writer().as_slice(), b"refused FileId\n".as_slice());
+    }
+    Ok(())
+}
+
+// An input that fails after each number of bytes: `import` looks at no file.
+#[test]
+fn reads_an_import_before_any_file(rt: HostRuntime) -> Result<(), Fail> {
+    for passes in 0..PAGE_2.len() {
+        let mut lines = Output::new(Vec::new(rt.alloc()));
+        let mut input = Input::new(FailingReader::new(PAGE_2, passes));
+        let store = FuseStore::new(MemStore::new(rt.alloc()), 0, Kept::Old);
+        let set = FuseSet::new(MemSet::new(rt.alloc()), 0, Kept::Old);
+        let ended = import_command(rt.alloc(), store, set, &mut input, &mut lines, 64);
+        assert_eq!(rt; ended.status, 1, "{passes}");
+        assert_eq!(rt; lines.writer().as_slice(), b"refused Read\n".as_slice());
+        assert!(rt; !ended.store.spent() && !ended.set.spent(), "{passes}");
+    }
+    Ok(())
+}
+
+// An input that fails after each number of bytes of the second image: the page of the first is held, and the last line
+// names the fault.
+#[test]
+fn scans_up_to_the_read_that_failed(rt: HostRuntime) -> Result<(), Fail> {
+    let images = labels(rt.alloc())?;
+    for passes in IMAGE_BYTES..images.len() {
+        let mut lines = Output::new(Vec::new(rt.alloc()));
+        let mut input = Input::new(FailingReader::new(&images, passes));
+        let (store, set) = (MemStore::new(rt.alloc()), MemSet::new(rt.alloc()));
+        let ended = scan_command(rt.alloc(), store, set, &mut input, &mut lines, 64);
+        assert_eq!(rt; ended.status, 1, "{passes}");
+        assert!(rt; ended.set.content(0).is_some(), "{passes}");
+        assert_eq!(rt;
+            lines.writer().as_slice(),
+            b"0101 1/2 new\nrefused Read\n".as_slice(),
+            "{passes}"
+        );
+    }
+    Ok(())
+}
+
+// After a line that could not be written no byte more is read.
+#[test]
+fn reads_nothing_after_a_line_that_failed(rt: HostRuntime) -> Result<(), Fail> {
+    let images = labels(rt.alloc())?;
+    let mut lines = Output::new(FailingWriter::new(Vec::new(rt.alloc()), 5));
+    let mut input = Input::new(images.as_slice());
+    let (store, set) = (MemStore::new(rt.alloc()), MemSet::new(rt.alloc()));
+    let ended = scan_command(rt.alloc(), store, set, &mut input, &mut lines, 64);
+    assert_eq!(rt; ended.status, 1);
+    assert_eq!(rt; input.into_reader(), second(&images));
+    Ok(())
 }

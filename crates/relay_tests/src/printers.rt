@@ -1,6 +1,6 @@
 //! The commands of printers over stores in memory, and over streams, stores and memory that fail.
 
-use crate::failing::FailingWriter;
+use crate::failing::{FailingReader, FailingWriter};
 use dm_encodation::Scheme;
 use dm_print_ledger::Range;
 use dm_store::{FuseStore, Kept, MemSet, MemStore};
@@ -370,5 +370,29 @@ fn does_each_command_of_printers(rt: HostRuntime) -> Result<(), Fail> {
         b"left 10\nticket 00000000000100050009\ntaken left 7\n142 164 129 121 133 81 60 148\n".as_slice()
     );
     assert_eq!(rt; errors.writer().as_slice(), b"refused Side\n".as_slice());
+    Ok(())
+}
+
+// An input that fails after each number of bytes: the ledger is not looked at.
+#[test]
+fn reads_the_document_before_the_ledger(rt: HostRuntime) -> Result<(), Fail> {
+    for passes in 0..4 {
+        let mut input = Input::new(FailingReader::new(b"1234", passes));
+        let mut output = Output::new(Vec::new(rt.alloc()));
+        let mut errors = Output::new(Vec::new(rt.alloc()));
+        let store = FuseStore::new(store_of(rt.alloc(), NEW)?, 0, Kept::Old);
+        let ended = print_command(
+            rt.alloc(),
+            store,
+            &mut input,
+            &mut output,
+            &mut errors,
+            OPTIONS,
+        );
+        assert_eq!(rt; ended.status, 1, "{passes}");
+        assert!(rt; !ended.store.spent(), "{passes}");
+        assert_eq!(rt; output.writer().as_slice(), b"".as_slice());
+        assert_eq!(rt; errors.writer().as_slice(), b"refused Read\n".as_slice());
+    }
     Ok(())
 }

@@ -4,7 +4,7 @@ use Rattle.std.specs.Io.KnownBytes.{Appends, Consumes}
 use Rattle.dm_pbm_io.specs.Image.{Picture, Spells}
 use Rattle.dm_assembly_desk.specs.Views.{DeskView}
 use Rattle.relay_streams.specs.Streams.{InputView, OutputView}
-use Rattle.relay.specs.Scan.{EndsScans, ScansPicture}
+use Rattle.relay.specs.Scan.{EndsScans, EndsUnsaid, ScansPicture}
 use Rattle.relay.specs.declared.read.TheConstants.{MOST_IMAGES}
 use Rattle.relay.specs.declared.read.Step.{Step}
 use Rattle.relay.specs.declared.read.Step.TheVariants.{Image, End}
@@ -44,3 +44,19 @@ pub record EndsScansAtMost (A : Type 0) (desk : DeskView) (refused : Bool) (inpu
   pub consumed : Consumes input.remaining rest.remaining taken
   pub appended : Appends old.contents new.contents line
   pub ends : EndsScans A desk MOST_IMAGES taken rest line refused desk
+
+-- a picture was handed to the desk, if it has a grid, whatever became of its line
+abbrev pub HandsPicture : Type 0 → Picture → DeskView → DeskView → Type 0
+HandsPicture A p before after = (line : List ℕ) × (refused : Bool) × ScansPicture A p before line refused after
+
+-- what was taken and handed to the desk, where its line could not be written, whatever the number of images before
+pub record HandsNext (A : Type 0) (input rest : InputView) (before after : DeskView) : Type 0 where
+  pub taken : List ℕ
+  pub consumed : Consumes input.remaining rest.remaining taken
+  pub ends : (count : ℕ) → count < MOST_IMAGES → EndsUnsaid A before count taken rest after
+
+-- one image too many, whose refusal could not be written
+pub record HandsNone (A : Type 0) (desk : DeskView) (input rest : InputView) : Type 0 where
+  pub taken : List ℕ
+  pub consumed : Consumes input.remaining rest.remaining taken
+  pub ends : EndsUnsaid A desk MOST_IMAGES taken rest desk

@@ -12,10 +12,11 @@ returns-in-Err-clause-ends g c =
 
 pub returns-in-Err-open_printer-clause-ends : goal.returns-in-Err-open_printer-clause-ends
 returns-in-Err-open_printer-clause-ends g c =
-    not_opened (c.in-Some.size, c.in-Some.ensures.found) c.in-Err-open_printer.ensures
+    not_opened c.in-Ok.document.items (c.in-Some.size, c.in-Some.ensures.found) c.in-Ok.ensures.taken
+    c.in-Err-open_printer.ensures
 
 pub returns-clause-ends : goal.returns-clause-ends
 returns-clause-ends g c =
     rw c.close-store.ensures (opened c.in-Some.size c.in-Ok.document.items c.in-Ok-open_printer.printer c.print-status.new.printer
-    c.in-Some.ensures.found c.in-Ok.ensures.document c.in-Ok-open_printer.ensures.0
+    c.in-Some.ensures.found c.in-Ok.ensures.taken c.in-Ok-open_printer.ensures.0
     (rw (c.in-Ok-open_printer.ensures.1, c.deref.ensures.value) at c.print-status.ensures))

@@ -1,6 +1,8 @@
 use Rattle.std.proofs.Common.{[], arith}
 use Rattle.std.proofs.KnownBytes.{Consumes-kept, Consumes-nil, Appends-nil}
 use Rattle.relay.specs.Scan.EndsScans.{no_image, too_many}
+use Rattle.std.proofs.lemmas.Result.{err_from_is_err_and}
+use Rattle.relay.specs.Scan.EndsUnsaid.{too_many as too_many_unsaid}
 use Rattle.relay.proofs.scan.end_scans_at_most.Goals as goal
 
 pub returns-then-is_at_end-clause-ended : goal.returns-then-is_at_end-clause-ended
@@ -24,3 +26,9 @@ returns-clause-ended g c = λ desk.
       appended = c.in_ok-put_refusal.ensures.written;
       ends = too_many more.another;
     }
+
+pub returns-in_err-put_refusal-clause-unsaid : goal.returns-in_err-put_refusal-clause-unsaid
+returns-in_err-put_refusal-clause-unsaid g c =
+    let p = err_from_is_err_and c.from_residual.result c.from_residual.ensures.1 in
+    let more = c.is_at_end.ensures.another c.if-is_at_end.false in
+    rw p.1 (λ desk. record { taken = more.taken; consumed = more.consumed; ends = too_many_unsaid more.another })

@@ -1,4 +1,4 @@
-use Rattle.std.proofs.Common.{◌≡◌, ℕ, [], ◌++◌, inl, subst, arith}
+use Rattle.std.proofs.Common.{◌≡◌, ℕ, [], ◌++◌, inl, inr, refl, subst, arith}
 use Rattle.std.proofs.KnownBytes.{Consumes-nil, Consumes-trans, Appends-nil, Appends-trans}
 use Rattle.relay.specs.Scan.{ScansImages}
 use Rattle.relay.specs.Scan.ScansImages.{none, another}
@@ -76,6 +76,54 @@ returns-in-Ok g c =
         consumed = Consumes-trans _ _ _ _ _ so_far.consumed end.consumed;
         appended = Appends-trans _ _ _ _ _ so_far.appended end.appended;
         status_is = c.status_of-in-Ok.ensures;
+      };
+      kept = so_far.kept;
+      in_order = so_far.in_order;
+    }
+
+pub returns-in-Err-Write : goal.returns-in-Err-Write
+returns-in-Err-Write g c =
+    let so_far = c.loop-count.invariant in
+    let handed = rw c.in-Err-Write.is at c.next_scan.ensures.unsaid in
+    record {
+      told = inr record {
+        count = c.loop-count._count;
+        desk = c.loop-count.desk;
+        images_taken = so_far.images;
+        image_lines = so_far.lines;
+        any_refused = c.loop-count.refused;
+        end_taken = handed.taken;
+        scanned = so_far.scanned;
+        ended = handed.ends c.loop-count._count (omega arith);
+        consumed = Consumes-trans _ _ _ _ _ so_far.consumed handed.consumed;
+        failed = rw c.in-Err-Write.is at c.next_scan.ensures.failed;
+        status_is = refl;
+      };
+      kept = λ id m bytes held. c.next_scan.ensures.kept id m bytes (so_far.kept id m bytes held);
+      in_order = c.next_scan.ensures.order so_far.in_order;
+    }
+
+pub returns-in-Err-Write-end_scans_at_most : goal.returns-in-Err-Write-end_scans_at_most
+returns-in-Err-Write-end_scans_at_most g c =
+    let so_far = c.loop-count.invariant in
+    let handed = c.in-Err-Write-end_scans_at_most.ensures.unsaid c.loop-count.desk in
+    let all : c.loop-count._count ≡ 65536 = omega arith in
+    record {
+      told = inr record {
+        count = 65536;
+        desk = c.loop-count.desk;
+        images_taken = so_far.images;
+        image_lines = so_far.lines;
+        any_refused = c.loop-count.refused;
+        end_taken = handed.taken;
+        scanned = subst
+            (λ (n : ℕ). ScansImages g.row.A.Denot c.args.desk.now n so_far.images so_far.lines c.loop-count.refused
+            c.loop-count.desk)
+            all so_far.scanned;
+        ended = handed.ends;
+        consumed = Consumes-trans _ _ _ _ _ so_far.consumed handed.consumed;
+        failed = c.in-Err-Write-end_scans_at_most.ensures.failed;
+        status_is = refl;
       };
       kept = so_far.kept;
       in_order = so_far.in_order;

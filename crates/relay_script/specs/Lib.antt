@@ -1,0 +1,3 @@
+pub mod Words
+pub mod Events
+pub mod Scripts

@@ -1,0 +1,61 @@
+-- The words of a script, which is this project's own: what each kind of word stands for.
+use Rattle.std.specs.Prelude.{◌≡◌, ◌⊎◌, ◌<◌, ◌≤◌, ◌==◌, ℕ, List, [], ◌∷◌, ◌++◌, length, codes, Ok}
+use Rattle.std.specs.List.{slice_split, AllZip}
+use Rattle.std.specs.Str.Parse.{IsNumeral, digits_value}
+use Rattle.hex.specs.Hex.{decode_of, decode_sized}
+use Rattle.dm_check_blocks.specs.declared.size.Size.{Size}
+use Rattle.dm_check_blocks.specs.Sizes.{side}
+use Rattle.dm_store.specs.declared.fuse.Kept.TheVariants.{Old, New}
+use Rattle.dm_append_label.specs.Pages.{id_words}
+use Rattle.dm_event_history.specs.declared.stop.Stop.{Stop}
+use Rattle.dm_event_history.specs.declared.stop.Stop.TheVariants.{None, BeforeSave, InSave, SaveFault, AfterLabels}
+use Rattle.relay_script.specs.declared.fault.ScriptFault.{ScriptFault}
+use Rattle.relay_script.specs.declared.fault.ScriptFault.TheVariants.{Script, Memory}
+
+abbrev pub script_fault_name : ScriptFault → List ℕ
+script_fault_name Script = codes "Script"
+script_fault_name Memory = codes "Memory"
+
+-- the parts of a text that is cut at each of these bytes
+abbrev pub cut_at : ℕ → List ℕ → List (List ℕ)
+cut_at byte text = slice_split (λ b. b == byte) text
+
+-- one to five decimal digits, at most 65,535
+abbrev pub IsNumber : List ℕ → Type 0
+IsNumber word = IsNumeral 10 word × (length word ≤ 5) × (digits_value 10 word < 65536)
+
+-- the number that the word writes
+abbrev pub IsNumberOf : List ℕ → ℕ → Type 0
+IsNumberOf word n = IsNumber word × (n ≡ digits_value 10 word)
+
+-- the number of modules along a side of a symbol
+abbrev pub IsSideOf : List ℕ → Size → Type 0
+IsSideOf word size = IsNumberOf word (side size)
+
+-- the two words of an identification in hexadecimal
+abbrev pub IsIdOf : List ℕ → ℕ → Type 0
+IsIdOf word id = decode_sized word 2 ≡ Ok (id_words id)
+
+-- bytes in hexadecimal, or `-` for none
+abbrev pub AreBytesOf : List ℕ → List ℕ → Type 0
+AreBytesOf word bytes =
+    ((word ≡ codes "-") × (bytes ≡ [])) ⊎ ((0 < length word) × (decode_of word ≡ Ok bytes))
+
+-- where a call is stopped
+abbrev pub IsStopOf : List ℕ → Stop → Type 0
+IsStopOf word None = word ≡ codes "-"
+IsStopOf word BeforeSave = word ≡ codes "before"
+IsStopOf word (InSave Old) = word ≡ codes "in-old"
+IsStopOf word (InSave New) = word ≡ codes "in-new"
+IsStopOf word (SaveFault Old) = word ≡ codes "fault-old"
+IsStopOf word (SaveFault New) = word ≡ codes "fault-new"
+IsStopOf word (AfterLabels most) = (digits : List ℕ) × (word ≡ codes "after:" ++ digits) × IsNumberOf digits most
+
+-- a row and a column with a comma between them
+abbrev pub IsFlipOf : List ℕ → ℕ × ℕ → Type 0
+IsFlipOf word flip = (row : List ℕ) × (column : List ℕ) × (word ≡ row ++ (44 ∷ column))
+    × IsNumberOf row flip.0 × IsNumberOf column flip.1
+
+-- flips with semicolons between them, or `-` for none
+abbrev pub AreFlipsOf : List ℕ → List (ℕ × ℕ) → Type 0
+AreFlipsOf word flips = ((word ≡ codes "-") × (flips ≡ [])) ⊎ AllZip IsFlipOf (cut_at 59 word) flips

@@ -1,0 +1,144 @@
+//! The lines of a script that stand for events.
+
+ghost use Rattle.std.specs.Prelude.{IfOk, IfSome};
+ghost use Rattle.relay_script.specs.Events.{SpellsEvent};
+ghost use Rattle.relay_script.specs.Words.{IsNumberOf};
+
+use crate::fault::ScriptFault;
+use crate::words::{bytes, flips, id, number, size, stop};
+use dm_event_history::Event;
+use dm_print_ledger::Range;
+use relay_line::scheme_of;
+use std::alloc::Allocator;
+
+// The number that a word writes, of something that is numbered from 0.
+fn index(word: &str) -> Option<usize>
+    ensures { IfSome result (IsNumberOf word.now) }
+{
+    Some(usize::from(number(word)?))
+}
+
+/// The event that the words of a line stand for.
+pub(crate) fn event_of<A: Allocator + Copy>(
+    alloc: A,
+    words: &[&str],
+) -> Result<Event<A>, ScriptFault>
+    ensures { IfOk result (SpellsEvent words.now) }
+{
+    match *words {
+        ["print", ..] => print(alloc, words),
+        ["scan", ..] => scan(alloc, words),
+        ["give", ..] => give(words).ok_or(ScriptFault::Script),
+        ["forget", ..] => forget(words).ok_or(ScriptFault::Script),
+        ["restart", ..] => restart(words).ok_or(ScriptFault::Script),
+        ["take", ..] | ["import", ..] => with_number(words).ok_or(ScriptFault::Script),
+        _ => of_document(words).ok_or(ScriptFault::Script),
+    }
+}
+
+fn print<A: Allocator + Copy>(alloc: A, words: &[&str]) -> Result<Event<A>, ScriptFault>
+    ensures { IfOk result (SpellsEvent words.now) }
+{
+    let ["print", printer, side, scheme, document, end] = *words else {
+        return Err(ScriptFault::Script);
+    };
+    Ok(Event::Print {
+        printer: index(printer).ok_or(ScriptFault::Script)?,
+        document: bytes(alloc, document)?,
+        size: size(side).ok_or(ScriptFault::Script)?,
+        scheme: scheme_of(scheme).ok_or(ScriptFault::Script)?,
+        stop: stop(end).ok_or(ScriptFault::Script)?,
+    })
+}
+
+fn scan<A: Allocator + Copy>(alloc: A, words: &[&str]) -> Result<Event<A>, ScriptFault>
+    ensures { IfOk result (SpellsEvent words.now) }
+{
+    let ["scan", desk, label, end, modules] = *words else {
+        return Err(ScriptFault::Script);
+    };
+    Ok(Event::Scan {
+        desk: index(desk).ok_or(ScriptFault::Script)?,
+        label: index(label).ok_or(ScriptFault::Script)?,
+        flips: flips(alloc, modules)?,
+        stop: stop(end).ok_or(ScriptFault::Script)?,
+    })
+}
+
+fn give<A: Allocator + Copy>(words: &[&str]) -> Option<Event<A>>
+    ensures { IfSome result (SpellsEvent words.now) }
+{
+    let ["give", printer, receiver, first, last, end] = *words else {
+        return None;
+    };
+    Some(Event::Give {
+        printer: index(printer)?,
+        receiver: number(receiver)?,
+        range: Range {
+            first: number(first)?,
+            last: number(last)?,
+        },
+        stop: stop(end)?,
+    })
+}
+
+fn forget<A: Allocator + Copy>(words: &[&str]) -> Option<Event<A>>
+    ensures { IfSome result (SpellsEvent words.now) }
+{
+    let ["forget", desk, document, end] = *words else {
+        return None;
+    };
+    Some(Event::Forget {
+        desk: index(desk)?,
+        id: id(document)?,
+        stop: stop(end)?,
+    })
+}
+
+fn restart<A: Allocator + Copy>(words: &[&str]) -> Option<Event<A>>
+    ensures { IfSome result (SpellsEvent words.now) }
+{
+    match *words {
+        ["restart", "printer", printer] => Some(Event::RestartPrinter {
+            printer: index(printer)?,
+        }),
+        ["restart", "desk", desk] => Some(Event::RestartDesk { desk: index(desk)? }),
+        _ => None,
+    }
+}
+
+// An event that names a ticket or an export.
+fn with_number<A: Allocator + Copy>(words: &[&str]) -> Option<Event<A>>
+    ensures { IfSome result (SpellsEvent words.now) }
+{
+    match *words {
+        ["take", printer, ticket, end] => Some(Event::Take {
+            printer: index(printer)?,
+            ticket: index(ticket)?,
+            stop: stop(end)?,
+        }),
+        ["import", desk, export, end] => Some(Event::Import {
+            desk: index(desk)?,
+            export: index(export)?,
+            stop: stop(end)?,
+        }),
+        _ => None,
+    }
+}
+
+// An event that names a document and is never stopped.
+fn of_document<A: Allocator + Copy>(words: &[&str]) -> Option<Event<A>>
+    ensures { IfSome result (SpellsEvent words.now) }
+{
+    match *words {
+        ["ask", desk, document] => Some(Event::Ask {
+            desk: index(desk)?,
+            id: id(document)?,
+        }),
+        ["export", desk, document] => Some(Event::Export {
+            desk: index(desk)?,
+            id: id(document)?,
+        }),
+        _ => None,
+    }
+}

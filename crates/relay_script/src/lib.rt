@@ -1,0 +1,13 @@
+//! Scripts of worlds: their lines become printers, desks and events.
+//!
+//! Proved: where a script is taken, its lines spell exactly the ranges, the desks and the events that come of it. Which
+//! other scripts are refused is shown by tests.
+#![tactic(auto)]
+
+mod event_lines;
+mod fault;
+mod script;
+mod words;
+
+pub use fault::ScriptFault;
+pub use script::{MOST_DESKS, MOST_EVENTS, MOST_PRINTERS, SCRIPT_BYTES, Script, read_script};

@@ -1,0 +1,117 @@
+//! The words of a script.
+
+ghost use Rattle.std.specs.Prelude.{◌≡◌, ◌<◌, ◌≤◌, IfOk, IfSome, MatchOption, map};
+ghost use Rattle.std.specs.Str.Parse.{digits_value};
+ghost use Rattle.relay_script.specs.Words.{cut_at, AreBytesOf, AreFlipsOf, IsFlipOf, IsIdOf, IsNumber, IsNumberOf, IsSideOf, IsStopOf};
+
+use crate::fault::ScriptFault;
+use dm_append_label::FileId;
+use dm_check_blocks::Size;
+use dm_event_history::{Bytes, Flips, Kept, Stop};
+use hex::FromHexError;
+use std::alloc::{AllocError, Allocator};
+
+/// The number that a word writes.
+pub(crate) fn number(word: &str) -> Option<u16>
+    ensures { MatchOption result (¬ IsNumber word.now) (IsNumberOf word.now) }
+{
+    if word.len() > 5 || word.starts_with('+') {
+        return None;
+    }
+    word.parse().ok()
+}
+
+/// The size of the side that a word writes.
+pub(crate) fn size(word: &str) -> Option<Size>
+    ensures { IfSome result (IsSideOf word.now) }
+{
+    Size::of_side(number(word)?)
+}
+
+/// The identification that a word writes.
+pub(crate) fn id(word: &str) -> Option<FileId>
+    ensures { IfSome result (IsIdOf word.now) }
+{
+    let mut words = [0u8; 2];
+    match hex::decode_to_slice(word, &mut words) {
+        Ok(()) => FileId::of_words(words[0], words[1]),
+        Err(_) => None,
+    }
+}
+
+/// The stop that a word names.
+pub(crate) fn stop(word: &str) -> Option<Stop>
+    ensures { IfSome result (IsStopOf word.now) }
+{
+    match word {
+        "-" => Some(Stop::None),
+        "before" => Some(Stop::BeforeSave),
+        "in-old" => Some(Stop::InSave(Kept::Old)),
+        "in-new" => Some(Stop::InSave(Kept::New)),
+        "fault-old" => Some(Stop::SaveFault(Kept::Old)),
+        "fault-new" => Some(Stop::SaveFault(Kept::New)),
+        _ => after_labels(word),
+    }
+}
+
+// The stop after a number of labels.
+fn after_labels(word: &str) -> Option<Stop>
+    ensures { IfSome result (IsStopOf word.now) }
+{
+    let digits = word.strip_prefix("after:")?;
+    let most = u8::try_from(number(digits)?).ok()?;
+    Some(Stop::AfterLabels(most))
+}
+
+/// The bytes that a word writes.
+pub(crate) fn bytes<A: Allocator>(alloc: A, word: &str) -> Result<Bytes<A>, ScriptFault>
+    ensures { IfOk result (AreBytesOf word.now) }
+{
+    if word == "-" {
+        return Ok(Bytes(Vec::new(alloc)));
+    }
+    if word.is_empty() {
+        return Err(ScriptFault::Script);
+    }
+    match hex::decode(alloc, word) {
+        Ok(bytes) => Ok(Bytes(bytes)),
+        Err(FromHexError::OutOfMemory) => Err(ScriptFault::Memory),
+        Err(_) => Err(ScriptFault::Script),
+    }
+}
+
+// The row and the column that a word writes.
+fn flip(word: &str) -> Option<(u16, u16)>
+    ensures { IfSome result (IsFlipOf word.now) }
+{
+    let (row, column) = word.split_once(',')?;
+    Some((number(row)?, number(column)?))
+}
+
+/// The flips that a word writes.
+pub(crate) fn flips<A: Allocator + Copy>(alloc: A, word: &str) -> Result<Flips<A>, ScriptFault>
+    ensures { IfOk result (AreFlipsOf word.now) }
+{
+    if word == "-" {
+        return Ok(Flips(Vec::new(alloc)));
+    }
+    let parts = cut(alloc, word, ';')?;
+    let mut flips = Vec::with_capacity(alloc, parts.len())?;
+    for part in &parts {
+        let flip = flip(*part).ok_or(ScriptFault::Script)?;
+        flips.push(flip).map_err(AllocError::from)?;
+    }
+    Ok(Flips(flips))
+}
+
+/// The parts of a text, which is cut at each of these ASCII characters.
+pub(crate) fn cut<'a, A: Allocator>(
+    alloc: A,
+    text: &'a str,
+    at: char,
+) -> Result<Vec<&'a str, A>, ScriptFault>
+    requires { at < 128 }
+    ensures { IfOk result (λ parts. map (λ part. part.now) parts.items ≡ cut_at at text.now) }
+{
+    Ok(text.split(at).collect(alloc)?)
+}

@@ -1,0 +1,10 @@
+//! Tests of worlds: scripts with known lines, the same events by calls, each growth refused in turn, and 10,000 scripts
+//! that a generator makes.
+#![tactic(auto)]
+
+#[cfg(test)]
+mod refused;
+#[cfg(test)]
+mod scripts;
+#[cfg(test)]
+mod shuffled;
