@@ -10,7 +10,7 @@ use Rattle.dm_event_history.specs.declared.reply.Reply.TheVariants.{Printed, Doc
 use Rattle.dm_event_history.specs.History.{Entry, History, CutDocument, printed_by, prints_as, docs, events_of, replies_of}
 use Rattle.dm_event_history.specs.Legal.{IsLegal, Fits, IsReply, LetsOut, IsUnused, NeverTwice}
 use Rattle.dm_event_history.specs.Safe.{IsSafe, IsReplySafe}
-use Rattle.dm_event_history.specs.Headline.{TellsOfPrint, PrintsUnder, IsFaithfulBy}
+use Rattle.dm_event_history.specs.Headline.{TellsOfPrint, PrintsUnder, PrintsOnceBy, IsFaithfulBy}
 use Rattle.dm_event_history.proofs.Deciding.{if_not, if_so, decided, true_false}
 use Rattle.dm_event_history.proofs.Gotten.{get_more, get_last, get_either, get_beyond}
 use Rattle.dm_event_history.proofs.Printed.{is_cut, prints_as_means}
@@ -162,24 +162,21 @@ printed_at {A} ranges desks (e ∷ h) id cut legal had = elim (decided (prints_a
       ))
 ]
 
--- ---- the headline
+-- ---- no identification is printed twice
 
-faithful_first : {A : Type 0} → (let none : History A = [] in IsFaithfulBy (ids_of none) (events_of none) (replies_of none))
-faithful_first {A} = record {
+once_first : {A : Type 0} → (let none : History A = [] in PrintsOnceBy (ids_of none) (events_of none) (replies_of none))
+once_first {A} = record {
   told = λ i id is. absurd (let x = is.2 in cc (x));
   printed = λ i id is. absurd (cc (is));
   once = λ i j id a b. absurd (cc (a));
-  given = λ i desk id document a b. absurd (cc (a));
 }
 
-faithful_next : {A : Type 0} (ranges : List Range) (desks : ℕ) (h : History A) (e : Entry A) → IsLegal ranges desks h → Fits ranges desks h e →
-    NeverTwice (e ∷ h) → IsReplySafe h e.event e.reply →
-    IsFaithfulBy (ids_of h) (events_of h) (replies_of h) → IsFaithfulBy (ids_of (e ∷ h)) (events_of (e ∷ h)) (replies_of (e ∷ h))
-faithful_next {A} ranges desks h e legal fits never safe f = record {
+once_next : {A : Type 0} (ranges : List Range) (desks : ℕ) (h : History A) (e : Entry A) → Fits ranges desks h e → NeverTwice (e ∷ h) →
+    PrintsOnceBy (ids_of h) (events_of h) (replies_of h) → PrintsOnceBy (ids_of (e ∷ h)) (events_of (e ∷ h)) (replies_of (e ∷ h))
+once_next {A} ranges desks h e fits never f = record {
   told = tells;
   printed = prints;
   once = one;
-  given = gives;
 }
   where
     tells : (i id : ℕ) → TellsOfPrint (replies_of (e ∷ h)) i id → slice_get (ids_of (e ∷ h)) i ≡ Some (Some id)
@@ -221,6 +218,24 @@ faithful_next {A} ranges desks h e legal fits never safe f = record {
       ]
     ]
 
+pub prints_once : {A : Type 0} (ranges : List Range) (desks : ℕ) (h : History A) → IsLegal ranges desks h → NeverTwice h →
+    PrintsOnceBy (ids_of h) (events_of h) (replies_of h)
+prints_once ranges desks [] legal never = once_first
+prints_once ranges desks (e ∷ h) legal never =
+    once_next ranges desks h e legal.0 never (prints_once ranges desks h legal.1 never.1)
+
+-- ---- the headline
+
+-- each document that was given was printed
+abbrev GivesPrinted : {A : Type 0} → History A → Type 0
+GivesPrinted h = (i desk id : ℕ) (document : List ℕ) →
+    slice_get (events_of h) i ≡ Some (Ask desk id) → slice_get (replies_of h) i ≡ Some (Document document) →
+    (j : ℕ) × (j < i) × (slice_get (ids_of h) j ≡ Some (Some id)) × PrintsUnder (events_of h) (replies_of h) j id document
+
+given_next : {A : Type 0} (ranges : List Range) (desks : ℕ) (h : History A) (e : Entry A) → IsLegal ranges desks h →
+    IsReplySafe h e.event e.reply → GivesPrinted h → GivesPrinted (e ∷ h)
+given_next {A} ranges desks h e legal safe given_before = gives
+  where
     gives : (i desk id : ℕ) (document : List ℕ) →
         slice_get (events_of (e ∷ h)) i ≡ Some (Ask desk id) → slice_get (replies_of (e ∷ h)) i ≡ Some (Document document) →
         (j : ℕ) × (j < i) × (slice_get (ids_of (e ∷ h)) j ≡ Some (Some id)) × PrintsUnder (events_of (e ∷ h)) (replies_of (e ∷ h)) j id document
@@ -228,7 +243,7 @@ faithful_next {A} ranges desks h e legal fits never safe f = record {
         elim (before_or_last (events_of h) e.event (Ask desk id) (length h) i (events_count h) asked) [
           | inl was_asked ↦ elim (before_or_last (replies_of h) e.reply (Document document) (length h) i (replies_count h) answered) [
             | inl was_answered ↦
-                (let g = f.given i desk id document was_asked was_answered in (
+                (let g = given_before i desk id document was_asked was_answered in (
                   g.0,
                   g.1,
                   get_more (ids_of h) (id_of e ∷ []) g.0 (Some id) g.2,
@@ -253,8 +268,14 @@ faithful_next {A} ranges desks h e legal fits never safe f = record {
           ]
         ]
 
+given_printed : {A : Type 0} (ranges : List Range) (desks : ℕ) (h : History A) → IsLegal ranges desks h → IsSafe h → GivesPrinted h
+given_printed ranges desks [] legal safe = λ i desk id document a b. absurd (cc (a))
+given_printed ranges desks (e ∷ h) legal safe =
+    given_next ranges desks h e legal.1 safe.0 (given_printed ranges desks h legal.1 safe.1)
+
 pub is_faithful : {A : Type 0} (ranges : List Range) (desks : ℕ) (h : History A) → IsLegal ranges desks h → NeverTwice h → IsSafe h →
     IsFaithfulBy (ids_of h) (events_of h) (replies_of h)
-is_faithful ranges desks [] legal never safe = faithful_first
-is_faithful ranges desks (e ∷ h) legal never safe =
-    faithful_next ranges desks h e legal.1 legal.0 never safe.0 (is_faithful ranges desks h legal.1 never.1 safe.1)
+is_faithful ranges desks h legal never safe = record {
+  prints = prints_once ranges desks h legal never;
+  given = given_printed ranges desks h legal safe;
+}

@@ -8,5 +8,6 @@ pub mod Placing
 pub mod Printed
 pub mod Fresh
 pub mod Holds
+pub mod LeftOnce
 pub mod Faithful
 pub mod WorkedOut

@@ -27,8 +27,8 @@ pub record PrintsUnder {A : Type 0} (events : List (Event A)) (replies : List (R
   pub is_print : IsPrintOf events i document stop
   pub ends : TellsOfPrint replies i id ⊎ ((slice_get replies i ≡ Some Stopped) × (most : ℕ) × (stop ≡ AfterLabels most))
 
--- Each event has in `ids` the identification under which labels left by it, if any did.
-pub record IsFaithfulBy {A : Type 0} (ids : List (Option ℕ)) (events : List (Event A)) (replies : List (Reply A))
+-- Each event has in `ids` the identification under which labels left by it, if any did, and none of these comes twice.
+pub record PrintsOnceBy {A : Type 0} (ids : List (Option ℕ)) (events : List (Event A)) (replies : List (Reply A))
     : Type 0 where
   -- what a reply says was printed was printed, and what was printed is a print's document
   pub told : (i id : ℕ) → TellsOfPrint replies i id → slice_get ids i ≡ Some (Some id)
@@ -36,6 +36,15 @@ pub record IsFaithfulBy {A : Type 0} (ids : List (Option ℕ)) (events : List (E
       (document : List ℕ) × PrintsUnder events replies i id document
   -- no identification is ever printed twice
   pub once : (i j id : ℕ) → slice_get ids i ≡ Some (Some id) → slice_get ids j ≡ Some (Some id) → i ≡ j
+
+-- no identification is ever printed twice
+abbrev pub PrintsOnce : {A : Type 0} → List (Event A) → List (Reply A) → Type 0
+PrintsOnce events replies = (ids : List (Option ℕ)) × PrintsOnceBy ids events replies
+
+-- each of these is given as it was printed
+pub record IsFaithfulBy {A : Type 0} (ids : List (Option ℕ)) (events : List (Event A)) (replies : List (Reply A))
+    : Type 0 where
+  pub prints : PrintsOnceBy ids events replies
   -- whatever document any desk gives for an identification was printed under it before
   pub given : (i desk id : ℕ) (document : List ℕ) →
       slice_get events i ≡ Some (Ask desk id) → slice_get replies i ≡ Some (Document document) →

@@ -2,13 +2,13 @@
 use Rattle.std.specs.Prelude.{◌≡◌, ℕ, true, false, None, List}
 use Rattle.dm_print_ledger.specs.declared.range.Range.{Range}
 use Rattle.dm_print_ledger.specs.Ranges.{is_in}
-use Rattle.dm_event_history.specs.History.{History, docs, events_of, replies_of}
+use Rattle.dm_event_history.specs.History.{History, docs, events_of, out, replies_of}
 use Rattle.dm_event_history.specs.Numbers.{free_at}
 use Rattle.dm_event_history.specs.Places.{ArePlaced, IsNoTicketTakenTwice}
 use Rattle.dm_event_history.specs.Holding.{IsSurelyHeld, IsPossiblyHeld}
-use Rattle.dm_event_history.specs.Legal.{AreDisjoint, IsLegal, NeverTwice, MayBeTaken}
+use Rattle.dm_event_history.specs.Legal.{AreDisjoint, IsLegal, IsNoLabelTwice, NeverTwice, MayBeTaken}
 use Rattle.dm_event_history.specs.Safe.{IsSafe}
-use Rattle.dm_event_history.specs.Headline.{IsFaithful}
+use Rattle.dm_event_history.specs.Headline.{PrintsOnce, IsFaithful}
 
 -- so it is of each legal history of printers that begin with disjoint ranges
 abbrev pub InLegal : (A : Type 0) → (List Range → History A → Type 0) → Type 0
@@ -38,6 +38,14 @@ TicketsAreElsewhere A = InLegal A (λ ranges h.
 abbrev pub SurelyIsPossibly : Type 0 → Type 0
 SurelyIsPossibly A = (h : History A) → IsSafe h →
     (desk id m : ℕ) → IsSurelyHeld h desk id m → IsPossiblyHeld h desk id m
+
+-- no label leaves twice, of whichever print
+abbrev pub NoLabelTwice : Type 0 → Type 0
+NoLabelTwice A = InLegal A (λ ranges h. IsNoLabelTwice (out h))
+
+-- no identification is printed twice, said of the events and replies alone
+abbrev pub LegalPrintsOnce : Type 0 → Type 0
+LegalPrintsOnce A = InLegal A (λ ranges h. PrintsOnce (events_of h) (replies_of h))
 
 -- the headline: legal and safe histories are faithful
 abbrev pub LegalAndSafeIsFaithful : Type 0 → Type 0

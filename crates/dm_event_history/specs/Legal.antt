@@ -265,3 +265,8 @@ IsUnused id (entry ∷ before) = (0 < entry.left → entry.id ≢ id) × IsUnuse
 abbrev pub NeverTwice : {A : Type 0} → History A → Type 0
 NeverTwice [] = Unit {0}
 NeverTwice (entry ∷ before) = (0 < entry.left → IsUnused entry.id before) × NeverTwice before
+
+-- no label left twice: no two that left have one identification and one number
+abbrev pub IsNoLabelTwice : List LabelName → Type 0
+IsNoLabelTwice names = (i j : ℕ) (a b : LabelName) →
+    slice_get names i ≡ Some a → slice_get names j ≡ Some b → a.id ≡ b.id → a.number ≡ b.number → i ≡ j

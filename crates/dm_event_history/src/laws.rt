@@ -1,8 +1,8 @@
 //! Laws of histories: each function's contract is the law. They speak of definitions alone, so the functions do
 //! nothing.
 
-ghost use Rattle.dm_event_history.specs.Laws.{EachNumberHasAPlace, FreeIsFresh, NothingTwice};
-ghost use Rattle.dm_event_history.specs.Laws.{TicketsAreElsewhere, SurelyIsPossibly, LegalAndSafeIsFaithful};
+ghost use Rattle.dm_event_history.specs.Laws.{EachNumberHasAPlace, FreeIsFresh, LegalPrintsOnce, NothingTwice};
+ghost use Rattle.dm_event_history.specs.Laws.{NoLabelTwice, TicketsAreElsewhere, SurelyIsPossibly, LegalAndSafeIsFaithful};
 ghost use Rattle.dm_event_history.specs.Worked.{MovedIs, StoppedIs, TravelledIs};
 
 use std::alloc::Allocator;
@@ -19,6 +19,11 @@ pub fn nothing_twice<A: Allocator>()
     ensures { NothingTwice A }
 {}
 
+/// In such a history no label leaves twice: no two that left have one identification and one number.
+pub fn no_label_twice<A: Allocator>()
+    ensures { NoLabelTwice A }
+{}
+
 /// In such a history no number of a ticket that a printer may take is free at any printer.
 pub fn tickets_are_elsewhere<A: Allocator>()
     ensures { TicketsAreElsewhere A }
@@ -27,6 +32,11 @@ pub fn tickets_are_elsewhere<A: Allocator>()
 /// In a safe history what a desk surely holds it possibly holds.
 pub fn surely_is_possibly<A: Allocator>()
     ensures { SurelyIsPossibly A }
+{}
+
+/// In such a history no identification is printed twice, whatever desks do: said of the events and replies alone.
+pub fn legal_prints_once<A: Allocator>()
+    ensures { LegalPrintsOnce A }
 {}
 
 /// The headline: in a legal and safe history of printers that begin with disjoint ranges, whatever document any desk

@@ -8,15 +8,16 @@ use Rattle.dm_event_history.specs.declared.event.Event.{Event}
 use Rattle.dm_event_history.specs.declared.event.Event.TheVariants.{Print, Scan, RestartPrinter, RestartDesk, Ask, Forget, Give, Take, Export, Import}
 use Rattle.dm_event_history.specs.declared.reply.Reply.{Reply}
 use Rattle.dm_event_history.specs.History.{Entry, History, out, names_from, events_of, replies_of}
-use Rattle.dm_event_history.specs.Legal.{IsLegal, IsThere}
+use Rattle.dm_event_history.specs.Legal.{IsLegal, IsThere, NeverTwice, IsNoLabelTwice}
 use Rattle.dm_event_history.specs.Honest.{IsFair, IsHonest}
-use Rattle.dm_event_history.specs.Headline.{IsFaithful}
+use Rattle.dm_event_history.specs.Headline.{PrintsOnce, IsFaithful}
 use Rattle.dm_event_history.proofs.Gotten.{get_beyond}
 use Rattle.std.proofs.lemmas.Option.{slice_get_within}
 use Rattle.dm_event_history.proofs.Fresh.{all_placed, never_twice}
-use Rattle.dm_event_history.proofs.Faithful.{ids_of, is_faithful}
+use Rattle.dm_event_history.proofs.LeftOnce.{labels_once}
+use Rattle.dm_event_history.proofs.Faithful.{ids_of, prints_once, is_faithful}
 use Rattle.dm_event_steps.specs.Labels.{name_of, grid_of}
-use Rattle.dm_event_steps.specs.Worlds.{WorldView, left_of, grids_of, StandsFor, IsFairIn, Steps, RunsFairly}
+use Rattle.dm_event_steps.specs.Worlds.{WorldView, left_of, grids_of, StandsFor, IsFairIn, Steps, Runs, RunsFairly}
 use Rattle.dm_event_steps.proofs.EachPrinter.{printer_goes}
 use Rattle.dm_event_steps.proofs.WorldGoing.{grids_more}
 use Rattle.dm_event_steps.proofs.Stepping.{named_of, there_of}
@@ -103,47 +104,82 @@ step_stands {A} ranges capacities h old new event reply s steps =
 
 -- ---- runs
 
--- what a fair run leaves: a longer honest history, of these events and replies, for which the world stands
+-- what a run leaves: a longer history, of these events and replies, for which the world stands
 record HasRun {A : Type 0} (ranges : List Range) (capacities : List ℕ) (h : History A) (events : List (Event A)) (replies : List (Reply A))
     (new : WorldView A) : Type 0 where
   pub after : History A
   pub stands : StandsFor ranges capacities new after
-  pub honest : IsHonest (grids_of new) after
   pub events_are : events_of after ≡ events_of h ++ events
   pub replies_are : replies_of after ≡ replies_of h ++ replies
 
-runs_on : {A : Type 0} (ranges : List Range) (capacities : List ℕ) (h : History A) (old new : WorldView A) (events : List (Event A))
-    (replies : List (Reply A)) → StandsFor ranges capacities old h → IsHonest (grids_of old) h → RunsFairly old events replies new →
-    HasRun ranges capacities h events replies new
-runs_on {A} ranges capacities h old new [] [] s honest runs = record {
+abbrev no_run : {A : Type 0} (ranges : List Range) (capacities : List ℕ) (h : History A) (old new : WorldView A) → StandsFor ranges capacities old h →
+    new ≡ old → HasRun ranges capacities h [] [] new
+no_run {A} ranges capacities h old new s same = record {
   after = h;
-  stands = subst (λ (w : WorldView A). StandsFor ranges capacities w h) (sym runs) s;
-  honest = subst (λ (w : WorldView A). IsHonest (grids_of w) h) (sym runs) honest;
+  stands = subst (λ (w : WorldView A). StandsFor ranges capacities w h) (sym same) s;
   events_are = sym (append-nil (events_of h));
   replies_are = sym (append-nil (replies_of h));
 }
-runs_on {A} ranges capacities h old new (event ∷ events) (reply ∷ replies) s honest runs =
+
+-- a run that begins with this entry
+abbrev run_with : {A : Type 0} (ranges : List Range) (capacities : List ℕ) (h : History A) (new : WorldView A) (entry : Entry A) (event : Event A)
+    (reply : Reply A) (events : List (Event A)) (replies : List (Reply A)) → entry.event ≡ event → entry.reply ≡ reply →
+    HasRun ranges capacities (entry ∷ h) events replies new → HasRun ranges capacities h (event ∷ events) (reply ∷ replies) new
+run_with {A} ranges capacities h new entry event reply events replies event_is reply_is rest = record {
+  after = rest.after;
+  stands = rest.stands;
+  events_are = rest.events_are ∙ ap (λ (v : Event A). (events_of h ++ v ∷ []) ++ events) event_is ∙ append_assoc (events_of h) (event ∷ []) events;
+  replies_are = rest.replies_are ∙ ap (λ (r : Reply A). (replies_of h ++ r ∷ []) ++ replies) reply_is ∙ append_assoc (replies_of h) (reply ∷ []) replies;
+}
+
+runs_on : {A : Type 0} (ranges : List Range) (capacities : List ℕ) (h : History A) (old new : WorldView A) (events : List (Event A))
+    (replies : List (Reply A)) → StandsFor ranges capacities old h → Runs old events replies new → HasRun ranges capacities h events replies new
+runs_on ranges capacities h old new [] [] s runs = no_run ranges capacities h old new s runs
+runs_on {A} ranges capacities h old new (event ∷ events) (reply ∷ replies) s runs =
+    let t = step_stands ranges capacities h old runs.0 event reply s runs.1 in
+    run_with ranges capacities h new t.0 event reply events replies t.1 t.2
+    (runs_on ranges capacities (t.0 ∷ h) runs.0 new events replies t.3 runs.2)
+runs_on ranges capacities h old new [] (reply ∷ replies) s runs = absurd runs
+runs_on ranges capacities h old new (event ∷ events) [] s runs = absurd runs
+
+-- what a fair run leaves is honest
+fairly_on : {A : Type 0} (ranges : List Range) (capacities : List ℕ) (h : History A) (old new : WorldView A) (events : List (Event A))
+    (replies : List (Reply A)) → StandsFor ranges capacities old h → IsHonest (grids_of old) h → RunsFairly old events replies new →
+    (run : HasRun ranges capacities h events replies new) × IsHonest (grids_of new) run.after
+fairly_on {A} ranges capacities h old new [] [] s honest runs =
+    (no_run ranges capacities h old new s runs, subst (λ (w : WorldView A). IsHonest (grids_of w) h) (sym runs) honest)
+fairly_on {A} ranges capacities h old new (event ∷ events) (reply ∷ replies) s honest runs =
     let t = step_stands ranges capacities h old runs.0 event reply s runs.2 in
-    let rest = runs_on ranges capacities (t.0 ∷ h) runs.0 new events replies t.3 (t.4 runs.1 honest) runs.3 in
-    record {
-      after = rest.after;
-      stands = rest.stands;
-      honest = rest.honest;
-      events_are = rest.events_are ∙ ap (λ (v : Event A). (events_of h ++ v ∷ []) ++ events) t.1 ∙ append_assoc (events_of h) (event ∷ []) events;
-      replies_are = rest.replies_are ∙ ap (λ (r : Reply A). (replies_of h ++ r ∷ []) ++ replies) t.2 ∙ append_assoc (replies_of h) (reply ∷ []) replies;
-    }
-runs_on ranges capacities h old new [] (reply ∷ replies) s honest runs = absurd runs
-runs_on ranges capacities h old new (event ∷ events) [] s honest runs = absurd runs
+    let rest = fairly_on ranges capacities (t.0 ∷ h) runs.0 new events replies t.3 (t.4 runs.1 honest) runs.3 in
+    (run_with ranges capacities h new t.0 event reply events replies t.1 t.2 rest.0, rest.1)
+fairly_on ranges capacities h old new [] (reply ∷ replies) s honest runs = absurd runs
+fairly_on ranges capacities h old new (event ∷ events) [] s honest runs = absurd runs
+
+pub run_once : {A : Type 0} (ranges : List Range) (capacities : List ℕ) (old new : WorldView A) (events : List (Event A)) (replies : List (Reply A)) →
+    StandsFor ranges capacities old [] → Runs old events replies new → PrintsOnce events replies × IsNoLabelTwice (map name_of new.labels)
+run_once {A} ranges capacities old new events replies s runs =
+    let none : History A = [] in
+    let r : HasRun ranges capacities none events replies new = runs_on ranges capacities none old new events replies s runs in
+    let legal = r.stands.legal in
+    let never : NeverTwice r.after = never_twice ranges (length capacities) r.after r.stands.disjoint legal in (
+      subst (λ (l : List (Event A)). PrintsOnce l replies) r.events_are
+          (subst (λ (l : List (Reply A)). PrintsOnce (events_of r.after) l) r.replies_are (
+            ids_of r.after,
+            prints_once ranges (length capacities) r.after legal never,
+          )),
+      subst IsNoLabelTwice (sym r.stands.left.names) (labels_once r.after never),
+    )
 
 pub fair_run : {A : Type 0} (ranges : List Range) (capacities : List ℕ) (old new : WorldView A) (events : List (Event A)) (replies : List (Reply A)) →
     StandsFor ranges capacities old [] → RunsFairly old events replies new → IsFaithful events replies
 fair_run {A} ranges capacities old new events replies s runs =
     let none : History A = [] in
-    let r : HasRun ranges capacities none events replies new = runs_on ranges capacities none old new events replies s tt runs in
+    let f = fairly_on ranges capacities none old new events replies s tt runs in
+    let r : HasRun ranges capacities none events replies new = f.0 in
     let legal = r.stands.legal in
     subst (λ (l : List (Event A)). IsFaithful l replies) r.events_are
     (subst (λ (l : List (Reply A)). IsFaithful (events_of r.after) l) r.replies_are (
       ids_of r.after,
       is_faithful ranges (length capacities) r.after legal
-          (never_twice ranges (length capacities) r.after r.stands.disjoint legal) (r.stands.safe r.honest),
+          (never_twice ranges (length capacities) r.after r.stands.disjoint legal) (r.stands.safe f.1),
     ))

@@ -10,16 +10,16 @@ use Rattle.dm_event_history.specs.declared.reply.Reply.{Reply}
 use Rattle.dm_event_history.specs.declared.reply.Reply.TheVariants.{NoSuch}
 use Rattle.dm_event_history.specs.Actors.{PrinterAt, DeskAt, actor_of}
 use Rattle.dm_event_history.specs.History.{Entry, History, exports}
-use Rattle.dm_event_history.specs.Legal.{AreDisjoint, IsLegal}
+use Rattle.dm_event_history.specs.Legal.{AreDisjoint, IsLegal, IsNoLabelTwice}
 use Rattle.dm_event_history.specs.Honest.{IsFair, IsHonest, AreHonestReplies}
 use Rattle.dm_event_history.specs.Safe.{IsSafe}
-use Rattle.dm_event_history.specs.Headline.{IsFaithful}
+use Rattle.dm_event_history.specs.Headline.{PrintsOnce, IsFaithful}
 use Rattle.dm_event_steps.specs.declared.actor.PrinterActor.{PrinterActor}
 use Rattle.dm_event_steps.specs.declared.actor.DeskActor.{DeskActor}
 use Rattle.dm_event_steps.specs.declared.actor.DeskState.{DeskState}
 use Rattle.dm_event_steps.specs.declared.actor.LeftLabel.{LeftLabel}
 use Rattle.dm_event_steps.specs.declared.actor.LeftExport.{LeftExport}
-use Rattle.dm_event_steps.specs.Labels.{grid_of, ShowsDocument}
+use Rattle.dm_event_steps.specs.Labels.{name_of, grid_of, ShowsDocument}
 use Rattle.dm_event_steps.specs.Exports.{export_name_of, ShowsPages}
 use Rattle.dm_event_steps.specs.Stands.{PrinterStands}
 use Rattle.dm_event_steps.specs.DeskStands.{DeskStands}
@@ -132,7 +132,22 @@ EachStepStands A = (ranges : List Range) (capacities : List ℕ) (h : History A)
     (entry : Entry A) × (entry.event ≡ event) × (entry.reply ≡ reply) × StandsFor ranges capacities new (entry ∷ h)
     × (IsFairIn old event → IsHonest (grids_of old) h → IsHonest (grids_of new) (entry ∷ h))
 
--- the world goes by these events, each of them fair, and answers so
+-- the world takes these events on, one after another, and replies so
+abbrev pub Runs : {A : Type 0} → WorldView A → List (Event A) → List (Reply A) → WorldView A → Type 0
+Runs old [] [] new = new ≡ old
+Runs {A} old (event ∷ events) (reply ∷ replies) new =
+    (mid : WorldView A) × Steps old event reply mid × Runs mid events replies new
+Runs old [] (reply ∷ replies) new = ⊥
+Runs old (event ∷ events) [] new = ⊥
+
+-- a world that begins prints no identification twice, and lets no label out twice, whatever its events are
+abbrev pub EachRunPrintsOnce : Type 0 → Type 0
+EachRunPrintsOnce A = (ranges : List Range) (capacities : List ℕ) (old new : WorldView A)
+    (events : List (Event A)) (replies : List (Reply A)) →
+    StandsFor ranges capacities old [] → Runs old events replies new →
+    PrintsOnce events replies × IsNoLabelTwice (map name_of new.labels)
+
+-- the world takes these events on, each of them fair, and replies so
 abbrev pub RunsFairly : {A : Type 0} → WorldView A → List (Event A) → List (Reply A) → WorldView A → Type 0
 RunsFairly old [] [] new = new ≡ old
 RunsFairly {A} old (event ∷ events) (reply ∷ replies) new =

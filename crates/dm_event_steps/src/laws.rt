@@ -2,7 +2,7 @@
 
 ghost use Rattle.dm_event_steps.specs.Beginning.{EachBeginningStands};
 ghost use Rattle.dm_event_steps.specs.Goes.{EachPrinterGoesOn};
-ghost use Rattle.dm_event_steps.specs.Worlds.{EachFairRunIsFaithful, EachStepStands};
+ghost use Rattle.dm_event_steps.specs.Worlds.{EachFairRunIsFaithful, EachRunPrintsOnce, EachStepStands};
 
 use std::alloc::Allocator;
 
@@ -22,6 +22,12 @@ pub fn each_beginning_stands<A: Allocator + Copy>()
 /// reply; and an honest history stays honest by a fair event.
 pub fn each_step_stands<A: Allocator + Copy>()
     ensures { EachStepStands A }
+{}
+
+/// A world that begins with printers of disjoint ranges prints no identification twice, and lets no label out twice,
+/// whatever its events are.
+pub fn each_run_prints_once<A: Allocator + Copy>()
+    ensures { EachRunPrintsOnce A }
 {}
 
 /// The headline: whatever a world answers that begins with printers of disjoint ranges, whose scans are near the labels

@@ -4,10 +4,10 @@ use Rattle.dm_print_ledger.specs.declared.range.Range.{Range}
 use Rattle.dm_event_history.specs.declared.event.Event.{Event}
 use Rattle.dm_event_history.specs.declared.reply.Reply.{Reply}
 use Rattle.dm_event_history.specs.History.{History}
-use Rattle.dm_event_steps.specs.Worlds.{WorldView, StandsFor, Steps, RunsFairly, EachFairRunIsFaithful}
+use Rattle.dm_event_steps.specs.Worlds.{WorldView, StandsFor, Steps, Runs, RunsFairly}
 use Rattle.dm_event_world.specs.declared.answers.Answer.{Answer}
 use Rattle.dm_event_world.specs.declared.answers.Answer.TheVariants.{Given, NotGiven}
-use Rattle.dm_event_world.specs.Runs.{Runs, Continues, GoesOn, GoesOnByAll}
+use Rattle.dm_event_world.specs.Runs.{Continues, GoesOn, GoesOnByAll}
 use Rattle.dm_event_world.specs.Watched.{given, replies, AreHonest, Answers, AnswersAll}
 
 -- one event more
@@ -52,7 +52,18 @@ runs_fairly old new [] [] runs honest = runs
 runs_fairly old new (event ∷ events) (Given is_honest reply ∷ answers) runs honest =
     (runs.0, runs.1.0.0 honest.0, runs.1.1, runs_fairly runs.0 new events answers runs.2 honest.1)
 runs_fairly {A} old new (event ∷ events) (NotGiven ∷ answers) runs honest =
-    subst (λ (w : WorldView A). RunsFairly w (given events answers) (replies answers) new) runs.1
+    subst (λ (w : WorldView A). RunsFairly w (given events answers) (replies answers) new) runs.1.1
     (runs_fairly runs.0 new events answers runs.2 honest)
 runs_fairly old new [] (answer ∷ answers) runs honest = absurd runs
 runs_fairly old new (event ∷ events) [] runs honest = absurd runs
+
+-- the events that were given are a run
+pub runs_by : {A : Type 0} (old new : WorldView A) (events : List (Event A)) (answers : List (Answer A)) →
+    AnswersAll old events answers new → Runs old (given events answers) (replies answers) new
+runs_by old new [] [] runs = runs
+runs_by old new (event ∷ events) (Given is_honest reply ∷ answers) runs =
+    (runs.0, runs.1.1, runs_by runs.0 new events answers runs.2)
+runs_by {A} old new (event ∷ events) (NotGiven ∷ answers) runs =
+    subst (λ (w : WorldView A). Runs w (given events answers) (replies answers) new) runs.1.1 (runs_by runs.0 new events answers runs.2)
+runs_by old new [] (answer ∷ answers) runs = absurd runs
+runs_by old new (event ∷ events) [] runs = absurd runs

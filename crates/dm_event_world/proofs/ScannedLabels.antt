@@ -1,5 +1,5 @@
 -- Scans: which of them name what is there, and which are fair.
-use Rattle.std.proofs.Common.{◌≡◌, ◌↔◌, ◌<◌, ◌≤◌, ℕ, Bool, true, Some, Option, Result, Ok, Err, IfOk, IsTrue, List, All, length, map, slice_get, refl, ap, sym, ◌∙◌, subst, arith}
+use Rattle.std.proofs.Common.{◌≡◌, ◌↔◌, ◌<◌, ◌≤◌, ℕ, Bool, true, Some, Option, Result, Ok, Err, IfOk, OnErr, IsTrue, List, All, length, map, slice_get, refl, ap, sym, ◌∙◌, subst, arith}
 use Rattle.std.specs.Prelude.{option_map}
 use Rattle.std.proofs.lemmas.Option.{slice_get-map, slice_get_within}
 use Rattle.dm_check_blocks.specs.Sizes.{side}
@@ -12,6 +12,7 @@ use Rattle.dm_event_history.specs.Honest.{IsFair}
 use Rattle.dm_event_steps.specs.declared.actor.LeftLabel.{LeftLabel}
 use Rattle.dm_event_steps.specs.Labels.{grid_of}
 use Rattle.dm_event_steps.specs.Worlds.{WorldView, IsNamed, IsFairIn, grids_of}
+use Rattle.dm_event_world.specs.Watched.{IsLookedAt}
 
 -- each module is in the grid
 abbrev pub AreWithin : GridView → List (ℕ × ℕ) → Type 0
@@ -44,3 +45,11 @@ fair_scan {A} old event d label flips stop left (Ok honest) event_is there is wi
       (λ fair. near.1 (fair (there, left, is, within) left.grid
           (slice_get-map grid_of old.labels label ∙ ap (option_map grid_of) is))),
     )
+
+-- memory is refused only where the scan names what is there
+pub looked_at : {A E : Type 0} (old : WorldView A) (event : Event A) (d label : ℕ) (flips : List (ℕ × ℕ)) (stop : Stop)
+    (left : LeftLabel A) (near : Result Bool E) → event ≡ Scan d label flips stop → d < length old.desks →
+    slice_get old.labels label ≡ Some left → AreWithin left.grid flips → OnErr near (IsLookedAt old event)
+looked_at old event d label flips stop left (Ok honest) event_is there is within = tt
+looked_at {A} old event d label flips stop left (Err e) event_is there is within =
+    subst (λ (e : Event A). IsLookedAt old e) (sym event_is) (there, left, is, within)

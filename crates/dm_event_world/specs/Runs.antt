@@ -5,7 +5,7 @@ use Rattle.dm_event_history.specs.declared.event.Event.{Event}
 use Rattle.dm_event_history.specs.declared.reply.Reply.{Reply}
 use Rattle.dm_event_history.specs.History.{Entry, History}
 use Rattle.dm_event_history.specs.Honest.{IsHonest}
-use Rattle.dm_event_steps.specs.Worlds.{WorldView, StandsFor, IsFairIn, Steps, grids_of}
+use Rattle.dm_event_steps.specs.Worlds.{WorldView, StandsFor, IsFairIn, grids_of}
 
 -- a history that the world stood for goes on with an entry of this event and this reply, and the world now stands for
 -- the longer one; if it was honest and the event is fair, that is honest
@@ -14,14 +14,6 @@ GoesOn {A} old event reply new = (ranges : List Range) (capacities : List ℕ) (
     StandsFor ranges capacities old h →
     (entry : Entry A) × (entry.event ≡ event) × (entry.reply ≡ reply) × StandsFor ranges capacities new (entry ∷ h)
     × (IsFairIn old event → IsHonest (grids_of old) h → IsHonest (grids_of new) (entry ∷ h))
-
--- the world takes these events on, one after another, and replies so
-abbrev pub Runs : {A : Type 0} → WorldView A → List (Event A) → List (Reply A) → WorldView A → Type 0
-Runs old [] [] new = new ≡ old
-Runs {A} old (event ∷ events) (reply ∷ replies) new =
-    (mid : WorldView A) × Steps old event reply mid × Runs mid events replies new
-Runs old [] (reply ∷ replies) new = ⊥
-Runs old (event ∷ events) [] new = ⊥
 
 -- the longer history has an entry more for each of these events, with its reply
 abbrev pub Continues : {A : Type 0} → History A → List (Event A) → List (Reply A) → History A → Type 0

@@ -1,10 +1,13 @@
 -- Runs in which each event is looked at first, and what is so of their answers: the headline.
-use Rattle.std.specs.Prelude.{◌≡◌, ◌↔◌, ℕ, Bool, true, List, [], ◌∷◌}
+use Rattle.std.specs.Prelude.{◌≡◌, ◌↔◌, ℕ, Bool, true, List, [], ◌∷◌, map}
 use Rattle.dm_print_ledger.specs.declared.range.Range.{Range}
 use Rattle.dm_event_history.specs.declared.event.Event.{Event}
+use Rattle.dm_event_history.specs.declared.event.Event.TheVariants.{Scan}
 use Rattle.dm_event_history.specs.declared.reply.Reply.{Reply}
 use Rattle.dm_event_history.specs.Headline.{IsFaithful}
-use Rattle.dm_event_steps.specs.Worlds.{WorldView, IsFairIn, Steps}
+use Rattle.dm_event_history.specs.Legal.{IsNoLabelTwice}
+use Rattle.dm_event_steps.specs.Labels.{name_of}
+use Rattle.dm_event_steps.specs.Worlds.{WorldView, IsNamed, IsFairIn, Steps}
 use Rattle.dm_event_world.specs.Openings.{Begins}
 use Rattle.dm_event_world.specs.declared.answers.Answer.{Answer}
 use Rattle.dm_event_world.specs.declared.answers.Answer.TheVariants.{Given, NotGiven}
@@ -36,11 +39,16 @@ IsFaithfulIfHonest events answers = AreHonest answers → IsFaithful (given even
 
 -- ---- what the answers are
 
--- An event that is given to the world is one step of it, and found honest exactly where it names nothing that is not
--- there, or is fair. One that is not given changes nothing.
+-- a scan of what is there: of no other event a copy is looked at
+abbrev pub IsLookedAt : {A : Type 0} → WorldView A → Event A → Type 0
+IsLookedAt world (Scan desk label flips stop) = IsNamed world (Scan desk label flips stop)
+IsLookedAt world event = ⊥
+
+-- An event that is given to the world is one step of it, and found honest exactly where it is fair, or names what is not
+-- there. Only a scan of what is there may not be given, as memory for the look is refused; it changes nothing.
 abbrev pub Answers : {A : Type 0} → WorldView A → Event A → Answer A → WorldView A → Type 0
 Answers old event (Given is_honest reply) new = ((is_honest ≡ true) ↔ IsFairIn old event) × Steps old event reply new
-Answers old event NotGiven new = new ≡ old
+Answers old event NotGiven new = IsLookedAt old event × (new ≡ old)
 
 -- so it is for each event
 abbrev pub AnswersAll : {A : Type 0} → WorldView A → List (Event A) → List (Answer A) → WorldView A → Type 0
@@ -50,7 +58,8 @@ AnswersAll {A} old (event ∷ events) (answer ∷ answers) new =
 AnswersAll old [] (answer ∷ answers) new = ⊥
 AnswersAll old (event ∷ events) [] new = ⊥
 
--- a world began with these ranges and capacities, and answered the events so
+-- a world began with these ranges and capacities, and answered the events so; no label left it twice
 abbrev pub RunsFromTheStart : {A : Type 0} → List Range → List ℕ → List (Event A) → List (Answer A) → Type 0
 RunsFromTheStart {A} ranges capacities events answers =
     (old : WorldView A) × (new : WorldView A) × Begins ranges capacities old × AnswersAll old events answers new
+    × IsNoLabelTwice (map name_of new.labels)

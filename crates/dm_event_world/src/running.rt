@@ -1,16 +1,19 @@
 //! Events of a world, one after another.
 
 ghost use Rattle.std.specs.Prelude.{◌≡◌, IfOk, IfErr, OnErr};
+ghost use Rattle.dm_event_history.specs.Headline.{PrintsOnce};
+ghost use Rattle.dm_event_steps.specs.Worlds.{Runs};
 ghost use Rattle.dm_event_world.specs.Openings.{HasWorldFault};
-ghost use Rattle.dm_event_world.specs.Runs.{Runs, GoesOnByAll};
+ghost use Rattle.dm_event_world.specs.Runs.{GoesOnByAll};
 ghost use Rattle.dm_event_world.specs.Watched.{Answers, AnswersAll, IsFaithfulIfHonest, RunsFromTheStart};
+ghost use Rattle.dm_event_world.specs.Watched.{given, replies};
 
 use crate::answers::Answer;
 use crate::fault::WorldFault;
 use crate::steps::is_honest;
 use crate::world::World;
 use dm_event_history::{Event, Reply};
-use dm_event_steps::laws::each_fair_run_is_faithful;
+use dm_event_steps::laws::{each_fair_run_is_faithful, each_run_prints_once};
 use dm_print_ledger::Range;
 use std::alloc::{AllocError, Allocator};
 
@@ -72,6 +75,8 @@ pub fn watch<A: Allocator + Copy>(
     events: &[Event<A>],
 ) -> Result<Vec<Answer<A>, A>, WorldFault>
     ensures headline { IfOk result (λ answers. IsFaithfulIfHonest events.now answers.items) }
+    // No identification was printed twice, whatever the events were.
+    ensures once { IfOk result (λ answers. PrintsOnce (given events.now answers.items) (replies answers.items)) }
     ensures answers { IfOk result (λ answers. RunsFromTheStart ranges.now capacities.now events.now answers.items) }
     ensures refused { IfErr result (HasWorldFault ranges.now capacities.now) }
 {
@@ -79,6 +84,7 @@ pub fn watch<A: Allocator + Copy>(
         Ok(world) => world,
         Err(fault) => return Err(fault),
     };
+    each_run_prints_once::<A>();
     each_fair_run_is_faithful::<A>();
     match answer_all(alloc, &mut world, events) {
         Ok(answers) => Ok(answers),

@@ -1,9 +1,10 @@
 //! One event of a world.
 
-ghost use Rattle.std.specs.Prelude.{◌≡◌, ◌↔◌, true, IfOk};
+ghost use Rattle.std.specs.Prelude.{◌≡◌, ◌↔◌, true, IfOk, OnErr};
 ghost use Rattle.dm_event_history.specs.declared.event.Event.TheVariants.{Print, Scan, RestartPrinter, RestartDesk, Ask, Forget, Give, Take, Export, Import};
 ghost use Rattle.dm_event_steps.specs.Worlds.{Steps, IsFairIn};
 ghost use Rattle.dm_event_world.specs.Runs.{GoesOn};
+ghost use Rattle.dm_event_world.specs.Watched.{IsLookedAt};
 
 use crate::scanned::are_within;
 use crate::world::World;
@@ -178,12 +179,14 @@ impl<A: Allocator + Copy> World<A> {
 }
 
 /// Whether an event is honest: a scan, of a label that left and of modules of it at a desk that is there, is if the
-/// scanned copy has no more wrong codewords in any block than can be corrected. Every other event is.
+/// scanned copy has no more wrong codewords in any block than can be corrected. Every other event is. Memory is asked
+/// for only to look at such a copy.
 pub fn is_honest<A: Allocator + Copy>(
     world: &World<A>,
     event: &Event<A>,
 ) -> Result<bool, AllocError>
-    ensures { IfOk result (λ honest. (honest ≡ true) ↔ IsFairIn world.now event.now) }
+    ensures honest { IfOk result (λ honest. (honest ≡ true) ↔ IsFairIn world.now event.now) }
+    ensures refused { OnErr result (IsLookedAt world.now event.now) }
 {
     let Event::Scan {
         desk,

@@ -2,9 +2,10 @@
 use Rattle.std.specs.Prelude.{◌≡◌, ◌⊎◌, ℕ, List, true, take, if◌then◌else◌, IfSome}
 use Rattle.std.specs.List.{flat_map}
 use Rattle.std.specs.Io.KnownBytes.{Appends}
+use Rattle.dm_event_history.specs.Headline.{PrintsOnce}
 use Rattle.dm_event_world.specs.FaultNames.{world_fault_name}
 use Rattle.dm_event_world.specs.Openings.{HasWorldFault}
-use Rattle.dm_event_world.specs.Watched.{IsFaithfulIfHonest, RunsFromTheStart}
+use Rattle.dm_event_world.specs.Watched.{IsFaithfulIfHonest, RunsFromTheStart, given, replies}
 use Rattle.dm_event_world.specs.declared.answers.Answer.{Answer}
 use Rattle.dm_event_world.specs.declared.fault.WorldFault.{WorldFault}
 use Rattle.relay_streams.specs.FaultNames.{input_fault_name}
@@ -31,11 +32,13 @@ TellsAnswers answers old new status =
     ⊎ ((new.has_failed ≡ true) × (status ≡ 1))
 
 -- How `world` ends: the input was read, it was a script, its world began and answered each event, and the line of each
--- answer was written. If each event was found honest, the answers are faithful. Or the first of these was not done.
+-- answer was written. No identification was printed twice, and if each event was found honest, the answers are
+-- faithful. Or the first of these was not done.
 pub data EndsWorld (A : Type 0) (input rest : InputView) (old : OutputView) : ℕ → OutputView → Type 0 where
   not_read : {status : ℕ} {new : OutputView} (fault : InputFault) → HasInputFault rest fault
       → TellsRefusal (input_fault_name fault) old new status → EndsWorld A input rest old status new
-  no_script : {status : ℕ} {new : OutputView} (fault : ScriptFault) → TellsRefusal (script_fault_name fault) old new status
+  no_script : {status : ℕ} {new : OutputView} (bytes : List ℕ) (fault : ScriptFault) → GivesScript input bytes
+      → TellsRefusal (script_fault_name fault) old new status
       → EndsWorld A input rest old status new
   no_world : {status : ℕ} {new : OutputView} (bytes : List ℕ) (script : Script A) (fault : WorldFault)
       → GivesScript input bytes → IsScript bytes script
@@ -44,5 +47,6 @@ pub data EndsWorld (A : Type 0) (input rest : InputView) (old : OutputView) : �
   answered : {status : ℕ} {new : OutputView} (bytes : List ℕ) (script : Script A) (answers : List (Answer A))
       → GivesScript input bytes → IsScript bytes script
       → RunsFromTheStart script.ranges.items script.capacities.items script.events.items answers
+      → PrintsOnce (given script.events.items answers) (replies answers)
       → IsFaithfulIfHonest script.events.items answers → TellsAnswers answers old new status
       → EndsWorld A input rest old status new

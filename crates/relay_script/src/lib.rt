@@ -6,6 +6,7 @@
 
 mod event_lines;
 mod fault;
+pub mod laws;
 mod script;
 mod words;
 

@@ -1,5 +1,6 @@
 use Rattle.std.proofs.Common.{◌≡◌, ◌≤◌, length, take, vec_capacity}
-use Rattle.dm_event_world.specs.Runs.{Runs, GoesOnByAll}
+use Rattle.dm_event_steps.specs.Worlds.{Runs}
+use Rattle.dm_event_world.specs.Runs.{GoesOnByAll}
 use Rattle.dm_event_world.proofs.running.run.Given as goal
 
 abbrev pub invariant-loop-event : goal.invariant-loop-event

@@ -1,5 +1,5 @@
 use Rattle.dm_event_world.specs.Watched.{given, replies}
-use Rattle.dm_event_world.proofs.Runs.{runs_fairly}
+use Rattle.dm_event_world.proofs.Runs.{runs_by, runs_fairly}
 use Rattle.dm_event_world.proofs.running.watch.Goals as goal
 
 pub returns-in-Ok-answer_all-clause-headline : goal.returns-in-Ok-answer_all-clause-headline
@@ -7,3 +7,20 @@ returns-in-Ok-answer_all-clause-headline g c = λ honest.
     c.each_fair_run_is_faithful.ensures c.args.ranges.now c.args.capacities.now c.in-Ok.world c.answer_all.new.world
     (given c.args.events.now c.in-Ok-answer_all.answers.items) (replies c.in-Ok-answer_all.answers.items) c.in-Ok.ensures.stands
     (runs_fairly c.in-Ok.world c.answer_all.new.world c.args.events.now c.in-Ok-answer_all.answers.items c.in-Ok-answer_all.ensures honest)
+
+pub returns-in-Ok-answer_all-clause-once : goal.returns-in-Ok-answer_all-clause-once
+returns-in-Ok-answer_all-clause-once g c =
+    (c.each_run_prints_once.ensures c.args.ranges.now c.args.capacities.now c.in-Ok.world c.answer_all.new.world
+    (given c.args.events.now c.in-Ok-answer_all.answers.items) (replies c.in-Ok-answer_all.answers.items) c.in-Ok.ensures.stands
+    (runs_by c.in-Ok.world c.answer_all.new.world c.args.events.now c.in-Ok-answer_all.answers.items c.in-Ok-answer_all.ensures)).0
+
+pub returns-in-Ok-answer_all-clause-answers : goal.returns-in-Ok-answer_all-clause-answers
+returns-in-Ok-answer_all-clause-answers g c = (
+  c.in-Ok.world,
+  c.answer_all.new.world,
+  c.in-Ok.ensures.begins,
+  c.in-Ok-answer_all.ensures,
+  (c.each_run_prints_once.ensures c.args.ranges.now c.args.capacities.now c.in-Ok.world c.answer_all.new.world
+  (given c.args.events.now c.in-Ok-answer_all.answers.items) (replies c.in-Ok-answer_all.answers.items) c.in-Ok.ensures.stands
+  (runs_by c.in-Ok.world c.answer_all.new.world c.args.events.now c.in-Ok-answer_all.answers.items c.in-Ok-answer_all.ensures)).1,
+)

@@ -8,13 +8,14 @@ returns-in-Err-clause-ends g c =
 
 pub returns-in-Err-read_script-clause-ends : goal.returns-in-Err-read_script-clause-ends
 returns-in-Err-read_script-clause-ends g c =
-    no_script c.in-Err-read_script.fault (rw c.name-in-Err-read_script.ensures at c.refuse-in-Err-read_script.ensures)
+    no_script c.in-Ok.bytes.items c.in-Err-read_script.fault c.in-Ok.ensures.taken.first (rw c.name-in-Err-read_script.ensures at c.refuse-in-Err-read_script.ensures)
 
 pub returns-in-Ok-watch-clause-ends : goal.returns-in-Ok-watch-clause-ends
 returns-in-Ok-watch-clause-ends g c =
     answered c.in-Ok.bytes.items c.in-Ok-read_script.script c.in-Ok-watch.answers.items c.in-Ok.ensures.taken.first
     (rw c.deref.ensures.value at c.in-Ok-read_script.ensures)
     (rw (c.deref-2.ensures.value, c.deref-3.ensures.value, c.deref-4.ensures.value) at c.in-Ok-watch.ensures.answers)
+    (rw c.deref-4.ensures.value at c.in-Ok-watch.ensures.once)
     (rw c.deref-4.ensures.value at c.in-Ok-watch.ensures.headline) (rw c.deref-in-Ok-watch.ensures.value at c.tell.ensures)
 
 pub returns-clause-ends : goal.returns-clause-ends
