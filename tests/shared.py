@@ -156,7 +156,12 @@ def free_in(ledger):
     return {number for first, last in ranges for number in range(first, last + 1)}
 
 
+def is_saved(path):
+    """Whether a file is one of saved bytes: not one that a save has written beside and not renamed, nor an empty lock."""
+    return path.is_file() and path.suffix != ".new" and (path.suffix != ".lock" or path.stat().st_size > 0)
+
+
 def snapshot(folder):
-    """The bytes of each file below a folder, but of those that a save has written beside and not renamed."""
-    paths = sorted(path for path in pathlib.Path(folder).rglob("*") if path.is_file() and path.suffix != ".new")
+    """The bytes of each file of saved bytes below a folder."""
+    paths = sorted(path for path in pathlib.Path(folder).rglob("*") if is_saved(path))
     return {str(path.relative_to(folder)): path.read_bytes() for path in paths}

@@ -37,6 +37,7 @@ mod scan;
 mod standard_error;
 mod take;
 mod words;
+mod workplace;
 mod world;
 
 pub use commands::{do_command, file_of};

@@ -1,12 +1,13 @@
 //! The program over its own streams and files.
 
-use crate::commands::{do_command, file_of};
+use crate::commands::do_command;
 use crate::ended::refuse;
 use crate::standard_error::ErrorWriter;
+use crate::workplace::Workplace;
 use dm_store::{FileSet, FileStore};
 use relay_line::{Command, LineFault, command_line};
 use relay_streams::{Input as StreamInput, Output};
-use std::alloc::{AllocError, Global};
+use std::fs::File;
 use std::io::{BufReader, BufWriter, ErrorKind, Write};
 use std::rt::{Env, Files};
 use std::{env, io};
@@ -16,15 +17,24 @@ fn refuse_memory<R: Eprint>(rt: &R) -> u8 {
     refuse(&mut Output::new(ErrorWriter::new(rt)), "Memory")
 }
 
-// The folder of a desk's files, beside the path that the command names.
-fn folder_of(alloc: Global, path: &str) -> Result<String, AllocError> {
-    let mut folder = String::from_str(alloc, path)?;
-    folder.push_str(".pages")?;
-    Ok(folder)
+// Refuses a command before it begins, where its other refusals go.
+fn refuse_command<R: Eprint, W: Write>(
+    rt: &R,
+    output: &mut Output<W>,
+    command: Command,
+    name: &str,
+) -> u8 {
+    match command {
+        Command::Draw { .. }
+        | Command::Print { .. }
+        | Command::Deliver { .. }
+        | Command::Export { .. } => refuse(&mut Output::new(ErrorWriter::new(rt)), name),
+        _ => refuse(output, name),
+    }
 }
 
 // Does a command over the program's input, files and standard error, and an output.
-fn run_to<R: AllocGlobal + Input + Eprint + Files + Clone, W: Write>(
+fn run_to<R: AllocGlobal + Input + Eprint + Files<File = File> + Clone, W: Write>(
     rt: &R,
     output: &mut Output<W>,
     command: Command,
@@ -32,15 +42,17 @@ fn run_to<R: AllocGlobal + Input + Eprint + Files + Clone, W: Write>(
     let Ok(reader) = BufReader::new(rt.alloc(), rt.reader()) else {
         return refuse_memory(rt);
     };
-    let Ok(path) = String::from_str(rt.alloc(), file_of(command)) else {
-        return refuse_memory(rt);
-    };
-    let Ok(folder) = folder_of(rt.alloc(), file_of(command)) else {
-        return refuse_memory(rt);
+    let Workplace {
+        file,
+        folder,
+        lock: _lock,
+    } = match Workplace::of(rt, command) {
+        Ok(workplace) => workplace,
+        Err(fault) => return refuse_command(rt, output, command, fault.name()),
     };
     let ended = do_command(
         rt.alloc(),
-        FileStore::new(rt.alloc(), rt, path),
+        FileStore::new(rt.alloc(), rt, file),
         FileSet::new(rt.alloc(), rt, folder),
         &mut StreamInput::new(reader),
         output,
@@ -51,7 +63,7 @@ fn run_to<R: AllocGlobal + Input + Eprint + Files + Clone, W: Write>(
 }
 
 // Does a command whose output goes out in large pieces, the last of them here.
-fn run_buffered<R: AllocGlobal + Input + Print + Eprint + Files + Clone>(
+fn run_buffered<R: AllocGlobal + Input + Print + Eprint + Files<File = File> + Clone>(
     rt: &R,
     command: Command,
 ) -> u8 {
@@ -68,7 +80,7 @@ fn run_buffered<R: AllocGlobal + Input + Print + Eprint + Files + Clone>(
 
 // Does a command, and answers its exit status. Each line of `read` and `scan` goes out before the next image is waited
 // for.
-fn run_command<R: AllocGlobal + Input + Print + Eprint + Files + Clone>(
+fn run_command<R: AllocGlobal + Input + Print + Eprint + Files<File = File> + Clone>(
     rt: &R,
     command: Command,
 ) -> u8 {
@@ -111,7 +123,9 @@ fn show_word_fault<R: Eprint>(rt: &R, error: &io::Error) -> u8 {
 
 /// Does what the program's own words say over its own streams, and answers the exit status: that of the command, or 2
 /// where the line or the words were refused, or 0 where help was asked for.
-pub fn run<R: AllocGlobal + Input + Print + Eprint + Env + Files + Clone>(rt: &R) -> u8 {
+pub fn run<R: AllocGlobal + Input + Print + Eprint + Env + Files<File = File> + Clone>(
+    rt: &R,
+) -> u8 {
     let words = match own_words(rt) {
         Ok(words) => words,
         Err(error) => return show_word_fault(rt, &error),
