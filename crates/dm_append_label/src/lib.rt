@@ -18,8 +18,6 @@ pub mod laws;
 mod opening;
 mod page;
 mod sealing;
-#[cfg(test)]
-mod tests;
 
 pub use cutting::{MOST_LABELS, TooLong, cut};
 pub use dm_symbol::still_near;

@@ -20,8 +20,6 @@ mod document;
 mod documents;
 mod exporting;
 mod fault;
-#[cfg(test)]
-mod fault_tests;
 mod file;
 mod forgetting;
 mod importing;
@@ -35,8 +33,6 @@ mod page_bytes;
 mod pages;
 mod reading;
 mod reply;
-#[cfg(test)]
-mod tests;
 mod writing;
 
 pub use desk::Desk;

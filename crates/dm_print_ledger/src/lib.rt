@@ -26,8 +26,6 @@ mod opening;
 mod printer;
 mod printing;
 mod range;
-#[cfg(test)]
-mod tests;
 mod ticket;
 
 pub use creating::CreateRefused;

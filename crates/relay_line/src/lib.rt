@@ -9,8 +9,6 @@ mod fault;
 mod help;
 mod options;
 mod parse;
-#[cfg(test)]
-mod tests;
 
 pub use command::Command;
 pub use fault::LineFault;

@@ -1,5 +1,5 @@
-use crate::{Command, LineFault, command_line};
 use dm_encodation::Scheme;
+use relay_line::{Command, LineFault, command_line};
 use std::alloc::Global;
 use std::process::Abort;
 use std::test::Fail;

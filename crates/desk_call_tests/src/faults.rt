@@ -1,6 +1,8 @@
 // The names and the texts of all faults.
-use crate::{AskFault, DeskFault, ExportFault, ForgetFault, ImportFault, MoveFault, ScanFault};
 use dm_append_label::LabelFault;
+use dm_assembly_desk::{
+    AskFault, DeskFault, ExportFault, ForgetFault, ImportFault, MoveFault, ScanFault,
+};
 use std::alloc::AllocError;
 
 #[test]

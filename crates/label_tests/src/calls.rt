@@ -1,4 +1,4 @@
-use crate::{
+use dm_append_label::{
     FileId, HeadFault, LabelFault, Page, PageFault, SealFault, cut, open_label, seal, seal_with,
     still_near,
 };

@@ -1,0 +1,179 @@
+// Printers that are made, and documents that are printed.
+use crate::printers::{created, document_of, give, print, printed, reopened, take};
+use dm_check_blocks::Size;
+use dm_encodation::Scheme;
+use dm_print_ledger::{CreateFault, GiveFault, OpenFault, PrintFault, Printer, Range, TakeFault, Ticket};
+use dm_store::{MemStore, NextSave};
+use std::test::Fail;
+
+#[test]
+fn a_job_has_the_labels_of_its_document(rt: HostRuntime) -> Result<(), Fail> {
+    let alloc = rt.alloc();
+    let mut printer = created(&rt, alloc, 0, 300, 309);
+    let rows: [(&[u8], Size, Scheme, u8); 5] = [
+        (b"", Size::Side12, Scheme::Ascii, 2),
+        (b"1234", Size::Side12, Scheme::Ascii, 2),
+        (b"12345678", Size::Side12, Scheme::Ascii, 4),
+        (b"A LONGER TEXT", Size::Side16, Scheme::C40, 2),
+        (b"any \x00\xff bytes", Size::Side14, Scheme::Base256, 6),
+    ];
+    for (row, (document, size, scheme, count)) in rows.iter().enumerate() {
+        let mut job = print(&mut printer, document, *size, *scheme)?;
+        assert_eq!(rt;
+            (job.id().number() as usize, job.count()),
+            (300 + row, *count)
+        );
+        let read = document_of(&rt, alloc, &mut job)?;
+        assert_eq!(rt; read.as_slice(), *document);
+    }
+    // A job does not depend on its printer: the second is printed before the first is taken.
+    let mut first = print(&mut printer, b"first", Size::Side14, Scheme::Ascii)?;
+    let mut second = print(&mut printer, b"second", Size::Side14, Scheme::Ascii)?;
+    assert_eq!(rt;
+        document_of(&rt, alloc, &mut first)?.as_slice(),
+        b"first".as_slice()
+    );
+    assert_eq!(rt;
+        document_of(&rt, alloc, &mut second)?.as_slice(),
+        b"second".as_slice()
+    );
+    assert_eq!(rt; printer.left(), 3);
+    Ok(())
+}
+
+#[test]
+fn what_cannot_be_printed(rt: HostRuntime) {
+    let mut printer = created(&rt, rt.alloc(), 0, 0, 9);
+    // The byte 233 needs two words in ASCII, and one remains.
+    let rows: [(&[u8], Size); 4] = [
+        (b"\xe9", Size::Side12),
+        (b"", Size::Side10),
+        (b"1", Size::Side10),
+        (b"1234567890123456789012345678901234567890", Size::Side12),
+    ];
+    for (document, size) in rows {
+        let fault = match print(&mut printer, document, size, Scheme::Ascii) {
+            Ok(_) => None,
+            Err(fault) => Some(fault),
+        };
+        assert_eq!(rt; (fault, printer.left()), (Some(PrintFault::TooLong), 10));
+    }
+}
+
+#[test]
+fn the_range_is_used_up(rt: HostRuntime) {
+    let alloc = rt.alloc();
+    let saved = b"DMLG\x02\x00\x00\x00\x00\x01\x00\x00\x00\x09\x00\xff\xf5";
+    let mut printer = reopened(&rt, alloc, created(&rt, alloc, 0, 0, 9), saved, 0);
+    assert_eq!(rt; (printed(&mut printer), printer.left()), (Ok(0), 9));
+    let saved = b"DMLG\x02\x00\x00\x00\x00\x01\x00\x01\x00\x09\x00\xff\xf6";
+    reopened(&rt, alloc, printer, saved, 0);
+    let mut last = created(&rt, alloc, 0, 64_515, 64_515);
+    assert_eq!(rt; printed(&mut last), Ok(64_515));
+    let saved = b"DMLG\x02\x00\x00\x00\x00\x00\x00\xff\xff";
+    assert_eq!(rt; printed(&mut last), Err(PrintFault::Exhausted));
+    let mut last = reopened(&rt, alloc, last, saved, 0);
+    assert_eq!(rt;
+        (printed(&mut last), last.left()),
+        (Err(PrintFault::Exhausted), 0)
+    );
+    let range = Range { first: 0, last: 9 };
+    let again = Printer::create(alloc, last.close(), 0, range).err();
+    assert!(rt; again.is_some_and(|refused| refused.fault == CreateFault::Exists));
+    let whole = created(&rt, alloc, 0, 0, 64_515);
+    assert_eq!(rt; whole.left(), 64_516);
+}
+
+#[test]
+fn identifications_are_the_two_words_of_their_numbers(rt: HostRuntime) -> Result<(), Fail> {
+    let rows = [
+        (0, (1, 1)),
+        (1, (1, 2)),
+        (254, (2, 1)),
+        (64_515, (254, 254)),
+    ];
+    for (number, words) in rows {
+        let mut printer = created(&rt, rt.alloc(), 0, number, number);
+        let job = print(&mut printer, b"1234", Size::Side12, Scheme::Ascii)?;
+        assert_eq!(rt; job.id().words(), words);
+    }
+    Ok(())
+}
+
+#[test]
+fn what_cannot_be_created(rt: HostRuntime) -> Result<(), Fail> {
+    let alloc = rt.alloc();
+    let rows = [
+        (0, 9, NextSave::Fine, None),
+        (5, 4, NextSave::Fine, Some(CreateFault::Range)),
+        (0, 64_516, NextSave::Fine, Some(CreateFault::Range)),
+        (0, 9, NextSave::FaultOld, Some(CreateFault::Device)),
+        (0, 9, NextSave::FaultNew, Some(CreateFault::Device)),
+    ];
+    for (first, last, next, fault) in rows {
+        let mut store = MemStore::new(alloc);
+        store.set_next(next);
+        let (store, answer) = match Printer::create(alloc, store, 0, Range { first, last }) {
+            Ok(printer) => (printer.close(), None),
+            Err(refused) => (refused.store, Some(refused.fault)),
+        };
+        assert_eq!(rt; answer, fault);
+        // Where the new ledger was saved, a second printer is refused; else it is created.
+        let is_saved = fault.is_none() || next == NextSave::FaultNew;
+        let again = match Printer::create(alloc, store, 0, Range { first: 0, last: 1 }) {
+            Ok(_) => None,
+            Err(refused) => Some(refused.fault),
+        };
+        assert_eq!(rt; again, is_saved.then_some(CreateFault::Exists));
+    }
+    let mut store = MemStore::with(alloc, b"other bytes".to_vec(alloc)?);
+    store.set_load(true);
+    for fault in [CreateFault::Device, CreateFault::Exists] {
+        store = match Printer::create(alloc, store, 0, Range { first: 0, last: 9 }) {
+            Ok(_) => return Err("a printer over other bytes".into()),
+            Err(refused) => {
+                assert_eq!(rt; refused.fault, fault);
+                refused.store
+            }
+        };
+        store.set_load(false);
+    }
+    Ok(())
+}
+
+#[test]
+fn a_save_fails(rt: HostRuntime) -> Result<(), Fail> {
+    let alloc = rt.alloc();
+    let old = b"DMLG\x02\x00\x00\x00\x00\x01\x00\x00\x00\x09\x00\xff\xf5";
+    let new = b"DMLG\x02\x00\x00\x00\x00\x01\x00\x01\x00\x09\x00\xff\xf6";
+    let ticket = Ticket::of_bytes(&[0, 1, 0, 0, 0, 0, 0, 20, 0, 21]).expect(&rt, "a ticket");
+    for (next, saved, left) in [(NextSave::FaultOld, old, 10), (NextSave::FaultNew, new, 9)] {
+        let mut printer = created(&rt, alloc, 0, 0, 9);
+        printer.set_next(next);
+        assert_eq!(rt; printed(&mut printer), Err(PrintFault::Save));
+        assert_eq!(rt;
+            (printed(&mut printer), printer.left()),
+            (Err(PrintFault::Failed), 10)
+        );
+        let range = Range { first: 3, last: 4 };
+        assert_eq!(rt; give(&mut printer, 1, range), Err(GiveFault::Failed));
+        assert_eq!(rt; take(&mut printer, &ticket), Err(TakeFault::Failed));
+        let mut printer = reopened(&rt, alloc, printer, saved, 0);
+        assert_eq!(rt;
+            (printer.left(), printed(&mut printer)),
+            (left, Ok(10 - left as u16))
+        );
+        // A setting is for one save alone.
+        printer.set_next(next);
+        assert_eq!(rt; give(&mut printer, 1, range), Err(GiveFault::Save));
+        assert_eq!(rt; take(&mut printer, &ticket), Err(TakeFault::Failed));
+    }
+    let mut store = created(&rt, alloc, 0, 0, 9).close();
+    store.set_load(true);
+    let Err(refused) = Printer::open(alloc, store, 0) else {
+        return Err("a printer with no load".into());
+    };
+    assert_eq!(rt; refused.fault, OpenFault::Device);
+    assert!(rt; refused.store.content() == Some(old));
+    Ok(())
+}
