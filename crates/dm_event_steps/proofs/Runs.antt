@@ -15,7 +15,7 @@ use Rattle.dm_event_history.proofs.Gotten.{get_beyond}
 use Rattle.std.proofs.lemmas.Option.{slice_get_within}
 use Rattle.dm_event_history.proofs.Fresh.{all_placed, never_twice}
 use Rattle.dm_event_history.proofs.LeftOnce.{labels_once}
-use Rattle.dm_event_history.proofs.Faithful.{ids_of, prints_once, is_faithful}
+use Rattle.dm_event_history.proofs.Faithful.{ids_of, counts_of, prints_once, is_faithful}
 use Rattle.dm_event_steps.specs.Labels.{name_of, grid_of}
 use Rattle.dm_event_steps.specs.Worlds.{WorldView, left_of, grids_of, StandsFor, IsFairIn, Steps, Runs, RunsFairly}
 use Rattle.dm_event_steps.proofs.EachPrinter.{printer_goes}
@@ -165,6 +165,7 @@ run_once {A} ranges capacities old new events replies s runs =
       subst (λ (l : List (Event A)). PrintsOnce l replies) r.events_are
           (subst (λ (l : List (Reply A)). PrintsOnce (events_of r.after) l) r.replies_are (
             ids_of r.after,
+            counts_of r.after,
             prints_once ranges (length capacities) r.after legal never,
           )),
       subst IsNoLabelTwice (sym r.stands.left.names) (labels_once r.after never),
@@ -180,6 +181,7 @@ fair_run {A} ranges capacities old new events replies s runs =
     subst (λ (l : List (Event A)). IsFaithful l replies) r.events_are
     (subst (λ (l : List (Reply A)). IsFaithful (events_of r.after) l) r.replies_are (
       ids_of r.after,
+      counts_of r.after,
       is_faithful ranges (length capacities) r.after legal
           (never_twice ranges (length capacities) r.after r.stands.disjoint legal) (r.stands.safe f.1),
     ))

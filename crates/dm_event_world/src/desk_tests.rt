@@ -1,11 +1,11 @@
-// Scans and imports under each stop: how they end, and what the desk holds once it is opened again.
+// Scans, imports and forgets under each stop: how they end, and what the desk holds once it is opened again.
 ghost use Rattle.dm_event_steps.specs.DeskStands.{IsReadySet};
 ghost use Rattle.dm_event_steps.specs.DeskActs.{desk_saved};
 
-use crate::desk_act::{ask, restart, scan};
+use crate::desk_act::{ask, forget, restart, scan};
 use crate::desk_moves::{export, import};
 use dm_append_label::{FileId, Page, seal};
-use dm_assembly_desk::{AskFault, ImportFault, ScanFault};
+use dm_assembly_desk::{AskFault, ForgetFault, ImportFault, ScanFault};
 use dm_check_blocks::Size;
 use dm_encodation::Scheme;
 use dm_event_history::{Kept, Reply, Stop};
@@ -39,10 +39,10 @@ const STOPS: [(Stop, Ended, bool); 8] = [
 
 fn end_of<A: Allocator + Copy>(reply: &Reply<A>) -> Ended {
     match reply {
-        Reply::Scanned(_) | Reply::Imported(_) => Ended::Done,
-        Reply::ScanRefused(ScanFault::Save) | Reply::ImportRefused(ImportFault::Save) => {
-            Ended::SaveFailed
-        }
+        Reply::Scanned(_) | Reply::Imported(_) | Reply::Forgotten => Ended::Done,
+        Reply::ScanRefused(ScanFault::Save)
+        | Reply::ImportRefused(ImportFault::Save)
+        | Reply::ForgetRefused(ForgetFault::Save) => Ended::SaveFailed,
         Reply::Stopped => Ended::Stopped,
         _ => Ended::Otherwise,
     }
@@ -145,5 +145,30 @@ fn imports<A: Allocator + Copy>(rt: &impl Abort, alloc: A) -> Result<(), Fail> {
 #[test]
 fn imports_end_as_their_stop_says(rt: HostRuntime) -> Result<(), Fail> {
     imports(&rt, rt.alloc())?;
+    Ok(())
+}
+
+// Forgets at desks that hold the first page of the document 0.
+fn forgets<A: Allocator + Copy>(rt: &impl Abort, alloc: A) -> Result<(), Fail> {
+    let id = FileId::of_number(0).expect(rt, "an identification");
+    let grid = label(rt, alloc, 1, b"12")?;
+    for (stop, ended, gone) in STOPS {
+        let mut state = empty(alloc);
+        let scanned = scan(alloc, &mut state, &grid, &[], Stop::None);
+        assert_eq!(rt; end_of(&scanned), Ended::Done);
+        let reply = forget(alloc, &mut state, id, stop);
+        assert_eq!(rt; end_of(&reply), ended);
+        assert_eq!(rt;
+            matches!(state, DeskState::Down(_)),
+            ended == Ended::Stopped
+        );
+        assert_eq!(rt; holds_first(rt, alloc, state), !gone);
+    }
+    Ok(())
+}
+
+#[test]
+fn forgets_end_as_their_stop_says(rt: HostRuntime) -> Result<(), Fail> {
+    forgets(&rt, rt.alloc())?;
     Ok(())
 }
