@@ -1,6 +1,7 @@
 //! The commands and their options, as the parser knows them.
 
-ghost use Rattle.std.specs.Prelude.{◌≡◌, IfSome};
+ghost use Rattle.std.specs.Prelude.{◌≡◌, ◌≢◌, MatchOption};
+ghost use Rattle.dm_encodation.specs.declared.scheme.Scheme.{Scheme};
 ghost use Rattle.relay_line.specs.Line.{scheme_name};
 
 use crate::help;
@@ -13,7 +14,7 @@ static SCHEMES: [&str; 4] = ["ascii", "c40", "text", "base256"];
 
 /// The encodation of a name, if it is one of `SCHEMES`.
 pub fn scheme_of(name: &str) -> Option<Scheme>
-    ensures { IfSome result (λ scheme. name.now ≡ scheme_name scheme) }
+    ensures { MatchOption result ((scheme : Scheme) → name.now ≢ scheme_name scheme) (λ scheme. name.now ≡ scheme_name scheme) }
 {
     match name {
         "ascii" => Some(Scheme::Ascii),

@@ -1,5 +1,5 @@
 -- The words of a script, which is this project's own: what each kind of word stands for.
-use Rattle.std.specs.Prelude.{◌≡◌, ◌⊎◌, ◌<◌, ◌≤◌, ◌==◌, ℕ, List, [], ◌∷◌, ◌++◌, length, codes, Ok}
+use Rattle.std.specs.Prelude.{◌≡◌, ◌⊎◌, ◌<◌, ◌≤◌, ◌==◌, ℕ, List, [], ◌∷◌, ◌++◌, length, codes, Option, Result, Ok, Err, MatchOption, ⊤}
 use Rattle.std.specs.List.{slice_split, AllZip}
 use Rattle.std.specs.Str.Parse.{IsNumeral, digits_value}
 use Rattle.hex.specs.Hex.{decode_of, decode_sized}
@@ -15,6 +15,20 @@ use Rattle.relay_script.specs.declared.fault.ScriptFault.TheVariants.{Script, Me
 abbrev pub script_fault_name : ScriptFault → List ℕ
 script_fault_name Script = codes "Script"
 script_fault_name Memory = codes "Memory"
+
+-- there is nothing that fits
+abbrev pub Nothing : {A : Type 0} → (A → Type 0) → Type 0
+Nothing Fits = (x : _) → ¬ Fits x
+
+-- what was found fits, and where nothing was found there is nothing that fits
+abbrev pub IsFound : {A : Type 0} → Option A → (A → Type 0) → Type 0
+IsFound found Fits = MatchOption found (Nothing Fits) Fits
+
+-- what was read fits, and where the script is to blame there is nothing that fits
+abbrev pub IsRead : {A : Type 0} → Result A ScriptFault → (A → Type 0) → Type 0
+IsRead (Ok x) Fits = Fits x
+IsRead (Err Script) Fits = Nothing Fits
+IsRead (Err Memory) Fits = ⊤
 
 -- the parts of a text that is cut at each of these bytes
 abbrev pub cut_at : ℕ → List ℕ → List (List ℕ)
@@ -32,9 +46,9 @@ IsNumberOf word n = IsNumber word × (n ≡ digits_value 10 word)
 abbrev pub IsSideOf : List ℕ → Size → Type 0
 IsSideOf word size = IsNumberOf word (side size)
 
--- the two words of an identification in hexadecimal
+-- the two words of an identification in hexadecimal, for which there are 254 times 254 values
 abbrev pub IsIdOf : List ℕ → ℕ → Type 0
-IsIdOf word id = decode_sized word 2 ≡ Ok (id_words id)
+IsIdOf word id = (id < 64516) × (decode_sized word 2 ≡ Ok (id_words id))
 
 -- bytes in hexadecimal, or `-` for none
 abbrev pub AreBytesOf : List ℕ → List ℕ → Type 0
@@ -49,7 +63,7 @@ IsStopOf word (InSave Old) = word ≡ codes "in-old"
 IsStopOf word (InSave New) = word ≡ codes "in-new"
 IsStopOf word (SaveFault Old) = word ≡ codes "fault-old"
 IsStopOf word (SaveFault New) = word ≡ codes "fault-new"
-IsStopOf word (AfterLabels most) = (digits : List ℕ) × (word ≡ codes "after:" ++ digits) × IsNumberOf digits most
+IsStopOf word (AfterLabels most) = (digits : List ℕ) × (word ≡ codes "after:" ++ digits) × IsNumberOf digits most × (most ≤ 255)
 
 -- a row and a column with a comma between them
 abbrev pub IsFlipOf : List ℕ → ℕ × ℕ → Type 0

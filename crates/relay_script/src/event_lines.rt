@@ -1,8 +1,12 @@
 //! The lines of a script that stand for events.
 
-ghost use Rattle.std.specs.Prelude.{IfOk, IfSome};
-ghost use Rattle.relay_script.specs.Events.{SpellsEvent};
-ghost use Rattle.relay_script.specs.Words.{IsNumberOf};
+ghost use Rattle.std.specs.Prelude.{ℕ, List, IfOk, IfSome, IsErrOf, IsNone, codes};
+ghost use Rattle.dm_check_blocks.specs.declared.size.Size.{Size};
+ghost use Rattle.dm_encodation.specs.declared.scheme.Scheme.{Scheme};
+ghost use Rattle.dm_event_history.specs.declared.stop.Stop.{Stop};
+ghost use Rattle.dm_print_ledger.specs.declared.range.Range.{Range};
+ghost use Rattle.relay_script.specs.Events.{SpellsEvent, SpellsForget, SpellsGive, SpellsOfId, SpellsOfNumber, SpellsPrint, SpellsRestart, SpellsScan};
+ghost use Rattle.relay_script.specs.Words.{IsFound, IsNumberOf, IsRead};
 
 use crate::fault::ScriptFault;
 use crate::words::{bytes, flips, id, number, size, stop};
@@ -13,7 +17,7 @@ use std::alloc::Allocator;
 
 // The number that a word writes, of something that is numbered from 0.
 fn index(word: &str) -> Option<usize>
-    ensures { IfSome result (IsNumberOf word.now) }
+    ensures { IsFound result (IsNumberOf word.now) }
 {
     Some(usize::from(number(word)?))
 }
@@ -23,7 +27,7 @@ pub(crate) fn event_of<A: Allocator + Copy>(
     alloc: A,
     words: &[&str],
 ) -> Result<Event<A>, ScriptFault>
-    ensures { IfOk result (SpellsEvent words.now) }
+    ensures { IsRead result (SpellsEvent words.now) }
 {
     match *words {
         ["print", ..] => print(alloc, words),
@@ -37,7 +41,9 @@ pub(crate) fn event_of<A: Allocator + Copy>(
 }
 
 fn print<A: Allocator + Copy>(alloc: A, words: &[&str]) -> Result<Event<A>, ScriptFault>
-    ensures { IfOk result (SpellsEvent words.now) }
+    ensures spelled { IfOk result (SpellsEvent words.now) }
+    ensures no_print { IsErrOf result ScriptFault.Script → (printer : ℕ) → (document : List ℕ) → (size : Size) → (scheme : Scheme) → (stop : Stop)
+        → ¬ SpellsPrint words.now printer document size scheme stop }
 {
     let ["print", printer, side, scheme, document, end] = *words else {
         return Err(ScriptFault::Script);
@@ -52,7 +58,9 @@ fn print<A: Allocator + Copy>(alloc: A, words: &[&str]) -> Result<Event<A>, Scri
 }
 
 fn scan<A: Allocator + Copy>(alloc: A, words: &[&str]) -> Result<Event<A>, ScriptFault>
-    ensures { IfOk result (SpellsEvent words.now) }
+    ensures spelled { IfOk result (SpellsEvent words.now) }
+    ensures no_scan { IsErrOf result ScriptFault.Script → (desk label : ℕ) → (flips : List (ℕ × ℕ)) → (stop : Stop)
+        → ¬ SpellsScan words.now desk label flips stop }
 {
     let ["scan", desk, label, end, modules] = *words else {
         return Err(ScriptFault::Script);
@@ -66,7 +74,9 @@ fn scan<A: Allocator + Copy>(alloc: A, words: &[&str]) -> Result<Event<A>, Scrip
 }
 
 fn give<A: Allocator + Copy>(words: &[&str]) -> Option<Event<A>>
-    ensures { IfSome result (SpellsEvent words.now) }
+    ensures spelled { IfSome result (SpellsEvent words.now) }
+    ensures no_give { IsNone result → (printer receiver : ℕ) → (range : Range) → (stop : Stop)
+        → ¬ SpellsGive words.now printer receiver range stop }
 {
     let ["give", printer, receiver, first, last, end] = *words else {
         return None;
@@ -83,7 +93,8 @@ fn give<A: Allocator + Copy>(words: &[&str]) -> Option<Event<A>>
 }
 
 fn forget<A: Allocator + Copy>(words: &[&str]) -> Option<Event<A>>
-    ensures { IfSome result (SpellsEvent words.now) }
+    ensures spelled { IfSome result (SpellsEvent words.now) }
+    ensures no_forget { IsNone result → (desk id : ℕ) → (stop : Stop) → ¬ SpellsForget words.now desk id stop }
 {
     let ["forget", desk, document, end] = *words else {
         return None;
@@ -96,7 +107,9 @@ fn forget<A: Allocator + Copy>(words: &[&str]) -> Option<Event<A>>
 }
 
 fn restart<A: Allocator + Copy>(words: &[&str]) -> Option<Event<A>>
-    ensures { IfSome result (SpellsEvent words.now) }
+    ensures spelled { IfSome result (SpellsEvent words.now) }
+    ensures no_printer { IsNone result → (printer : ℕ) → ¬ SpellsRestart words.now (codes "printer") printer }
+    ensures no_desk { IsNone result → (desk : ℕ) → ¬ SpellsRestart words.now (codes "desk") desk }
 {
     match *words {
         ["restart", "printer", printer] => Some(Event::RestartPrinter {
@@ -109,7 +122,11 @@ fn restart<A: Allocator + Copy>(words: &[&str]) -> Option<Event<A>>
 
 // An event that names a ticket or an export.
 fn with_number<A: Allocator + Copy>(words: &[&str]) -> Option<Event<A>>
-    ensures { IfSome result (SpellsEvent words.now) }
+    ensures spelled { IfSome result (SpellsEvent words.now) }
+    ensures no_take { IsNone result → (printer ticket : ℕ) → (stop : Stop)
+        → ¬ SpellsOfNumber words.now (codes "take") printer ticket stop }
+    ensures no_import { IsNone result → (desk export : ℕ) → (stop : Stop)
+        → ¬ SpellsOfNumber words.now (codes "import") desk export stop }
 {
     match *words {
         ["take", printer, ticket, end] => Some(Event::Take {
@@ -128,7 +145,9 @@ fn with_number<A: Allocator + Copy>(words: &[&str]) -> Option<Event<A>>
 
 // An event that names a document and is never stopped.
 fn of_document<A: Allocator + Copy>(words: &[&str]) -> Option<Event<A>>
-    ensures { IfSome result (SpellsEvent words.now) }
+    ensures spelled { IfSome result (SpellsEvent words.now) }
+    ensures no_ask { IsNone result → (desk id : ℕ) → ¬ SpellsOfId words.now (codes "ask") desk id }
+    ensures no_export { IsNone result → (desk id : ℕ) → ¬ SpellsOfId words.now (codes "export") desk id }
 {
     match *words {
         ["ask", desk, document] => Some(Event::Ask {

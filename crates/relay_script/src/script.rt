@@ -1,7 +1,8 @@
 //! Scripts: printers, desks, and the events that follow.
 
-ghost use Rattle.std.specs.Prelude.{◌≡◌, ◌≤◌, IfOk, IfSome, map, take, drop, length};
+ghost use Rattle.std.specs.Prelude.{◌≡◌, ◌≤◌, ◌<◌, ◌⊎◌, ℕ, List, [], ◌∷◌, ◌++◌, IfOk, IsErrOf, map, take, drop, length, slice_index_or};
 ghost use Rattle.std.specs.List.{AllZip};
+ghost use Rattle.relay_script.specs.Words.{IsFound, IsRead, Nothing};
 ghost use Rattle.relay_script.specs.Scripts.{AreDesks, AreLinesOf, IsScript, SpellsEventLine, SpellsRange};
 
 use crate::event_lines::event_of;
@@ -36,7 +37,7 @@ pub struct Script<A: Allocator + Copy = Global> {
 /// # Errors
 /// `Script` where a line is none of a script or stands at a wrong place, or where a limit is passed.
 pub fn read_script<A: Allocator + Copy>(alloc: A, bytes: &[u8]) -> Result<Script<A>, ScriptFault>
-    ensures { IfOk result (IsScript bytes.now) }
+    ensures { IsRead result (IsScript bytes.now) }
 {
     if bytes.len() > SCRIPT_BYTES {
         return Err(ScriptFault::Script);
@@ -59,8 +60,10 @@ pub fn read_script<A: Allocator + Copy>(alloc: A, bytes: &[u8]) -> Result<Script
 }
 
 // The lines of a text. Each is followed by a line end, which the last may lack.
-fn lines_of<A: Allocator>(alloc: A, text: &str) -> Result<Vec<&str, A>, ScriptFault>
-    ensures { IfOk result (λ lines. AreLinesOf text.now (map (λ line. line.now) lines.items)) }
+fn lines_of<A: Allocator>(alloc: A, text: &str) -> Result<Vec<&str, A>, AllocError>
+    ensures lines { IfOk result (λ lines. AreLinesOf text.now (map (λ line. line.now) lines.items)) }
+    ensures no_others { IfOk result (λ lines. (others : List (List ℕ)) → AreLinesOf text.now others
+        → (others ≡ map (λ line. line.now) lines.items) ⊎ (others ≡ map (λ line. line.now) lines.items ++ [] ∷ [])) }
 {
     let mut lines = cut(alloc, text, '\n')?;
     if lines.last().is_some_and(|line| line.is_empty()) {
@@ -75,6 +78,11 @@ fn read_ranges<A: Allocator + Copy>(alloc: A, lines: &[&str]) -> Result<Vec<Rang
         AllZip SpellsRange (take (length ranges.items) (map (λ line. line.now) lines.now)) ranges.items) }
     ensures some { IfOk result (λ ranges. 1 ≤ length ranges.items) }
     ensures few { IfOk result (λ ranges. length ranges.items ≤ 64) }
+    ensures next { IfOk result (λ ranges. length ranges.items < length lines.now
+        → Nothing (SpellsRange (slice_index_or (map (λ line. line.now) lines.now) (length ranges.items) []))) }
+    ensures no_ranges { IsErrOf result ScriptFault.Script → (range_lines event_lines : List (List ℕ)) → (desks_line : List ℕ) → (ranges : List Range)
+        → map (λ line. line.now) lines.now ≡ range_lines ++ desks_line ∷ event_lines → AllZip SpellsRange range_lines ranges
+        → 1 ≤ length range_lines → length range_lines ≤ 64 → ¬ Nothing (SpellsRange desks_line) }
 {
     let mut ranges = Vec::new(alloc);
     for line in lines {
@@ -93,22 +101,22 @@ fn read_ranges<A: Allocator + Copy>(alloc: A, lines: &[&str]) -> Result<Vec<Rang
 }
 
 // The range of a line, if it is a line of one.
-fn range_of<A: Allocator>(alloc: A, line: &str) -> Result<Option<Range>, ScriptFault>
-    ensures { IfOk result (λ found. IfSome found (SpellsRange line.now)) }
+fn range_of<A: Allocator>(alloc: A, line: &str) -> Result<Option<Range>, AllocError>
+    ensures { IfOk result (λ found. IsFound found (SpellsRange line.now)) }
 {
     let words = cut(alloc, line, ' ')?;
     let ["range", first, last] = *words.as_slice() else {
         return Ok(None);
     };
     let (Some(first), Some(last)) = (number(first), number(last)) else {
-        return Err(ScriptFault::Script);
+        return Ok(None);
     };
     Ok(Some(Range { first, last }))
 }
 
 // The capacities of the desks of a line.
 fn read_desks<A: Allocator + Copy>(alloc: A, line: &str) -> Result<Vec<u16, A>, ScriptFault>
-    ensures { IfOk result (λ capacities. AreDesks line.now capacities.items) }
+    ensures { IsRead result (λ capacities. AreDesks line.now capacities.items) }
 {
     let words = cut(alloc, line, ' ')?;
     let ["desks", count, capacity] = *words.as_slice() else {
@@ -130,6 +138,8 @@ fn read_events<A: Allocator + Copy>(
 ) -> Result<Vec<Event<A>, A>, ScriptFault>
     ensures events { IfOk result (λ events. AllZip SpellsEventLine (map (λ line. line.now) lines.now) events.items) }
     ensures few { IfOk result (λ events. length events.items ≤ 10000) }
+    ensures no_events { IsErrOf result ScriptFault.Script → (events : List (Event A))
+        → AllZip SpellsEventLine (map (λ line. line.now) lines.now) events → length lines.now ≤ 10000 → ⊥ }
 {
     if lines.len() > MOST_EVENTS {
         return Err(ScriptFault::Script);

@@ -1,8 +1,8 @@
 //! The words of a script.
 
-ghost use Rattle.std.specs.Prelude.{◌≡◌, ◌<◌, ◌≤◌, IfOk, IfSome, MatchOption, map};
+ghost use Rattle.std.specs.Prelude.{◌≡◌, ◌<◌, ◌≤◌, ℕ, IfOk, MatchOption, map};
 ghost use Rattle.std.specs.Str.Parse.{digits_value};
-ghost use Rattle.relay_script.specs.Words.{cut_at, AreBytesOf, AreFlipsOf, IsFlipOf, IsIdOf, IsNumber, IsNumberOf, IsSideOf, IsStopOf};
+ghost use Rattle.relay_script.specs.Words.{cut_at, AreBytesOf, AreFlipsOf, IsFlipOf, IsFound, IsIdOf, IsNumber, IsNumberOf, IsRead, IsSideOf, IsStopOf};
 
 use crate::fault::ScriptFault;
 use dm_append_label::FileId;
@@ -23,14 +23,14 @@ pub(crate) fn number(word: &str) -> Option<u16>
 
 /// The size of the side that a word writes.
 pub(crate) fn size(word: &str) -> Option<Size>
-    ensures { IfSome result (IsSideOf word.now) }
+    ensures { IsFound result (IsSideOf word.now) }
 {
     Size::of_side(number(word)?)
 }
 
 /// The identification that a word writes.
 pub(crate) fn id(word: &str) -> Option<FileId>
-    ensures { IfSome result (IsIdOf word.now) }
+    ensures { IsFound result (IsIdOf word.now) }
 {
     let mut words = [0u8; 2];
     match hex::decode_to_slice(word, &mut words) {
@@ -41,7 +41,7 @@ pub(crate) fn id(word: &str) -> Option<FileId>
 
 /// The stop that a word names.
 pub(crate) fn stop(word: &str) -> Option<Stop>
-    ensures { IfSome result (IsStopOf word.now) }
+    ensures { IsFound result (IsStopOf word.now) }
 {
     match word {
         "-" => Some(Stop::None),
@@ -56,7 +56,7 @@ pub(crate) fn stop(word: &str) -> Option<Stop>
 
 // The stop after a number of labels.
 fn after_labels(word: &str) -> Option<Stop>
-    ensures { IfSome result (IsStopOf word.now) }
+    ensures { MatchOption result ((most : ℕ) → ¬ IsStopOf word.now (Stop.AfterLabels most)) (IsStopOf word.now) }
 {
     let digits = word.strip_prefix("after:")?;
     let most = u8::try_from(number(digits)?).ok()?;
@@ -65,7 +65,7 @@ fn after_labels(word: &str) -> Option<Stop>
 
 /// The bytes that a word writes.
 pub(crate) fn bytes<A: Allocator>(alloc: A, word: &str) -> Result<Bytes<A>, ScriptFault>
-    ensures { IfOk result (AreBytesOf word.now) }
+    ensures { IsRead result (AreBytesOf word.now) }
 {
     if word == "-" {
         return Ok(Bytes(Vec::new(alloc)));
@@ -82,7 +82,7 @@ pub(crate) fn bytes<A: Allocator>(alloc: A, word: &str) -> Result<Bytes<A>, Scri
 
 // The row and the column that a word writes.
 fn flip(word: &str) -> Option<(u16, u16)>
-    ensures { IfSome result (IsFlipOf word.now) }
+    ensures { IsFound result (IsFlipOf word.now) }
 {
     let (row, column) = word.split_once(',')?;
     Some((number(row)?, number(column)?))
@@ -90,7 +90,7 @@ fn flip(word: &str) -> Option<(u16, u16)>
 
 /// The flips that a word writes.
 pub(crate) fn flips<A: Allocator + Copy>(alloc: A, word: &str) -> Result<Flips<A>, ScriptFault>
-    ensures { IfOk result (AreFlipsOf word.now) }
+    ensures { IsRead result (AreFlipsOf word.now) }
 {
     if word == "-" {
         return Ok(Flips(Vec::new(alloc)));
@@ -109,9 +109,9 @@ pub(crate) fn cut<'a, A: Allocator>(
     alloc: A,
     text: &'a str,
     at: char,
-) -> Result<Vec<&'a str, A>, ScriptFault>
+) -> Result<Vec<&'a str, A>, AllocError>
     requires { at < 128 }
     ensures { IfOk result (λ parts. map (λ part. part.now) parts.items ≡ cut_at at text.now) }
 {
-    Ok(text.split(at).collect(alloc)?)
+    text.split(at).collect(alloc)
 }

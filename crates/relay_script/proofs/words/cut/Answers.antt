@@ -4,6 +4,5 @@ use Rattle.relay_script.proofs.words.cut.Goals as goal
 
 pub returns : goal.returns
 returns g c =
-    let parts = map_from_collect _ c.collect.ensures.ran
-    (YieldsList-from_str_split _ _ c.requires c.split.ensures.text c.split.ensures.has_more c.split.ensures.pattern) in
-    rw c.in_ok-collect.was at parts
+    map_from_collect _ c.collect.ensures.ran
+    (YieldsList-from_str_split _ _ c.requires c.split.ensures.text c.split.ensures.has_more c.split.ensures.pattern)

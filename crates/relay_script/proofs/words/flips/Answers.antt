@@ -1,7 +1,8 @@
-use Rattle.std.proofs.Common.{◌≡◌, ◌∷◌, ◌++◌, [], inr, arith}
+use Rattle.std.proofs.Common.{◌≡◌, ◌∷◌, ◌++◌, [], ◌≢◌, inr, codes, arith}
 use Rattle.std.proofs.lemmas.Grind.{common_steps}
 use Rattle.relay_script.proofs.Lines.{one_more_read, all_read}
-use Rattle.relay_script.specs.Words.{IsFlipOf}
+use Rattle.relay_script.proofs.Refused.{no_flips, none_at, refused}
+use Rattle.relay_script.specs.Words.{AreFlipsOf, IsFlipOf}
 use Rattle.relay_script.proofs.words.flips.Goals as goal
 
 pub loop-part-preserved : goal.loop-part-preserved
@@ -14,3 +15,11 @@ pub returns : goal.returns
 returns g c =
     let all = all_read (λ part. part.now) IsFlipOf _ _ _ c.loop-part-test.false c.loop-part.invariant in
     inr (rw (c.deref-part-items.ensures.value, c.in_ok-parts.ensures) at all)
+
+pub returns-in_err-flip : goal.returns-in_err-flip
+returns-in_err-flip g c =
+    let none = rw c.in_err-flip.ensures.ok_part at c.flip.ensures in
+    let no_dash : c.args.word.now ≢ codes "-" = grind (arith, common_steps) in
+    refused _ (AreFlipsOf c.args.word.now) c.from_residual-in_err-flip.ensures.0 (no_flips c.args.word.now no_dash (λ flips all.
+    none_at (λ part. part.now) IsFlipOf c.deref-part-items.result.now flips _ _ c.loop-part-test.true none
+    (rw (c.deref-part-items.ensures.value, c.in_ok-parts.ensures) all)))
