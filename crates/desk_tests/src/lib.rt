@@ -1,5 +1,5 @@
 //! Tests of desks: over an allocator that refuses each growth in turn, over stores that stop after each device call,
-//! and on real files.
+//! over files of which a byte is spoiled, and on real files.
 #![tactic(auto)]
 
 #[cfg(test)]
@@ -14,3 +14,7 @@ mod moves;
 mod on_files;
 #[cfg(test)]
 mod refused;
+#[cfg(test)]
+mod spoiled;
+#[cfg(test)]
+mod table;

@@ -1,4 +1,4 @@
-// A reader of saved ledgers that knows the table of their format alone, and nothing of the crate that writes them:
+// A reader of saved ledgers that knows the tables of their formats alone, and nothing of the crate that writes them:
 //
 //   4 bytes   the letters DMLG
 //   1         the version, 2
@@ -10,7 +10,11 @@
 //   2 and 2   for each of them its number and the serial of the last ticket; their numbers rise
 //   2         65,535 less the number of free identifications
 //
-// and nothing after that.
+// and nothing after that. A ledger of version 1 is any printer's, and has after its version, 1:
+//
+//   2, 2, 2   the first, the last and the next number, of which those from the next to the last one are free; the last
+//             one is 64,515 or below, and the next one may be one above it
+//   2         65,535 less the next number
 use std::alloc::Global;
 use std::slice::Iter;
 
@@ -94,4 +98,52 @@ pub fn read(alloc: Global, ledger: &[u8]) -> Option<Sheet> {
         && rise(sheet.givers.as_slice())
         && bytes.next().is_none();
     is_ledger.then_some(sheet)
+}
+
+// The ledger of a printer of this number that bytes of version 1 spell by the table.
+fn read_first(alloc: Global, ledger: &[u8], printer: u16) -> Option<Sheet> {
+    let mut bytes = ledger.get(5..)?.iter();
+    let first = number(&mut bytes)?;
+    let last = number(&mut bytes)?;
+    let next = number(&mut bytes)?;
+    let check = number(&mut bytes)?;
+    let is_ledger = first <= next
+        && next as u32 <= last as u32 + 1
+        && first <= last
+        && last <= 64_515
+        && check == 65_535 - next
+        && bytes.next().is_none();
+    let mut free = Vec::new(alloc);
+    if next <= last {
+        free.push((next, last)).ok()?;
+    }
+    is_ledger.then_some(Sheet {
+        number: printer,
+        next_serial: 0,
+        free,
+        givers: Vec::new(alloc),
+    })
+}
+
+// The ledger of a printer of this number that bytes spell by the tables, or the name of the first refusal that applies.
+pub fn answer(alloc: Global, ledger: &[u8], printer: u16) -> Result<Sheet, &'static str> {
+    if !ledger.starts_with(b"DMLG") {
+        return Err("NotALedger");
+    }
+    let sheet = match ledger.get(4) {
+        Some(1) => read_first(alloc, ledger, printer),
+        Some(2) => read(alloc, ledger),
+        Some(_) => return Err("Version"),
+        None => None,
+    };
+    match sheet {
+        Some(sheet) => {
+            if sheet.number == printer {
+                Ok(sheet)
+            } else {
+                Err("Number")
+            }
+        }
+        None => Err("Damaged"),
+    }
 }

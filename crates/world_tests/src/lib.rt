@@ -1,10 +1,16 @@
-//! Tests of worlds: scripts with known lines, the same events by calls, each growth refused in turn, and 10,000 scripts
-//! that a generator makes.
+//! Tests of worlds: scripts with known lines, the same events by calls, each stop of a print and of a scan, each growth
+//! refused in turn, and 10,000 scripts that a generator makes.
 #![tactic(auto)]
 
 #[cfg(test)]
 mod refused;
 #[cfg(test)]
+mod replies;
+#[cfg(test)]
+mod runs;
+#[cfg(test)]
 mod scripts;
 #[cfg(test)]
 mod shuffled;
+#[cfg(test)]
+mod stops;

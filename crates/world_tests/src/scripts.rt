@@ -18,7 +18,7 @@ const GATHERING: &str =
     "range 0 9\ndesks 2 4\nprint 0 12 ascii 31323334 -\nscan 0 1 - -\nscan 0 1 - -\nscan 0 0 - -\n\
     ask 0 0101\nask 1 0101\n";
 
-const GATHERED: &str =
+pub(crate) const GATHERED: &str =
     "printed 0101 0 2\n0101 2/2 new\n0101 2/2 again\n0101 1/2 complete\ndocument 31323334\n\
     refused NotHeld\n";
 
@@ -27,20 +27,28 @@ const STOPPED: &str =
     "range 0 9\ndesks 1 4\nprint 0 12 ascii 31323334 after:0\nprint 0 12 ascii 31323334 -\n\
     restart printer 0\nprint 0 12 ascii 31323334 -\n";
 
+pub(crate) const STOPPED_LINES: &str = "stopped\ndown\nrestarted\nprinted 0102 0 2\n";
+
 // A printer is stopped inside its save, which kept the old ledger.
 const STOPPED_BEFORE: &str =
     "range 0 9\ndesks 1 4\nprint 0 12 ascii 31323334 in-old\nprint 0 12 ascii 31323334 -\n\
     restart printer 0\nprint 0 12 ascii 31323334 -\n";
+
+pub(crate) const STOPPED_BEFORE_LINES: &str = "stopped\ndown\nrestarted\nprinted 0101 0 2\n";
 
 // A printer is stopped inside its save, which kept the new ledger.
 const STOPPED_AFTER: &str =
     "range 0 9\ndesks 1 4\nprint 0 12 ascii 31323334 in-new\nprint 0 12 ascii 31323334 -\n\
     restart printer 0\nprint 0 12 ascii 31323334 -\n";
 
+pub(crate) const STOPPED_AFTER_LINES: &str = "stopped\ndown\nrestarted\nprinted 0102 0 2\n";
+
 // A save fails and keeps the new ledger.
 const FAILED: &str =
     "range 0 9\ndesks 1 4\nprint 0 12 ascii 31323334 fault-new\nprint 0 12 ascii 31323334 -\n\
     restart printer 0\nprint 0 12 ascii 31323334 -\n";
+
+pub(crate) const FAILED_LINES: &str = "refused Save\nrefused Failed\nrestarted\nprinted 0102 0 2\n";
 
 // Three wrong words of a side of 12 can be corrected, four can't.
 const WORN: &str = "range 0 9\ndesks 1 4\nprint 0 12 ascii 31323334 -\nscan 0 0 - 5,1;3,3;1,5\n\
@@ -50,15 +58,19 @@ const WORN: &str = "range 0 9\ndesks 1 4\nprint 0 12 ascii 31323334 -\nscan 0 0 
 const CUT_SHORT: &str =
     "range 0 9\ndesks 1 4\nprint 0 12 ascii 31323334 after:1\nscan 0 0 - -\nscan 0 1 - -\n";
 
+pub(crate) const CUT_SHORT_LINES: &str = "stopped\n0101 1/2 new\nnone\n";
+
 // A scan is stopped inside its save, which kept the page.
 const KEPT: &str =
     "range 0 9\ndesks 1 4\nprint 0 12 ascii 31323334 -\nscan 0 0 in-new -\nrestart desk 0\nscan 0 0 - -\n";
+
+pub(crate) const KEPT_LINES: &str = "printed 0101 0 2\nstopped\nrestarted\n0101 1/2 again\n";
 
 // Identifications move by a ticket, which is taken once; a second ticket is lost.
 const MOVED: &str = "range 0 9\nrange 10 19\ndesks 1 4\ngive 0 1 5 9 -\ntake 1 0 -\ntake 1 0 -\n\
     print 1 12 ascii 31323334 -\ngive 0 1 0 1 after:0\nrestart printer 0\ntake 1 1 -\n";
 
-const MOVED_LINES: &str =
+pub(crate) const MOVED_LINES: &str =
     "ticket 0 00000000000100050009\ntaken\nrefused Old\nprinted 0106 0 2\nstopped\nrestarted\nnone\n";
 
 // Pages travel between desks.
@@ -66,7 +78,7 @@ const TRAVELLED: &str =
     "range 0 9\ndesks 2 4\nprint 0 12 ascii 31323334 -\nscan 0 1 - -\nexport 0 0101\nimport 1 0 -\n\
     import 1 0 -\nscan 1 0 - -\nask 1 0101\nexport 1 0102\n";
 
-const TRAVELLED_LINES: &str =
+pub(crate) const TRAVELLED_LINES: &str =
     "printed 0101 0 2\n0101 2/2 new\nexport 0 0101 2 0002\n0101 2 added 0002 new\n\
     0101 2 added 0000 again\n0101 1/2 complete\ndocument 31323334\nrefused NotHeld\n";
 
@@ -74,29 +86,13 @@ const TRAVELLED_LINES: &str =
 fn scripts_print_their_lines(rt: HostRuntime) {
     for (script, lines, status) in [
         (GATHERING, GATHERED, 1),
-        (STOPPED, "stopped\ndown\nrestarted\nprinted 0102 0 2\n", 0),
-        (
-            STOPPED_BEFORE,
-            "stopped\ndown\nrestarted\nprinted 0101 0 2\n",
-            0,
-        ),
-        (
-            STOPPED_AFTER,
-            "stopped\ndown\nrestarted\nprinted 0102 0 2\n",
-            0,
-        ),
-        (
-            FAILED,
-            "refused Save\nrefused Failed\nrestarted\nprinted 0102 0 2\n",
-            1,
-        ),
+        (STOPPED, STOPPED_LINES, 0),
+        (STOPPED_BEFORE, STOPPED_BEFORE_LINES, 0),
+        (STOPPED_AFTER, STOPPED_AFTER_LINES, 0),
+        (FAILED, FAILED_LINES, 1),
         (WORN, "printed 0101 0 2\n0101 1/2 new\n! refused Block\n", 1),
-        (CUT_SHORT, "stopped\n0101 1/2 new\nnone\n", 0),
-        (
-            KEPT,
-            "printed 0101 0 2\nstopped\nrestarted\n0101 1/2 again\n",
-            0,
-        ),
+        (CUT_SHORT, CUT_SHORT_LINES, 0),
+        (KEPT, KEPT_LINES, 0),
         (MOVED, MOVED_LINES, 1),
         (TRAVELLED, TRAVELLED_LINES, 1),
     ] {
