@@ -21,7 +21,7 @@ names_get id count number zero k a is = absurd (cc (is))
 names_get id count number (suc left) zero a is = (
   (let e : Some (record { id = id; number = number; count = count }) ≡ Some a = is in cc),
   (let e : Some (record { id = id; number = number; count = count }) ≡ Some a = is in
-  let same : a.number ≡ number = cc in omega arith),
+      let same : a.number ≡ number = cc in omega arith),
   omega arith,
 )
 names_get id count number (suc left) (suc k) a is =

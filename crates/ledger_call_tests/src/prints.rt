@@ -2,7 +2,9 @@
 use crate::printers::{created, document_of, give, print, printed, reopened, take};
 use dm_check_blocks::Size;
 use dm_encodation::Scheme;
-use dm_print_ledger::{CreateFault, GiveFault, OpenFault, PrintFault, Printer, Range, TakeFault, Ticket};
+use dm_print_ledger::{
+    CreateFault, GiveFault, OpenFault, PrintFault, Printer, Range, TakeFault, Ticket,
+};
 use dm_store::{MemStore, NextSave};
 use std::test::Fail;
 

@@ -21,6 +21,6 @@ returns-in-Ok-answer_all-clause-answers g c = (
   c.in-Ok.ensures.begins,
   c.in-Ok-answer_all.ensures,
   (c.each_run_prints_once.ensures c.args.ranges.now c.args.capacities.now c.in-Ok.world c.answer_all.new.world
-  (given c.args.events.now c.in-Ok-answer_all.answers.items) (replies c.in-Ok-answer_all.answers.items) c.in-Ok.ensures.stands
-  (runs_by c.in-Ok.world c.answer_all.new.world c.args.events.now c.in-Ok-answer_all.answers.items c.in-Ok-answer_all.ensures)).1,
+      (given c.args.events.now c.in-Ok-answer_all.answers.items) (replies c.in-Ok-answer_all.answers.items) c.in-Ok.ensures.stands
+      (runs_by c.in-Ok.world c.answer_all.new.world c.args.events.now c.in-Ok-answer_all.answers.items c.in-Ok-answer_all.ensures)).1,
 )
