@@ -46,7 +46,7 @@ IsNumberOf word n = IsNumber word × (n ≡ digits_value 10 word)
 abbrev pub IsSideOf : List ℕ → Size → Type 0
 IsSideOf word size = IsNumberOf word (side size)
 
--- the two words of an identification in hexadecimal, for which there are 254 times 254 values
+-- the two words of an identification, 1 to 254 each, in hexadecimal: there are 64,516 identifications
 abbrev pub IsIdOf : List ℕ → ℕ → Type 0
 IsIdOf word id = (id < 64516) × (decode_sized word 2 ≡ Ok (id_words id))
 
