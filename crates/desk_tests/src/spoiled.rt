@@ -162,7 +162,7 @@ fn moved(rt: &impl Abort, alloc: Global, file: &[u8]) -> Result<&'static str, Fa
     Ok(answer)
 }
 
-// The names of the refusals, and the answer to a sound file. The counts of them are those of a reader in another language.
+// The names of the refusals, and the answer to a sound file. Their counts are those of a reader in another language.
 const NAMES: [&str; 4] = ["NotPages", "Version", "Damaged", "sound"];
 
 #[test]

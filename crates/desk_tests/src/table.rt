@@ -1,11 +1,11 @@
-// A reader of saved pages that knows the tables of their formats alone, and nothing of the crate that writes them. A file
-// of version 2 has
+// A reader of saved pages that knows the tables of their formats alone, and nothing of the crate that writes them. Of
+// each number the most significant byte stands first. A file of version 2 has
 //
 //   4 bytes   the letters DMPG
 //   1         the version, 2
 //   2         the words of the document's identification, each 1 to 254
 //   1         how many pages the document has, 2 to 16
-//   2         which of them are held: bit m - 1 is set for page m; of each number the most significant byte stands first
+//   2         which of them are held: bit m - 1 is set for page m
 //   2         for each page that is held its length, at most 2,600
 //   ..        and its bytes
 //

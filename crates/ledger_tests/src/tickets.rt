@@ -53,8 +53,8 @@ fn answer(sheet: &Sheet, numbers: [u16; 5]) -> &'static str {
     "taken"
 }
 
-// The ledger that is saved once a ticket of these numbers was taken has the numbers and the serial of the ticket, and no
-// more numbers than before and these.
+// The ledger that is saved once a ticket of these numbers was taken has the numbers and the serial of the ticket, and
+// no more numbers than before and these.
 fn is_taken(
     rt: &impl Abort,
     alloc: Global,
