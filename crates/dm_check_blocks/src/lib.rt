@@ -11,8 +11,6 @@ mod checks;
 mod generator;
 mod size;
 mod symbol;
-#[cfg(test)]
-mod tests;
 
 pub use checks::checks_of;
 pub use generator::MOST_CHECKS;

@@ -38,6 +38,3 @@ pub use decoding::decode;
 pub use encoding::encode;
 pub use fault::{DecodeFault, EncodeFault};
 pub use scheme::Scheme;
-
-#[cfg(test)]
-mod tests;

@@ -17,8 +17,6 @@ mod flips;
 pub mod laws;
 mod reply;
 mod stop;
-#[cfg(test)]
-mod tests;
 
 pub use bytes::Bytes;
 pub use dm_store::Kept;

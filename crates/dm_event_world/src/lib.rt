@@ -16,13 +16,9 @@ mod call;
 mod desk_act;
 mod desk_moves;
 mod desk_opening;
-#[cfg(test)]
-mod desk_tests;
 mod fault;
 mod printer_act;
 mod printer_opening;
-#[cfg(test)]
-mod printer_tests;
 mod running;
 mod scanned;
 mod steps;

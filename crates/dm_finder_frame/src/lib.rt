@@ -14,8 +14,6 @@ mod grid;
 pub mod laws;
 mod line;
 mod region;
-#[cfg(test)]
-mod tests;
 mod unframing;
 
 pub use fault::{FrameFault, GridFault};

@@ -31,6 +31,3 @@ pub use limits::{GREATEST_SIDE, HEADER_BYTES, PLAIN_BYTES};
 pub use relay_streams::WriteFault;
 pub use symbol_image::{grid_of, image_of};
 pub use write::write_image;
-
-#[cfg(test)]
-mod tests;

@@ -16,8 +16,6 @@ mod lifting;
 mod matrix;
 mod placing;
 mod shape;
-#[cfg(test)]
-mod tests;
 mod walk;
 
 pub use layout::Layout;

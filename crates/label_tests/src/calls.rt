@@ -120,7 +120,7 @@ static TWO_LABELS: [TwoLabels; 5] = [
 fn documents_in_two_labels(rt: HostRuntime) -> Result<(), Fail> {
     for (document, scheme, size, first_end, first, second) in TWO_LABELS {
         let ends = cut(document, size, scheme)?;
-        assert_eq!(rt; ends.as_slice(), [first_end, document.len()].as_slice());
+        assert!(rt; ends.as_slice() == [first_end, document.len()].as_slice());
         assert!(rt; first_end <= document.len());
         let label = sealed(&rt, rt.alloc(), 1, 2, &document[..first_end], size, scheme)?;
         let words = words_of(rt.alloc(), &label)?;
@@ -129,11 +129,11 @@ fn documents_in_two_labels(rt: HostRuntime) -> Result<(), Fail> {
         let words = words_of(rt.alloc(), &label)?;
         assert!(rt; words.starts_with(second));
         let opened = open_label(rt.alloc(), &label)?;
-        assert_eq!(rt; (opened.corrected, opened.wrong), (0, 0));
-        assert_eq!(rt; (opened.page.m(), opened.page.n()), (2, 2));
-        assert_eq!(rt; opened.page.id().words(), (1, 1));
-        assert_eq!(rt; opened.page.bytes(), &document[first_end..]);
-        assert_eq!(rt; opened.page.into_bytes().as_slice(), &document[first_end..]);
+        assert!(rt; (opened.corrected, opened.wrong) == (0, 0));
+        assert!(rt; (opened.page.m(), opened.page.n()) == (2, 2));
+        assert!(rt; opened.page.id().words() == (1, 1));
+        assert!(rt; opened.page.bytes() == &document[first_end..]);
+        assert!(rt; opened.page.into_bytes().as_slice() == &document[first_end..]);
     }
     Ok(())
 }
@@ -148,8 +148,8 @@ fn documents_in_sixteen_labels_and_too_long_ones(rt: HostRuntime) -> Result<(), 
     ];
     for (document, scheme, size, last) in rows {
         let ends = cut(document, size, scheme)?;
-        assert_eq!(rt; ends.len(), 16);
-        assert_eq!(rt; ends.as_slice().last(), Some(&document.len()));
+        assert!(rt; ends.len() == 16);
+        assert!(rt; ends.as_slice().last() == Some(&document.len()));
         assert!(rt; last <= document.len());
         let label = sealed(&rt, rt.alloc(), 16, 16, &document[last..], size, scheme)?;
         let words = words_of(rt.alloc(), &label)?;
@@ -165,9 +165,9 @@ fn documents_in_sixteen_labels_and_too_long_ones(rt: HostRuntime) -> Result<(), 
         assert!(rt; cut(document, size, scheme).is_err());
     }
     let fault = sealed(&rt, rt.alloc(), 1, 2, &[233], Size::Side12, Scheme::Ascii).err();
-    assert_eq!(rt; fault, Some(SealFault::TooLong));
+    assert!(rt; fault == Some(SealFault::TooLong));
     let fault = sealed(&rt, rt.alloc(), 1, 2, b"", Size::Side10, Scheme::Ascii).err();
-    assert_eq!(rt; fault, Some(SealFault::TooLong));
+    assert!(rt; fault == Some(SealFault::TooLong));
     Ok(())
 }
 
@@ -203,14 +203,11 @@ fn heads_are_told_apart(rt: HostRuntime) -> Result<(), Fail> {
     ];
     for (data, size, fault) in rows {
         let grid = drawn_of_data(&rt, rt.alloc(), size, data)?;
-        assert_eq!(rt; open_label(rt.alloc(), &grid).err(), Some(fault));
+        assert!(rt; open_label(rt.alloc(), &grid).err() == Some(fault));
     }
-    assert_eq!(rt; FileId::of_words(255, 1), None);
-    assert_eq!(rt;
-        FileId::of_words(254, 254).map(|id| id.number()),
-        Some(64_515)
-    );
-    assert_eq!(rt; FileId::of_number(64_516), None);
+    assert!(rt; FileId::of_words(255, 1) == None);
+    assert!(rt; FileId::of_words(254, 254).map(|id| id.number()) == Some(64_515));
+    assert!(rt; FileId::of_number(64_516) == None);
     Ok(())
 }
 
@@ -222,12 +219,12 @@ fn finder_patterns_up_to_an_eighth(rt: HostRuntime) -> Result<(), Fail> {
         label.flip(0, column);
     }
     let opened = open_label(rt.alloc(), &label)?;
-    assert_eq!(rt; (opened.corrected, opened.wrong), (0, 5));
-    assert_eq!(rt; opened.page.bytes(), b"12".as_slice());
+    assert!(rt; (opened.corrected, opened.wrong) == (0, 5));
+    assert!(rt; opened.page.bytes() == b"12".as_slice());
     assert!(rt; label.side() == 12);
     label.flip(0, 5);
     let fault = open_label(rt.alloc(), &label).err();
-    assert_eq!(rt; fault, Some(LabelFault::Border { wrong: 6 }));
+    assert!(rt; fault == Some(LabelFault::Border { wrong: 6 }));
     Ok(())
 }
 
@@ -262,8 +259,8 @@ fn words_up_to_the_limit(rt: HostRuntime) -> Result<(), Fail> {
     label.flip(r1 + 1, c1 + 1);
     label.flip(r2 + 1, c2 + 1);
     let opened = open_label(rt.alloc(), &label)?;
-    assert_eq!(rt; (opened.corrected, opened.wrong), (3, 0));
-    assert_eq!(rt; opened.page.bytes(), b"12".as_slice());
+    assert!(rt; (opened.corrected, opened.wrong) == (3, 0));
+    assert!(rt; opened.page.bytes() == b"12".as_slice());
     Ok(())
 }
 
@@ -327,21 +324,15 @@ fn opens_damaged<A: Allocator + Copy>(
     let count = fit(scheme, text, size.data_words() - 4);
     assert!(rt; count < text.len());
     let fault = sealed(rt, alloc, 16, 16, &text[..count + 1], size, scheme).err();
-    assert_eq!(rt; fault, Some(SealFault::TooLong));
+    assert!(rt; fault == Some(SealFault::TooLong));
     let grid = worn(rt, alloc, size, scheme, &text[..count])?;
     let opened = open_label(alloc, &grid);
     assert!(rt; opened.is_ok());
     if let Ok(opened) = opened {
-        assert_eq!(rt;
-            size.limit().checked_mul(size.blocks()),
-            Some(opened.corrected as usize)
-        );
-        assert_eq!(rt; opened.wrong as u64, most_wrong(size));
-        assert_eq!(rt;
-            (opened.page.id().number(), opened.page.m(), opened.page.n()),
-            (0, 16, 16)
-        );
-        assert_eq!(rt; opened.page.bytes(), &text[..count]);
+        assert!(rt; size.limit().checked_mul(size.blocks()) == Some(opened.corrected as usize));
+        assert!(rt; (opened.wrong as u64) == most_wrong(size));
+        assert!(rt; (opened.page.id().number(), opened.page.m(), opened.page.n()) == (0, 16, 16));
+        assert!(rt; opened.page.bytes() == &text[..count]);
     }
     Ok(())
 }
@@ -375,7 +366,7 @@ fn identifications_are_ordered_by_number(rt: HostRuntime) -> Result<(), Fail> {
     for one in numbers {
         for other in numbers {
             let order = FileId::of_number(one).cmp(&FileId::of_number(other));
-            assert_eq!(rt; order, one.cmp(&other));
+            assert!(rt; order == one.cmp(&other));
         }
     }
     Ok(())
@@ -390,10 +381,7 @@ fn one_layout_serves_many_labels(rt: HostRuntime) -> Result<(), Fail> {
         let page = Page::new(id, m, 2, bytes).ok_or("a page")?;
         let label = seal_with(rt.alloc(), &page, &layout, Scheme::C40)?;
         assert!(rt; words_of(rt.alloc(), &label)?.starts_with(&words));
-        assert_eq!(rt;
-            open_label(rt.alloc(), &label)?.page.bytes(),
-            b"AIM".as_slice()
-        );
+        assert!(rt; open_label(rt.alloc(), &label)?.page.bytes() == b"AIM".as_slice());
     }
     Ok(())
 }
@@ -417,7 +405,7 @@ fn faults_say_what_is_wrong(rt: HostRuntime) -> Result<(), Fail> {
         ),
         (LabelFault::Memory, "out of memory"),
     ] {
-        assert_eq!(rt; format!(in rt.alloc(); "{fault}")?.as_str(), text);
+        assert!(rt; format!(in rt.alloc(); "{fault}")?.as_str() == text);
     }
     Ok(())
 }
@@ -432,21 +420,21 @@ fn faults_of_heads_and_pages_say_what_is_wrong(rt: HostRuntime) -> Result<(), Fa
         ),
         (HeadFault::FileId, "the file identification is invalid"),
     ] {
-        assert_eq!(rt; format!(in rt.alloc(); "{fault}")?.as_str(), text);
+        assert!(rt; format!(in rt.alloc(); "{fault}")?.as_str() == text);
         let page = PageFault::Head(fault);
-        assert_eq!(rt; format!(in rt.alloc(); "{page}")?.as_str(), text);
+        assert!(rt; format!(in rt.alloc(); "{page}")?.as_str() == text);
     }
     let text = format!(in rt.alloc(); "{}", DecodeFault::Cut { at: 3 })?;
     let page = format!(in rt.alloc(); "{}", PageFault::Content(DecodeFault::Cut { at: 3 }))?;
     let label = format!(in rt.alloc(); "{}", LabelFault::Content(DecodeFault::Cut { at: 3 }))?;
-    assert_eq!(rt; page.as_str(), text.as_str());
-    assert_eq!(rt; label.as_str(), text.as_str());
+    assert!(rt; page.as_str() == text.as_str());
+    assert!(rt; label.as_str() == text.as_str());
     let text = format!(in rt.alloc(); "{}", PageFault::Memory)?;
-    assert_eq!(rt; text.as_str(), "out of memory");
+    assert!(rt; text.as_str() == "out of memory");
     let text = format!(in rt.alloc(); "{}", SealFault::Memory)?;
-    assert_eq!(rt; text.as_str(), "out of memory");
+    assert!(rt; text.as_str() == "out of memory");
     let text = format!(in rt.alloc(); "{}", SealFault::TooLong)?;
-    assert_eq!(rt; text.as_str(), "the page does not fit a label of this size");
+    assert!(rt; text.as_str() == "the page does not fit a label of this size");
     Ok(())
 }
 
@@ -456,9 +444,6 @@ fn a_document_without_parts_says_what_is_wrong(rt: HostRuntime) -> Result<(), Fa
         return Err("a label of side 10".into());
     };
     let text = format!(in rt.alloc(); "{fault}")?;
-    assert_eq!(rt;
-        text.as_str(),
-        "the document does not fit sixteen labels of this size"
-    );
+    assert!(rt; text.as_str() == "the document does not fit sixteen labels of this size");
     Ok(())
 }

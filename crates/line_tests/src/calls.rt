@@ -12,8 +12,8 @@ const DEFAULT: Command = Command::Words {
 // Without a command, or without options, the defaults stand; a number may have a sign or zeros before it.
 #[test]
 fn takes_a_line(rt: HostRuntime) -> Result<(), Fail> {
-    assert_eq!(rt; command_line(rt.alloc(), &["relay"])?, DEFAULT);
-    assert_eq!(rt; command_line(rt.alloc(), &["relay", "words"])?, DEFAULT);
+    assert!(rt; command_line(rt.alloc(), &["relay"])? == DEFAULT);
+    assert!(rt; command_line(rt.alloc(), &["relay", "words"])? == DEFAULT);
     let drawn = Command::Draw {
         side: 18,
         scheme: Scheme::Text,
@@ -22,22 +22,16 @@ fn takes_a_line(rt: HostRuntime) -> Result<(), Fail> {
     let line = [
         "relay", "draw", "--plain", "--scheme", "text", "--side", "18",
     ];
-    assert_eq!(rt; command_line(rt.alloc(), &line)?, drawn);
-    assert_eq!(rt;
-        command_line(rt.alloc(), &["relay", "read"])?,
-        Command::Read
-    );
-    assert_eq!(rt;
-        command_line(rt.alloc(), &["relay", "world"])?,
-        Command::World
-    );
+    assert!(rt; command_line(rt.alloc(), &line)? == drawn);
+    assert!(rt; command_line(rt.alloc(), &["relay", "read"])? == Command::Read);
+    assert!(rt; command_line(rt.alloc(), &["relay", "world"])? == Command::World);
     for side in ["--side=12", "--side=012", "--side=+12"] {
         let line = ["relay", "words", "--scheme", "ascii", side];
         let wanted = Command::Words {
             side: 12,
             scheme: Scheme::Ascii,
         };
-        assert_eq!(rt; command_line(rt.alloc(), &line)?, wanted, "{side}");
+        assert!(rt; command_line(rt.alloc(), &line)? == wanted, "{side}");
     }
     Ok(())
 }
@@ -54,7 +48,7 @@ fn takes_a_line_of_a_ledger(rt: HostRuntime) -> Result<(), Fail> {
         first: 0,
         last: 9,
     };
-    assert_eq!(rt; command_line(rt.alloc(), &line)?, wanted);
+    assert!(rt; command_line(rt.alloc(), &line)? == wanted);
     let line = [
         "relay", "print", "--file=f", "--side", "12", "--number", "65535",
     ];
@@ -64,7 +58,7 @@ fn takes_a_line_of_a_ledger(rt: HostRuntime) -> Result<(), Fail> {
         side: 12,
         scheme: Scheme::Ascii,
     };
-    assert_eq!(rt; command_line(rt.alloc(), &line)?, wanted);
+    assert!(rt; command_line(rt.alloc(), &line)? == wanted);
     Ok(())
 }
 
@@ -81,14 +75,14 @@ fn takes_a_line_of_a_ticket(rt: HostRuntime) -> Result<(), Fail> {
         first: 3,
         last: 4,
     };
-    assert_eq!(rt; command_line(rt.alloc(), &line)?, wanted);
+    assert!(rt; command_line(rt.alloc(), &line)? == wanted);
     let line = ["relay", "take", "--file", "f", "--number", "1", "--ticket="];
     let wanted = Command::Take {
         file: "f",
         number: 1,
         ticket: "",
     };
-    assert_eq!(rt; command_line(rt.alloc(), &line)?, wanted);
+    assert!(rt; command_line(rt.alloc(), &line)? == wanted);
     Ok(())
 }
 
@@ -119,7 +113,7 @@ fn takes_a_line_of_a_desk(rt: HostRuntime) -> Result<(), Fail> {
         ),
     ];
     for (line, wanted) in lines {
-        assert_eq!(rt; command_line(rt.alloc(), line)?, wanted);
+        assert!(rt; command_line(rt.alloc(), line)? == wanted);
     }
     Ok(())
 }
@@ -136,7 +130,7 @@ fn refused(line: &[&str], alloc: Global) -> Option<(String, u8)> {
 fn all_are_refused(rt: &impl Abort, alloc: Global, lines: &[&[&str]]) -> Result<(), Fail> {
     for line in lines {
         let (text, status) = refused(line, alloc).ok_or("the line was taken")?;
-        assert_eq!(rt; status, 2, "{text}");
+        assert!(rt; status == 2, "{text}");
         assert!(rt; text.as_str().starts_with("error: "), "{text}");
     }
     Ok(())
@@ -197,7 +191,7 @@ fn refuses_a_line_of_printers(rt: HostRuntime) -> Result<(), Fail> {
 #[test]
 fn helps(rt: HostRuntime) -> Result<(), Fail> {
     let (text, status) = refused(&["relay", "--help"], rt.alloc()).ok_or("no help")?;
-    assert_eq!(rt; status, 0);
+    assert!(rt; status == 0);
     assert!(rt; text.as_str().contains("Usage: relay [COMMAND]"), "{text}");
     for line in text.as_str().lines() {
         assert!(rt; line.chars().count() <= 80, "{line}");
@@ -208,7 +202,7 @@ fn helps(rt: HostRuntime) -> Result<(), Fail> {
     ] {
         let line = ["relay", command, "--help"];
         let (text, status) = refused(&line, rt.alloc()).ok_or("no help")?;
-        assert_eq!(rt; status, 0);
+        assert!(rt; status == 0);
         assert!(rt; text.as_str().contains("\nExample:\n"), "{text}");
         for line in text.as_str().lines() {
             assert!(rt; line.chars().count() <= 80, "{line}");

@@ -5,6 +5,7 @@ ghost use Rattle.dm_encodation.specs.declared.scheme.Scheme.{Scheme};
 ghost use Rattle.relay_line.specs.Line.{scheme_name};
 
 use crate::help;
+use clap::builder::ValueParser;
 use clap::{Arg, ArgAction, Command, value_parser};
 use dm_encodation::Scheme;
 use std::alloc::{AllocError, Global};
@@ -14,7 +15,9 @@ static SCHEMES: [&str; 4] = ["ascii", "c40", "text", "base256"];
 
 /// The encodation of a name, if it is one of `SCHEMES`.
 pub fn scheme_of(name: &str) -> Option<Scheme>
-    ensures { MatchOption result ((scheme : Scheme) → name.now ≢ scheme_name scheme) (λ scheme. name.now ≡ scheme_name scheme) }
+    ensures { MatchOption result
+        ((scheme : Scheme) → name.now ≢ scheme_name scheme)
+        (λ scheme. name.now ≡ scheme_name scheme) }
 {
     match name {
         "ascii" => Some(Scheme::Ascii),
@@ -30,7 +33,7 @@ fn side<'a>(alloc: Global) -> Arg<'a> {
         .long("side")
         .value_name("SIDE")
         .help(help::SIDE)
-        .value_parser(value_parser!(u16).range(10..=132))
+        .value_parser(ValueParser::Signed(10, 132))
 }
 
 fn scheme<'a>(alloc: Global) -> Arg<'a> {

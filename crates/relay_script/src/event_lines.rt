@@ -42,7 +42,8 @@ pub(crate) fn event_of<A: Allocator + Copy>(
 
 fn print<A: Allocator + Copy>(alloc: A, words: &[&str]) -> Result<Event<A>, ScriptFault>
     ensures spelled { IfOk result (SpellsEvent words.now) }
-    ensures no_print { IsErrOf result ScriptFault.Script → (printer : ℕ) → (document : List ℕ) → (size : Size) → (scheme : Scheme) → (stop : Stop)
+    ensures no_print { IsErrOf result ScriptFault.Script
+        → (printer : ℕ) → (document : List ℕ) → (size : Size) → (scheme : Scheme) → (stop : Stop)
         → ¬ SpellsPrint words.now printer document size scheme stop }
 {
     let ["print", printer, side, scheme, document, end] = *words else {

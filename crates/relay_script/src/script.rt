@@ -80,8 +80,10 @@ fn read_ranges<A: Allocator + Copy>(alloc: A, lines: &[&str]) -> Result<Vec<Rang
     ensures few { IfOk result (λ ranges. length ranges.items ≤ 64) }
     ensures next { IfOk result (λ ranges. length ranges.items < length lines.now
         → Nothing (SpellsRange (slice_index_or (map (λ line. line.now) lines.now) (length ranges.items) []))) }
-    ensures no_ranges { IsErrOf result ScriptFault.Script → (range_lines event_lines : List (List ℕ)) → (desks_line : List ℕ) → (ranges : List Range)
-        → map (λ line. line.now) lines.now ≡ range_lines ++ desks_line ∷ event_lines → AllZip SpellsRange range_lines ranges
+    ensures no_ranges { IsErrOf result ScriptFault.Script
+        → (range_lines event_lines : List (List ℕ)) → (desks_line : List ℕ) → (ranges : List Range)
+        → map (λ line. line.now) lines.now ≡ range_lines ++ desks_line ∷ event_lines
+        → AllZip SpellsRange range_lines ranges
         → 1 ≤ length range_lines → length range_lines ≤ 64 → ¬ Nothing (SpellsRange desks_line) }
 {
     let mut ranges = Vec::new(alloc);

@@ -16,6 +16,3 @@ mod output;
 pub use fault::{InputFault, ReadFault, WriteFault};
 pub use input::{Input, next_byte_of};
 pub use output::{Output, put_to};
-
-#[cfg(test)]
-mod tests;

@@ -29,9 +29,8 @@ fn a_replace_of_a_file_fails_with_its_device(rt: HostRuntime) -> Result<(), Fail
             assert!(rt; is_new && answer == Ok(()), "{calls}");
         }
     }
-    assert_eq!(rt;
-        faults,
-        6,
+    assert!(rt;
+        faults == 6,
         "open, write, sync, rename, open the folder, sync it"
     );
     fs::remove_dir_all(&rt, folder.as_str())?;
@@ -48,7 +47,7 @@ fn a_load_of_a_file_fails_with_its_device(rt: HostRuntime) -> Result<(), Fail> {
         let faulty = FailingFiles::new(rt.clone()?, calls);
         let mut store = FileStore::new(rt.alloc(), &faulty, path.clone()?);
         if let Err(fault) = store.load(9) {
-            assert_eq!(rt; fault, LoadFault::Device, "{calls}");
+            assert!(rt; fault == LoadFault::Device, "{calls}");
             faults = faults.saturating_add(1);
             run(&rt, &mut store, &[Call::Load(9, Ok(Some(b"one")))]);
         }
@@ -73,13 +72,12 @@ fn a_replace_of_a_set_fails_with_its_device(rt: HostRuntime) -> Result<(), Fail>
             faults = faults.saturating_add(1);
             run_set(&rt, &mut set, &[SetCall::Replace(1, b"one", Ok(()))]);
         } else {
-            assert_eq!(rt; answer, Ok(()), "{calls}");
+            assert!(rt; answer == Ok(()), "{calls}");
         }
         run_set(&rt, &mut set, &[SetCall::Load(1, 9, Ok(Some(b"one")))]);
     }
-    assert_eq!(rt;
-        faults,
-        9,
+    assert!(rt;
+        faults == 9,
         "make the folder, open the one above, sync it, and the six of a file"
     );
     fs::remove_dir_all(&rt, above.as_str())?;
@@ -105,12 +103,12 @@ fn other_calls_of_a_set_fail_with_its_device(rt: HostRuntime) -> Result<(), Fail
         let failing = FailingFiles::new(rt.clone()?, calls);
         let files = (&failing, rt.alloc());
         if let Err(fault) = FileSet::new(rt.alloc(), &files, folder.clone()?).keys(9) {
-            assert_eq!(rt; fault, LoadFault::Device);
+            assert!(rt; fault == LoadFault::Device);
             lists = lists.saturating_add(1);
         }
     }
-    assert_eq!(rt; removes, 3, "remove, open the folder, sync it");
-    assert_eq!(rt; lists, 1, "open the folder");
+    assert!(rt; removes == 3, "remove, open the folder, sync it");
+    assert!(rt; lists == 1, "open the folder");
     fs::remove_dir_all(&rt, folder.as_str())?;
     Ok(())
 }

@@ -174,9 +174,9 @@ fn a_set_fails_at_each_load_while_it_is_set_to(rt: HostRuntime) {
 fn a_fault_says_what_it_is(rt: HostRuntime) -> Result<(), Fail> {
     let (device, memory) = (ReplaceFault::Device, LoadFault::Memory);
     let text = format!(in rt.alloc(); "{device}, {memory}")?;
-    assert_eq!(rt; text.as_str(), "the device failed, out of memory");
+    assert!(rt; text.as_str() == "the device failed, out of memory");
     let fault = RemoveFault::Device;
     let text = format!(in rt.alloc(); "{fault}")?;
-    assert_eq!(rt; text.as_str(), "the device failed");
+    assert!(rt; text.as_str() == "the device failed");
     Ok(())
 }

@@ -153,7 +153,7 @@ fn a_folder_gives_what_was_saved(rt: HostRuntime) -> Result<(), Fail> {
         ],
     );
     let bytes = fs::read(&rt, file.as_str())?;
-    assert_eq!(rt; bytes.as_slice(), b"again".as_slice());
+    assert!(rt; bytes.as_slice() == b"again".as_slice());
     fs::remove_dir_all(&rt, above.as_str())?;
     Ok(())
 }

@@ -20,13 +20,13 @@ fn a_replace_of_a_file_syncs_the_file_and_its_folder(rt: HostRuntime) -> Result<
     for bytes in [b"one".as_slice(), b"two".as_slice()] {
         store.replace(bytes)?;
         let noted = files.noted()?;
-        assert_eq!(rt;
-            noted.as_str(),
-            "open ledger.new\nwrite ledger.new\nwrite ledger.new\nsync ledger.new\n\
+        assert!(rt;
+            noted.as_str()
+                == "open ledger.new\nwrite ledger.new\nwrite ledger.new\nsync ledger.new\n\
              rename ledger.new\nto ledger\nopen pages\nsync pages\n"
         );
         run(&rt, &mut store, &[Call::Load(9, Ok(Some(bytes)))]);
-        assert_eq!(rt; files.noted()?.as_str(), "open ledger\n");
+        assert!(rt; files.noted()?.as_str() == "open ledger\n");
     }
     fs::remove_dir_all(&rt, above.as_str())?;
     Ok(())
@@ -42,19 +42,16 @@ fn a_set_syncs_each_folder_that_it_changes(rt: HostRuntime) -> Result<(), Fail> 
     let files = (&noting, rt.alloc());
     let mut set = FileSet::new(rt.alloc(), &files, folder);
     set.replace(1, b"one")?;
-    assert_eq!(rt;
-        noting.noted()?.as_str(),
-        "make pages\nopen shelf\nsync shelf\n\
+    assert!(rt;
+        noting.noted()?.as_str()
+            == "make pages\nopen shelf\nsync shelf\n\
          open 0001.new\nwrite 0001.new\nwrite 0001.new\nsync 0001.new\n\
          rename 0001.new\nto 0001\nopen pages\nsync pages\n"
     );
     run_set(&rt, &mut set, &[SetCall::Load(1, 9, Ok(Some(b"one")))]);
-    assert_eq!(rt; noting.noted()?.as_str(), "open 0001\n");
+    assert!(rt; noting.noted()?.as_str() == "open 0001\n");
     set.remove(1)?;
-    assert_eq!(rt;
-        noting.noted()?.as_str(),
-        "remove 0001\nopen pages\nsync pages\n"
-    );
+    assert!(rt; noting.noted()?.as_str() == "remove 0001\nopen pages\nsync pages\n");
     fs::remove_dir_all(&rt, above.as_str())?;
     Ok(())
 }

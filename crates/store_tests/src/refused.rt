@@ -22,9 +22,8 @@ fn a_replace_of_a_store_is_refused(rt: HostRuntime) -> Result<(), Fail> {
         store.set_next(NextSave::FaultNew);
         if store.replace(b"one") == Err(ReplaceFault::Memory) {
             assert!(rt; memory.is_spent() && holds(store.content(), None));
-            assert_eq!(rt;
-                store.replace(b"one"),
-                Err(ReplaceFault::Device),
+            assert!(rt;
+                store.replace(b"one") == Err(ReplaceFault::Device),
                 "the setting stands"
             );
         }
@@ -44,7 +43,7 @@ fn a_load_of_a_store_is_refused(rt: HostRuntime) -> Result<(), Fail> {
         let mut store = MemStore::new(&memory);
         store.replace(b"one")?;
         if let Err(fault) = store.load(9) {
-            assert_eq!(rt; (fault, memory.is_spent()), (LoadFault::Memory, true));
+            assert!(rt; (fault, memory.is_spent()) == (LoadFault::Memory, true));
             run(&rt, &mut store, &[Call::Load(9, Ok(Some(b"one")))]);
         }
         if !memory.is_spent() {
@@ -84,7 +83,7 @@ fn a_load_of_a_set_is_refused(rt: HostRuntime) -> Result<(), Fail> {
         }
         let loaded = set.load(1, 9).is_ok();
         let listed = set.keys(9).is_ok();
-        assert_eq!(rt; memory.is_spent(), !(loaded && listed));
+        assert!(rt; memory.is_spent() == !(loaded && listed));
         if !memory.is_spent() {
             return Ok(());
         }
@@ -137,7 +136,7 @@ fn an_insert_into_a_map_is_refused(rt: HostRuntime) -> Result<(), Fail> {
             }
         }
         let listed = map.first_keys(&memory, 99).is_ok();
-        assert_eq!(rt; map.len(), 40);
+        assert!(rt; map.len() == 40);
         if !memory.is_spent() {
             assert!(rt; listed && passes > 1);
             return Ok(());
@@ -158,13 +157,13 @@ fn a_call_of_a_file_is_refused(rt: HostRuntime) -> Result<(), Fail> {
         let held: &[u8] = match store.replace(b"two") {
             Ok(()) => b"two",
             Err(fault) => {
-                assert_eq!(rt; (fault, memory.is_spent()), (ReplaceFault::Memory, true));
+                assert!(rt; (fault, memory.is_spent()) == (ReplaceFault::Memory, true));
                 b"one"
             }
         };
-        assert_eq!(rt; fs::read(&rt, path.as_str())?.as_slice(), held);
+        assert!(rt; fs::read(&rt, path.as_str())?.as_slice() == held);
         if let Err(fault) = store.load(9) {
-            assert_eq!(rt; (fault, memory.is_spent()), (LoadFault::Memory, true));
+            assert!(rt; (fault, memory.is_spent()) == (LoadFault::Memory, true));
         }
         if !memory.is_spent() {
             fs::remove_dir_all(&rt, folder.as_str())?;
@@ -183,20 +182,20 @@ fn a_call_of_a_folder_is_refused(rt: HostRuntime) -> Result<(), Fail> {
         let memory = Refusing::new(rt.alloc(), passes);
         let mut set = FileSet::new(&memory, &rt, String::from_str(&memory, folder.as_str())?);
         let replaced = set.replace(1, b"one");
-        assert_eq!(rt; fs::exists(&rt, folder.as_str())?, replaced.is_ok());
+        assert!(rt; fs::exists(&rt, folder.as_str())? == replaced.is_ok());
         if let Err(fault) = replaced {
-            assert_eq!(rt; (fault, memory.is_spent()), (ReplaceFault::Memory, true));
+            assert!(rt; (fault, memory.is_spent()) == (ReplaceFault::Memory, true));
         } else if let Err(fault) = set.keys(9) {
-            assert_eq!(rt; (fault, memory.is_spent()), (LoadFault::Memory, true));
+            assert!(rt; (fault, memory.is_spent()) == (LoadFault::Memory, true));
         } else if let Err(fault) = set.load(1, 9) {
-            assert_eq!(rt; (fault, memory.is_spent()), (LoadFault::Memory, true));
+            assert!(rt; (fault, memory.is_spent()) == (LoadFault::Memory, true));
         } else {
             let removed = set.remove(1);
             if let Err(fault) = removed {
-                assert_eq!(rt; (fault, memory.is_spent()), (RemoveFault::Memory, true));
+                assert!(rt; (fault, memory.is_spent()) == (RemoveFault::Memory, true));
             }
             let file = format!(in rt.alloc(); "{folder}/0001")?;
-            assert_eq!(rt; fs::exists(&rt, file.as_str())?, removed.is_err());
+            assert!(rt; fs::exists(&rt, file.as_str())? == removed.is_err());
         }
         if !memory.is_spent() {
             fs::remove_dir_all(&rt, above.as_str())?;

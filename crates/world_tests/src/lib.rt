@@ -1,4 +1,4 @@
-//! Tests of worlds: scripts with known lines, the same events by calls, each stop of a print and of a scan, each growth
+//! Tests of worlds: scripts with known lines, the same events by calls, each stop of each call that saves, each growth
 //! refused in turn, and 10,000 scripts that a generator makes.
 #![tactic(auto)]
 
@@ -12,5 +12,7 @@ mod runs;
 mod scripts;
 #[cfg(test)]
 mod shuffled;
+#[cfg(test)]
+mod stopped_calls;
 #[cfg(test)]
 mod stops;

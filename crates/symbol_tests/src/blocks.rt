@@ -1,4 +1,6 @@
-use crate::{Size, block_word, checks_of, complete};
+//! Sizes, and the words of a symbol in their blocks.
+
+use dm_check_blocks::{Size, block_word, checks_of, complete};
 use std::alloc::Global;
 use std::test::Fail;
 
@@ -15,7 +17,7 @@ fn the_sides_are_those_of_the_standard(rt: HostRuntime) {
         } else {
             None
         };
-        assert_eq!(rt; found, wanted, "side {side}");
+        assert!(rt; found == wanted, "side {side}");
     }
 }
 
@@ -23,30 +25,25 @@ fn the_sides_are_those_of_the_standard(rt: HostRuntime) {
 #[test]
 fn the_row_of_side_52(rt: HostRuntime) {
     let size = Size::Side52;
-    assert_eq!(rt;
+    assert!(rt;
         (
             size.data_words(),
             size.check_words(),
             size.blocks(),
             size.limit()
-        ),
-        (204, 84, 2, 21)
+        ) == (204, 84, 2, 21)
     );
-    assert_eq!(rt;
-        (size.region(), size.regions(), size.across(), size.mapping()),
-        (24, 4, 2, 48)
-    );
-    assert_eq!(rt;
+    assert!(rt; (size.region(), size.regions(), size.across(), size.mapping()) == (24, 4, 2, 48));
+    assert!(rt;
         (
             size.all_words(),
             size.block_data(),
             size.block_checks(),
             size.block_length()
-        ),
-        (288, 102, 42, 144)
+        ) == (288, 102, 42, 144)
     );
-    assert_eq!(rt; block_word(size, 1, 0), 1);
-    assert_eq!(rt; block_word(size, 1, 102), 205);
+    assert!(rt; block_word(size, 1, 0) == 1);
+    assert!(rt; block_word(size, 1, 102) == 205);
 }
 
 // The words of the symbol of a message that is as long as the size asks.
@@ -63,12 +60,9 @@ fn completes_the_worked_example(rt: HostRuntime) -> Result<(), Fail> {
     let message = [142, 164, 186];
     let mut checks = [0; 5];
     checks_of(&message, &mut checks);
-    assert_eq!(rt; checks, [114, 25, 5, 88, 102]);
+    assert!(rt; checks == [114, 25, 5, 88, 102]);
     let words = completed(rt.alloc(), Size::Side10, &message)?;
-    assert_eq!(rt;
-        words.as_slice(),
-        [142, 164, 186, 114, 25, 5, 88, 102].as_slice()
-    );
+    assert!(rt; words.as_slice() == [142, 164, 186, 114, 25, 5, 88, 102].as_slice());
     Ok(())
 }
 
@@ -78,10 +72,10 @@ fn the_last_data_word_changes_its_own_block(rt: HostRuntime) -> Result<(), Fail>
     let mut message = [0u8; 204];
     message[203] = 1;
     let words = completed(rt.alloc(), Size::Side52, &message)?;
-    assert_eq!(rt; words.len(), 288);
+    assert!(rt; words.len() == 288);
     for (at, word) in words.iter().enumerate() {
         let is_of_block_1 = at == 203 || at > 203 && at % 2 == 1;
-        assert_eq!(rt; *word != 0, is_of_block_1, "position {at}");
+        assert!(rt; (*word != 0) == is_of_block_1, "position {at}");
     }
     Ok(())
 }

@@ -1,58 +1,15 @@
-//! Worked rows, and readers and writers that fail in mid-stream or are interrupted.
+//! Images read and written: worked rows, and streams that fail in mid-stream or are interrupted.
 
 ghost use Rattle.std.specs.Prelude.{◌≡◌, ◌*◌, IfOk, length};
 
-use crate::{Image, PbmFault, ShapeFault, grid_of, image_of, read_image, write_image};
+use crate::failing::{FailingReader, FailingWriter, InterruptedReader};
 use dm_finder_frame::Grid;
+use dm_pbm_io::{Image, PbmFault, ShapeFault, grid_of, image_of, read_image, write_image};
 use relay_streams::{Input, Output};
 use std::alloc::{AllocError, Global};
 use std::io;
-use std::io::{Error, ErrorKind, Read, Write};
+use std::io::Read;
 use std::test::Fail;
-
-/// Gives its bytes one at a time, and fails after `passes` of them.
-#[derive(Drop)]
-struct FailingReader<'a> {
-    bytes: &'a [u8],
-    passes: usize,
-}
-
-impl Read for FailingReader<'_> {
-    fn read(&mut self, buf: &mut [u8]) -> io::Result<usize> {
-        if self.passes == 0 {
-            return Err(Error::from(ErrorKind::Other));
-        }
-        if buf.is_empty() || self.bytes.is_empty() {
-            return Ok(0);
-        }
-        buf[0] = self.bytes[0];
-        self.bytes = &self.bytes[1..];
-        self.passes -= 1;
-        Ok(1)
-    }
-}
-
-/// Gives its bytes one at a time, and is interrupted once before each of them and before its end.
-#[derive(Drop)]
-struct InterruptedReader<'a> {
-    bytes: &'a [u8],
-    rests: bool,
-}
-
-impl Read for InterruptedReader<'_> {
-    fn read(&mut self, buf: &mut [u8]) -> io::Result<usize> {
-        self.rests = !self.rests;
-        if self.rests {
-            return Err(Error::from(ErrorKind::Interrupted));
-        }
-        if buf.is_empty() || self.bytes.is_empty() {
-            return Ok(0);
-        }
-        buf[0] = self.bytes[0];
-        self.bytes = &self.bytes[1..];
-        Ok(1)
-    }
-}
 
 /// Gives its bytes, and then that many spaces.
 #[derive(Drop)]
@@ -77,33 +34,6 @@ impl Read for SpacesAfter<'_> {
         buf[0] = b' ';
         self.spaces -= 1;
         Ok(1)
-    }
-}
-
-/// Keeps what it takes, one byte at a time, and fails after `passes` of them.
-#[derive(Drop)]
-struct FailingWriter {
-    bytes: Vec<u8>,
-    passes: usize,
-}
-
-impl Write for FailingWriter {
-    fn write(&mut self, buf: &[u8]) -> io::Result<usize> {
-        if self.passes == 0 {
-            return Err(Error::from(ErrorKind::Other));
-        }
-        if buf.is_empty() {
-            return Ok(0);
-        }
-        if self.bytes.push(buf[0]).is_err() {
-            return Err(Error::from(ErrorKind::OutOfMemory));
-        }
-        self.passes -= 1;
-        Ok(1)
-    }
-
-    fn flush(&mut self) -> io::Result<()> {
-        Ok(())
     }
 }
 
@@ -153,14 +83,13 @@ fn refuses(rt: HostRuntime) {
         (b"P1 2 1\n1 #0\n", Some(PbmFault::Cut)),
     ];
     for (bytes, want) in rows {
-        assert_eq!(rt; fault_of(alloc, bytes), (want, false), "{bytes:?}");
+        assert!(rt; fault_of(alloc, bytes) == (want, false), "{bytes:?}");
         let interrupted = InterruptedReader {
             bytes,
             rests: false,
         };
-        assert_eq!(rt;
-            fault_of(alloc, interrupted),
-            (want, false),
+        assert!(rt;
+            fault_of(alloc, interrupted) == (want, false),
             "interrupted, {bytes:?}"
         );
     }
@@ -177,9 +106,8 @@ fn refuses_at_its_limits(rt: HostRuntime) {
     ];
     for (bytes, spaces, want) in rows {
         let reader = SpacesAfter { bytes, spaces };
-        assert_eq!(rt;
-            fault_of(alloc, reader),
-            (Some(want), false),
+        assert!(rt;
+            fault_of(alloc, reader) == (Some(want), false),
             "{spaces} spaces"
         );
     }
@@ -195,26 +123,24 @@ fn writes_and_reads(rt: HostRuntime) -> Result<(), Fail> {
         let image = small(alloc, plain)?;
         let mut bytes = Vec::new(alloc);
         write_image(&mut bytes, &image)?;
-        assert_eq!(rt; bytes.as_slice(), want, "plain {plain}");
+        assert!(rt; bytes.as_slice() == want, "plain {plain}");
         let mut output = Output::new(Vec::new(alloc));
         image.write(&mut output)?;
-        assert_eq!(rt; output.into_writer().as_slice(), want, "plain {plain}");
+        assert!(rt; output.into_writer().as_slice() == want, "plain {plain}");
         let mut rest = bytes.as_slice();
         let again = read_image(alloc, &mut rest)?.ok_or("no image")?;
-        assert_eq!(rt;
-            again.pixels.as_slice(),
-            image.pixels.as_slice(),
+        assert!(rt;
+            again.pixels.as_slice() == image.pixels.as_slice(),
             "plain {plain}"
         );
-        assert_eq!(rt; (again.width, again.height, again.plain), (10, 1, plain));
+        assert!(rt; (again.width, again.height, again.plain) == (10, 1, plain));
         let mut interrupted = Input::new(InterruptedReader {
             bytes: bytes.as_slice(),
             rests: false,
         });
         let again = Image::read(alloc, &mut interrupted)?.ok_or("no image")?;
-        assert_eq!(rt;
-            again.pixels.as_slice(),
-            image.pixels.as_slice(),
+        assert!(rt;
+            again.pixels.as_slice() == image.pixels.as_slice(),
             "plain {plain}"
         );
         assert!(rt; !interrupted.has_failed());
@@ -228,9 +154,9 @@ fn images_follow_one_another(rt: HostRuntime) -> Result<(), Fail> {
     let mut input = Input::new(b"P4 8 1\n\xffP4 1 2\n\x80\x00P1 1 1 1P".as_slice());
     for (width, height) in [(8, 1), (1, 2), (1, 1)] {
         let image = Image::read(alloc, &mut input)?.ok_or("no image")?;
-        assert_eq!(rt; (image.width, image.height), (width, height));
+        assert!(rt; (image.width, image.height) == (width, height));
     }
-    assert_eq!(rt; Image::read(alloc, &mut input).err(), Some(PbmFault::Magic));
+    assert!(rt; Image::read(alloc, &mut input).err() == Some(PbmFault::Magic));
     assert!(rt; Image::read(alloc, &mut input)?.is_none());
     assert!(rt; !input.has_failed());
     Ok(())
@@ -249,14 +175,13 @@ fn fails_in_mid_stream(rt: HostRuntime) -> Result<(), Fail> {
                 passes,
             };
             let fault = read_image(alloc, &mut bare).err();
-            assert_eq!(rt; fault, Some(PbmFault::Read), "bare reader, {passes}");
+            assert!(rt; fault == Some(PbmFault::Read), "bare reader, {passes}");
             let reader = FailingReader {
                 bytes: whole.as_slice(),
                 passes,
             };
-            assert_eq!(rt;
-                fault_of(alloc, reader),
-                (Some(PbmFault::Read), true),
+            assert!(rt;
+                fault_of(alloc, reader) == (Some(PbmFault::Read), true),
                 "{passes}"
             );
             let mut output = Output::new(FailingWriter {
@@ -267,7 +192,7 @@ fn fails_in_mid_stream(rt: HostRuntime) -> Result<(), Fail> {
             assert!(rt; output.has_failed(), "writer, {passes}");
             let written = output.into_writer().bytes;
             assert!(rt; whole.starts_with(&written), "writer, {passes}");
-            assert_eq!(rt; written.len(), passes, "writer, {passes}");
+            assert!(rt; written.len() == passes, "writer, {passes}");
         }
     }
     Ok(())
@@ -292,11 +217,11 @@ fn wide_rows_are_written(rt: HostRuntime) -> Result<(), Fail> {
     let mut packed = Vec::new(alloc);
     write_image(&mut packed, &black_row(alloc, 2_500, false)?)?;
     let (header, row) = packed.split_at(packed.len().min(10));
-    assert_eq!(rt; header, b"P4\n2500 1\n".as_slice());
-    assert_eq!(rt; row.len(), 313);
+    assert!(rt; header == b"P4\n2500 1\n".as_slice());
+    assert!(rt; row.len() == 313);
     let (full, last) = row.split_at(row.len().min(312));
     assert!(rt; full.iter().all(|byte| *byte == 0xff));
-    assert_eq!(rt; last, b"\xf0".as_slice());
+    assert!(rt; last == b"\xf0".as_slice());
     let rows: [(u16, &[u8], [usize; 2]); 4] = [
         (69, b"P1\n69 1\n", [69, 0]),
         (70, b"P1\n70 1\n", [70, 0]),
@@ -315,7 +240,7 @@ fn wide_rows_are_written(rt: HostRuntime) -> Result<(), Fail> {
         }
         let mut plain = Vec::new(alloc);
         write_image(&mut plain, &black_row(alloc, width, true)?)?;
-        assert_eq!(rt; plain.as_slice(), want.as_slice(), "{width} pixels");
+        assert!(rt; plain.as_slice() == want.as_slice(), "{width} pixels");
     }
     Ok(())
 }
@@ -356,19 +281,15 @@ fn draws_a_symbol_and_takes_it_back(rt: HostRuntime) -> Result<(), Fail> {
     for (plain, want) in [(true, DRAWN), (false, PACKED)] {
         let image = image_of(alloc, &grid, plain)?;
         let mut bytes = Vec::new(alloc);
-        assert_eq!(rt;
-            (image.pixels.len(), image.width, image.height),
-            (144, 12, 12)
-        );
+        assert!(rt; (image.pixels.len(), image.width, image.height) == (144, 12, 12));
         write_image(&mut bytes, &image)?;
-        assert_eq!(rt; bytes.as_slice(), want, "plain {plain}");
+        assert!(rt; bytes.as_slice() == want, "plain {plain}");
         let again = grid_of(alloc, &image)?;
         for r in 0..10u16 {
             for c in 0..10u16 {
                 assert!(rt; again.side() == 10 && grid.side() == 10);
-                assert_eq!(rt;
-                    again.module(r, c),
-                    grid.module(r, c),
+                assert!(rt;
+                    again.module(r, c) == grid.module(r, c),
                     "row {r}, column {c}"
                 );
             }
@@ -402,8 +323,8 @@ fn an_image_without_a_symbols_shape_is_refused(rt: HostRuntime) -> Result<(), Fa
 
 #[test]
 fn faults_are_named(rt: HostRuntime) {
-    assert_eq!(rt; PbmFault::TooLarge.name(), "TooLarge");
-    assert_eq!(rt; ShapeFault::Shape.name(), "Shape");
+    assert!(rt; PbmFault::TooLarge.name() == "TooLarge");
+    assert!(rt; ShapeFault::Shape.name() == "Shape");
 }
 
 #[test]
@@ -417,13 +338,13 @@ fn faults_say_what_is_wrong(rt: HostRuntime) -> Result<(), Fail> {
         (PbmFault::Read, "the input could not be read"),
         (PbmFault::Memory, "out of memory"),
     ] {
-        assert_eq!(rt; format!(in rt.alloc(); "{fault}")?.as_str(), text);
+        assert!(rt; format!(in rt.alloc(); "{fault}")?.as_str() == text);
     }
     for (fault, text) in [
         (ShapeFault::Shape, "the image has not the shape of a symbol"),
         (ShapeFault::Memory, "out of memory"),
     ] {
-        assert_eq!(rt; format!(in rt.alloc(); "{fault}")?.as_str(), text);
+        assert!(rt; format!(in rt.alloc(); "{fault}")?.as_str() == text);
     }
     Ok(())
 }

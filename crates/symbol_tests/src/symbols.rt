@@ -1,43 +1,30 @@
-use crate::{SymbolFault, SymbolReader, correct_grid, draw_symbol, draw_words, still_near};
+//! Whole symbols, drawn and read.
+
+use crate::worked::{MODULES, WORDS};
 use dm_check_blocks::Size;
 use dm_finder_frame::Grid;
+use dm_symbol::{SymbolFault, SymbolReader, correct_grid, draw_symbol, draw_words, still_near};
 use std::test::Fail;
-
-// The standard's own example: the digits 123456 in the smallest symbol, its data words and its check words.
-static WORDS: [u8; 8] = [142, 164, 186, 114, 25, 5, 88, 102];
-
-static MODULES: [[u8; 10]; 10] = [
-    *b"1010101010",
-    *b"1100101101",
-    *b"1100000100",
-    *b"1100011101",
-    *b"1100001000",
-    *b"1000001111",
-    *b"1110110000",
-    *b"1111011001",
-    *b"1001110100",
-    *b"1111111111",
-];
 
 #[test]
 #[tactic(auto, unfolding(dm_check_blocks::specs::Sizes::row))]
 fn data_words_are_drawn_and_read_again(rt: HostRuntime) -> Result<(), Fail> {
     let drawn = draw_symbol(rt.alloc(), Size::Side10, &WORDS[..3])?;
     let same = draw_words(rt.alloc(), Size::Side10, &WORDS)?;
-    assert_eq!(rt; drawn.size(), Size::Side10);
-    assert_eq!(rt; same.size(), Size::Side10);
+    assert!(rt; drawn.size() == Size::Side10);
+    assert!(rt; same.size() == Size::Side10);
     for row in 0..10u16 {
         for column in 0..10u16 {
             let dark = MODULES[row as usize][column as usize] == b'1';
-            assert_eq!(rt; drawn.module(row, column), dark);
-            assert_eq!(rt; same.module(row, column), dark);
+            assert!(rt; drawn.module(row, column) == dark);
+            assert!(rt; same.module(row, column) == dark);
         }
     }
     let symbol = correct_grid(rt.alloc(), &drawn)?;
-    assert_eq!(rt; symbol.size(), Size::Side10);
-    assert_eq!(rt; symbol.words(), WORDS.as_slice());
-    assert_eq!(rt; symbol.data(), &WORDS[..3]);
-    assert_eq!(rt; (symbol.corrected(), symbol.wrong()), (0, 0));
+    assert!(rt; symbol.size() == Size::Side10);
+    assert!(rt; symbol.words() == WORDS.as_slice());
+    assert!(rt; symbol.data() == &WORDS[..3]);
+    assert!(rt; (symbol.corrected(), symbol.wrong()) == (0, 0));
     Ok(())
 }
 
@@ -50,26 +37,23 @@ fn worn_grids_are_corrected_or_refused(rt: HostRuntime) -> Result<(), Fail> {
     let flips = [(2, 2), (6, 6), (0, 1), (9, 3)];
     let worn = drawn.with_flips(rt.alloc(), &flips)?;
     let symbol = reader.read(rt.alloc(), &worn)?;
-    assert_eq!(rt; symbol.words(), WORDS.as_slice());
-    assert_eq!(rt; (symbol.corrected(), symbol.wrong()), (2, 2));
+    assert!(rt; symbol.words() == WORDS.as_slice());
+    assert!(rt; (symbol.corrected(), symbol.wrong()) == (2, 2));
     assert!(rt; still_near(rt.alloc(), &drawn, &flips)?);
     // A symbol of another size follows, and then the first again.
     let zeros = draw_words(rt.alloc(), Size::Side12, &[0; 12])?;
-    assert_eq!(rt;
-        reader.read(rt.alloc(), &zeros)?.words(),
-        [0; 12].as_slice()
-    );
-    assert_eq!(rt; reader.read(rt.alloc(), &drawn)?.words(), WORDS.as_slice());
+    assert!(rt; reader.read(rt.alloc(), &zeros)?.words() == [0; 12].as_slice());
+    assert!(rt; reader.read(rt.alloc(), &drawn)?.words() == WORDS.as_slice());
     // All modules light: 27 of the 36 on the frame are wrong.
     let light = Grid::of_modules(rt.alloc(), 10, &[false; 100])?;
     let fault = reader.read(rt.alloc(), &light).err();
-    assert_eq!(rt; fault, Some(SymbolFault::Border { wrong: 27 }));
+    assert!(rt; fault == Some(SymbolFault::Border { wrong: 27 }));
     // One module of each of four words.
     let flips = [(1, 1), (2, 2), (4, 4), (6, 6)];
     let spoiled = drawn.with_flips(rt.alloc(), &flips)?;
     assert!(rt; !still_near(rt.alloc(), &drawn, &flips)?);
     let fault = reader.read(rt.alloc(), &spoiled).err();
-    assert_eq!(rt; fault, Some(SymbolFault::Block { block: 0 }));
+    assert!(rt; fault == Some(SymbolFault::Block { block: 0 }));
     Ok(())
 }
 
@@ -86,7 +70,7 @@ fn faults_say_what_is_wrong(rt: HostRuntime) -> Result<(), Fail> {
         ),
         (SymbolFault::Memory, "out of memory"),
     ] {
-        assert_eq!(rt; format!(in rt.alloc(); "{fault}")?.as_str(), text);
+        assert!(rt; format!(in rt.alloc(); "{fault}")?.as_str() == text);
     }
     Ok(())
 }

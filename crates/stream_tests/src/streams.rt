@@ -1,80 +1,8 @@
-//! Readers and writers that fail in mid-stream, and a reader that is interrupted before each byte.
+//! Inputs and outputs over readers and writers that fail in mid-stream, and over one that is interrupted.
 
-use crate::{Input, InputFault, Output, ReadFault, WriteFault};
-use std::io;
-use std::io::{Error, ErrorKind, Read, Write};
+use crate::failing::{FailingReader, FailingWriter, InterruptedReader};
+use relay_streams::{Input, InputFault, Output, ReadFault, WriteFault};
 use std::test::Fail;
-
-/// Gives its bytes one at a time, and fails after `passes` of them.
-#[derive(Drop)]
-struct FailingReader<'a> {
-    bytes: &'a [u8],
-    passes: usize,
-}
-
-impl Read for FailingReader<'_> {
-    fn read(&mut self, buf: &mut [u8]) -> io::Result<usize> {
-        if self.passes == 0 {
-            return Err(Error::from(ErrorKind::Other));
-        }
-        if buf.is_empty() || self.bytes.is_empty() {
-            return Ok(0);
-        }
-        buf[0] = self.bytes[0];
-        self.bytes = &self.bytes[1..];
-        self.passes -= 1;
-        Ok(1)
-    }
-}
-
-/// Gives its bytes one at a time, and is interrupted once before each of them and before its end.
-#[derive(Drop)]
-struct InterruptedReader<'a> {
-    bytes: &'a [u8],
-    rests: bool,
-}
-
-impl Read for InterruptedReader<'_> {
-    fn read(&mut self, buf: &mut [u8]) -> io::Result<usize> {
-        self.rests = !self.rests;
-        if self.rests {
-            return Err(Error::from(ErrorKind::Interrupted));
-        }
-        if buf.is_empty() || self.bytes.is_empty() {
-            return Ok(0);
-        }
-        buf[0] = self.bytes[0];
-        self.bytes = &self.bytes[1..];
-        Ok(1)
-    }
-}
-
-/// Keeps what it takes, one byte at a time, and fails after `passes` of them.
-#[derive(Drop)]
-struct FailingWriter {
-    bytes: Vec<u8>,
-    passes: usize,
-}
-
-impl Write for FailingWriter {
-    fn write(&mut self, buf: &[u8]) -> io::Result<usize> {
-        if self.passes == 0 {
-            return Err(Error::from(ErrorKind::Other));
-        }
-        if buf.is_empty() {
-            return Ok(0);
-        }
-        if self.bytes.push(buf[0]).is_err() {
-            return Err(Error::from(ErrorKind::OutOfMemory));
-        }
-        self.passes -= 1;
-        Ok(1)
-    }
-
-    fn flush(&mut self) -> io::Result<()> {
-        Ok(())
-    }
-}
 
 const TEXT: &[u8] = b"relay";
 
@@ -91,8 +19,11 @@ fn a_failed_read_is_remembered(rt: HostRuntime) {
             } else {
                 Err(ReadFault::Read)
             };
-            assert_eq!(rt; input.next_byte(), want, "byte {at} of {passes}");
-            assert_eq!(rt; input.has_failed(), at >= passes, "byte {at} of {passes}");
+            assert!(rt; input.next_byte() == want, "byte {at} of {passes}");
+            assert!(rt;
+                input.has_failed() == (at >= passes),
+                "byte {at} of {passes}"
+            );
         }
     }
 }
@@ -104,16 +35,16 @@ fn an_interrupted_read_is_made_again(rt: HostRuntime) -> Result<(), Fail> {
         rests: false,
     });
     for byte in TEXT {
-        assert_eq!(rt; input.next_byte(), Ok(Some(*byte)));
+        assert!(rt; input.next_byte() == Ok(Some(*byte)));
     }
-    assert_eq!(rt; input.next_byte(), Ok(None));
+    assert!(rt; input.next_byte() == Ok(None));
     assert!(rt; !input.has_failed());
     let mut again = Input::new(InterruptedReader {
         bytes: TEXT,
         rests: false,
     });
     let all = again.read_up_to(rt.alloc(), 100)?;
-    assert_eq!(rt; all.as_slice(), TEXT);
+    assert!(rt; all.as_slice() == TEXT);
     assert!(rt; !again.has_failed());
     Ok(())
 }
@@ -127,10 +58,10 @@ fn the_first_bytes_are_read(rt: HostRuntime) -> Result<(), Fail> {
         });
         let first = input.read_up_to(rt.alloc(), limit)?;
         let after = input.read_up_to(rt.alloc(), 100)?;
-        assert_eq!(rt; first.len(), limit.min(TEXT.len()), "limit {limit}");
+        assert!(rt; first.len() == limit.min(TEXT.len()), "limit {limit}");
         assert!(rt; TEXT.starts_with(&first), "limit {limit}");
         assert!(rt; TEXT.ends_with(&after), "limit {limit}");
-        assert_eq!(rt; first.len() + after.len(), TEXT.len(), "limit {limit}");
+        assert!(rt; first.len() + after.len() == TEXT.len(), "limit {limit}");
         assert!(rt; !input.has_failed(), "limit {limit}");
     }
     Ok(())
@@ -147,11 +78,11 @@ fn the_first_bytes_of_a_failing_reader(rt: HostRuntime) -> Result<(), Fail> {
             match input.read_up_to(rt.alloc(), limit) {
                 Ok(first) => {
                     assert!(rt; limit <= passes && !input.has_failed());
-                    assert_eq!(rt; first.len(), limit);
+                    assert!(rt; first.len() == limit);
                     assert!(rt; TEXT.starts_with(&first));
                 }
                 Err(fault) => {
-                    assert_eq!(rt; fault, InputFault::Read);
+                    assert!(rt; fault == InputFault::Read);
                     assert!(rt; limit > passes && input.has_failed());
                 }
             }
@@ -169,11 +100,11 @@ fn a_failed_write_is_remembered(rt: HostRuntime) -> Result<(), Fail> {
             passes,
         });
         let put = output.put_refusal("Read");
-        assert_eq!(rt; put.is_err(), passes < 13, "{passes} bytes");
-        assert_eq!(rt; output.has_failed(), passes < 13, "{passes} bytes");
+        assert!(rt; put.is_err() == (passes < 13), "{passes} bytes");
+        assert!(rt; output.has_failed() == (passes < 13), "{passes} bytes");
         let written = output.into_writer().bytes;
         assert!(rt; b"refused Read\n".starts_with(&written), "{passes} bytes");
-        assert_eq!(rt; written.len(), passes.min(13), "{passes} bytes");
+        assert!(rt; written.len() == passes.min(13), "{passes} bytes");
     }
     Ok(())
 }
@@ -188,9 +119,9 @@ fn texts_are_appended(rt: HostRuntime) -> Result<(), Fail> {
     output.put_refusal(WriteFault::Write.name())?;
     output.put_refusal(ReadFault::Read.name())?;
     assert!(rt; !output.has_failed());
-    assert_eq!(rt;
-        output.into_writer().as_slice(),
-        b"12 34\nrefused Memory\nrefused Write\nrefused Read\n".as_slice()
+    assert!(rt;
+        output.into_writer().as_slice()
+            == b"12 34\nrefused Memory\nrefused Write\nrefused Read\n".as_slice()
     );
     Ok(())
 }
@@ -198,19 +129,19 @@ fn texts_are_appended(rt: HostRuntime) -> Result<(), Fail> {
 #[test]
 fn the_reader_is_given_back(rt: HostRuntime) {
     let mut input = Input::new(TEXT);
-    assert_eq!(rt; input.next_byte(), Ok(Some(b'r')));
-    assert_eq!(rt; input.into_reader(), b"elay".as_slice());
+    assert!(rt; input.next_byte() == Ok(Some(b'r')));
+    assert!(rt; input.into_reader() == b"elay".as_slice());
 }
 
 #[test]
 fn faults_say_what_is_wrong(rt: HostRuntime) -> Result<(), Fail> {
     let text = format!(in rt.alloc(); "{}", ReadFault::Read)?;
-    assert_eq!(rt; text.as_str(), "the input could not be read");
+    assert!(rt; text.as_str() == "the input could not be read");
     let text = format!(in rt.alloc(); "{}", InputFault::Read)?;
-    assert_eq!(rt; text.as_str(), "the input could not be read");
+    assert!(rt; text.as_str() == "the input could not be read");
     let text = format!(in rt.alloc(); "{}", InputFault::Memory)?;
-    assert_eq!(rt; text.as_str(), "out of memory");
+    assert!(rt; text.as_str() == "out of memory");
     let text = format!(in rt.alloc(); "{}", WriteFault::Write)?;
-    assert_eq!(rt; text.as_str(), "the output could not be written");
+    assert!(rt; text.as_str() == "the output could not be written");
     Ok(())
 }

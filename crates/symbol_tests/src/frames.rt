@@ -1,38 +1,25 @@
-use crate::{FrameFault, Framed, Grid, GridFault, cell_of, frame, unframe};
+//! The finder patterns around and between the regions of a symbol.
+
+use crate::worked::{MODULES, WORDS};
 use dm_check_blocks::Size;
+use dm_finder_frame::{FrameFault, Framed, Grid, GridFault, cell_of, frame, unframe};
 use dm_placement::{lift, place};
 use std::test::Fail;
-
-// All words of a symbol of side 10, and its modules.
-static WORDS: [u8; 8] = [142, 164, 186, 114, 25, 5, 88, 102];
-
-static MODULES: [[u8; 10]; 10] = [
-    *b"1010101010",
-    *b"1100101101",
-    *b"1100000100",
-    *b"1100011101",
-    *b"1100001000",
-    *b"1000001111",
-    *b"1110110000",
-    *b"1111011001",
-    *b"1001110100",
-    *b"1111111111",
-];
 
 #[test]
 #[tactic(auto, unfolding(dm_check_blocks::specs::Sizes::row))]
 fn draws_a_symbol_and_takes_it_apart(rt: HostRuntime) -> Result<(), Fail> {
     let matrix = place(rt.alloc(), Size::Side10, &WORDS)?;
     let mut grid = frame(rt.alloc(), Size::Side10, &matrix)?;
-    assert_eq!(rt; grid.side(), 10);
-    assert_eq!(rt; grid.size(), Size::Side10);
+    assert!(rt; grid.side() == 10);
+    assert!(rt; grid.size() == Size::Side10);
     let second = [
         true, true, false, false, true, false, true, true, false, true,
     ];
-    assert_eq!(rt; grid.row(1), second.as_slice());
+    assert!(rt; grid.row(1) == second.as_slice());
     for r in 0..10u16 {
         for c in 0..10u16 {
-            assert_eq!(rt; grid.module(r, c), MODULES[r as usize][c as usize] == b'1');
+            assert!(rt; grid.module(r, c) == (MODULES[r as usize][c as usize] == b'1'));
         }
     }
     let Framed {
@@ -40,18 +27,18 @@ fn draws_a_symbol_and_takes_it_apart(rt: HostRuntime) -> Result<(), Fail> {
         matrix,
         wrong,
     } = unframe(rt.alloc(), &grid)?;
-    assert_eq!(rt; (size, wrong), (Size::Side10, 0));
+    assert!(rt; (size, wrong) == (Size::Side10, 0));
     let words = lift(rt.alloc(), size, &matrix)?;
-    assert_eq!(rt; words.as_slice(), WORDS.as_slice());
+    assert!(rt; words.as_slice() == WORDS.as_slice());
     // the top left module, on the finder pattern, and the one of the mapping matrix's first cell
-    assert_eq!(rt; cell_of(Size::Side10, 0, 0), None);
-    assert_eq!(rt; cell_of(Size::Side10, 1, 1), Some((0, 0)));
-    assert_eq!(rt; cell_of(Size::Side132, 131, 0), None);
-    assert_eq!(rt; cell_of(Size::Side132, 130, 23), Some((119, 20)));
+    assert!(rt; cell_of(Size::Side10, 0, 0) == None);
+    assert!(rt; cell_of(Size::Side10, 1, 1) == Some((0, 0)));
+    assert!(rt; cell_of(Size::Side132, 131, 0) == None);
+    assert!(rt; cell_of(Size::Side132, 130, 23) == Some((119, 20)));
     grid.flip(0, 0);
     grid.flip(1, 1);
     let Framed { matrix, wrong, .. } = unframe(rt.alloc(), &grid)?;
-    assert_eq!(rt; wrong, 1);
+    assert!(rt; wrong == 1);
     assert!(rt; !matrix.module(0, 0));
     Ok(())
 }
@@ -62,29 +49,23 @@ fn refuses_other_grids(rt: HostRuntime) -> Result<(), Fail> {
     for (dark, wrong) in [(false, 27u16), (true, 9u16)] {
         let grid = Grid::of_modules(rt.alloc(), 10, &[dark; 100])?;
         let fault = unframe(rt.alloc(), &grid).err();
-        assert_eq!(rt; fault, Some(FrameFault::Border { wrong }));
+        assert!(rt; fault == Some(FrameFault::Border { wrong }));
     }
     let fault = Grid::of_modules(rt.alloc(), 11, &[false; 121]).err();
-    assert_eq!(rt; fault, Some(GridFault::Side));
+    assert!(rt; fault == Some(GridFault::Side));
     let fault = Grid::of_modules(rt.alloc(), 10, &[false; 99]).err();
-    assert_eq!(rt; fault, Some(GridFault::Side));
+    assert!(rt; fault == Some(GridFault::Side));
     Ok(())
 }
 
 #[test]
 fn faults_say_what_is_wrong(rt: HostRuntime) -> Result<(), Fail> {
     let text = format!(in rt.alloc(); "{}", FrameFault::Border { wrong: 27 })?;
-    assert_eq!(rt;
-        text.as_str(),
-        "27 modules of the finder patterns are wrong"
-    );
+    assert!(rt; text.as_str() == "27 modules of the finder patterns are wrong");
     let text = format!(in rt.alloc(); "{}", FrameFault::Memory)?;
-    assert_eq!(rt; text.as_str(), "out of memory");
+    assert!(rt; text.as_str() == "out of memory");
     let text = format!(in rt.alloc(); "{}", GridFault::Side)?;
-    assert_eq!(rt;
-        text.as_str(),
-        "the modules do not fill a symbol of that side"
-    );
+    assert!(rt; text.as_str() == "the modules do not fill a symbol of that side");
     Ok(())
 }
 
@@ -95,7 +76,7 @@ fn flips_are_made_one_after_another(rt: HostRuntime) -> Result<(), Fail> {
     for row in 0..10u16 {
         for column in 0..10u16 {
             let dark = (row, column) == (9, 0) || (row, column) == (3, 4);
-            assert_eq!(rt; flipped.module(row, column), dark);
+            assert!(rt; flipped.module(row, column) == dark);
         }
     }
     Ok(())

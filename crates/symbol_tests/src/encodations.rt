@@ -1,5 +1,7 @@
-use crate::{DecodeFault, EncodeFault, Scheme, decode, encode, fit, need};
+//! Texts as data words, and back.
+
 use dm_check_blocks::Size;
+use dm_encodation::{DecodeFault, EncodeFault, Scheme, decode, encode, fit, need};
 use std::alloc::{AllocError, Allocator};
 use std::test::Fail;
 
@@ -28,8 +30,8 @@ fn faults_say_what_is_wrong(rt: HostRuntime) -> Result<(), Fail> {
         (EncodeFault::Memory, "Memory", "out of memory"),
     ];
     for (fault, name, text) in rows {
-        assert_eq!(rt; fault.name(), name);
-        assert_eq!(rt; format!(in rt.alloc(); "{fault}")?.as_str(), text);
+        assert!(rt; fault.name() == name);
+        assert!(rt; format!(in rt.alloc(); "{fault}")?.as_str() == text);
     }
     let rows = [
         (
@@ -50,8 +52,8 @@ fn faults_say_what_is_wrong(rt: HostRuntime) -> Result<(), Fail> {
         (DecodeFault::Memory, "Memory", "out of memory"),
     ];
     for (fault, name, text) in rows {
-        assert_eq!(rt; fault.name(), name);
-        assert_eq!(rt; format!(in rt.alloc(); "{fault}")?.as_str(), text);
+        assert!(rt; fault.name() == name);
+        assert!(rt; format!(in rt.alloc(); "{fault}")?.as_str() == text);
     }
     Ok(())
 }
@@ -121,9 +123,8 @@ fn texts_are_written(rt: HostRuntime) -> Result<(), Fail> {
         ),
     ];
     for (scheme, bytes, head, size, words) in rows {
-        assert_eq!(rt;
-            written(rt.alloc(), scheme, bytes, head, size)?.as_slice(),
-            words,
+        assert!(rt;
+            written(rt.alloc(), scheme, bytes, head, size)?.as_slice() == words,
             "{scheme:?} of {bytes:?}"
         );
     }
@@ -153,8 +154,8 @@ fn words_are_read(rt: HostRuntime) -> Result<(), Fail> {
     ];
     for (words, reading) in rows {
         match (decode(rt.alloc(), words, 0), reading) {
-            (Ok(bytes), Ok(expected)) => assert_eq!(rt; bytes.as_slice(), expected, "{words:?}"),
-            (Err(fault), Err(expected)) => assert_eq!(rt; fault, expected, "{words:?}"),
+            (Ok(bytes), Ok(expected)) => assert!(rt; bytes.as_slice() == expected, "{words:?}"),
+            (Err(fault), Err(expected)) => assert!(rt; fault == expected, "{words:?}"),
             (Ok(_), Err(expected)) => assert!(rt; false, "{words:?} is read, but {expected}"),
             (Err(fault), Ok(_)) => assert!(rt; false, "{words:?}: {fault}"),
         }
@@ -188,15 +189,15 @@ fn the_greatest_texts_fill_side_132(rt: HostRuntime) -> Result<(), Fail> {
     for (scheme, byte, count) in rows {
         let text = repeated(rt.alloc(), byte, count)?;
         let words = written(rt.alloc(), scheme, &text, &[], Size::Side132)?;
-        assert_eq!(rt; words.len(), 1304);
+        assert!(rt; words.len() == 1304);
         let read = decode(rt.alloc(), &words, 0)?;
-        assert_eq!(rt; read.as_slice(), text.as_slice());
-        assert_eq!(rt; read.capacity(), count, "memory is asked for once");
+        assert!(rt; read.as_slice() == text.as_slice());
+        assert!(rt; read.capacity() == count, "memory is asked for once");
         let longer = repeated(rt.alloc(), byte, count + 1)?;
-        assert_eq!(rt; fit(scheme, &longer, 1304), count);
-        assert_eq!(rt;
-            written(rt.alloc(), scheme, &longer, &[], Size::Side132).err(),
-            Some(EncodeFault::TooLong)
+        assert!(rt; fit(scheme, &longer, 1304) == count);
+        assert!(rt;
+            written(rt.alloc(), scheme, &longer, &[], Size::Side132).err()
+                == Some(EncodeFault::TooLong)
         );
     }
     Ok(())
@@ -214,9 +215,9 @@ fn lengths_of_base_256(rt: HostRuntime) -> Result<(), Fail> {
     ] {
         let text = repeated(rt.alloc(), 0, count)?;
         if text.len() <= 2000 {
-            assert_eq!(rt; need(Scheme::Base256, &text), words);
+            assert!(rt; need(Scheme::Base256, &text) == words);
         }
-        assert_eq!(rt; fit(Scheme::Base256, &text, words), count);
+        assert!(rt; fit(Scheme::Base256, &text, words) == count);
     }
     let text = repeated(rt.alloc(), 0, 250)?;
     let words = written(rt.alloc(), Scheme::Base256, &text, &[], Size::Side64)?;
@@ -226,9 +227,9 @@ fn lengths_of_base_256(rt: HostRuntime) -> Result<(), Fail> {
 
 #[test]
 fn a_longer_text_may_need_less(rt: HostRuntime) -> Result<(), Fail> {
-    assert_eq!(rt; need(Scheme::C40, b"AIMAI"), 6);
-    assert_eq!(rt; need(Scheme::C40, b"AIMAIM"), 5);
-    assert_eq!(rt; fit(Scheme::C40, b"AIMAIM", 5), 6);
+    assert!(rt; need(Scheme::C40, b"AIMAI") == 6);
+    assert!(rt; need(Scheme::C40, b"AIMAIM") == 5);
+    assert!(rt; fit(Scheme::C40, b"AIMAIM", 5) == 6);
     Ok(())
 }
 
@@ -240,13 +241,10 @@ fn every_byte_comes_back(rt: HostRuntime) -> Result<(), Fail> {
     }
     for scheme in [Scheme::Ascii, Scheme::C40, Scheme::Text, Scheme::Base256] {
         let words = written(rt.alloc(), scheme, &text, &[233, 15, 1, 1], Size::Side132)?;
-        assert_eq!(rt; words.len(), 1304);
+        assert!(rt; words.len() == 1304);
         let from = 4;
         if words.len() >= from {
-            assert_eq!(rt;
-                decode(rt.alloc(), &words, from)?.as_slice(),
-                text.as_slice()
-            );
+            assert!(rt; decode(rt.alloc(), &words, from)?.as_slice() == text.as_slice());
         }
     }
     Ok(())
