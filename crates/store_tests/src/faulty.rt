@@ -5,8 +5,9 @@ use crate::calls::{Call, SetCall, run, run_set};
 use crate::failing::FailingFiles;
 use crate::folder::{entry_of, new_folder};
 use dm_store::{FileSet, FileStore, LoadFault, RemoveFault, ReplaceFault, Store, StoreSet};
-use std::fs;
+use std::process::Abort;
 use std::test::Fail;
+use std::{fs, io};
 
 // More calls on the file system than a call of a store makes.
 const MOST_CALLS: u64 = 30;
@@ -37,6 +38,19 @@ fn a_replace_of_a_file_fails_with_its_device(rt: HostRuntime) -> Result<(), Fail
     Ok(())
 }
 
+// A load of a file, of which that many calls on the file system are made: whether it fails. Afterwards it is done.
+fn load_fails(rt: &impl Abort, files: &HostRuntime, path: &str, calls: u64) -> io::Result<bool> {
+    let path = String::from_str(files.alloc(), path)?;
+    let faulty = FailingFiles::new(files.clone()?, calls);
+    let mut store = FileStore::new(files.alloc(), &faulty, path);
+    let Err(fault) = store.load(9) else {
+        return Ok(false);
+    };
+    assert!(rt; fault == LoadFault::Device, "{calls}");
+    run(rt, &mut store, &[Call::Load(9, Ok(Some(b"one")))]);
+    Ok(true)
+}
+
 #[test]
 fn a_load_of_a_file_fails_with_its_device(rt: HostRuntime) -> Result<(), Fail> {
     let folder = new_folder(&rt, "faulty-load")?;
@@ -44,12 +58,8 @@ fn a_load_of_a_file_fails_with_its_device(rt: HostRuntime) -> Result<(), Fail> {
     fs::write(&rt, path.as_str(), b"one".as_slice())?;
     let mut faults = 0u8;
     for calls in 0..MOST_CALLS {
-        let faulty = FailingFiles::new(rt.clone()?, calls);
-        let mut store = FileStore::new(rt.alloc(), &faulty, path.clone()?);
-        if let Err(fault) = store.load(9) {
-            assert!(rt; fault == LoadFault::Device, "{calls}");
+        if load_fails(&rt, &rt, path.as_str(), calls)? {
             faults = faults.saturating_add(1);
-            run(&rt, &mut store, &[Call::Load(9, Ok(Some(b"one")))]);
         }
     }
     assert!(rt; faults > 1, "open and read");
@@ -57,24 +67,53 @@ fn a_load_of_a_file_fails_with_its_device(rt: HostRuntime) -> Result<(), Fail> {
     Ok(())
 }
 
-// The first replace, which makes the folder too.
+// The first replace of a set, of which that many calls on the file system are made: whether it fails. It makes the
+// folder too.
+fn replace_fails(
+    rt: &impl Abort,
+    files: &HostRuntime,
+    folder: &str,
+    calls: u64,
+) -> io::Result<bool> {
+    let path = String::from_str(files.alloc(), folder)?;
+    let failing = FailingFiles::new(files.clone()?, calls);
+    let by = (&failing, files.alloc());
+    match FileSet::new(files.alloc(), &by, path).replace(1, b"one") {
+        Ok(()) => Ok(false),
+        Err(fault) => {
+            assert!(rt; fault == ReplaceFault::Device, "{calls}");
+            Ok(true)
+        }
+    }
+}
+
+// What a set holds after its first replace: the page, at the latest once the call is made again.
+fn holds_after(
+    rt: &impl Abort,
+    files: &HostRuntime,
+    folder: &str,
+    has_failed: bool,
+) -> io::Result<()> {
+    let path = String::from_str(files.alloc(), folder)?;
+    let mut set = FileSet::new(files.alloc(), files, path);
+    if has_failed {
+        run_set(rt, &mut set, &[SetCall::Replace(1, b"one", Ok(()))]);
+    }
+    run_set(rt, &mut set, &[SetCall::Load(1, 9, Ok(Some(b"one")))]);
+    Ok(())
+}
+
 #[test]
 fn a_replace_of_a_set_fails_with_its_device(rt: HostRuntime) -> Result<(), Fail> {
     let above = new_folder(&rt, "faulty-set")?;
     let mut faults = 0u8;
     for calls in 0..MOST_CALLS {
         let folder = format!(in rt.alloc(); "{above}/{calls}")?;
-        let failing = FailingFiles::new(rt.clone()?, calls);
-        let files = (&failing, rt.alloc());
-        let answer = FileSet::new(rt.alloc(), &files, folder.clone()?).replace(1, b"one");
-        let mut set = FileSet::new(rt.alloc(), &rt, folder);
-        if answer == Err(ReplaceFault::Device) {
+        let has_failed = replace_fails(&rt, &rt, folder.as_str(), calls)?;
+        holds_after(&rt, &rt, folder.as_str(), has_failed)?;
+        if has_failed {
             faults = faults.saturating_add(1);
-            run_set(&rt, &mut set, &[SetCall::Replace(1, b"one", Ok(()))]);
-        } else {
-            assert!(rt; answer == Ok(()), "{calls}");
         }
-        run_set(&rt, &mut set, &[SetCall::Load(1, 9, Ok(Some(b"one")))]);
     }
     assert!(rt;
         faults == 9,

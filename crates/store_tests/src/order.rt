@@ -5,30 +5,63 @@ use crate::calls::{Call, SetCall, run, run_set};
 use crate::folder::{entry_of, new_folder};
 use crate::listing::ListingFiles;
 use crate::noting::NotingFiles;
-use dm_store::{FileSet, FileStore, LoadFault, Store, StoreSet};
-use std::fs;
+use dm_store::{FileSet, FileStore, LoadFault};
+use std::process::Abort;
+use std::rt::Files;
 use std::test::Fail;
+use std::{fs, io};
+
+// Whether just these calls were noted since the last look.
+fn has_noted<R: Files + Drop>(files: &NotingFiles<R>, calls: &str) -> bool {
+    match files.noted() {
+        Ok(noted) => noted.as_str() == calls,
+        Err(_) => false,
+    }
+}
+
+const REPLACED: &str = "open ledger.new\nwrite ledger.new\nwrite ledger.new\nsync ledger.new\n\
+    rename ledger.new\nto ledger\nopen pages\nsync pages\n";
+
+// Replaces of a file below an empty folder.
+fn syncs_a_file(rt: &impl Abort, files: &HostRuntime, above: &str) -> io::Result<()> {
+    let folder = entry_of(files.alloc(), above, "pages")?;
+    fs::create_dir(files, folder.as_str())?;
+    let path = entry_of(files.alloc(), folder.as_str(), "ledger")?;
+    let noting = NotingFiles::new(files.alloc(), files.clone()?)?;
+    let mut store = FileStore::new(files.alloc(), &noting, path);
+    for bytes in [b"one".as_slice(), b"two".as_slice()] {
+        run(rt, &mut store, &[Call::Replace(bytes, Ok(()))]);
+        assert!(rt; has_noted(&noting, REPLACED));
+        run(rt, &mut store, &[Call::Load(9, Ok(Some(bytes)))]);
+        assert!(rt; has_noted(&noting, "open ledger\n"));
+    }
+    Ok(())
+}
 
 #[test]
 fn a_replace_of_a_file_syncs_the_file_and_its_folder(rt: HostRuntime) -> Result<(), Fail> {
     let above = new_folder(&rt, "order")?;
-    let folder = entry_of(rt.alloc(), above.as_str(), "pages")?;
-    fs::create_dir(&rt, folder.as_str())?;
-    let path = entry_of(rt.alloc(), folder.as_str(), "ledger")?;
-    let files = NotingFiles::new(rt.alloc(), rt.clone()?)?;
-    let mut store = FileStore::new(rt.alloc(), &files, path);
-    for bytes in [b"one".as_slice(), b"two".as_slice()] {
-        store.replace(bytes)?;
-        let noted = files.noted()?;
-        assert!(rt;
-            noted.as_str()
-                == "open ledger.new\nwrite ledger.new\nwrite ledger.new\nsync ledger.new\n\
-             rename ledger.new\nto ledger\nopen pages\nsync pages\n"
-        );
-        run(&rt, &mut store, &[Call::Load(9, Ok(Some(bytes)))]);
-        assert!(rt; files.noted()?.as_str() == "open ledger\n");
-    }
+    syncs_a_file(&rt, &rt, above.as_str())?;
     fs::remove_dir_all(&rt, above.as_str())?;
+    Ok(())
+}
+
+const SET_REPLACED: &str = "make pages\nopen shelf\nsync shelf\n\
+    open 0001.new\nwrite 0001.new\nwrite 0001.new\nsync 0001.new\n\
+    rename 0001.new\nto 0001\nopen pages\nsync pages\n";
+
+// The first replace of a set, whose folder is not there, a load and a remove.
+fn syncs_a_set(rt: &impl Abort, files: &HostRuntime, shelf: &str) -> io::Result<()> {
+    let folder = entry_of(files.alloc(), shelf, "pages")?;
+    let noting = NotingFiles::new(files.alloc(), files.clone()?)?;
+    let by = (&noting, files.alloc());
+    let mut set = FileSet::new(files.alloc(), &by, folder);
+    run_set(rt, &mut set, &[SetCall::Replace(1, b"one", Ok(()))]);
+    assert!(rt; has_noted(&noting, SET_REPLACED));
+    run_set(rt, &mut set, &[SetCall::Load(1, 9, Ok(Some(b"one")))]);
+    assert!(rt; has_noted(&noting, "open 0001\n"));
+    run_set(rt, &mut set, &[SetCall::Remove(1, Ok(()))]);
+    assert!(rt; has_noted(&noting, "remove 0001\nopen pages\nsync pages\n"));
     Ok(())
 }
 
@@ -37,41 +70,35 @@ fn a_set_syncs_each_folder_that_it_changes(rt: HostRuntime) -> Result<(), Fail> 
     let above = new_folder(&rt, "set-order")?;
     let shelf = entry_of(rt.alloc(), above.as_str(), "shelf")?;
     fs::create_dir(&rt, shelf.as_str())?;
-    let folder = entry_of(rt.alloc(), shelf.as_str(), "pages")?;
-    let noting = NotingFiles::new(rt.alloc(), rt.clone()?)?;
-    let files = (&noting, rt.alloc());
-    let mut set = FileSet::new(rt.alloc(), &files, folder);
-    set.replace(1, b"one")?;
-    assert!(rt;
-        noting.noted()?.as_str()
-            == "make pages\nopen shelf\nsync shelf\n\
-         open 0001.new\nwrite 0001.new\nwrite 0001.new\nsync 0001.new\n\
-         rename 0001.new\nto 0001\nopen pages\nsync pages\n"
-    );
-    run_set(&rt, &mut set, &[SetCall::Load(1, 9, Ok(Some(b"one")))]);
-    assert!(rt; noting.noted()?.as_str() == "open 0001\n");
-    set.remove(1)?;
-    assert!(rt; noting.noted()?.as_str() == "remove 0001\nopen pages\nsync pages\n");
+    syncs_a_set(&rt, &rt, shelf.as_str())?;
     fs::remove_dir_all(&rt, above.as_str())?;
+    Ok(())
+}
+
+// Loads of many bytes, under limits about their number.
+fn loads_many(rt: &impl Abort, files: &HostRuntime, folder: &str, bytes: &[u8]) -> io::Result<()> {
+    let path = entry_of(files.alloc(), folder, "ledger")?;
+    let mut store = FileStore::new(files.alloc(), files, path);
+    let most = bytes.len();
+    let all_but_one = bytes.get(..most.saturating_sub(1)).unwrap_or(&[]);
+    run(
+        rt,
+        &mut store,
+        &[
+            Call::Replace(bytes, Ok(())),
+            Call::Load(most, Ok(Some(bytes))),
+            Call::Load(most.saturating_sub(1), Ok(Some(bytes))),
+            Call::Load(most.saturating_sub(2), Ok(Some(all_but_one))),
+        ],
+    );
     Ok(())
 }
 
 #[test]
 fn a_load_gives_more_than_one_block(rt: HostRuntime) -> Result<(), Fail> {
     let folder = new_folder(&rt, "long")?;
-    let path = entry_of(rt.alloc(), folder.as_str(), "ledger")?;
     let bytes = vec![in rt.alloc(); b'x'; 70_000]?;
-    let mut store = FileStore::new(rt.alloc(), &rt, path);
-    run(
-        &rt,
-        &mut store,
-        &[
-            Call::Replace(bytes.as_slice(), Ok(())),
-            Call::Load(70_000, Ok(Some(bytes.as_slice()))),
-            Call::Load(69_999, Ok(Some(bytes.as_slice()))),
-            Call::Load(69_998, Ok(Some(&bytes.as_slice()[..69_999]))),
-        ],
-    );
+    loads_many(&rt, &rt, folder.as_str(), bytes.as_slice())?;
     fs::remove_dir_all(&rt, folder.as_str())?;
     Ok(())
 }
