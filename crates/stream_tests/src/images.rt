@@ -1,4 +1,4 @@
-//! Images read and written: worked rows, and streams that fail in mid-stream or are interrupted.
+//! Images read and written: known images and refusals, and streams that fail in mid-stream or are interrupted.
 
 ghost use Rattle.std.specs.Prelude.{◌≡◌, ◌*◌, IfOk, length};
 

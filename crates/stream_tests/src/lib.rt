@@ -1,4 +1,5 @@
-//! Tests of streams and of images: worked rows, and readers and writers that fail in mid-stream or are interrupted.
+//! Tests of streams and of images: known images and refusals, and readers and writers that fail in mid-stream or are
+//! interrupted.
 #![tactic(auto)]
 
 #[cfg(test)]
