@@ -136,7 +136,7 @@ fn sixteen_pages<A: Allocator + Copy>(alloc: A, len: u16) -> Result<Vec<u8, A>, 
 fn the_longest_file(rt: HostRuntime) -> Result<(), Fail> {
     let alloc = rt.alloc();
     let longest = sixteen_pages(alloc, 2600)?;
-    assert_eq!(rt; (longest.len(), MOST_FILE_BYTES), (41_642, 41_642));
+    assert!(rt; (longest.len(), MOST_FILE_BYTES) == (41_642, 41_642));
     let mut desk = opened(&rt, alloc, MemSet::new(alloc), 1);
     assert!(rt;
         match import(&mut desk, &longest) {
@@ -154,7 +154,7 @@ fn the_longest_document(rt: HostRuntime) -> Result<(), Fail> {
     let alloc = rt.alloc();
     let mut desk = opened(&rt, alloc, MemSet::new(alloc), 1);
     assert!(rt; import(&mut desk, &sixteen_pages(alloc, 2600)?).is_ok());
-    assert_eq!(rt; desk.document(id_of(&rt, 0))?.len(), 41_600);
+    assert!(rt; desk.document(id_of(&rt, 0))?.len() == 41_600);
     Ok(())
 }
 

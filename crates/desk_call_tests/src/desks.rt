@@ -72,7 +72,7 @@ pub fn scanned<A: Allocator + Copy>(
         Ok(accepted) => {
             let id = id_of(rt, number);
             let kind = accepted.kind;
-            assert_eq!(rt; accepted, Accepted { id, m, n, kind });
+            assert!(rt; accepted == Accepted { id, m, n, kind });
             Ok(Ok(kind))
         }
         Err(fault) => Ok(Err(fault)),

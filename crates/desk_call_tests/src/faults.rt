@@ -36,8 +36,8 @@ fn faults_of_opening(rt: HostRuntime) -> Result<(), AllocError> {
         (DeskFault::Device, "Device", "the device failed"),
         (DeskFault::Memory, "Memory", "out of memory"),
     ] {
-        assert_eq!(rt; fault.name(), name);
-        assert_eq!(rt; format!(in rt.alloc(); "{fault}")?.as_str(), text);
+        assert!(rt; fault.name() == name);
+        assert!(rt; format!(in rt.alloc(); "{fault}")?.as_str() == text);
     }
     Ok(())
 }
@@ -64,8 +64,8 @@ fn faults_of_scans(rt: HostRuntime) -> Result<(), AllocError> {
         (ScanFault::Memory, "Memory", "out of memory"),
         (ScanFault::Save, "Save", "the save failed"),
     ] {
-        assert_eq!(rt; fault.name(), name);
-        assert_eq!(rt; format!(in rt.alloc(); "{fault}")?.as_str(), text);
+        assert!(rt; fault.name() == name);
+        assert!(rt; format!(in rt.alloc(); "{fault}")?.as_str() == text);
     }
     Ok(())
 }
@@ -81,8 +81,8 @@ fn faults_of_asks(rt: HostRuntime) -> Result<(), AllocError> {
         ),
         (AskFault::Memory, "Memory", "out of memory"),
     ] {
-        assert_eq!(rt; fault.name(), name);
-        assert_eq!(rt; format!(in rt.alloc(); "{fault}")?.as_str(), text);
+        assert!(rt; fault.name() == name);
+        assert!(rt; format!(in rt.alloc(); "{fault}")?.as_str() == text);
     }
     Ok(())
 }
@@ -95,8 +95,8 @@ fn faults_of_forgets(rt: HostRuntime) -> Result<(), AllocError> {
         (ForgetFault::Memory, "Memory", "out of memory"),
         (ForgetFault::Save, "Save", "the save failed"),
     ] {
-        assert_eq!(rt; fault.name(), name);
-        assert_eq!(rt; format!(in rt.alloc(); "{fault}")?.as_str(), text);
+        assert!(rt; fault.name() == name);
+        assert!(rt; format!(in rt.alloc(); "{fault}")?.as_str() == text);
     }
     Ok(())
 }
@@ -107,8 +107,8 @@ fn faults_of_exports(rt: HostRuntime) -> Result<(), AllocError> {
         (ExportFault::NotHeld, "NotHeld", "the document is not held"),
         (ExportFault::Memory, "Memory", "out of memory"),
     ] {
-        assert_eq!(rt; fault.name(), name);
-        assert_eq!(rt; format!(in rt.alloc(); "{fault}")?.as_str(), text);
+        assert!(rt; fault.name() == name);
+        assert!(rt; format!(in rt.alloc(); "{fault}")?.as_str() == text);
     }
     Ok(())
 }
@@ -145,8 +145,8 @@ fn faults_of_imports(rt: HostRuntime) -> Result<(), AllocError> {
         (ImportFault::Memory, "Memory", "out of memory"),
         (ImportFault::Save, "Save", "the save failed"),
     ] {
-        assert_eq!(rt; fault.name(), name);
-        assert_eq!(rt; format!(in rt.alloc(); "{fault}")?.as_str(), text);
+        assert!(rt; fault.name() == name);
+        assert!(rt; format!(in rt.alloc(); "{fault}")?.as_str() == text);
     }
     Ok(())
 }
@@ -172,8 +172,8 @@ fn faults_of_moves(rt: HostRuntime) -> Result<(), AllocError> {
         (MoveFault::Device, "Device", "the device failed"),
         (MoveFault::Memory, "Memory", "out of memory"),
     ] {
-        assert_eq!(rt; fault.name(), name);
-        assert_eq!(rt; format!(in rt.alloc(); "{fault}")?.as_str(), text);
+        assert!(rt; fault.name() == name);
+        assert!(rt; format!(in rt.alloc(); "{fault}")?.as_str() == text);
     }
     Ok(())
 }

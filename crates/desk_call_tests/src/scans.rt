@@ -55,7 +55,7 @@ fn a_document_without_its_first_page_is_not_given(rt: HostRuntime) -> Result<(),
     match desk.document(id_of(&rt, 0)) {
         Ok(_) => Err("a document without its first page".into()),
         Err(fault) => {
-            assert_eq!(rt; fault, AskFault::Incomplete { missing: 1 });
+            assert!(rt; fault == AskFault::Incomplete { missing: 1 });
             Ok(())
         }
     }
@@ -66,8 +66,8 @@ fn a_document_is_forgotten(rt: HostRuntime) -> Result<(), Fail> {
     let alloc = rt.alloc();
     let id = id_of(&rt, 0);
     let mut desk = opened(&rt, alloc, with_both(&rt, alloc)?, 4);
-    assert_eq!(rt; forget(&mut desk, id), Ok(()));
-    assert_eq!(rt; forget(&mut desk, id), Err(ForgetFault::NotHeld));
+    assert!(rt; forget(&mut desk, id) == Ok(()));
+    assert!(rt; forget(&mut desk, id) == Err(ForgetFault::NotHeld));
     assert!(rt; desk.pages(id).is_none());
     let mut set = desk.close();
     assert!(rt; set.content(0).is_none() && set.keys(9)?.is_empty());
@@ -124,7 +124,7 @@ fn two_documents_are_scanned_out_of_order(rt: HostRuntime) -> Result<(), Fail> {
 #[test]
 fn one_of_two_documents_is_forgotten(rt: HostRuntime) -> Result<(), Fail> {
     let mut desk = with_two_documents(&rt, rt.alloc())?;
-    assert_eq!(rt; forget(&mut desk, id_of(&rt, 3)), Ok(()));
+    assert!(rt; forget(&mut desk, id_of(&rt, 3)) == Ok(()));
     assert!(rt; gives(&rt, &desk, 5, b"1256") && !gives(&rt, &desk, 3, b"7890"));
     Ok(())
 }
@@ -187,8 +187,8 @@ fn first_save_fails<A: Allocator + Copy>(
 // After a save that failed the desk shows what it held, and saves nothing.
 fn is_as_before<A: Allocator + Copy>(rt: &impl Abort, desk: &mut MemDesk<A>) -> Result<(), Fail> {
     let id = id_of(rt, 0);
-    assert_eq!(rt; forget(desk, id), Err(ForgetFault::Failed));
-    assert_eq!(rt; import(desk, WHOLE), Err(ImportFault::Failed));
+    assert!(rt; forget(desk, id) == Err(ForgetFault::Failed));
+    assert!(rt; import(desk, WHOLE) == Err(ImportFault::Failed));
     assert!(rt; export(desk, id)?.as_slice() == SECOND);
     assert!(rt; held(desk)?.as_slice() == [Held { id, n: 2, mask: 2 }].as_slice());
     Ok(())
@@ -221,13 +221,10 @@ fn a_save_fails(rt: HostRuntime) -> Result<(), Fail> {
         let desk = first_save_fails(&rt, alloc, next, again)?;
         let mut desk = second_save_fails(&rt, alloc, desk, next, then)?;
         desk.set_next(next);
-        assert_eq!(rt; forget(&mut desk, id_of(&rt, 0)), Err(ForgetFault::Save));
+        assert!(rt; forget(&mut desk, id_of(&rt, 0)) == Err(ForgetFault::Save));
         assert!(rt; gives(&rt, &desk, 0, b"1234"));
         let desk = reopened(&rt, alloc, desk);
-        assert_eq!(rt;
-            desk.pages(id_of(&rt, 0)).is_some(),
-            next == NextSave::FaultOld
-        );
+        assert!(rt; desk.pages(id_of(&rt, 0)).is_some() == (next == NextSave::FaultOld));
     }
     Ok(())
 }
@@ -244,7 +241,7 @@ fn with_two_pages<A: Allocator + Copy>(rt: &impl Abort, alloc: A) -> Result<MemD
 fn pages_are_lent(rt: HostRuntime) -> Result<(), Fail> {
     let desk = with_two_pages(&rt, rt.alloc())?;
     let pages = desk.pages(id_of(&rt, 0)).expect(&rt, "pages");
-    assert_eq!(rt; (pages.n(), pages.mask(), pages.missing()), (2, 2, 1));
+    assert!(rt; (pages.n(), pages.mask(), pages.missing()) == (2, 2, 1));
     for (m, bytes) in [
         (0, None),
         (1, None),
@@ -261,10 +258,7 @@ fn pages_are_lent(rt: HostRuntime) -> Result<(), Fail> {
 fn the_last_of_sixteen_pages_is_lent(rt: HostRuntime) -> Result<(), Fail> {
     let desk = with_two_pages(&rt, rt.alloc())?;
     let pages = desk.pages(id_of(&rt, 9)).expect(&rt, "pages");
-    assert_eq!(rt;
-        (pages.n(), pages.mask(), pages.missing()),
-        (16, 32_768, 32_767)
-    );
+    assert!(rt; (pages.n(), pages.mask(), pages.missing()) == (16, 32_768, 32_767));
     assert!(rt; pages.get(16) == Some(b"".as_slice()));
     Ok(())
 }

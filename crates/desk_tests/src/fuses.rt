@@ -114,7 +114,7 @@ fn forgotten<A: Allocator + Copy>(
             Kept::Old => Ok(()),
             Kept::New => Err(ForgetFault::NotHeld),
         };
-        assert_eq!(rt; desk.forget(id), answer);
+        assert!(rt; desk.forget(id) == answer);
     }
     assert!(rt; desk.pages(id).is_none() && holds(rt, &desk, 9, ALL_THREE));
     Ok(desk)
@@ -171,7 +171,7 @@ fn the_set_stops_at_each_call(rt: HostRuntime) -> Result<(), Fail> {
         for passes in 0..=CALLS {
             let mut set = run(&rt, alloc, passes, kept)?;
             assert!(rt; set.content(0) == Some(FIRST) && set.content(9) == Some(ALL_THREE));
-            assert_eq!(rt; set.keys(9)?.len(), 2);
+            assert!(rt; set.keys(9)?.len() == 2);
         }
     }
     Ok(())

@@ -58,12 +58,12 @@ fn moved_twice<A: Allocator + Copy>(
     assert!(rt; hold_both(&old, &set));
     let there = set.keys(9)?.len();
     let written = move_pages(alloc, &mut old, &mut set)?;
-    assert_eq!(rt; there.saturating_add(written as usize), 2);
+    assert!(rt; there.saturating_add(written as usize) == 2);
     assert!(rt; old.content() == Some(JOINT_OF_NONE) && hold_both(&old, &set));
     let Ok(desk) = Desk::open(alloc, set, 2) else {
         return Err("no desk over what was moved".into());
     };
-    assert_eq!(rt; desk.held()?.len(), 2);
+    assert!(rt; desk.held()?.len() == 2);
     Ok(())
 }
 

@@ -151,7 +151,7 @@ fn shown<A: Allocator + Copy>(rt: &impl Abort, desk: &MemDesk<A>) -> Result<Opti
             desk.held()?
         }
     };
-    assert_eq!(rt; held.len(), 2);
+    assert!(rt; held.len() == 2);
     let file = match desk.export(id_of(rt, 0)) {
         Ok(file) => file,
         Err(fault) => {
@@ -174,7 +174,7 @@ fn moved<A: Allocator + Copy>(rt: &impl Abort, alloc: A) -> Result<bool, Fail> {
     let mut set = MemSet::new(alloc);
     let is_refused = match move_pages(alloc, &mut old, &mut set) {
         Ok(count) => {
-            assert_eq!(rt; count, 2);
+            assert!(rt; count == 2);
             false
         }
         Err(fault) => {
@@ -258,7 +258,7 @@ fn memory_for_what_is_held_is_the_last_fault(rt: HostRuntime) -> Result<(), Fail
         let memory = Refusing::new(rt.alloc(), passes);
         match Desk::open(&memory, set, 4) {
             Ok(_) => return Err("a desk over a damaged file".into()),
-            Err(refused) => assert_eq!(rt; refused.fault, DeskFault::Damaged),
+            Err(refused) => assert!(rt; refused.fault == DeskFault::Damaged),
         }
         if !memory.is_spent() {
             assert!(rt; passes > 0);

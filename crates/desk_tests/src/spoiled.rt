@@ -40,12 +40,12 @@ fn mask_of(entry: &Entry<'_>) -> u16 {
 fn holds(rt: &impl Abort, desk: &Desk<MemSet>, entry: &Entry<'_>, file: &[u8]) -> Result<(), Fail> {
     let id = FileId::of_number(entry.number).ok_or("no identification")?;
     let pages = desk.pages(id).ok_or("no pages")?;
-    assert_eq!(rt; pages.n() as usize, entry.pages.len());
+    assert!(rt; (pages.n() as usize) == entry.pages.len());
     for (m, page) in (1..).zip(entry.pages.iter()) {
-        assert_eq!(rt; pages.get(m), *page, "{m}");
+        assert!(rt; pages.get(m) == *page, "{m}");
     }
-    assert_eq!(rt; desk.export(id)?.as_slice(), file);
-    assert_eq!(rt; desk.held()?.len(), 1);
+    assert!(rt; desk.export(id)?.as_slice() == file);
+    assert!(rt; desk.held()?.len() == 1);
     Ok(())
 }
 
@@ -70,9 +70,8 @@ fn open(rt: &impl Abort, alloc: Global, file: &[u8]) -> Result<&'static str, Fai
         }
         Err(refused) => (refused.fault.name(), refused.store),
     };
-    assert_eq!(rt;
-        answer,
-        entry_of_9(alloc, file).err().unwrap_or("sound"),
+    assert!(rt;
+        answer == entry_of_9(alloc, file).err().unwrap_or("sound"),
         "{file:?}"
     );
     assert!(rt; set.content(KEY) == Some(file), "{file:?}");
@@ -90,9 +89,9 @@ fn is_imported(
     let entry = read(alloc, file)?;
     let is_whole = entry.pages.iter().all(|page| page.is_some());
     let kind = if is_whole { Kind::Complete } else { Kind::New };
-    assert_eq!(rt; imported.id.number(), entry.number);
-    assert_eq!(rt; imported.n as usize, entry.pages.len());
-    assert_eq!(rt; (imported.added, imported.kind), (mask_of(&entry), kind));
+    assert!(rt; imported.id.number() == entry.number);
+    assert!(rt; (imported.n as usize) == entry.pages.len());
+    assert!(rt; (imported.added, imported.kind) == (mask_of(&entry), kind));
     holds(rt, desk, &entry, file)
 }
 
@@ -108,13 +107,12 @@ fn import(rt: &impl Abort, alloc: Global, file: &[u8]) -> Result<&'static str, F
         }
         Err(fault) => fault.name(),
     };
-    assert_eq!(rt;
-        answer,
-        read(alloc, file).err().unwrap_or("sound"),
+    assert!(rt;
+        answer == read(alloc, file).err().unwrap_or("sound"),
         "{file:?}"
     );
     let keys = desk.close().keys(1)?;
-    assert_eq!(rt; keys.is_empty(), answer != "sound", "{file:?}");
+    assert!(rt; keys.is_empty() == (answer != "sound"), "{file:?}");
     Ok(answer)
 }
 
@@ -127,8 +125,8 @@ fn is_moved(
     file: &[u8],
 ) -> Result<(), Fail> {
     let documents = read_joint(alloc, file)?;
-    assert_eq!(rt; count as usize, documents.len());
-    assert_eq!(rt; set.keys(65_535)?.len(), documents.len());
+    assert!(rt; (count as usize) == documents.len());
+    assert!(rt; set.keys(65_535)?.len() == documents.len());
     for document in documents.iter() {
         let one = [b"DMPG\x02".as_slice(), document.bytes].concat(alloc)?;
         assert!(rt;
@@ -153,9 +151,8 @@ fn moved(rt: &impl Abort, alloc: Global, file: &[u8]) -> Result<&'static str, Fa
             (fault.name(), file)
         }
     };
-    assert_eq!(rt;
-        answer,
-        read_joint(alloc, file).err().unwrap_or("sound"),
+    assert!(rt;
+        answer == read_joint(alloc, file).err().unwrap_or("sound"),
         "{file:?}"
     );
     assert!(rt; old.content() == Some(left), "{file:?}");
@@ -175,7 +172,7 @@ fn each_byte_of_a_file_is_spoiled(rt: HostRuntime) -> Result<(), Fail> {
         for copy in spoiled(rt.alloc(), file)?.iter() {
             count(&mut counts, &NAMES, open(&rt, rt.alloc(), copy.as_slice())?);
         }
-        assert_eq!(rt; counts, want);
+        assert!(rt; counts == want);
     }
     Ok(())
 }
@@ -194,7 +191,7 @@ fn each_byte_of_an_import_is_spoiled(rt: HostRuntime) -> Result<(), Fail> {
                 import(&rt, rt.alloc(), copy.as_slice())?,
             );
         }
-        assert_eq!(rt; counts, want);
+        assert!(rt; counts == want);
     }
     Ok(())
 }
@@ -209,6 +206,6 @@ fn each_byte_of_a_joint_file_is_spoiled(rt: HostRuntime) -> Result<(), Fail> {
             moved(&rt, rt.alloc(), copy.as_slice())?,
         );
     }
-    assert_eq!(rt; counts, [2047, 511, 8676, 1334]);
+    assert!(rt; counts == [2047, 511, 8676, 1334]);
     Ok(())
 }

@@ -10,8 +10,8 @@ fn faults_of_a_new_printer(rt: HostRuntime) -> Result<(), Fail> {
         (CreateFault::Device, "Device", "the device failed"),
         (CreateFault::Memory, "Memory", "out of memory"),
     ] {
-        assert_eq!(rt; fault.name(), name);
-        assert_eq!(rt; format!(in rt.alloc(); "{fault}")?.as_str(), text);
+        assert!(rt; fault.name() == name);
+        assert!(rt; format!(in rt.alloc(); "{fault}")?.as_str() == text);
     }
     Ok(())
 }
@@ -35,8 +35,8 @@ fn faults_of_a_printer_that_is_opened(rt: HostRuntime) -> Result<(), Fail> {
             "the ledger is another printer's",
         ),
     ] {
-        assert_eq!(rt; fault.name(), name);
-        assert_eq!(rt; format!(in rt.alloc(); "{fault}")?.as_str(), text);
+        assert!(rt; fault.name() == name);
+        assert!(rt; format!(in rt.alloc(); "{fault}")?.as_str() == text);
     }
     Ok(())
 }
@@ -58,8 +58,8 @@ fn faults_of_a_print(rt: HostRuntime) -> Result<(), Fail> {
         (PrintFault::Memory, "Memory", "out of memory"),
         (PrintFault::Save, "Save", "the save failed"),
     ] {
-        assert_eq!(rt; fault.name(), name);
-        assert_eq!(rt; format!(in rt.alloc(); "{fault}")?.as_str(), text);
+        assert!(rt; fault.name() == name);
+        assert!(rt; format!(in rt.alloc(); "{fault}")?.as_str() == text);
     }
     Ok(())
 }
@@ -88,8 +88,8 @@ fn faults_of_a_range_that_is_given(rt: HostRuntime) -> Result<(), Fail> {
         (GiveFault::Memory, "Memory", "out of memory"),
         (GiveFault::Save, "Save", "the save failed"),
     ] {
-        assert_eq!(rt; fault.name(), name);
-        assert_eq!(rt; format!(in rt.alloc(); "{fault}")?.as_str(), text);
+        assert!(rt; fault.name() == name);
+        assert!(rt; format!(in rt.alloc(); "{fault}")?.as_str() == text);
     }
     Ok(())
 }
@@ -122,8 +122,8 @@ fn faults_of_a_ticket_that_is_taken(rt: HostRuntime) -> Result<(), Fail> {
         (TakeFault::Memory, "Memory", "out of memory"),
         (TakeFault::Save, "Save", "the save failed"),
     ] {
-        assert_eq!(rt; fault.name(), name);
-        assert_eq!(rt; format!(in rt.alloc(); "{fault}")?.as_str(), text);
+        assert!(rt; fault.name() == name);
+        assert!(rt; format!(in rt.alloc(); "{fault}")?.as_str() == text);
     }
     Ok(())
 }

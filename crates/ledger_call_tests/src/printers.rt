@@ -100,10 +100,7 @@ pub fn document_of<A: Allocator + Copy>(
     for before in 0..count {
         let grid = job.next_label().expect(rt, "a label");
         let page = open_label(alloc, &grid)?.page;
-        assert_eq!(rt;
-            (page.id(), page.m(), page.n()),
-            (job.id(), before + 1, count)
-        );
+        assert!(rt; (page.id(), page.m(), page.n()) == (job.id(), before + 1, count));
         document.extend_from_slice(page.bytes())?;
     }
     assert!(rt; job.next_label().is_none());

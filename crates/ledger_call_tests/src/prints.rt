@@ -21,25 +21,16 @@ fn a_job_has_the_labels_of_its_document(rt: HostRuntime) -> Result<(), Fail> {
     ];
     for (row, (document, size, scheme, count)) in rows.iter().enumerate() {
         let mut job = print(&mut printer, document, *size, *scheme)?;
-        assert_eq!(rt;
-            (job.id().number() as usize, job.count()),
-            (300 + row, *count)
-        );
+        assert!(rt; (job.id().number() as usize, job.count()) == (300 + row, *count));
         let read = document_of(&rt, alloc, &mut job)?;
-        assert_eq!(rt; read.as_slice(), *document);
+        assert!(rt; read.as_slice() == *document);
     }
     // A job does not depend on its printer: the second is printed before the first is taken.
     let mut first = print(&mut printer, b"first", Size::Side14, Scheme::Ascii)?;
     let mut second = print(&mut printer, b"second", Size::Side14, Scheme::Ascii)?;
-    assert_eq!(rt;
-        document_of(&rt, alloc, &mut first)?.as_slice(),
-        b"first".as_slice()
-    );
-    assert_eq!(rt;
-        document_of(&rt, alloc, &mut second)?.as_slice(),
-        b"second".as_slice()
-    );
-    assert_eq!(rt; printer.left(), 3);
+    assert!(rt; document_of(&rt, alloc, &mut first)?.as_slice() == b"first".as_slice());
+    assert!(rt; document_of(&rt, alloc, &mut second)?.as_slice() == b"second".as_slice());
+    assert!(rt; printer.left() == 3);
     Ok(())
 }
 
@@ -58,7 +49,7 @@ fn what_cannot_be_printed(rt: HostRuntime) {
             Ok(_) => None,
             Err(fault) => Some(fault),
         };
-        assert_eq!(rt; (fault, printer.left()), (Some(PrintFault::TooLong), 10));
+        assert!(rt; (fault, printer.left()) == (Some(PrintFault::TooLong), 10));
     }
 }
 
@@ -67,23 +58,20 @@ fn the_range_is_used_up(rt: HostRuntime) {
     let alloc = rt.alloc();
     let saved = b"DMLG\x02\x00\x00\x00\x00\x01\x00\x00\x00\x09\x00\xff\xf5";
     let mut printer = reopened(&rt, alloc, created(&rt, alloc, 0, 0, 9), saved, 0);
-    assert_eq!(rt; (printed(&mut printer), printer.left()), (Ok(0), 9));
+    assert!(rt; (printed(&mut printer), printer.left()) == (Ok(0), 9));
     let saved = b"DMLG\x02\x00\x00\x00\x00\x01\x00\x01\x00\x09\x00\xff\xf6";
     reopened(&rt, alloc, printer, saved, 0);
     let mut last = created(&rt, alloc, 0, 64_515, 64_515);
-    assert_eq!(rt; printed(&mut last), Ok(64_515));
+    assert!(rt; printed(&mut last) == Ok(64_515));
     let saved = b"DMLG\x02\x00\x00\x00\x00\x00\x00\xff\xff";
-    assert_eq!(rt; printed(&mut last), Err(PrintFault::Exhausted));
+    assert!(rt; printed(&mut last) == Err(PrintFault::Exhausted));
     let mut last = reopened(&rt, alloc, last, saved, 0);
-    assert_eq!(rt;
-        (printed(&mut last), last.left()),
-        (Err(PrintFault::Exhausted), 0)
-    );
+    assert!(rt; (printed(&mut last), last.left()) == (Err(PrintFault::Exhausted), 0));
     let range = Range { first: 0, last: 9 };
     let again = Printer::create(alloc, last.close(), 0, range).err();
     assert!(rt; again.is_some_and(|refused| refused.fault == CreateFault::Exists));
     let whole = created(&rt, alloc, 0, 0, 64_515);
-    assert_eq!(rt; whole.left(), 64_516);
+    assert!(rt; whole.left() == 64_516);
 }
 
 #[test]
@@ -97,7 +85,7 @@ fn identifications_are_the_two_words_of_their_numbers(rt: HostRuntime) -> Result
     for (number, words) in rows {
         let mut printer = created(&rt, rt.alloc(), 0, number, number);
         let job = print(&mut printer, b"1234", Size::Side12, Scheme::Ascii)?;
-        assert_eq!(rt; job.id().words(), words);
+        assert!(rt; job.id().words() == words);
     }
     Ok(())
 }
@@ -119,14 +107,14 @@ fn what_cannot_be_created(rt: HostRuntime) -> Result<(), Fail> {
             Ok(printer) => (printer.close(), None),
             Err(refused) => (refused.store, Some(refused.fault)),
         };
-        assert_eq!(rt; answer, fault);
+        assert!(rt; answer == fault);
         // Where the new ledger was saved, a second printer is refused; else it is created.
         let is_saved = fault.is_none() || next == NextSave::FaultNew;
         let again = match Printer::create(alloc, store, 0, Range { first: 0, last: 1 }) {
             Ok(_) => None,
             Err(refused) => Some(refused.fault),
         };
-        assert_eq!(rt; again, is_saved.then_some(CreateFault::Exists));
+        assert!(rt; again == is_saved.then_some(CreateFault::Exists));
     }
     let mut store = MemStore::with(alloc, b"other bytes".to_vec(alloc)?);
     store.set_load(true);
@@ -134,7 +122,7 @@ fn what_cannot_be_created(rt: HostRuntime) -> Result<(), Fail> {
         store = match Printer::create(alloc, store, 0, Range { first: 0, last: 9 }) {
             Ok(_) => return Err("a printer over other bytes".into()),
             Err(refused) => {
-                assert_eq!(rt; refused.fault, fault);
+                assert!(rt; refused.fault == fault);
                 refused.store
             }
         };
@@ -152,30 +140,24 @@ fn a_save_fails(rt: HostRuntime) -> Result<(), Fail> {
     for (next, saved, left) in [(NextSave::FaultOld, old, 10), (NextSave::FaultNew, new, 9)] {
         let mut printer = created(&rt, alloc, 0, 0, 9);
         printer.set_next(next);
-        assert_eq!(rt; printed(&mut printer), Err(PrintFault::Save));
-        assert_eq!(rt;
-            (printed(&mut printer), printer.left()),
-            (Err(PrintFault::Failed), 10)
-        );
+        assert!(rt; printed(&mut printer) == Err(PrintFault::Save));
+        assert!(rt; (printed(&mut printer), printer.left()) == (Err(PrintFault::Failed), 10));
         let range = Range { first: 3, last: 4 };
-        assert_eq!(rt; give(&mut printer, 1, range), Err(GiveFault::Failed));
-        assert_eq!(rt; take(&mut printer, &ticket), Err(TakeFault::Failed));
+        assert!(rt; give(&mut printer, 1, range) == Err(GiveFault::Failed));
+        assert!(rt; take(&mut printer, &ticket) == Err(TakeFault::Failed));
         let mut printer = reopened(&rt, alloc, printer, saved, 0);
-        assert_eq!(rt;
-            (printer.left(), printed(&mut printer)),
-            (left, Ok(10 - left as u16))
-        );
+        assert!(rt; (printer.left(), printed(&mut printer)) == (left, Ok(10 - left as u16)));
         // A setting is for one save alone.
         printer.set_next(next);
-        assert_eq!(rt; give(&mut printer, 1, range), Err(GiveFault::Save));
-        assert_eq!(rt; take(&mut printer, &ticket), Err(TakeFault::Failed));
+        assert!(rt; give(&mut printer, 1, range) == Err(GiveFault::Save));
+        assert!(rt; take(&mut printer, &ticket) == Err(TakeFault::Failed));
     }
     let mut store = created(&rt, alloc, 0, 0, 9).close();
     store.set_load(true);
     let Err(refused) = Printer::open(alloc, store, 0) else {
         return Err("a printer with no load".into());
     };
-    assert_eq!(rt; refused.fault, OpenFault::Device);
+    assert!(rt; refused.fault == OpenFault::Device);
     assert!(rt; refused.store.content() == Some(old));
     Ok(())
 }

@@ -9,16 +9,13 @@ fn a_ledger_of_version_1_goes_on(rt: HostRuntime) -> Result<(), Fail> {
     let alloc = rt.alloc();
     let first = b"DMLG\x01\x00\x00\x00\x09\x00\x01\xff\xfe";
     let mut printer = opened(&rt, alloc, first, 7)?;
-    assert_eq!(rt; (printer.left(), printed(&mut printer)?), (9, 1));
+    assert!(rt; (printer.left(), printed(&mut printer)?) == (9, 1));
     let saved = b"DMLG\x02\x00\x07\x00\x00\x01\x00\x02\x00\x09\x00\xff\xf7";
     let printer = reopened(&rt, alloc, printer, saved, 7);
-    assert_eq!(rt; printer.left(), 8);
+    assert!(rt; printer.left() == 8);
     let used_up = b"DMLG\x01\x00\x00\x00\x09\x00\x0a\xff\xf5";
     let mut printer = opened(&rt, alloc, used_up, 65_535)?;
-    assert_eq!(rt;
-        (printer.left(), printed(&mut printer)),
-        (0, Err(PrintFault::Exhausted))
-    );
+    assert!(rt; (printer.left(), printed(&mut printer)) == (0, Err(PrintFault::Exhausted)));
     Ok(())
 }
 
@@ -152,7 +149,7 @@ fn each_byte_is_changed(rt: HostRuntime) -> Result<(), Fail> {
         let mut bytes = SOUND;
         bytes[place] = 99;
         let mut printer = opened(&rt, alloc, &bytes, 7)?;
-        assert_eq!(rt; printed(&mut printer)?, 2);
+        assert!(rt; printed(&mut printer)? == 2);
         bytes[11] = 3;
         bytes[20] = 0xf8;
         reopened(&rt, alloc, printer, &bytes, 7);

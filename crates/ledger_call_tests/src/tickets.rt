@@ -8,20 +8,20 @@ fn a_part_of_a_range_moves(rt: HostRuntime) -> Result<(), Fail> {
     let alloc = rt.alloc();
     let mut printer = created(&rt, alloc, 0, 0, 9);
     let ticket = give(&mut printer, 1, Range { first: 5, last: 9 })?;
-    assert_eq!(rt; ticket.bytes(), [0, 0, 0, 0, 0, 1, 0, 5, 0, 9]);
-    assert_eq!(rt; printer.left(), 5);
+    assert!(rt; ticket.bytes() == [0, 0, 0, 0, 0, 1, 0, 5, 0, 9]);
+    assert!(rt; printer.left() == 5);
     let saved = b"DMLG\x02\x00\x00\x00\x01\x01\x00\x00\x00\x04\x00\xff\xfa";
     let mut printer = reopened(&rt, alloc, printer, saved, 0);
     let mut other = created(&rt, alloc, 1, 10, 19);
     take(&mut other, &ticket)?;
     let saved = b"DMLG\x02\x00\x01\x00\x00\x01\x00\x05\x00\x13\x01\x00\x00\x00\x00\xff\xf0";
     let mut other = reopened(&rt, alloc, other, saved, 1);
-    assert_eq!(rt; take(&mut other, &ticket), Err(TakeFault::Old));
-    assert_eq!(rt; printed(&mut other)?, 5);
-    assert_eq!(rt; printed(&mut printer)?, 0);
+    assert!(rt; take(&mut other, &ticket) == Err(TakeFault::Old));
+    assert!(rt; printed(&mut other)? == 5);
+    assert!(rt; printed(&mut printer)? == 0);
     // Serials rise by one, and a number in the middle leaves two ranges.
     let ticket = give(&mut printer, 1, Range { first: 2, last: 3 })?;
-    assert_eq!(rt; ticket.bytes(), [0, 0, 0, 1, 0, 1, 0, 2, 0, 3]);
+    assert!(rt; ticket.bytes() == [0, 0, 0, 1, 0, 1, 0, 2, 0, 3]);
     let saved = b"DMLG\x02\x00\x00\x00\x02\x02\x00\x01\x00\x01\x00\x04\x00\x04\x00\xff\xfd";
     reopened(&rt, alloc, printer, saved, 0);
     Ok(())
@@ -38,12 +38,9 @@ fn what_cannot_be_given(rt: HostRuntime) {
         (8, 300, 301, GiveFault::NotFree),
     ];
     for (receiver, first, last, fault) in rows {
-        assert_eq!(rt;
-            give(&mut printer, receiver, Range { first, last }),
-            Err(fault)
-        );
+        assert!(rt; give(&mut printer, receiver, Range { first, last }) == Err(fault));
     }
-    assert_eq!(rt; printer.left(), 201);
+    assert!(rt; printer.left() == 201);
 }
 
 // Each second number leaves, so that 63 numbers and the rest are free.
@@ -54,9 +51,8 @@ fn sixty_four_ranges_remain(rt: HostRuntime) -> Result<(), Fail> {
         let number = 101 + 2 * i;
         give(&mut printer, 8, single(number))?;
     }
-    assert_eq!(rt;
-        (printer.left(), give(&mut printer, 8, single(227))),
-        (138, Err(GiveFault::Ranges))
+    assert!(rt;
+        (printer.left(), give(&mut printer, 8, single(227))) == (138, Err(GiveFault::Ranges))
     );
     let edge = Range {
         first: 226,
@@ -64,7 +60,7 @@ fn sixty_four_ranges_remain(rt: HostRuntime) -> Result<(), Fail> {
     };
     give(&mut printer, 8, edge)?;
     let store = printer.close();
-    assert_eq!(rt; store.content().map(|bytes| bytes.len()), Some(13 + 4 * 64));
+    assert!(rt; store.content().map(|bytes| bytes.len()) == Some(13 + 4 * 64));
     Ok(())
 }
 
@@ -74,13 +70,10 @@ fn the_last_serial_is_given(rt: HostRuntime) -> Result<(), Fail> {
     let saved = b"DMLG\x02\x00\x07\xff\xfe\x01\x00\x02\x00\x09\x00\xff\xf7";
     let mut printer = opened(&rt, rt.alloc(), saved, 7)?;
     let ticket = give(&mut printer, 8, single(2))?;
-    assert_eq!(rt; ticket.serial, 65_534);
+    assert!(rt; ticket.serial == 65_534);
     let rows = [(2, GiveFault::NotFree), (3, GiveFault::Serials)];
     for (number, fault) in rows {
-        assert_eq!(rt;
-            (give(&mut printer, 8, single(number)), printer.left()),
-            (Err(fault), 7)
-        );
+        assert!(rt; (give(&mut printer, 8, single(number)), printer.left()) == (Err(fault), 7));
     }
     Ok(())
 }
@@ -97,9 +90,9 @@ fn what_cannot_be_taken(rt: HostRuntime) {
     ];
     for (bytes, fault) in rows {
         let ticket = Ticket::of_bytes(bytes).expect(&rt, "a ticket");
-        assert_eq!(rt; take(&mut printer, &ticket), Err(fault));
+        assert!(rt; take(&mut printer, &ticket) == Err(fault));
     }
-    assert_eq!(rt; printer.left(), 11);
+    assert!(rt; printer.left() == 11);
 }
 
 // Numbers that touch are joined, so that 64 tickets of 64 givers leave two ranges; a 65th giver is refused.
@@ -114,9 +107,9 @@ fn tickets_of_sixty_four_givers_are_taken(rt: HostRuntime) {
         } else {
             Err(TakeFault::Givers)
         };
-        assert_eq!(rt; take(&mut printer, &ticket), answer);
+        assert!(rt; take(&mut printer, &ticket) == answer);
     }
-    assert_eq!(rt; printer.left(), 75);
+    assert!(rt; printer.left() == 75);
     let rows: [(&[u8], Result<(), TakeFault>); 4] = [
         (&[1, 0, 0, 2, 0, 8, 0, 50, 0, 50], Err(TakeFault::Old)),
         (&[1, 0, 0, 3, 0, 8, 0, 50, 0, 50], Err(TakeFault::Old)),
@@ -125,13 +118,13 @@ fn tickets_of_sixty_four_givers_are_taken(rt: HostRuntime) {
     ];
     for (bytes, answer) in rows {
         let ticket = Ticket::of_bytes(bytes).expect(&rt, "a ticket");
-        assert_eq!(rt; take(&mut printer, &ticket), answer);
+        assert!(rt; take(&mut printer, &ticket) == answer);
     }
     // One range, 10 to 319, and 64 givers.
     let store = printer.close();
     let content = store.content().expect(&rt, "a ledger");
     assert!(rt; content.starts_with(b"DMLG\x02\x00\x08\x00\x00\x01\x00\x0a\x01\x3f\x40"));
-    assert_eq!(rt; content.len(), 17 + 4 * 64);
+    assert!(rt; content.len() == 17 + 4 * 64);
 }
 
 #[test]
@@ -157,10 +150,7 @@ fn sixty_four_ranges_are_taken(rt: HostRuntime) -> Result<(), Fail> {
     ];
     for (bytes, answer, left) in rows {
         let ticket = Ticket::of_bytes(bytes).expect(&rt, "a ticket");
-        assert_eq!(rt;
-            (take(&mut printer, &ticket), printer.left()),
-            (answer, left)
-        );
+        assert!(rt; (take(&mut printer, &ticket), printer.left()) == (answer, left));
     }
     Ok(())
 }
@@ -169,12 +159,9 @@ fn sixty_four_ranges_are_taken(rt: HostRuntime) -> Result<(), Fail> {
 fn tickets_of_bytes(rt: HostRuntime) {
     let bytes = [1, 2, 3, 4, 5, 6, 7, 8, 0xfc, 0x03];
     let ticket = Ticket::of_bytes(&bytes).expect(&rt, "a ticket");
-    assert_eq!(rt;
-        (ticket.giver, ticket.serial, ticket.receiver),
-        (0x0102, 0x0304, 0x0506)
-    );
-    assert_eq!(rt; (ticket.range.first, ticket.range.last), (0x0708, 64_515));
-    assert_eq!(rt; ticket.bytes(), bytes);
+    assert!(rt; (ticket.giver, ticket.serial, ticket.receiver) == (0x0102, 0x0304, 0x0506));
+    assert!(rt; (ticket.range.first, ticket.range.last) == (0x0708, 64_515));
+    assert!(rt; ticket.bytes() == bytes);
     assert!(rt; Ticket::of_bytes(&bytes[..9]).is_none());
     assert!(rt; Ticket::of_bytes(&[0, 0, 0, 0, 0, 1, 0, 5, 0, 9, 0]).is_none());
     assert!(rt; Ticket::of_bytes(&[0, 0, 0, 0, 0, 1, 0, 5, 0, 4]).is_none());

@@ -72,23 +72,23 @@ fn each_save_is_read_by_the_table(rt: HostRuntime) -> Result<(), Fail> {
     let range = Range { first: 0, last: 9 };
     assert!(rt; Printer::create(rt.alloc(), store, 7, range).is_ok());
     let sheet = sheet_of(&rt, path)?;
-    assert_eq!(rt; (sheet.number, sheet.next_serial), (7, 0));
-    assert_eq!(rt; sheet.free.as_slice(), [(0, 9)].as_slice());
+    assert!(rt; (sheet.number, sheet.next_serial) == (7, 0));
+    assert!(rt; sheet.free.as_slice() == [(0, 9)].as_slice());
     assert!(rt; sheet.givers.is_empty());
-    assert_eq!(rt; printed(&mut opened(&rt, path)?)?, 0);
-    assert_eq!(rt; sheet_of(&rt, path)?.free.as_slice(), [(1, 9)].as_slice());
+    assert!(rt; printed(&mut opened(&rt, path)?)? == 0);
+    assert!(rt; sheet_of(&rt, path)?.free.as_slice() == [(1, 9)].as_slice());
     let ticket = opened(&rt, path)?.give(3, Range { first: 5, last: 6 })?;
-    assert_eq!(rt; ticket.bytes(), [0, 7, 0, 0, 0, 3, 0, 5, 0, 6]);
+    assert!(rt; ticket.bytes() == [0, 7, 0, 0, 0, 3, 0, 5, 0, 6]);
     let sheet = sheet_of(&rt, path)?;
-    assert_eq!(rt; (sheet.number, sheet.next_serial), (7, 1));
-    assert_eq!(rt; sheet.free.as_slice(), [(1, 4), (7, 9)].as_slice());
+    assert!(rt; (sheet.number, sheet.next_serial) == (7, 1));
+    assert!(rt; sheet.free.as_slice() == [(1, 4), (7, 9)].as_slice());
     take(&rt, path, 9, 2, 20, 21)?;
     take(&rt, path, 3, 0, 5, 6)?;
-    assert_eq!(rt; printed(&mut opened(&rt, path)?)?, 1);
+    assert!(rt; printed(&mut opened(&rt, path)?)? == 1);
     let sheet = sheet_of(&rt, path)?;
-    assert_eq!(rt; (sheet.number, sheet.next_serial), (7, 1));
-    assert_eq!(rt; sheet.free.as_slice(), [(2, 9), (20, 21)].as_slice());
-    assert_eq!(rt; sheet.givers.as_slice(), [(3, 0), (9, 2)].as_slice());
+    assert!(rt; (sheet.number, sheet.next_serial) == (7, 1));
+    assert!(rt; sheet.free.as_slice() == [(2, 9), (20, 21)].as_slice());
+    assert!(rt; sheet.givers.as_slice() == [(3, 0), (9, 2)].as_slice());
     fs::remove_file(&rt, path)?;
     Ok(())
 }
@@ -103,11 +103,11 @@ fn a_file_of_version_1_becomes_one_of_version_2(rt: HostRuntime) -> Result<(), F
         path,
         b"DMLG\x01\x00\x00\x00\x09\x00\x01\xff\xfe".as_slice(),
     )?;
-    assert_eq!(rt; opened(&rt, path)?.left(), 9);
-    assert_eq!(rt; printed(&mut opened(&rt, path)?)?, 1);
+    assert!(rt; opened(&rt, path)?.left() == 9);
+    assert!(rt; printed(&mut opened(&rt, path)?)? == 1);
     let sheet = sheet_of(&rt, path)?;
-    assert_eq!(rt; (sheet.number, sheet.next_serial), (7, 0));
-    assert_eq!(rt; sheet.free.as_slice(), [(2, 9)].as_slice());
+    assert!(rt; (sheet.number, sheet.next_serial) == (7, 0));
+    assert!(rt; sheet.free.as_slice() == [(2, 9)].as_slice());
     assert!(rt; sheet.givers.is_empty());
     fs::remove_file(&rt, path)?;
     Ok(())
@@ -127,15 +127,15 @@ fn the_greatest_file_has_525_bytes(rt: HostRuntime) -> Result<(), Fail> {
         take(&rt, path, 100 + i, i, 3 * i, 3 * i + 1)?;
     }
     let mut bytes = fs::read(&rt, path)?;
-    assert_eq!(rt; bytes.len(), 525);
+    assert!(rt; bytes.len() == 525);
     let sheet = sheet_of(&rt, path)?;
     for i in 0..64u16 {
         let place = i as usize;
-        assert_eq!(rt; sheet.free.get(place), Some(&(3 * i, 3 * i + 1)));
-        assert_eq!(rt; sheet.givers.get(place), Some(&(100 + i, i)));
+        assert!(rt; sheet.free.get(place) == Some(&(3 * i, 3 * i + 1)));
+        assert!(rt; sheet.givers.get(place) == Some(&(100 + i, i)));
     }
-    assert_eq!(rt; (sheet.free.len(), sheet.givers.len()), (64, 64));
-    assert_eq!(rt; opened(&rt, path)?.left(), 128);
+    assert!(rt; (sheet.free.len(), sheet.givers.len()) == (64, 64));
+    assert!(rt; opened(&rt, path)?.left() == 128);
     bytes.push(0)?;
     fs::write(&rt, path, bytes.as_slice())?;
     let store = FileStore::new(rt.alloc(), &rt, String::from_str(rt.alloc(), path)?);
@@ -143,7 +143,7 @@ fn the_greatest_file_has_525_bytes(rt: HostRuntime) -> Result<(), Fail> {
         Ok(_) => None,
         Err(refused) => Some(refused.fault),
     };
-    assert_eq!(rt; fault, Some(OpenFault::Damaged));
+    assert!(rt; fault == Some(OpenFault::Damaged));
     fs::remove_file(&rt, path)?;
     Ok(())
 }

@@ -60,9 +60,9 @@ fn opened_again<A: Allocator + Copy>(
     let mut printer = printer;
     let ticket = Ticket::of_bytes(&TAKEN).expect(rt, "a ticket");
     let fault = printer.print(b"", Size::Side12, Scheme::Ascii).err();
-    assert_eq!(rt; fault, Some(PrintFault::Failed));
-    assert_eq!(rt; printer.give(3, GIVEN), Err(GiveFault::Failed));
-    assert_eq!(rt; printer.take(&ticket), Err(TakeFault::Failed));
+    assert!(rt; fault == Some(PrintFault::Failed));
+    assert!(rt; printer.give(3, GIVEN) == Err(GiveFault::Failed));
+    assert!(rt; printer.take(&ticket) == Err(TakeFault::Failed));
     opened(rt, alloc, printer.close())
 }
 
@@ -153,7 +153,7 @@ fn taken<A: Allocator + Copy>(
             Kept::Old => Ok(()),
             Kept::New => Err(TakeFault::Old),
         };
-        assert_eq!(rt; printer.take(&ticket), answer);
+        assert!(rt; printer.take(&ticket) == answer);
     }
     printer
 }
@@ -208,18 +208,18 @@ fn the_store_stops_at_each_call(rt: HostRuntime) -> Result<(), Fail> {
     for kept in [Kept::Old, Kept::New] {
         for passes in 0..=CALLS {
             let (left, mut store) = run(&rt, alloc, passes, kept)?;
-            assert_eq!(rt; left.ids, ids_after(passes, kept));
+            assert!(rt; left.ids == ids_after(passes, kept));
             let is_lost = passes == 4 && kept == Kept::New;
-            assert_eq!(rt; left.ticket.is_none(), is_lost);
+            assert!(rt; left.ticket.is_none() == is_lost);
             if let Some(ticket) = left.ticket {
-                assert_eq!(rt; ticket.bytes(), [0, 0, 0, 0, 0, 3, 0, 5, 0, 6]);
+                assert!(rt; ticket.bytes() == [0, 0, 0, 0, 0, 3, 0, 5, 0, 6]);
             }
             let mut saved = SAVED;
             let (least, check) = least_and_check(passes, kept);
             saved[11] = least;
             saved[28] = check;
             // Where no call was stopped, the next one would be.
-            assert_eq!(rt; store.load(0).is_err(), passes == CALLS);
+            assert!(rt; store.load(0).is_err() == (passes == CALLS));
             let store = store.into_inner();
             assert!(rt; store.content() == Some(saved.as_slice()));
         }

@@ -146,7 +146,7 @@ fn give<A: Allocator + Copy>(
             printer.give(1, range(5, 9))?
         }
     };
-    assert_eq!(rt; ticket.bytes(), [0, 0, 0, 0, 0, 1, 0, 5, 0, 9]);
+    assert!(rt; ticket.bytes() == [0, 0, 0, 0, 0, 1, 0, 5, 0, 9]);
     Ok((printer, is_refused))
 }
 

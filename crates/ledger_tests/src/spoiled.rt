@@ -45,7 +45,7 @@ fn goes_on(
             .saturating_add(*last as u32 + 1)
             .saturating_sub(*first as u32);
     }
-    assert_eq!(rt; printer.left(), left);
+    assert!(rt; printer.left() == left);
     let Some((least, _)) = sheet.free.first().copied() else {
         return Ok(());
     };
@@ -54,18 +54,15 @@ fn goes_on(
         last: least,
     };
     let ticket = printer.give(8, range)?;
-    assert_eq!(rt;
-        (ticket.giver, ticket.serial),
-        (sheet.number, sheet.next_serial)
-    );
+    assert!(rt; (ticket.giver, ticket.serial) == (sheet.number, sheet.next_serial));
     let store = printer.close();
     let Some(saved) = read(alloc, store.content().unwrap_or(b"")) else {
         return Err("no ledger".into());
     };
-    assert_eq!(rt; saved.number, sheet.number);
-    assert_eq!(rt; saved.next_serial, sheet.next_serial.saturating_add(1));
-    assert_eq!(rt; saved.free, without_least(alloc, sheet.free.as_slice())?);
-    assert_eq!(rt; saved.givers, sheet.givers);
+    assert!(rt; saved.number == sheet.number);
+    assert!(rt; saved.next_serial == sheet.next_serial.saturating_add(1));
+    assert!(rt; saved.free == without_least(alloc, sheet.free.as_slice())?);
+    assert!(rt; saved.givers == sheet.givers);
     Ok(())
 }
 
@@ -82,9 +79,8 @@ fn open(rt: &impl Abort, alloc: Global, ledger: &[u8]) -> Result<&'static str, F
             refused.fault.name()
         }
     };
-    assert_eq!(rt;
-        answered,
-        answer(alloc, ledger, 7).err().unwrap_or("opened"),
+    assert!(rt;
+        answered == answer(alloc, ledger, 7).err().unwrap_or("opened"),
         "{ledger:?}"
     );
     Ok(answered)
@@ -102,13 +98,7 @@ fn answers(rt: &impl Abort, alloc: Global, ledger: &[u8]) -> Result<[u32; 5], Fa
 // The counts are those of a reader in another language.
 #[test]
 fn each_byte_of_a_ledger_is_spoiled(rt: HostRuntime) -> Result<(), Fail> {
-    assert_eq!(rt;
-        answers(&rt, rt.alloc(), LEDGER)?,
-        [2047, 509, 12042, 510, 2077]
-    );
-    assert_eq!(rt;
-        answers(&rt, rt.alloc(), FIRST_LEDGER)?,
-        [2047, 509, 3849, 0, 520]
-    );
+    assert!(rt; answers(&rt, rt.alloc(), LEDGER)? == [2047, 509, 12042, 510, 2077]);
+    assert!(rt; answers(&rt, rt.alloc(), FIRST_LEDGER)? == [2047, 509, 3849, 0, 520]);
     Ok(())
 }

@@ -94,25 +94,22 @@ fn gathers_labels(rt: HostRuntime) -> Result<(), Fail> {
         second(&images),
         &mut lines,
     );
-    assert_eq!(rt; files.status, 0);
-    assert_eq!(rt; files.set.content(0), Some(PAGE_2));
+    assert!(rt; files.status == 0);
+    assert!(rt; files.set.content(0) == Some(PAGE_2));
     let files = scan(rt.alloc(), files, second(&images), &mut lines);
     let mut document = Output::new(Vec::new(rt.alloc()));
     let files = deliver(rt.alloc(), files, &mut document, &mut errors);
-    assert_eq!(rt; files.status, 1);
+    assert!(rt; files.status == 1);
     let files = scan(rt.alloc(), files, &images, &mut lines);
-    assert_eq!(rt; files.status, 0);
+    assert!(rt; files.status == 0);
     let files = deliver(rt.alloc(), files, &mut document, &mut errors);
-    assert_eq!(rt; files.status, 0);
-    assert_eq!(rt;
-        lines.writer().as_slice(),
-        b"0101 2/2 new\n0101 2/2 again\n0101 1/2 complete\n0101 2/2 again\n".as_slice()
+    assert!(rt; files.status == 0);
+    assert!(rt;
+        lines.writer().as_slice()
+            == b"0101 2/2 new\n0101 2/2 again\n0101 1/2 complete\n0101 2/2 again\n".as_slice()
     );
-    assert_eq!(rt; document.writer().as_slice(), b"1234".as_slice());
-    assert_eq!(rt;
-        errors.writer().as_slice(),
-        b"refused Incomplete\n".as_slice()
-    );
+    assert!(rt; document.writer().as_slice() == b"1234".as_slice());
+    assert!(rt; errors.writer().as_slice() == b"refused Incomplete\n".as_slice());
     Ok(())
 }
 
@@ -127,13 +124,12 @@ fn forgets(rt: HostRuntime) -> Result<(), Fail> {
         &mut lines,
     );
     let files = forget_command(rt.alloc(), files.store, files.set, &mut lines, "0101");
-    assert_eq!(rt; files.status, 0);
-    assert_eq!(rt; files.set.content(0), None);
+    assert!(rt; files.status == 0);
+    assert!(rt; files.set.content(0) == None);
     let files = forget_command(rt.alloc(), files.store, files.set, &mut lines, "0101");
-    assert_eq!(rt; files.status, 1);
-    assert_eq!(rt;
-        lines.writer().as_slice(),
-        b"0101 2/2 new\nforgotten 0101\nrefused NotHeld\n".as_slice()
+    assert!(rt; files.status == 1);
+    assert!(rt;
+        lines.writer().as_slice() == b"0101 2/2 new\nforgotten 0101\nrefused NotHeld\n".as_slice()
     );
     Ok(())
 }
@@ -159,21 +155,21 @@ fn exports_and_imports(rt: HostRuntime) -> Result<(), Fail> {
         &mut errors,
         "0101",
     );
-    assert_eq!(rt; files.status, 0);
-    assert_eq!(rt; file.writer().as_slice(), PAGE_2);
+    assert!(rt; files.status == 0);
+    assert!(rt; file.writer().as_slice() == PAGE_2);
     let mut other = no_files(rt.alloc());
     for bytes in [PAGE_2, PAGE_2, b"DMPG\x03".as_slice(), b"".as_slice()] {
         other = import(rt.alloc(), other, bytes, &mut lines);
     }
     let other = scan(rt.alloc(), other, first(&images), &mut lines);
-    assert_eq!(rt; other.status, 0);
-    assert_eq!(rt;
-        lines.writer().as_slice(),
-        b"0101 2/2 new\n0101 2 added 0002 new\n0101 2 added 0000 again\n\
+    assert!(rt; other.status == 0);
+    assert!(rt;
+        lines.writer().as_slice()
+            == b"0101 2/2 new\n0101 2 added 0002 new\n0101 2 added 0000 again\n\
         refused Version\nrefused NotPages\n0101 1/2 complete\n"
-            .as_slice()
+                .as_slice()
     );
-    assert_eq!(rt; errors.writer().as_slice(), b"".as_slice());
+    assert!(rt; errors.writer().as_slice() == b"".as_slice());
     Ok(())
 }
 
@@ -186,10 +182,9 @@ fn refuses_a_text_that_is_no_identification(rt: HostRuntime) -> Result<(), Fail>
         let store = FuseStore::new(MemStore::new(rt.alloc()), 0, Kept::Old);
         let set = FuseSet::new(MemSet::new(rt.alloc()), 0, Kept::Old);
         let ended = deliver_command(rt.alloc(), store, set, &mut output, &mut errors, text);
-        assert_eq!(rt; ended.status, 1, "{text}");
-        assert_eq!(rt;
-            errors.writer().as_slice(),
-            b"refused FileId\n".as_slice(),
+        assert!(rt; ended.status == 1, "{text}");
+        assert!(rt;
+            errors.writer().as_slice() == b"refused FileId\n".as_slice(),
             "{text}"
         );
         assert!(rt; !ended.store.spent() && !ended.set.spent(), "{text}");
@@ -208,15 +203,15 @@ fn moves_a_joint_file_first(rt: HostRuntime) -> Result<(), Fail> {
         set: MemSet::new(rt.alloc()),
     };
     let files = scan(rt.alloc(), old, first(&images), &mut lines);
-    assert_eq!(rt; files.status, 0);
-    assert_eq!(rt; files.store.content(), Some(NO_DOCUMENTS));
+    assert!(rt; files.status == 0);
+    assert!(rt; files.store.content() == Some(NO_DOCUMENTS));
     let damaged = EndedDesk {
         status: 0,
         store: MemStore::with(rt.alloc(), b"DMPG\x01".to_vec(rt.alloc())?),
         set: MemSet::new(rt.alloc()),
     };
     let files = scan(rt.alloc(), damaged, &images, &mut lines);
-    assert_eq!(rt; files.status, 1);
+    assert!(rt; files.status == 1);
     let mut input = Input::new(images.as_slice());
     let files = scan_command(
         rt.alloc(),
@@ -226,11 +221,11 @@ fn moves_a_joint_file_first(rt: HostRuntime) -> Result<(), Fail> {
         &mut lines,
         0,
     );
-    assert_eq!(rt; files.status, 1);
-    assert_eq!(rt; input.into_reader().len(), images.len());
-    assert_eq!(rt;
-        lines.writer().as_slice(),
-        b"0101 1/2 complete\nrefused Damaged\nrefused Capacity\n".as_slice()
+    assert!(rt; files.status == 1);
+    assert!(rt; input.into_reader().len() == images.len());
+    assert!(rt;
+        lines.writer().as_slice()
+            == b"0101 1/2 complete\nrefused Damaged\nrefused Capacity\n".as_slice()
     );
     Ok(())
 }
@@ -247,11 +242,11 @@ fn ends_after_a_failed_save(rt: HostRuntime) -> Result<(), Fail> {
         let mut files = no_files(rt.alloc());
         files.set.set_next(next);
         let files = scan(rt.alloc(), files, &images, &mut lines);
-        assert_eq!(rt; files.status, 1);
-        assert_eq!(rt; lines.writer().as_slice(), b"refused Save\n".as_slice());
+        assert!(rt; files.status == 1);
+        assert!(rt; lines.writer().as_slice() == b"refused Save\n".as_slice());
         let mut lines = Output::new(Vec::new(rt.alloc()));
         scan(rt.alloc(), files, first(&images), &mut lines);
-        assert_eq!(rt; lines.writer().as_slice(), line);
+        assert!(rt; lines.writer().as_slice() == line);
     }
     Ok(())
 }
@@ -273,9 +268,9 @@ fn names_the_output_that_failed(rt: HostRuntime) -> Result<(), Fail> {
             &mut errors,
             "0101",
         );
-        assert_eq!(rt; files.status, 1, "{passes}");
+        assert!(rt; files.status == 1, "{passes}");
         assert!(rt; b"1234".as_slice().starts_with(output.writer().taken()));
-        assert_eq!(rt; errors.writer().as_slice(), b"refused Write\n".as_slice());
+        assert!(rt; errors.writer().as_slice() == b"refused Write\n".as_slice());
     }
     Ok(())
 }
@@ -295,8 +290,8 @@ fn holds_what_it_could_not_say(rt: HostRuntime) -> Result<(), Fail> {
             &mut lines,
             64,
         );
-        assert_eq!(rt; files.status, 1, "{passes}");
-        assert_eq!(rt; files.set.content(0), Some(PAGE_2), "{passes}");
+        assert!(rt; files.status == 1, "{passes}");
+        assert!(rt; files.set.content(0) == Some(PAGE_2), "{passes}");
     }
     Ok(())
 }
@@ -321,12 +316,12 @@ fn scan_is_refused_by_name(rt: HostRuntime) -> Result<(), Fail> {
         let memory = Refusing::new(rt.alloc(), passes);
         let (lines, ended) = scanned_with(&memory, rt.alloc(), second(&images));
         if !memory.is_spent() {
-            assert_eq!(rt; (ended.status, passes > 0), (0, true));
+            assert!(rt; (ended.status, passes > 0) == (0, true));
             return Ok(());
         }
-        assert_eq!(rt; ended.status, 1, "{passes}");
-        assert_eq!(rt; lines.writer().as_slice(), b"refused Memory\n".as_slice());
-        assert_eq!(rt; ended.set.content(0), None, "{passes}");
+        assert!(rt; ended.status == 1, "{passes}");
+        assert!(rt; lines.writer().as_slice() == b"refused Memory\n".as_slice());
+        assert!(rt; ended.set.content(0) == None, "{passes}");
     }
     Err("growths without end".into())
 }
@@ -340,14 +335,14 @@ fn looks_at_the_text_before_any_file(rt: HostRuntime) -> Result<(), Fail> {
         let store = FuseStore::new(MemStore::new(rt.alloc()), 0, Kept::Old);
         let set = FuseSet::new(MemSet::new(rt.alloc()), 0, Kept::Old);
         let forgot = forget_command(rt.alloc(), store, set, &mut output, text);
-        assert_eq!(rt; forgot.status, 1, "{text}");
+        assert!(rt; forgot.status == 1, "{text}");
         assert!(rt; !forgot.store.spent() && !forgot.set.spent(), "{text}");
         let (store, set) = (forgot.store, forgot.set);
         let given = export_command(rt.alloc(), store, set, &mut output, &mut errors, text);
-        assert_eq!(rt; given.status, 1, "{text}");
+        assert!(rt; given.status == 1, "{text}");
         assert!(rt; !given.store.spent() && !given.set.spent(), "{text}");
-        assert_eq!(rt; output.writer().as_slice(), b"refused FileId\n".as_slice());
-        assert_eq!(rt; errors.writer().as_slice(), b"refused FileId\n".as_slice());
+        assert!(rt; output.writer().as_slice() == b"refused FileId\n".as_slice());
+        assert!(rt; errors.writer().as_slice() == b"refused FileId\n".as_slice());
     }
     Ok(())
 }
@@ -361,8 +356,8 @@ fn reads_an_import_before_any_file(rt: HostRuntime) -> Result<(), Fail> {
         let store = FuseStore::new(MemStore::new(rt.alloc()), 0, Kept::Old);
         let set = FuseSet::new(MemSet::new(rt.alloc()), 0, Kept::Old);
         let ended = import_command(rt.alloc(), store, set, &mut input, &mut lines, 64);
-        assert_eq!(rt; ended.status, 1, "{passes}");
-        assert_eq!(rt; lines.writer().as_slice(), b"refused Read\n".as_slice());
+        assert!(rt; ended.status == 1, "{passes}");
+        assert!(rt; lines.writer().as_slice() == b"refused Read\n".as_slice());
         assert!(rt; !ended.store.spent() && !ended.set.spent(), "{passes}");
     }
     Ok(())
@@ -378,11 +373,10 @@ fn scans_up_to_the_read_that_failed(rt: HostRuntime) -> Result<(), Fail> {
         let mut input = Input::new(FailingReader::new(&images, passes));
         let (store, set) = (MemStore::new(rt.alloc()), MemSet::new(rt.alloc()));
         let ended = scan_command(rt.alloc(), store, set, &mut input, &mut lines, 64);
-        assert_eq!(rt; ended.status, 1, "{passes}");
+        assert!(rt; ended.status == 1, "{passes}");
         assert!(rt; ended.set.content(0).is_some(), "{passes}");
-        assert_eq!(rt;
-            lines.writer().as_slice(),
-            b"0101 1/2 new\nrefused Read\n".as_slice(),
+        assert!(rt;
+            lines.writer().as_slice() == b"0101 1/2 new\nrefused Read\n".as_slice(),
             "{passes}"
         );
     }
@@ -397,7 +391,7 @@ fn reads_nothing_after_a_line_that_failed(rt: HostRuntime) -> Result<(), Fail> {
     let mut input = Input::new(images.as_slice());
     let (store, set) = (MemStore::new(rt.alloc()), MemSet::new(rt.alloc()));
     let ended = scan_command(rt.alloc(), store, set, &mut input, &mut lines, 64);
-    assert_eq!(rt; ended.status, 1);
-    assert_eq!(rt; input.into_reader(), second(&images));
+    assert!(rt; ended.status == 1);
+    assert!(rt; input.into_reader() == second(&images));
     Ok(())
 }

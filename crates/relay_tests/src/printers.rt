@@ -89,11 +89,11 @@ fn makes_a_ledger(rt: HostRuntime) -> Result<(), Fail> {
     let range = Range { first: 0, last: 9 };
     let mut output = Output::new(Vec::new(rt.alloc()));
     let ended = ledger_command(rt.alloc(), MemStore::new(rt.alloc()), &mut output, 0, range);
-    assert_eq!(rt; ended.status, 0);
-    assert_eq!(rt; ended.store.content(), Some(NEW));
+    assert!(rt; ended.status == 0);
+    assert!(rt; ended.store.content() == Some(NEW));
     let again = ledger_command(rt.alloc(), ended.store, &mut output, 0, range);
-    assert_eq!(rt; again.status, 1);
-    assert_eq!(rt; again.store.content(), Some(NEW));
+    assert!(rt; again.status == 1);
+    assert!(rt; again.store.content() == Some(NEW));
     let turned = Range { first: 5, last: 4 };
     let none = ledger_command(
         rt.alloc(),
@@ -102,11 +102,10 @@ fn makes_a_ledger(rt: HostRuntime) -> Result<(), Fail> {
         0,
         turned,
     );
-    assert_eq!(rt; none.status, 1);
-    assert_eq!(rt; none.store.content(), None);
-    assert_eq!(rt;
-        output.writer().as_slice(),
-        b"left 10\nrefused Exists\nrefused Range\n".as_slice()
+    assert!(rt; none.status == 1);
+    assert!(rt; none.store.content() == None);
+    assert!(rt;
+        output.writer().as_slice() == b"left 10\nrefused Exists\nrefused Range\n".as_slice()
     );
     Ok(())
 }
@@ -115,18 +114,15 @@ fn makes_a_ledger(rt: HostRuntime) -> Result<(), Fail> {
 #[test]
 fn prints_labels(rt: HostRuntime) -> Result<(), Fail> {
     let printed = print(&rt, NEW, b"1234", OPTIONS)?;
-    assert_eq!(rt; printed.status, 0);
-    assert_eq!(rt; printed.saved.as_deref(), Some(AFTER_PRINT));
-    assert_eq!(rt;
-        printed.errors.as_slice(),
-        b"printed 0101 2 left 9\n".as_slice()
-    );
+    assert!(rt; printed.status == 0);
+    assert!(rt; printed.saved.as_deref() == Some(AFTER_PRINT));
+    assert!(rt; printed.errors.as_slice() == b"printed 0101 2 left 9\n".as_slice());
     let mut input = Input::new(printed.output.as_slice());
     let mut output = Output::new(Vec::new(rt.alloc()));
-    assert_eq!(rt; read_command(rt.alloc(), &mut input, &mut output), 0);
-    assert_eq!(rt;
-        output.writer().as_slice(),
-        b"label 0101 1/2 corrected 0 wrong 0 3132\nlabel 0101 2/2 corrected 0 wrong 0 3334\n".as_slice()
+    assert!(rt; read_command(rt.alloc(), &mut input, &mut output) == 0);
+    assert!(rt;
+        output.writer().as_slice()
+            == b"label 0101 1/2 corrected 0 wrong 0 3132\nlabel 0101 2/2 corrected 0 wrong 0 3334\n".as_slice()
     );
     Ok(())
 }
@@ -156,10 +152,10 @@ fn refuses_to_print(rt: HostRuntime) -> Result<(), Fail> {
             scheme: Scheme::Ascii,
         };
         let printed = print(&rt, ledger, document, options)?;
-        assert_eq!(rt; printed.status, 1);
-        assert_eq!(rt; printed.errors.as_slice(), line);
-        assert_eq!(rt; printed.output.as_slice(), b"".as_slice());
-        assert_eq!(rt; printed.saved.as_deref(), Some(ledger));
+        assert!(rt; printed.status == 1);
+        assert!(rt; printed.errors.as_slice() == line);
+        assert!(rt; printed.output.as_slice() == b"".as_slice());
+        assert!(rt; printed.saved.as_deref() == Some(ledger));
     }
     Ok(())
 }
@@ -182,12 +178,11 @@ fn names_the_output_that_failed(rt: HostRuntime) -> Result<(), Fail> {
             &mut errors,
             OPTIONS,
         );
-        assert_eq!(rt; ended.status, 1, "{passes}");
-        assert_eq!(rt; ended.store.content(), Some(AFTER_PRINT));
+        assert!(rt; ended.status == 1, "{passes}");
+        assert!(rt; ended.store.content() == Some(AFTER_PRINT));
         assert!(rt; whole.starts_with(output.writer().taken()), "{passes}");
-        assert_eq!(rt;
-            errors.writer().as_slice(),
-            b"printed 0101 2 left 9\nrefused Write\n".as_slice()
+        assert!(rt;
+            errors.writer().as_slice() == b"printed 0101 2 left 9\nrefused Write\n".as_slice()
         );
     }
     Ok(())
@@ -209,9 +204,9 @@ fn prints_no_label_without_its_line(rt: HostRuntime) -> Result<(), Fail> {
             &mut errors,
             OPTIONS,
         );
-        assert_eq!(rt; ended.status, 1, "{passes}");
-        assert_eq!(rt; ended.store.content(), Some(AFTER_PRINT));
-        assert_eq!(rt; output.writer().as_slice(), b"".as_slice());
+        assert!(rt; ended.status == 1, "{passes}");
+        assert!(rt; ended.store.content() == Some(AFTER_PRINT));
+        assert!(rt; output.writer().as_slice() == b"".as_slice());
     }
     Ok(())
 }
@@ -236,18 +231,17 @@ fn print_is_refused_by_name(rt: HostRuntime) -> Result<(), Fail> {
             OPTIONS,
         );
         if !memory.is_spent() {
-            assert_eq!(rt; (ended.status, passes > 0), (0, true));
+            assert!(rt; (ended.status, passes > 0) == (0, true));
             return Ok(());
         }
-        assert_eq!(rt; ended.status, 1, "{passes}");
+        assert!(rt; ended.status == 1, "{passes}");
         if ended.store.content() == Some(NEW) {
-            assert_eq!(rt; output.writer().as_slice(), b"".as_slice());
-            assert_eq!(rt; errors.writer().as_slice(), b"refused Memory\n".as_slice());
+            assert!(rt; output.writer().as_slice() == b"".as_slice());
+            assert!(rt; errors.writer().as_slice() == b"refused Memory\n".as_slice());
         } else {
             assert!(rt; whole.starts_with(output.writer()), "{passes}");
-            assert_eq!(rt;
-                errors.writer().as_slice(),
-                b"printed 0101 2 left 9\nrefused Memory\n".as_slice()
+            assert!(rt;
+                errors.writer().as_slice() == b"printed 0101 2 left 9\nrefused Memory\n".as_slice()
             );
         }
     }
@@ -266,11 +260,11 @@ fn gives_and_takes(rt: HostRuntime) -> Result<(), Fail> {
         1,
         range,
     );
-    assert_eq!(rt; giver.status, 0);
-    assert_eq!(rt; giver.store.content(), Some(AFTER_GIVE));
+    assert!(rt; giver.status == 0);
+    assert!(rt; giver.store.content() == Some(AFTER_GIVE));
     let again = give_command(rt.alloc(), giver.store, &mut output, 0, 1, range);
-    assert_eq!(rt; again.status, 1);
-    assert_eq!(rt; again.store.content(), Some(AFTER_GIVE));
+    assert!(rt; again.status == 1);
+    assert!(rt; again.store.content() == Some(AFTER_GIVE));
     let taker = take_command(
         rt.alloc(),
         store_of(rt.alloc(), OTHER)?,
@@ -278,14 +272,14 @@ fn gives_and_takes(rt: HostRuntime) -> Result<(), Fail> {
         1,
         TICKET,
     );
-    assert_eq!(rt; taker.status, 0);
-    assert_eq!(rt; taker.store.content(), Some(AFTER_TAKE));
+    assert!(rt; taker.status == 0);
+    assert!(rt; taker.store.content() == Some(AFTER_TAKE));
     let twice = take_command(rt.alloc(), taker.store, &mut output, 1, TICKET);
-    assert_eq!(rt; twice.status, 1);
-    assert_eq!(rt; twice.store.content(), Some(AFTER_TAKE));
-    assert_eq!(rt;
-        output.writer().as_slice(),
-        b"ticket 00000000000100050009\nrefused NotFree\ntaken left 15\nrefused Old\n".as_slice()
+    assert!(rt; twice.status == 1);
+    assert!(rt; twice.store.content() == Some(AFTER_TAKE));
+    assert!(rt;
+        output.writer().as_slice()
+            == b"ticket 00000000000100050009\nrefused NotFree\ntaken left 15\nrefused Old\n".as_slice()
     );
     Ok(())
 }
@@ -306,8 +300,8 @@ fn refuses_a_text_that_is_no_ticket(rt: HostRuntime) -> Result<(), Fail> {
         let mut output = Output::new(Vec::new(rt.alloc()));
         let spent = FuseStore::new(store_of(rt.alloc(), OTHER)?, 0, Kept::Old);
         let ended = take_command(rt.alloc(), spent, &mut output, 1, text);
-        assert_eq!(rt; ended.status, 1, "{text}");
-        assert_eq!(rt; output.writer().as_slice(), b"refused Ticket\n".as_slice());
+        assert!(rt; ended.status == 1, "{text}");
+        assert!(rt; output.writer().as_slice() == b"refused Ticket\n".as_slice());
         assert!(rt; !ended.store.spent(), "{text}");
     }
     Ok(())
@@ -365,11 +359,11 @@ fn does_each_command_of_printers(rt: HostRuntime) -> Result<(), Fail> {
     for command in commands {
         store = done(rt.alloc(), store, &mut output, &mut errors, command).store;
     }
-    assert_eq!(rt;
-        output.writer().as_slice(),
-        b"left 10\nticket 00000000000100050009\ntaken left 7\n142 164 129 121 133 81 60 148\n".as_slice()
+    assert!(rt;
+        output.writer().as_slice()
+            == b"left 10\nticket 00000000000100050009\ntaken left 7\n142 164 129 121 133 81 60 148\n".as_slice()
     );
-    assert_eq!(rt; errors.writer().as_slice(), b"refused Side\n".as_slice());
+    assert!(rt; errors.writer().as_slice() == b"refused Side\n".as_slice());
     Ok(())
 }
 
@@ -389,10 +383,10 @@ fn reads_the_document_before_the_ledger(rt: HostRuntime) -> Result<(), Fail> {
             &mut errors,
             OPTIONS,
         );
-        assert_eq!(rt; ended.status, 1, "{passes}");
+        assert!(rt; ended.status == 1, "{passes}");
         assert!(rt; !ended.store.spent(), "{passes}");
-        assert_eq!(rt; output.writer().as_slice(), b"".as_slice());
-        assert_eq!(rt; errors.writer().as_slice(), b"refused Read\n".as_slice());
+        assert!(rt; output.writer().as_slice() == b"".as_slice());
+        assert!(rt; errors.writer().as_slice() == b"refused Read\n".as_slice());
     }
     Ok(())
 }

@@ -59,20 +59,14 @@ fn read<R: Read + Drop>(alloc: Global, reader: R) -> (Vec<u8>, u8) {
 #[test]
 fn reads_what_draw_has_drawn(rt: HostRuntime) -> Result<(), Fail> {
     let plain = drawn(rt.alloc(), true);
-    assert_eq!(rt;
-        read(rt.alloc(), plain.as_slice()),
-        (READ.to_vec(rt.alloc())?, 0)
-    );
+    assert!(rt; read(rt.alloc(), plain.as_slice()) == (READ.to_vec(rt.alloc())?, 0));
     let mut images = drawn(rt.alloc(), false);
     let one = images.clone()?;
     images.extend_from_slice(&one)?;
     images.extend_from_slice(&one)?;
     let (lines, status) = read(rt.alloc(), images.as_slice());
-    assert_eq!(rt;
-        lines.as_slice(),
-        [READ, READ, READ].concat(rt.alloc())?.as_slice()
-    );
-    assert_eq!(rt; status, 0);
+    assert!(rt; lines.as_slice() == [READ, READ, READ].concat(rt.alloc())?.as_slice());
+    assert!(rt; status == 0);
     Ok(())
 }
 
@@ -82,24 +76,17 @@ fn reads_labels(rt: HostRuntime) -> Result<(), Fail> {
     let images = labels(rt.alloc(), b"1234", Size::Side12, Scheme::Ascii)?;
     let lines =
         b"label 0101 1/2 corrected 0 wrong 0 3132\nlabel 0101 2/2 corrected 0 wrong 0 3334\n";
-    assert_eq!(rt;
-        read(rt.alloc(), images.as_slice()),
-        (lines.to_vec(rt.alloc())?, 0)
-    );
+    assert!(rt; read(rt.alloc(), images.as_slice()) == (lines.to_vec(rt.alloc())?, 0));
     let images = labels(rt.alloc(), b"", Size::Side14, Scheme::Ascii)?;
     let lines = b"label 0101 1/2 corrected 0 wrong 0 -\nlabel 0101 2/2 corrected 0 wrong 0 -\n";
-    assert_eq!(rt;
-        read(rt.alloc(), images.as_slice()),
-        (lines.to_vec(rt.alloc())?, 0)
-    );
+    assert!(rt; read(rt.alloc(), images.as_slice()) == (lines.to_vec(rt.alloc())?, 0));
     let images = labels(rt.alloc(), b"123456", Size::Side12, Scheme::Ascii)?;
     let (lines, status) = read(rt.alloc(), images.as_slice());
-    assert_eq!(rt;
+    assert!(rt;
         (
             lines.as_slice().split(|byte| *byte == b'\n').count(),
             status
-        ),
-        (4, 0)
+        ) == (4, 0)
     );
     Ok(())
 }
@@ -135,8 +122,8 @@ fn reads_each_form_or_names_why_not(rt: HostRuntime) -> Result<(), Fail> {
     ];
     for (images, lines) in cases {
         let (printed, status) = read(rt.alloc(), images);
-        assert_eq!(rt; printed.as_slice(), lines);
-        assert_eq!(rt; status, u8::from(lines.starts_with(b"refused")));
+        assert!(rt; printed.as_slice() == lines);
+        assert!(rt; status == u8::from(lines.starts_with(b"refused")));
     }
     Ok(())
 }
@@ -155,7 +142,7 @@ fn goes_on_after_a_refused_image(rt: HostRuntime) -> Result<(), Fail> {
     ]
     .concat(rt.alloc())?;
     let lines = [READ, b"refused Shape\n", b"refused Border\n", READ].concat(rt.alloc())?;
-    assert_eq!(rt; read(rt.alloc(), images.as_slice()), (lines, 1));
+    assert!(rt; read(rt.alloc(), images.as_slice()) == (lines, 1));
     Ok(())
 }
 
@@ -165,18 +152,16 @@ fn ends_where_a_stream_fails(rt: HostRuntime) {
     let image = drawn(rt.alloc(), false);
     for passes in 0..image.len() {
         let (lines, status) = read(rt.alloc(), FailingReader::new(image.as_slice(), passes));
-        assert_eq!(rt;
-            (lines.as_slice(), status),
-            (b"refused Read\n".as_slice(), 1),
+        assert!(rt;
+            (lines.as_slice(), status) == (b"refused Read\n".as_slice(), 1),
             "{passes}"
         );
     }
     for passes in 0..READ.len() {
         let mut input = Input::new(image.as_slice());
         let mut output = Output::new(FailingWriter::new(Vec::new(rt.alloc()), passes));
-        assert_eq!(rt;
-            read_command(rt.alloc(), &mut input, &mut output),
-            1,
+        assert!(rt;
+            read_command(rt.alloc(), &mut input, &mut output) == 1,
             "{passes}"
         );
         assert!(rt; READ.starts_with(output.writer().taken()), "{passes}");
@@ -205,13 +190,12 @@ fn ends_on_input_without_end(rt: HostRuntime) -> Result<(), Fail> {
     ];
     for (begin, again, line) in cases {
         let (lines, status) = read(rt.alloc(), EndlessReader::new(begin, again));
-        assert_eq!(rt; (lines.as_slice(), status), (line, 1));
+        assert!(rt; (lines.as_slice(), status) == (line, 1));
     }
     let (lines, status) = read(rt.alloc(), EndlessReader::new(b"", b"P4 1 1\n\0"));
     let shapes = MOST_IMAGES as usize * b"refused Shape\n".len();
-    assert_eq!(rt;
-        (lines.as_slice().get(shapes..), status),
-        (Some(b"refused TooMany\n".as_slice()), 1)
+    assert!(rt;
+        (lines.as_slice().get(shapes..), status) == (Some(b"refused TooMany\n".as_slice()), 1)
     );
     Ok(())
 }
@@ -243,7 +227,7 @@ fn refuses_random_strings_by_name(rt: HostRuntime) -> Result<(), Fail> {
         for line in lines.split(|byte| *byte == b'\n') {
             assert!(rt; line.starts_with(b"refused "), "{string}");
         }
-        assert_eq!(rt; status, 1, "{string}");
+        assert!(rt; status == 1, "{string}");
     }
     Ok(())
 }
@@ -270,7 +254,7 @@ fn refusals_say_what_is_wrong(rt: HostRuntime) -> Result<(), Fail> {
         (ReadRefusal::Memory, "out of memory"),
         (ReadRefusal::TooMany, "the input has too many images"),
     ] {
-        assert_eq!(rt; format!(in rt.alloc(); "{refusal}")?.as_str(), text);
+        assert!(rt; format!(in rt.alloc(); "{refusal}")?.as_str() == text);
     }
     Ok(())
 }

@@ -30,11 +30,11 @@ fn words_command_is_refused_by_name(rt: HostRuntime) -> Result<(), Fail> {
         let mut output = Output::new(Vec::new(rt.alloc()));
         let status = words_command(&memory, &mut input, &mut output, 10, Scheme::Ascii);
         if !memory.is_spent() {
-            assert_eq!(rt; (status, passes > 0), (0, true));
+            assert!(rt; (status, passes > 0) == (0, true));
             return Ok(());
         }
-        assert_eq!(rt; status, 1, "{passes}");
-        assert_eq!(rt; output.writer().as_slice(), b"refused Memory\n".as_slice());
+        assert!(rt; status == 1, "{passes}");
+        assert!(rt; output.writer().as_slice() == b"refused Memory\n".as_slice());
     }
     Err("growths without end".into())
 }
@@ -56,12 +56,12 @@ fn draw_command_is_refused_by_name(rt: HostRuntime) -> Result<(), Fail> {
             false,
         );
         if !memory.is_spent() {
-            assert_eq!(rt; (status, passes > 0), (0, true));
+            assert!(rt; (status, passes > 0) == (0, true));
             return Ok(());
         }
-        assert_eq!(rt; status, 1, "{passes}");
-        assert_eq!(rt; output.writer().as_slice(), b"".as_slice());
-        assert_eq!(rt; errors.writer().as_slice(), b"refused Memory\n".as_slice());
+        assert!(rt; status == 1, "{passes}");
+        assert!(rt; output.writer().as_slice() == b"".as_slice());
+        assert!(rt; errors.writer().as_slice() == b"refused Memory\n".as_slice());
     }
     Err("growths without end".into())
 }
@@ -86,11 +86,11 @@ fn read_command_is_refused_by_name(rt: HostRuntime) -> Result<(), Fail> {
         let mut output = Output::new(Vec::new(rt.alloc()));
         let status = read_command(&memory, &mut input, &mut output);
         if !memory.is_spent() {
-            assert_eq!(rt; (status, passes > 0), (0, true));
+            assert!(rt; (status, passes > 0) == (0, true));
             return Ok(());
         }
-        assert_eq!(rt; status, 1, "{passes}");
-        assert_eq!(rt; output.writer().as_slice(), b"refused Memory\n".as_slice());
+        assert!(rt; status == 1, "{passes}");
+        assert!(rt; output.writer().as_slice() == b"refused Memory\n".as_slice());
     }
     Err("growths without end".into())
 }
@@ -138,7 +138,7 @@ fn the_way_from_an_image_is_refused_by_name(rt: HostRuntime) -> Result<(), Fail>
         let document = document_of(&memory, output.writer().as_slice());
         if !memory.is_spent() {
             let document = document.map_err(|_| "refused without a refused growth")?;
-            assert_eq!(rt; document.as_slice(), b"123456".as_slice());
+            assert!(rt; document.as_slice() == b"123456".as_slice());
             return Ok(());
         }
         assert!(rt;
@@ -185,7 +185,7 @@ fn labels_are_refused_by_name(rt: HostRuntime) -> Result<(), Fail> {
         let bytes = resealed(&memory, id);
         if !memory.is_spent() {
             let bytes = bytes.map_err(|_| "refused without a refused growth")?;
-            assert_eq!(rt; bytes.as_slice(), b"12".as_slice());
+            assert!(rt; bytes.as_slice() == b"12".as_slice());
             return Ok(());
         }
         assert!(rt;

@@ -206,7 +206,7 @@ fn done<R: Read + Drop, W: Write + Drop>(
 // Does a command over whole streams.
 fn done_whole(rt: &impl Abort, alloc: Global, case: Case<'_>) -> Result<Ended<Vec<u8>>, Fail> {
     let whole = done(alloc, case, case.input, Vec::new(alloc))?;
-    assert_eq!(rt; whole.status, 0, "{:?}", case.command);
+    assert!(rt; whole.status == 0, "{:?}", case.command);
     assert!(rt; !whole.writer.is_empty());
     Ok(whole)
 }
@@ -226,9 +226,9 @@ fn an_interrupted_reader_changes_nothing(rt: HostRuntime) -> Result<(), Fail> {
         for passes in 0..case.input.len().saturating_add(1) {
             let reader = InterruptedReader::new(case.input, passes);
             let ended = done(alloc, case, reader, Vec::new(alloc))?;
-            assert_eq!(rt; ended.status, 0, "{passes}");
-            assert_eq!(rt; ended.writer, whole.writer, "{passes}");
-            assert_eq!(rt; ended.errors, whole.errors, "{passes}");
+            assert!(rt; ended.status == 0, "{passes}");
+            assert!(rt; ended.writer == whole.writer, "{passes}");
+            assert!(rt; ended.errors == whole.errors, "{passes}");
             assert!(rt; saved_alike(&ended, &whole), "{passes}");
         }
     }
@@ -245,9 +245,9 @@ fn an_interrupted_writer_changes_nothing(rt: HostRuntime) -> Result<(), Fail> {
         for passes in 0..whole.writer.len() {
             let writer = InterruptedWriter::new(Vec::new(alloc), passes);
             let ended = done(alloc, *case, case.input, writer)?;
-            assert_eq!(rt; ended.status, 0, "{passes}");
+            assert!(rt; ended.status == 0, "{passes}");
             assert!(rt; ended.writer.taken() == whole.writer.as_slice(), "{passes}");
-            assert_eq!(rt; ended.errors, whole.errors, "{passes}");
+            assert!(rt; ended.errors == whole.errors, "{passes}");
             assert!(rt; saved_alike(&ended, &whole), "{passes}");
         }
     }
@@ -280,7 +280,7 @@ fn fails_to_read(
     } else {
         (ended.writer, ended.errors)
     };
-    assert_eq!(rt; ended.status, 1, "{passes}");
+    assert!(rt; ended.status == 1, "{passes}");
     assert!(rt; line.as_slice() == b"refused Read\n".as_slice(), "{passes}");
     assert!(rt; other.is_empty(), "{passes}");
     assert!(rt; ended.ledger.as_slice() == case.ledger, "{passes}");
@@ -313,10 +313,10 @@ fn fails_to_write(
     if writes_no_lines(case.command) {
         errors.extend_from_slice(b"refused Write\n")?;
     }
-    assert_eq!(rt; ended.status, 1, "{passes}");
+    assert!(rt; ended.status == 1, "{passes}");
     let went_out = whole.writer.get(..passes);
     assert!(rt; went_out == Some(ended.writer.taken()), "{passes}");
-    assert_eq!(rt; ended.errors, errors, "{passes}");
+    assert!(rt; ended.errors == errors, "{passes}");
     assert!(rt; saved_alike(&ended, whole), "{passes}");
     Ok(())
 }

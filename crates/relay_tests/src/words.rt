@@ -30,12 +30,12 @@ fn prints_or_refuses(rt: HostRuntime) -> Result<(), Fail> {
         let mut input = Input::new(document);
         let mut output = Output::new(Vec::new(rt.alloc()));
         let answered = words_command(rt.alloc(), &mut input, &mut output, side, Scheme::Ascii);
-        assert_eq!(rt; answered, status);
+        assert!(rt; answered == status);
         assert!(rt;
             output.writer().as_slice().starts_with(begins),
             "side {side}"
         );
-        assert_eq!(rt; output.writer().as_slice().last(), Some(&b'\n'));
+        assert!(rt; output.writer().as_slice().last() == Some(&b'\n'));
     }
     Ok(())
 }
@@ -46,10 +46,9 @@ fn a_reader_that_fails_is_refused(rt: HostRuntime) {
         let mut input = Input::new(FailingReader::new(b"123456", passes));
         let mut output = Output::new(Vec::new(rt.alloc()));
         let status = words_command(rt.alloc(), &mut input, &mut output, 10, Scheme::Ascii);
-        assert_eq!(rt; status, 1, "after {passes} bytes");
-        assert_eq!(rt;
-            output.writer().as_slice(),
-            b"refused Read\n".as_slice(),
+        assert!(rt; status == 1, "after {passes} bytes");
+        assert!(rt;
+            output.writer().as_slice() == b"refused Read\n".as_slice(),
             "after {passes} bytes"
         );
     }
@@ -61,11 +60,10 @@ fn a_writer_that_fails_ends_with_one(rt: HostRuntime) {
         let mut input = Input::new(b"123456".as_slice());
         let mut output = Output::new(FailingWriter::new(Vec::new(rt.alloc()), passes));
         let status = words_command(rt.alloc(), &mut input, &mut output, 10, Scheme::Ascii);
-        assert_eq!(rt; status, 1, "after {passes} bytes");
+        assert!(rt; status == 1, "after {passes} bytes");
         assert!(rt; output.has_failed());
-        assert_eq!(rt;
-            output.writer().taken(),
-            &WORKED[..passes],
+        assert!(rt;
+            output.writer().taken() == &WORKED[..passes],
             "after {passes} bytes"
         );
     }
@@ -82,7 +80,7 @@ fn refusals_say_what_is_wrong(rt: HostRuntime) -> Result<(), Fail> {
         ),
         (SymbolRefusal::Memory, "out of memory"),
     ] {
-        assert_eq!(rt; format!(in rt.alloc(); "{refusal}")?.as_str(), text);
+        assert!(rt; format!(in rt.alloc(); "{refusal}")?.as_str() == text);
     }
     Ok(())
 }

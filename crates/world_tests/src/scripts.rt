@@ -97,8 +97,8 @@ fn scripts_print_their_lines(rt: HostRuntime) {
         (TRAVELLED, TRAVELLED_LINES, 1),
     ] {
         let (printed, ended) = lines_of(rt.alloc(), script);
-        assert_eq!(rt; printed.as_slice(), lines.as_bytes());
-        assert_eq!(rt; ended, status);
+        assert!(rt; printed.as_slice() == lines.as_bytes());
+        assert!(rt; ended == status);
     }
 }
 
@@ -165,8 +165,8 @@ fn refusals_are_one_line(rt: HostRuntime) {
         ),
     ] {
         let (printed, ended) = lines_of(rt.alloc(), script);
-        assert_eq!(rt; printed.as_slice(), line.as_bytes());
-        assert_eq!(rt; ended, 1);
+        assert!(rt; printed.as_slice() == line.as_bytes());
+        assert!(rt; ended == 1);
     }
 }
 
@@ -176,9 +176,8 @@ fn forms_of_words(rt: HostRuntime) {
     let script =
         "range 00000 00009\ndesks 01 4\nprint 0 12 ascii 4a4B -\nask 0 0101\nrestart desk 1\nscan 0 0 - 12,0";
     let (printed, ended) = lines_of(rt.alloc(), script);
-    assert_eq!(rt;
-        printed.as_slice(),
-        b"printed 0101 0 2\nrefused NotHeld\nnone\nnone\n".as_slice()
+    assert!(rt;
+        printed.as_slice() == b"printed 0101 0 2\nrefused NotHeld\nnone\nnone\n".as_slice()
     );
-    assert_eq!(rt; ended, 1);
+    assert!(rt; ended == 1);
 }
