@@ -1,8 +1,8 @@
 /* Data Matrix symbols and labels (ECC 200, square sides 10 to 132) by Softcairn's static library: `rt lib` in
  * crates/relay_symbols proves and builds out/librelay_symbols.a there.
  *
- * Images are in PBM's packed form (`P4`), one pixel per module inside a quiet zone one pixel wide. Texts are in ASCII
- * encodation. 4,096 bytes hold each image and each text.
+ * Images are in PBM's packed form (`P4`), one pixel per module inside a quiet zone one pixel wide. Texts are written in
+ * ASCII encodation; those of C40, Text and Base 256 are read too. 4,096 bytes hold each image and each text.
  *
  * No pointer may be null, nor bytes that a call writes overlap those that it reads. A call that refuses leaves the
  * caller's bytes as they were. The calls keep nothing between them. Memory comes from malloc, by liblibc_c.a
@@ -36,12 +36,13 @@ size_t relay_label_from_text(uint16_t side, const uint8_t *text, size_t text_len
                              size_t image_length);
 
 /* Reads the symbol of an image and corrects it. Answers the length of its text, or RELAY_REFUSED where this is no image
- * of a symbol, too many words are wrong, they are no text, the text has no room, or memory is refused. */
+ * of a symbol, too many words, or too many modules of the finder patterns, are wrong, the words are no text, the text
+ * has no room, or memory is refused. */
 size_t relay_text_from_image(const uint8_t *image, size_t image_length, uint8_t *text, size_t text_length);
 
 /* Opens the label of an image and corrects it, whatever its page. Answers the number of the page's bytes, or
- * RELAY_REFUSED where this is no image of a label, too many words are wrong, they have no head or no text after it, the
- * bytes have no room, or memory is refused. */
+ * RELAY_REFUSED where this is no image of a label, too many words, or too many modules of the finder patterns, are
+ * wrong, the words have no head or no text after it, the bytes have no room, or memory is refused. */
 size_t relay_page_from_image(const uint8_t *image, size_t image_length, uint8_t *bytes, size_t bytes_length);
 
 #ifdef __cplusplus

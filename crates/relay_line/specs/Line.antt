@@ -7,7 +7,7 @@ use Rattle.relay_line.specs.declared.command.Command.TheVariants.{Words, Draw, R
 use Rattle.relay_line.specs.declared.fault.LineFault.{LineFault}
 use Rattle.relay_line.specs.declared.fault.LineFault.TheVariants.{Line, Memory}
 
--- each number is in the range that the help names; those that are not named here are from 0 to 65,535
+-- a side is 10 to 132; the other numbers are of 16 bits, and the calls above refuse those beyond their ranges
 abbrev pub HasNumbersInRange : Command → Type 0
 HasNumbersInRange (Words side scheme) = (10 ≤ side) × (side ≤ 132)
 HasNumbersInRange (Draw side scheme plain) = (10 ≤ side) × (side ≤ 132)

@@ -60,8 +60,9 @@ pub const PRINT: &str = "\
 The document is cut into 2 to 16 labels, which carry the least identification
 that is free. It is saved as used, then `printed IIII n left N` goes to standard
 error (the identification, the number of labels, how many are left), and then
-the labels to standard output, as packed PBM images one after another. What was
-printed and is lost is printed again under another identification.
+the labels to standard output, as packed PBM images one after another. To
+replace a label that is lost, print the document again: it gets another
+identification.
 
 A label holds four words less than a symbol: at side 18 28 digits or 12 bytes,
 at side 132 2600 digits or 1297 bytes. A refusal goes to standard error.
@@ -79,8 +80,9 @@ Example:
 
 pub const TAKE: &str = "\
 Prints `taken left N`, how many identifications are free then. A ticket is
-taken once, and tickets of one giver in the order in which they were given. A
-refusal goes to standard output.
+taken once. Take the tickets of one giver in the order in which they were
+given: after a later one an earlier one is refused `Old`. A refusal goes to
+standard output.
 
 Example:
   relay take --file south.ledger --number 2 --ticket 0001000000021388176f";
@@ -131,7 +133,7 @@ Example:
 
 pub const WORLD: &str = "\
 The script names printers, desks, and events: prints, scans, restarts and so on,
-each of which may be stopped where power could go, or meet a save that fails.
+each of which may be stopped where power could fail, or meet a failing save.
 Each event gives a line; the line begins with `! ` where a scanned copy has more
 wrong words than can be corrected. docs/RECIPES.md has the form of a script. No
 file is read or written. A refusal goes to standard output.

@@ -1,7 +1,7 @@
 //! The command line of `relay`: its words become a `Command`, or a fault with the text to show.
 //!
-//! Proved: the numbers of a command are in the ranges that the help names. Which fault a wrong line
-//! has, and its text, are the parser's, and shown by tests.
+//! Proved: the command has the name on the line, and a side is 10 to 132. The values of the other
+//! options, which fault a wrong line has, and its text are the parser's, and shown by tests.
 #![tactic(auto)]
 
 mod command;

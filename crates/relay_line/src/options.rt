@@ -172,7 +172,12 @@ fn take<'a>(alloc: Global) -> Result<Command<'a>, AllocError> {
 }
 
 fn capacity<'a>(alloc: Global) -> Arg<'a> {
-    number_option(alloc, "capacity", "room for that many documents, 1 to 1024").default_value("64")
+    number_option(
+        alloc,
+        "capacity",
+        "how many documents it may hold, 1 to 1024",
+    )
+    .default_value("64")
 }
 
 fn id<'a>(alloc: Global) -> Arg<'a> {
@@ -194,7 +199,7 @@ fn scan<'a>(alloc: Global) -> Result<Command<'a>, AllocError> {
 
 fn deliver<'a>(alloc: Global) -> Result<Command<'a>, AllocError> {
     Command::new(alloc, "deliver")
-        .about("Gives a document back whose pages are all held")
+        .about("Gives back a document when all its pages are held")
         .override_usage("relay deliver --file PATH --id IIII > DOCUMENT")
         .after_help(help::DELIVER)
         .arg(desk(alloc))?
@@ -203,7 +208,7 @@ fn deliver<'a>(alloc: Global) -> Result<Command<'a>, AllocError> {
 
 fn forget<'a>(alloc: Global) -> Result<Command<'a>, AllocError> {
     Command::new(alloc, "forget")
-        .about("Lets a document go")
+        .about("Forgets a document")
         .override_usage("relay forget --file PATH --id IIII")
         .after_help(help::FORGET)
         .arg(desk(alloc))?
