@@ -85,8 +85,10 @@ impl<S: StoreSet, A: Allocator + Copy> Desk<S, A> {
         }
     }
 
-    /// What is held of each document, by rising identification, also after a save that failed. The one error is want of
-    /// memory.
+    /// What is held of each document, by rising identification, also after a save that failed.
+    ///
+    /// # Errors
+    /// Where the allocator refuses its memory.
     pub fn held(&self) -> Result<Vec<Held, A>, AllocError>
         ensures list { IfOk result (λ v. v.items ≡ summaries self.now.held) }
         ensures order { IsInOrder self.now }

@@ -1,4 +1,4 @@
--- The words of a symbol and its interleaved blocks: ISO/IEC 16022, clause 5.7 and Annex A. A position counts the
+-- The words of a symbol and its interleaved blocks: ISO/IEC 16022:2006, 5.7 and Annex A. A position counts the
 -- symbol's words from 0, the data words first.
 use Rattle.std.specs.Prelude.{◌≡◌, ℕ, ◌+◌, ◌-◌, ◌*◌, ◌<◌, nat_lt, if◌then◌else◌, List, length, map, take, slice_index}
 use Rattle.std.specs.List.{All, range_with_len}

@@ -1,4 +1,4 @@
--- The square symbol sizes of ISO/IEC 16022, clause 5.5 (symbol attributes), sides 10 to 132.
+-- The square symbol sizes of ISO/IEC 16022:2006, 5.5 (symbol attributes), sides 10 to 132.
 use Rattle.std.specs.Prelude.{◌≡◌, ℕ, ◌+◌, ◌*◌, ◌/◌, ◌%◌, ◌≤◌}
 use Rattle.dm_check_blocks.specs.declared.size.Size.{Size}
 use Rattle.dm_check_blocks.specs.declared.size.Size.TheVariants.{Side10, Side12, Side14, Side16, Side18, Side20, Side22, Side24, Side26, Side32, Side36, Side40, Side44, Side48, Side52, Side64, Side72, Side80, Side88, Side96, Side104, Side120, Side132}

@@ -38,7 +38,7 @@ pub(crate) fn fill(message: &[u8], checks: &mut [u8], generator: &[u8])
 }
 
 /// Fills in the check words of one block. There are 1 to 68 of them, and at most 255 words together with the
-/// message, the block's data words, of which the first is the coefficient of the highest power (ISO/IEC 16022,
+/// message, the block's data words, of which the first is the coefficient of the highest power (ISO/IEC 16022:2006,
 /// Annex E).
 pub fn checks_of(message: &[u8], checks: &mut [u8])
     requires some { 1 ≤ length checks.old }

@@ -2,12 +2,12 @@
 
 ghost use Rattle.std.specs.Prelude.{◌≡◌};
 
-// Where a size is listed: in this enum, in `Size::of_side` and `Size::row` below, in the table of specs/Sizes.antt, and
-// in the tests' lists of sides; above this crate in dm_finder_frame's lemma that finds a size by its side and in the
-// help of the command line.
+// Where a size is listed: in this enum, in `Size::of_side` and `Size::row` below, and in specs/Sizes.antt; above this
+// crate in EachSize.antt of dm_placement, with its tests, in the sides of dm_corrector's tests, in the help of
+// relay_line, and in docs/RECIPES.md and the benchmark.
 
-/// A square ECC 200 symbol of one data region or more, by its side in modules, finder frames included:
-/// the sides 10 to 132 of ISO/IEC 16022, clause 5.5. Side 144, whose blocks are unequal, is left out.
+/// A square ECC 200 symbol of one data region or more, by its side in modules, finder patterns included:
+/// the sides 10 to 132 of ISO/IEC 16022:2006, 5.5. Side 144, whose blocks are unequal, is left out.
 #[derive(Clone, Copy, Debug, PartialEq, Eq, PartialOrd, Ord, Hash)]
 pub enum Size {
     Side10,
@@ -149,7 +149,7 @@ impl Size {
         }
     }
 
-    /// Modules along a side of the symbol, finder frames included.
+    /// Modules along a side of the symbol, finder patterns included.
     #[tactic(auto, using(crate::proofs::Sound::sound))]
     pub fn side(self) -> u16
         ensures value { result ≡ sizes.side self }
@@ -158,7 +158,7 @@ impl Size {
         self.row().side
     }
 
-    /// Modules along a side of one data region, without its finder frame.
+    /// Modules along a side of one data region, without its finder pattern.
     #[tactic(auto, using(crate::proofs::Sound::sound))]
     pub fn region(self) -> u16
         ensures value { result ≡ sizes.region self }
@@ -185,7 +185,7 @@ impl Size {
         self.side() / (self.region() + 2)
     }
 
-    /// Modules along a side of the mapping matrix: the regions together, without their finder frames.
+    /// Modules along a side of the mapping matrix: the regions together, without their finder patterns.
     #[tactic(auto, using(crate::proofs::Sound::sound))]
     pub fn mapping(self) -> u16
         ensures value { result ≡ sizes.mapping self }

@@ -17,7 +17,7 @@ use std::alloc::{AllocError, Allocator};
 const BLOCK_DATA: usize = 175;
 
 /// Where a word of a block stands in its symbol. Blocks, words of a block and words of the symbol count from 0, and a
-/// block's data words come before its check words (ISO/IEC 16022, Annex A).
+/// block's data words come before its check words (ISO/IEC 16022:2006, Annex A).
 pub fn block_word(size: Size, block: usize, word: usize) -> usize
     requires block { block < blocks size }
     requires word { word < block_length size }
@@ -91,7 +91,7 @@ fn complete_blocks(size: Size, words: &mut [u8])
 }
 
 /// All words of the symbol whose data words are the message: the message, and after it the check words of the
-/// blocks, interleaved (ISO/IEC 16022, clause 5.7 and Annex A). No other list begins with the message and
+/// blocks, interleaved (ISO/IEC 16022:2006, 5.7 and Annex A). No other list begins with the message and
 /// consists of block words.
 ///
 /// # Errors

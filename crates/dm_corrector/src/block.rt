@@ -35,7 +35,7 @@ fn differing(left: &[u8], right: &[u8]) -> usize
 
 /// Corrects one block of 2 to 255 words, the last `checks` of which are check words, by the error locator polynomial
 /// that `locate` finds. At most `checks / 2` words are put right: Ok gives their number, and the block is then the one
-/// block word that differs from what it was in at most `checks / 2` places (ISO/IEC 16022, Annex E).
+/// block word that differs from what it was in at most `checks / 2` places (ISO/IEC 16022:2006, Annex E).
 ///
 /// # Errors
 /// Where there is no such block word; the block is then unchanged.

@@ -1,5 +1,5 @@
 //! Correction of the words of a Data Matrix ECC 200 symbol: Reed-Solomon decoding of its interleaved blocks, up to
-//! half as many wrong words in each block as it has check words (ISO/IEC 16022:2006, clause 5.7 and Annex E).
+//! half as many wrong words in each block as it has check words (ISO/IEC 16022:2006, 5.7 and Annex E).
 //!
 //! Proved: with c check words, a block is corrected exactly when some block word differs from it in at most c / 2
 //! places; the result is that block word, and there is only one, whichever `Locate` finds the error locator

@@ -89,8 +89,8 @@ fn correct_block(size: Size, words: &mut [u8], number: usize) -> Result<u8, Unco
 }
 
 /// Corrects all blocks of a symbol, up to `Size::limit` wrong words in each. Ok gives the number of words that changed
-/// in all; the words are then the one symbol whose blocks are within the limit of what they were (ISO/IEC 16022,
-/// clause 5.7 and Annex E).
+/// in all; the words are then the one symbol whose blocks are within the limit of what they were (ISO/IEC 16022:2006,
+/// 5.7 and Annex E).
 ///
 /// # Errors
 /// The first block to which no block word is near enough; all words are then unchanged.

@@ -1,4 +1,4 @@
--- The characters of C40 and Text, by the values that spell them (ISO/IEC 16022, clause 5.2).
+-- The characters of C40 and Text, by the values that spell them (ISO/IEC 16022:2006, 5.2).
 use Rattle.std.specs.Prelude.{◌≡◌, ℕ, ◌+◌, ◌-◌, ◌*◌, ◌/◌, ◌%◌, ◌<◌, ◌⊎◌, List, [], ◌∷◌, ◌++◌, nat_lt, if◌then◌else◌}
 use Rattle.std.specs.List.{flat_map, AllByRecursion}
 use Rattle.dm_encodation.specs.declared.letters.Letters.{Letters}

@@ -1,4 +1,4 @@
--- What a symbol's data words read as, from ASCII on, and where they are stuck (ISO/IEC 16022, clause 5.2).
+-- What a symbol's data words read as, from ASCII on, and where they are stuck (ISO/IEC 16022:2006, 5.2).
 -- How a run of C40 or Text ends, and what a pending shift does there, is this project's own rule.
 use Rattle.std.specs.Prelude.{◌≡◌, ◌≢◌, ℕ, ◌+◌, ◌-◌, ◌*◌, ◌<◌, ◌≤◌, ◌⊎◌, List, [], ◌∷◌, ◌++◌, length, take, get_or}
 use Rattle.std.specs.List.{flat_map, AllByRecursion}

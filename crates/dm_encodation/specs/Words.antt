@@ -1,5 +1,5 @@
 -- Words that depend on where they stand: pads (the 253-state algorithm) and Base 256 (the 255-state algorithm) of
--- ISO/IEC 16022, Annex B. A position counts the symbol's data words from 1.
+-- ISO/IEC 16022:2006, Annex B. A position counts the symbol's data words from 1.
 use Rattle.std.specs.Prelude.{ℕ, zero, suc, ◌+◌, ◌-◌, ◌*◌, ◌%◌, List, [], ◌∷◌, nat_le, if◌then◌else◌}
 
 -- the 255-state algorithm: how a value of Base 256 stands at position p

@@ -1,4 +1,4 @@
--- What `encode` writes: the words of a text (ISO/IEC 16022, clause 5.2; where the standard leaves a choice, which words
+-- What `encode` writes: the words of a text (ISO/IEC 16022:2006, 5.2; where the standard leaves a choice, which words
 -- are written is this project's own rule), and a symbol filled with them.
 use Rattle.std.specs.Prelude.{ℕ, zero, suc, ◌+◌, ◌-◌, ◌*◌, ◌/◌, ◌%◌, ◌≤◌, List, [], ◌∷◌, ◌++◌, length, take, drop, Bool, false, ◌&&◌, ◌==◌, nat_lt, nat_le, if◌then◌else◌}
 use Rattle.std.specs.Char.{is_ascii_digit}

@@ -72,7 +72,7 @@ fn collect<A: Allocator + Copy>(
     Ok(out)
 }
 
-/// The bytes that the data words from index `from` on read as (ISO/IEC 16022, clause 5.2; how a run
+/// The bytes that the data words from index `from` on read as (ISO/IEC 16022:2006, 5.2; how a run
 /// of C40 or Text ends is this project's own rule). The words begin in ASCII, and their end is the
 /// symbol's end.
 ///

@@ -63,7 +63,7 @@ fn fill<A: Allocator + Copy>(
     Ok(out)
 }
 
-/// The data words of a symbol: the head, the words of the text, and pads (ISO/IEC 16022, clause 5.2,
+/// The data words of a symbol: the head, the words of the text, and pads (ISO/IEC 16022:2006, 5.2,
 /// and this project's own rule where the standard leaves a choice). They are exactly as many as the
 /// size has data words, and read from the head's end as the bytes and as nothing else.
 ///

@@ -1,4 +1,4 @@
-//! The encodations of Data Matrix ECC 200 (ISO/IEC 16022:2006, clause 5.2 and Annex B): from bytes to
+//! The encodations of Data Matrix ECC 200 (ISO/IEC 16022:2006, 5.2 and Annex B): from bytes to
 //! the data words of a symbol, and back.
 //!
 //! [`need`] and [`fit`] say how many words a text takes and how much of it fits a room, and

@@ -1,6 +1,6 @@
 //! The encodations that `encode` writes.
 
-/// The encodation of a whole text (ISO/IEC 16022, clause 5.2). How far a run of C40 or Text goes is
+/// The encodation of a whole text (ISO/IEC 16022:2006, 5.2). How far a run of C40 or Text goes is
 /// this project's own rule: as far as whole characters make whole pairs of words; ASCII follows.
 #[derive(Clone, Copy, Debug, PartialEq, Eq)]
 pub enum Scheme {

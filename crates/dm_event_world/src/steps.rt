@@ -181,6 +181,9 @@ impl<A: Allocator + Copy> World<A> {
 /// Whether an event is honest: a scan, of a label that left and of modules of it at a desk that is there, is if the
 /// scanned copy has no more wrong codewords in any block than can be corrected. Every other event is. Memory is asked
 /// for only to look at such a copy.
+///
+/// # Errors
+/// Where the allocator refuses its memory.
 pub fn is_honest<A: Allocator + Copy>(
     world: &World<A>,
     event: &Event<A>,

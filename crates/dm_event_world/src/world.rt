@@ -55,6 +55,9 @@ impl<A: Allocator + Copy> Model for World<A> {
 impl<A: Allocator + Copy> World<A> {
     /// A world of printers that were just created, number p with range p, and of desks that hold nothing, number d with
     /// room for that many documents. Either list may be empty.
+    ///
+    /// # Errors
+    /// `Range`, `Overlap` or `Capacity`, the first that applies; `Memory` where none does and the allocator refuses.
     pub fn new(alloc: A, ranges: &[Range], capacities: &[u16]) -> Result<World<A>, WorldFault>
         ensures begins { IfOk result (Begins ranges.now capacities.now) }
         ensures stands { IfOk result (λ world. StandsFor ranges.now capacities.now world []) }

@@ -100,6 +100,9 @@ impl<A: Allocator> Grid<A> {
     }
 
     /// A copy of the grid, in memory of this allocator.
+    ///
+    /// # Errors
+    /// Where the allocator refuses its memory.
     pub fn copy(&self, alloc: A) -> Result<Grid<A>, AllocError>
         ensures { IfOk result (λ grid. grid ≡ self.now) }
     {
@@ -118,6 +121,9 @@ impl<A: Allocator> Grid<A> {
 
     /// A copy of the grid, in memory of this allocator, with these modules (row and column, both from 0) flipped one
     /// after another. A module that is named twice is as it was.
+    ///
+    /// # Errors
+    /// Where the allocator refuses its memory.
     pub fn with_flips(&self, alloc: A, flips: &[(u16, u16)]) -> Result<Grid<A>, AllocError>
         requires { All (IsInGrid self.now) flips.now }
         ensures { IfOk result (λ grid. grid ≡ flipped self.now flips.now) }

@@ -84,6 +84,9 @@ fn unframe_row<A: Allocator>(grid: &Grid<A>, places: &GridPlaces, row: u16, matr
 }
 
 /// The mapping matrix of a grid, whatever its finder patterns are (ISO/IEC 16022:2006, 5.8).
+///
+/// # Errors
+/// Where the allocator refuses its memory.
 pub fn matrix_of<A: Allocator>(alloc: A, grid: &Grid<A>) -> Result<Matrix<A>, AllocError>
     ensures { IfOk result (λ matrix. matrix ≡ matrix_of_grid grid.now) }
 {

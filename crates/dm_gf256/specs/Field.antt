@@ -1,4 +1,4 @@
--- The field of 256 elements of ISO/IEC 16022, clause 5.7 and Annex E (error detection and correction): polynomials
+-- The field of 256 elements of ISO/IEC 16022:2006, 5.7 and Annex E (error detection and correction): polynomials
 -- over two elements of degree at most 7, written as numbers below 256 (bit i is the coefficient of x^i), modulo
 -- x^8 + x^5 + x^3 + x^2 + 1, which is the number 301. The sum of two elements is their exclusive or.
 use Rattle.std.specs.Prelude.{ℕ, zero, suc, ◌+◌, ◌*◌, ◌^◌, ◌%◌}

@@ -1,5 +1,5 @@
 -- Polynomials over the field of 256 elements, as lists of their coefficients, and block words: the words of the
--- Reed-Solomon code of ISO/IEC 16022, Annex E, whose generator polynomial has the roots 2^1 .. 2^c.
+-- Reed-Solomon code of ISO/IEC 16022:2006, Annex E, whose generator polynomial has the roots 2^1 .. 2^c.
 use Rattle.std.specs.Prelude.{◌≡◌, ℕ, ◌+◌, ◌≤◌, List, [], ◌∷◌, length, cond, ◌==◌}
 use Rattle.std.specs.Int.Bits.{bit_xor}
 use Rattle.dm_gf256.specs.Field.{product, power}

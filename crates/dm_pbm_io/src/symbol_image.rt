@@ -26,6 +26,9 @@ fn draw_row<B: Allocator>(grid: &Grid<B>, row: u16, pixels: &mut [bool])
 }
 
 /// The image of a grid: one pixel per module, inside a quiet zone of one light pixel on each side.
+///
+/// # Errors
+/// Where the allocator refuses its memory.
 pub fn image_of<A: Allocator + Copy, B: Allocator>(
     alloc: A,
     grid: &Grid<B>,

@@ -1,4 +1,4 @@
--- The mapping matrix of words, and the words of a mapping matrix (ISO/IEC 16022, Annex F): each bit stands at its
+-- The mapping matrix of words, and the words of a mapping matrix (ISO/IEC 16022:2006, Annex F): each bit stands at its
 -- cell, a bit 1 as a dark module. Words count from 0, the bits of a word from 1, the most significant one, to 8.
 use Rattle.std.specs.Prelude.{ℕ, ◌≡◌, ◌+◌, ◌-◌, ◌*◌, ◌/◌, ◌%◌, ◌<◌, ◌≤◌, ◌⊎◌, Bool, ◌==◌, ◌&&◌, if◌then◌else◌, List, length, get_or, map, fold, position, Contains, All, ◌^◌, slice_set, slice_index, bit_xor, replicate}
 use Rattle.std.specs.List.{range_with_len, list_any}

@@ -12,7 +12,7 @@ use dm_check_blocks::Size;
 use std::alloc::{AllocError, Allocator, Global};
 use std::marker::Model;
 
-/// The cell of every bit of every word of a size, as Annex F of ISO/IEC 16022 places them.
+/// The cell of every bit of every word of a size, as Annex F of ISO/IEC 16022:2006 places them.
 #[derive(Drop)]
 pub struct Layout<A: Allocator = Global> {
     size: Size,

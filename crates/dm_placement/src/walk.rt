@@ -1,5 +1,5 @@
 //! The walk over the mapping matrix that places word after word, with a table of taken cells
-//! (ISO/IEC 16022, Annex F).
+//! (ISO/IEC 16022:2006, Annex F).
 
 ghost use Rattle.std.specs.Prelude.{◌≡◌, ◌++◌, IfOk, OnOk};
 ghost use Rattle.dm_placement.specs.Cells.{shape_cells, bit_cells};

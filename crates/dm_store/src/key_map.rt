@@ -78,6 +78,9 @@ impl<V, A: Allocator + Copy> KeyMap<V, A> {
     }
 
     /// The keys, rising: all, or the first `count` where there are more.
+    ///
+    /// # Errors
+    /// Where the allocator refuses its memory.
     pub fn first_keys(&self, alloc: A, count: usize) -> Result<Vec<u16, A>, AllocError>
         ensures { IfOk result (λ keys. keys.items ≡ take count (map.keys self.now)) }
     {
@@ -85,6 +88,9 @@ impl<V, A: Allocator + Copy> KeyMap<V, A> {
     }
 
     /// Puts a value at a key, and gives the one that was there. It takes memory only where the key is new.
+    ///
+    /// # Errors
+    /// Where the allocator refuses the memory of a new key; the map is then as it was.
     pub fn insert(&mut self, key: u16, value: V) -> Result<Option<V>, AllocError>
     where
         V: Drop,

@@ -252,6 +252,9 @@ fn world<'a>(alloc: Global) -> Command<'a> {
 }
 
 /// The whole program.
+///
+/// # Errors
+/// Where the allocator refuses its memory.
 pub fn relay<'a>(alloc: Global) -> Result<Command<'a>, AllocError> {
     let program = Command::new(alloc, "relay")
         .bin_name("relay")?

@@ -8,8 +8,8 @@ use thiserror::Error;
 /// Why a script is not taken.
 #[derive(Clone, Copy, Debug, PartialEq, Eq, Error)]
 pub enum ScriptFault {
-    /// A line is none of a script, or comes at a wrong place, or there are too many.
-    #[error("a line is none of a script")]
+    /// A line has none of a script's forms, or comes at a wrong place, or there are too many.
+    #[error("a line is not one of a script")]
     Script,
     #[error("out of memory")]
     Memory,

@@ -35,7 +35,7 @@ pub struct Script<A: Allocator + Copy = Global> {
 /// Reads a script of at most `SCRIPT_BYTES` bytes.
 ///
 /// # Errors
-/// `Script` where a line is none of a script or stands at a wrong place, or where a limit is passed.
+/// `Script` where a line has none of a script's forms or stands at a wrong place, or where a limit is passed.
 pub fn read_script<A: Allocator + Copy>(alloc: A, bytes: &[u8]) -> Result<Script<A>, ScriptFault>
     ensures { IsRead result (IsScript bytes.now) }
 {

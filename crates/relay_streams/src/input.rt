@@ -60,6 +60,9 @@ fn read_piece<R: Read>(reader: &mut R, buffer: &mut [u8]) -> Result<usize, ReadF
 
 /// The next byte of any reader, or `None` at its end. A read that a signal interrupts is made again. Of a bare reader
 /// no contract says that a read has failed: [`Input::next_byte`] says it.
+///
+/// # Errors
+/// `Read` where the reader has failed.
 pub fn next_byte_of<R: Read>(reader: &mut R) -> Result<Option<u8>, ReadFault>
     ensures given { IfOk result (GivesNext (R.remaining reader.old) (R.remaining reader.new)) }
     ensures none_taken { OnErr result (Keeps (R.remaining reader.old) (R.remaining reader.new)) }

@@ -24,6 +24,9 @@ impl<W: Write> Model for Output<W> {
 
 /// Writes the whole text to any writer. Of a bare writer no contract says that a write has failed: [`Output::put`]
 /// says it.
+///
+/// # Errors
+/// `Write` where the writer has refused a write.
 pub fn put_to<W: Write>(writer: &mut W, text: &[u8]) -> Result<(), WriteFault>
     ensures { OnOk result (Appends (W.contents writer.old) (W.contents writer.new) text.now) }
 {

@@ -23,6 +23,9 @@ fn add_between(
 
 /// All copies that are one byte away: with each byte changed to each value (its own too), with each value put in at
 /// each place, and cut off at each place.
+///
+/// # Errors
+/// Where the allocator refuses its memory.
 pub fn spoiled(alloc: Global, bytes: &[u8]) -> Result<Vec<Vec<u8>>, AllocError> {
     let mut copies = Vec::new(alloc);
     for at in 0..bytes.len() {

@@ -1,5 +1,6 @@
--- What the walk over the mapping matrix does at one of its positions (ISO/IEC 16022, Annex F), and where a shape may
--- stand. The walk counts rows and columns from 2 above and left of the matrix: it never goes further out on those sides.
+-- What the walk over the mapping matrix does at one of its positions (ISO/IEC 16022:2006, Annex F), and where a shape
+-- may stand. The walk counts rows and columns from 2 above and left of the matrix: it never goes further out on those
+-- sides.
 use Rattle.std.specs.Prelude.{ℕ, ◌≡◌, ◌≤◌, ◌<◌, ◌+◌, ◌-◌, ◌*◌, ◌%◌, Bool, ◌==◌, nat_lt, nat_le, ◌&&◌, not, if◌then◌else◌, List, [], ◌∷◌}
 use Rattle.std.specs.List.{flat_map}
 use Rattle.dm_check_blocks.specs.declared.size.Size.{Size}
