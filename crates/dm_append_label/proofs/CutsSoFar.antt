@@ -5,7 +5,8 @@ use Rattle.dm_encodation.specs.declared.scheme.Scheme.{Scheme}
 use Rattle.dm_append_label.specs.Parts.{AreFullEnds}
 use Rattle.dm_encodation.specs.Written.{IsGreatestPrefix}
 
--- The parts up to `from` end at these ends: what follows makes the whole, and the whole is made so.
+-- The document up to `from` is cut at these ends: ends of the rest complete them to ends of the whole, and all ends of
+-- the whole begin with them.
 pub record CutSoFar (scheme : Scheme) (room : ℕ) (document : List ℕ) (from : ℕ) (ends : List ℕ) : Type 0 where
   pub forward : (rest : List ℕ) → AreFullEnds scheme room document from rest → AreFullEnds scheme room document 0 (ends ++ rest)
   pub back : (full : List ℕ) → AreFullEnds scheme room document 0 full → (rest : List ℕ) × (full ≡ ends ++ rest) × AreFullEnds scheme room document from rest
@@ -49,7 +50,7 @@ module _ (scheme : Scheme) (room : ℕ) (document : List ℕ) where
   pub stuck : (from : ℕ) (ends full : List ℕ) → from < length document → IsGreatestPrefix scheme room (drop from document) 0 → CutSoFar scheme room document from ends → AreFullEnds scheme room document 0 full → ⊥
   stuck from ends full lt g so_far h = let r = so_far.back full h in nothing_fits from r.0 lt g r.2
 
-  -- a rest behind sixteen parts
+  -- a rest after sixteen parts
   too_many : (from : ℕ) (ends full rest : List ℕ) → from < length document → length ends ≡ 16 → full ≡ ends ++ rest → AreFullEnds scheme room document from rest → 16 < length full
   too_many from ends full [] lt count is h = absurd (omega arith)
   too_many from ends full (end ∷ rest) lt count is h = omega (arith, ap (λ (x : List ℕ). length x) is, length-append ends (end ∷ rest))

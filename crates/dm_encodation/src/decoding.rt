@@ -9,7 +9,7 @@ ghost use Rattle.dm_encodation.specs.declared.mode.Mode.TheVariants.{Ascii};
 
 use crate::fault::DecodeFault;
 use crate::mode::Mode;
-use crate::reader::{Output, finish, step};
+use crate::reader::{Decoded, finish, step};
 use std::alloc::{AllocError, Allocator};
 
 /// Whether the words are a text; no memory is asked for. Gives the number of its bytes, by which
@@ -30,17 +30,17 @@ fn check(words: &[u8], from: usize) -> Result<usize, DecodeFault>
 }
 
 /// Writes the bytes that a word gives.
-fn push_output<A: Allocator>(out: &mut Vec<u8, A>, output: Output) -> Result<(), AllocError>
+fn push_output<A: Allocator>(out: &mut Vec<u8, A>, output: Decoded) -> Result<(), AllocError>
     ensures { OnOk result (out.new.items ≡ out.old.items ++ bytes_of output) }
 {
     match output {
-        Output::Nothing => {}
-        Output::One(a) => out.push(a)?,
-        Output::Two(a, b) => {
+        Decoded::Nothing => {}
+        Decoded::One(a) => out.push(a)?,
+        Decoded::Two(a, b) => {
             out.push(a)?;
             out.push(b)?;
         }
-        Output::Three(a, b, c) => {
+        Decoded::Three(a, b, c) => {
             out.push(a)?;
             out.push(b)?;
             out.push(c)?;

@@ -12,46 +12,46 @@ use crate::values::pair_step;
 
 /// The bytes that one word gives.
 #[derive(Clone, Copy)]
-pub(crate) enum Output {
+pub(crate) enum Decoded {
     Nothing,
     One(u8),
     Two(u8, u8),
     Three(u8, u8, u8),
 }
 
-impl Output {
+impl Decoded {
     /// The number of these bytes.
     pub(crate) fn len(self) -> usize {
         match self {
-            Output::Nothing => 0,
-            Output::One(..) => 1,
-            Output::Two(..) => 2,
-            Output::Three(..) => 3,
+            Decoded::Nothing => 0,
+            Decoded::One(..) => 1,
+            Decoded::Two(..) => 2,
+            Decoded::Three(..) => 3,
         }
     }
 }
 
 /// A word in ASCII.
 #[tactic(auto, unfolding(crate::specs::inner::Reading::ascii_step))]
-fn ascii_step(position: usize, word: u8) -> Result<(Mode, Output), DecodeFault>
+fn ascii_step(position: usize, word: u8) -> Result<(Mode, Decoded), DecodeFault>
     ensures step { seen result ≡ Reading.ascii_step position word }
     ensures mode { 0 < position → IfOk result (λ x. IsMode x.0 (position + 1)) }
 {
     match word {
         0 => Err(DecodeFault::Reserved { at: position, word }),
-        1..=128 => Ok((Mode::Ascii, Output::One(word - 1))),
-        129 => Ok((Mode::Padded, Output::Nothing)),
+        1..=128 => Ok((Mode::Ascii, Decoded::One(word - 1))),
+        129 => Ok((Mode::Padded, Decoded::Nothing)),
         130..=229 => {
             let number = word - 130;
             Ok((
                 Mode::Ascii,
-                Output::Two(b'0' + number / 10, b'0' + number % 10),
+                Decoded::Two(b'0' + number / 10, b'0' + number % 10),
             ))
         }
-        230 => Ok((Mode::Run(Letters::Capital, NO_PENDING), Output::Nothing)),
-        231 => Ok((Mode::Length, Output::Nothing)),
-        235 => Ok((Mode::Upper, Output::Nothing)),
-        239 => Ok((Mode::Run(Letters::Small, NO_PENDING), Output::Nothing)),
+        230 => Ok((Mode::Run(Letters::Capital, NO_PENDING), Decoded::Nothing)),
+        231 => Ok((Mode::Length, Decoded::Nothing)),
+        235 => Ok((Mode::Upper, Decoded::Nothing)),
+        239 => Ok((Mode::Run(Letters::Small, NO_PENDING), Decoded::Nothing)),
         232..=241 => Err(DecodeFault::Unsupported { at: position, word }),
         242..=255 => Err(DecodeFault::Reserved { at: position, word }),
     }
@@ -59,12 +59,12 @@ fn ascii_step(position: usize, word: u8) -> Result<(Mode, Output), DecodeFault>
 
 /// The word after Upper Shift.
 #[tactic(auto, unfolding(crate::specs::inner::Reading::upper_step))]
-fn upper_step(position: usize, word: u8) -> Result<(Mode, Output), DecodeFault>
+fn upper_step(position: usize, word: u8) -> Result<(Mode, Decoded), DecodeFault>
     ensures step { seen result ≡ Reading.upper_step position word }
     ensures mode { IfOk result (λ x. (p : ℕ) → IsMode x.0 p) }
 {
     match word {
-        1..=128 => Ok((Mode::Ascii, Output::One(word + 127))),
+        1..=128 => Ok((Mode::Ascii, Decoded::One(word + 127))),
         _ => Err(DecodeFault::Reserved { at: position, word }),
     }
 }
@@ -96,7 +96,7 @@ fn bytes_left(count: usize, at: usize) -> Mode
 
 /// The first word of a length.
 #[tactic(auto, unfolding(crate::specs::inner::Reading::step))]
-fn length_step(position: usize, word: u8) -> (Mode, Output)
+fn length_step(position: usize, word: u8) -> (Mode, Decoded)
     requires { 1 < position }
     ensures step { seen (Ok result) ≡ Reading.step Length position word }
     ensures next { IsMode result.0 (position + 1) }
@@ -109,12 +109,12 @@ fn length_step(position: usize, word: u8) -> (Mode, Output)
     } else {
         Mode::LongLength(value)
     };
-    (next, Output::Nothing)
+    (next, Decoded::Nothing)
 }
 
 /// The second word of a length whose first is 250 or more.
 #[tactic(auto, unfolding(crate::specs::inner::Reading::step))]
-fn long_length_step(first: u8, position: usize, word: u8) -> Result<(Mode, Output), DecodeFault>
+fn long_length_step(first: u8, position: usize, word: u8) -> Result<(Mode, Decoded), DecodeFault>
     requires place { 2 < position }
     requires long { 250 ≤ first }
     ensures step { seen result ≡ Reading.step (LongLength first) position word }
@@ -125,12 +125,12 @@ fn long_length_step(first: u8, position: usize, word: u8) -> Result<(Mode, Outpu
         return Err(DecodeFault::Reserved { at: position, word });
     }
     let count = 250 * (first as usize - 249) + value as usize;
-    Ok((bytes_left(count, position - 2), Output::Nothing))
+    Ok((bytes_left(count, position - 2), Decoded::Nothing))
 }
 
 /// What one word does in a mode: the next mode, and the bytes that it gives.
 #[tactic(auto, unfolding(crate::specs::inner::Reading::step))]
-pub(crate) fn step(mode: Mode, position: usize, word: u8) -> Result<(Mode, Output), DecodeFault>
+pub(crate) fn step(mode: Mode, position: usize, word: u8) -> Result<(Mode, Decoded), DecodeFault>
     requires place { 0 < position }
     requires mode { IsMode mode position }
     ensures step { seen result ≡ Reading.step mode position word }
@@ -141,9 +141,9 @@ pub(crate) fn step(mode: Mode, position: usize, word: u8) -> Result<(Mode, Outpu
         Mode::Upper => upper_step(position, word),
         Mode::Run(letters, pending) => {
             if word == 254 {
-                Ok((Mode::Ascii, Output::Nothing))
+                Ok((Mode::Ascii, Decoded::Nothing))
             } else {
-                Ok((Mode::Half(letters, pending, word), Output::Nothing))
+                Ok((Mode::Half(letters, pending, word), Decoded::Nothing))
             }
         }
         Mode::Half(letters, pending, first) => pair_step(
@@ -157,10 +157,10 @@ pub(crate) fn step(mode: Mode, position: usize, word: u8) -> Result<(Mode, Outpu
         Mode::LongLength(first) => long_length_step(first, position, word),
         Mode::Bytes(count, at) => Ok((
             bytes_left(count - 1, at),
-            Output::One(value_255(position, word)),
+            Decoded::One(value_255(position, word)),
         )),
-        Mode::Rest => Ok((Mode::Rest, Output::One(value_255(position, word)))),
-        Mode::Padded => Ok((Mode::Padded, Output::Nothing)),
+        Mode::Rest => Ok((Mode::Rest, Decoded::One(value_255(position, word)))),
+        Mode::Padded => Ok((Mode::Padded, Decoded::Nothing)),
     }
 }
 
@@ -180,7 +180,7 @@ fn ended(mode: Mode, position: usize) -> Result<(), DecodeFault>
 /// The end of the words: the bytes that come only here, those of a word that a run left over, read in
 /// ASCII.
 #[tactic(auto, unfolding(crate::specs::inner::Reading::finish))]
-pub(crate) fn finish(mode: Mode, position: usize) -> Result<Output, DecodeFault>
+pub(crate) fn finish(mode: Mode, position: usize) -> Result<Decoded, DecodeFault>
     requires { IsMode mode position }
     ensures { seen_end result ≡ Reading.finish mode position }
 {
@@ -192,7 +192,7 @@ pub(crate) fn finish(mode: Mode, position: usize) -> Result<Output, DecodeFault>
         }
         _ => {
             ended(mode, position)?;
-            Ok(Output::Nothing)
+            Ok(Decoded::Nothing)
         }
     }
 }

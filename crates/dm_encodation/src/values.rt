@@ -8,7 +8,7 @@ use crate::characters::byte_in;
 use crate::fault::DecodeFault;
 use crate::letters::Letters;
 use crate::mode::{Mode, NO_PENDING, Pending, Set, ValueFault};
-use crate::reader::Output;
+use crate::reader::Decoded;
 
 /// The end of a character.
 fn end_character(upper: bool, byte: Option<u8>) -> Result<(Pending, Option<u8>), ValueFault>
@@ -76,16 +76,16 @@ fn pair_fault(fault: ValueFault, position: usize, word: u8) -> DecodeFault
 }
 
 /// The bytes of up to three characters.
-fn joined(first: Option<u8>, second: Option<u8>, third: Option<u8>) -> Output
+fn joined(first: Option<u8>, second: Option<u8>, third: Option<u8>) -> Decoded
     ensures { bytes_of result
         ≡ option_bytes first ++ (option_bytes second ++ (option_bytes third ++ [])) }
 {
     match (first, second, third) {
-        (None, None, None) => Output::Nothing,
-        (Some(a), None, None) | (None, Some(a), None) | (None, None, Some(a)) => Output::One(a),
+        (None, None, None) => Decoded::Nothing,
+        (Some(a), None, None) | (None, Some(a), None) | (None, None, Some(a)) => Decoded::One(a),
         (Some(a), Some(b), None) | (Some(a), None, Some(b)) | (None, Some(a), Some(b)) =>
-            Output::Two(a, b),
-        (Some(a), Some(b), Some(c)) => Output::Three(a, b, c),
+            Decoded::Two(a, b),
+        (Some(a), Some(b), Some(c)) => Decoded::Three(a, b, c),
     }
 }
 
@@ -96,7 +96,7 @@ fn values_step(
     first: u8,
     second: u8,
     third: u8,
-) -> Result<(Pending, Output), ValueFault>
+) -> Result<(Pending, Decoded), ValueFault>
     ensures { seen_values result ≡ Reading.values_step letters pending (first ∷ second ∷ third ∷ []) }
 {
     let (pending, first) = value_step(letters, pending, first)?;
@@ -113,7 +113,7 @@ pub(crate) fn pair_step(
     position: usize,
     first: u8,
     second: u8,
-) -> Result<(Mode, Output), DecodeFault>
+) -> Result<(Mode, Decoded), DecodeFault>
     ensures step { seen result ≡ Reading.pair_step letters pending position first second }
     ensures mode { IfOk result (λ x. IsMode x.0 (position + 2)) }
 {

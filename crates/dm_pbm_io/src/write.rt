@@ -7,7 +7,7 @@ ghost use Rattle.std.specs.Fmt.{decimal};
 ghost use Rattle.dm_pbm_io.specs.Header.{magic};
 ghost use Rattle.dm_pbm_io.specs.Raster.{stride, digit_of};
 ghost use Rattle.dm_pbm_io.specs.Shown.{picture};
-ghost use Rattle.dm_pbm_io.specs.Writing.{number_of, packed, plain_row, row_text, rows_text, written};
+ghost use Rattle.dm_pbm_io.specs.Writing.{number_of_first, packed, plain_row, row_text, rows_text, written};
 ghost use Rattle.dm_pbm_io.specs.inner.Streaming.{Adds};
 
 use crate::image::Image;
@@ -53,7 +53,7 @@ fn is_black(row: &[bool], k: usize) -> bool
 
 /// The byte of the first eight pixels of a row. Past its end they are light.
 fn byte_of(row: &[bool]) -> u8
-    ensures { result ≡ number_of 0 row.now 8 }
+    ensures { result ≡ number_of_first 0 row.now 8 }
 {
     let mut byte = 0u16;
     for k in 0..8 {

@@ -18,7 +18,8 @@ cell s word bit = get_or (bit_cells (mapping s)) (8 * word + bit - 1) (cell_at 0
 abbrev pub IsBit : Size → ℕ → ℕ → Type 0
 IsBit s word bit = (word < all_words s) × (1 ≤ bit) × (bit ≤ 8)
 
--- Every cell of the mapping matrix is that of exactly one bit of one word, or free.
+-- Every cell of the mapping matrix is that of exactly one bit of one word, or free. (That the cell of each bit lies in
+-- the matrix is a clause of `Layout::cell`.)
 pub record EachCellOnce (s : Size) : Type 0 where
   pub covered : (p : Cell) → IsIn (mapping s) p
       → Contains (free_cells (mapping s)) p ⊎ ((word : ℕ) × (bit : ℕ) × IsBit s word bit × (cell s word bit ≡ p))

@@ -4,15 +4,15 @@ use Rattle.dm_encodation.specs.declared.mode.Mode.{Mode}
 use Rattle.dm_encodation.specs.declared.mode.Mode.TheVariants.{Upper, Half, Length, LongLength, Bytes}
 use Rattle.dm_encodation.specs.declared.mode.Pending.{Pending}
 use Rattle.dm_encodation.specs.declared.mode.ValueFault.{ValueFault}
-use Rattle.dm_encodation.specs.declared.reader.Output.{Output}
-use Rattle.dm_encodation.specs.declared.reader.Output.TheVariants.{Nothing, One, Two, Three}
+use Rattle.dm_encodation.specs.declared.reader.Decoded.{Decoded}
+use Rattle.dm_encodation.specs.declared.reader.Decoded.TheVariants.{Nothing, One, Two, Three}
 use Rattle.dm_encodation.specs.declared.fault.DecodeFault.{DecodeFault}
 use Rattle.dm_encodation.specs.declared.mode.ValueFault.TheVariants.{Fnc1, Missing}
 use Rattle.dm_encodation.specs.declared.fault.DecodeFault.TheVariants.{Unsupported, Reserved, Memory}
 use Rattle.dm_encodation.specs.inner.Reading.{Stepped, Valued}
 
 -- the bytes that one word gives
-abbrev pub bytes_of : Output → List ℕ
+abbrev pub bytes_of : Decoded → List ℕ
 bytes_of Nothing = []
 bytes_of (One a) = a ∷ []
 bytes_of (Two a b) = a ∷ b ∷ []
@@ -24,11 +24,11 @@ option_bytes None = []
 option_bytes (Some b) = b ∷ []
 
 -- the result of a step, of the end of the words, of a value, of three values, and of a check
-abbrev pub seen : Result (Mode × Output) DecodeFault → Stepped
+abbrev pub seen : Result (Mode × Decoded) DecodeFault → Stepped
 seen (Ok x) = Ok (x.0, bytes_of x.1)
 seen (Err f) = Err f
 
-abbrev pub seen_end : Result Output DecodeFault → Result (List ℕ) DecodeFault
+abbrev pub seen_end : Result Decoded DecodeFault → Result (List ℕ) DecodeFault
 seen_end (Ok x) = Ok (bytes_of x)
 seen_end (Err f) = Err f
 
@@ -36,7 +36,7 @@ abbrev pub seen_value : Result (Pending × Option ℕ) ValueFault → Valued
 seen_value (Ok x) = Ok (x.0, option_bytes x.1)
 seen_value (Err f) = Err f
 
-abbrev pub seen_values : Result (Pending × Output) ValueFault → Valued
+abbrev pub seen_values : Result (Pending × Decoded) ValueFault → Valued
 seen_values (Ok x) = Ok (x.0, bytes_of x.1)
 seen_values (Err f) = Err f
 
