@@ -9,6 +9,7 @@ TOP = pathlib.Path(__file__).resolve().parent.parent
 RELAY = str(TOP / "relay")
 PROGRAM = str(TOP / "crates" / "relay_main" / "out" / "relay_main")
 LETTER = b"Softcairn joins no wrong pages."
+REFUSED_ON_ERRORS = {"draw", "print", "deliver", "export"}
 
 
 def fail(what):
@@ -36,11 +37,16 @@ def names_of_readme():
 
 
 def refusal(answer):
-    """The name of the refusal that is the last line of an answer, or None where it is none."""
-    for text in (answer.stdout, answer.stderr):
+    """The name of the refusal that is the last line of an answer, or None where it is none. The commands that write
+    images, documents or pages refuse on standard error, the others on standard output, and all say `Write` there."""
+    on_errors = bool(REFUSED_ON_ERRORS & {str(word) for word in answer.args})
+    for text, is_its_place in ((answer.stdout, not on_errors), (answer.stderr, on_errors)):
         lines = text.splitlines()
         if lines and lines[-1].startswith(b"refused "):
-            return lines[-1].split()[1].decode()
+            name = lines[-1].split()[1].decode()
+            if not is_its_place and (text is answer.stdout or name != "Write"):
+                fail(f"refused on the other stream: {seen(answer)}")
+            return name
     return None
 
 

@@ -118,6 +118,65 @@ fn takes_a_line_of_a_desk(rt: HostRuntime) -> Result<(), Fail> {
     Ok(())
 }
 
+// Each option's value is its own: the numbers of a line differ, and do not stand in the order of the fields.
+#[test]
+fn takes_each_option_from_its_own_place(rt: HostRuntime) -> Result<(), Fail> {
+    let file = "f";
+    let lines = [
+        (
+            [
+                "relay", "ledger", "--number", "3", "--last", "9", "--first", "4", "--file", "f",
+            ]
+            .as_slice(),
+            Command::Ledger {
+                file,
+                number: 3,
+                first: 4,
+                last: 9,
+            },
+        ),
+        (
+            [
+                "relay", "print", "--scheme", "base256", "--side", "18", "--file", "f",
+            ]
+            .as_slice(),
+            Command::Print {
+                file,
+                number: 0,
+                side: 18,
+                scheme: Scheme::Base256,
+            },
+        ),
+        (
+            ["relay", "words", "--scheme", "c40", "--side", "132"].as_slice(),
+            Command::Words {
+                side: 132,
+                scheme: Scheme::C40,
+            },
+        ),
+        (
+            ["relay", "draw"].as_slice(),
+            Command::Draw {
+                side: 10,
+                scheme: Scheme::Ascii,
+                plain: false,
+            },
+        ),
+        (
+            ["relay", "scan", "--capacity", "5", "--file", "f"].as_slice(),
+            Command::Scan { file, capacity: 5 },
+        ),
+        (
+            ["relay", "import", "--file", "f"].as_slice(),
+            Command::Import { file, capacity: 64 },
+        ),
+    ];
+    for (line, wanted) in lines {
+        assert!(rt; command_line(rt.alloc(), line)? == wanted);
+    }
+    Ok(())
+}
+
 // The text of a refused line, and its status.
 fn refused(line: &[&str], alloc: Global) -> Option<(String, u8)> {
     match command_line(alloc, line) {
@@ -187,7 +246,74 @@ fn refuses_a_line_of_printers(rt: HostRuntime) -> Result<(), Fail> {
     all_are_refused(&rt, rt.alloc(), &lines)
 }
 
-// Each command has help, of lines of at most 80 columns, with an example.
+// The options that each command must have, with a value for each.
+const NEEDED: [(&str, &[(&str, &str)]); 9] = [
+    (
+        "ledger",
+        &[("--file", "f"), ("--first", "0"), ("--last", "9")],
+    ),
+    ("print", &[("--file", "f"), ("--side", "12")]),
+    (
+        "give",
+        &[
+            ("--file", "f"),
+            ("--number", "1"),
+            ("--to", "2"),
+            ("--first", "3"),
+            ("--last", "4"),
+        ],
+    ),
+    (
+        "take",
+        &[("--file", "f"), ("--number", "1"), ("--ticket", "00")],
+    ),
+    ("scan", &[("--file", "f")]),
+    ("deliver", &[("--file", "f"), ("--id", "0101")]),
+    ("forget", &[("--file", "f"), ("--id", "0101")]),
+    ("export", &[("--file", "f"), ("--id", "0101")]),
+    ("import", &[("--file", "f")]),
+];
+
+// The line of a command with these options but one, if there is one of this number.
+fn line_without<'a>(
+    alloc: Global,
+    command: &'a str,
+    options: &[(&'a str, &'a str)],
+    left_out: usize,
+) -> Result<Vec<&'a str>, Fail> {
+    let mut line = Vec::new(alloc);
+    line.push("relay")?;
+    line.push(command)?;
+    for (at, (name, value)) in options.iter().enumerate() {
+        if at != left_out {
+            line.push(*name)?;
+            line.push(*value)?;
+        }
+    }
+    Ok(line)
+}
+
+// A line that lacks an option that its command must have is refused, and the text says which; the whole line is taken.
+#[test]
+fn refuses_a_line_that_lacks_an_option(rt: HostRuntime) -> Result<(), Fail> {
+    for (command, options) in NEEDED {
+        for (left_out, (name, _)) in options.iter().enumerate() {
+            let line = line_without(rt.alloc(), command, options, left_out)?;
+            let (text, status) = refused(line.as_slice(), rt.alloc()).ok_or("the line was taken")?;
+            assert!(rt; status == 2, "{text}");
+            assert!(rt; text.as_str().contains("required"), "{text}");
+            assert!(rt; text.as_str().contains(*name), "{text}");
+        }
+        let line = line_without(rt.alloc(), command, options, options.len())?;
+        assert!(rt;
+            command_line(rt.alloc(), line.as_slice()).is_ok(),
+            "{command}"
+        );
+    }
+    Ok(())
+}
+
+// Each command has help of its own, of lines of at most 80 columns, with an example.
 #[test]
 fn helps(rt: HostRuntime) -> Result<(), Fail> {
     let (text, status) = refused(&["relay", "--help"], rt.alloc()).ok_or("no help")?;
@@ -204,6 +330,14 @@ fn helps(rt: HostRuntime) -> Result<(), Fail> {
         let (text, status) = refused(&line, rt.alloc()).ok_or("no help")?;
         assert!(rt; status == 0);
         assert!(rt; text.as_str().contains("\nExample:\n"), "{text}");
+        let usage = format!(in rt.alloc(); "\nUsage: relay {command}")?;
+        assert!(rt; text.as_str().contains(usage.as_str()), "{text}");
+        let example = format!(in rt.alloc(); "relay {command}")?;
+        let (_, shown) = text
+            .as_str()
+            .split_once("\nExample:\n")
+            .ok_or("no example")?;
+        assert!(rt; shown.contains(example.as_str()), "{text}");
         for line in text.as_str().lines() {
             assert!(rt; line.chars().count() <= 80, "{line}");
         }

@@ -44,7 +44,7 @@ command_name World = codes "world"
 abbrev pub IsNamed : Option (List ℕ) → Command → Type 0
 IsNamed name command = MatchOption name (command ≡ Words 10 Ascii) (λ given. given ≡ command_name command)
 
--- a refused line ends with 2, help that was asked for with 0
+-- a line that is not taken ends with 0, where help was asked for, or with 2
 abbrev pub HasStatus : LineFault → Type 0
 HasStatus (Line text status) = (status ≡ 0) ⊎ (status ≡ 2)
 HasStatus Memory = Unit {0}

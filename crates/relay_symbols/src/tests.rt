@@ -40,6 +40,16 @@ fn corrects_what_it_reads(rt: HostRuntime) {
     }
 }
 
+// The largest symbol comes back too.
+#[test]
+fn reads_the_largest_symbol(rt: HostRuntime) {
+    let mut image = [0; 4096];
+    let count = relay_symbol_from_text(rt.alloc(), 132, b"123456", &mut image);
+    let mut text = [0; 6];
+    assert!(rt; relay_text_from_image(rt.alloc(), &image[..count], &mut text) == 6);
+    assert!(rt; &text == b"123456");
+}
+
 #[test]
 fn draws_and_opens_a_label(rt: HostRuntime) {
     let mut image = [0; 100];
