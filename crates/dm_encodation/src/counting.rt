@@ -17,7 +17,7 @@ pub(crate) fn word_count(scheme: Scheme, bytes: &[u8]) -> u128
     counter.words()
 }
 
-/// The number of data words that the bytes take in a scheme, before any pad (ISO/IEC 16022:2006, clause
+/// The number of data words that the bytes take in a scheme, before any pad (ISO/IEC 16022:2006,
 /// 5.2, and this project's own rule where the standard leaves a choice). The bytes are at most 2^30.
 pub fn need(scheme: Scheme, bytes: &[u8]) -> usize
     requires { length bytes.now ≤ 2 ^ 30 }

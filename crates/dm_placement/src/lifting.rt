@@ -25,7 +25,7 @@ fn word_at_cells<A: Allocator>(cells: &[Cell], from: usize, matrix: &Matrix<A>) 
     word
 }
 
-/// The words that a mapping matrix holds, each bit read at its cell by Annex F of ISO/IEC 16022: a dark module is a
+/// The words that a mapping matrix holds, each bit read at its cell by Annex F of ISO/IEC 16022:2006: a dark module is a
 /// bit 1. Free cells hold no bit.
 ///
 /// # Errors

@@ -26,7 +26,7 @@ fn blank<A: Allocator>(alloc: A, side: u16) -> Result<Matrix<A>, AllocError>
     Ok(matrix)
 }
 
-/// The mapping matrix of all words of a symbol, data words first, by Annex F of ISO/IEC 16022: a bit 1 is a dark
+/// The mapping matrix of all words of a symbol, data words first, by Annex F of ISO/IEC 16022:2006: a bit 1 is a dark
 /// module.
 ///
 /// # Errors
