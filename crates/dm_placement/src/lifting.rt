@@ -25,8 +25,8 @@ fn word_at_cells<A: Allocator>(cells: &[Cell], from: usize, matrix: &Matrix<A>) 
     word
 }
 
-/// The words that a mapping matrix holds, each bit read at its cell by Annex F of ISO/IEC 16022:2006: a dark module is a
-/// bit 1. Free cells hold no bit.
+/// The words that a mapping matrix holds, each bit read at its cell by Annex F of ISO/IEC 16022:2006: a dark module is
+/// a bit 1. Free cells hold no bit.
 ///
 /// # Errors
 /// Where the allocator refuses its memory.
