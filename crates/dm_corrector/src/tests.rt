@@ -43,15 +43,11 @@ fn with_roots(count: u8) -> [u8; 43] {
 #[test]
 fn faults_say_what_is_wrong(rt: HostRuntime) -> Result<(), Fail> {
     let fault = BlockFault { block: 3 };
-    assert_eq!(rt; fault.name(), "Block");
-    assert_eq!(rt;
-        format!(in rt.alloc(); "{fault}")?.as_str(),
-        "block 3 has too many wrong words"
-    );
+    assert!(rt; fault.name() == "Block");
+    assert!(rt; format!(in rt.alloc(); "{fault}")?.as_str() == "block 3 has too many wrong words");
     let none = Uncorrectable;
-    assert_eq!(rt;
-        format!(in rt.alloc(); "{none}")?.as_str(),
-        "no block word is near enough to the block"
+    assert!(rt;
+        format!(in rt.alloc(); "{none}")?.as_str() == "no block word is near enough to the block"
     );
     Ok(())
 }
@@ -62,24 +58,21 @@ fn two_wrong_words_of_a_block_with_five_check_words(rt: HostRuntime) {
     let wrong = [0, 0, 1, 62, 111, 15, 0, 0];
     let right = [0, 0, 1, 62, 111, 15, 48, 228];
     let mut block = wrong;
-    assert_eq!(rt; correct(&mut block, 5), Ok(2));
-    assert_eq!(rt; block, right);
+    assert!(rt; correct(&mut block, 5) == Ok(2));
+    assert!(rt; block == right);
     block = wrong;
-    assert_eq!(rt; correct_with(&Elimination, &mut block, 5), Ok(2));
-    assert_eq!(rt; block, right);
+    assert!(rt; correct_with(&Elimination, &mut block, 5) == Ok(2));
+    assert!(rt; block == right);
 }
 
 #[test]
 fn three_wrong_words_of_a_block_with_five_check_words(rt: HostRuntime) {
     let wrong = [0, 0, 1, 62, 111, 0, 0, 0];
     let mut block = wrong;
-    assert_eq!(rt; correct(&mut block, 5), Err(Uncorrectable));
-    assert_eq!(rt; block, wrong);
-    assert_eq!(rt;
-        correct_with(&Elimination, &mut block, 5),
-        Err(Uncorrectable)
-    );
-    assert_eq!(rt; block, wrong);
+    assert!(rt; correct(&mut block, 5) == Err(Uncorrectable));
+    assert!(rt; block == wrong);
+    assert!(rt; correct_with(&Elimination, &mut block, 5) == Err(Uncorrectable));
+    assert!(rt; block == wrong);
 }
 
 #[test]
@@ -90,9 +83,9 @@ fn wrong_words_in_both_blocks_of_side_52(rt: HostRuntime) {
     }
     let size = Size::Side52;
     let count = size.all_words();
-    assert_eq!(rt; count, 288);
-    assert_eq!(rt; correct_symbol(size, &mut words[..count]), Ok(42));
-    assert_eq!(rt; words, [0u8; 288]);
+    assert!(rt; count == 288);
+    assert!(rt; correct_symbol(size, &mut words[..count]) == Ok(42));
+    assert!(rt; words == [0u8; 288]);
 }
 
 // Only the last syndrome of block 0 is not zero, and no 21 changes give that.
@@ -106,12 +99,9 @@ fn a_block_of_side_52_with_one_syndrome_that_is_not_zero(rt: HostRuntime) {
     let before = words;
     let size = Size::Side52;
     let count = size.all_words();
-    assert_eq!(rt; count, 288);
-    assert_eq!(rt;
-        correct_symbol(size, &mut words[..count]),
-        Err(BlockFault { block: 0 })
-    );
-    assert_eq!(rt; words, before);
+    assert!(rt; count == 288);
+    assert!(rt; correct_symbol(size, &mut words[..count]) == Err(BlockFault { block: 0 }));
+    assert!(rt; words == before);
 }
 
 // Of the generator polynomial the last 21 coefficients are missing.
@@ -128,9 +118,9 @@ fn half_a_generator_polynomial_in_side_52(rt: HostRuntime) {
     }
     let size = Size::Side52;
     let count = size.all_words();
-    assert_eq!(rt; count, 288);
-    assert_eq!(rt; correct_symbol(size, &mut words[..count]), Ok(21));
-    assert_eq!(rt; words, right);
+    assert!(rt; count == 288);
+    assert!(rt; correct_symbol(size, &mut words[..count]) == Ok(21));
+    assert!(rt; words == right);
 }
 
 // All zeros are a symbol of each size.
@@ -143,12 +133,11 @@ fn every_size_up_to_its_limit(rt: HostRuntime) {
         for block in 0..size.blocks() {
             spoil(&rt, &mut words[..count], size.blocks(), block, size.limit());
         }
-        assert_eq!(rt;
-            correct_symbol(size, &mut words[..count]),
-            Ok((size.limit() * size.blocks()) as u16),
+        assert!(rt;
+            correct_symbol(size, &mut words[..count]) == Ok((size.limit() * size.blocks()) as u16),
             "side {side}"
         );
-        assert_eq!(rt; words, [0u8; 1800], "side {side}");
+        assert!(rt; words == [0u8; 1800], "side {side}");
     }
 }
 
@@ -173,8 +162,8 @@ fn every_size_beyond_its_limit(rt: HostRuntime) {
         match correct_symbol(size, &mut words[..count]) {
             Ok(changed) => assert!(rt; changed as usize <= size.limit() + last, "side {side}"),
             Err(fault) => {
-                assert_eq!(rt; fault, BlockFault { block: last }, "side {side}");
-                assert_eq!(rt; words, before, "side {side}");
+                assert!(rt; fault == BlockFault { block: last }, "side {side}");
+                assert!(rt; words == before, "side {side}");
             }
         }
     }
@@ -197,18 +186,16 @@ fn the_method_answers_up_to_the_limit(rt: HostRuntime) {
                 "side {side}, {wrong} wrong"
             );
             let mut other = words;
-            assert_eq!(rt;
-                correct(&mut words[..length], checks),
-                Ok(wrong as u8),
+            assert!(rt;
+                correct(&mut words[..length], checks) == Ok(wrong as u8),
                 "side {side}"
             );
-            assert_eq!(rt;
-                correct_with(&Elimination, &mut other[..length], checks),
-                Ok(wrong as u8),
+            assert!(rt;
+                correct_with(&Elimination, &mut other[..length], checks) == Ok(wrong as u8),
                 "side {side}"
             );
-            assert_eq!(rt; words, [0u8; MOST_WORDS], "side {side}, {wrong} wrong");
-            assert_eq!(rt; other, [0u8; MOST_WORDS], "side {side}, {wrong} wrong");
+            assert!(rt; words == [0u8; MOST_WORDS], "side {side}, {wrong} wrong");
+            assert!(rt; other == [0u8; MOST_WORDS], "side {side}, {wrong} wrong");
         }
     }
 }
@@ -224,11 +211,10 @@ fn both_locators_agree_beyond_the_limit(rt: HostRuntime) {
         spoil(&rt, &mut words[..length], 1, 0, size.limit() + 1);
         let mut other = words;
         let by_method = correct_with(&Massey, &mut words[..length], checks);
-        assert_eq!(rt;
-            by_method,
-            correct_with(&Elimination, &mut other[..length], checks),
+        assert!(rt;
+            by_method == correct_with(&Elimination, &mut other[..length], checks),
             "side {side}"
         );
-        assert_eq!(rt; words, other, "side {side}");
+        assert!(rt; words == other, "side {side}");
     }
 }

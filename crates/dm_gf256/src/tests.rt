@@ -4,14 +4,14 @@ use crate::multiple::add_multiple;
 
 #[test]
 fn worked_values(rt: HostRuntime) {
-    assert_eq!(rt; Gf(128).mul(Gf(2)), Gf(45));
-    assert_eq!(rt; Gf(128).mul_alpha(1), Gf(45));
-    assert_eq!(rt; Gf(150).mul_alpha(255), Gf(150));
-    assert_eq!(rt; Gf(0).mul_alpha(255), Gf(0));
-    assert_eq!(rt; Gf(2).inv(), Gf(150));
-    assert_eq!(rt; Gf(5).add(Gf(6)), Gf(3));
-    assert_eq!(rt; Gf::alpha(8), Gf(45));
-    assert_eq!(rt; Gf::alpha(255), Gf(1));
+    assert!(rt; Gf(128).mul(Gf(2)) == Gf(45));
+    assert!(rt; Gf(128).mul_alpha(1) == Gf(45));
+    assert!(rt; Gf(150).mul_alpha(255) == Gf(150));
+    assert!(rt; Gf(0).mul_alpha(255) == Gf(0));
+    assert!(rt; Gf(2).inv() == Gf(150));
+    assert!(rt; Gf(5).add(Gf(6)) == Gf(3));
+    assert!(rt; Gf::alpha(8) == Gf(45));
+    assert!(rt; Gf::alpha(255) == Gf(1));
 }
 
 // The generator polynomial for five check words, which the standard prints, has 2^1 to 2^5 as roots.
@@ -19,19 +19,19 @@ fn worked_values(rt: HostRuntime) {
 fn the_generator_of_five_check_words(rt: HostRuntime) {
     let generator = [Gf(1), Gf(62), Gf(111), Gf(15), Gf(48), Gf(228)];
     for k in 1..6u8 {
-        assert_eq!(rt; Gf::eval(&generator, Gf::alpha(k)), Gf(0), "at 2^{k}");
+        assert!(rt; Gf::eval(&generator, Gf::alpha(k)) == Gf(0), "at 2^{k}");
     }
-    assert_eq!(rt;
-        Gf::eval(&generator, Gf(1)),
-        Gf(1 ^ 62 ^ 111 ^ 15 ^ 48 ^ 228)
-    );
+    assert!(rt; Gf::eval(&generator, Gf(1)) == Gf(1 ^ 62 ^ 111 ^ 15 ^ 48 ^ 228));
 }
 
 #[test]
 fn tables_give_the_product_bit_by_bit(rt: HostRuntime) {
     for a in 0..=255u8 {
         for b in 0..=255u8 {
-            assert_eq!(rt; Gf(a).mul(Gf(b)).0, product_by_bits(a, b), "{a} times {b}");
+            assert!(rt;
+                Gf(a).mul(Gf(b)).0 == product_by_bits(a, b),
+                "{a} times {b}"
+            );
         }
     }
 }
@@ -40,5 +40,5 @@ fn tables_give_the_product_bit_by_bit(rt: HostRuntime) {
 fn adds_a_multiple(rt: HostRuntime) {
     let mut target = [1, 128, 7];
     add_multiple(&mut target, &[0, 128, 1], 2);
-    assert_eq!(rt; target, [1, 128 ^ 45, 5]);
+    assert!(rt; target == [1, 128 ^ 45, 5]);
 }

@@ -1,3 +1,5 @@
+//! The program called over files: its lines, a document relayed, locks and links.
+
 use crate::machine::{Call, Machine, entry_of, new_folder};
 use std::alloc::Global;
 use std::fs::OpenOptions;

@@ -6,17 +6,17 @@ use Rattle.dm_store.specs.Sets.{SavedSet}
 use Rattle.relay_line.specs.declared.command.Command.{Command}
 use Rattle.relay_line.specs.declared.command.Command.TheVariants.{Words, Draw, Read, Ledger, Print, Give, Take, Scan, Deliver, Forget, Export, Import, World}
 use Rattle.relay_streams.specs.Streams.{InputView, OutputView, TakesPart}
-use Rattle.relay.specs.declared.document.TheConstants.{DOCUMENT_BYTES}
-use Rattle.relay.specs.declared.import.TheConstants.{IMPORT_BYTES}
-use Rattle.relay.specs.declared.world.TheConstants.{INPUT_BYTES}
-use Rattle.relay.specs.Words.{EndsWords}
-use Rattle.relay.specs.Desks.{DeskFiles, EndsDeliver, EndsExport, EndsForget, EndsImport}
-use Rattle.relay.specs.Draw.{EndsDraw}
-use Rattle.relay.specs.Read.{EndsRead}
-use Rattle.relay.specs.Print.{EndsPrint}
-use Rattle.relay.specs.Printers.{EndsLedger, EndsGive, EndsTake}
-use Rattle.relay.specs.Scan.{EndsScan}
-use Rattle.relay.specs.World.{EndsWorld}
+use Rattle.relay_shared.specs.declared.document.TheConstants.{DOCUMENT_BYTES}
+use Rattle.relay_desk_commands.specs.declared.import.TheConstants.{IMPORT_BYTES}
+use Rattle.relay_world_command.specs.declared.world.TheConstants.{INPUT_BYTES}
+use Rattle.relay_symbol_commands.specs.Words.{EndsWords}
+use Rattle.relay_desk_commands.specs.Desks.{DeskFiles, EndsDeliver, EndsExport, EndsForget, EndsImport}
+use Rattle.relay_symbol_commands.specs.Draw.{EndsDraw}
+use Rattle.relay_symbol_commands.specs.Read.{EndsRead}
+use Rattle.relay_printer_commands.specs.Print.{EndsPrint}
+use Rattle.relay_printer_commands.specs.Printers.{EndsLedger, EndsGive, EndsTake}
+use Rattle.relay_desk_commands.specs.Scan.{EndsScan}
+use Rattle.relay_world_command.specs.World.{EndsWorld}
 
 -- the path of the file that a command names, if it names one
 abbrev pub file_of_command : Command → List ℕ

@@ -3,24 +3,19 @@
 ghost use Rattle.std.specs.Prelude.{◌≡◌};
 ghost use Rattle.relay.specs.Commands.{Does, file_of_command};
 
-use crate::deliver::deliver_command;
-use crate::draw::draw_command;
-use crate::ended::{Ended, EndedDesk};
-use crate::export::export_command;
-use crate::forget::forget_command;
-use crate::give::give_command;
-use crate::import::import_command;
-use crate::ledger::ledger_command;
-use crate::print::{PrintOptions, print_command};
-use crate::read::read_command;
-use crate::scan::scan_command;
-use crate::take::take_command;
-use crate::words::words_command;
-use crate::world::world_command;
 use dm_print_ledger::Range;
 use dm_store::{Store, StoreSet};
+use relay_desk_commands::{
+    deliver_command, export_command, forget_command, import_command, scan_command,
+};
 use relay_line::Command;
+use relay_printer_commands::{
+    PrintOptions, give_command, ledger_command, print_command, take_command,
+};
+use relay_shared::{Ended, EndedDesk};
 use relay_streams::{Input, Output};
+use relay_symbol_commands::{draw_command, read_command, words_command};
+use relay_world_command::world_command;
 use std::alloc::Allocator;
 use std::io::{Read, Write};
 

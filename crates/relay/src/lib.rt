@@ -1,5 +1,6 @@
-//! The commands of `relay`, each a function over an input and outputs that answers the exit status, and `run`, which
-//! calls them with the program's own streams.
+//! The table of the commands of `relay`, which stand in crates of their own and are offered here too: `do_command` does
+//! the one that a line names, over an input and outputs, and answers the exit status; `run` calls it with the program's
+//! own streams and files.
 //!
 //! Proved, of inputs and outputs whose bytes a contract can name (slices and vectors; of the system's own streams none
 //! can): on status 0 a command has written exactly what it is for. On status 1 it has written a line that names a
@@ -10,52 +11,21 @@
 #![tactic(auto)]
 
 mod commands;
-mod deliver;
-mod desk_lines;
-mod desk_opening;
-mod document;
-mod document_symbol;
-mod draw;
-mod ended;
-mod export;
-mod file_id;
-mod forget;
-mod give;
-mod import;
-pub mod laws;
-mod ledger;
-mod opening;
-mod print;
-mod printer_lines;
 mod program;
-mod read;
-mod read_grid;
-mod read_lines;
-mod refusal;
-mod reply_lines;
-mod scan;
 mod standard_error;
-mod take;
-mod words;
 mod workplace;
-mod world;
 
 pub use commands::{do_command, file_of};
-pub use deliver::deliver_command;
-pub use document::DOCUMENT_BYTES;
-pub use draw::draw_command;
-pub use ended::{Ended, EndedDesk};
-pub use export::export_command;
-pub use forget::forget_command;
-pub use give::give_command;
-pub use import::{IMPORT_BYTES, import_command};
-pub use ledger::ledger_command;
-pub use print::{PrintOptions, print_command};
 pub use program::run;
-pub use read::{MOST_IMAGES, read_command};
-pub use refusal::{ReadRefusal, SymbolRefusal};
+pub use relay_desk_commands::{
+    IMPORT_BYTES, deliver_command, export_command, forget_command, import_command, scan_command,
+};
 pub use relay_line::{Command, LineFault, command_line};
-pub use scan::scan_command;
-pub use take::take_command;
-pub use words::words_command;
-pub use world::{INPUT_BYTES, world_command};
+pub use relay_printer_commands::{
+    PrintOptions, give_command, ledger_command, print_command, take_command,
+};
+pub use relay_shared::{DOCUMENT_BYTES, Ended, EndedDesk, MOST_IMAGES};
+pub use relay_symbol_commands::{
+    ReadRefusal, SymbolRefusal, draw_command, read_command, words_command,
+};
+pub use relay_world_command::{INPUT_BYTES, world_command};

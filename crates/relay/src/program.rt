@@ -1,11 +1,11 @@
 //! The program over its own streams and files.
 
 use crate::commands::do_command;
-use crate::ended::refuse;
 use crate::standard_error::ErrorWriter;
 use crate::workplace::Workplace;
 use dm_store::{FileSet, FileStore};
 use relay_line::{Command, LineFault, command_line};
+use relay_shared::refuse;
 use relay_streams::{Input as StreamInput, Output};
 use std::fs::File;
 use std::io::{BufReader, BufWriter, ErrorKind, Write};

@@ -13,13 +13,13 @@ const IMAGE: &[u8] = b"P4\n12 12\n\
 fn draws_and_reads_the_worked_example(rt: HostRuntime) {
     let mut image = [0; 40];
     let count = relay_symbol_from_text(rt.alloc(), 10, b"123456", &mut image);
-    assert_eq!(rt; &image[..count], IMAGE);
+    assert!(rt; &image[..count] == IMAGE);
     let mut image = [0; 40];
     let count = relay_image_from_words(rt.alloc(), 10, &WORDS, &mut image);
-    assert_eq!(rt; &image[..count], IMAGE);
+    assert!(rt; &image[..count] == IMAGE);
     let mut text = [0; 6];
-    assert_eq!(rt; relay_text_from_image(rt.alloc(), IMAGE, &mut text), 6);
-    assert_eq!(rt; &text, b"123456");
+    assert!(rt; relay_text_from_image(rt.alloc(), IMAGE, &mut text) == 6);
+    assert!(rt; &text == b"123456");
 }
 
 // Two wrong words are corrected, and three, one of them a check word, are not.
@@ -33,10 +33,7 @@ fn corrects_what_it_reads(rt: HostRuntime) {
         let mut image = [0; 40];
         let _ = relay_image_from_words(rt.alloc(), 10, &words, &mut image);
         let mut text = [0; 6];
-        assert_eq!(rt;
-            relay_text_from_image(rt.alloc(), &image, &mut text),
-            answer
-        );
+        assert!(rt; relay_text_from_image(rt.alloc(), &image, &mut text) == answer);
     }
 }
 
@@ -54,46 +51,25 @@ fn reads_the_largest_symbol(rt: HostRuntime) {
 fn draws_and_opens_a_label(rt: HostRuntime) {
     let mut image = [0; 100];
     let count = relay_label_from_text(rt.alloc(), 14, b"seal", &mut image);
-    assert_eq!(rt; count, 9 + 2 * 16);
+    assert!(rt; count == 9 + 2 * 16);
     let mut bytes = [0; 4];
-    assert_eq!(rt; relay_page_from_image(rt.alloc(), &image, &mut bytes), 4);
-    assert_eq!(rt; &bytes, b"seal");
+    assert!(rt; relay_page_from_image(rt.alloc(), &image, &mut bytes) == 4);
+    assert!(rt; &bytes == b"seal");
 }
 
 // No such side, no room for the image, too long a text, no image, and no room for the text: nothing is written.
 #[test]
 fn refuses_and_writes_nothing(rt: HostRuntime) {
     let mut image = [7; 40];
-    assert_eq!(rt;
-        relay_symbol_from_text(rt.alloc(), 11, b"123456", &mut image),
-        0
-    );
-    assert_eq!(rt;
-        relay_symbol_from_text(rt.alloc(), 10, b"123456", &mut image[..32]),
-        0
-    );
-    assert_eq!(rt;
-        relay_symbol_from_text(rt.alloc(), 10, b"1234567", &mut image),
-        0
-    );
-    assert_eq!(rt;
-        relay_image_from_words(rt.alloc(), 10, &WORDS[..7], &mut image),
-        0
-    );
-    assert_eq!(rt; relay_label_from_text(rt.alloc(), 10, b"", &mut image), 0);
-    assert_eq!(rt; image, [7; 40]);
+    assert!(rt; relay_symbol_from_text(rt.alloc(), 11, b"123456", &mut image) == 0);
+    assert!(rt; relay_symbol_from_text(rt.alloc(), 10, b"123456", &mut image[..32]) == 0);
+    assert!(rt; relay_symbol_from_text(rt.alloc(), 10, b"1234567", &mut image) == 0);
+    assert!(rt; relay_image_from_words(rt.alloc(), 10, &WORDS[..7], &mut image) == 0);
+    assert!(rt; relay_label_from_text(rt.alloc(), 10, b"", &mut image) == 0);
+    assert!(rt; image == [7; 40]);
     let mut text = [7; 5];
-    assert_eq!(rt;
-        relay_text_from_image(rt.alloc(), IMAGE, &mut text),
-        usize::MAX
-    );
-    assert_eq!(rt;
-        relay_text_from_image(rt.alloc(), b"P4", &mut text),
-        usize::MAX
-    );
-    assert_eq!(rt;
-        relay_page_from_image(rt.alloc(), IMAGE, &mut text),
-        usize::MAX
-    );
-    assert_eq!(rt; text, [7; 5]);
+    assert!(rt; relay_text_from_image(rt.alloc(), IMAGE, &mut text) == usize::MAX);
+    assert!(rt; relay_text_from_image(rt.alloc(), b"P4", &mut text) == usize::MAX);
+    assert!(rt; relay_page_from_image(rt.alloc(), IMAGE, &mut text) == usize::MAX);
+    assert!(rt; text == [7; 5]);
 }

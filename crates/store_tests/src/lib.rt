@@ -1,8 +1,7 @@
-//! Tests of stores and sets of stores: over an allocator that refuses each growth in turn, on real files, and by
-//! callers that know no more than the traits.
+//! Tests of stores and sets of stores on real files, with each call on the file system failing in turn, and over an
+//! allocator that refuses each growth in turn.
 #![tactic(auto)]
 
-mod callers;
 #[cfg(test)]
 mod calls;
 #[cfg(test)]
@@ -12,13 +11,7 @@ mod faulty;
 #[cfg(test)]
 mod folder;
 #[cfg(test)]
-mod fuses;
-#[cfg(test)]
 mod listing;
-#[cfg(test)]
-mod maps;
-#[cfg(test)]
-mod memory;
 #[cfg(test)]
 mod noting;
 #[cfg(test)]
@@ -27,5 +20,5 @@ mod on_files;
 mod order;
 #[cfg(test)]
 mod refused;
-
-pub use callers::{key_removed, key_replaced, loaded_again, replaced, value_changed, values_of};
+#[cfg(test)]
+mod texts;

@@ -2,9 +2,7 @@
 
 use crate::calls::{Call, SetCall, run, run_set};
 use crate::folder::{entry_of, new_folder};
-use dm_store::{
-    FileSet, FileStore, FuseSet, FuseStore, Kept, LoadFault, RemoveFault, ReplaceFault,
-};
+use dm_store::{FileSet, FileStore, LoadFault, RemoveFault, ReplaceFault};
 use std::process::Abort;
 use std::test::Fail;
 use std::{fs, io};
@@ -25,13 +23,6 @@ const BESIDE_A_FILE: [Call<'static>; 3] = [
 const NO_DEVICE: [Call<'static>; 2] = [
     Call::Load(9, Err(LoadFault::Device)),
     Call::Replace(b"one", Err(ReplaceFault::Device)),
-];
-
-// Calls on a store that stops after the first of them.
-const STOPPED: [Call<'static>; 3] = [
-    Call::Replace(b"one", Ok(())),
-    Call::Replace(b"two", Err(ReplaceFault::Device)),
-    Call::Replace(b"three", Err(ReplaceFault::Device)),
 ];
 
 // Calls on a set that holds nothing at first.
@@ -228,43 +219,5 @@ fn other_names_in_a_folder_are_not_looked_at(rt: HostRuntime) -> Result<(), Fail
         ],
     );
     fs::remove_dir_all(&rt, folder.as_str())?;
-    Ok(())
-}
-
-// A store in a file, which stops after one call and keeps what it was to save then.
-fn behind_a_fuse(rt: &impl Abort, files: &HostRuntime, folder: &str) -> io::Result<()> {
-    let path = entry_of(files.alloc(), folder, "ledger")?;
-    let file = FileStore::new(files.alloc(), files, path);
-    let mut store = FuseStore::new(file, 1, Kept::New);
-    run(rt, &mut store, &STOPPED);
-    let mut file = store.into_inner();
-    run(rt, &mut file, &[Call::Load(9, Ok(Some(b"two")))]);
-    Ok(())
-}
-
-#[test]
-fn a_file_behind_a_fuse(rt: HostRuntime) -> Result<(), Fail> {
-    let folder = new_folder(&rt, "fuse")?;
-    behind_a_fuse(&rt, &rt, folder.as_str())?;
-    fs::remove_dir_all(&rt, folder.as_str())?;
-    Ok(())
-}
-
-#[test]
-fn a_folder_behind_a_fuse(rt: HostRuntime) -> Result<(), Fail> {
-    let above = new_folder(&rt, "set-fuse")?;
-    let folder = entry_of(rt.alloc(), above.as_str(), "pages")?;
-    let mut set = FuseSet::new(FileSet::new(rt.alloc(), &rt, folder), 1, Kept::Old);
-    run_set(
-        &rt,
-        &mut set,
-        &[
-            SetCall::Replace(1, b"one", Ok(())),
-            SetCall::Remove(1, Err(RemoveFault::Device)),
-        ],
-    );
-    let mut set = set.into_inner();
-    run_set(&rt, &mut set, &[SetCall::Keys(9, Ok(&[1]))]);
-    fs::remove_dir_all(&rt, above.as_str())?;
     Ok(())
 }

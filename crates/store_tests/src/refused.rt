@@ -4,12 +4,12 @@
 use crate::calls::{Call, SetCall, holds, run, run_set};
 use crate::folder::{entry_of, new_folder};
 use dm_store::{
-    FileSet, FileStore, FuseSet, FuseStore, Kept, KeyMap, LoadFault, MemSet, MemStore, NextSave,
-    RemoveFault, ReplaceFault, Store, StoreSet,
+    FileSet, FileStore, KeyMap, LoadFault, MemSet, MemStore, NextSave, RemoveFault, ReplaceFault,
+    Store, StoreSet,
 };
-use refusing::Refusing;
 use std::fs;
 use std::test::Fail;
+use test_helpers::Refusing;
 
 // More growths than any of these calls asks for.
 const MOST_GROWTHS: u64 = 100;
@@ -97,31 +97,6 @@ fn a_load_of_a_set_is_refused(rt: HostRuntime) -> Result<(), Fail> {
         );
     }
     Err("growths without end".into())
-}
-
-// A fuse answers a refusal of the store within as it is, and counts the call.
-#[test]
-fn a_fuse_passes_a_refusal_on(rt: HostRuntime) {
-    let memory = Refusing::new(rt.alloc(), 0);
-    let mut store = FuseStore::new(MemStore::new(&memory), 0, Kept::New);
-    run(
-        &rt,
-        &mut store,
-        &[
-            Call::Replace(b"one", Err(ReplaceFault::Memory)),
-            Call::Replace(b"one", Err(ReplaceFault::Device)),
-        ],
-    );
-    let memory = Refusing::new(rt.alloc(), 0);
-    let mut set = FuseSet::new(MemSet::new(&memory), 1, Kept::Old);
-    run_set(
-        &rt,
-        &mut set,
-        &[
-            SetCall::Replace(1, b"one", Err(ReplaceFault::Memory)),
-            SetCall::Replace(1, b"one", Err(ReplaceFault::Device)),
-        ],
-    );
 }
 
 #[test]

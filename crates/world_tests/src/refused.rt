@@ -4,10 +4,10 @@ use dm_assembly_desk::{AskFault, DeskFault, Kind, ScanFault};
 use dm_event_history::{Event, Reply};
 use dm_event_world::World;
 use dm_print_ledger::{OpenFault, PrintFault};
-use refusing::Refusing;
 use relay_script::{Script, read_script};
 use std::alloc::Allocator;
 use std::test::Fail;
+use test_helpers::Refusing;
 
 // More growths than any of these runs asks for.
 const MOST_GROWTHS: u64 = 1_000;

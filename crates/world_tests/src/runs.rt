@@ -2,17 +2,13 @@
 //! tell.
 
 use crate::replies::lines_of_replies;
-use crate::scripts::{
-    CUT_SHORT_LINES, FAILED_LINES, GATHERED, KEPT_LINES, MOVED_LINES, STOPPED_AFTER_LINES,
-    STOPPED_BEFORE_LINES, STOPPED_LINES, TRAVELLED_LINES,
-};
+use crate::scripts::{GATHERED, MOVED_LINES, TRAVELLED_LINES};
 use dm_append_label::FileId;
 use dm_check_blocks::Size;
 use dm_encodation::Scheme;
 use dm_event_history::{Bytes, Event, Flips, Stop};
-use dm_event_world::{World, WorldFault, is_honest, run};
+use dm_event_world::{World, run};
 use dm_print_ledger::Range;
-use dm_store::Kept;
 use std::alloc::{AllocError, Global};
 use std::test::Fail;
 
@@ -29,16 +25,6 @@ fn print(alloc: Global, printer: usize, stop: Stop) -> Result<Event, AllocError>
         size: Size::Side12,
         scheme: Scheme::Ascii,
         stop,
-    })
-}
-
-// A copy of a label with some flipped modules is scanned.
-fn worn(alloc: Global, label: usize, flips: &[(u16, u16)]) -> Result<Event, AllocError> {
-    Ok(Event::Scan {
-        desk: 0,
-        label,
-        flips: Flips(flips.to_vec(alloc)?),
-        stop: Stop::None,
     })
 }
 
@@ -99,76 +85,6 @@ fn labels_are_gathered(rt: HostRuntime) -> Result<(), Fail> {
     assert!(rt; world.label(0) == Some((id, 1, 2)));
     assert!(rt; world.label(1) == Some((id, 2, 2)));
     assert!(rt; world.label(2) == None);
-    Ok(())
-}
-
-// A print that is stopped or whose save fails, one that finds the printer down or failed, and one after a restart.
-#[test]
-fn prints_are_stopped(rt: HostRuntime) -> Result<(), Fail> {
-    let alloc = rt.alloc();
-    for (stop, lines) in [
-        (Stop::AfterLabels(0), STOPPED_LINES),
-        (Stop::InSave(Kept::Old), STOPPED_BEFORE_LINES),
-        (Stop::InSave(Kept::New), STOPPED_AFTER_LINES),
-        (Stop::SaveFault(Kept::New), FAILED_LINES),
-    ] {
-        let events = [
-            print(alloc, 0, stop)?,
-            print(alloc, 0, Stop::None)?,
-            restart(),
-            print(alloc, 0, Stop::None)?,
-        ];
-        let mut world = world_of(alloc, 1)?;
-        assert!(rt;
-            told(alloc, &mut world, &events)?.as_str() == lines,
-            "{stop:?}"
-        );
-        assert!(rt; world.labels() == 2, "{stop:?}");
-    }
-    Ok(())
-}
-
-// Three wrong words of a side of 12 can be corrected, four can't: the scan of such a copy is not honest.
-#[test]
-fn worn_labels_are_scanned(rt: HostRuntime) -> Result<(), Fail> {
-    let alloc = rt.alloc();
-    let three = worn(alloc, 0, &[(5, 1), (3, 3), (1, 5)])?;
-    let four = worn(alloc, 1, &[(5, 1), (3, 3), (1, 5), (2, 8)])?;
-    let mut world = world_of(alloc, 1)?;
-    let events = [print(alloc, 0, Stop::None)?];
-    assert!(rt; told(alloc, &mut world, &events)?.as_str() == "printed 0101 0 2\n");
-    assert!(rt; is_honest(&world, &three) == Ok(true));
-    assert!(rt; is_honest(&world, &four) == Ok(false));
-    let lines = lines_of_replies(alloc, &[world.step(&three), world.step(&four)])?;
-    assert!(rt; lines.as_str() == "0101 1/2 new\nrefused Block\n");
-    Ok(())
-}
-
-#[test]
-fn one_label_leaves_a_printer_that_is_stopped(rt: HostRuntime) -> Result<(), Fail> {
-    let alloc = rt.alloc();
-    let events = [
-        print(alloc, 0, Stop::AfterLabels(1))?,
-        scan(alloc, 0, 0, Stop::None),
-        scan(alloc, 0, 1, Stop::None),
-    ];
-    let mut world = world_of(alloc, 1)?;
-    assert!(rt; told(alloc, &mut world, &events)?.as_str() == CUT_SHORT_LINES);
-    assert!(rt; world.labels() == 1);
-    Ok(())
-}
-
-#[test]
-fn a_scan_is_stopped_after_its_page_was_kept(rt: HostRuntime) -> Result<(), Fail> {
-    let alloc = rt.alloc();
-    let events = [
-        print(alloc, 0, Stop::None)?,
-        scan(alloc, 0, 0, Stop::InSave(Kept::New)),
-        Event::RestartDesk { desk: 0 },
-        scan(alloc, 0, 0, Stop::None),
-    ];
-    let mut world = world_of(alloc, 1)?;
-    assert!(rt; told(alloc, &mut world, &events)?.as_str() == KEPT_LINES);
     Ok(())
 }
 
@@ -240,20 +156,4 @@ fn pages_travel(rt: HostRuntime) -> Result<(), Fail> {
     assert!(rt; told(alloc, &mut world, &events)?.as_str() == TRAVELLED_LINES);
     assert!(rt; world.exports() == 1);
     Ok(())
-}
-
-// Ranges that share a number, a range without a number, a number that is too great, and no room: no world begins.
-#[test]
-fn no_world_begins(rt: HostRuntime) {
-    for (first, last, capacity, fault) in [
-        (5, 7, 4, WorldFault::Overlap),
-        (12, 10, 4, WorldFault::Range),
-        (10, 64_516, 4, WorldFault::Range),
-        (10, 19, 0, WorldFault::Capacity),
-        (10, 19, 1_025, WorldFault::Capacity),
-    ] {
-        let ranges = [RANGES[0], Range { first, last }];
-        let world = World::new(rt.alloc(), &ranges, &[4, capacity]);
-        assert!(rt; world.err() == Some(fault), "{first} {last} {capacity}");
-    }
 }

@@ -3,7 +3,6 @@
 use relay::world_command;
 use relay_streams::{Input, Output};
 use std::alloc::Global;
-use std::test::Fail;
 
 // What a script prints, and its exit status.
 pub(crate) fn lines_of(alloc: Global, script: &str) -> (Vec<u8>, u8) {
@@ -27,28 +26,28 @@ const STOPPED: &str =
     "range 0 9\ndesks 1 4\nprint 0 12 ascii 31323334 after:0\nprint 0 12 ascii 31323334 -\n\
     restart printer 0\nprint 0 12 ascii 31323334 -\n";
 
-pub(crate) const STOPPED_LINES: &str = "stopped\ndown\nrestarted\nprinted 0102 0 2\n";
+const STOPPED_LINES: &str = "stopped\ndown\nrestarted\nprinted 0102 0 2\n";
 
 // A printer is stopped inside its save, which kept the old ledger.
 const STOPPED_BEFORE: &str =
     "range 0 9\ndesks 1 4\nprint 0 12 ascii 31323334 in-old\nprint 0 12 ascii 31323334 -\n\
     restart printer 0\nprint 0 12 ascii 31323334 -\n";
 
-pub(crate) const STOPPED_BEFORE_LINES: &str = "stopped\ndown\nrestarted\nprinted 0101 0 2\n";
+const STOPPED_BEFORE_LINES: &str = "stopped\ndown\nrestarted\nprinted 0101 0 2\n";
 
 // A printer is stopped inside its save, which kept the new ledger.
 const STOPPED_AFTER: &str =
     "range 0 9\ndesks 1 4\nprint 0 12 ascii 31323334 in-new\nprint 0 12 ascii 31323334 -\n\
     restart printer 0\nprint 0 12 ascii 31323334 -\n";
 
-pub(crate) const STOPPED_AFTER_LINES: &str = "stopped\ndown\nrestarted\nprinted 0102 0 2\n";
+const STOPPED_AFTER_LINES: &str = "stopped\ndown\nrestarted\nprinted 0102 0 2\n";
 
 // A save fails and keeps the new ledger.
 const FAILED: &str =
     "range 0 9\ndesks 1 4\nprint 0 12 ascii 31323334 fault-new\nprint 0 12 ascii 31323334 -\n\
     restart printer 0\nprint 0 12 ascii 31323334 -\n";
 
-pub(crate) const FAILED_LINES: &str = "refused Save\nrefused Failed\nrestarted\nprinted 0102 0 2\n";
+const FAILED_LINES: &str = "refused Save\nrefused Failed\nrestarted\nprinted 0102 0 2\n";
 
 // Three wrong words of a side of 12 can be corrected, four can't.
 const WORN: &str = "range 0 9\ndesks 1 4\nprint 0 12 ascii 31323334 -\nscan 0 0 - 5,1;3,3;1,5\n\
@@ -58,13 +57,13 @@ const WORN: &str = "range 0 9\ndesks 1 4\nprint 0 12 ascii 31323334 -\nscan 0 0 
 const CUT_SHORT: &str =
     "range 0 9\ndesks 1 4\nprint 0 12 ascii 31323334 after:1\nscan 0 0 - -\nscan 0 1 - -\n";
 
-pub(crate) const CUT_SHORT_LINES: &str = "stopped\n0101 1/2 new\nnone\n";
+const CUT_SHORT_LINES: &str = "stopped\n0101 1/2 new\nnone\n";
 
 // A scan is stopped inside its save, which kept the page.
 const KEPT: &str =
     "range 0 9\ndesks 1 4\nprint 0 12 ascii 31323334 -\nscan 0 0 in-new -\nrestart desk 0\nscan 0 0 - -\n";
 
-pub(crate) const KEPT_LINES: &str = "printed 0101 0 2\nstopped\nrestarted\n0101 1/2 again\n";
+const KEPT_LINES: &str = "printed 0101 0 2\nstopped\nrestarted\n0101 1/2 again\n";
 
 // Identifications move by a ticket, which is taken once; a second ticket is lost.
 const MOVED: &str = "range 0 9\nrange 10 19\ndesks 1 4\ngive 0 1 5 9 -\ntake 1 0 -\ntake 1 0 -\n\
@@ -168,16 +167,4 @@ fn refusals_are_one_line(rt: HostRuntime) {
         assert!(rt; printed.as_slice() == line.as_bytes());
         assert!(rt; ended == 1);
     }
-}
-
-// The last line end may be missing, hexadecimal is of either case, and numbers may begin with zeros.
-#[test]
-fn forms_of_words(rt: HostRuntime) {
-    let script =
-        "range 00000 00009\ndesks 01 4\nprint 0 12 ascii 4a4B -\nask 0 0101\nrestart desk 1\nscan 0 0 - 12,0";
-    let (printed, ended) = lines_of(rt.alloc(), script);
-    assert!(rt;
-        printed.as_slice() == b"printed 0101 0 2\nrefused NotHeld\nnone\nnone\n".as_slice()
-    );
-    assert!(rt; ended == 1);
 }

@@ -1,5 +1,4 @@
-//! Each give, take, import and forget is stopped in each way: what it answers, and what stands after a restart. And what
-//! a printer or a desk answers until it is restarted.
+//! Each give, take, import and forget is stopped in each way: what it answers, and what stands after a restart.
 
 use crate::scripts::lines_of;
 use std::alloc::Global;
@@ -116,36 +115,4 @@ fn a_call_is_stopped_in_each_way(rt: HostRuntime) -> Result<(), Fail> {
         }
     }
     Ok(())
-}
-
-// What is stopped answers `down` to each call until it is restarted, and others go on.
-const DOWN: &str =
-    "range 0 9\nrange 10 19\ndesks 2 4\nprint 0 12 ascii 31323334 -\nscan 1 1 - -\nexport 1 0101\n\
-    give 1 0 15 16 -\nprint 0 12 ascii 31323334 before\nprint 0 12 ascii 31323334 -\ngive 0 1 2 3 -\n\
-    take 0 0 -\ngive 1 0 17 18 -\nrestart printer 0\ntake 0 0 -\nscan 0 0 before -\nscan 0 0 - -\n\
-    ask 0 0101\nforget 0 0101 -\nexport 0 0101\nimport 0 0 -\nscan 1 0 - -\nrestart desk 0\n\
-    import 0 0 -\n";
-
-const DOWN_LINES: &str = "printed 0101 0 2\n0101 2/2 new\nexport 0 0101 2 0002\n\
-    ticket 0 000100000000000f0010\nstopped\ndown\ndown\ndown\nticket 1 00010001000000110012\n\
-    restarted\ntaken\nstopped\ndown\ndown\ndown\ndown\ndown\n0101 1/2 complete\nrestarted\n\
-    0101 2 added 0002 new\n";
-
-// After a save that failed, a printer or a desk answers `Failed` to each call until it is restarted.
-const FAILED: &str =
-    "range 0 9\nrange 10 19\ndesks 2 4\nprint 0 12 ascii 31323334 -\nscan 1 1 - -\nexport 1 0101\n\
-    give 1 0 15 16 -\nprint 0 12 ascii 31323334 fault-old\nprint 0 12 ascii 31323334 -\ngive 0 1 2 3 -\n\
-    take 0 0 -\nrestart printer 0\ntake 0 0 -\nscan 0 0 fault-old -\nscan 0 0 - -\nforget 0 0101 -\n\
-    import 0 0 -\nrestart desk 0\nimport 0 0 -\n";
-
-const FAILED_LINES: &str = "printed 0101 0 2\n0101 2/2 new\nexport 0 0101 2 0002\n\
-    ticket 0 000100000000000f0010\nrefused Save\nrefused Failed\nrefused Failed\nrefused Failed\nrestarted\ntaken\n\
-    refused Save\nrefused Failed\nrefused Failed\nrefused Failed\nrestarted\n0101 2 added 0002 new\n";
-
-#[test]
-fn what_is_stopped_is_restarted_first(rt: HostRuntime) {
-    for (script, lines) in [(DOWN, DOWN_LINES), (FAILED, FAILED_LINES)] {
-        let (printed, _) = lines_of(rt.alloc(), script);
-        assert!(rt; printed.as_slice() == lines.as_bytes());
-    }
 }

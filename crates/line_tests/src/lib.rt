@@ -1,5 +1,0 @@
-//! Tests of the command line: its commands, its refusals and its texts.
-#![tactic(auto)]
-
-#[cfg(test)]
-mod calls;

@@ -1,6 +1,0 @@
-use Rattle.relay.specs.Printers.IsNotOpened.{refused}
-use Rattle.relay.proofs.opening.open_printer.Goals as goal
-
-pub returns-in-Err : goal.returns-in-Err
-returns-in-Err g c =
-    rw c.in-Err.ensures.same (refused c.in-Err.field-0.fault c.in-Err.ensures.fault (rw c.name.ensures at c.refuse-status.ensures))

@@ -1,5 +1,0 @@
--- Private: only contracts inside this crate cite what stands in this folder.
-pub mod Images
-pub mod ScanSteps
-pub mod Steps
-pub mod SymbolLines

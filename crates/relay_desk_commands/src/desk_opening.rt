@@ -1,0 +1,72 @@
+//! The desk that a command works with.
+
+ghost use Rattle.std.specs.Prelude.{◌≡◌, MatchResult};
+ghost use Rattle.dm_assembly_desk.specs.Views.{IsInOrder};
+ghost use Rattle.relay_desk_commands.specs.Desks.{HasNoDesk, OpensDesk};
+
+use dm_assembly_desk::{Desk, DeskRefused, move_pages};
+use dm_store::{Store, StoreSet};
+use relay_shared::{EndedDesk, refuse};
+use relay_streams::Output;
+use std::alloc::Allocator;
+use std::io::Write;
+
+/// An open desk, and the store of the joint file of an older version, whose documents were moved to the desk's set.
+#[derive(Drop)]
+pub(crate) struct OpenDesk<S: Store, T: StoreSet, A: Allocator + Copy> {
+    pub(crate) store: S,
+    pub(crate) desk: Desk<T, A>,
+}
+
+impl<S: Store, T: StoreSet, A: Allocator + Copy> OpenDesk<S, T, A> {
+    /// Closes the desk, and ends the command with this status.
+    pub(crate) fn end(self, status: u8) -> EndedDesk<S, T>
+        ensures status { result.status ≡ status }
+        ensures store { S.state result.store ≡ S.state self.store }
+        ensures set { T.state result.set ≡ self.desk.saved }
+    {
+        let OpenDesk { store, desk } = self;
+        EndedDesk {
+            status,
+            store,
+            set: desk.close(),
+        }
+    }
+}
+
+/// Moves the documents of a joint file to the set, and opens the desk; or writes the line `refused NAME`, and says how
+/// the command ends.
+pub(crate) fn open_desk<A: Allocator + Copy, S: Store, T: StoreSet, W: Write>(
+    alloc: A,
+    store: S,
+    set: T,
+    output: &mut Output<W>,
+    capacity: u16,
+) -> Result<OpenDesk<S, T, A>, EndedDesk<S, T>>
+    ensures { MatchResult result
+        (λ opened. OpensDesk (record { joint = S.state store; set = T.state set }) capacity (S.state opened.store)
+        opened.desk × (output.new ≡ output.old) × IsInOrder opened.desk)
+        (λ ended. HasNoDesk (record { joint = S.state store; set = T.state set }) capacity output.old ended.status
+        (record { joint = S.state ended.store; set = T.state ended.set }) output.new) }
+{
+    let mut store = store;
+    let mut set = set;
+    match move_pages(alloc, &mut store, &mut set) {
+        Ok(_) => {}
+        Err(fault) => {
+            let status = refuse(output, fault.name());
+            return Err(EndedDesk { status, store, set });
+        }
+    }
+    match Desk::open(alloc, set, capacity) {
+        Ok(desk) => Ok(OpenDesk { store, desk }),
+        Err(refused) => {
+            let status = refuse(output, refused.fault.name());
+            let DeskRefused {
+                fault: _,
+                store: set,
+            } = refused;
+            Err(EndedDesk { status, store, set })
+        }
+    }
+}

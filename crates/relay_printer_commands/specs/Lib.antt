@@ -1,0 +1,3 @@
+pub mod Print
+pub mod Printers
+pub mod inner

@@ -1,0 +1,61 @@
+//! `relay take`: identifications from another printer.
+
+ghost use Rattle.std.specs.Prelude.{MatchOption};
+ghost use Rattle.relay_printer_commands.specs.Printers.{EndsTake, HasTicket, IsTextOf, TellsTake};
+
+use crate::opening::open_printer;
+use dm_print_ledger::{Printer, Ticket};
+use dm_store::Store;
+use relay_shared::{Ended, put_taken, refuse, status_after};
+use relay_streams::Output;
+use std::alloc::Allocator;
+use std::io::Write;
+
+// The ticket of a text.
+fn ticket_of(text: &str) -> Option<Ticket>
+    ensures { MatchOption result (¬ HasTicket text.now) (λ ticket. HasTicket text.now × IsTextOf text.now ticket) }
+{
+    let mut bytes = [0u8; 10];
+    match hex::decode_to_slice(text, &mut bytes) {
+        Ok(()) => Ticket::of_bytes(&bytes),
+        Err(_) => None,
+    }
+}
+
+// Takes a ticket, and writes the line of it.
+fn take<A: Allocator + Copy, S: Store, W: Write>(
+    printer: &mut Printer<S, A>,
+    output: &mut Output<W>,
+    ticket: &Ticket,
+) -> u8
+    ensures { TellsTake printer.old ticket.now output.old result printer.new output.new }
+{
+    match printer.take(ticket) {
+        Ok(()) => status_after(put_taken(output, printer.left())),
+        Err(fault) => refuse(output, fault.name()),
+    }
+}
+
+/// Takes the ticket of a text, ten bytes in hexadecimal, and prints `taken left N`, how many identifications are free
+/// then, or the line `refused NAME`. The text is looked at before the store.
+pub fn take_command<A: Allocator + Copy, S: Store, W: Write>(
+    alloc: A,
+    store: S,
+    output: &mut Output<W>,
+    number: u16,
+    text: &str,
+) -> Ended<S>
+    ensures { EndsTake (S.state store) number text.now output.old result.status (S.state result.store) output.new }
+{
+    let Some(ticket) = ticket_of(text) else {
+        let status = refuse(output, "Ticket");
+        return Ended { status, store };
+    };
+    let mut printer = match open_printer(alloc, store, output, number) {
+        Ok(printer) => printer,
+        Err(ended) => return ended,
+    };
+    let status = take(&mut printer, output, &ticket);
+    let store = printer.close();
+    Ended { status, store }
+}

@@ -1,0 +1,2 @@
+pub mod GridLines
+pub mod ReadLines

@@ -1,0 +1,40 @@
+use Rattle.std.proofs.Common.{[], Err, ap, arith}
+use Rattle.std.proofs.KnownBytes.{Consumes-kept, Consumes-nil, Appends-nil}
+use Rattle.dm_pbm_io.specs.Shown.{picture}
+use Rattle.dm_pbm_io.specs.declared.fault.PbmFault.{PbmFault}
+use Rattle.relay_symbol_commands.specs.Read.EndsInput.{no_image, plain_image, unread}
+use Rattle.relay_symbol_commands.proofs.read.next_step.Goals as goal
+
+pub returns-in-Ok-None-clause-step : goal.returns-in-Ok-None-clause-step
+returns-in-Ok-None-clause-step g c =
+    let ended = rw c.in-Ok-None.field-0-is at c.in-Ok-None.ensures.read in
+    record {
+      taken = [];
+      line = [];
+      consumed = Consumes-kept _ _ _ _ (Consumes-nil _) ended.0;
+      appended = Appends-nil _;
+      takes = λ count h. no_image (omega arith) ended.1;
+    }
+
+pub returns-then-image-clause-step : goal.returns-then-image-clause-step
+returns-then-image-clause-step g c =
+    let image = rw c.in-Ok-Some.field-0-is at c.in-Ok-Some.ensures.read in
+    let put = c.in_ok-refused-in-Ok-Some.ensures.written in
+    record {
+      taken = image.0;
+      line = put.line;
+      consumed = image.1;
+      appended = put.appended;
+      takes = λ count h. plain_image (picture c.in-Ok-Some.image) h image.2 c.if-image.true put.prints;
+    }
+
+pub returns-clause-step : goal.returns-clause-step
+returns-clause-step g c =
+    let stops = c.in-Err.ensures.read in
+    record {
+      taken = stops.0;
+      line = _;
+      consumed = stops.1;
+      appended = rw c.name.ensures at c.in_ok-put_refusal-in-Err.ensures.written;
+      takes = λ count h. unread c.in-Err.fault h (record { refused = stops.2; failed = λ e. c.in-Err.ensures.failed (ap (λ (f : PbmFault). Err f) e) });
+    }

@@ -1,0 +1,19 @@
+//! The commands of symbols: `words` and `draw` make the symbol of a document, and `read` reads symbols from images.
+//!
+//! Proved: on status 0 the words, or the image, of the one symbol that carries the document were written, or for each
+//! image the line of what its symbol carries. On status 1 there is the line of a refusal for which there was a reason, or
+//! the output has refused a write.
+#![tactic(auto)]
+
+mod document_symbol;
+mod draw;
+mod read;
+mod read_grid;
+mod read_lines;
+mod refusal;
+mod words;
+
+pub use draw::draw_command;
+pub use read::read_command;
+pub use refusal::{ReadRefusal, SymbolRefusal};
+pub use words::words_command;

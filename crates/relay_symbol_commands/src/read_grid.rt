@@ -1,0 +1,92 @@
+//! What the grid of a symbol is read as.
+
+ghost use Rattle.std.specs.Prelude.{◌≡◌, ◌≢◌, true, false, string_bytes, IfOk, IfErr};
+ghost use Rattle.dm_append_label.specs.declared.fault.HeadFault.TheVariants as head_faults;
+ghost use Rattle.dm_append_label.specs.declared.fault.PageFault.TheVariants as page_faults;
+ghost use Rattle.dm_pbm_io.specs.Shown.{picture};
+ghost use Rattle.relay_symbol_commands.specs.Read.{HasLine, PrintsPicture, RefusesGrid, RefusesPicture};
+ghost use Rattle.relay_symbol_commands.specs.inner.SymbolLines.{HasSymbolLine, ReadsAsSymbol, RefusesSymbolLine, RefusesText, symbol_data};
+
+use crate::read_lines::{line_of_label, line_of_symbol};
+use crate::refusal::ReadRefusal;
+use dm_append_label::{HeadFault, LabelFault, PageFault, page_of};
+use dm_encodation::decode;
+use dm_finder_frame::Grid;
+use dm_pbm_io::{Image, ShapeFault, grid_of};
+use dm_symbol::{Corrected, SymbolReader};
+use std::alloc::Allocator;
+
+// The line of a symbol that is no label: its text begins at its first word.
+fn line_of_no_label<A: Allocator + Copy>(
+    alloc: A,
+    symbol: &Corrected<A>,
+) -> Result<String<A>, ReadRefusal>
+    ensures line { IfOk result (λ line. ReadsAsSymbol symbol.now (string_bytes line)) }
+    ensures refused { IfErr result (RefusesText (symbol_data symbol.now)) }
+{
+    let bytes = match decode(alloc, symbol.data(), 0) {
+        Ok(bytes) => bytes,
+        Err(fault) => return Err(ReadRefusal::Text(fault)),
+    };
+    match line_of_symbol(alloc, symbol, &bytes) {
+        Ok(line) => Ok(line),
+        Err(_) => Err(ReadRefusal::Memory),
+    }
+}
+
+// Whether the symbol is no label.
+fn is_no_label(fault: PageFault) -> bool
+    ensures yes { result ≡ true → fault ≡ page_faults.Head head_faults.NotAppended }
+    ensures no { result ≡ false → fault ≢ page_faults.Head head_faults.NotAppended }
+{
+    matches!(fault, PageFault::Head(HeadFault::NotAppended))
+}
+
+// The line of a symbol: that of a label first.
+fn line_of_corrected<A: Allocator + Copy>(
+    alloc: A,
+    symbol: &Corrected<A>,
+) -> Result<String<A>, ReadRefusal>
+    ensures line { IfOk result (λ line. HasSymbolLine symbol.now (string_bytes line)) }
+    ensures refused { IfErr result (RefusesSymbolLine symbol.now) }
+{
+    match page_of(alloc, symbol) {
+        Ok(page) => match line_of_label(alloc, &page, symbol) {
+            Ok(line) => Ok(line),
+            Err(_) => Err(ReadRefusal::Memory),
+        },
+        Err(fault) if is_no_label(fault) => line_of_no_label(alloc, symbol),
+        Err(fault) => Err(ReadRefusal::Label(LabelFault::from(fault))),
+    }
+}
+
+// The line of a grid.
+fn line_of_grid<A: Allocator + Copy>(
+    alloc: A,
+    reader: &mut SymbolReader<A>,
+    grid: &Grid<A>,
+) -> Result<String<A>, ReadRefusal>
+    ensures line { IfOk result (λ line. HasLine grid.now (string_bytes line)) }
+    ensures refused { IfErr result (RefusesGrid grid.now) }
+{
+    match reader.read(alloc, grid) {
+        Ok(symbol) => line_of_corrected(alloc, &symbol),
+        Err(fault) => Err(ReadRefusal::Label(LabelFault::from(fault))),
+    }
+}
+
+/// The line of an image. The reader keeps what serves more images of one size.
+pub(crate) fn line_of_image<A: Allocator + Copy>(
+    alloc: A,
+    reader: &mut SymbolReader<A>,
+    image: &Image<A>,
+) -> Result<String<A>, ReadRefusal>
+    ensures line { IfOk result (λ line. PrintsPicture (picture image.now) (string_bytes line) false) }
+    ensures refused { IfErr result (RefusesPicture (picture image.now)) }
+{
+    match grid_of(alloc, image) {
+        Ok(grid) => line_of_grid(alloc, reader, &grid),
+        Err(ShapeFault::Shape) => Err(ReadRefusal::Shape),
+        Err(ShapeFault::Memory) => Err(ReadRefusal::Memory),
+    }
+}

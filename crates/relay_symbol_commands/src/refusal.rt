@@ -1,0 +1,89 @@
+//! Refusals, as the commands name them: each by the name of its innermost fault.
+
+ghost use Rattle.std.specs.Prelude.{◌≡◌};
+ghost use Rattle.relay_symbol_commands.specs.Refusals.{read_refusal_name, symbol_refusal_name};
+ghost use Rattle.relay_symbol_commands.specs.declared.refusal.SymbolRefusal.TheVariants as symbol_refusals;
+
+use dm_append_label::LabelFault;
+use dm_encodation::DecodeFault;
+use dm_pbm_io::PbmFault;
+use std::alloc::AllocError;
+use thiserror::Error;
+
+/// Why no symbol was made of a document.
+#[derive(Clone, Copy, Debug, PartialEq, Eq, Error)]
+pub enum SymbolRefusal {
+    /// The side isn't one of the 23 symbol sizes.
+    #[error("the side is not that of a symbol")]
+    Side,
+    /// The input could not be read.
+    #[error("the input could not be read")]
+    Read,
+    /// The document needs more words than the symbol has.
+    #[error("the document does not fit the symbol")]
+    TooLong,
+    /// Memory was refused.
+    #[error("out of memory")]
+    Memory,
+}
+
+impl SymbolRefusal {
+    /// The refusal's own name.
+    pub fn name(self) -> &'static str
+        ensures { result.now ≡ symbol_refusal_name self }
+    {
+        match self {
+            SymbolRefusal::Side => "Side",
+            SymbolRefusal::Read => "Read",
+            SymbolRefusal::TooLong => "TooLong",
+            SymbolRefusal::Memory => "Memory",
+        }
+    }
+}
+
+impl From<AllocError> for SymbolRefusal {
+    ghost from_gives = { λ _ refusal. refusal ≡ symbol_refusals.Memory };
+
+    fn from(_: AllocError) -> Self {
+        SymbolRefusal::Memory
+    }
+}
+
+/// Why `read` has refused an image, or the rest of its input.
+#[derive(Clone, Copy, Debug, PartialEq, Eq, Error)]
+pub enum ReadRefusal {
+    /// The input spells no image, or it could not be read.
+    #[error("{0}")]
+    Image(PbmFault),
+    /// The image is no symbol inside a quiet zone one pixel wide.
+    #[error("the image has not the shape of a symbol")]
+    Shape,
+    /// The symbol can't be read, or its head is invalid, or the text after the head can't be read.
+    #[error("{0}")]
+    Label(LabelFault),
+    /// The text of a symbol that is no label can't be read.
+    #[error("{0}")]
+    Text(DecodeFault),
+    /// Memory was refused for the grid or for the line.
+    #[error("out of memory")]
+    Memory,
+    /// The input has more images than `read` takes.
+    #[error("the input has too many images")]
+    TooMany,
+}
+
+impl ReadRefusal {
+    /// The name of the innermost fault.
+    pub fn name(self) -> &'static str
+        ensures { result.now ≡ read_refusal_name self }
+    {
+        match self {
+            ReadRefusal::Image(fault) => fault.name(),
+            ReadRefusal::Shape => "Shape",
+            ReadRefusal::Label(fault) => fault.name(),
+            ReadRefusal::Text(fault) => fault.name(),
+            ReadRefusal::Memory => "Memory",
+            ReadRefusal::TooMany => "TooMany",
+        }
+    }
+}

@@ -1,0 +1,27 @@
+use Rattle.std.proofs.Common.{◌≡◌, ◌+◌, ◌<◌, ◌++◌, ◌∷◌, [], length, take, refl, ap, sym, ◌∙◌, arith}
+use Rattle.std.proofs.KnownBytes.{Appends-nil, Appends-trans}
+use Rattle.std.proofs.lemmas.List.{take_more, flat_map_more}
+use Rattle.relay_world_command.specs.ReplyLines.{answer_line}
+use Rattle.relay_world_command.proofs.RefusedLines.{refusal_more}
+use Rattle.relay_world_command.proofs.world.put_answers.Goals as goal
+
+pub loop-answer-init : goal.loop-answer-init
+loop-answer-init g c = record { written = Appends-nil _; refused = refl }
+
+pub loop-answer-preserved : goal.loop-answer-preserved
+loop-answer-preserved g c =
+    let i = c.loop-answer.answer-index in
+    let answer = c.answer-item.result in
+    let there : i < length c.args.answers.now = omega arith in
+    let more : take (i + 1) c.args.answers.now ≡ take i c.args.answers.now ++ answer ∷ [] =
+    take_more c.args.answers.now i answer there ∙ ap (λ x. take i c.args.answers.now ++ x ∷ []) (sym c.answer-item.is) in
+    record {
+      written = rw more (rw (flat_map_more answer_line [] (take i c.args.answers.now) answer) at
+          (Appends-trans _ _ _ _ _ c.loop-answer.invariant.written c.in_ok-put_answer.ensures.written));
+      refused = rw (
+        more,
+        refusal_more (take i c.args.answers.now) answer,
+        ← c.loop-answer.invariant.refused,
+        ← c.is_refused_answer-refused.ensures,
+      ) refl;
+    }

@@ -1,0 +1,2 @@
+pub mod ReplyLines
+pub mod World

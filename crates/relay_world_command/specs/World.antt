@@ -1,0 +1,54 @@
+-- What `world` writes: the answers to the events of a script.
+use Rattle.std.specs.Prelude.{◌≡◌, ◌⊎◌, ◌+◌, ℕ, List, Err, true, if◌then◌else◌}
+use Rattle.std.specs.List.{flat_map}
+use Rattle.std.specs.Io.KnownBytes.{Appends}
+use Rattle.dm_event_history.specs.Headline.{PrintsOnce}
+use Rattle.dm_event_world.specs.FaultNames.{world_fault_name}
+use Rattle.dm_event_world.specs.Openings.{HasWorldFault}
+use Rattle.dm_event_world.specs.Watched.{IsFaithfulIfHonest, RunsFromTheStart, given, replies}
+use Rattle.dm_event_world.specs.declared.answers.Answer.{Answer}
+use Rattle.dm_event_world.specs.declared.fault.WorldFault.{WorldFault}
+use Rattle.relay_streams.specs.FaultNames.{input_fault_name}
+use Rattle.relay_streams.specs.Streams.{InputView, OutputView, TakesFirst}
+use Rattle.relay_streams.specs.declared.fault.InputFault.{InputFault}
+use Rattle.relay_script.specs.Scripts.{IsScript}
+use Rattle.relay_script.specs.Words.{IsRead, script_fault_name}
+use Rattle.relay_script.specs.declared.fault.ScriptFault.{ScriptFault}
+use Rattle.relay_script.specs.declared.script.Script.{Script}
+use Rattle.relay_script.specs.declared.script.TheConstants.{SCRIPT_BYTES}
+use Rattle.relay_shared.specs.Documents.{HasInputFault}
+use Rattle.relay_world_command.specs.ReplyLines.{answer_line, has_refusal}
+use Rattle.relay_shared.specs.Telling.{TellsRefusal}
+
+-- no read failed, and these bytes were read, and no other: one more than a script has at most, or all where they are
+-- fewer
+pub record ReadsScript (input rest : InputView) (bytes : List ℕ) : Type 0 where
+  pub taken : TakesFirst input.remaining rest.remaining (SCRIPT_BYTES + 1) bytes
+  pub whole : rest.has_failed ≡ input.has_failed
+
+-- the line of each answer was written, and the status is 1 where one is of a refusal; or the output has refused a write
+abbrev pub TellsAnswers : {A : Type 0} → List (Answer A) → OutputView → OutputView → ℕ → Type 0
+TellsAnswers answers old new status =
+    (Appends old.contents new.contents (flat_map answer_line answers)
+    × (status ≡ (if has_refusal answers then 1 else 0)))
+    ⊎ ((new.has_failed ≡ true) × (status ≡ 1))
+
+-- How `world` ends: the input was read, it was a script, its world began and answered each event, and the line of each
+-- answer was written. No identification was printed twice, and if each event was found honest, the answers are
+-- faithful. Or the first of these was not done, for a reason that stands; memory may be refused at any time.
+pub data EndsWorld (A : Type 0) (input rest : InputView) (old : OutputView) : ℕ → OutputView → Type 0 where
+  not_read : {status : ℕ} {new : OutputView} (fault : InputFault) → HasInputFault rest fault
+      → TellsRefusal (input_fault_name fault) old new status → EndsWorld A input rest old status new
+  no_script : {status : ℕ} {new : OutputView} (bytes : List ℕ) (fault : ScriptFault) → ReadsScript input rest bytes
+      → IsRead {A = Script A} (Err fault) (IsScript bytes)
+      → TellsRefusal (script_fault_name fault) old new status → EndsWorld A input rest old status new
+  no_world : {status : ℕ} {new : OutputView} (bytes : List ℕ) (script : Script A) (fault : WorldFault)
+      → ReadsScript input rest bytes → IsScript bytes script
+      → HasWorldFault script.ranges.items script.capacities.items fault
+      → TellsRefusal (world_fault_name fault) old new status → EndsWorld A input rest old status new
+  answered : {status : ℕ} {new : OutputView} (bytes : List ℕ) (script : Script A) (answers : List (Answer A))
+      → ReadsScript input rest bytes → IsScript bytes script
+      → RunsFromTheStart script.ranges.items script.capacities.items script.events.items answers
+      → PrintsOnce (given script.events.items answers) (replies answers)
+      → IsFaithfulIfHonest script.events.items answers → TellsAnswers answers old new status
+      → EndsWorld A input rest old status new

@@ -1,0 +1,10 @@
+//! Laws of what stands here: the function's contract is the law.
+
+ghost use Rattle.std.specs.Prelude.{◌≡◌};
+
+use crate::world::INPUT_BYTES;
+
+/// The limits by number: no definition moves with a constant.
+pub fn limits_by_number()
+    ensures { INPUT_BYTES ≡ 1048577 }
+{}

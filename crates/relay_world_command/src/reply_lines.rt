@@ -1,0 +1,225 @@
+//! The lines of replies. They take no memory.
+
+ghost use Rattle.std.specs.Prelude.{◌≡◌, ◌∷◌, [], true, OnOk, OnErr};
+ghost use Rattle.std.specs.Io.KnownBytes.{Appends};
+ghost use Rattle.hex.specs.Hex.{encode_lower};
+ghost use Rattle.dm_print_ledger.specs.Tickets.{ticket_bytes};
+ghost use Rattle.relay_streams.specs.Refusal.{refused_line};
+ghost use Rattle.relay_world_command.specs.ReplyLines.{answer_line, document_line, export_end, export_line, has_refusal, is_refusal, label_numbers, labels_line, numbered_ticket_line, reply_line};
+
+use dm_append_label::FileId;
+use dm_event_history::Reply;
+use dm_event_world::Answer;
+use dm_print_ledger::Ticket;
+use itoa::Buffer;
+use relay_shared::{put_accepted, put_identification, put_imported};
+use relay_streams::{Output, WriteFault};
+use std::alloc::Allocator;
+use std::io::Write;
+
+// Writes bytes in hexadecimal.
+fn put_hex<W: Write>(output: &mut Output<W>, bytes: &[u8]) -> Result<(), WriteFault>
+    ensures written { OnOk result (Appends output.old.contents output.new.contents (encode_lower bytes.now)) }
+    ensures failed { OnErr result (output.new.has_failed ≡ true) }
+{
+    let mut digits = [0u8; 2];
+    for byte in bytes {
+        let Ok(()) = hex::encode_to_slice([*byte], &mut digits) else {
+            unreachable!()
+        };
+        output.put(&digits)?;
+    }
+    Ok(())
+}
+
+// Writes the line of a document.
+fn put_document<W: Write>(output: &mut Output<W>, bytes: &[u8]) -> Result<(), WriteFault>
+    ensures written { OnOk result (Appends output.old.contents output.new.contents (document_line bytes.now)) }
+    ensures failed { OnErr result (output.new.has_failed ≡ true) }
+{
+    output.put(b"document ")?;
+    if bytes.is_empty() {
+        output.put(b"-")?;
+    } else {
+        put_hex(output, bytes)?;
+    }
+    output.put(b"\n")
+}
+
+// Writes the number of the first label and how many they are, and ends the line.
+fn put_label_numbers<W: Write>(
+    output: &mut Output<W>,
+    first: usize,
+    count: u8,
+) -> Result<(), WriteFault>
+    ensures written { OnOk result (Appends output.old.contents output.new.contents (label_numbers first count)) }
+    ensures failed { OnErr result (output.new.has_failed ≡ true) }
+{
+    let mut digits = Buffer::new();
+    output.put(b" ")?;
+    output.put(digits.format(first).as_bytes())?;
+    output.put(b" ")?;
+    output.put(digits.format(count).as_bytes())?;
+    output.put(b"\n")
+}
+
+// Writes the line of the labels that left.
+fn put_labels<W: Write>(
+    output: &mut Output<W>,
+    id: FileId,
+    first: usize,
+    count: u8,
+) -> Result<(), WriteFault>
+    ensures written { OnOk result (Appends output.old.contents output.new.contents (labels_line id first count)) }
+    ensures failed { OnErr result (output.new.has_failed ≡ true) }
+{
+    output.put(b"printed ")?;
+    put_identification(output, id)?;
+    put_label_numbers(output, first, count)
+}
+
+// Writes the line of a ticket that left.
+fn put_given<W: Write>(
+    output: &mut Output<W>,
+    index: usize,
+    ticket: Ticket,
+) -> Result<(), WriteFault>
+    ensures written { OnOk result
+        (Appends output.old.contents output.new.contents (numbered_ticket_line index (ticket_bytes ticket))) }
+    ensures failed { OnErr result (output.new.has_failed ≡ true) }
+{
+    let mut digits = Buffer::new();
+    output.put(b"ticket ")?;
+    output.put(digits.format(index).as_bytes())?;
+    output.put(b" ")?;
+    put_hex(output, &ticket.bytes())?;
+    output.put(b"\n")
+}
+
+// Writes how many pages the document of an export has and which of them it has, and ends the line.
+fn put_export_end<W: Write>(output: &mut Output<W>, n: u8, mask: u16) -> Result<(), WriteFault>
+    ensures written { OnOk result (Appends output.old.contents output.new.contents (export_end n mask)) }
+    ensures failed { OnErr result (output.new.has_failed ≡ true) }
+{
+    let mut digits = Buffer::new();
+    output.put(b" ")?;
+    output.put(digits.format(n).as_bytes())?;
+    output.put(b" ")?;
+    put_hex(output, &[(mask / 256) as u8, (mask % 256) as u8])?;
+    output.put(b"\n")
+}
+
+// Writes the line of an export that left.
+fn put_exported<W: Write>(
+    output: &mut Output<W>,
+    index: usize,
+    id: FileId,
+    n: u8,
+    mask: u16,
+) -> Result<(), WriteFault>
+    ensures written { OnOk result (Appends output.old.contents output.new.contents (export_line index id n mask)) }
+    ensures failed { OnErr result (output.new.has_failed ≡ true) }
+{
+    let mut digits = Buffer::new();
+    output.put(b"export ")?;
+    output.put(digits.format(index).as_bytes())?;
+    output.put(b" ")?;
+    put_identification(output, id)?;
+    put_export_end(output, n, mask)
+}
+
+// Writes the line of a reply.
+fn put_reply<A: Allocator, W: Write>(
+    output: &mut Output<W>,
+    reply: &Reply<A>,
+) -> Result<(), WriteFault>
+    ensures written { OnOk result (Appends output.old.contents output.new.contents (reply_line reply.now)) }
+    ensures failed { OnErr result (output.new.has_failed ≡ true) }
+{
+    match reply {
+        Reply::Printed { id, first, count } => put_labels(output, *id, *first, *count),
+        Reply::PrintRefused(fault) => output.put_refusal(fault.name()),
+        Reply::Scanned(accepted) => put_accepted(output, *accepted),
+        Reply::ScanRefused(fault) => output.put_refusal(fault.name()),
+        Reply::Document(bytes) => put_document(output, bytes.as_slice()),
+        Reply::AskRefused(fault) => output.put_refusal(fault.name()),
+        Reply::Forgotten => output.put(b"forgotten\n"),
+        Reply::ForgetRefused(fault) => output.put_refusal(fault.name()),
+        Reply::Given { index, ticket } => put_given(output, *index, *ticket),
+        Reply::GiveRefused(fault) => output.put_refusal(fault.name()),
+        Reply::Taken => output.put(b"taken\n"),
+        Reply::TakeRefused(fault) => output.put_refusal(fault.name()),
+        Reply::Exported { index, id, n, mask } => put_exported(output, *index, *id, *n, *mask),
+        Reply::ExportRefused(fault) => output.put_refusal(fault.name()),
+        Reply::Imported(imported) => put_imported(output, *imported),
+        Reply::ImportRefused(fault) => output.put_refusal(fault.name()),
+        Reply::Restarted => output.put(b"restarted\n"),
+        Reply::PrinterRefused(fault) => output.put_refusal(fault.name()),
+        Reply::DeskRefused(fault) => output.put_refusal(fault.name()),
+        Reply::Stopped => output.put(b"stopped\n"),
+        Reply::Down => output.put(b"down\n"),
+        Reply::NoSuch => output.put(b"none\n"),
+        Reply::Memory => output.put_refusal("Memory"),
+    }
+}
+
+// Whether the line of a reply is one of a refusal.
+fn is_refused<A: Allocator>(reply: &Reply<A>) -> bool
+    ensures { result ≡ is_refusal reply.now }
+{
+    match reply {
+        Reply::PrintRefused(_)
+        | Reply::ScanRefused(_)
+        | Reply::AskRefused(_)
+        | Reply::ForgetRefused(_)
+        | Reply::GiveRefused(_)
+        | Reply::TakeRefused(_)
+        | Reply::ExportRefused(_)
+        | Reply::ImportRefused(_)
+        | Reply::PrinterRefused(_)
+        | Reply::DeskRefused(_)
+        | Reply::Memory => true,
+        Reply::Printed { .. }
+        | Reply::Scanned(_)
+        | Reply::Document(_)
+        | Reply::Forgotten
+        | Reply::Given { .. }
+        | Reply::Taken
+        | Reply::Exported { .. }
+        | Reply::Imported(_)
+        | Reply::Restarted
+        | Reply::Stopped
+        | Reply::Down
+        | Reply::NoSuch => false,
+    }
+}
+
+/// Writes the line of an answer. It begins with `! ` where the event was not found honest.
+pub(crate) fn put_answer<A: Allocator, W: Write>(
+    output: &mut Output<W>,
+    answer: &Answer<A>,
+) -> Result<(), WriteFault>
+    ensures written { OnOk result (Appends output.old.contents output.new.contents (answer_line answer.now)) }
+    ensures failed { OnErr result (output.new.has_failed ≡ true) }
+{
+    let Answer::Given { is_honest, reply } = answer else {
+        return output.put_refusal("Memory");
+    };
+    if !*is_honest {
+        output.put(b"! ")?;
+    }
+    put_reply(output, reply)
+}
+
+/// Whether the line of an answer is one of a refusal.
+pub(crate) fn is_refused_answer<A: Allocator>(answer: &Answer<A>) -> bool
+    ensures { result ≡ has_refusal (answer.now ∷ []) }
+{
+    match answer {
+        Answer::Given {
+            is_honest: _,
+            reply,
+        } => is_refused(reply),
+        Answer::NotGiven => true,
+    }
+}

@@ -1,0 +1,73 @@
+//! `relay world`: a world of printers and desks, by a script.
+
+ghost use Rattle.std.specs.Prelude.{◌≡◌, true, IfOk, OnOk, OnErr};
+ghost use Rattle.std.specs.List.{flat_map};
+ghost use Rattle.std.specs.Io.KnownBytes.{Appends};
+ghost use Rattle.relay_streams.specs.Streams.{TakesPart};
+ghost use Rattle.relay_world_command.specs.ReplyLines.{answer_line, has_refusal};
+ghost use Rattle.relay_world_command.specs.World.{EndsWorld, TellsAnswers};
+
+use crate::reply_lines::{is_refused_answer, put_answer};
+use dm_event_world::{Answer, watch};
+use relay_script::{SCRIPT_BYTES, read_script};
+use relay_shared::refuse;
+use relay_streams::{Input, Output, WriteFault};
+use std::alloc::Allocator;
+use std::io::{Read, Write};
+
+/// One byte more than a script has at most.
+pub const INPUT_BYTES: usize = 1_048_577;
+
+// Writes the lines of answers, and says whether one of them is of a refusal.
+fn put_answers<A: Allocator, W: Write>(
+    output: &mut Output<W>,
+    answers: &[Answer<A>],
+) -> Result<bool, WriteFault>
+    ensures written { OnOk result (Appends output.old.contents output.new.contents (flat_map answer_line answers.now)) }
+    ensures refused { IfOk result (λ refused. refused ≡ has_refusal answers.now) }
+    ensures failed { OnErr result (output.new.has_failed ≡ true) }
+{
+    let mut refused = false;
+    for answer in answers {
+        put_answer(output, answer)?;
+        refused |= is_refused_answer(answer);
+    }
+    Ok(refused)
+}
+
+// Writes the lines of answers, and gives the exit status.
+fn tell<A: Allocator, W: Write>(output: &mut Output<W>, answers: &[Answer<A>]) -> u8
+    ensures { TellsAnswers answers.now output.old output.new result }
+{
+    match put_answers(output, answers) {
+        Ok(refused) => u8::from(refused),
+        Err(WriteFault::Write) => 1,
+    }
+}
+
+/// Reads a script, at most 1,048,577 bytes of it, begins its world, and prints a line for each of its events: what was
+/// answered, or `refused NAME`. The line begins with `! ` where the event is a scan of a copy in which more codewords
+/// are wrong than can be corrected; where memory to find that out is refused, the line is `refused Memory` and the
+/// event does not come. A script that is none, and a world that does not begin, are one line `refused NAME`. The exit
+/// status is 1 where a line was refused.
+pub fn world_command<A: Allocator + Copy, R: Read, W: Write>(
+    alloc: A,
+    input: &mut Input<R>,
+    output: &mut Output<W>,
+) -> u8
+    ensures part { TakesPart input.old.remaining input.new.remaining INPUT_BYTES }
+    ensures ends { EndsWorld A input.old input.new output.old result output.new }
+{
+    let bytes = match input.read_up_to(alloc, INPUT_BYTES) {
+        Ok(bytes) => bytes,
+        Err(fault) => return refuse(output, fault.name()),
+    };
+    let script = match read_script(alloc, &bytes) {
+        Ok(script) => script,
+        Err(fault) => return refuse(output, fault.name()),
+    };
+    match watch(alloc, &script.ranges, &script.capacities, &script.events) {
+        Ok(answers) => tell(output, &answers),
+        Err(fault) => refuse(output, fault.name()),
+    }
+}

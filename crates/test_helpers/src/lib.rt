@@ -1,0 +1,20 @@
+//! What tests share: an allocator that refuses one allocation, copies of bytes with one byte spoiled, and readers and
+//! writers that fail, are interrupted or never end.
+//!
+//! Proved: each call returns and is safe, and [`Refusing`] is an allocator, so that what owns memory of it owns memory
+//! of the allocator within. What else the comments say has no contract: the tests of this crate show it.
+#![tactic(auto)]
+
+mod failing;
+mod interrupted;
+mod refusing;
+#[cfg(test)]
+mod refusing_tests;
+mod spoiling;
+#[cfg(test)]
+mod spoiling_tests;
+
+pub use failing::{EndlessReader, FailingReader, FailingWriter};
+pub use interrupted::{InterruptedReader, InterruptedWriter};
+pub use refusing::Refusing;
+pub use spoiling::{count, spoiled};
