@@ -3,10 +3,10 @@ use dm_append_label::LabelFault;
 use dm_assembly_desk::{
     AskFault, DeskFault, ExportFault, ForgetFault, ImportFault, MoveFault, ScanFault,
 };
-use std::alloc::AllocError;
+use test_helpers::says;
 
 #[test]
-fn faults_of_opening(rt: HostRuntime) -> Result<(), AllocError> {
+fn faults_of_opening(rt: HostRuntime) {
     for (fault, name, text) in [
         (
             DeskFault::Capacity,
@@ -36,14 +36,12 @@ fn faults_of_opening(rt: HostRuntime) -> Result<(), AllocError> {
         (DeskFault::Device, "Device", "the device failed"),
         (DeskFault::Memory, "Memory", "out of memory"),
     ] {
-        assert!(rt; fault.name() == name);
-        assert!(rt; format!(in rt.alloc(); "{fault}")?.as_str() == text);
+        assert!(rt; fault.name() == name && says(rt.alloc(), &fault, text));
     }
-    Ok(())
 }
 
 #[test]
-fn faults_of_scans(rt: HostRuntime) -> Result<(), AllocError> {
+fn faults_of_scans(rt: HostRuntime) {
     for (fault, name, text) in [
         (ScanFault::Failed, "Failed", "a save failed before"),
         (
@@ -64,14 +62,12 @@ fn faults_of_scans(rt: HostRuntime) -> Result<(), AllocError> {
         (ScanFault::Memory, "Memory", "out of memory"),
         (ScanFault::Save, "Save", "the save failed"),
     ] {
-        assert!(rt; fault.name() == name);
-        assert!(rt; format!(in rt.alloc(); "{fault}")?.as_str() == text);
+        assert!(rt; fault.name() == name && says(rt.alloc(), &fault, text));
     }
-    Ok(())
 }
 
 #[test]
-fn faults_of_asks(rt: HostRuntime) -> Result<(), AllocError> {
+fn faults_of_asks(rt: HostRuntime) {
     for (fault, name, text) in [
         (AskFault::NotHeld, "NotHeld", "the document is not held"),
         (
@@ -81,40 +77,34 @@ fn faults_of_asks(rt: HostRuntime) -> Result<(), AllocError> {
         ),
         (AskFault::Memory, "Memory", "out of memory"),
     ] {
-        assert!(rt; fault.name() == name);
-        assert!(rt; format!(in rt.alloc(); "{fault}")?.as_str() == text);
+        assert!(rt; fault.name() == name && says(rt.alloc(), &fault, text));
     }
-    Ok(())
 }
 
 #[test]
-fn faults_of_forgets(rt: HostRuntime) -> Result<(), AllocError> {
+fn faults_of_forgets(rt: HostRuntime) {
     for (fault, name, text) in [
         (ForgetFault::Failed, "Failed", "a save failed before"),
         (ForgetFault::NotHeld, "NotHeld", "the document is not held"),
         (ForgetFault::Memory, "Memory", "out of memory"),
         (ForgetFault::Save, "Save", "the save failed"),
     ] {
-        assert!(rt; fault.name() == name);
-        assert!(rt; format!(in rt.alloc(); "{fault}")?.as_str() == text);
+        assert!(rt; fault.name() == name && says(rt.alloc(), &fault, text));
     }
-    Ok(())
 }
 
 #[test]
-fn faults_of_exports(rt: HostRuntime) -> Result<(), AllocError> {
+fn faults_of_exports(rt: HostRuntime) {
     for (fault, name, text) in [
         (ExportFault::NotHeld, "NotHeld", "the document is not held"),
         (ExportFault::Memory, "Memory", "out of memory"),
     ] {
-        assert!(rt; fault.name() == name);
-        assert!(rt; format!(in rt.alloc(); "{fault}")?.as_str() == text);
+        assert!(rt; fault.name() == name && says(rt.alloc(), &fault, text));
     }
-    Ok(())
 }
 
 #[test]
-fn faults_of_imports(rt: HostRuntime) -> Result<(), AllocError> {
+fn faults_of_imports(rt: HostRuntime) {
     for (fault, name, text) in [
         (ImportFault::Failed, "Failed", "a save failed before"),
         (
@@ -145,14 +135,12 @@ fn faults_of_imports(rt: HostRuntime) -> Result<(), AllocError> {
         (ImportFault::Memory, "Memory", "out of memory"),
         (ImportFault::Save, "Save", "the save failed"),
     ] {
-        assert!(rt; fault.name() == name);
-        assert!(rt; format!(in rt.alloc(); "{fault}")?.as_str() == text);
+        assert!(rt; fault.name() == name && says(rt.alloc(), &fault, text));
     }
-    Ok(())
 }
 
 #[test]
-fn faults_of_moves(rt: HostRuntime) -> Result<(), AllocError> {
+fn faults_of_moves(rt: HostRuntime) {
     for (fault, name, text) in [
         (
             MoveFault::NotPages,
@@ -172,8 +160,6 @@ fn faults_of_moves(rt: HostRuntime) -> Result<(), AllocError> {
         (MoveFault::Device, "Device", "the device failed"),
         (MoveFault::Memory, "Memory", "out of memory"),
     ] {
-        assert!(rt; fault.name() == name);
-        assert!(rt; format!(in rt.alloc(); "{fault}")?.as_str() == text);
+        assert!(rt; fault.name() == name && says(rt.alloc(), &fault, text));
     }
-    Ok(())
 }

@@ -1,6 +1,6 @@
 use crate::block::{Uncorrectable, correct, correct_with};
 use crate::elimination::Elimination;
-use crate::massey::{Massey, shortest_recurrence};
+use crate::massey::shortest_recurrence;
 use crate::symbol::{BlockFault, correct_symbol};
 use crate::syndromes::{MOST_WORDS, syndromes_of};
 use dm_check_blocks::Size;
@@ -123,52 +123,6 @@ fn half_a_generator_polynomial_in_side_52(rt: HostRuntime) {
     assert!(rt; words == right);
 }
 
-// All zeros are a symbol of each size.
-#[test]
-fn every_size_up_to_its_limit(rt: HostRuntime) {
-    for side in SIDES {
-        let size = Size::of_side(side).expect(&rt, "a side of the table");
-        let count = size.all_words();
-        let mut words = [0u8; 1800];
-        for block in 0..size.blocks() {
-            spoil(&rt, &mut words[..count], size.blocks(), block, size.limit());
-        }
-        assert!(rt;
-            correct_symbol(size, &mut words[..count]) == Ok((size.limit() * size.blocks()) as u16),
-            "side {side}"
-        );
-        assert!(rt; words == [0u8; 1800], "side {side}");
-    }
-}
-
-#[test]
-fn every_size_beyond_its_limit(rt: HostRuntime) {
-    for side in SIDES {
-        let size = Size::of_side(side).expect(&rt, "a side of the table");
-        let count = size.all_words();
-        let last = size.blocks() - 1;
-        let mut words = [0u8; 1800];
-        for block in 0..last {
-            spoil(&rt, &mut words[..count], size.blocks(), block, 1);
-        }
-        spoil(
-            &rt,
-            &mut words[..count],
-            size.blocks(),
-            last,
-            size.limit() + 1,
-        );
-        let before = words;
-        match correct_symbol(size, &mut words[..count]) {
-            Ok(changed) => assert!(rt; changed as usize <= size.limit() + last, "side {side}"),
-            Err(fault) => {
-                assert!(rt; fault == BlockFault { block: last }, "side {side}");
-                assert!(rt; words == before, "side {side}");
-            }
-        }
-    }
-}
-
 // Berlekamp and Massey's method itself finds the locator wherever there is a correction, and both locators agree.
 #[test]
 fn the_method_answers_up_to_the_limit(rt: HostRuntime) {
@@ -197,24 +151,5 @@ fn the_method_answers_up_to_the_limit(rt: HostRuntime) {
             assert!(rt; words == [0u8; MOST_WORDS], "side {side}, {wrong} wrong");
             assert!(rt; other == [0u8; MOST_WORDS], "side {side}, {wrong} wrong");
         }
-    }
-}
-
-// With one wrong word more both locators give one answer, whatever it is.
-#[test]
-fn both_locators_agree_beyond_the_limit(rt: HostRuntime) {
-    for side in SIDES {
-        let size = Size::of_side(side).expect(&rt, "a side of the table");
-        let checks = size.block_checks();
-        let length = size.block_length();
-        let mut words = [0u8; MOST_WORDS];
-        spoil(&rt, &mut words[..length], 1, 0, size.limit() + 1);
-        let mut other = words;
-        let by_method = correct_with(&Massey, &mut words[..length], checks);
-        assert!(rt;
-            by_method == correct_with(&Elimination, &mut other[..length], checks),
-            "side {side}"
-        );
-        assert!(rt; words == other, "side {side}");
     }
 }

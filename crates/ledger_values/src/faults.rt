@@ -1,23 +1,21 @@
 // The names and the texts of all faults.
 use dm_print_ledger::{CreateFault, GiveFault, OpenFault, PrintFault, TakeFault};
-use std::test::Fail;
+use test_helpers::says;
 
 #[test]
-fn faults_of_a_new_printer(rt: HostRuntime) -> Result<(), Fail> {
+fn faults_of_a_new_printer(rt: HostRuntime) {
     for (fault, name, text) in [
         (CreateFault::Exists, "Exists", "something is saved already"),
         (CreateFault::Range, "Range", "the range is invalid"),
         (CreateFault::Device, "Device", "the device failed"),
         (CreateFault::Memory, "Memory", "out of memory"),
     ] {
-        assert!(rt; fault.name() == name);
-        assert!(rt; format!(in rt.alloc(); "{fault}")?.as_str() == text);
+        assert!(rt; fault.name() == name && says(rt.alloc(), &fault, text));
     }
-    Ok(())
 }
 
 #[test]
-fn faults_of_a_printer_that_is_opened(rt: HostRuntime) -> Result<(), Fail> {
+fn faults_of_a_printer_that_is_opened(rt: HostRuntime) {
     for (fault, name, text) in [
         (OpenFault::Absent, "Absent", "nothing is saved"),
         (OpenFault::NotALedger, "NotALedger", "this is not a ledger"),
@@ -35,14 +33,12 @@ fn faults_of_a_printer_that_is_opened(rt: HostRuntime) -> Result<(), Fail> {
             "the ledger is another printer's",
         ),
     ] {
-        assert!(rt; fault.name() == name);
-        assert!(rt; format!(in rt.alloc(); "{fault}")?.as_str() == text);
+        assert!(rt; fault.name() == name && says(rt.alloc(), &fault, text));
     }
-    Ok(())
 }
 
 #[test]
-fn faults_of_a_print(rt: HostRuntime) -> Result<(), Fail> {
+fn faults_of_a_print(rt: HostRuntime) {
     for (fault, name, text) in [
         (PrintFault::Failed, "Failed", "a save failed before"),
         (
@@ -58,14 +54,12 @@ fn faults_of_a_print(rt: HostRuntime) -> Result<(), Fail> {
         (PrintFault::Memory, "Memory", "out of memory"),
         (PrintFault::Save, "Save", "the save failed"),
     ] {
-        assert!(rt; fault.name() == name);
-        assert!(rt; format!(in rt.alloc(); "{fault}")?.as_str() == text);
+        assert!(rt; fault.name() == name && says(rt.alloc(), &fault, text));
     }
-    Ok(())
 }
 
 #[test]
-fn faults_of_a_range_that_is_given(rt: HostRuntime) -> Result<(), Fail> {
+fn faults_of_a_range_that_is_given(rt: HostRuntime) {
     for (fault, name, text) in [
         (GiveFault::Failed, "Failed", "a save failed before"),
         (GiveFault::Range, "Range", "the range is invalid"),
@@ -88,14 +82,12 @@ fn faults_of_a_range_that_is_given(rt: HostRuntime) -> Result<(), Fail> {
         (GiveFault::Memory, "Memory", "out of memory"),
         (GiveFault::Save, "Save", "the save failed"),
     ] {
-        assert!(rt; fault.name() == name);
-        assert!(rt; format!(in rt.alloc(); "{fault}")?.as_str() == text);
+        assert!(rt; fault.name() == name && says(rt.alloc(), &fault, text));
     }
-    Ok(())
 }
 
 #[test]
-fn faults_of_a_ticket_that_is_taken(rt: HostRuntime) -> Result<(), Fail> {
+fn faults_of_a_ticket_that_is_taken(rt: HostRuntime) {
     for (fault, name, text) in [
         (TakeFault::Failed, "Failed", "a save failed before"),
         (
@@ -122,8 +114,6 @@ fn faults_of_a_ticket_that_is_taken(rt: HostRuntime) -> Result<(), Fail> {
         (TakeFault::Memory, "Memory", "out of memory"),
         (TakeFault::Save, "Save", "the save failed"),
     ] {
-        assert!(rt; fault.name() == name);
-        assert!(rt; format!(in rt.alloc(); "{fault}")?.as_str() == text);
+        assert!(rt; fault.name() == name && says(rt.alloc(), &fault, text));
     }
-    Ok(())
 }

@@ -22,31 +22,6 @@ fn draws_and_reads_the_worked_example(rt: HostRuntime) {
     assert!(rt; &text == b"123456");
 }
 
-// Two wrong words are corrected, and three, one of them a check word, are not.
-#[test]
-fn corrects_what_it_reads(rt: HostRuntime) {
-    let cases = [
-        ([0, 164, 186, 114, 0, 5, 88, 102], 6),
-        ([0, 164, 0, 114, 0, 5, 88, 102], usize::MAX),
-    ];
-    for (words, answer) in cases {
-        let mut image = [0; 40];
-        let _ = relay_image_from_words(rt.alloc(), 10, &words, &mut image);
-        let mut text = [0; 6];
-        assert!(rt; relay_text_from_image(rt.alloc(), &image, &mut text) == answer);
-    }
-}
-
-// The largest symbol comes back too.
-#[test]
-fn reads_the_largest_symbol(rt: HostRuntime) {
-    let mut image = [0; 4096];
-    let count = relay_symbol_from_text(rt.alloc(), 132, b"123456", &mut image);
-    let mut text = [0; 6];
-    assert!(rt; relay_text_from_image(rt.alloc(), &image[..count], &mut text) == 6);
-    assert!(rt; &text == b"123456");
-}
-
 #[test]
 fn draws_and_opens_a_label(rt: HostRuntime) {
     let mut image = [0; 100];

@@ -5,15 +5,9 @@
 #[cfg(test)]
 mod calls;
 #[cfg(test)]
-mod failing;
-#[cfg(test)]
 mod faulty;
 #[cfg(test)]
 mod folder;
-#[cfg(test)]
-mod listing;
-#[cfg(test)]
-mod noting;
 #[cfg(test)]
 mod on_files;
 #[cfg(test)]
@@ -22,3 +16,5 @@ mod order;
 mod refused;
 #[cfg(test)]
 mod texts;
+#[cfg(test)]
+mod watched;

@@ -3,21 +3,11 @@
 
 use crate::calls::{Call, SetCall, run, run_set};
 use crate::folder::{entry_of, new_folder};
-use crate::listing::ListingFiles;
-use crate::noting::NotingFiles;
+use crate::watched::WatchedFiles;
 use dm_store::{FileSet, FileStore, LoadFault};
 use std::process::Abort;
-use std::rt::Files;
 use std::test::Fail;
 use std::{fs, io};
-
-// Whether just these calls were noted since the last look.
-fn has_noted<R: Files + Drop>(files: &NotingFiles<R>, calls: &str) -> bool {
-    match files.noted() {
-        Ok(noted) => noted.as_str() == calls,
-        Err(_) => false,
-    }
-}
 
 const REPLACED: &str = "open ledger.new\nwrite ledger.new\nwrite ledger.new\nsync ledger.new\n\
     rename ledger.new\nto ledger\nopen pages\nsync pages\n";
@@ -27,13 +17,13 @@ fn syncs_a_file(rt: &impl Abort, files: &HostRuntime, above: &str) -> io::Result
     let folder = entry_of(files.alloc(), above, "pages")?;
     fs::create_dir(files, folder.as_str())?;
     let path = entry_of(files.alloc(), folder.as_str(), "ledger")?;
-    let noting = NotingFiles::new(files.alloc(), files.clone()?)?;
-    let mut store = FileStore::new(files.alloc(), &noting, path);
+    let watched = WatchedFiles::new(files.alloc(), files.clone()?)?;
+    let mut store = FileStore::new(files.alloc(), &watched, path);
     for bytes in [b"one".as_slice(), b"two".as_slice()] {
         run(rt, &mut store, &[Call::Replace(bytes, Ok(()))]);
-        assert!(rt; has_noted(&noting, REPLACED));
+        assert!(rt; watched.has_noted(REPLACED));
         run(rt, &mut store, &[Call::Load(9, Ok(Some(bytes)))]);
-        assert!(rt; has_noted(&noting, "open ledger\n"));
+        assert!(rt; watched.has_noted("open ledger\n"));
     }
     Ok(())
 }
@@ -53,15 +43,15 @@ const SET_REPLACED: &str = "make pages\nopen shelf\nsync shelf\n\
 // The first replace of a set, whose folder is not there, a load and a remove.
 fn syncs_a_set(rt: &impl Abort, files: &HostRuntime, shelf: &str) -> io::Result<()> {
     let folder = entry_of(files.alloc(), shelf, "pages")?;
-    let noting = NotingFiles::new(files.alloc(), files.clone()?)?;
-    let by = (&noting, files.alloc());
+    let watched = WatchedFiles::new(files.alloc(), files.clone()?)?;
+    let by = (&watched, files.alloc());
     let mut set = FileSet::new(files.alloc(), &by, folder);
     run_set(rt, &mut set, &[SetCall::Replace(1, b"one", Ok(()))]);
-    assert!(rt; has_noted(&noting, SET_REPLACED));
+    assert!(rt; watched.has_noted(SET_REPLACED));
     run_set(rt, &mut set, &[SetCall::Load(1, 9, Ok(Some(b"one")))]);
-    assert!(rt; has_noted(&noting, "open 0001\n"));
+    assert!(rt; watched.has_noted("open 0001\n"));
     run_set(rt, &mut set, &[SetCall::Remove(1, Ok(()))]);
-    assert!(rt; has_noted(&noting, "remove 0001\nopen pages\nsync pages\n"));
+    assert!(rt; watched.has_noted("remove 0001\nopen pages\nsync pages\n"));
     Ok(())
 }
 
@@ -127,8 +117,9 @@ fn a_set_takes_the_names_in_any_order(rt: HostRuntime) -> Result<(), Fail> {
         (b"other\0", 131_073, 9, Err(LoadFault::Device)),
     ];
     for (names, times, limit, wanted) in cases {
-        let listing = ListingFiles::new(rt.clone()?, names.to_vec(rt.alloc())?, times);
-        let files = (&listing, rt.alloc());
+        let mut watched = WatchedFiles::new(rt.alloc(), rt.clone()?)?;
+        watched.list(names.to_vec(rt.alloc())?, times);
+        let files = (&watched, rt.alloc());
         let folder = String::from_str(rt.alloc(), "pages")?;
         let mut set = FileSet::new(rt.alloc(), &files, folder);
         run_set(&rt, &mut set, &[SetCall::Keys(limit, wanted)]);

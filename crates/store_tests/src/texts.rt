@@ -1,15 +1,11 @@
 //! The texts of faults.
 
 use dm_store::{LoadFault, RemoveFault, ReplaceFault};
-use std::test::Fail;
+use test_helpers::says;
 
 #[test]
-fn a_fault_says_what_it_is(rt: HostRuntime) -> Result<(), Fail> {
-    let (device, memory) = (ReplaceFault::Device, LoadFault::Memory);
-    let text = format!(in rt.alloc(); "{device}, {memory}")?;
-    assert!(rt; text.as_str() == "the device failed, out of memory");
-    let fault = RemoveFault::Device;
-    let text = format!(in rt.alloc(); "{fault}")?;
-    assert!(rt; text.as_str() == "the device failed");
-    Ok(())
+fn a_fault_says_what_it_is(rt: HostRuntime) {
+    assert!(rt; says(rt.alloc(), &ReplaceFault::Device, "the device failed"));
+    assert!(rt; says(rt.alloc(), &LoadFault::Memory, "out of memory"));
+    assert!(rt; says(rt.alloc(), &RemoveFault::Device, "the device failed"));
 }

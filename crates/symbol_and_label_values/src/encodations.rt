@@ -4,6 +4,7 @@ use dm_check_blocks::Size;
 use dm_encodation::{DecodeFault, EncodeFault, Scheme, decode, encode, fit, need};
 use std::alloc::{AllocError, Allocator};
 use std::test::Fail;
+use test_helpers::says;
 
 /// `encode` where the head isn't too long itself.
 fn written<A: Allocator + Copy>(
@@ -20,7 +21,7 @@ fn written<A: Allocator + Copy>(
 }
 
 #[test]
-fn faults_say_what_is_wrong(rt: HostRuntime) -> Result<(), Fail> {
+fn faults_say_what_is_wrong(rt: HostRuntime) {
     let rows = [
         (
             EncodeFault::TooLong,
@@ -30,8 +31,7 @@ fn faults_say_what_is_wrong(rt: HostRuntime) -> Result<(), Fail> {
         (EncodeFault::Memory, "Memory", "out of memory"),
     ];
     for (fault, name, text) in rows {
-        assert!(rt; fault.name() == name);
-        assert!(rt; format!(in rt.alloc(); "{fault}")?.as_str() == text);
+        assert!(rt; fault.name() == name && says(rt.alloc(), &fault, text));
     }
     let rows = [
         (
@@ -52,10 +52,8 @@ fn faults_say_what_is_wrong(rt: HostRuntime) -> Result<(), Fail> {
         (DecodeFault::Memory, "Memory", "out of memory"),
     ];
     for (fault, name, text) in rows {
-        assert!(rt; fault.name() == name);
-        assert!(rt; format!(in rt.alloc(); "{fault}")?.as_str() == text);
+        assert!(rt; fault.name() == name && says(rt.alloc(), &fault, text));
     }
-    Ok(())
 }
 
 #[test]

@@ -5,6 +5,7 @@ use dm_check_blocks::Size;
 use dm_finder_frame::{FrameFault, Framed, GridFault, cell_of, frame, unframe};
 use dm_placement::{lift, place};
 use std::test::Fail;
+use test_helpers::says;
 
 #[test]
 #[tactic(auto, unfolding(dm_check_blocks::specs::Sizes::row))]
@@ -44,12 +45,10 @@ fn draws_a_symbol_and_takes_it_apart(rt: HostRuntime) -> Result<(), Fail> {
 }
 
 #[test]
-fn faults_say_what_is_wrong(rt: HostRuntime) -> Result<(), Fail> {
-    let text = format!(in rt.alloc(); "{}", FrameFault::Border { wrong: 27 })?;
-    assert!(rt; text.as_str() == "27 modules of the finder patterns are wrong");
-    let text = format!(in rt.alloc(); "{}", FrameFault::Memory)?;
-    assert!(rt; text.as_str() == "out of memory");
-    let text = format!(in rt.alloc(); "{}", GridFault::Side)?;
-    assert!(rt; text.as_str() == "the modules do not fill a symbol of that side");
-    Ok(())
+fn faults_say_what_is_wrong(rt: HostRuntime) {
+    let border = "27 modules of the finder patterns are wrong";
+    assert!(rt; says(rt.alloc(), &FrameFault::Border { wrong: 27 }, border));
+    assert!(rt; says(rt.alloc(), &FrameFault::Memory, "out of memory"));
+    let side = "the modules do not fill a symbol of that side";
+    assert!(rt; says(rt.alloc(), &GridFault::Side, side));
 }

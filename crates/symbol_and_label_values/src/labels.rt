@@ -4,13 +4,14 @@ use dm_append_label::{
     FileId, HeadFault, LabelFault, Page, PageFault, SealFault, cut, open_label, seal, still_near,
 };
 use dm_check_blocks::Size;
-use dm_encodation::{DecodeFault, Scheme, fit};
-use dm_finder_frame::{Grid, cell_of, matrix_of};
+use dm_encodation::{DecodeFault, Scheme};
+use dm_finder_frame::{Grid, matrix_of};
 use dm_placement::{Layout, lift};
-use dm_symbol::{draw_symbol, draw_words};
+use dm_symbol::draw_symbol;
 use std::alloc::{AllocError, Allocator};
 use std::process::Abort;
 use std::test::Fail;
+use test_helpers::says;
 
 // The label of page m of n, of the identification 0.
 fn sealed<A: Allocator + Copy>(
@@ -39,17 +40,6 @@ fn sealed<A: Allocator + Copy>(
 fn words_of<A: Allocator + Copy>(alloc: A, grid: &Grid<A>) -> Result<Vec<u8, A>, AllocError> {
     let matrix = matrix_of(alloc, grid)?;
     lift(alloc, grid.size(), &matrix)
-}
-
-// The grid of all words of a symbol.
-fn drawn<A: Allocator + Copy>(
-    rt: &impl Abort,
-    alloc: A,
-    size: Size,
-    words: &[u8],
-) -> Result<Grid<A>, AllocError> {
-    assert!(rt; words.len() == size.all_words());
-    draw_words(alloc, size, words)
 }
 
 // The grid of a symbol with these data words.
@@ -265,104 +255,8 @@ fn words_up_to_the_limit(rt: HostRuntime) -> Result<(), Fail> {
     Ok(())
 }
 
-// Flips one bit of as many words of each block as can be corrected, every second word from the first on.
-fn spoil(words: &mut [u8], blocks: usize, limit: usize) {
-    if blocks == 0 {
-        return;
-    }
-    for (k, word) in words.iter_mut().enumerate() {
-        if k / blocks % 2 == 0 && k / blocks / 2 < limit {
-            *word ^= 1u8 << (k % 8);
-        }
-    }
-}
-
-// Flips this many modules of the finder patterns, or all.
-fn smear<A: Allocator + Copy>(rt: &impl Abort, grid: &mut Grid<A>, count: u64) {
-    let size = grid.size();
-    let mut left = count;
-    for row in 0..size.side() {
-        for column in 0..size.side() {
-            assert!(rt; row < grid.side() && column < grid.side() && grid.side() == size.side());
-            if left > 0 && cell_of(size, row, column).is_none() {
-                grid.flip(row, column);
-                left -= 1;
-            }
-        }
-    }
-}
-
-// How many modules of the finder patterns may be wrong.
-fn most_wrong(size: Size) -> u64 {
-    size.regions() as u64 * (4 * size.region() as u64 + 4) / 8
-}
-
-// The label of a page, damaged to the limits.
-fn worn<A: Allocator + Copy>(
-    rt: &impl Abort,
-    alloc: A,
-    size: Size,
-    scheme: Scheme,
-    bytes: &[u8],
-) -> Result<Grid<A>, SealFault> {
-    let label = sealed(rt, alloc, 16, 16, bytes, size, scheme)?;
-    let mut words = words_of(alloc, &label)?;
-    spoil(words.as_mut_slice(), size.blocks(), size.limit());
-    let mut grid = drawn(rt, alloc, size, &words)?;
-    smear(rt, &mut grid, most_wrong(size));
-    Ok(grid)
-}
-
-// The greatest page of a size and a scheme is sealed, damaged to the limits and opened.
-fn opens_damaged<A: Allocator + Copy>(
-    rt: &impl Abort,
-    alloc: A,
-    size: Size,
-    scheme: Scheme,
-    text: &[u8],
-) -> Result<(), SealFault> {
-    assert!(rt; size.data_words() >= 4);
-    let count = fit(scheme, text, size.data_words() - 4);
-    assert!(rt; count < text.len());
-    let fault = sealed(rt, alloc, 16, 16, &text[..count + 1], size, scheme).err();
-    assert!(rt; fault == Some(SealFault::TooLong));
-    let grid = worn(rt, alloc, size, scheme, &text[..count])?;
-    let opened = open_label(alloc, &grid);
-    assert!(rt; opened.is_ok());
-    if let Ok(opened) = opened {
-        assert!(rt; size.limit().checked_mul(size.blocks()) == Some(opened.corrected as usize));
-        assert!(rt; (opened.wrong as u64) == most_wrong(size));
-        assert!(rt; (opened.page.id().number(), opened.page.m(), opened.page.n()) == (0, 16, 16));
-        assert!(rt; opened.page.bytes() == &text[..count]);
-    }
-    Ok(())
-}
-
 #[test]
-fn the_greatest_pages_of_all_sizes_open_damaged(rt: HostRuntime) -> Result<(), Fail> {
-    let schemes = [
-        (Scheme::Ascii, [b'7'; 2700]),
-        (Scheme::C40, [b'A'; 2700]),
-        (Scheme::Text, [b'a'; 2700]),
-        (Scheme::Base256, [233; 2700]),
-    ];
-    let sides = [
-        12, 14, 16, 18, 20, 22, 24, 26, 32, 36, 40, 44, 48, 52, 64, 72, 80, 88, 96, 104, 120, 132,
-    ];
-    for side in sides {
-        let size = Size::of_side(side);
-        assert!(rt; size.is_some());
-        if let Some(size) = size {
-            for (scheme, text) in &schemes {
-                opens_damaged(&rt, rt.alloc(), size, *scheme, text)?;
-            }
-        }
-    }
-    Ok(())
-}
-
-#[test]
-fn faults_say_what_is_wrong(rt: HostRuntime) -> Result<(), Fail> {
+fn faults_say_what_is_wrong(rt: HostRuntime) {
     for (fault, text) in [
         (
             LabelFault::Border { wrong: 6 },
@@ -375,18 +269,21 @@ fn faults_say_what_is_wrong(rt: HostRuntime) -> Result<(), Fail> {
         ),
         (LabelFault::FileId, "the file identification is invalid"),
         (
+            LabelFault::Content(DecodeFault::Cut { at: 3 }),
+            "what begins at position 3 is cut off",
+        ),
+        (
             LabelFault::Block { block: 7 },
             "block 7 has more wrong words than can be corrected",
         ),
         (LabelFault::Memory, "out of memory"),
     ] {
-        assert!(rt; format!(in rt.alloc(); "{fault}")?.as_str() == text);
+        assert!(rt; says(rt.alloc(), &fault, text));
     }
-    Ok(())
 }
 
 #[test]
-fn faults_of_heads_and_pages_say_what_is_wrong(rt: HostRuntime) -> Result<(), Fail> {
+fn faults_of_heads_and_pages_say_what_is_wrong(rt: HostRuntime) {
     for (fault, text) in [
         (HeadFault::NotAppended, "the symbol is not a label"),
         (
@@ -395,30 +292,23 @@ fn faults_of_heads_and_pages_say_what_is_wrong(rt: HostRuntime) -> Result<(), Fa
         ),
         (HeadFault::FileId, "the file identification is invalid"),
     ] {
-        assert!(rt; format!(in rt.alloc(); "{fault}")?.as_str() == text);
-        let page = PageFault::Head(fault);
-        assert!(rt; format!(in rt.alloc(); "{page}")?.as_str() == text);
+        assert!(rt;
+            says(rt.alloc(), &fault, text) && says(rt.alloc(), &PageFault::Head(fault), text)
+        );
     }
-    let text = format!(in rt.alloc(); "{}", DecodeFault::Cut { at: 3 })?;
-    let page = format!(in rt.alloc(); "{}", PageFault::Content(DecodeFault::Cut { at: 3 }))?;
-    let label = format!(in rt.alloc(); "{}", LabelFault::Content(DecodeFault::Cut { at: 3 }))?;
-    assert!(rt; page.as_str() == text.as_str());
-    assert!(rt; label.as_str() == text.as_str());
-    let text = format!(in rt.alloc(); "{}", PageFault::Memory)?;
-    assert!(rt; text.as_str() == "out of memory");
-    let text = format!(in rt.alloc(); "{}", SealFault::Memory)?;
-    assert!(rt; text.as_str() == "out of memory");
-    let text = format!(in rt.alloc(); "{}", SealFault::TooLong)?;
-    assert!(rt; text.as_str() == "the page does not fit a label of this size");
-    Ok(())
+    let cut = PageFault::Content(DecodeFault::Cut { at: 3 });
+    assert!(rt; says(rt.alloc(), &cut, "what begins at position 3 is cut off"));
+    assert!(rt; says(rt.alloc(), &PageFault::Memory, "out of memory"));
+    assert!(rt; says(rt.alloc(), &SealFault::Memory, "out of memory"));
+    let too_long = "the page does not fit a label of this size";
+    assert!(rt; says(rt.alloc(), &SealFault::TooLong, too_long));
 }
 
 #[test]
-fn a_document_without_parts_says_what_is_wrong(rt: HostRuntime) -> Result<(), Fail> {
-    let Err(fault) = cut(b"", Size::Side10, Scheme::Ascii) else {
-        return Err("a label of side 10".into());
-    };
-    let text = format!(in rt.alloc(); "{fault}")?;
-    assert!(rt; text.as_str() == "the document does not fit sixteen labels of this size");
-    Ok(())
+fn a_document_without_parts_says_what_is_wrong(rt: HostRuntime) {
+    let text = "the document does not fit sixteen labels of this size";
+    match cut(b"", Size::Side10, Scheme::Ascii) {
+        Ok(_) => assert!(rt; false, "a label of side 10"),
+        Err(fault) => assert!(rt; says(rt.alloc(), &fault, text)),
+    }
 }

@@ -5,6 +5,7 @@ use dm_check_blocks::Size;
 use dm_finder_frame::Grid;
 use dm_symbol::{SymbolFault, SymbolReader, correct_grid, draw_symbol, draw_words, still_near};
 use std::test::Fail;
+use test_helpers::says;
 
 #[test]
 #[tactic(auto, unfolding(dm_check_blocks::specs::Sizes::row))]
@@ -58,7 +59,7 @@ fn worn_grids_are_corrected_or_refused(rt: HostRuntime) -> Result<(), Fail> {
 }
 
 #[test]
-fn faults_say_what_is_wrong(rt: HostRuntime) -> Result<(), Fail> {
+fn faults_say_what_is_wrong(rt: HostRuntime) {
     for (fault, text) in [
         (
             SymbolFault::Border { wrong: 27 },
@@ -70,7 +71,6 @@ fn faults_say_what_is_wrong(rt: HostRuntime) -> Result<(), Fail> {
         ),
         (SymbolFault::Memory, "out of memory"),
     ] {
-        assert!(rt; format!(in rt.alloc(); "{fault}")?.as_str() == text);
+        assert!(rt; says(rt.alloc(), &fault, text));
     }
-    Ok(())
 }

@@ -1,5 +1,5 @@
-//! What tests share: an allocator that refuses one allocation, copies of bytes with one byte spoiled, and readers and
-//! writers that fail, are interrupted or never end.
+//! What tests share: an allocator that refuses one allocation, copies of bytes with one byte spoiled, readers and
+//! writers that fail, are interrupted or never end, and a look at the text of a fault.
 //!
 //! Proved: each call returns and is safe, and [`Refusing`] is an allocator, so that what owns memory of it owns memory
 //! of the allocator within. What else the comments say has no contract: the tests of this crate show it.
@@ -10,6 +10,7 @@ mod interrupted;
 mod refusing;
 #[cfg(test)]
 mod refusing_tests;
+mod saying;
 mod spoiling;
 #[cfg(test)]
 mod spoiling_tests;
@@ -17,4 +18,5 @@ mod spoiling_tests;
 pub use failing::{EndlessReader, FailingReader, FailingWriter};
 pub use interrupted::{InterruptedReader, InterruptedWriter};
 pub use refusing::Refusing;
+pub use saying::says;
 pub use spoiling::{count, spoiled};
