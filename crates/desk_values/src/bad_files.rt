@@ -71,42 +71,41 @@ fn sets_are_refused(rt: HostRuntime) -> Result<(), Fail> {
     Ok(())
 }
 
+const DAMAGED: DeskFault = DeskFault::Damaged;
+
 // Bytes that are no file of pages, and why.
-fn bad_files() -> [(&'static [u8], DeskFault); 16] {
-    let damaged = DeskFault::Damaged;
-    [
-        (b"", DeskFault::NotPages),
-        (b"DMP", DeskFault::NotPages),
-        (b"DMLG\x02", DeskFault::NotPages),
-        (
-            b"dmpg\x02\x01\x01\x02\x00\x02\x00\x0234",
-            DeskFault::NotPages,
-        ),
-        (b"DMPG\x01\x00\x00", DeskFault::Version),
-        (
-            b"DMPG\x03\x01\x01\x02\x00\x02\x00\x0234",
-            DeskFault::Version,
-        ),
-        (b"DMPG", damaged),
-        (b"DMPG\x02", damaged),
-        // No page, a page 3 of 2, 17 pages, 1 page, an identification with a word 0 or 255.
-        (b"DMPG\x02\x01\x01\x02\x00\x00", damaged),
-        (b"DMPG\x02\x01\x01\x02\x00\x04\x00\x00", damaged),
-        (b"DMPG\x02\x01\x01\x11\x00\x01\x00\x00", damaged),
-        (b"DMPG\x02\x01\x01\x01\x00\x01\x00\x00", damaged),
-        (b"DMPG\x02\x00\xff\x02\x00\x01\x00\x00", damaged),
-        // One byte more, and one byte less.
-        (b"DMPG\x02\x01\x01\x02\x00\x02\x00\x02345", damaged),
-        (b"DMPG\x02\x01\x01\x02\x00\x02\x00\x023", damaged),
-        (b"DMPG\x02\x01\x01\x02\x00\x03\x00\x0212\x00\x02", damaged),
-    ]
-}
+const BAD_FILES: [(&[u8], DeskFault); 16] = [
+    (b"", DeskFault::NotPages),
+    (b"DMP", DeskFault::NotPages),
+    (b"DMLG\x02", DeskFault::NotPages),
+    (
+        b"dmpg\x02\x01\x01\x02\x00\x02\x00\x0234",
+        DeskFault::NotPages,
+    ),
+    (b"DMPG\x01\x00\x00", DeskFault::Version),
+    (
+        b"DMPG\x03\x01\x01\x02\x00\x02\x00\x0234",
+        DeskFault::Version,
+    ),
+    (b"DMPG", DAMAGED),
+    (b"DMPG\x02", DAMAGED),
+    // No page, a page 3 of 2, 17 pages, 1 page, an identification with a word 0 or 255.
+    (b"DMPG\x02\x01\x01\x02\x00\x00", DAMAGED),
+    (b"DMPG\x02\x01\x01\x02\x00\x04\x00\x00", DAMAGED),
+    (b"DMPG\x02\x01\x01\x11\x00\x01\x00\x00", DAMAGED),
+    (b"DMPG\x02\x01\x01\x01\x00\x01\x00\x00", DAMAGED),
+    (b"DMPG\x02\x00\xff\x02\x00\x01\x00\x00", DAMAGED),
+    // One byte more, and one byte less.
+    (b"DMPG\x02\x01\x01\x02\x00\x02\x00\x02345", DAMAGED),
+    (b"DMPG\x02\x01\x01\x02\x00\x02\x00\x023", DAMAGED),
+    (b"DMPG\x02\x01\x01\x02\x00\x03\x00\x0212\x00\x02", DAMAGED),
+];
 
 #[test]
 fn bad_files_are_refused(rt: HostRuntime) -> Result<(), Fail> {
     let alloc = rt.alloc();
     let mut desk = opened(&rt, alloc, MemSet::new(alloc), 4);
-    for (bytes, fault) in bad_files() {
+    for (bytes, fault) in BAD_FILES {
         assert!(rt; refusal(alloc, bytes)? == Some(fault));
         let answer = import(&mut desk, bytes);
         assert!(rt;

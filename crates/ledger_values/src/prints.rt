@@ -8,29 +8,38 @@ use dm_print_ledger::{
 use dm_store::NextSave;
 use std::test::Fail;
 
+// A document, the size and the encodation of its labels, and how many they are.
+const DOCUMENTS: [(&[u8], Size, Scheme, u8); 5] = [
+    (b"", Size::Side12, Scheme::Ascii, 2),
+    (b"1234", Size::Side12, Scheme::Ascii, 2),
+    (b"12345678", Size::Side12, Scheme::Ascii, 4),
+    (b"A LONGER TEXT", Size::Side16, Scheme::C40, 2),
+    (b"any \x00\xff bytes", Size::Side14, Scheme::Base256, 6),
+];
+
 #[test]
 fn a_job_has_the_labels_of_its_document(rt: HostRuntime) -> Result<(), Fail> {
     let alloc = rt.alloc();
     let mut printer = created(&rt, alloc, 0, 300, 309);
-    let rows: [(&[u8], Size, Scheme, u8); 5] = [
-        (b"", Size::Side12, Scheme::Ascii, 2),
-        (b"1234", Size::Side12, Scheme::Ascii, 2),
-        (b"12345678", Size::Side12, Scheme::Ascii, 4),
-        (b"A LONGER TEXT", Size::Side16, Scheme::C40, 2),
-        (b"any \x00\xff bytes", Size::Side14, Scheme::Base256, 6),
-    ];
-    for (row, (document, size, scheme, count)) in rows.iter().enumerate() {
+    for (row, (document, size, scheme, count)) in DOCUMENTS.iter().enumerate() {
         let mut job = print(&mut printer, document, *size, *scheme)?;
         assert!(rt; (job.id().number() as usize, job.count()) == (300 + row, *count));
         let read = document_of(&rt, alloc, &mut job)?;
         assert!(rt; read.as_slice() == *document);
     }
-    // A job does not depend on its printer: the second is printed before the first is taken.
+    Ok(())
+}
+
+// A job does not depend on its printer: the second is printed before the first is taken.
+#[test]
+fn two_jobs_are_open_at_once(rt: HostRuntime) -> Result<(), Fail> {
+    let alloc = rt.alloc();
+    let mut printer = created(&rt, alloc, 0, 300, 309);
     let mut first = print(&mut printer, b"first", Size::Side14, Scheme::Ascii)?;
     let mut second = print(&mut printer, b"second", Size::Side14, Scheme::Ascii)?;
     assert!(rt; document_of(&rt, alloc, &mut first)?.as_slice() == b"first".as_slice());
     assert!(rt; document_of(&rt, alloc, &mut second)?.as_slice() == b"second".as_slice());
-    assert!(rt; printer.left() == 3);
+    assert!(rt; printer.left() == 8);
     Ok(())
 }
 

@@ -1,5 +1,5 @@
 // Numbers that are given to other printers, and taken.
-use crate::printers::{created, give, printed, reopened, single, take};
+use crate::printers::{created, give, opened, printed, reopened, single, take};
 use dm_print_ledger::{GiveFault, Range, TakeFault, Ticket};
 use std::test::Fail;
 
@@ -19,7 +19,15 @@ fn a_part_of_a_range_moves(rt: HostRuntime) -> Result<(), Fail> {
     assert!(rt; take(&mut other, &ticket) == Err(TakeFault::Old));
     assert!(rt; printed(&mut other)? == 5);
     assert!(rt; printed(&mut printer)? == 0);
-    // Serials rise by one, and a number in the middle leaves two ranges.
+    Ok(())
+}
+
+// Serials rise by one, and a number in the middle leaves two ranges.
+#[test]
+fn a_second_part_moves(rt: HostRuntime) -> Result<(), Fail> {
+    let alloc = rt.alloc();
+    let saved = b"DMLG\x02\x00\x00\x00\x01\x01\x00\x01\x00\x04\x00\xff\xfb";
+    let mut printer = opened(&rt, alloc, saved, 0)?;
     let ticket = give(&mut printer, 1, Range { first: 2, last: 3 })?;
     assert!(rt; ticket.bytes() == [0, 0, 0, 1, 0, 1, 0, 2, 0, 3]);
     let saved = b"DMLG\x02\x00\x00\x00\x02\x02\x00\x01\x00\x01\x00\x04\x00\x04\x00\xff\xfd";

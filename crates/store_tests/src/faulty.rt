@@ -32,7 +32,7 @@ fn holds(files: &HostRuntime, path: &str, wanted: &[u8]) -> io::Result<bool> {
 fn a_replace_of_a_file_fails_with_its_device(rt: HostRuntime) -> Result<(), Fail> {
     let folder = new_folder(&rt, "faulty")?;
     let path = entry_of(rt.alloc(), folder.as_str(), "ledger")?;
-    let files = WatchedFiles::new(rt.alloc(), rt.clone()?)?;
+    let files = WatchedFiles::new(rt.alloc(), rt.clone()?, None)?;
     let mut faults = 0u8;
     for calls in 0..MOST_CALLS {
         fs::write(&rt, path.as_str(), b"one".as_slice())?;
@@ -71,7 +71,7 @@ fn a_load_of_a_file_fails_with_its_device(rt: HostRuntime) -> Result<(), Fail> {
     let folder = new_folder(&rt, "faulty-load")?;
     let path = entry_of(rt.alloc(), folder.as_str(), "ledger")?;
     fs::write(&rt, path.as_str(), b"one".as_slice())?;
-    let files = WatchedFiles::new(rt.alloc(), rt.clone()?)?;
+    let files = WatchedFiles::new(rt.alloc(), rt.clone()?, None)?;
     let mut faults = 0u8;
     for calls in 0..MOST_CALLS {
         files.fail_after(calls);
@@ -101,7 +101,7 @@ fn first_replace_fails(rt: &impl Abort, files: &Watched, folder: &str) -> io::Re
 #[test]
 fn a_replace_of_a_set_fails_with_its_device(rt: HostRuntime) -> Result<(), Fail> {
     let above = new_folder(&rt, "faulty-set")?;
-    let files = WatchedFiles::new(rt.alloc(), rt.clone()?)?;
+    let files = WatchedFiles::new(rt.alloc(), rt.clone()?, None)?;
     let mut faults = 0u8;
     for calls in 0..MOST_CALLS {
         let folder = format!(in rt.alloc(); "{above}/{calls}")?;
@@ -150,7 +150,7 @@ fn list_fails(rt: &impl Abort, files: &Watched, folder: &str) -> io::Result<bool
 fn other_calls_of_a_set_fail_with_its_device(rt: HostRuntime) -> Result<(), Fail> {
     let folder = new_folder(&rt, "faulty-remove")?;
     let path = entry_of(rt.alloc(), folder.as_str(), "0001")?;
-    let files = WatchedFiles::new(rt.alloc(), rt.clone()?)?;
+    let files = WatchedFiles::new(rt.alloc(), rt.clone()?, None)?;
     let (mut removes, mut lists) = (0u8, 0u8);
     for calls in 0..MOST_CALLS {
         fs::write(&rt, path.as_str(), b"one".as_slice())?;

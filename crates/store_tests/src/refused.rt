@@ -7,6 +7,7 @@ use dm_store::{
     FileSet, FileStore, KeyMap, LoadFault, MemSet, MemStore, NextSave, RemoveFault, ReplaceFault,
     Store, StoreSet,
 };
+use std::alloc::{AllocError, Allocator};
 use std::fs;
 use std::test::Fail;
 use test_helpers::Refusing;
@@ -120,6 +121,18 @@ fn an_insert_into_a_map_is_refused(rt: HostRuntime) -> Result<(), Fail> {
     Err("growths without end".into())
 }
 
+// A replace and a load of a file, and what they answer.
+fn calls_of_a_file<A: Allocator + Copy>(
+    files: &HostRuntime,
+    memory: A,
+    path: &str,
+) -> Result<(Result<(), ReplaceFault>, Option<LoadFault>), AllocError> {
+    let path = String::from_str(memory, path)?;
+    let mut store = FileStore::new(memory, files, path);
+    let replaced = store.replace(b"two");
+    Ok((replaced, store.load(9).err()))
+}
+
 // A store in a file: what is refused leaves the file as it was.
 #[test]
 fn a_call_of_a_file_is_refused(rt: HostRuntime) -> Result<(), Fail> {
@@ -128,25 +141,72 @@ fn a_call_of_a_file_is_refused(rt: HostRuntime) -> Result<(), Fail> {
     for passes in 1..MOST_GROWTHS {
         fs::write(&rt, path.as_str(), b"one".as_slice())?;
         let memory = Refusing::new(rt.alloc(), passes);
-        let mut store = FileStore::new(&memory, &rt, String::from_str(&memory, path.as_str())?);
-        let held: &[u8] = match store.replace(b"two") {
-            Ok(()) => b"two",
-            Err(fault) => {
-                assert!(rt; (fault, memory.is_spent()) == (ReplaceFault::Memory, true));
-                b"one"
-            }
+        let (replaced, loaded) = calls_of_a_file(&rt, &memory, path.as_str())?;
+        let held = match (replaced, loaded) {
+            (Err(ReplaceFault::Memory), None) => b"one".as_slice(),
+            _ => b"two".as_slice(),
         };
         assert!(rt; fs::read(&rt, path.as_str())?.as_slice() == held);
-        if let Err(fault) = store.load(9) {
-            assert!(rt; (fault, memory.is_spent()) == (LoadFault::Memory, true));
-        }
         if !memory.is_spent() {
+            assert!(rt; replaced == Ok(()) && loaded == None);
             fs::remove_dir_all(&rt, folder.as_str())?;
             return Ok(());
         }
+        assert!(rt; replaced == Err(ReplaceFault::Memory) || loaded == Some(LoadFault::Memory));
     }
     Err("growths without end".into())
 }
+
+// What the calls of a set in a folder answer.
+#[derive(Clone, Copy, PartialEq)]
+struct Answers {
+    replaced: Result<(), ReplaceFault>,
+    listed: Option<LoadFault>,
+    loaded: Option<LoadFault>,
+    removed: Result<(), RemoveFault>,
+}
+
+fn calls_of_a_folder<A: Allocator + Copy>(
+    files: &HostRuntime,
+    memory: A,
+    folder: &str,
+) -> Result<Answers, AllocError> {
+    let folder = String::from_str(memory, folder)?;
+    let mut set = FileSet::new(memory, files, folder);
+    Ok(Answers {
+        replaced: set.replace(1, b"one"),
+        listed: set.keys(9).err(),
+        loaded: set.load(1, 9).err(),
+        removed: set.remove(1),
+    })
+}
+
+const DONE: Answers = Answers {
+    replaced: Ok(()),
+    listed: None,
+    loaded: None,
+    removed: Ok(()),
+};
+
+// One call at most is refused.
+const REFUSED: [Answers; 4] = [
+    Answers {
+        replaced: Err(ReplaceFault::Memory),
+        ..DONE
+    },
+    Answers {
+        listed: Some(LoadFault::Memory),
+        ..DONE
+    },
+    Answers {
+        loaded: Some(LoadFault::Memory),
+        ..DONE
+    },
+    Answers {
+        removed: Err(RemoveFault::Memory),
+        ..DONE
+    },
+];
 
 // A set in a folder: what is refused leaves the folder as it was, and does not make it.
 #[test]
@@ -155,27 +215,16 @@ fn a_call_of_a_folder_is_refused(rt: HostRuntime) -> Result<(), Fail> {
     for passes in 1..MOST_GROWTHS {
         let folder = format!(in rt.alloc(); "{above}/{passes}")?;
         let memory = Refusing::new(rt.alloc(), passes);
-        let mut set = FileSet::new(&memory, &rt, String::from_str(&memory, folder.as_str())?);
-        let replaced = set.replace(1, b"one");
-        assert!(rt; fs::exists(&rt, folder.as_str())? == replaced.is_ok());
-        if let Err(fault) = replaced {
-            assert!(rt; (fault, memory.is_spent()) == (ReplaceFault::Memory, true));
-        } else if let Err(fault) = set.keys(9) {
-            assert!(rt; (fault, memory.is_spent()) == (LoadFault::Memory, true));
-        } else if let Err(fault) = set.load(1, 9) {
-            assert!(rt; (fault, memory.is_spent()) == (LoadFault::Memory, true));
-        } else {
-            let removed = set.remove(1);
-            if let Err(fault) = removed {
-                assert!(rt; (fault, memory.is_spent()) == (RemoveFault::Memory, true));
-            }
-            let file = format!(in rt.alloc(); "{folder}/0001")?;
-            assert!(rt; fs::exists(&rt, file.as_str())? == removed.is_err());
-        }
+        let answers = calls_of_a_folder(&rt, &memory, folder.as_str())?;
+        assert!(rt; fs::exists(&rt, folder.as_str())? == answers.replaced.is_ok());
+        let file = entry_of(rt.alloc(), folder.as_str(), "0001")?;
+        assert!(rt; fs::exists(&rt, file.as_str())? == answers.removed.is_err());
         if !memory.is_spent() {
+            assert!(rt; answers == DONE);
             fs::remove_dir_all(&rt, above.as_str())?;
             return Ok(());
         }
+        assert!(rt; REFUSED.contains(&answers), "{passes}");
     }
     Err("growths without end".into())
 }

@@ -85,8 +85,9 @@ pub enum Names<D> {
 }
 
 impl<R: Files + Drop> WatchedFiles<R> {
-    // The file system of `inner`, of which no call fails, and each folder lists its own names.
-    pub fn new(alloc: Global, inner: R) -> io::Result<Self> {
+    // The file system of `inner`, of which no call fails. Each folder lists its own names, or made-up ones, each ended
+    // by a NUL, that many times.
+    pub fn new(alloc: Global, inner: R, listed: Option<(Vec<u8>, u32)>) -> io::Result<Self> {
         let calls = Calls {
             lines: RefCell::new(String::new(alloc)),
             passes: Cell::new(None),
@@ -95,7 +96,7 @@ impl<R: Files + Drop> WatchedFiles<R> {
             inner,
             alloc,
             calls: Rc::new(alloc, calls)?,
-            listed: None,
+            listed,
         })
     }
 
@@ -110,11 +111,6 @@ impl<R: Files + Drop> WatchedFiles<R> {
 
     pub fn fail_no_more(&self) {
         self.calls.passes.set(None);
-    }
-
-    // Each folder lists these names from now on, each ended by a NUL, that many times.
-    pub fn list(&mut self, names: Vec<u8>, times: u32) {
-        self.listed = Some((names, times));
     }
 
     // Whether just these calls were noted since the last call of this function.
