@@ -1,8 +1,13 @@
--- No label leaves twice.
-use Rattle.std.proofs.Common.{◌≡◌, ◌<◌, ◌+◌, ℕ, zero, suc, Some, List, [], ◌∷◌, ◌++◌, length, slice_get, ◌⊎◌, inl, inr, refl, sym, ap, ◌∙◌, subst, arith}
-use Rattle.dm_event_history.specs.History.{Entry, History, LabelName, names_from, out}
-use Rattle.dm_event_history.specs.Legal.{IsUnused, NeverTwice, IsNoLabelTwice}
-use Rattle.dm_event_history.proofs.Gotten.{get_beyond}
+-- No label leaves twice, and each has an identification that a printer began with.
+use Rattle.std.proofs.Common.{◌≡◌, ◌<◌, ◌+◌, ℕ, zero, suc, Some, List, [], ◌∷◌, ◌++◌, length, slice_get, ◌⊎◌, inl, inr, sym, ◌∙◌, subst, arith}
+use Rattle.dm_print_ledger.specs.declared.range.Range.{Range}
+use Rattle.dm_event_history.specs.declared.event.Event.{Event}
+use Rattle.dm_event_history.specs.declared.event.Event.TheVariants.{Print}
+use Rattle.dm_event_history.specs.History.{Entry, History, CutDocument, LabelName, names_from, printed_by, out}
+use Rattle.dm_event_history.specs.Places.{FreeAt, ArePlaced, IsOpened, AreOpened}
+use Rattle.dm_event_history.specs.Legal.{AreDisjoint, Fits, MayMove, IsLegal, IsUnused, NeverTwice, IsNoLabelTwice}
+use Rattle.dm_event_history.proofs.Fresh.{all_placed}
+use Rattle.dm_event_history.proofs.Printed.{is_cut}
 
 -- an element of two lists, one after the other, is one of the first, or one of the second
 get_either_list : {X : Type 0} (xs ys : List X) (i : ℕ) (x : X) → slice_get (xs ++ ys) i ≡ Some x →
@@ -56,4 +61,24 @@ labels_once {A} (e ∷ h) never i j a b is_a is_b same_id same_number =
             let u = names_get e.id (length e.parts) 1 e.left b_now.0 b b_now.2 in
             let at_a = a_now.1 in let at_b = b_now.1 in let number_a = t.1 in let number_b = u.1 in omega arith)
       ]
+    ]
+
+-- a print of which labels left took a number that a printer began with
+last_opened : {A : Type 0} (ranges : List Range) (desks : ℕ) (h : History A) (e : Entry A) → ArePlaced ranges h → Fits ranges desks h e → 0 < e.left →
+    IsOpened ranges e.id
+last_opened {A} ranges desks h e placed fits some =
+    by_event e.event (is_cut e.event e.reply e.parts e.left fits.lets_out some) (fits.moves (fits.left_saved some))
+  where
+    by_event : (event : Event A) → ((c : CutDocument) × (printed_by event e.parts ≡ Some c)) → MayMove ranges h e.id event → IsOpened ranges e.id
+    by_event (Print p document size scheme stop) c free = (placed e.id).opened (FreeAt p) free
+    by_event event c moves = absurd (let x = c.1 in cc (x))
+
+pub labels_opened : {A : Type 0} (ranges : List Range) (desks : ℕ) (h : History A) → AreDisjoint ranges → IsLegal ranges desks h → AreOpened ranges (out h)
+labels_opened ranges desks [] apart legal i name is = absurd (cc (is))
+labels_opened {A} ranges desks (e ∷ h) apart legal i name is =
+    elim (get_either_list (out h) (names_from e.id (length e.parts) 1 e.left) i name is) [
+      | inl before ↦ labels_opened ranges desks h apart legal.1 i name before
+      | inr now ↦
+          (let t = names_get e.id (length e.parts) 1 e.left now.0 name now.2 in
+          subst (IsOpened ranges) (sym t.0) (last_opened ranges desks h e (all_placed ranges desks h apart legal.1) legal.0 t.2))
     ]

@@ -9,5 +9,9 @@ pub mod Printed
 pub mod Fresh
 pub mod Holds
 pub mod LeftOnce
+pub mod Batches
+pub mod TakesOnce
 pub mod Faithful
 pub mod WorkedOut
+pub mod Right
+pub mod Refuted

@@ -1,76 +1,121 @@
 -- The headline, said of the events and the replies of a run alone, both from the first on: whatever document any desk
 -- gives for an identification is the one document printed under it, and no identification is ever printed twice.
-use Rattle.std.specs.Prelude.{◌≡◌, ◌<◌, ◌≤◌, ◌+◌, ◌⊎◌, ℕ, Option, Some, List, [], ◌∷◌, slice_get, take}
+use Rattle.std.specs.Prelude.{◌≡◌, ◌<◌, ◌≤◌, ◌⊎◌, ℕ, Option, None, Some, List, [], ◌∷◌, ◌++◌, length, slice_get, take, min}
 use Rattle.dm_check_blocks.specs.declared.size.Size.{Size}
 use Rattle.dm_encodation.specs.declared.scheme.Scheme.{Scheme}
+use Rattle.dm_append_label.specs.Parts.{AreParts}
 use Rattle.dm_assembly_desk.specs.declared.reply.Accepted.{Accepted}
 use Rattle.dm_event_history.specs.declared.event.Event.{Event}
 use Rattle.dm_event_history.specs.declared.event.Event.TheVariants.{Print, Scan, Ask}
 use Rattle.dm_event_history.specs.declared.reply.Reply.{Reply}
 use Rattle.dm_event_history.specs.declared.reply.Reply.TheVariants.{Printed, Scanned, Document, Stopped}
 use Rattle.dm_event_history.specs.declared.stop.Stop.{Stop}
-use Rattle.dm_event_history.specs.declared.stop.Stop.TheVariants.{AfterLabels}
+use Rattle.dm_event_history.specs.declared.stop.Stop.TheVariants as stops
+use Rattle.dm_event_history.specs.History.{LabelName, names_from}
 
--- event number i is a print of this document, which is stopped so
-abbrev pub IsPrintOf : {A : Type 0} → List (Event A) → ℕ → List ℕ → Stop → Type 0
-IsPrintOf events i document stop =
-    (printer : ℕ) × (size : Size) × (scheme : Scheme)
-    × (slice_get events i ≡ Some (Print printer document size scheme stop))
+-- labels that left by one print: the first `left` of the `n` labels of its document, under an identification
+pub record Batch : Type 0 where
+  pub id : ℕ
+  pub n : ℕ
+  pub left : ℕ
 
--- reply number i tells of a print under this identification
-abbrev pub TellsOfPrint : {A : Type 0} → List (Reply A) → ℕ → ℕ → Type 0
-TellsOfPrint replies i id = (first : ℕ) × (count : ℕ) × (slice_get replies i ≡ Some (Printed id first count))
+-- event number i is a print of this document with this stop, and the document is cut into n parts, one for each label
+pub record IsPrintOf {A : Type 0} (events : List (Event A)) (i : ℕ) (document : List ℕ) (n : ℕ) (stop : Stop)
+    : Type 0 where
+  pub printer : ℕ
+  pub size : Size
+  pub scheme : Scheme
+  pub event : slice_get events i ≡ Some (Print printer document size scheme stop)
+  pub parts : List (List ℕ)
+  pub are_parts : AreParts size scheme document parts
+  pub count : length parts ≡ n
 
--- event number i printed the document under this identification: it tells so, or it was stopped as labels left
-pub record PrintsUnder {A : Type 0} (events : List (Event A)) (replies : List (Reply A))
-    (i id : ℕ) (document : List ℕ) : Type 0 where
+-- reply number i tells of the batch: all labels of the document left
+pub record IsTold {A : Type 0} (replies : List (Reply A)) (i : ℕ) (batch : Batch) (stop : Stop) : Type 0 where
+  pub no_stop : stop ≡ stops.None
+  pub first : ℕ
+  pub reply : slice_get replies i ≡ Some (Printed batch.id first batch.n)
+  pub all : batch.left ≡ batch.n
+
+-- event number i was stopped when `most` labels had left, or all if there are fewer
+pub record IsStoppedAfter {A : Type 0} (replies : List (Reply A)) (i : ℕ) (batch : Batch) (stop : Stop) : Type 0 where
+  pub most : ℕ
+  pub stopped_so : stop ≡ stops.AfterLabels most
+  pub reply : slice_get replies i ≡ Some Stopped
+  pub some : batch.left ≡ min most batch.n
+
+-- the batch left by event number i, a print of this document: its reply tells so, or it was stopped as its labels left
+pub record LeftBy {A : Type 0} (events : List (Event A)) (replies : List (Reply A)) (i : ℕ) (batch : Batch)
+    (document : List ℕ) : Type 0 where
   pub stop : Stop
-  pub is_print : IsPrintOf events i document stop
-  pub ends : TellsOfPrint replies i id ⊎ ((slice_get replies i ≡ Some Stopped) × (most : ℕ) × (stop ≡ AfterLabels most))
+  pub is_print : IsPrintOf events i document batch.n stop
+  pub ends : IsTold replies i batch stop ⊎ IsStoppedAfter replies i batch stop
+  pub not_none : 1 ≤ batch.left
 
-abbrev pub total : List ℕ → ℕ
-total [] = 0
-total (count ∷ counts) = count + total counts
+-- the labels of all batches, the first of them first
+abbrev pub labels_of : List (Option Batch) → List LabelName
+labels_of [] = []
+labels_of (None ∷ batches) = labels_of batches
+labels_of (Some batch ∷ batches) = names_from batch.id batch.n 1 batch.left ++ labels_of batches
 
--- the label of this number, from 0, is label m of event number j, where that many labels left by each event
-pub record IsLabelBy (counts : List ℕ) (j m label : ℕ) : Type 0 where
-  pub count : ℕ
-  pub left : slice_get counts j ≡ Some count
-  pub first : 1 ≤ m
-  pub last : m ≤ count
-  pub number : label + 1 ≡ total (take j counts) + m
+-- event number i is a scan of a label of this name, which had left
+pub record IsScanOf {A : Type 0} (batches : List (Option Batch)) (events : List (Event A)) (i : ℕ) (name : LabelName)
+    : Type 0 where
+  pub desk : ℕ
+  pub label : ℕ
+  pub flips : List (ℕ × ℕ)
+  pub stop : Stop
+  pub event : slice_get events i ≡ Some (Scan desk label flips stop)
+  pub had_left : slice_get (labels_of (take i batches)) label ≡ Some name
 
--- Each event has in `ids` the identification under which labels left by it, if any did, and in `counts` how many did. No
--- identification comes twice.
-pub record PrintsOnceBy {A : Type 0} (ids : List (Option ℕ)) (counts : List ℕ) (events : List (Event A))
-    (replies : List (Reply A)) : Type 0 where
+-- event number j, before number i, printed the document under this identification, and each of its labels was scanned
+-- before number i
+pub record WasPrinted {A : Type 0} (batches : List (Option Batch)) (events : List (Event A)) (replies : List (Reply A))
+    (i id : ℕ) (document : List ℕ) : Type 0 where
+  pub j : ℕ
+  pub before : j < i
+  pub batch : Batch
+  pub there : slice_get batches j ≡ Some (Some batch)
+  pub id_is : batch.id ≡ id
+  pub printed : LeftBy events replies j batch document
+  pub scanned : (m : ℕ) → 1 ≤ m → m ≤ batch.n →
+      (k : ℕ) × (k < i) × IsScanOf batches events k (record { id = id; number = m; count = batch.n })
+
+-- Each event has a reply, and its batch in `batches`, if labels left by it. No identification comes twice.
+pub record PrintsOnceBy {A : Type 0} (batches : List (Option Batch)) (events : List (Event A)) (replies : List (Reply A))
+    : Type 0 where
+  pub each_reply : length replies ≡ length events
+  pub each_batch : length batches ≡ length events
   -- what a reply says was printed was printed, in that many labels, numbered on from those that left before
   pub told : (i id first count : ℕ) → slice_get replies i ≡ Some (Printed id first count) →
-      (slice_get ids i ≡ Some (Some id)) × (slice_get counts i ≡ Some count) × (first ≡ total (take i counts))
-  -- what left by an event left under an identification, and what was printed is a print's document
-  pub left : (i count : ℕ) → slice_get counts i ≡ Some count → 1 ≤ count → (id : ℕ) × (slice_get ids i ≡ Some (Some id))
-  pub printed : (i id : ℕ) → slice_get ids i ≡ Some (Some id) →
-      (document : List ℕ) × PrintsUnder events replies i id document
+      (slice_get batches i ≡ Some (Some (record { id = id; n = count; left = count })))
+      × (first ≡ length (labels_of (take i batches)))
+  -- each batch left by a print of some document
+  pub printed : (i : ℕ) (batch : Batch) → slice_get batches i ≡ Some (Some batch) →
+      (document : List ℕ) × LeftBy events replies i batch document
   -- no identification is ever printed twice
-  pub once : (i j id : ℕ) → slice_get ids i ≡ Some (Some id) → slice_get ids j ≡ Some (Some id) → i ≡ j
+  pub once : (i j : ℕ) (one other : Batch) → slice_get batches i ≡ Some (Some one) →
+      slice_get batches j ≡ Some (Some other) → one.id ≡ other.id → i ≡ j
 
 -- no identification is ever printed twice
 abbrev pub PrintsOnce : {A : Type 0} → List (Event A) → List (Reply A) → Type 0
-PrintsOnce events replies = (ids : List (Option ℕ)) × (counts : List ℕ) × PrintsOnceBy ids counts events replies
+PrintsOnce events replies = (batches : List (Option Batch)) × PrintsOnceBy batches events replies
 
 -- what desks tell of labels and documents is as they were printed
-pub record IsFaithfulBy {A : Type 0} (ids : List (Option ℕ)) (counts : List ℕ) (events : List (Event A))
-    (replies : List (Reply A)) : Type 0 where
-  pub prints : PrintsOnceBy ids counts events replies
-  -- the page that a desk tells of a scanned label is that of the label, and the label left before
-  pub scanned : (i desk label : ℕ) (flips : List (ℕ × ℕ)) (stop : Stop) (accepted : Accepted) →
-      slice_get events i ≡ Some (Scan desk label flips stop) → slice_get replies i ≡ Some (Scanned accepted) →
-      (j : ℕ) × (j < i) × (slice_get ids j ≡ Some (Some accepted.id)) × IsLabelBy counts j accepted.m label
-  -- whatever document any desk gives for an identification was printed under it before
-  pub given : (i desk id : ℕ) (document : List ℕ) →
-      slice_get events i ≡ Some (Ask desk id) → slice_get replies i ≡ Some (Document document) →
-      (j : ℕ) × (j < i) × (slice_get ids j ≡ Some (Some id)) × PrintsUnder events replies j id document
+pub record IsFaithfulBy {A : Type 0} (batches : List (Option Batch)) (events : List (Event A)) (replies : List (Reply A))
+    : Type 0 where
+  pub prints : PrintsOnceBy batches events replies
+  -- the page that a desk tells of a scanned label is that of the label, which had left
+  pub scanned : (i : ℕ) (accepted : Accepted) → slice_get replies i ≡ Some (Scanned accepted) →
+      IsScanOf batches events i (record { id = accepted.id; number = accepted.m; count = accepted.n })
+  -- whatever document any desk gives is asked for by an identification, and was printed under it before
+  pub given : (i : ℕ) (document : List ℕ) → slice_get replies i ≡ Some (Document document) →
+      (desk id : ℕ) × (slice_get events i ≡ Some (Ask desk id)) × WasPrinted batches events replies i id document
+  -- and it is the one document: any other that is given for it, by any desk, is the same
+  pub same : (i j desk at id : ℕ) (one other : List ℕ) →
+      slice_get events i ≡ Some (Ask desk id) → slice_get replies i ≡ Some (Document one) →
+      slice_get events j ≡ Some (Ask at id) → slice_get replies j ≡ Some (Document other) → one ≡ other
 
 -- the headline
 abbrev pub IsFaithful : {A : Type 0} → List (Event A) → List (Reply A) → Type 0
-IsFaithful events replies = (ids : List (Option ℕ)) × (counts : List ℕ) × IsFaithfulBy ids counts events replies
+IsFaithful events replies = (batches : List (Option Batch)) × IsFaithfulBy batches events replies

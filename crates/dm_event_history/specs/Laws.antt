@@ -4,11 +4,12 @@ use Rattle.dm_print_ledger.specs.declared.range.Range.{Range}
 use Rattle.dm_print_ledger.specs.Ranges.{is_in}
 use Rattle.dm_event_history.specs.History.{History, docs, events_of, out, replies_of}
 use Rattle.dm_event_history.specs.Numbers.{free_at}
-use Rattle.dm_event_history.specs.Places.{ArePlaced, IsNoTicketTakenTwice}
+use Rattle.dm_event_history.specs.Places.{ArePlaced, AreOpened, IsNoTicketTakenTwice}
 use Rattle.dm_event_history.specs.Holding.{IsSurelyHeld, IsPossiblyHeld}
 use Rattle.dm_event_history.specs.Legal.{AreDisjoint, IsLegal, IsNoLabelTwice, NeverTwice, MayBeTaken}
 use Rattle.dm_event_history.specs.Safe.{IsSafe}
 use Rattle.dm_event_history.specs.Headline.{PrintsOnce, IsFaithful}
+use Rattle.dm_event_history.specs.Tickets.{TakesOnce}
 
 -- so it is of each legal history of printers that begin with disjoint ranges
 abbrev pub InLegal : (A : Type 0) → (List Range → History A → Type 0) → Type 0
@@ -43,9 +44,17 @@ SurelyIsPossibly A = (h : History A) → IsSafe h →
 abbrev pub NoLabelTwice : Type 0 → Type 0
 NoLabelTwice A = InLegal A (λ ranges h. IsNoLabelTwice (out h))
 
+-- each label that left has an identification that a printer began with
+abbrev pub LabelsAreOpened : Type 0 → Type 0
+LabelsAreOpened A = InLegal A (λ ranges h. AreOpened ranges (out h))
+
 -- no identification is printed twice, said of the events and replies alone
 abbrev pub LegalPrintsOnce : Type 0 → Type 0
 LegalPrintsOnce A = InLegal A (λ ranges h. PrintsOnce (events_of h) (replies_of h))
+
+-- no ticket is taken twice, said of the events and replies alone
+abbrev pub LegalTakesOnce : Type 0 → Type 0
+LegalTakesOnce A = InLegal A (λ ranges h. TakesOnce (events_of h) (replies_of h))
 
 -- the headline: legal and safe histories are faithful
 abbrev pub LegalAndSafeIsFaithful : Type 0 → Type 0

@@ -10,5 +10,7 @@ pub mod Legal
 pub mod Honest
 pub mod Safe
 pub mod Headline
+pub mod Tickets
 pub mod Worked
+pub mod Unfaithful
 pub mod Laws

@@ -1,12 +1,12 @@
 -- Where each identification is: free at a printer, on a ticket, used, or lost.
-use Rattle.std.specs.Prelude.{◌≡◌, ℕ, Bool, true, false, ◌&&◌, ◌||◌, not, ◌==◌, List, [], ◌∷◌, slice_get}
+use Rattle.std.specs.Prelude.{◌≡◌, ℕ, Bool, true, false, ◌&&◌, ◌||◌, not, ◌==◌, Some, List, [], ◌∷◌, slice_get}
 use Rattle.dm_print_ledger.specs.declared.range.Range.{Range}
 use Rattle.dm_print_ledger.specs.Ranges.{is_in}
 use Rattle.dm_event_history.specs.declared.event.Event.{Event}
 use Rattle.dm_event_history.specs.declared.event.Event.TheVariants.{Print, Give, Take}
 use Rattle.dm_event_history.specs.declared.reply.Reply.{Reply}
 use Rattle.dm_event_history.specs.declared.reply.Reply.TheVariants.{Given}
-use Rattle.dm_event_history.specs.History.{History, tickets}
+use Rattle.dm_event_history.specs.History.{History, LabelName, tickets}
 use Rattle.dm_event_history.specs.Numbers.{free_at, is_in_some, is_on}
 
 -- the event takes the ticket of this number
@@ -61,6 +61,10 @@ is_at ranges h number Lost = is_lost h number
 -- a printer began with this number
 abbrev pub IsOpened : List Range → ℕ → Type 0
 IsOpened ranges number = (printer : ℕ) × (is_in_some (slice_get ranges printer) number ≡ true)
+
+-- each label has an identification that a printer began with
+abbrev pub AreOpened : List Range → List LabelName → Type 0
+AreOpened ranges names = (i : ℕ) (name : LabelName) → slice_get names i ≡ Some name → IsOpened ranges name.id
 
 -- a number that a printer began with is in just one place, and any other in none
 pub record IsPlaced {A : Type 0} (ranges : List Range) (h : History A) (number : ℕ) : Type 0 where

@@ -1,8 +1,9 @@
 //! Laws of histories: each function's contract is the law. They speak of definitions alone, so the functions do
 //! nothing.
 
-ghost use Rattle.dm_event_history.specs.Laws.{EachNumberHasAPlace, FreeIsFresh, LegalPrintsOnce, NothingTwice};
-ghost use Rattle.dm_event_history.specs.Laws.{NoLabelTwice, TicketsAreElsewhere, SurelyIsPossibly, LegalAndSafeIsFaithful};
+ghost use Rattle.dm_event_history.specs.Laws.{EachNumberHasAPlace, FreeIsFresh, LegalPrintsOnce, LegalTakesOnce, NothingTwice};
+ghost use Rattle.dm_event_history.specs.Laws.{LabelsAreOpened, NoLabelTwice, TicketsAreElsewhere, SurelyIsPossibly, LegalAndSafeIsFaithful};
+ghost use Rattle.dm_event_history.specs.Unfaithful.{AreUnfaithful, IsOneFaithful};
 ghost use Rattle.dm_event_history.specs.Worked.{MovedIs, StoppedIs, TravelledIs};
 
 use std::alloc::Allocator;
@@ -19,9 +20,11 @@ pub fn nothing_twice<A: Allocator>()
     ensures { NothingTwice A }
 {}
 
-/// In such a history no label leaves twice: no two that left have one identification and one number.
+/// In such a history no label leaves twice: no two that left have one identification and one number. And each has an
+/// identification that a printer began with.
 pub fn no_label_twice<A: Allocator>()
-    ensures { NoLabelTwice A }
+    ensures once { NoLabelTwice A }
+    ensures opened { LabelsAreOpened A }
 {}
 
 /// In such a history no number of a ticket that a printer may take is free at any printer.
@@ -39,6 +42,12 @@ pub fn legal_prints_once<A: Allocator>()
     ensures { LegalPrintsOnce A }
 {}
 
+/// In such a history each ticket that is taken was given to that printer, and none is taken twice or refused for an
+/// overlap: said of the events and replies alone.
+pub fn legal_takes_once<A: Allocator>()
+    ensures { LegalTakesOnce A }
+{}
+
 /// The headline: in a legal and safe history of printers that begin with disjoint ranges, whatever document any desk
 /// gives for an identification is the one document printed under it, and no identification is ever printed twice.
 pub fn legal_and_safe_is_faithful<A: Allocator>()
@@ -51,4 +60,11 @@ pub fn worked_histories<A: Allocator>()
     ensures moved { MovedIs A }
     ensures travelled { TravelledIs A }
     ensures stopped { StoppedIs A }
+{}
+
+/// Runs of events and replies: one that is faithful, and those that are not, or whose tickets are not taken once, each
+/// of which is refuted.
+pub fn worked_runs<A: Allocator>()
+    ensures faithful { IsOneFaithful A }
+    ensures unfaithful { AreUnfaithful A }
 {}

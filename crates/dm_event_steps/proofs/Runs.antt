@@ -10,14 +10,19 @@ use Rattle.dm_event_history.specs.declared.reply.Reply.{Reply}
 use Rattle.dm_event_history.specs.History.{Entry, History, out, names_from, events_of, replies_of}
 use Rattle.dm_event_history.specs.Legal.{IsLegal, IsThere, NeverTwice, IsNoLabelTwice}
 use Rattle.dm_event_history.specs.Honest.{IsFair, IsHonest}
-use Rattle.dm_event_history.specs.Headline.{PrintsOnce, IsFaithful}
+use Rattle.dm_event_history.specs.Headline.{PrintsOnceBy, IsFaithfulBy}
+use Rattle.dm_event_history.specs.Places.{AreOpened}
+use Rattle.dm_event_history.specs.Tickets.{TakesOnce}
 use Rattle.dm_event_history.proofs.Gotten.{get_beyond}
 use Rattle.std.proofs.lemmas.Option.{slice_get_within}
 use Rattle.dm_event_history.proofs.Fresh.{all_placed, never_twice}
-use Rattle.dm_event_history.proofs.LeftOnce.{labels_once}
-use Rattle.dm_event_history.proofs.Faithful.{ids_of, counts_of, prints_once, is_faithful}
-use Rattle.dm_event_steps.specs.Labels.{name_of, grid_of}
-use Rattle.dm_event_steps.specs.Worlds.{WorldView, left_of, grids_of, StandsFor, IsFairIn, Steps, Runs, RunsFairly}
+use Rattle.dm_event_history.proofs.LeftOnce.{labels_once, labels_opened}
+use Rattle.dm_event_history.proofs.Batches.{batches_of, out_is, prints_once}
+use Rattle.dm_event_history.proofs.TakesOnce.{takes_once}
+use Rattle.dm_event_history.proofs.Faithful.{IsPrintedBy, printed_at, is_faithful}
+use Rattle.dm_event_history.proofs.Printed.{printed_cut}
+use Rattle.dm_event_steps.specs.Labels.{name_of, grid_of, ShowsDocument}
+use Rattle.dm_event_steps.specs.Worlds.{WorldView, left_of, grids_of, StandsFor, IsFairIn, Steps, Runs, RunsFairly, AreItsBatches, HasPrintedOnce, AreItsLabels, HasBeenFaithful}
 use Rattle.dm_event_steps.proofs.EachPrinter.{printer_goes}
 use Rattle.dm_event_steps.proofs.WorldGoing.{grids_more}
 use Rattle.dm_event_steps.proofs.Stepping.{named_of, there_of}
@@ -155,33 +160,70 @@ fairly_on {A} ranges capacities h old new (event ∷ events) (reply ∷ replies)
 fairly_on ranges capacities h old new [] (reply ∷ replies) s honest runs = absurd runs
 fairly_on ranges capacities h old new (event ∷ events) [] s honest runs = absurd runs
 
+-- the labels that left by a run are those of its batches, and show their documents
+its_batches : {A : Type 0} (ranges : List Range) (capacities : List ℕ) (world : WorldView A) (h : History A) → StandsFor ranges capacities world h →
+    AreItsBatches world (batches_of h) (events_of h) (replies_of h)
+its_batches {A} ranges capacities world h s = record {
+  labels = out_is h ∙ sym s.left.names;
+  shown = λ i label there.
+      (let d : ShowsDocument h label = s.labels i label there in
+      let p : IsPrintedBy h label.id d.document = printed_at ranges (length capacities) h label.id d.document s.legal d.printed in record {
+        j = p.j;
+        batch = p.batch;
+        there = p.there;
+        id_is = p.id_is;
+        document = d.document;
+        printed = p.printed;
+        are_parts = printed_cut ranges (length capacities) h label.id d.document s.legal d.printed;
+        bytes = d.bytes;
+        part = d.part;
+        carries = d.carries;
+      });
+}
+
 pub run_once : {A : Type 0} (ranges : List Range) (capacities : List ℕ) (old new : WorldView A) (events : List (Event A)) (replies : List (Reply A)) →
-    StandsFor ranges capacities old [] → Runs old events replies new → PrintsOnce events replies × IsNoLabelTwice (map name_of new.labels)
+    StandsFor ranges capacities old [] → Runs old events replies new → HasPrintedOnce new events replies × AreItsLabels ranges new
 run_once {A} ranges capacities old new events replies s runs =
     let none : History A = [] in
     let r : HasRun ranges capacities none events replies new = runs_on ranges capacities none old new events replies s runs in
     let legal = r.stands.legal in
     let never : NeverTwice r.after = never_twice ranges (length capacities) r.after r.stands.disjoint legal in (
-      subst (λ (l : List (Event A)). PrintsOnce l replies) r.events_are
-          (subst (λ (l : List (Reply A)). PrintsOnce (events_of r.after) l) r.replies_are (
-            ids_of r.after,
-            counts_of r.after,
-            prints_once ranges (length capacities) r.after legal never,
-          )),
-      subst IsNoLabelTwice (sym r.stands.left.names) (labels_once r.after never),
+      (
+        batches_of r.after,
+        subst (λ (l : List (Event A)). AreItsBatches new (batches_of r.after) l replies) r.events_are
+            (subst (λ (l : List (Reply A)). AreItsBatches new (batches_of r.after) (events_of r.after) l) r.replies_are
+            (its_batches ranges capacities new r.after r.stands)),
+        subst (λ (l : List (Event A)). PrintsOnceBy (batches_of r.after) l replies) r.events_are
+            (subst (λ (l : List (Reply A)). PrintsOnceBy (batches_of r.after) (events_of r.after) l) r.replies_are
+            (prints_once ranges (length capacities) r.after legal never)),
+      ),
+      (
+        subst IsNoLabelTwice (sym r.stands.left.names) (labels_once r.after never),
+        subst (AreOpened ranges) (sym r.stands.left.names) (labels_opened ranges (length capacities) r.after r.stands.disjoint legal),
+      ),
     )
 
+pub run_takes : {A : Type 0} (ranges : List Range) (capacities : List ℕ) (old new : WorldView A) (events : List (Event A)) (replies : List (Reply A)) →
+    StandsFor ranges capacities old [] → Runs old events replies new → TakesOnce events replies
+run_takes {A} ranges capacities old new events replies s runs =
+    let none : History A = [] in
+    let r : HasRun ranges capacities none events replies new = runs_on ranges capacities none old new events replies s runs in
+    subst (λ (l : List (Event A)). TakesOnce l replies) r.events_are
+    (subst (λ (l : List (Reply A)). TakesOnce (events_of r.after) l) r.replies_are (takes_once ranges (length capacities) r.after r.stands.legal))
+
 pub fair_run : {A : Type 0} (ranges : List Range) (capacities : List ℕ) (old new : WorldView A) (events : List (Event A)) (replies : List (Reply A)) →
-    StandsFor ranges capacities old [] → RunsFairly old events replies new → IsFaithful events replies
+    StandsFor ranges capacities old [] → RunsFairly old events replies new → HasBeenFaithful new events replies
 fair_run {A} ranges capacities old new events replies s runs =
     let none : History A = [] in
     let f = fairly_on ranges capacities none old new events replies s tt runs in
     let r : HasRun ranges capacities none events replies new = f.0 in
-    let legal = r.stands.legal in
-    subst (λ (l : List (Event A)). IsFaithful l replies) r.events_are
-    (subst (λ (l : List (Reply A)). IsFaithful (events_of r.after) l) r.replies_are (
-      ids_of r.after,
-      counts_of r.after,
-      is_faithful ranges (length capacities) r.after legal
-          (never_twice ranges (length capacities) r.after r.stands.disjoint legal) (r.stands.safe f.1),
-    ))
+    let legal = r.stands.legal in (
+      batches_of r.after,
+      subst (λ (l : List (Event A)). AreItsBatches new (batches_of r.after) l replies) r.events_are
+          (subst (λ (l : List (Reply A)). AreItsBatches new (batches_of r.after) (events_of r.after) l) r.replies_are
+          (its_batches ranges capacities new r.after r.stands)),
+      subst (λ (l : List (Event A)). IsFaithfulBy (batches_of r.after) l replies) r.events_are
+          (subst (λ (l : List (Reply A)). IsFaithfulBy (batches_of r.after) (events_of r.after) l) r.replies_are
+          (is_faithful ranges (length capacities) r.after legal
+          (never_twice ranges (length capacities) r.after r.stands.disjoint legal) (r.stands.safe f.1))),
+    )

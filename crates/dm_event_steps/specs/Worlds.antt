@@ -1,7 +1,9 @@
 -- Worlds of printers and desks: which histories a world stands for, and what one step of it does.
-use Rattle.std.specs.Prelude.{◌≡◌, ◌⊎◌, ◌<◌, ℕ, Some, List, [], ◌∷◌, length, map, slice_get, slice_set, All}
+use Rattle.std.specs.Prelude.{◌≡◌, ◌⊎◌, ◌<◌, ℕ, Option, Some, List, [], ◌∷◌, length, map, slice_get, slice_set, All}
 use Rattle.dm_check_blocks.specs.Sizes.{side}
 use Rattle.dm_finder_frame.specs.Grids.{GridView}
+use Rattle.dm_append_label.specs.Labels.{Carries}
+use Rattle.dm_append_label.specs.Parts.{AreParts}
 use Rattle.dm_print_ledger.specs.declared.range.Range.{Range}
 use Rattle.dm_print_ledger.specs.Views.{TicketView}
 use Rattle.dm_event_history.specs.declared.event.Event.{Event}
@@ -9,17 +11,19 @@ use Rattle.dm_event_history.specs.declared.event.Event.TheVariants.{Print, Scan,
 use Rattle.dm_event_history.specs.declared.reply.Reply.{Reply}
 use Rattle.dm_event_history.specs.declared.reply.Reply.TheVariants.{NoSuch}
 use Rattle.dm_event_history.specs.Actors.{PrinterAt, DeskAt, actor_of}
-use Rattle.dm_event_history.specs.History.{Entry, History, exports}
+use Rattle.dm_event_history.specs.History.{Entry, History, CutDocument, exports}
 use Rattle.dm_event_history.specs.Legal.{AreDisjoint, IsLegal, IsNoLabelTwice}
 use Rattle.dm_event_history.specs.Honest.{IsFair, IsHonest, AreHonestReplies}
 use Rattle.dm_event_history.specs.Safe.{IsSafe}
-use Rattle.dm_event_history.specs.Headline.{PrintsOnce, IsFaithful}
+use Rattle.dm_event_history.specs.Headline.{Batch, LeftBy, labels_of, PrintsOnceBy, IsFaithfulBy}
+use Rattle.dm_event_history.specs.Places.{AreOpened}
+use Rattle.dm_event_history.specs.Tickets.{TakesOnce}
 use Rattle.dm_event_steps.specs.declared.actor.PrinterActor.{PrinterActor}
 use Rattle.dm_event_steps.specs.declared.actor.DeskActor.{DeskActor}
 use Rattle.dm_event_steps.specs.declared.actor.DeskState.{DeskState}
 use Rattle.dm_event_steps.specs.declared.actor.LeftLabel.{LeftLabel}
 use Rattle.dm_event_steps.specs.declared.actor.LeftExport.{LeftExport}
-use Rattle.dm_event_steps.specs.Labels.{name_of, grid_of, ShowsDocument}
+use Rattle.dm_event_steps.specs.Labels.{name_of, grid_of, IsPart, ShowsDocument}
 use Rattle.dm_event_steps.specs.Exports.{export_name_of, ShowsPages}
 use Rattle.dm_event_steps.specs.Stands.{PrinterStands}
 use Rattle.dm_event_steps.specs.DeskStands.{DeskStands}
@@ -140,12 +144,48 @@ Runs {A} old (event ∷ events) (reply ∷ replies) new =
 Runs old [] (reply ∷ replies) new = ⊥
 Runs old (event ∷ events) [] new = ⊥
 
+-- the label carries its part of the document of its batch
+pub record ShowsBatch {A : Type 0} (batches : List (Option Batch)) (events : List (Event A)) (replies : List (Reply A))
+    (label : LeftLabel A) : Type 0 where
+  pub j : ℕ
+  pub batch : Batch
+  pub there : slice_get batches j ≡ Some (Some batch)
+  pub id_is : batch.id ≡ label.id
+  pub document : CutDocument
+  pub printed : LeftBy events replies j batch document.bytes
+  pub are_parts : AreParts document.size document.scheme document.bytes document.parts
+  pub bytes : List ℕ
+  pub part : IsPart document label.number bytes
+  pub carries : Carries (record { id = label.id; m = label.number; n = label.count; bytes = bytes }) label.grid
+
+-- the labels of the batches are just those that left the world, and each of these carries a part of its document
+pub record AreItsBatches {A : Type 0} (world : WorldView A) (batches : List (Option Batch)) (events : List (Event A))
+    (replies : List (Reply A)) : Type 0 where
+  pub labels : labels_of batches ≡ map name_of world.labels
+  pub shown : (i : ℕ) (label : LeftLabel A) → slice_get world.labels i ≡ Some label →
+      ShowsBatch batches events replies label
+
+-- no identification was printed twice, and just the world's labels left
+abbrev pub HasPrintedOnce : {A : Type 0} → WorldView A → List (Event A) → List (Reply A) → Type 0
+HasPrintedOnce world events replies =
+    (batches : List (Option Batch)) × AreItsBatches world batches events replies × PrintsOnceBy batches events replies
+
+-- no label left the world twice, and each has an identification that a printer began with
+abbrev pub AreItsLabels : {A : Type 0} → List Range → WorldView A → Type 0
+AreItsLabels ranges world = IsNoLabelTwice (map name_of world.labels) × AreOpened ranges (map name_of world.labels)
+
 -- a world that begins prints no identification twice, and lets no label out twice, whatever its events are
 abbrev pub EachRunPrintsOnce : Type 0 → Type 0
 EachRunPrintsOnce A = (ranges : List Range) (capacities : List ℕ) (old new : WorldView A)
     (events : List (Event A)) (replies : List (Reply A)) →
     StandsFor ranges capacities old [] → Runs old events replies new →
-    PrintsOnce events replies × IsNoLabelTwice (map name_of new.labels)
+    HasPrintedOnce new events replies × AreItsLabels ranges new
+
+-- nor is a ticket taken twice in it
+abbrev pub EachRunTakesOnce : Type 0 → Type 0
+EachRunTakesOnce A = (ranges : List Range) (capacities : List ℕ) (old new : WorldView A)
+    (events : List (Event A)) (replies : List (Reply A)) →
+    StandsFor ranges capacities old [] → Runs old events replies new → TakesOnce events replies
 
 -- the world takes these events on, each of them fair, and replies so
 abbrev pub RunsFairly : {A : Type 0} → WorldView A → List (Event A) → List (Reply A) → WorldView A → Type 0
@@ -155,8 +195,13 @@ RunsFairly {A} old (event ∷ events) (reply ∷ replies) new =
 RunsFairly old [] (reply ∷ replies) new = ⊥
 RunsFairly old (event ∷ events) [] new = ⊥
 
+-- the replies are faithful, and just the world's labels left
+abbrev pub HasBeenFaithful : {A : Type 0} → WorldView A → List (Event A) → List (Reply A) → Type 0
+HasBeenFaithful world events replies =
+    (batches : List (Option Batch)) × AreItsBatches world batches events replies × IsFaithfulBy batches events replies
+
 -- the headline: a world that begins, and runs fairly, is faithful
 abbrev pub EachFairRunIsFaithful : Type 0 → Type 0
 EachFairRunIsFaithful A = (ranges : List Range) (capacities : List ℕ) (old new : WorldView A)
     (events : List (Event A)) (replies : List (Reply A)) →
-    StandsFor ranges capacities old [] → RunsFairly old events replies new → IsFaithful events replies
+    StandsFor ranges capacities old [] → RunsFairly old events replies new → HasBeenFaithful new events replies

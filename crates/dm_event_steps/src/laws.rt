@@ -2,7 +2,7 @@
 
 ghost use Rattle.dm_event_steps.specs.Beginning.{EachBeginningStands};
 ghost use Rattle.dm_event_steps.specs.Goes.{EachPrinterGoesOn};
-ghost use Rattle.dm_event_steps.specs.Worlds.{EachFairRunIsFaithful, EachRunPrintsOnce, EachStepStands};
+ghost use Rattle.dm_event_steps.specs.Worlds.{EachFairRunIsFaithful, EachRunPrintsOnce, EachRunTakesOnce, EachStepStands};
 
 use std::alloc::Allocator;
 
@@ -28,6 +28,12 @@ pub fn each_step_stands<A: Allocator + Copy>()
 /// whatever its events are.
 pub fn each_run_prints_once<A: Allocator + Copy>()
     ensures { EachRunPrintsOnce A }
+{}
+
+/// In such a world each ticket that is taken was given to that printer, and none is taken twice or refused for an
+/// overlap, whatever its events are.
+pub fn each_run_takes_once<A: Allocator + Copy>()
+    ensures { EachRunTakesOnce A }
 {}
 
 /// The headline: whatever a world answers that begins with printers of disjoint ranges, whose scans are near the labels

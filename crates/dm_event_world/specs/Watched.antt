@@ -1,13 +1,11 @@
 -- Runs in which each event is looked at first, and what is so of their answers: the headline.
-use Rattle.std.specs.Prelude.{◌≡◌, ◌↔◌, ℕ, Bool, true, List, [], ◌∷◌, map}
+use Rattle.std.specs.Prelude.{◌≡◌, ◌↔◌, ℕ, true, List, [], ◌∷◌}
 use Rattle.dm_print_ledger.specs.declared.range.Range.{Range}
 use Rattle.dm_event_history.specs.declared.event.Event.{Event}
 use Rattle.dm_event_history.specs.declared.event.Event.TheVariants.{Scan}
 use Rattle.dm_event_history.specs.declared.reply.Reply.{Reply}
 use Rattle.dm_event_history.specs.Headline.{IsFaithful}
-use Rattle.dm_event_history.specs.Legal.{IsNoLabelTwice}
-use Rattle.dm_event_steps.specs.Labels.{name_of}
-use Rattle.dm_event_steps.specs.Worlds.{WorldView, IsNamed, IsFairIn, Steps}
+use Rattle.dm_event_steps.specs.Worlds.{WorldView, IsNamed, IsFairIn, Steps, HasPrintedOnce, HasBeenFaithful, AreItsLabels}
 use Rattle.dm_event_world.specs.Openings.{Begins}
 use Rattle.dm_event_world.specs.declared.answers.Answer.{Answer}
 use Rattle.dm_event_world.specs.declared.answers.Answer.TheVariants.{Given, NotGiven}
@@ -58,8 +56,15 @@ AnswersAll {A} old (event ∷ events) (answer ∷ answers) new =
 AnswersAll old [] (answer ∷ answers) new = ⊥
 AnswersAll old (event ∷ events) [] new = ⊥
 
--- a world began with these ranges and capacities, and answered the events so; no label left it twice
-abbrev pub RunsFromTheStart : {A : Type 0} → List Range → List ℕ → List (Event A) → List (Answer A) → Type 0
-RunsFromTheStart {A} ranges capacities events answers =
-    (old : WorldView A) × (new : WorldView A) × Begins ranges capacities old × AnswersAll old events answers new
-    × IsNoLabelTwice (map name_of new.labels)
+-- A world began with these ranges and capacities, and answered the events so. No identification was printed twice, and if
+-- each event was found honest, the replies are faithful: in both, by batches of just the labels that left the world, each
+-- of which carries a part of the document of its batch. No label left the world twice.
+pub record RunsFromTheStart {A : Type 0} (ranges : List Range) (capacities : List ℕ) (events : List (Event A))
+    (answers : List (Answer A)) : Type 0 where
+  pub old : WorldView A
+  pub new : WorldView A
+  pub begins : Begins ranges capacities old
+  pub answered : AnswersAll old events answers new
+  pub printed_once : HasPrintedOnce new (given events answers) (replies answers)
+  pub faithful : AreHonest answers → HasBeenFaithful new (given events answers) (replies answers)
+  pub labels : AreItsLabels ranges new

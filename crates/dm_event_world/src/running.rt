@@ -2,6 +2,7 @@
 
 ghost use Rattle.std.specs.Prelude.{◌≡◌, IfOk, IfErr, OnErr};
 ghost use Rattle.dm_event_history.specs.Headline.{PrintsOnce};
+ghost use Rattle.dm_event_history.specs.Tickets.{TakesOnce};
 ghost use Rattle.dm_event_steps.specs.Worlds.{Runs};
 ghost use Rattle.dm_event_world.specs.Openings.{HasWorldFault};
 ghost use Rattle.dm_event_world.specs.Runs.{GoesOnByAll};
@@ -13,7 +14,7 @@ use crate::fault::WorldFault;
 use crate::steps::is_honest;
 use crate::world::World;
 use dm_event_history::{Event, Reply};
-use dm_event_steps::laws::{each_fair_run_is_faithful, each_run_prints_once};
+use dm_event_steps::laws::{each_fair_run_is_faithful, each_run_prints_once, each_run_takes_once};
 use dm_print_ledger::Range;
 use std::alloc::{AllocError, Allocator};
 
@@ -77,6 +78,8 @@ pub fn watch<A: Allocator + Copy>(
     ensures headline { IfOk result (λ answers. IsFaithfulIfHonest events.now answers.items) }
     // No identification was printed twice, whatever the events were.
     ensures once { IfOk result (λ answers. PrintsOnce (given events.now answers.items) (replies answers.items)) }
+    // Nor was a ticket taken twice.
+    ensures tickets { IfOk result (λ answers. TakesOnce (given events.now answers.items) (replies answers.items)) }
     ensures answers { IfOk result (λ answers. RunsFromTheStart ranges.now capacities.now events.now answers.items) }
     ensures refused { IfErr result (HasWorldFault ranges.now capacities.now) }
 {
@@ -85,6 +88,7 @@ pub fn watch<A: Allocator + Copy>(
         Err(fault) => return Err(fault),
     };
     each_run_prints_once::<A>();
+    each_run_takes_once::<A>();
     each_fair_run_is_faithful::<A>();
     match answer_all(alloc, &mut world, events) {
         Ok(answers) => Ok(answers),

@@ -4,23 +4,37 @@ use Rattle.dm_event_world.proofs.running.watch.Goals as goal
 
 pub returns-in-Ok-answer_all-clause-headline : goal.returns-in-Ok-answer_all-clause-headline
 returns-in-Ok-answer_all-clause-headline g c = λ honest.
-    c.each_fair_run_is_faithful.ensures c.args.ranges.now c.args.capacities.now c.in-Ok.world c.answer_all.new.world
+    (let f = c.each_fair_run_is_faithful.ensures c.args.ranges.now c.args.capacities.now c.in-Ok.world c.answer_all.new.world
     (given c.args.events.now c.in-Ok-answer_all.answers.items) (replies c.in-Ok-answer_all.answers.items) c.in-Ok.ensures.stands
-    (runs_fairly c.in-Ok.world c.answer_all.new.world c.args.events.now c.in-Ok-answer_all.answers.items c.in-Ok-answer_all.ensures honest)
+    (runs_fairly c.in-Ok.world c.answer_all.new.world c.args.events.now c.in-Ok-answer_all.answers.items c.in-Ok-answer_all.ensures honest) in
+    (f.0, f.2))
 
 pub returns-in-Ok-answer_all-clause-once : goal.returns-in-Ok-answer_all-clause-once
 returns-in-Ok-answer_all-clause-once g c =
-    (c.each_run_prints_once.ensures c.args.ranges.now c.args.capacities.now c.in-Ok.world c.answer_all.new.world
+    (let p = (c.each_run_prints_once.ensures c.args.ranges.now c.args.capacities.now c.in-Ok.world c.answer_all.new.world
     (given c.args.events.now c.in-Ok-answer_all.answers.items) (replies c.in-Ok-answer_all.answers.items) c.in-Ok.ensures.stands
-    (runs_by c.in-Ok.world c.answer_all.new.world c.args.events.now c.in-Ok-answer_all.answers.items c.in-Ok-answer_all.ensures)).0
+    (runs_by c.in-Ok.world c.answer_all.new.world c.args.events.now c.in-Ok-answer_all.answers.items c.in-Ok-answer_all.ensures)).0 in
+    (p.0, p.2))
+
+pub returns-in-Ok-answer_all-clause-tickets : goal.returns-in-Ok-answer_all-clause-tickets
+returns-in-Ok-answer_all-clause-tickets g c =
+    c.each_run_takes_once.ensures c.args.ranges.now c.args.capacities.now c.in-Ok.world c.answer_all.new.world
+    (given c.args.events.now c.in-Ok-answer_all.answers.items) (replies c.in-Ok-answer_all.answers.items) c.in-Ok.ensures.stands
+    (runs_by c.in-Ok.world c.answer_all.new.world c.args.events.now c.in-Ok-answer_all.answers.items c.in-Ok-answer_all.ensures)
 
 pub returns-in-Ok-answer_all-clause-answers : goal.returns-in-Ok-answer_all-clause-answers
-returns-in-Ok-answer_all-clause-answers g c = (
-  c.in-Ok.world,
-  c.answer_all.new.world,
-  c.in-Ok.ensures.begins,
-  c.in-Ok-answer_all.ensures,
-  (c.each_run_prints_once.ensures c.args.ranges.now c.args.capacities.now c.in-Ok.world c.answer_all.new.world
-      (given c.args.events.now c.in-Ok-answer_all.answers.items) (replies c.in-Ok-answer_all.answers.items) c.in-Ok.ensures.stands
-      (runs_by c.in-Ok.world c.answer_all.new.world c.args.events.now c.in-Ok-answer_all.answers.items c.in-Ok-answer_all.ensures)).1,
-)
+returns-in-Ok-answer_all-clause-answers g c =
+    let once = c.each_run_prints_once.ensures c.args.ranges.now c.args.capacities.now c.in-Ok.world c.answer_all.new.world
+    (given c.args.events.now c.in-Ok-answer_all.answers.items) (replies c.in-Ok-answer_all.answers.items) c.in-Ok.ensures.stands
+    (runs_by c.in-Ok.world c.answer_all.new.world c.args.events.now c.in-Ok-answer_all.answers.items c.in-Ok-answer_all.ensures) in record {
+      old = c.in-Ok.world;
+      new = c.answer_all.new.world;
+      begins = c.in-Ok.ensures.begins;
+      answered = c.in-Ok-answer_all.ensures;
+      printed_once = once.0;
+      faithful = λ honest.
+          c.each_fair_run_is_faithful.ensures c.args.ranges.now c.args.capacities.now c.in-Ok.world c.answer_all.new.world
+          (given c.args.events.now c.in-Ok-answer_all.answers.items) (replies c.in-Ok-answer_all.answers.items) c.in-Ok.ensures.stands
+          (runs_fairly c.in-Ok.world c.answer_all.new.world c.args.events.now c.in-Ok-answer_all.answers.items c.in-Ok-answer_all.ensures honest);
+      labels = once.1;
+    }

@@ -1,0 +1,206 @@
+-- In a legal history no ticket is taken twice: said of its events and replies alone.
+use Rattle.std.proofs.Common.{◌≡◌, ◌<◌, ◌+◌, ◌&&◌, ◌⊎◌, inl, inr, ℕ, zero, suc, true, Some, List, [], ◌∷◌, ◌++◌, length, slice_get, refl, ap, sym, ◌∙◌, subst, arith, eq-eqb}
+use Rattle.std.proofs.lemmas.List.{length-append}
+use Rattle.dm_print_ledger.specs.declared.range.Range.{Range}
+use Rattle.dm_print_ledger.specs.declared.fault.TakeFault.TheVariants.{Overlap}
+use Rattle.dm_print_ledger.specs.Views.{TicketView}
+use Rattle.dm_event_history.specs.declared.stop.Stop.{Stop}
+use Rattle.dm_event_history.specs.declared.event.Event.{Event}
+use Rattle.dm_event_history.specs.declared.event.Event.TheVariants.{Give, Take}
+use Rattle.dm_event_history.specs.declared.reply.Reply.{Reply}
+use Rattle.dm_event_history.specs.declared.reply.Reply.TheVariants.{Given, Taken, TakeRefused}
+use Rattle.dm_event_history.specs.History.{Entry, History, events_of, replies_of, tickets, given}
+use Rattle.dm_event_history.specs.Numbers as numbers
+use Rattle.dm_event_history.specs.Places.{takes_ticket, is_taken}
+use Rattle.dm_event_history.specs.Legal.{IsLegal, Fits, IsReply, MayMove, MayBeTaken}
+use Rattle.dm_event_history.specs.Saving.{tells_of_save}
+use Rattle.dm_event_history.specs.Tickets.{TakesTicket, WasGiven, TakesOnce}
+use Rattle.dm_event_history.proofs.Deciding.{and_so, or_left, or_right, true_false}
+use Rattle.dm_event_history.proofs.Gotten.{get_more, get_beyond}
+use Rattle.dm_event_history.proofs.TakenTickets.{not_taken}
+use Rattle.dm_event_history.proofs.Batches.{events_count, replies_count, at_last, before_or_last, in_either}
+
+-- an event took the ticket before the last one, or it is the last one
+taken_either : {A : Type 0} (h : History A) (e : Entry A) (i printer ticket : ℕ) → TakesTicket (events_of (e ∷ h)) (replies_of (e ∷ h)) i printer ticket →
+    TakesTicket (events_of h) (replies_of h) i printer ticket ⊎
+    ((i ≡ length h) × (stop : Stop) × (e.event ≡ Take printer ticket stop) × (e.reply ≡ Taken))
+taken_either {A} h e i printer ticket t =
+    elim (before_or_last (events_of h) e.event (Take printer ticket t.stop) (length h) i (events_count h) t.event) [
+      | inl asked ↦ elim (before_or_last (replies_of h) e.reply Taken (length h) i (replies_count h) t.reply) [
+        | inl answered ↦ inl (record { stop = t.stop; event = asked; reply = answered })
+        | inr last ↦ absurd (let a = get_beyond (events_of h) i (Take printer ticket t.stop) asked in let b = events_count h in let c = last.0 in omega arith)
+      ]
+      | inr asks ↦ elim (before_or_last (replies_of h) e.reply Taken (length h) i (replies_count h) t.reply) [
+        | inl answered ↦ absurd (let a = get_beyond (replies_of h) i Taken answered in let b = replies_count h in let c = asks.0 in omega arith)
+        | inr last ↦ inr (asks.0, t.stop, asks.1, last.1)
+      ]
+    ]
+
+-- a take that was answered `Taken` saved, of a ticket that was the printer's to take
+last_takes : {A : Type 0} (ranges : List Range) (desks : ℕ) (h : History A) (e : Entry A) (printer ticket : ℕ) (stop : Stop) → Fits ranges desks h e →
+    e.event ≡ Take printer ticket stop → e.reply ≡ Taken → (e.saved ≡ true) × MayBeTaken h printer ticket
+last_takes {A} ranges desks h e printer ticket stop fits event_is reply_is =
+    let saved : e.saved ≡ true = fits.told (ap (λ (r : Reply A). tells_of_save r) reply_is) in
+    (saved, subst (λ (v : Event A). MayMove ranges h e.id v) event_is (fits.moves saved))
+
+-- a ticket that an event took is taken
+was_taken : {A : Type 0} (ranges : List Range) (desks : ℕ) (h : History A) (i printer ticket : ℕ) → IsLegal ranges desks h →
+    TakesTicket (events_of h) (replies_of h) i printer ticket → is_taken h ticket ≡ true
+was_taken ranges desks [] i printer ticket legal t = absurd (let x = t.reply in cc (x))
+was_taken {A} ranges desks (e ∷ h) i printer ticket legal t = elim (taken_either h e i printer ticket t) [
+  | inl before ↦ or_right (e.saved && takes_ticket e.event ticket) (is_taken h ticket) (was_taken ranges desks h i printer ticket legal.1 before)
+  | inr last ↦ or_left (e.saved && takes_ticket e.event ticket) (is_taken h ticket)
+      (and_so e.saved (takes_ticket e.event ticket) (last_takes ranges desks h e printer ticket last.1 legal.0 last.2 last.3).0
+      (ap (λ (v : Event A). takes_ticket v ticket) last.2 ∙ eq-eqb ticket ticket refl))
+]
+
+given_more : {A : Type 0} (events : List (Event A)) (replies : List (Reply A)) (event : Event A) (reply : Reply A) (i later printer ticket : ℕ) →
+    i < suc later → WasGiven events replies i printer ticket → WasGiven (events ++ event ∷ []) (replies ++ reply ∷ []) later printer ticket
+given_more events replies event reply i later printer ticket after w =
+    let before : w.j < i = w.before in record {
+      j = w.j;
+      before = omega arith;
+      giver = w.giver;
+      serial = w.serial;
+      range = w.range;
+      stop = w.stop;
+      event = get_more events (event ∷ []) w.j (Give w.giver printer w.range w.stop) w.event;
+      reply = get_more replies (reply ∷ []) w.j
+          (Given ticket (record { giver = w.giver; serial = w.serial; receiver = printer; range = w.range })) w.reply;
+    }
+
+-- each ticket was given, to its receiver
+given_at : {A : Type 0} (ranges : List Range) (desks : ℕ) (h : History A) (k : ℕ) (ticket : TicketView) → IsLegal ranges desks h →
+    slice_get (tickets h) k ≡ Some ticket → WasGiven (events_of h) (replies_of h) (length h) ticket.receiver k
+given_at ranges desks [] k ticket legal there = cc
+given_at {A} ranges desks (e ∷ h) k ticket legal there = elim (in_either (tickets h) (given e.reply) k ticket there) [
+  | inl before ↦ given_more (events_of h) (replies_of h) e.event e.reply (length h) (suc (length h)) ticket.receiver k (omega arith)
+      (given_at ranges desks h k ticket legal.1 before)
+  | inr last ↦ gives e.event e.reply legal.0.reply last.0 last.1 last.2
+]
+  where
+    only : (x y : TicketView) (i : ℕ) → slice_get (x ∷ []) i ≡ Some y → (i ≡ 0) × (x ≡ y)
+    only x y zero is = (refl, (let a : Some x ≡ Some y = is in cc))
+    only x y (suc i) is = absurd (cc (is))
+
+    gives : (event : Event A) (reply : Reply A) → IsReply ranges h e.id e.left event reply → (i : ℕ) → k ≡ length (tickets h) + i →
+        slice_get (given reply) i ≡ Some ticket →
+        WasGiven (events_of h ++ event ∷ []) (replies_of h ++ reply ∷ []) (suc (length h)) ticket.receiver k
+    gives (Give giver receiver range stop) (Given index view) fine i place is =
+        let t = only view ticket i is in
+        let first : i ≡ 0 = t.0 in
+        let index_is : index ≡ length (tickets h) = fine.index_is in
+        let at : index ≡ k = omega arith in
+        let to : receiver ≡ ticket.receiver = ap (λ (v : TicketView). v.receiver) (sym fine.ticket_is ∙ t.1) in
+        subst (λ (r : ℕ). WasGiven (events_of h ++ Give giver receiver range stop ∷ []) (replies_of h ++ Given index view ∷ []) (suc (length h)) r k) to
+        (subst (λ (n : ℕ). WasGiven (events_of h ++ Give giver receiver range stop ∷ []) (replies_of h ++ Given index view ∷ []) (suc (length h)) receiver n) at
+        (record {
+          j = length h;
+          before = omega arith;
+          giver = giver;
+          serial = numbers.gives h giver;
+          range = range;
+          stop = stop;
+          event = at_last (events_of h) (Give giver receiver range stop) (length h) (events_count h);
+          reply = at_last (replies_of h) (Given index view) (length h) (replies_count h) ∙
+              ap (λ (v : TicketView). Some (Given index v)) fine.ticket_is;
+        }))
+    gives event (Given index view) fine i place is = absurd fine
+    gives event reply fine i place is = absurd (cc (is))
+
+-- ---- numbers of tickets
+
+-- a ticket that is given has the next number
+next_number : {A : Type 0} (ranges : List Range) (h : History A) (e : Entry A) (k : ℕ) (ticket : TicketView) →
+    IsReply ranges h e.id e.left e.event e.reply → e.reply ≡ Given k ticket → k ≡ length (tickets h)
+next_number {A} ranges h e k ticket fine is = by_event e.event (subst (λ (r : Reply A). IsReply ranges h e.id e.left e.event r) is fine)
+  where
+    by_event : (event : Event A) → IsReply ranges h e.id e.left event (Given k ticket) → k ≡ length (tickets h)
+    by_event (Give giver receiver range stop) fine = fine.index_is
+    by_event event fine = absurd fine
+
+number_within : {A : Type 0} (ranges : List Range) (desks : ℕ) (h : History A) (i k : ℕ) (ticket : TicketView) → IsLegal ranges desks h →
+    slice_get (replies_of h) i ≡ Some (Given k ticket) → k < length (tickets h)
+number_within ranges desks [] i k ticket legal is = absurd (cc (is))
+number_within {A} ranges desks (e ∷ h) i k ticket legal is =
+    let more = length-append (tickets h) (given e.reply) in
+    elim (before_or_last (replies_of h) e.reply (Given k ticket) (length h) i (replies_count h) is) [
+      | inl before ↦ (let t = number_within ranges desks h i k ticket legal.1 before in omega arith)
+      | inr last ↦
+          (let place : k ≡ length (tickets h) = next_number ranges h e k ticket legal.0.reply last.1 in
+          let own : length (given e.reply) ≡ 1 = ap (λ (r : Reply A). length (given r)) last.1 in omega arith)
+    ]
+
+-- ---- histories
+
+takes_first : {A : Type 0} → (let none : History A = [] in TakesOnce (events_of none) (replies_of none))
+takes_first {A} = record {
+  numbered = λ i j ticket one other a b. absurd (cc (a));
+  once = λ i j printer other ticket a b. absurd (let x = a.reply in cc (x));
+  given = λ i printer ticket a. absurd (let x = a.reply in cc (x));
+  no_overlap = λ i is. cc (is);
+}
+
+takes_next : {A : Type 0} (ranges : List Range) (desks : ℕ) (h : History A) (e : Entry A) → Fits ranges desks h e → IsLegal ranges desks h →
+    TakesOnce (events_of h) (replies_of h) → TakesOnce (events_of (e ∷ h)) (replies_of (e ∷ h))
+takes_next {A} ranges desks h e fits legal f = record {
+  numbered = number;
+  once = one;
+  given = λ i printer ticket t. elim (taken_either h e i printer ticket t) [
+    | inl before ↦
+        (let below = get_beyond (events_of h) i (Take printer ticket before.stop) before.event in
+        given_more (events_of h) (replies_of h) e.event e.reply i i printer ticket (omega arith) (f.given i printer ticket before))
+    | inr last ↦
+        (let m : MayBeTaken h printer ticket = (last_takes ranges desks h e printer ticket last.1 fits last.2 last.3).1 in
+        subst (λ (k : ℕ). WasGiven (events_of (e ∷ h)) (replies_of (e ∷ h)) k printer ticket) (sym last.0)
+        (subst (λ (r : ℕ). WasGiven (events_of (e ∷ h)) (replies_of (e ∷ h)) (length h) r ticket) m.receiver
+        (given_more (events_of h) (replies_of h) e.event e.reply (length h) (length h) m.ticket.receiver ticket (omega arith)
+        (given_at ranges desks h ticket m.ticket legal m.there))))
+  ];
+  no_overlap = λ i is. elim (before_or_last (replies_of h) e.reply (TakeRefused Overlap) (length h) i (replies_count h) is) [
+    | inl before ↦ f.no_overlap i before
+    | inr last ↦ refused e.event (subst (λ (r : Reply A). IsReply ranges h e.id e.left e.event r) last.1 fits.reply)
+  ];
+}
+  where
+    refused : (event : Event A) → IsReply ranges h e.id e.left event (TakeRefused Overlap) → ⊥
+    refused (Take printer ticket stop) fine = fine
+    refused event fine = absurd fine
+
+    number : (i j ticket : ℕ) (one other : TicketView) → slice_get (replies_of (e ∷ h)) i ≡ Some (Given ticket one) →
+        slice_get (replies_of (e ∷ h)) j ≡ Some (Given ticket other) → i ≡ j
+    number i j ticket one other a b = elim (before_or_last (replies_of h) e.reply (Given ticket one) (length h) i (replies_count h) a) [
+      | inl first ↦ elim (before_or_last (replies_of h) e.reply (Given ticket other) (length h) j (replies_count h) b) [
+        | inl second ↦ f.numbered i j ticket one other first second
+        | inr last ↦ absurd (let t = number_within ranges desks h i ticket one legal first in
+            let n = next_number ranges h e ticket other fits.reply last.1 in omega arith)
+      ]
+      | inr here ↦ elim (before_or_last (replies_of h) e.reply (Given ticket other) (length h) j (replies_count h) b) [
+        | inl second ↦ absurd (let t = number_within ranges desks h j ticket other legal second in
+            let n = next_number ranges h e ticket one fits.reply here.1 in omega arith)
+        | inr last ↦ here.0 ∙ sym last.0
+      ]
+    ]
+
+    again : (i printer other ticket : ℕ) (stop : Stop) → TakesTicket (events_of h) (replies_of h) i printer ticket →
+        e.event ≡ Take other ticket stop → e.reply ≡ Taken → ⊥
+    again i printer other ticket stop before event_is reply_is =
+        true_false (is_taken h ticket) (was_taken ranges desks h i printer ticket legal before)
+        (not_taken ranges desks h other ticket legal (last_takes ranges desks h e other ticket stop fits event_is reply_is).1)
+
+    one : (i j printer other ticket : ℕ) → TakesTicket (events_of (e ∷ h)) (replies_of (e ∷ h)) i printer ticket →
+        TakesTicket (events_of (e ∷ h)) (replies_of (e ∷ h)) j other ticket → i ≡ j
+    one i j printer other ticket a b = elim (taken_either h e i printer ticket a) [
+      | inl first ↦ elim (taken_either h e j other ticket b) [
+        | inl second ↦ f.once i j printer other ticket first second
+        | inr last ↦ absurd (again i printer other ticket last.1 first last.2 last.3)
+      ]
+      | inr here ↦ elim (taken_either h e j other ticket b) [
+        | inl second ↦ absurd (again j other printer ticket here.1 second here.2 here.3)
+        | inr last ↦ here.0 ∙ sym last.0
+      ]
+    ]
+
+pub takes_once : {A : Type 0} (ranges : List Range) (desks : ℕ) (h : History A) → IsLegal ranges desks h → TakesOnce (events_of h) (replies_of h)
+takes_once ranges desks [] legal = takes_first
+takes_once ranges desks (e ∷ h) legal = takes_next ranges desks h e legal.0 legal.1 (takes_once ranges desks h legal.1)

@@ -1,0 +1,162 @@
+-- Runs that are not faithful, each one step from a run that is, and runs whose tickets are not taken once: the definitions
+-- of the headline alone refuse them. Documents of four digits are printed in labels of side 12.
+use Rattle.std.specs.Prelude.{◌≡◌, ℕ, Option, List, [], ◌∷◌, map}
+use Rattle.dm_check_blocks.specs.declared.size.Size.TheVariants.{Side12}
+use Rattle.dm_encodation.specs.declared.scheme.Scheme.TheVariants.{Ascii}
+use Rattle.dm_print_ledger.specs.declared.fault.TakeFault.TheVariants.{Overlap}
+use Rattle.dm_assembly_desk.specs.declared.reply.Kind.TheVariants.{New, Complete}
+use Rattle.dm_assembly_desk.specs.declared.reply.Kind.{Kind}
+use Rattle.dm_assembly_desk.specs.declared.reply.Accepted.{Accepted}
+use Rattle.dm_event_history.specs.declared.event.Event.{Event}
+use Rattle.dm_event_history.specs.declared.event.Event.TheVariants.{Print, Scan, RestartPrinter, Ask, Give, Take}
+use Rattle.dm_event_history.specs.declared.reply.Reply.{Reply}
+use Rattle.dm_event_history.specs.declared.reply.Reply.TheVariants.{Printed, Scanned, Document, Given, Taken, TakeRefused, Restarted, Stopped}
+use Rattle.dm_event_history.specs.declared.stop.Stop.{Stop}
+use Rattle.dm_event_history.specs.declared.stop.Stop.TheVariants.{None, AfterLabels}
+use Rattle.dm_event_history.specs.History.{LabelName}
+use Rattle.dm_event_history.specs.Headline.{Batch, labels_of, PrintsOnceBy, IsFaithful}
+use Rattle.dm_event_history.specs.Tickets.{TakesOnce}
+use Rattle.dm_event_history.specs.Worked.{digits, first_ticket}
+
+-- events, each with its reply
+abbrev pub Run : Type 0 → Type 0
+Run A = List (Event A × Reply A)
+
+abbrev pub IsFaithfulRun : {A : Type 0} → Run A → Type 0
+IsFaithfulRun run = IsFaithful (map (λ one. one.0) run) (map (λ one. one.1) run)
+
+-- no identification is printed twice, where just these labels left, in this order
+abbrev pub PrintsOnceRun : {A : Type 0} → List LabelName → Run A → Type 0
+PrintsOnceRun labels run =
+    (batches : List (Option Batch)) × (labels_of batches ≡ labels)
+    × PrintsOnceBy batches (map (λ one. one.0) run) (map (λ one. one.1) run)
+
+abbrev pub TakesOnceRun : {A : Type 0} → Run A → Type 0
+TakesOnceRun run = TakesOnce (map (λ one. one.0) run) (map (λ one. one.1) run)
+
+abbrev pub other_digits : List ℕ
+other_digits = 52 ∷ 51 ∷ 50 ∷ 49 ∷ []
+
+abbrev pub print : {A : Type 0} → ℕ → List ℕ → Stop → Event A
+print printer document stop = Print printer document Side12 Ascii stop
+
+abbrev pub scan : {A : Type 0} → ℕ → Event A
+scan label = Scan 0 label [] None
+
+abbrev pub page : ℕ → ℕ → Kind → Accepted
+page id m kind = record { id = id; m = m; n = 2; kind = kind }
+
+-- ---- documents
+
+-- this run is faithful: of two stopped prints the labels of the second left, and its document is given for them
+abbrev pub right_document : (A : Type 0) → Run A
+right_document A =
+    (print 0 digits (AfterLabels 0), Stopped) ∷
+    (print 1 other_digits (AfterLabels 2), Stopped) ∷
+    (scan 0, Scanned (page 10 1 New)) ∷
+    (scan 1, Scanned (page 10 2 Complete)) ∷
+    (Ask 0 10, Document other_digits) ∷ []
+
+-- a document is given under an identification under which no label left
+abbrev pub never_printed : (A : Type 0) → Run A
+never_printed A = (print 0 digits (AfterLabels 0), Stopped) ∷ (Ask 0 77, Document digits) ∷ []
+
+-- the document of the first is given for the labels of the second
+abbrev pub wrong_document : (A : Type 0) → Run A
+wrong_document A =
+    (print 0 digits (AfterLabels 0), Stopped) ∷
+    (print 1 other_digits (AfterLabels 2), Stopped) ∷
+    (scan 0, Scanned (page 10 1 New)) ∷
+    (scan 1, Scanned (page 10 2 Complete)) ∷
+    (Ask 0 10, Document digits) ∷ []
+
+-- another document is given than was printed
+abbrev pub another_document : (A : Type 0) → Run A
+another_document A =
+    (print 0 digits None, Printed 0 0 2) ∷
+    (scan 0, Scanned (page 0 1 New)) ∷
+    (scan 1, Scanned (page 0 2 Complete)) ∷
+    (Ask 0 0, Document other_digits) ∷ []
+
+-- a document is given of which just the first label left, and was scanned
+abbrev pub half_printed : (A : Type 0) → Run A
+half_printed A =
+    (print 0 digits (AfterLabels 1), Stopped) ∷ (scan 0, Scanned (page 0 1 New)) ∷ (Ask 0 0, Document digits) ∷ []
+
+-- a document is given of which no label was scanned
+abbrev pub never_scanned : (A : Type 0) → Run A
+never_scanned A = (print 0 digits None, Printed 0 0 2) ∷ (Ask 0 0, Document digits) ∷ []
+
+-- two documents are given for one identification
+abbrev pub two_documents : (A : Type 0) → Run A
+two_documents A = (Ask 0 0, Document digits) ∷ (Ask 1 0, Document other_digits) ∷ []
+
+-- ---- prints
+
+-- the labels of a stopped print and of a later one have one identification
+abbrev pub printed_twice : (A : Type 0) → Run A
+printed_twice A =
+    (print 0 digits (AfterLabels 1), Stopped) ∷
+    (RestartPrinter 0, Restarted) ∷
+    (print 0 other_digits None, Printed 0 1 2) ∷
+    (scan 0, Scanned (page 0 1 New)) ∷ []
+
+-- the same, where no label is scanned: just these labels left
+abbrev pub printed_unseen : (A : Type 0) → Run A
+printed_unseen A =
+    (print 0 digits (AfterLabels 1), Stopped) ∷
+    (RestartPrinter 0, Restarted) ∷
+    (print 0 other_digits None, Printed 0 1 2) ∷ []
+
+abbrev pub unseen_labels : List LabelName
+unseen_labels =
+    record { id = 0; number = 1; count = 2 } ∷
+    record { id = 0; number = 1; count = 2 } ∷ record { id = 0; number = 2; count = 2 } ∷ []
+
+-- two prints that are told have one identification
+abbrev pub told_twice : (A : Type 0) → Run A
+told_twice A = (print 0 digits None, Printed 0 0 2) ∷ (print 1 other_digits None, Printed 0 2 2) ∷ []
+
+-- a label is told that never left
+abbrev pub never_left : (A : Type 0) → Run A
+never_left A = (print 0 digits (AfterLabels 1), Stopped) ∷ (scan 1, Scanned (page 0 2 New)) ∷ []
+
+-- ---- tickets
+
+abbrev pub give : {A : Type 0} → Event A × Reply A
+give = (Give 0 1 first_ticket.range None, Given 0 first_ticket)
+
+abbrev pub taken_twice : (A : Type 0) → Run A
+taken_twice A = give ∷ (Take 1 0 None, Taken) ∷ (Take 1 0 None, Taken) ∷ []
+
+-- two tickets have one number
+abbrev pub numbered_twice : (A : Type 0) → Run A
+numbered_twice A = give ∷ give ∷ []
+
+-- a ticket is taken by another printer than the one to which it was given
+abbrev pub taken_elsewhere : (A : Type 0) → Run A
+taken_elsewhere A = give ∷ (Take 2 0 None, Taken) ∷ []
+
+abbrev pub overlaps : (A : Type 0) → Run A
+overlaps A = give ∷ (Take 1 0 None, TakeRefused Overlap) ∷ []
+
+-- ---- the laws
+
+abbrev pub IsOneFaithful : Type 0 → Type 0
+IsOneFaithful A = IsFaithfulRun (right_document A)
+
+pub record AreUnfaithful (A : Type 0) : Type 0 where
+  pub never_printed_is : ¬ IsFaithfulRun (never_printed A)
+  pub wrong_document_is : ¬ IsFaithfulRun (wrong_document A)
+  pub another_document_is : ¬ IsFaithfulRun (another_document A)
+  pub half_printed_is : ¬ IsFaithfulRun (half_printed A)
+  pub never_scanned_is : ¬ IsFaithfulRun (never_scanned A)
+  pub two_documents_is : ¬ IsFaithfulRun (two_documents A)
+  pub printed_twice_is : ¬ IsFaithfulRun (printed_twice A)
+  pub printed_unseen_is : ¬ PrintsOnceRun unseen_labels (printed_unseen A)
+  pub told_twice_is : ¬ IsFaithfulRun (told_twice A)
+  pub never_left_is : ¬ IsFaithfulRun (never_left A)
+  pub numbered_twice_is : ¬ TakesOnceRun (numbered_twice A)
+  pub taken_twice_is : ¬ TakesOnceRun (taken_twice A)
+  pub taken_elsewhere_is : ¬ TakesOnceRun (taken_elsewhere A)
+  pub overlaps_is : ¬ TakesOnceRun (overlaps A)
