@@ -41,7 +41,8 @@ def refusal(answer):
     images, documents or pages refuse on standard error, the others on standard output, and all say `Write` there."""
     on_errors = bool(REFUSED_ON_ERRORS & {str(word) for word in answer.args})
     for text, is_its_place in ((answer.stdout, not on_errors), (answer.stderr, on_errors)):
-        lines = text.splitlines()
+        # Beside a refusal a line on standard error may name a file at fault.
+        lines = [line for line in text.splitlines() if not line.startswith(b"relay: ")]
         if lines and lines[-1].startswith(b"refused "):
             name = lines[-1].split()[1].decode()
             if not is_its_place and (text is answer.stdout or name != "Write"):

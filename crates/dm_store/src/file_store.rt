@@ -13,11 +13,12 @@ use std::rt::Files;
 /// honest, and its plans are open.
 ///
 /// A `replace` writes the bytes to the file `PATH.new`, syncs it, renames it to `PATH`, and syncs the folder. So after
-/// a stop at any moment the file should hold the old or the new bytes, which tests show and no contract says. A file
-/// `PATH.new` that a stop left is never read, and the next `replace` writes over it.
+/// a stop at any moment the file should hold the old or the new bytes, which tests show and no contract says. The file
+/// `PATH.new` is made anew: what stands there, as a link or what a stop has left, is never read or written, and the
+/// next `replace` removes it. So `PATH` is a plain file after a `replace`.
 ///
-/// A load answers `None` where the file or its folder isn't there, and `Device` where the path is a folder or goes
-/// through a file. A `replace` makes no folder.
+/// A load answers `None` where the file or its folder isn't there, and `Device` where the path goes through a file, or
+/// leads to what is no plain file, which is not opened. A `replace` makes no folder.
 #[derive(Drop)]
 pub struct FileStore<'a, R: Files, A: Allocator + Copy = Global> {
     alloc: A,

@@ -2,7 +2,7 @@
 
 use crate::store::{LoadFault, ReplaceFault};
 use std::alloc::{AllocError, Allocator};
-use std::fs::OpenFile;
+use std::fs::{File, OpenFile};
 use std::io::{ErrorKind, Read, Write};
 use std::path::Path;
 use std::rt::Files;
@@ -16,13 +16,29 @@ pub(crate) fn load_fault_of(error: &io::Error) -> LoadFault {
     }
 }
 
-// The first `limit + 1` bytes of the file at `path`, or `None` where it isn't there.
+// Whether a plain file is at `path`, links followed. What else is there, as a folder or a pipe, is an error: opening it
+// might wait without end.
+fn is_plain_file<R: Files>(runtime: &R, path: &str) -> io::Result<bool> {
+    match fs::metadata(runtime, path) {
+        Ok(metadata) if metadata.is_file() => Ok(true),
+        Ok(_) => Err(io::Error::from(ErrorKind::InvalidInput)),
+        Err(error) if error.kind() == ErrorKind::NotFound => Ok(false),
+        Err(error) => Err(error),
+    }
+}
+
+// The first `limit + 1` bytes of the plain file at `path`, or `None` where it isn't there.
 pub(crate) fn load_file<R: Files, A: Allocator>(
     alloc: A,
     runtime: &R,
     path: &str,
     limit: usize,
 ) -> Result<Option<Vec<u8, A>>, LoadFault> {
+    match is_plain_file(runtime, path) {
+        Ok(true) => {}
+        Ok(false) => return Ok(None),
+        Err(error) => return Err(load_fault_of(&error)),
+    }
     let file = match fs::open(runtime, path) {
         Ok(file) => file,
         Err(error) => {
@@ -40,9 +56,22 @@ pub(crate) fn load_file<R: Files, A: Allocator>(
     }
 }
 
-// Writes the bytes to the file at `path`, in place of what it held, and syncs it.
+// Makes a file of its own at `path`. What stands there, as a link, a second name of another file, or what a stop has
+// left, is itself removed; what it leads to is not touched.
+fn create_anew<R: Files>(runtime: &R, path: &str) -> io::Result<R::File> {
+    match File::create_new(runtime, path) {
+        Ok(file) => Ok(file),
+        Err(error) if error.kind() == ErrorKind::AlreadyExists => {
+            fs::remove_file(runtime, path)?;
+            File::create_new(runtime, path)
+        }
+        Err(error) => Err(error),
+    }
+}
+
+// Writes the bytes to a new file at `path`, and syncs it.
 fn write_file<R: Files>(runtime: &R, path: &str, bytes: &[u8]) -> io::Result<()> {
-    let mut file = fs::create(runtime, path)?;
+    let mut file = create_anew(runtime, path)?;
     file.write_all(bytes)?;
     file.sync_all()
 }

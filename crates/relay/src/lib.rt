@@ -11,8 +11,14 @@
 #![tactic(auto)]
 
 mod commands;
+mod faulty_files;
+mod guard;
+mod lock;
 mod program;
+mod rehearsal;
+mod replay;
 mod standard_error;
+mod standard_streams;
 mod workplace;
 
 pub use commands::{do_command, file_of};

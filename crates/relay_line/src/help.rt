@@ -98,6 +98,9 @@ After `refused Save` nothing more is read; the page may be held. A desk keeps a
 document until it is forgotten. Pages that disagree with those that are held are
 refused, and never joined. An old file of pages at PATH is moved first.
 
+A desk that holds more documents than --capacity is refused `TooMany`: give it at
+each `scan` and `import`. All other commands take any number of documents.
+
 Example:
   relay scan --file desk < labels.pbm";
 
@@ -126,7 +129,7 @@ Prints `IIII n added MASK KIND`: the identification, how many pages the document
 has, which of them were added (bit m - 1 for page m, in hexadecimal), and
 whether the document is `complete` now, or `new` pages were added, or all were
 held already (`again`). All are saved at once. A refusal goes to standard
-output.
+output. `relay scan --help` says more of --capacity.
 
 Example:
   relay import --file other-desk < 0101.pages";

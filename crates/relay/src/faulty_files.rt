@@ -1,0 +1,139 @@
+//! Which files are at fault where a command was refused: a line on the standard error names each.
+
+use crate::commands::file_of;
+use crate::workplace::{Work, Workplace, work_of};
+use dm_assembly_desk::{Desk, DeskFault, MOST_CAPACITY, MOST_FILE_BYTES, MoveFault, move_pages};
+use dm_print_ledger::{OpenFault, Printer};
+use dm_store::{FileSet, FileStore, FuseSet, FuseStore, Kept, LoadFault, MemSet, StoreSet};
+use relay_line::Command;
+use std::alloc::{AllocError, Global};
+use std::rt::Files;
+
+/// Says on the standard error which file is at fault, and why.
+pub(crate) fn name_file<R: Eprint>(rt: &R, file: &str, name: &str) {
+    let _ = eprint!(rt; "relay: {file}: {name}\n");
+}
+
+/// Says on the standard error that a command has found no desk, if it works on one that has to be there.
+pub(crate) fn name_missing_desk<R: Eprint>(rt: &R, command: Command) {
+    match work_of(command) {
+        Work::Nothing | Work::MakesLedger | Work::SavesLedger | Work::Gathers => {}
+        Work::Forgets | Work::Reads => name_file(rt, file_of(command), "there is no desk"),
+    }
+}
+
+// What a printer's number is, of a command on a ledger.
+fn number_of(command: Command) -> u16 {
+    match command {
+        Command::Print { number, .. }
+        | Command::Give { number, .. }
+        | Command::Take { number, .. } => number,
+        _ => 0,
+    }
+}
+
+// Names the ledger where it can't be read, or its bytes spell none.
+fn name_ledger<R: AllocGlobal + Eprint + Files>(
+    rt: &R,
+    file: &str,
+    number: u16,
+) -> Result<(), AllocError> {
+    let path = String::from_str(rt.alloc(), file)?;
+    let store = FileStore::new(rt.alloc(), rt, path);
+    let fault = match Printer::open(rt.alloc(), store, number) {
+        Ok(_) => return Ok(()),
+        Err(refused) => refused.fault,
+    };
+    match fault {
+        OpenFault::Absent | OpenFault::Number | OpenFault::Memory => {}
+        OpenFault::NotALedger | OpenFault::Version | OpenFault::Damaged | OpenFault::Device => {
+            name_file(rt, file, fault.name());
+        }
+    }
+    Ok(())
+}
+
+// Names the joint file where it can't be read, or its bytes spell none. Nothing is moved.
+fn name_joint_file<R: AllocGlobal + Eprint + Files>(rt: &R, file: &str) -> Result<(), AllocError> {
+    let alloc = rt.alloc();
+    let path = String::from_str(alloc, file)?;
+    let mut old = FuseStore::new(FileStore::new(alloc, rt, path), 1, Kept::Old);
+    let mut set = FuseSet::new(MemSet::new(alloc), 0, Kept::Old);
+    let answer = move_pages(alloc, &mut old, &mut set);
+    match answer {
+        Ok(_) | Err(MoveFault::Memory) => {}
+        Err(fault) => {
+            if !old.spent() && !set.spent() {
+                name_file(rt, file, fault.name());
+            }
+        }
+    }
+    Ok(())
+}
+
+// Why the bytes are no file of pages under this key, if they are none.
+fn fault_of(alloc: Global, key: u16, bytes: &[u8]) -> Option<DeskFault> {
+    let mut set = MemSet::new(alloc);
+    if set.replace(key, bytes).is_err() {
+        return None;
+    }
+    match Desk::open(alloc, set, MOST_CAPACITY) {
+        Ok(_) => None,
+        Err(refused) => Some(refused.fault),
+    }
+}
+
+// Names each file in the folder of a desk that can't be read, or is no file of pages.
+fn name_pages<R: AllocGlobal + Eprint + Files + Clone + Drop>(
+    rt: &R,
+    folder: &str,
+) -> Result<(), AllocError> {
+    let alloc = rt.alloc();
+    let mut set = FileSet::new(alloc, rt, String::from_str(alloc, folder)?);
+    let keys = match set.keys(usize::from(u16::MAX)) {
+        Ok(keys) => keys,
+        Err(LoadFault::Memory) => return Ok(()),
+        Err(LoadFault::Device) => {
+            name_file(rt, folder, "Device");
+            return Ok(());
+        }
+    };
+    for key in keys.iter().copied() {
+        let fault = match set.load(key, MOST_FILE_BYTES) {
+            Ok(Some(bytes)) => fault_of(alloc, key, bytes.as_slice()),
+            Ok(None) | Err(LoadFault::Memory) => None,
+            Err(LoadFault::Device) => Some(DeskFault::Device),
+        };
+        if let Some(fault) = fault {
+            let file = format!(in alloc; "{folder}/{key:04x}")?;
+            name_file(rt, file.as_str(), fault.name());
+        }
+    }
+    Ok(())
+}
+
+// Names the files at fault.
+fn name_files<R: AllocGlobal + Eprint + Files + Clone + Drop>(
+    rt: &R,
+    place: &Workplace,
+    command: Command,
+) -> Result<(), AllocError> {
+    match work_of(command) {
+        Work::Nothing | Work::MakesLedger => Ok(()),
+        Work::SavesLedger => name_ledger(rt, place.file.as_str(), number_of(command)),
+        Work::Gathers | Work::Forgets | Work::Reads => {
+            name_joint_file(rt, place.file.as_str())?;
+            name_pages(rt, place.folder.as_str())
+        }
+    }
+}
+
+/// Names on the standard error each file that a refused command could not use, as `relay: FILE: NAME`. It saves nothing,
+/// and says nothing more where memory is refused.
+pub(crate) fn name_faulty_files<R: AllocGlobal + Eprint + Files + Clone + Drop>(
+    rt: &R,
+    place: &Workplace,
+    command: Command,
+) {
+    let _ = name_files(rt, place, command);
+}
