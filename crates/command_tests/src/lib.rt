@@ -1,10 +1,19 @@
-//! Tests of the commands of printers and of desks over stores in memory and memory that is refused, and of every
-//! command over readers and writers that fail or are interrupted.
+//! Tests of the commands over what no process can be given: memory that is refused, growth by growth, stores that fail or
+//! are stopped, and readers and writers that fail or are interrupted after each number of bytes. What a command does over
+//! whole streams and real files is tested by the program itself, with the cases of tests/cases.
 #![tactic(auto)]
 
+#[cfg(test)]
+mod calls;
 #[cfg(test)]
 mod desks;
 #[cfg(test)]
 mod printers;
 #[cfg(test)]
+mod refused;
+#[cfg(test)]
+mod refused_calls;
+#[cfg(test)]
 mod streams;
+#[cfg(test)]
+mod texts;

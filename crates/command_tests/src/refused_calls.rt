@@ -1,5 +1,5 @@
-//! Calls that take memory, over an allocator that refuses each growth in turn: each is refused by name until no growth
-//! is refused, and then is whole.
+//! The calls between an image and its document, and those of labels, over an allocator that refuses each growth in turn:
+//! each is refused by name until no growth is refused, and then is whole.
 
 use dm_append_label::{FileId, LabelFault, Page, SealFault, open_label, seal, still_near};
 use dm_check_blocks::Size;
@@ -7,8 +7,6 @@ use dm_encodation::{DecodeFault, Scheme, decode};
 use dm_finder_frame::Grid;
 use dm_pbm_io::{PbmFault, ShapeFault, grid_of, read_image};
 use dm_symbol::{SymbolFault, correct_grid};
-use relay::{draw_command, read_command, words_command};
-use relay_streams::{Input, Output};
 use std::alloc::Allocator;
 use std::test::Fail;
 use test_helpers::Refusing;
@@ -16,83 +14,25 @@ use test_helpers::Refusing;
 // More growths than any of these calls asks for.
 const MOST_GROWTHS: u64 = 1_000;
 
+// The standard's worked example, the digits 123456 in a symbol of side 10.
+const DRAWN: &[u8] = b"P1\n12 12\n\
+000000000000\n\
+010101010100\n\
+011001011010\n\
+011000001000\n\
+011000111010\n\
+011000010000\n\
+010000011110\n\
+011101100000\n\
+011110110010\n\
+010011101000\n\
+011111111110\n\
+000000000000\n";
+
 #[derive(Clone, Copy, Debug, PartialEq, Eq)]
 enum Fault {
     Memory,
     Other,
-}
-
-#[test]
-fn words_command_is_refused_by_name(rt: HostRuntime) -> Result<(), Fail> {
-    for passes in 0..MOST_GROWTHS {
-        let memory = Refusing::new(rt.alloc(), passes);
-        let mut input = Input::new(b"123456".as_slice());
-        let mut output = Output::new(Vec::new(rt.alloc()));
-        let status = words_command(&memory, &mut input, &mut output, 10, Scheme::Ascii);
-        if !memory.is_spent() {
-            assert!(rt; (status, passes > 0) == (0, true));
-            return Ok(());
-        }
-        assert!(rt; status == 1, "{passes}");
-        assert!(rt; output.writer().as_slice() == b"refused Memory\n".as_slice());
-    }
-    Err("growths without end".into())
-}
-
-#[test]
-fn draw_command_is_refused_by_name(rt: HostRuntime) -> Result<(), Fail> {
-    for passes in 0..MOST_GROWTHS {
-        let memory = Refusing::new(rt.alloc(), passes);
-        let mut input = Input::new(b"123456".as_slice());
-        let mut output = Output::new(Vec::new(rt.alloc()));
-        let mut errors = Output::new(Vec::new(rt.alloc()));
-        let status = draw_command(
-            &memory,
-            &mut input,
-            &mut output,
-            &mut errors,
-            10,
-            Scheme::Ascii,
-            false,
-        );
-        if !memory.is_spent() {
-            assert!(rt; (status, passes > 0) == (0, true));
-            return Ok(());
-        }
-        assert!(rt; status == 1, "{passes}");
-        assert!(rt; output.writer().as_slice() == b"".as_slice());
-        assert!(rt; errors.writer().as_slice() == b"refused Memory\n".as_slice());
-    }
-    Err("growths without end".into())
-}
-
-#[test]
-fn read_command_is_refused_by_name(rt: HostRuntime) -> Result<(), Fail> {
-    let mut input = Input::new(b"123456".as_slice());
-    let mut image = Output::new(Vec::new(rt.alloc()));
-    let mut errors = Output::new(Vec::new(rt.alloc()));
-    draw_command(
-        rt.alloc(),
-        &mut input,
-        &mut image,
-        &mut errors,
-        10,
-        Scheme::Ascii,
-        false,
-    );
-    for passes in 0..MOST_GROWTHS {
-        let memory = Refusing::new(rt.alloc(), passes);
-        let mut input = Input::new(image.writer().as_slice());
-        let mut output = Output::new(Vec::new(rt.alloc()));
-        let status = read_command(&memory, &mut input, &mut output);
-        if !memory.is_spent() {
-            assert!(rt; (status, passes > 0) == (0, true));
-            return Ok(());
-        }
-        assert!(rt; status == 1, "{passes}");
-        assert!(rt; output.writer().as_slice() == b"refused Memory\n".as_slice());
-    }
-    Err("growths without end".into())
 }
 
 // The document of an image.
@@ -121,21 +61,9 @@ fn document_of<A: Allocator + Copy>(alloc: A, mut bytes: &[u8]) -> Result<Vec<u8
 
 #[test]
 fn the_way_from_an_image_is_refused_by_name(rt: HostRuntime) -> Result<(), Fail> {
-    let mut input = Input::new(b"123456".as_slice());
-    let mut output = Output::new(Vec::new(rt.alloc()));
-    let mut errors = Output::new(Vec::new(rt.alloc()));
-    draw_command(
-        rt.alloc(),
-        &mut input,
-        &mut output,
-        &mut errors,
-        18,
-        Scheme::Ascii,
-        false,
-    );
     for passes in 0..MOST_GROWTHS {
         let memory = Refusing::new(rt.alloc(), passes);
-        let document = document_of(&memory, output.writer().as_slice());
+        let document = document_of(&memory, DRAWN);
         if !memory.is_spent() {
             let document = document.map_err(|_| "refused without a refused growth")?;
             assert!(rt; document.as_slice() == b"123456".as_slice());

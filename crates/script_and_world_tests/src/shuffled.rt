@@ -1,7 +1,8 @@
 //! Scripts that a generator makes: whatever comes, no identification is printed twice, and each document that is given
 //! was printed.
 
-use crate::scripts::lines_of;
+use relay_streams::{Input, Output};
+use relay_world_command::world_command;
 use std::alloc::{AllocError, Global};
 use std::fmt::Write as _;
 use std::test::Fail;
@@ -167,6 +168,14 @@ impl<'a> Told<'a> {
     }
 }
 
+// The lines that `world` prints of a script.
+fn lines_of(alloc: Global, script: &str) -> Vec<u8> {
+    let mut input = Input::new(script.as_bytes());
+    let mut output = Output::new(Vec::new(alloc));
+    world_command(alloc, &mut input, &mut output);
+    output.into_writer()
+}
+
 // Whether the lines of a script are as many as its events, and each may stand where it does.
 fn are_right(alloc: Global, script: &str, lines: &str) -> Result<bool, Fail> {
     let mut told = Told {
@@ -186,7 +195,7 @@ fn no_script_joins_wrong_pages(rt: HostRuntime) -> Result<(), Fail> {
     let mut numbers = Numbers(4711);
     for index in 0..SCRIPTS {
         let script = script_of(rt.alloc(), &mut numbers)?;
-        let (bytes, _) = lines_of(rt.alloc(), script.as_str());
+        let bytes = lines_of(rt.alloc(), script.as_str());
         let lines = str::from_utf8(&bytes)?;
         assert!(rt;
             are_right(rt.alloc(), script.as_str(), lines)?,

@@ -1,0 +1,272 @@
+//! Each command on what it is called on, and how it ends.
+
+use dm_encodation::Scheme;
+use dm_print_ledger::Range;
+use dm_store::{MemSet, MemStore, StoreSet};
+use relay_desk_commands::{
+    deliver_command, export_command, forget_command, import_command, scan_command,
+};
+use relay_printer_commands::{
+    PrintOptions, give_command, ledger_command, print_command, take_command,
+};
+use relay_shared::EndedDesk;
+use relay_streams::{Input, Output};
+use relay_symbol_commands::{draw_command, read_command, words_command};
+use relay_world_command::world_command;
+use std::alloc::{Allocator, Global};
+use std::io::{Read, Write};
+
+/// The commands, each with these options: symbols of side 10, labels of side 12, the printer 0, the identification 0101.
+#[derive(Clone, Copy, PartialEq, Eq)]
+pub enum Call {
+    Words,
+    Draw,
+    DrawPlain,
+    Read,
+    Ledger,
+    Print,
+    Give,
+    Take,
+    Scan,
+    Deliver,
+    Forget,
+    Export,
+    Import,
+    World,
+}
+
+// A ledger of printer 0 with the identifications 0 to 9.
+const LEDGER: &[u8] = b"DMLG\x02\0\0\0\0\x01\0\0\0\x09\0\xff\xf5";
+
+// The file of page 2 of `1234`, and that of both pages.
+const PAGE_2: &[u8] = b"DMPG\x02\x01\x01\x02\0\x02\0\x0234";
+
+const BOTH: &[u8] = b"DMPG\x02\x01\x01\x02\0\x03\0\x0212\0\x0234";
+
+/// The images of the two labels of `1234`, as `print` writes them.
+pub const LABELS: &[u8] =
+    b"P4\n14 14\n\0\0\x55\x50\x42\x38\x4c\x60\x79\xc8\x76\x90\x62\x08\x55\x30\x62\x48\x63\xd0\x4b\x68\x41\xd0\x7f\xf8\0\0\
+    P4\n14 14\n\0\0\x55\x50\x42\x38\x5c\x60\x7c\x88\x74\x40\x7a\x48\x79\xf0\x44\xa8\x4a\x50\x42\x28\x41\x10\x7f\xf8\0\0";
+
+/// The first of them.
+pub const LABEL: &[u8] =
+    b"P4\n14 14\n\0\0\x55\x50\x42\x38\x4c\x60\x79\xc8\x76\x90\x62\x08\x55\x30\x62\x48\x63\xd0\x4b\x68\x41\xd0\x7f\xf8\0\0";
+
+const SCRIPT: &[u8] =
+    b"range 0 9\ndesks 1 4\nprint 0 12 ascii 31323334 -\nscan 0 0 - -\nscan 0 1 - -\n\
+    ask 0 0101\n";
+
+/// All of them.
+pub const CALLS: [Call; 14] = [
+    Call::Words,
+    Call::Draw,
+    Call::DrawPlain,
+    Call::Read,
+    Call::Ledger,
+    Call::Print,
+    Call::Give,
+    Call::Take,
+    Call::Scan,
+    Call::Deliver,
+    Call::Forget,
+    Call::Export,
+    Call::Import,
+    Call::World,
+];
+
+impl Call {
+    /// What its store holds before, or no bytes for nothing.
+    pub fn ledger(self) -> &'static [u8] {
+        match self {
+            Call::Print | Call::Give | Call::Take => LEDGER,
+            _ => b"",
+        }
+    }
+
+    /// What the key 0 of its set holds before, or no bytes for nothing.
+    pub fn file(self) -> &'static [u8] {
+        match self {
+            Call::Scan | Call::Import => PAGE_2,
+            Call::Deliver | Call::Forget | Call::Export => BOTH,
+            _ => b"",
+        }
+    }
+
+    /// Its input.
+    pub fn input(self) -> &'static [u8] {
+        match self {
+            Call::Words | Call::Draw | Call::DrawPlain => b"123456",
+            Call::Read | Call::Scan => LABEL,
+            Call::Print => b"1234",
+            Call::Import => BOTH,
+            Call::World => SCRIPT,
+            _ => b"",
+        }
+    }
+
+    /// Whether its refusals go to the standard error, since its output is not of lines.
+    pub fn writes_no_lines(self) -> bool {
+        matches!(
+            self,
+            Call::Draw | Call::DrawPlain | Call::Print | Call::Deliver | Call::Export
+        )
+    }
+}
+
+/// How a command ended: its status, what it wrote, and its store and its set.
+#[derive(Drop)]
+pub struct Ended<W: Write + Drop> {
+    pub status: u8,
+    pub writer: W,
+    pub errors: Vec<u8>,
+    pub store: MemStore,
+    pub set: MemSet,
+}
+
+// The files of a desk in memory, or a ledger.
+type Files = EndedDesk<MemStore, MemSet>;
+
+// The commands that name no file.
+fn symbol_call<A: Allocator + Copy, R: Read, W: Write>(
+    memory: A,
+    input: &mut Input<R>,
+    output: &mut Output<W>,
+    errors: &mut Output<Vec<u8>>,
+    call: Call,
+) -> u8 {
+    let plain = call == Call::DrawPlain;
+    match call {
+        Call::Words => words_command(memory, input, output, 10, Scheme::Ascii),
+        Call::Read => read_command(memory, input, output),
+        Call::World => world_command(memory, input, output),
+        _ => draw_command(memory, input, output, errors, 10, Scheme::Ascii, plain),
+    }
+}
+
+// The commands of printers.
+fn printer_call<A: Allocator + Copy, R: Read, W: Write>(
+    memory: A,
+    store: MemStore,
+    input: &mut Input<R>,
+    output: &mut Output<W>,
+    errors: &mut Output<Vec<u8>>,
+    call: Call,
+) -> (u8, MemStore) {
+    let ended = match call {
+        Call::Ledger => ledger_command(memory, store, output, 0, Range { first: 0, last: 9 }),
+        Call::Give => give_command(memory, store, output, 0, 1, Range { first: 5, last: 9 }),
+        Call::Take => take_command(memory, store, output, 0, "00010000000000140015"),
+        _ => {
+            let options = PrintOptions {
+                number: 0,
+                side: 12,
+                scheme: Scheme::Ascii,
+            };
+            print_command(memory, store, input, output, errors, options)
+        }
+    };
+    (ended.status, ended.store)
+}
+
+// The commands of desks.
+fn desk_call<A: Allocator + Copy, R: Read, W: Write>(
+    memory: A,
+    store: MemStore,
+    set: MemSet,
+    input: &mut Input<R>,
+    output: &mut Output<W>,
+    errors: &mut Output<Vec<u8>>,
+    call: Call,
+) -> Files {
+    match call {
+        Call::Scan => scan_command(memory, store, set, input, output, 4),
+        Call::Deliver => deliver_command(memory, store, set, output, errors, "0101"),
+        Call::Forget => forget_command(memory, store, set, output, "0101"),
+        Call::Export => export_command(memory, store, set, output, errors, "0101"),
+        _ => import_command(memory, store, set, input, output, 4),
+    }
+}
+
+// The store of these bytes, or one that holds nothing.
+fn store_of(alloc: Global, bytes: &[u8]) -> MemStore {
+    match bytes.to_vec(alloc) {
+        Ok(copy) if !copy.is_empty() => MemStore::with(alloc, copy),
+        _ => MemStore::new(alloc),
+    }
+}
+
+// The set that holds these bytes at the key 0, or nothing.
+fn set_of(alloc: Global, bytes: &[u8]) -> MemSet {
+    let mut set = MemSet::new(alloc);
+    if !bytes.is_empty() {
+        let _ = set.replace(0, bytes);
+    }
+    set
+}
+
+/// Does a command over these streams and this memory. What it saves and its errors are in the other memory.
+pub fn done<A: Allocator + Copy, R: Read + Drop, W: Write + Drop>(
+    memory: A,
+    alloc: Global,
+    call: Call,
+    reader: R,
+    writer: W,
+) -> Ended<W> {
+    let mut input = Input::new(reader);
+    let mut output = Output::new(writer);
+    let mut errors = Output::new(Vec::new(alloc));
+    let store = store_of(alloc, call.ledger());
+    let set = set_of(alloc, call.file());
+    let (status, store, set) = match call {
+        Call::Words | Call::Draw | Call::DrawPlain | Call::Read | Call::World => {
+            let status = symbol_call(memory, &mut input, &mut output, &mut errors, call);
+            (status, store, set)
+        }
+        Call::Ledger | Call::Print | Call::Give | Call::Take => {
+            let (status, store) = printer_call(
+                memory,
+                store,
+                &mut input,
+                &mut output,
+                &mut errors,
+                call,
+            );
+            (status, store, set)
+        }
+        _ => {
+            let ended = desk_call(
+                memory,
+                store,
+                set,
+                &mut input,
+                &mut output,
+                &mut errors,
+                call,
+            );
+            (ended.status, ended.store, ended.set)
+        }
+    };
+    Ended {
+        status,
+        writer: output.into_writer(),
+        errors: errors.into_writer(),
+        store,
+        set,
+    }
+}
+
+/// Does a command over all the memory and the streams that it asks for.
+pub fn done_whole(alloc: Global, call: Call) -> Ended<Vec<u8>> {
+    done(alloc, alloc, call, call.input(), Vec::new(alloc))
+}
+
+/// Whether two commands ended with the same saved bytes.
+pub fn saved_alike<V: Write + Drop, W: Write + Drop>(one: &Ended<V>, other: &Ended<W>) -> bool {
+    one.store.content() == other.store.content() && one.set.content(0) == other.set.content(0)
+}
+
+/// Whether what is saved is what was there before.
+pub fn saves_nothing<W: Write + Drop>(ended: &Ended<W>, call: Call) -> bool {
+    ended.store.content().unwrap_or(b"") == call.ledger()
+        && ended.set.content(0).unwrap_or(b"") == call.file()
+}

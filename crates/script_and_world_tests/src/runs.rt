@@ -1,0 +1,61 @@
+//! A world by calls: a run of events, and what has left it.
+
+use dm_append_label::FileId;
+use dm_event_history::Reply;
+use dm_event_world::{World, run};
+use relay_script::read_script;
+use std::test::Fail;
+
+const TEXT: &[u8] =
+    b"range 0 9\nrange 10 19\ndesks 2 4\nprint 0 12 ascii 31323334 -\nscan 0 1 - -\nexport 0 0101\n\
+    give 0 1 5 9 -\n";
+
+#[test]
+fn a_run_leaves_labels_tickets_and_exports(rt: HostRuntime) -> Result<(), Fail> {
+    let script = read_script(rt.alloc(), TEXT)?;
+    let Ok(mut world) = World::new(rt.alloc(), &script.ranges, &script.capacities) else {
+        return Err("no world".into());
+    };
+    let replies = run(rt.alloc(), &mut world, &script.events)?;
+    assert!(rt;
+        matches!(
+            replies.as_slice(),
+            [
+                Reply::Printed {
+                    first: 0,
+                    count: 2,
+                    ..
+                },
+                Reply::Scanned(_),
+                Reply::Exported {
+                    index: 0,
+                    n: 2,
+                    mask: 2,
+                    ..
+                },
+                Reply::Given { index: 0, .. },
+            ]
+        )
+    );
+    let id = FileId::of_words(1, 1);
+    assert!(rt; world.labels() == 2);
+    assert!(rt;
+        world
+            .label(0)
+            .is_some_and(|label| (Some(label.0), label.1, label.2) == (id, 1, 2))
+    );
+    assert!(rt;
+        world
+            .label(1)
+            .is_some_and(|label| (Some(label.0), label.1, label.2) == (id, 2, 2))
+    );
+    assert!(rt; world.label(2).is_none());
+    assert!(rt; world.tickets() == 1 && world.ticket(1).is_none());
+    assert!(rt;
+        world
+            .ticket(0)
+            .is_some_and(|ticket| ticket.bytes() == [0, 0, 0, 0, 0, 1, 0, 5, 0, 9])
+    );
+    assert!(rt; world.exports() == 1);
+    Ok(())
+}
