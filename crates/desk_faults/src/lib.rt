@@ -1,19 +1,13 @@
-//! Tests of desks: over an allocator that refuses each growth in turn, over stores that stop after each device call,
-//! over files of which a byte is spoiled, and on real files.
+//! Tests of desks: over an allocator that refuses each growth in turn, over sets that stop after each device call, and
+//! over files of which a byte is spoiled, which a reader of its own reads by the tables of their formats.
 #![tactic(auto)]
 
 #[cfg(test)]
-mod folder;
+mod calls;
 #[cfg(test)]
-mod fuses;
-#[cfg(test)]
-mod labels;
+mod files;
 #[cfg(test)]
 mod moves;
-#[cfg(test)]
-mod on_files;
-#[cfg(test)]
-mod refused;
 #[cfg(test)]
 mod spoiled;
 #[cfg(test)]

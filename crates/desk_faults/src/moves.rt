@@ -1,80 +1,121 @@
-// A store and a set that stop at each of the device calls of a move, under both ends of a stopped save: a second call
-// finishes the first.
-use crate::labels::{FIRST, THIRD};
-use dm_assembly_desk::{Desk, MoveFault, move_pages};
-use dm_store::{FuseSet, FuseStore, Kept, MemSet, MemStore, StoreSet};
-use std::alloc::Allocator;
+// A store and a set that stop at each of the device calls of a move, under both ends of a stopped save, and a move to
+// which each growth of memory is refused in turn: the two hold together what they held, and a second call finishes the
+// first.
+use crate::files::{FIRST, JOINT, JOINT_OF_NONE, THIRD};
+use dm_assembly_desk::move_pages;
+use dm_store::{FuseSet, FuseStore, Kept, MemSet, MemStore, Store};
+use std::alloc::Global;
 use std::process::Abort;
-use std::test::Fail;
+use test_helpers::Refusing;
 
-// A file of version 1 with the documents 0 and 9.
-const JOINT: &[u8] = b"DMPG\x01\x00\x02\x01\x01\x02\x00\x01\x00\x0212\x01\x0a\x03\x00\x04\x00\x01C";
+type Memory = Refusing<Global>;
 
-const JOINT_OF_NONE: &[u8] = b"DMPG\x01\x00\x00";
+type FusedStore<'a> = FuseStore<MemStore<&'a Memory>>;
+
+type FusedSet<'a> = FuseSet<MemSet<&'a Memory>>;
 
 // The device calls of the old store, a load and a save, and of the set, the keys and two saves.
 const OLD_CALLS: u32 = 2;
 
 const SET_CALLS: u32 = 3;
 
-// Whether the two hold each document, the set in its file or the old store.
-fn hold_both<A: Allocator + Copy>(old: &MemStore<A>, set: &MemSet<A>) -> bool {
+// More growths than a move asks for, and more device calls than it makes.
+const MANY: u32 = 1000;
+
+// How many keys a move writes, or the name of its fault.
+fn moved<'a>(
+    memory: &'a Memory,
+    old: &mut FusedStore<'a>,
+    set: &mut FusedSet<'a>,
+) -> Result<u16, &'static str> {
+    match move_pages(memory, old, set) {
+        Ok(written) => Ok(written),
+        Err(fault) => Err(fault.name()),
+    }
+}
+
+// How many of the two documents the set holds, where all others are in the old store; a file of other bytes is none.
+fn held_by(old: &MemStore<&Memory>, set: &MemSet<&Memory>) -> Option<u16> {
+    let mut held = 0u16;
     for (key, file) in [(0, FIRST), (9, THIRD)] {
         match set.content(key) {
             Some(bytes) => {
                 if bytes != file {
-                    return false;
+                    return None;
                 }
+                held = held.saturating_add(1);
             }
             None => {
                 if old.content() != Some(JOINT) {
-                    return false;
+                    return None;
                 }
             }
         }
     }
-    true
+    Some(held)
 }
 
-// A move that stops, and then another.
-fn moved_twice<A: Allocator + Copy>(
-    rt: &impl Abort,
-    alloc: A,
-    passes: (u32, u32),
-    kept: Kept,
-) -> Result<(), Fail> {
-    let (old_passes, set_passes) = passes;
-    let old = MemStore::with(alloc, JOINT.to_vec(alloc)?);
-    let mut old = FuseStore::new(old, old_passes, kept);
-    let mut set = FuseSet::new(MemSet::new(alloc), set_passes, kept);
-    let answer = move_pages(alloc, &mut old, &mut set);
-    let is_whole = old_passes == OLD_CALLS && set_passes == SET_CALLS;
-    match answer {
-        Ok(count) => assert!(rt; is_whole && count == 2),
-        Err(fault) => assert!(rt; !is_whole && fault == MoveFault::Device),
-    }
-    let mut old = old.into_inner();
-    let mut set = set.into_inner();
-    assert!(rt; hold_both(&old, &set));
-    let there = set.keys(9)?.len();
-    let written = move_pages(alloc, &mut old, &mut set)?;
-    assert!(rt; there.saturating_add(written as usize) == 2);
-    assert!(rt; old.content() == Some(JOINT_OF_NONE) && hold_both(&old, &set));
-    let Ok(desk) = Desk::open(alloc, set, 2) else {
-        return Err("no desk over what was moved".into());
+// A move that may stop or be refused, and then another: the name of the first fault, or `done`.
+fn moved_twice(rt: &impl Abort, memory: &Memory, passes: (u32, u32), kept: Kept) -> &'static str {
+    let mut old = MemStore::new(memory);
+    assert!(rt; old.replace(JOINT).is_ok() || old.replace(JOINT).is_ok());
+    let mut old = FuseStore::new(old, passes.0, kept);
+    let mut set = FuseSet::new(MemSet::new(memory), passes.1, kept);
+    let first = moved(memory, &mut old, &mut set);
+    let (old, set) = (old.into_inner(), set.into_inner());
+    let held = held_by(&old, &set).expect(rt, "they hold what they held");
+    let is_moved = old.content() == Some(JOINT_OF_NONE);
+    let mut old = FuseStore::new(old, MANY, Kept::Old);
+    let mut set = FuseSet::new(set, MANY, Kept::Old);
+    let more = if is_moved {
+        0
+    } else {
+        2u16.saturating_sub(held)
     };
-    assert!(rt; desk.held()?.len() == 2);
-    Ok(())
+    let mut again = moved(memory, &mut old, &mut set);
+    if again == Err("Memory") {
+        again = moved(memory, &mut old, &mut set);
+    }
+    assert!(rt; again == Ok(more));
+    let (old, set) = (old.into_inner(), set.into_inner());
+    assert!(rt; held_by(&old, &set) == Some(2) && old.content() == Some(JOINT_OF_NONE));
+    match first {
+        Ok(written) => {
+            assert!(rt; written == 2 && is_moved);
+            "done"
+        }
+        Err(name) => name,
+    }
 }
 
 #[test]
-fn a_move_stops_at_each_call(rt: HostRuntime) -> Result<(), Fail> {
+fn a_move_stops_at_each_call(rt: HostRuntime) {
+    let memory = Refusing::new(rt.alloc(), u64::MAX);
     for kept in [Kept::Old, Kept::New] {
         for old_passes in 0..=OLD_CALLS {
             for set_passes in 0..=SET_CALLS {
-                moved_twice(&rt, rt.alloc(), (old_passes, set_passes), kept)?;
+                let is_whole = (old_passes, set_passes) == (OLD_CALLS, SET_CALLS);
+                let wanted = if is_whole { "done" } else { "Device" };
+                assert!(rt; moved_twice(&rt, &memory, (old_passes, set_passes), kept) == wanted);
             }
         }
     }
-    Ok(())
+}
+
+#[test]
+fn each_growth_of_a_move_is_refused(rt: HostRuntime) {
+    let mut refusals = 0u32;
+    for passes in 0..u64::from(MANY) {
+        let memory = Refusing::new(rt.alloc(), passes);
+        let name = moved_twice(&rt, &memory, (MANY, MANY), Kept::Old);
+        if name == "Memory" {
+            refusals = refusals.saturating_add(1);
+        } else {
+            assert!(rt; name == "done");
+        }
+        if !memory.is_spent() {
+            break;
+        }
+    }
+    assert!(rt; refusals > 3 && u64::from(refusals) < u64::from(MANY));
 }

@@ -1,11 +1,11 @@
 // Files of pages of which one byte is changed or added, or the end is cut off: each is refused by the name that the
 // table of the format says, with nothing changed, or is another sound file, and then a desk holds exactly that one.
-use crate::table::{Entry, read, read_joint};
+use crate::files::{JOINT, JOINT_OF_NONE};
+use crate::table::{answer, identification, length_of, number, page};
 use dm_append_label::FileId;
 use dm_assembly_desk::{Desk, Imported, Kind, move_pages};
 use dm_store::{MemSet, MemStore, StoreSet};
-use std::alloc::Global;
-use std::process::Abort;
+use std::alloc::{AllocError, Global};
 use std::test::Fail;
 use test_helpers::{count, spoiled};
 
@@ -15,197 +15,212 @@ const SOME: &[u8] = b"DMPG\x02\x01\x0a\x03\x00\x05\x00\x0212\x00\x01Z";
 // Both pages of the document 9 are held, 34 and one with no bytes.
 const ALL: &[u8] = b"DMPG\x02\x01\x0a\x02\x00\x03\x00\x0234\x00\x00";
 
-// A file of version 1 with a page of the document 0 and a page of the document 9.
-const JOINT: &[u8] = b"DMPG\x01\x00\x02\x01\x01\x02\x00\x01\x00\x0212\x01\x0a\x03\x00\x04\x00\x01C";
-
-const JOINT_OF_NONE: &[u8] = b"DMPG\x01\x00\x00";
-
 // The number of the document 9.
 const KEY: u16 = 9;
 
-// The pages of an entry that are held: bit m - 1 is set for page m.
-fn mask_of(entry: &Entry<'_>) -> u16 {
-    let mut mask = 0u16;
-    let mut bit = 1u16;
-    for page in entry.pages.iter() {
-        if page.is_some() {
-            mask |= bit;
+// What a file has after its version.
+fn after_version(file: &[u8]) -> &[u8] {
+    file.get(5..).unwrap_or(b"")
+}
+
+// Whether the desk exports the document as this file.
+fn exports(desk: &Desk<MemSet>, id: FileId, file: &[u8]) -> bool {
+    match desk.export(id) {
+        Ok(bytes) => bytes.as_slice() == file,
+        Err(_) => false,
+    }
+}
+
+// Whether the desk holds one document.
+fn holds_one(desk: &Desk<MemSet>) -> bool {
+    match desk.held() {
+        Ok(held) => held.len() == 1,
+        Err(_) => false,
+    }
+}
+
+// Whether a desk holds the document of a sound file, each page of it, and no other.
+fn holds(desk: &Desk<MemSet>, file: &[u8]) -> bool {
+    let document = after_version(file);
+    let id = u16::try_from(identification(document)).ok();
+    let Some(id) = id.and_then(FileId::of_number) else {
+        return false;
+    };
+    let Some(pages) = desk.pages(id) else {
+        return false;
+    };
+    let n = pages.n();
+    for m in 1..=n {
+        if pages.get(m) != page(document, m) {
+            return false;
         }
-        bit = bit.wrapping_mul(2);
     }
-    mask
+    document.get(2) == Some(&n) && exports(desk, id, file) && holds_one(desk)
 }
 
-// A desk holds the pages of an entry, and no other document; and it exports them as the file that they were read from.
-fn holds(rt: &impl Abort, desk: &Desk<MemSet>, entry: &Entry<'_>, file: &[u8]) -> Result<(), Fail> {
-    let id = FileId::of_number(entry.number).ok_or("no identification")?;
-    let pages = desk.pages(id).ok_or("no pages")?;
-    assert!(rt; (pages.n() as usize) == entry.pages.len());
-    for (m, page) in (1..).zip(entry.pages.iter()) {
-        assert!(rt; pages.get(m) == *page, "{m}");
-    }
-    assert!(rt; desk.export(id)?.as_slice() == file);
-    assert!(rt; desk.held()?.len() == 1);
-    Ok(())
-}
-
-// The document that the file of the document 9 has to have, or the name of the refusal.
-fn entry_of_9(alloc: Global, file: &[u8]) -> Result<Entry<'_>, &'static str> {
-    let entry = read(alloc, file)?;
-    if entry.number == KEY {
-        Ok(entry)
-    } else {
-        Err("Damaged")
-    }
-}
-
-// Opens a desk over bytes as the file of the document 9, and gives the name of the refusal, or "sound".
-fn open(rt: &impl Abort, alloc: Global, file: &[u8]) -> Result<&'static str, Fail> {
+// What is answered to bytes as the file of the document 9, which stays as it is.
+fn opened(alloc: Global, file: &[u8]) -> &'static str {
     let mut set = MemSet::new(alloc);
-    set.replace(KEY, file)?;
-    let (answer, set) = match Desk::open(alloc, set, 4) {
+    if set.replace(KEY, file).is_err() {
+        return "no memory";
+    }
+    let (name, set) = match Desk::open(alloc, set, 4) {
         Ok(desk) => {
-            holds(rt, &desk, &read(alloc, file)?, file)?;
-            ("sound", desk.close())
+            let name = if holds(&desk, file) {
+                "sound"
+            } else {
+                "another document"
+            };
+            (name, desk.close())
         }
         Err(refused) => (refused.fault.name(), refused.store),
     };
-    assert!(rt;
-        answer == entry_of_9(alloc, file).err().unwrap_or("sound"),
-        "{file:?}"
-    );
-    assert!(rt; set.content(KEY) == Some(file), "{file:?}");
-    Ok(answer)
+    if set.content(KEY) == Some(file) {
+        name
+    } else {
+        "other bytes"
+    }
 }
 
-// The pages of a file were imported to a desk that held nothing.
-fn is_imported(
-    rt: &impl Abort,
-    alloc: Global,
-    imported: Imported,
-    desk: &Desk<MemSet>,
-    file: &[u8],
-) -> Result<(), Fail> {
-    let entry = read(alloc, file)?;
-    let is_whole = entry.pages.iter().all(|page| page.is_some());
-    let kind = if is_whole { Kind::Complete } else { Kind::New };
-    assert!(rt; imported.id.number() == entry.number);
-    assert!(rt; (imported.n as usize) == entry.pages.len());
-    assert!(rt; (imported.added, imported.kind) == (mask_of(&entry), kind));
-    holds(rt, desk, &entry, file)
+// Whether the answer to an import by a desk that held nothing is that to this sound file.
+fn is_answer(imported: Imported, file: &[u8]) -> bool {
+    let document = after_version(file);
+    let mut kind = Kind::Complete;
+    for m in 1..=imported.n {
+        if page(document, m).is_none() {
+            kind = Kind::New;
+        }
+    }
+    imported.id.number() as u32 == identification(document)
+        && document.get(2) == Some(&imported.n)
+        && imported.added as u32 == number(document, 3)
+        && imported.kind == kind
 }
 
-// Imports bytes to a desk that holds nothing, and gives the name of the refusal, or "sound".
-fn import(rt: &impl Abort, alloc: Global, file: &[u8]) -> Result<&'static str, Fail> {
+// What is answered to bytes that a desk imports that holds nothing; only a sound file is saved.
+fn imported(alloc: Global, file: &[u8]) -> &'static str {
     let Ok(mut desk) = Desk::open(alloc, MemSet::new(alloc), 4) else {
-        return Err("no desk".into());
+        return "no desk";
     };
-    let answer = match desk.import(file) {
+    let name = match desk.import(file) {
         Ok(imported) => {
-            is_imported(rt, alloc, imported, &desk, file)?;
-            "sound"
+            if is_answer(imported, file) && holds(&desk, file) {
+                "sound"
+            } else {
+                "another document"
+            }
         }
         Err(fault) => fault.name(),
     };
-    assert!(rt;
-        answer == read(alloc, file).err().unwrap_or("sound"),
-        "{file:?}"
-    );
-    let keys = desk.close().keys(1)?;
-    assert!(rt; keys.is_empty() == (answer != "sound"), "{file:?}");
-    Ok(answer)
-}
-
-// The set has the files of the documents of a joint file, and no other.
-fn is_moved(
-    rt: &impl Abort,
-    alloc: Global,
-    count: u16,
-    set: &mut MemSet,
-    file: &[u8],
-) -> Result<(), Fail> {
-    let documents = read_joint(alloc, file)?;
-    assert!(rt; (count as usize) == documents.len());
-    assert!(rt; set.keys(65_535)?.len() == documents.len());
-    for document in documents.iter() {
-        let one = [b"DMPG\x02".as_slice(), document.bytes].concat(alloc)?;
-        assert!(rt;
-            set.content(document.number) == Some(one.as_slice()),
-            "{file:?}"
-        );
+    let is_saved = keys_of(desk.close()) == Some(1);
+    if is_saved == (name == "sound") {
+        name
+    } else {
+        "another set"
     }
-    Ok(())
 }
 
-// Moves the documents of bytes as a file of version 1 to an empty set, and gives the name of the refusal, or "sound".
-fn moved(rt: &impl Abort, alloc: Global, file: &[u8]) -> Result<&'static str, Fail> {
+// How many keys a set has.
+fn keys_of(set: MemSet) -> Option<u32> {
+    let mut set = set;
+    let keys = set.keys(65_535).ok()?;
+    u32::try_from(keys.len()).ok()
+}
+
+// Whether a set has just the files of the documents of a sound joint file.
+fn has_all(set: MemSet, file: &[u8]) -> bool {
+    let mut rest = file.get(7..).unwrap_or(b"");
+    for _ in 0..number(file, 5) {
+        let key = u16::try_from(identification(rest)).unwrap_or(0);
+        let length = length_of(rest).unwrap_or(0);
+        let saved = set.content(key).unwrap_or(b"");
+        if !saved.starts_with(b"DMPG\x02") || saved.get(5..) != rest.get(..length) {
+            return false;
+        }
+        rest = rest.get(length..).unwrap_or(b"");
+    }
+    keys_of(set) == Some(number(file, 5))
+}
+
+// What is answered where the documents of bytes as a file of version 1 are moved to an empty set.
+fn moved(alloc: Global, file: &[u8]) -> Result<&'static str, AllocError> {
     let mut old = MemStore::with(alloc, file.to_vec(alloc)?);
     let mut set = MemSet::new(alloc);
-    let (answer, left) = match move_pages(alloc, &mut old, &mut set) {
+    let (name, left) = match move_pages(alloc, &mut old, &mut set) {
         Ok(count) => {
-            is_moved(rt, alloc, count, &mut set, file)?;
-            ("sound", JOINT_OF_NONE)
+            if count as u32 == number(file, 5) && has_all(set, file) {
+                ("sound", JOINT_OF_NONE)
+            } else {
+                ("another set", file)
+            }
         }
         Err(fault) => {
-            assert!(rt; set.keys(1)?.is_empty(), "{file:?}");
-            (fault.name(), file)
+            if keys_of(set) == Some(0) {
+                (fault.name(), file)
+            } else {
+                ("another set", file)
+            }
         }
     };
-    assert!(rt;
-        answer == read_joint(alloc, file).err().unwrap_or("sound"),
-        "{file:?}"
-    );
-    assert!(rt; old.content() == Some(left), "{file:?}");
-    Ok(answer)
+    Ok(if old.content() == Some(left) {
+        name
+    } else {
+        "other bytes"
+    })
 }
 
-// The names of the refusals, and the answer to a sound file. Their counts are those of a reader in another language.
+// What is done with bytes.
+#[derive(Clone, Copy)]
+enum How {
+    Open,
+    Import,
+    Move,
+}
+
+// What is answered to bytes.
+fn answered(alloc: Global, how: How, file: &[u8]) -> Result<&'static str, AllocError> {
+    match how {
+        How::Open => Ok(opened(alloc, file)),
+        How::Import => Ok(imported(alloc, file)),
+        How::Move => moved(alloc, file),
+    }
+}
+
+// What is to be answered by the tables.
+fn wanted(how: How, file: &[u8]) -> &'static str {
+    let name = match how {
+        How::Move => answer(file, 1),
+        _ => answer(file, 2),
+    };
+    let is_other = identification(after_version(file)) != u32::from(KEY);
+    match how {
+        How::Open if name == "sound" && is_other => "Damaged",
+        _ => name,
+    }
+}
+
+// The names of the refusals, and the answer to a sound file.
 const NAMES: [&str; 4] = ["NotPages", "Version", "Damaged", "sound"];
 
-#[test]
-fn each_byte_of_a_file_is_spoiled(rt: HostRuntime) -> Result<(), Fail> {
-    for (file, want) in [
-        (SOME, [2047, 511, 5620, 799]),
-        (ALL, [2047, 511, 5364, 542]),
-    ] {
-        let mut counts = [0u32; 4];
-        for copy in spoiled(rt.alloc(), file)?.iter() {
-            count(&mut counts, &NAMES, open(&rt, rt.alloc(), copy.as_slice())?);
-        }
-        assert!(rt; counts == want);
-    }
-    Ok(())
-}
+// Each file, what is done with its copies, and how often each name is answered, by a reader in another language.
+const FILES: [(&[u8], How, [u32; 4]); 5] = [
+    (SOME, How::Open, [2047, 511, 5620, 799]),
+    (ALL, How::Open, [2047, 511, 5364, 542]),
+    (SOME, How::Import, [2047, 511, 5114, 1305]),
+    (ALL, How::Import, [2047, 511, 4858, 1048]),
+    (JOINT, How::Move, [2047, 511, 8676, 1334]),
+];
 
 #[test]
-fn each_byte_of_an_import_is_spoiled(rt: HostRuntime) -> Result<(), Fail> {
-    for (file, want) in [
-        (SOME, [2047, 511, 5114, 1305]),
-        (ALL, [2047, 511, 4858, 1048]),
-    ] {
+fn each_byte_is_spoiled(rt: HostRuntime) -> Result<(), Fail> {
+    for (file, how, counted) in FILES {
         let mut counts = [0u32; 4];
         for copy in spoiled(rt.alloc(), file)?.iter() {
-            count(
-                &mut counts,
-                &NAMES,
-                import(&rt, rt.alloc(), copy.as_slice())?,
-            );
+            let name = answered(rt.alloc(), how, copy.as_slice())?;
+            assert!(rt; name == wanted(how, copy.as_slice()), "{copy:?}");
+            count(&mut counts, &NAMES, name);
         }
-        assert!(rt; counts == want);
+        assert!(rt; counts == counted);
     }
-    Ok(())
-}
-
-#[test]
-fn each_byte_of_a_joint_file_is_spoiled(rt: HostRuntime) -> Result<(), Fail> {
-    let mut counts = [0u32; 4];
-    for copy in spoiled(rt.alloc(), JOINT)?.iter() {
-        count(
-            &mut counts,
-            &NAMES,
-            moved(&rt, rt.alloc(), copy.as_slice())?,
-        );
-    }
-    assert!(rt; counts == [2047, 511, 8676, 1334]);
     Ok(())
 }

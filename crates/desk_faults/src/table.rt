@@ -15,118 +15,102 @@
 //   ..        for each of them, by rising identification, what a file of version 2 has after its version
 //
 // and nothing after that.
-use std::alloc::Global;
 
-// What is held of a document: the number of its identification, and each page or nothing.
-#[derive(Drop)]
-pub struct Entry<'a> {
-    pub number: u16,
-    pub pages: Vec<Option<&'a [u8]>>,
-}
-
-// A document of a file of version 1: the number of its identification, and its bytes there.
-#[derive(Drop)]
-pub struct Joint<'a> {
-    pub number: u16,
-    pub bytes: &'a [u8],
-}
-
-// A number of two bytes, and the bytes after it.
-fn number(bytes: &[u8]) -> Option<(u16, &[u8])> {
-    let [high, low, rest @ ..] = bytes else {
-        return None;
-    };
-    Some((256 * *high as u16 + *low as u16, rest))
-}
-
-// The number of the identification of two words.
-fn identification(one: u8, other: u8) -> Option<u16> {
-    let are_words = 1 <= one && one <= 254 && 1 <= other && other <= 254;
-    are_words.then_some(254 * (one as u16).saturating_sub(1) + (other as u16).saturating_sub(1))
-}
-
-// The bytes of a page, and the bytes after it.
-fn page(bytes: &[u8]) -> Option<(&[u8], &[u8])> {
-    let (length, rest) = number(bytes)?;
-    if length > 2_600 {
-        return None;
+// The number whose two bytes stand at a place, or one above all numbers where they are not there.
+pub fn number(bytes: &[u8], at: usize) -> u32 {
+    match (bytes.get(at), bytes.get(at.saturating_add(1))) {
+        (Some(high), Some(low)) => 256 * *high as u32 + *low as u32,
+        _ => 65_536,
     }
-    Some((rest.get(..length as usize)?, rest.get(length as usize..)?))
 }
 
-// A document, and the bytes after it.
-fn entry_of(alloc: Global, bytes: &[u8]) -> Option<(Entry<'_>, &[u8])> {
-    let [one, other, count, high, low, rest @ ..] = bytes else {
-        return None;
-    };
-    let number = identification(*one, *other)?;
-    let mut mask = 256 * *high as u32 + *low as u32;
-    if *count < 2 || *count > 16 || mask == 0 {
-        return None;
+// The number of the identification with which a document begins, or one above all numbers.
+pub fn identification(document: &[u8]) -> u32 {
+    match document {
+        [one @ 1..=254, other @ 1..=254, ..] => {
+            254 * (*one as u32).saturating_sub(1) + (*other as u32).saturating_sub(1)
+        }
+        _ => 65_536,
     }
-    let mut rest = rest;
-    let mut pages = Vec::new(alloc);
-    for _ in 0..*count {
+}
+
+// The bytes of the page m of a sound document, if it is held.
+pub fn page(document: &[u8], m: u8) -> Option<&[u8]> {
+    let mut mask = number(document, 3);
+    let mut at = 5usize;
+    for _ in 1..m {
         if mask % 2 == 1 {
-            let (held, after) = page(rest)?;
-            pages.push(Some(held)).ok()?;
-            rest = after;
-        } else {
-            pages.push(None).ok()?;
+            at = at.saturating_add(2 + number(document, at) as usize);
         }
         mask /= 2;
     }
-    if mask != 0 {
+    if mask % 2 == 0 {
         return None;
     }
-    Some((Entry { number, pages }, rest))
+    let from = at.saturating_add(2);
+    document.get(from..from.saturating_add(number(document, at) as usize))
 }
 
-// The bytes after the version, or the name of the first refusal that applies.
-fn after_version(file: &[u8], version: u8) -> Result<&[u8], &'static str> {
-    if !file.starts_with(b"DMPG") {
-        return Err("NotPages");
+// How many bytes a document has that stands at the front of these, if one does.
+pub fn length_of(bytes: &[u8]) -> Option<usize> {
+    let count = *bytes.get(2)?;
+    let mut mask = number(bytes, 3);
+    if identification(bytes) > 65_535 || count < 2 || count > 16 || mask == 0 {
+        return None;
     }
-    match file.get(4) {
-        Some(byte) if *byte != version => Err("Version"),
-        _ => file.get(5..).ok_or("Damaged"),
-    }
-}
-
-// The document of a file of version 2, or the name of the first refusal that applies.
-pub fn read(alloc: Global, file: &[u8]) -> Result<Entry<'_>, &'static str> {
-    let (entry, rest) = entry_of(alloc, after_version(file, 2)?).ok_or("Damaged")?;
-    if rest.is_empty() {
-        Ok(entry)
-    } else {
-        Err("Damaged")
-    }
-}
-
-// That many documents by rising identification, and nothing after them.
-fn entries(alloc: Global, count: u16, bytes: &[u8]) -> Option<Vec<Joint<'_>>> {
-    let mut rest = bytes;
-    let mut least = 0u32;
-    let mut found = Vec::new(alloc);
+    let mut at = 5usize;
     for _ in 0..count {
-        let (one, after) = entry_of(alloc, rest)?;
-        if (one.number as u32) < least {
-            return None;
+        if mask % 2 == 1 {
+            let length = number(bytes, at);
+            if length > 2_600 {
+                return None;
+            }
+            at = at.saturating_add(2 + length as usize);
         }
-        least = one.number as u32 + 1;
-        let length = rest.len().saturating_sub(after.len());
-        let joint = Joint {
-            number: one.number,
-            bytes: rest.get(..length)?,
-        };
-        found.push(joint).ok()?;
-        rest = after;
+        mask /= 2;
     }
-    rest.is_empty().then_some(found)
+    (mask == 0 && at <= bytes.len()).then_some(at)
 }
 
-// The documents of a file of version 1, or the name of the first refusal that applies.
-pub fn read_joint(alloc: Global, file: &[u8]) -> Result<Vec<Joint<'_>>, &'static str> {
-    let (count, rest) = number(after_version(file, 1)?).ok_or("Damaged")?;
-    entries(alloc, count, rest).ok_or("Damaged")
+// Whether bytes are what a file of version 1 has after its version.
+fn are_joint(bytes: &[u8]) -> bool {
+    let Some(documents) = bytes.get(2..) else {
+        return false;
+    };
+    let mut rest = documents;
+    let mut least = 0u32;
+    for _ in 0..number(bytes, 0) {
+        let number = identification(rest);
+        let Some(length) = length_of(rest) else {
+            return false;
+        };
+        if number < least {
+            return false;
+        }
+        least = number.saturating_add(1);
+        rest = rest.get(length..).unwrap_or(b"");
+    }
+    rest.is_empty()
+}
+
+// The name of the first reason for which a file is none of this version, or `sound`.
+pub fn answer(file: &[u8], version: u8) -> &'static str {
+    if !file.starts_with(b"DMPG") {
+        return "NotPages";
+    }
+    let (Some(found), Some(bytes)) = (file.get(4), file.get(5..)) else {
+        return "Damaged";
+    };
+    let is_sound = if version == 1 {
+        are_joint(bytes)
+    } else {
+        length_of(bytes) == Some(bytes.len())
+    };
+    if *found != version {
+        "Version"
+    } else if is_sound {
+        "sound"
+    } else {
+        "Damaged"
+    }
 }

@@ -15,49 +15,30 @@
 //   2, 2, 2   the first, the last and the next number, of which those from the next to the last one are free; the last
 //             one is 64,515 or below, and the next one may be one above it
 //   2         65,535 less the next number
-use std::alloc::Global;
-use std::slice::Iter;
 
-// The numbers of a ledger.
-#[derive(Drop)]
-pub struct Sheet {
-    pub number: u16,
-    pub next_serial: u16,
-    pub free: Vec<(u16, u16)>,
-    pub givers: Vec<(u16, u16)>,
-}
-
-fn byte(bytes: &mut Iter<'_, u8>) -> Option<u8> {
-    bytes.next().copied()
-}
-
-fn number(bytes: &mut Iter<'_, u8>) -> Option<u16> {
-    let high = byte(bytes)?;
-    let low = byte(bytes)?;
-    Some(256 * high as u16 + low as u16)
-}
-
-// A count, and that many pairs of numbers.
-fn pairs(alloc: Global, bytes: &mut Iter<'_, u8>) -> Option<Vec<(u16, u16)>> {
-    let count = byte(bytes)?;
-    if count > 64 {
-        return None;
+// The number whose two bytes stand at a place, or one above all numbers where they are not there.
+pub fn number(bytes: &[u8], at: usize) -> u32 {
+    match (bytes.get(at), bytes.get(at.saturating_add(1))) {
+        (Some(high), Some(low)) => 256 * *high as u32 + *low as u32,
+        _ => 65_536,
     }
-    let mut pairs = Vec::new(alloc);
-    for _ in 0..count {
-        let one = number(bytes)?;
-        let other = number(bytes)?;
-        pairs.push((one, other)).ok()?;
-    }
-    Some(pairs)
 }
 
-// How many numbers the ranges have, if they are in order.
-fn size_of(ranges: &[(u16, u16)]) -> Option<u32> {
+// The place of the byte that counts the givers of a ledger.
+pub fn givers_at(ledger: &[u8]) -> usize {
+    match ledger.get(9) {
+        Some(ranges) => 10 + 4 * *ranges as usize,
+        None => 10,
+    }
+}
+
+// How many numbers so many ranges of a ledger have, if they are in order.
+fn size_of(ledger: &[u8], ranges: u8) -> Option<u32> {
     let mut size = 0u32;
     let mut least = 0u32;
-    for (first, last) in ranges {
-        let (first, last) = (*first as u32, *last as u32);
+    for range in 0..ranges {
+        let at = 10 + 4 * range as usize;
+        let (first, last) = (number(ledger, at), number(ledger, at + 2));
         if first < least || last < first || last > 64_515 {
             return None;
         }
@@ -67,83 +48,69 @@ fn size_of(ranges: &[(u16, u16)]) -> Option<u32> {
     Some(size)
 }
 
-fn rise(givers: &[(u16, u16)]) -> bool {
+// Whether the numbers of so many givers from a place on rise.
+fn rise(ledger: &[u8], at: usize, givers: u8) -> bool {
     let mut least = 0u32;
-    for (giver, _) in givers {
-        if (*giver as u32) < least {
+    for giver in 0..givers {
+        let number = number(ledger, at.saturating_add(4 * giver as usize));
+        if number < least {
             return false;
         }
-        least = *giver as u32 + 1;
+        least = number.saturating_add(1);
     }
     true
 }
 
-// The ledger that bytes spell by the table.
-pub fn read(alloc: Global, ledger: &[u8]) -> Option<Sheet> {
-    let mut bytes = ledger.iter();
-    for sign in b"DMLG\x02" {
-        if byte(&mut bytes)? != *sign {
-            return None;
-        }
-    }
-    let sheet = Sheet {
-        number: number(&mut bytes)?,
-        next_serial: number(&mut bytes)?,
-        free: pairs(alloc, &mut bytes)?,
-        givers: pairs(alloc, &mut bytes)?,
+// Whether bytes that begin as a ledger of version 2 are one.
+fn is_second(ledger: &[u8]) -> bool {
+    let at = givers_at(ledger);
+    let (Some(ranges), Some(givers)) = (ledger.get(9), ledger.get(at)) else {
+        return false;
     };
-    let check = number(&mut bytes)? as u32;
-    let size = size_of(sheet.free.as_slice())?;
-    let is_ledger = size.saturating_add(check) == 65_535
-        && rise(sheet.givers.as_slice())
-        && bytes.next().is_none();
-    is_ledger.then_some(sheet)
+    let (ranges, givers) = (*ranges, *givers);
+    let length = at.saturating_add(3 + 4 * givers as usize);
+    if ranges > 64 || givers > 64 || ledger.len() != length {
+        return false;
+    }
+    let check = number(ledger, length.saturating_sub(2));
+    let size = size_of(ledger, ranges);
+    rise(ledger, at.saturating_add(1), givers) && size == 65_535u32.checked_sub(check)
 }
 
-// The ledger of a printer of this number that bytes of version 1 spell by the table.
-fn read_first(alloc: Global, ledger: &[u8], printer: u16) -> Option<Sheet> {
-    let mut bytes = ledger.get(5..)?.iter();
-    let first = number(&mut bytes)?;
-    let last = number(&mut bytes)?;
-    let next = number(&mut bytes)?;
-    let check = number(&mut bytes)?;
-    let is_ledger = first <= next
-        && next as u32 <= last as u32 + 1
+// Whether bytes that begin as a ledger of version 1 are one.
+fn is_first(ledger: &[u8]) -> bool {
+    let (first, last, next) = (number(ledger, 5), number(ledger, 7), number(ledger, 9));
+    ledger.len() == 13
         && first <= last
         && last <= 64_515
-        && check == 65_535 - next
-        && bytes.next().is_none();
-    let mut free = Vec::new(alloc);
-    if next <= last {
-        free.push((next, last)).ok()?;
-    }
-    is_ledger.then_some(Sheet {
-        number: printer,
-        next_serial: 0,
-        free,
-        givers: Vec::new(alloc),
-    })
+        && first <= next
+        && next <= last + 1
+        && Some(number(ledger, 11)) == 65_535u32.checked_sub(next)
 }
 
-// The ledger of a printer of this number that bytes spell by the tables, or the name of the first refusal that applies.
-pub fn answer(alloc: Global, ledger: &[u8], printer: u16) -> Result<Sheet, &'static str> {
+// The name of the first refusal to open bytes as the ledger of a printer, or `opened`.
+pub fn answer(ledger: &[u8], printer: u32) -> &'static str {
     if !ledger.starts_with(b"DMLG") {
-        return Err("NotALedger");
+        return "NotALedger";
     }
-    let sheet = match ledger.get(4) {
-        Some(1) => read_first(alloc, ledger, printer),
-        Some(2) => read(alloc, ledger),
-        Some(_) => return Err("Version"),
-        None => None,
-    };
-    match sheet {
-        Some(sheet) => {
-            if sheet.number == printer {
-                Ok(sheet)
+    match ledger.get(4) {
+        Some(1) => {
+            if is_first(ledger) {
+                "opened"
             } else {
-                Err("Number")
+                "Damaged"
             }
         }
-        None => Err("Damaged"),
+        Some(2) => {
+            if !is_second(ledger) {
+                "Damaged"
+            } else if number(ledger, 5) != printer {
+                "Number"
+            } else {
+                "opened"
+            }
+        }
+        Some(_) => "Version",
+        None => "Damaged",
     }
 }

@@ -2,115 +2,100 @@
 // another ticket, of exactly these bytes; and a printer takes that one, or refuses it by the name of the first of its
 // rules that applies.
 use crate::spoiled::LEDGER;
-use crate::table::{Sheet, read};
+use crate::table::{givers_at, number};
 use dm_print_ledger::{Printer, Ticket};
 use dm_store::MemStore;
-use std::alloc::Global;
-use std::process::Abort;
+use std::alloc::{AllocError, Global};
 use std::test::Fail;
 use test_helpers::{count, spoiled};
 
-// The ticket 3 of the printer 9, for the printer 7: the numbers 30 to 35.
+// The ticket 3 of the printer 9, for the printer 7: the numbers 30 to 35. A ticket has, of two bytes each, the giver,
+// its serial, the receiver, and the first and the last number.
 const TICKET: &[u8] = b"\x00\x09\x00\x03\x00\x07\x00\x1e\x00\x23";
+
+// The ranges and the givers of the ledger.
+const FREE: [(u32, u32); 3] = [(1, 4), (7, 9), (20, 21)];
+
+const GIVERS: [(u32, u32); 2] = [(3, 0), (9, 2)];
 
 // What is done with a copy of a ticket: it is none, it is taken, or it is refused by a name.
 const ANSWERS: [&str; 5] = ["none", "taken", "Receiver", "Old", "Overlap"];
 
-// The ticket of ten bytes, by the table: its giver, its serial, its receiver, its first and its last number.
-fn numbers_of(bytes: &[u8]) -> Option<[u16; 5]> {
-    let [a, b, c, d, e, f, g, h, i, j] = bytes else {
-        return None;
-    };
-    let mut numbers = [0u16; 5];
-    let pairs = [(a, b), (c, d), (e, f), (g, h), (i, j)];
-    for (number, (high, low)) in numbers.iter_mut().zip(pairs) {
-        *number = 256 * *high as u16 + *low as u16;
+// What the rules say of bytes.
+fn wanted(bytes: &[u8]) -> &'static str {
+    let (first, last) = (number(bytes, 6), number(bytes, 8));
+    if bytes.len() != 10 || first > last || last > 64_515 {
+        return "none";
     }
-    let [_, _, _, first, last] = numbers;
-    (first <= last && last <= 64_515).then_some(numbers)
-}
-
-// What the printer of a sheet answers to a ticket of these numbers.
-fn answer(sheet: &Sheet, numbers: [u16; 5]) -> &'static str {
-    let [giver, serial, receiver, first, last] = numbers;
-    if receiver != sheet.number || giver == receiver {
+    let (giver, serial) = (number(bytes, 0), number(bytes, 2));
+    if number(bytes, 4) != 7 || giver == 7 {
         return "Receiver";
     }
-    if sheet
-        .givers
-        .iter()
-        .any(|taken| taken.0 == giver && serial <= taken.1)
-    {
-        return "Old";
+    for (taken, least) in GIVERS {
+        if taken == giver && serial <= least {
+            return "Old";
+        }
     }
-    if sheet
-        .free
-        .iter()
-        .any(|free| free.0 <= last && first <= free.1)
-    {
-        return "Overlap";
+    for (least, most) in FREE {
+        if least <= last && first <= most {
+            return "Overlap";
+        }
     }
     "taken"
 }
 
-// The ledger that is saved once a ticket of these numbers was taken has the numbers and the serial of the ticket, and
-// no more numbers than before and these.
-fn is_taken(
-    rt: &impl Abort,
-    alloc: Global,
-    printer: Printer<MemStore>,
-    numbers: [u16; 5],
-) -> Result<(), Fail> {
-    let [giver, serial, _, first, last] = numbers;
-    let more = (last as u32 + 1).saturating_sub(first as u32);
-    assert!(rt; printer.left() == more.saturating_add(9), "{numbers:?}");
-    let store = printer.close();
-    let saved = read(alloc, store.content().unwrap_or(b"")).ok_or("no ledger")?;
-    assert!(rt; (saved.number, saved.next_serial) == (7, 3));
-    assert!(rt; saved.givers.contains(&(giver, serial)), "{numbers:?}");
-    let has_all = saved
-        .free
-        .iter()
-        .any(|free| free.0 <= first && last <= free.1);
-    assert!(rt; has_all, "{numbers:?}");
-    Ok(())
+// Whether the ledger that is saved after a ticket was taken is still the printer's, with its serial 3, and has the
+// numbers of the ticket in one range, and its giver and serial.
+fn is_taken(saved: &[u8], ticket: &[u8]) -> bool {
+    let (mut is_free, mut is_given) = (false, false);
+    for range in 0..saved.get(9).copied().unwrap_or(0) {
+        let at = 10 + 4 * range as usize;
+        let is_below = number(saved, at) <= number(ticket, 6);
+        is_free = is_free || is_below && number(ticket, 8) <= number(saved, at + 2);
+    }
+    let from = givers_at(saved).saturating_add(1);
+    for giver in 0..3u8 {
+        let at = from.saturating_add(4 * giver as usize);
+        is_given = is_given || saved.get(at..at.saturating_add(4)) == ticket.get(..4);
+    }
+    (number(saved, 5), number(saved, 7)) == (7, 3) && is_free && is_given
 }
 
-// A printer takes a ticket: the answer is that of the rules, and what is saved then has the ticket, or is as before.
-fn take(
-    rt: &impl Abort,
-    alloc: Global,
-    ticket: &Ticket,
-    numbers: [u16; 5],
-) -> Result<&'static str, Fail> {
+// What a printer answers to a ticket, where what is saved then has the ticket, or is as before.
+fn take(alloc: Global, ticket: &Ticket, bytes: &[u8]) -> Result<&'static str, AllocError> {
     let store = MemStore::with(alloc, LEDGER.to_vec(alloc)?);
     let Ok(mut printer) = Printer::open(alloc, store, 7) else {
-        return Err("no printer".into());
+        return Ok("no printer");
     };
-    let answered = match printer.take(ticket) {
-        Ok(()) => {
-            is_taken(rt, alloc, printer, numbers)?;
-            "taken"
-        }
-        Err(fault) => {
-            assert!(rt; printer.close().content() == Some(LEDGER), "{numbers:?}");
-            fault.name()
-        }
+    let name = match printer.take(ticket) {
+        Ok(()) => "taken",
+        Err(fault) => fault.name(),
     };
-    let sheet = read(alloc, LEDGER).ok_or("no sheet")?;
-    assert!(rt; answered == answer(&sheet, numbers), "{numbers:?}");
-    Ok(answered)
+    let more = number(bytes, 8)
+        .saturating_add(1)
+        .saturating_sub(number(bytes, 6));
+    let has_more = printer.left() == more.saturating_add(9);
+    let store = printer.close();
+    let saved = store.content().unwrap_or(b"");
+    let is_right = if name == "taken" {
+        has_more && is_taken(saved, bytes)
+    } else {
+        saved == LEDGER
+    };
+    Ok(if is_right { name } else { "another ledger" })
 }
 
 // What is done with the ticket of some bytes.
-fn done(rt: &impl Abort, alloc: Global, bytes: &[u8]) -> Result<&'static str, Fail> {
-    match (Ticket::of_bytes(bytes), numbers_of(bytes)) {
-        (Some(ticket), Some(numbers)) => {
-            assert!(rt; ticket.bytes().as_slice() == bytes);
-            take(rt, alloc, &ticket, numbers)
+fn done(alloc: Global, bytes: &[u8]) -> Result<&'static str, AllocError> {
+    match Ticket::of_bytes(bytes) {
+        Some(ticket) => {
+            if ticket.bytes().as_slice() == bytes {
+                take(alloc, &ticket, bytes)
+            } else {
+                Ok("other bytes")
+            }
         }
-        (None, None) => Ok("none"),
-        _ => Err("a ticket, or none, against the table".into()),
+        None => Ok("none"),
     }
 }
 
@@ -119,11 +104,9 @@ fn done(rt: &impl Abort, alloc: Global, bytes: &[u8]) -> Result<&'static str, Fa
 fn each_byte_of_a_ticket_is_spoiled(rt: HostRuntime) -> Result<(), Fail> {
     let mut counts = [0u32; 5];
     for copy in spoiled(rt.alloc(), TICKET)?.iter() {
-        count(
-            &mut counts,
-            &ANSWERS,
-            done(&rt, rt.alloc(), copy.as_slice())?,
-        );
+        let name = done(rt.alloc(), copy.as_slice())?;
+        assert!(rt; name == wanted(copy.as_slice()), "{copy:?}");
+        count(&mut counts, &ANSWERS, name);
     }
     assert!(rt; counts == [3335, 1515, 511, 3, 22]);
     Ok(())

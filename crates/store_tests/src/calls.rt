@@ -1,84 +1,117 @@
-//! Calls on a store or a set, each with the answer that it is to give.
+//! One call on a store in a file or on a set in a folder, and the name of its answer.
 
-use dm_store::{LoadFault, RemoveFault, ReplaceFault, Store, StoreSet};
-use std::alloc::Allocator;
-use std::process::Abort;
+use crate::scripted::Scripted;
+use dm_store::{FileSet, FileStore, LoadFault, RemoveFault, ReplaceFault, Store, StoreSet};
+use std::alloc::{Allocator, Global};
+use test_helpers::Refusing;
 
-// One call on a store.
-#[derive(Clone, Copy)]
-pub enum Call<'a> {
-    Load(usize, Result<Option<&'a [u8]>, LoadFault>),
-    Replace(&'a [u8], Result<(), ReplaceFault>),
+// A call: on the store in the file `pages/0001`, or on that of the key 1 of the set in the folder `pages`. Bytes are
+// loaded under a limit, and `three` is what replaces them.
+pub enum Call {
+    Load(usize),
+    Replace,
+    LoadKey(usize),
+    ReplaceKey,
+    RemoveKey,
+    // The keys under a limit, and those that are wanted.
+    Keys(usize, &'static [u16]),
 }
 
-// One call on a set.
-#[derive(Clone, Copy)]
-pub enum SetCall<'a> {
-    Keys(usize, Result<&'a [u16], LoadFault>),
-    Load(u16, usize, Result<Option<&'a [u8]>, LoadFault>),
-    Replace(u16, &'a [u8], Result<(), ReplaceFault>),
-    Remove(u16, Result<(), RemoveFault>),
+// The allocator of a call.
+pub type Memory = Refusing<Global>;
+
+// Files under a script, and the allocator that the names of a folder are given in.
+type Files<'a> = (&'a Scripted, Global);
+
+// These bytes, if they are a text that the tests save, or the beginning of one.
+pub fn text_of(bytes: &[u8]) -> &'static str {
+    for text in ["one", "three", "on", "o"] {
+        if text.as_bytes() == bytes {
+            return text;
+        }
+    }
+    "other bytes"
 }
 
-// Whether these bytes are there, or nothing where none are wanted.
-pub fn holds(content: Option<&[u8]>, wanted: Option<&[u8]>) -> bool {
-    match (content, wanted) {
-        (Some(bytes), Some(wanted)) => bytes == wanted,
-        (None, None) => true,
-        _ => false,
+fn loaded<A: Allocator>(answer: Result<Option<Vec<u8, A>>, LoadFault>) -> &'static str {
+    match answer {
+        Ok(Some(bytes)) => text_of(bytes.as_slice()),
+        Ok(None) => "nothing",
+        Err(LoadFault::Device) => "Device",
+        Err(LoadFault::Memory) => "Memory",
     }
 }
 
-// Whether a load gave what it was to give.
-fn gave<A: Allocator>(
-    loaded: &Result<Option<Vec<u8, A>>, LoadFault>,
-    wanted: &Result<Option<&[u8]>, LoadFault>,
-) -> bool {
-    match (loaded, wanted) {
-        (Ok(Some(bytes)), Ok(wanted)) => holds(Some(bytes.as_slice()), *wanted),
-        (Ok(None), Ok(wanted)) => wanted.is_none(),
-        (Err(fault), Err(wanted)) => fault == wanted,
-        _ => false,
+fn replaced(answer: Result<(), ReplaceFault>) -> &'static str {
+    match answer {
+        Ok(()) => "done",
+        Err(ReplaceFault::Device) => "Device",
+        Err(ReplaceFault::Memory) => "Memory",
     }
 }
 
-// Whether a set listed the keys that it was to list.
-fn listed<A: Allocator>(
-    keys: &Result<Vec<u16, A>, LoadFault>,
-    wanted: &Result<&[u16], LoadFault>,
-) -> bool {
-    match (keys, wanted) {
-        (Ok(keys), Ok(wanted)) => keys.as_slice() == *wanted,
-        (Err(fault), Err(wanted)) => fault == wanted,
-        _ => false,
+fn removed(answer: Result<(), RemoveFault>) -> &'static str {
+    match answer {
+        Ok(()) => "done",
+        Err(RemoveFault::Device) => "Device",
+        Err(RemoveFault::Memory) => "Memory",
     }
 }
 
-fn answers<S: Store>(store: &mut S, call: &Call<'_>) -> bool {
+fn listed<A: Allocator>(answer: Result<Vec<u16, A>, LoadFault>, wanted: &[u16]) -> &'static str {
+    match answer {
+        Ok(keys) => {
+            if keys.as_slice() == wanted {
+                "done"
+            } else {
+                "other keys"
+            }
+        }
+        Err(LoadFault::Device) => "Device",
+        Err(LoadFault::Memory) => "Memory",
+    }
+}
+
+// The answer to a call on the store in the file of the key 1 of a folder. Its path takes memory too.
+fn of_store<A: Allocator + Copy>(
+    files: &Scripted,
+    memory: A,
+    folder: &str,
+    call: &Call,
+) -> &'static str {
+    let Ok(path) = format!(in memory; "{folder}/0001") else {
+        return "Memory";
+    };
+    let mut store = FileStore::new(memory, files, path);
     match call {
-        Call::Load(limit, wanted) => gave(&store.load(*limit), wanted),
-        Call::Replace(bytes, wanted) => store.replace(*bytes) == *wanted,
+        Call::Load(limit) => loaded(store.load(*limit)),
+        _ => replaced(store.replace(b"three")),
     }
 }
 
-fn set_answers<S: StoreSet>(set: &mut S, call: &SetCall<'_>) -> bool {
+// The same of the set in a folder.
+fn of_set<A: Allocator + Copy>(
+    files: &Files<'_>,
+    memory: A,
+    folder: &str,
+    call: &Call,
+) -> &'static str {
+    let Ok(path) = String::from_str(memory, folder) else {
+        return "Memory";
+    };
+    let mut set = FileSet::new(memory, files, path);
     match call {
-        SetCall::Keys(limit, wanted) => listed(&set.keys(*limit), wanted),
-        SetCall::Load(key, limit, wanted) => gave(&set.load(*key, *limit), wanted),
-        SetCall::Replace(key, bytes, wanted) => set.replace(*key, *bytes) == *wanted,
-        SetCall::Remove(key, wanted) => set.remove(*key) == *wanted,
+        Call::LoadKey(limit) => loaded(set.load(1, *limit)),
+        Call::RemoveKey => removed(set.remove(1)),
+        Call::Keys(limit, wanted) => listed(set.keys(*limit), wanted),
+        _ => replaced(set.replace(1, b"three")),
     }
 }
 
-// Makes the calls in turn, and stops at the first that gives another answer.
-pub fn run<S: Store>(rt: &impl Abort, store: &mut S, calls: &[Call<'_>]) {
-    for (place, call) in calls.iter().enumerate() {
-        assert!(rt; answers(store, call), "call {place}");
-    }
-}
-
-pub fn run_set<S: StoreSet>(rt: &impl Abort, set: &mut S, calls: &[SetCall<'_>]) {
-    for (place, call) in calls.iter().enumerate() {
-        assert!(rt; set_answers(set, call), "call {place}");
+// The answer to a call over files under a script.
+pub fn answer(files: &Scripted, memory: &Memory, folder: &str, call: &Call) -> &'static str {
+    match call {
+        Call::Load(_) | Call::Replace => of_store(files, memory, folder, call),
+        _ => of_set(&(files, files.alloc()), memory, folder, call),
     }
 }

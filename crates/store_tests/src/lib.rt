@@ -1,20 +1,14 @@
-//! Tests of stores and sets of stores on real files, with each call on the file system failing in turn, and over an
-//! allocator that refuses each growth in turn.
+//! Tests of stores and sets of stores: on real files, with each call on the file system failing in turn, and over an
+//! allocator that refuses each growth in turn. The texts of their faults.
 #![tactic(auto)]
 
 #[cfg(test)]
 mod calls;
 #[cfg(test)]
-mod faulty;
+mod files;
 #[cfg(test)]
-mod folder;
+mod memory;
 #[cfg(test)]
-mod on_files;
-#[cfg(test)]
-mod order;
-#[cfg(test)]
-mod refused;
+mod scripted;
 #[cfg(test)]
 mod texts;
-#[cfg(test)]
-mod watched;

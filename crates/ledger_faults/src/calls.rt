@@ -1,0 +1,260 @@
+// A printer whose store stops at each of the device calls, under both ends of a stopped save, and a printer to which
+// each growth of memory is refused in turn. A call that was refused for lack of memory has changed nothing, and is done
+// when it is made again, by the same printer or by one that is opened on what is saved. After a save that failed the
+// printer is opened again, and goes on: no identification is given twice.
+use dm_check_blocks::Size;
+use dm_encodation::Scheme;
+use dm_print_ledger::{Printer, Range, Ticket};
+use dm_store::{FuseStore, Kept, MemStore};
+use std::alloc::Global;
+use std::process::Abort;
+use test_helpers::Refusing;
+
+type Memory = Refusing<Global>;
+
+// A store in memory that stops after some calls, and a printer over it.
+type FusedStore<'a> = FuseStore<MemStore<&'a Memory>>;
+
+type FusedPrinter<'a> = Printer<FusedStore<'a>, &'a Memory>;
+
+// A call on the printer 0 of the numbers 0 to 9.
+enum Call {
+    // A print of a document of two labels, which is to get this number.
+    Print(u16),
+    // The numbers 5 and 6 are given to the printer 3.
+    Give,
+    // The ticket 0 of the printer 1 is taken: the numbers 20 and 21.
+    Take,
+}
+
+// A call, what is answered to it again where its save was made but failed, and what is saved after it. A document whose
+// print failed so is not printed again here: its number is lost.
+struct Row {
+    call: Call,
+    again: Option<&'static str>,
+    saved: &'static [u8],
+}
+
+const RANGE: Range = Range { first: 0, last: 9 };
+
+const GIVEN: [u8; 10] = [0, 0, 0, 0, 0, 3, 0, 5, 0, 6];
+
+const TAKEN: [u8; 10] = [0, 1, 0, 0, 0, 0, 0, 20, 0, 21];
+
+const CREATED: &[u8] = b"DMLG\x02\x00\x00\x00\x00\x01\x00\x00\x00\x09\x00\xff\xf5";
+
+const ROWS: &[Row] = &[
+    Row {
+        call: Call::Print(0),
+        again: None,
+        saved: b"DMLG\x02\x00\x00\x00\x00\x01\x00\x01\x00\x09\x00\xff\xf6",
+    },
+    Row {
+        call: Call::Give,
+        again: Some("NotFree"),
+        saved: b"DMLG\x02\x00\x00\x00\x01\x02\x00\x01\x00\x04\x00\x07\x00\x09\x00\xff\xf8",
+    },
+    Row {
+        call: Call::Take,
+        again: Some("Old"),
+        saved: b"DMLG\x02\x00\x00\x00\x01\x03\x00\x01\x00\x04\x00\x07\x00\x09\x00\x14\x00\x15\
+            \x01\x00\x01\x00\x00\xff\xf6",
+    },
+    Row {
+        call: Call::Print(1),
+        again: None,
+        saved: b"DMLG\x02\x00\x00\x00\x01\x03\x00\x02\x00\x04\x00\x07\x00\x09\x00\x14\x00\x15\
+            \x01\x00\x01\x00\x00\xff\xf7",
+    },
+];
+
+// More growths than all calls together ask for, and more device calls than they make.
+const MANY: u32 = 1000;
+
+// What is answered to a call.
+fn made(printer: &mut FusedPrinter<'_>, call: &Call) -> &'static str {
+    match call {
+        Call::Print(id) => match printer.print(b"1234", Size::Side12, Scheme::Ascii) {
+            Ok(job) => {
+                if job.id().number() == *id {
+                    "done"
+                } else {
+                    "another number"
+                }
+            }
+            Err(fault) => fault.name(),
+        },
+        Call::Give => match printer.give(3, Range { first: 5, last: 6 }) {
+            Ok(ticket) => {
+                if ticket.bytes() == GIVEN {
+                    "done"
+                } else {
+                    "another ticket"
+                }
+            }
+            Err(fault) => fault.name(),
+        },
+        Call::Take => match Ticket::of_bytes(&TAKEN) {
+            Some(ticket) => match printer.take(&ticket) {
+                Ok(()) => "done",
+                Err(fault) => fault.name(),
+            },
+            None => "no ticket",
+        },
+    }
+}
+
+// The printer over what is saved, which is to be this, in a store that stops no more.
+fn opened<'a>(
+    rt: &impl Abort,
+    memory: &'a Memory,
+    store: FusedStore<'a>,
+    saved: &[u8],
+) -> FusedPrinter<'a> {
+    let store = store.into_inner();
+    assert!(rt; store.content() == Some(saved));
+    match Printer::open(memory, FuseStore::new(store, MANY, Kept::Old), 0) {
+        Ok(printer) => Some(printer),
+        Err(refused) => {
+            let _store = refused.store;
+            None
+        }
+    }
+    .expect(rt, "it is opened")
+}
+
+// The printer is created, again where it was refused; where the first ledger was saved although that failed, it is
+// opened.
+fn created<'a>(
+    rt: &impl Abort,
+    memory: &'a Memory,
+    store: FusedStore<'a>,
+    is_saved: bool,
+) -> FusedPrinter<'a> {
+    let refused = match Printer::create(memory, store, 0, RANGE) {
+        Ok(printer) => return printer,
+        Err(refused) => refused,
+    };
+    if is_saved {
+        return opened(rt, memory, refused.store, CREATED);
+    }
+    let store = refused.store.into_inner();
+    assert!(rt; store.content().is_none());
+    match Printer::create(memory, FuseStore::new(store, MANY, Kept::Old), 0, RANGE) {
+        Ok(printer) => Some(printer),
+        Err(refused) => {
+            let _store = refused.store;
+            None
+        }
+    }
+    .expect(rt, "it is created")
+}
+
+// How a row is tried: the memory of its printer, what a stopped save leaves, and whether a printer that was refused
+// memory is opened again too.
+#[derive(Drop)]
+struct Way<'a> {
+    memory: &'a Memory,
+    kept: Kept,
+    is_reopened: bool,
+}
+
+// The printer after a row whose call had this other answer at first, and before which this was saved.
+fn made_again<'a>(
+    rt: &impl Abort,
+    way: &Way<'a>,
+    printer: FusedPrinter<'a>,
+    row: &Row,
+    before: &[u8],
+    answer: &str,
+) -> FusedPrinter<'a> {
+    let mut printer = printer;
+    let is_saved = answer == "Save" && way.kept == Kept::New;
+    if answer == "Save" {
+        assert!(rt; made(&mut printer, &row.call) == "Failed");
+    } else {
+        assert!(rt; answer == "Memory");
+    }
+    if answer == "Save" || way.is_reopened {
+        let saved = if is_saved { row.saved } else { before };
+        printer = opened(rt, way.memory, printer.close(), saved);
+    }
+    let wanted = if is_saved { row.again } else { Some("done") };
+    if let Some(wanted) = wanted {
+        assert!(rt; made(&mut printer, &row.call) == wanted);
+    }
+    printer
+}
+
+// All calls over a store that stops after so many device calls: the place of the row that was not done at first, if
+// there is one.
+fn run(rt: &impl Abort, way: &Way<'_>, passes: u32) -> Option<usize> {
+    let store = FuseStore::new(MemStore::new(way.memory), passes, way.kept);
+    let is_saved = passes == 1 && way.kept == Kept::New;
+    let printer = created(rt, way.memory, store, is_saved);
+    let mut printer = match Printer::open(way.memory, printer.close(), 0) {
+        Ok(printer) => printer,
+        Err(refused) => opened(rt, way.memory, refused.store, CREATED),
+    };
+    let mut before = CREATED;
+    let mut stopped = None;
+    for (place, row) in ROWS.iter().enumerate() {
+        let answer = made(&mut printer, &row.call);
+        if answer != "done" {
+            stopped = Some(place);
+            printer = made_again(rt, way, printer, row, before, answer);
+        }
+        before = row.saved;
+    }
+    assert!(rt; printer.close().into_inner().content() == Some(before));
+    stopped
+}
+
+#[test]
+fn the_store_stops_at_each_call(rt: HostRuntime) {
+    let memory = Refusing::new(rt.alloc(), u64::MAX);
+    for kept in [Kept::Old, Kept::New] {
+        let way = Way {
+            memory: &memory,
+            kept,
+            is_reopened: false,
+        };
+        for passes in 0..3 {
+            assert!(rt; run(&rt, &way, passes).is_none());
+        }
+        for place in 0..ROWS.len() {
+            assert!(rt; run(&rt, &way, 3 + place as u32) == Some(place));
+        }
+        assert!(rt; run(&rt, &way, MANY).is_none());
+    }
+}
+
+#[test]
+fn each_growth_is_refused(rt: HostRuntime) {
+    for is_reopened in [false, true] {
+        let mut refusals = [0u32; 4];
+        let mut is_done = false;
+        for passes in 0..MANY {
+            let memory = Refusing::new(rt.alloc(), u64::from(passes));
+            let way = Way {
+                memory: &memory,
+                kept: Kept::Old,
+                is_reopened,
+            };
+            if let Some(place) = run(&rt, &way, MANY) {
+                assert!(rt; memory.is_spent());
+                if let Some(count) = refusals.get_mut(place) {
+                    *count = count.saturating_add(1);
+                }
+            }
+            if !memory.is_spent() {
+                is_done = true;
+                break;
+            }
+        }
+        assert!(rt; is_done);
+        // Each call takes memory, and a print much more of it than the others.
+        let [print, give, take, again] = refusals;
+        assert!(rt; print > give && give > 0 && take > 0 && again > 0);
+    }
+}
