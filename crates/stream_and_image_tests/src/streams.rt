@@ -1,105 +1,90 @@
-//! Inputs and outputs over readers and writers that fail in mid-stream, and over one that is interrupted.
+//! Inputs and outputs over readers and writers that fail in mid-stream, and over one that is interrupted; and the texts
+//! of the faults of streams and of images.
 
-use crate::failing::{FailingReader, FailingWriter, InterruptedReader};
+use dm_pbm_io::{PbmFault, ShapeFault};
 use relay_streams::{Input, InputFault, Output, ReadFault, WriteFault};
 use std::test::Fail;
+use test_helpers::{FailingReader, FailingWriter, InterruptedReader};
 
 const TEXT: &[u8] = b"relay";
 
 #[test]
 fn a_failed_read_is_remembered(rt: HostRuntime) {
     for passes in 0..TEXT.len() {
-        let mut input = Input::new(FailingReader {
-            bytes: TEXT,
-            passes,
-        });
+        let mut input = Input::new(FailingReader::new(TEXT, passes));
         for (at, byte) in TEXT.iter().enumerate() {
-            let want = if at < passes {
-                Ok(Some(*byte))
-            } else {
-                Err(ReadFault::Read)
-            };
-            assert!(rt; input.next_byte() == want, "byte {at} of {passes}");
+            let has_failed = at >= passes;
+            let answer = input.next_byte();
             assert!(rt;
-                input.has_failed() == (at >= passes),
-                "byte {at} of {passes}"
+                answer
+                    == if has_failed {
+                        Err(ReadFault::Read)
+                    } else {
+                        Ok(Some(*byte))
+                    }
             );
+            assert!(rt; input.has_failed() == has_failed, "byte {at} of {passes}");
         }
     }
 }
 
+// An interrupted read is made again; of a reader that fails, the first bytes are given where they come before.
 #[test]
-fn an_interrupted_read_is_made_again(rt: HostRuntime) -> Result<(), Fail> {
-    let mut input = Input::new(InterruptedReader {
-        bytes: TEXT,
-        rests: false,
-    });
-    for byte in TEXT {
-        assert!(rt; input.next_byte() == Ok(Some(*byte)));
-    }
-    assert!(rt; input.next_byte() == Ok(None));
-    assert!(rt; !input.has_failed());
-    let mut again = Input::new(InterruptedReader {
-        bytes: TEXT,
-        rests: false,
-    });
-    let all = again.read_up_to(rt.alloc(), 100)?;
-    assert!(rt; all.as_slice() == TEXT);
-    assert!(rt; !again.has_failed());
-    Ok(())
-}
-
-#[test]
-fn the_first_bytes_of_a_failing_reader(rt: HostRuntime) -> Result<(), Fail> {
+fn the_first_bytes_are_read(rt: HostRuntime) -> Result<(), Fail> {
     for passes in 0..TEXT.len() {
+        let mut interrupted = Input::new(InterruptedReader::new(TEXT, passes));
+        let whole = interrupted.read_up_to(rt.alloc(), 100)?;
+        assert!(rt; whole.as_slice() == TEXT && !interrupted.has_failed());
         for limit in 0..8 {
-            let mut input = Input::new(FailingReader {
-                bytes: TEXT,
-                passes,
-            });
-            match input.read_up_to(rt.alloc(), limit) {
-                Ok(first) => {
-                    assert!(rt; limit <= passes && !input.has_failed());
-                    assert!(rt; first.len() == limit);
-                    assert!(rt; TEXT.starts_with(&first));
-                }
-                Err(fault) => {
-                    assert!(rt; fault == InputFault::Read);
-                    assert!(rt; limit > passes && input.has_failed());
-                }
-            }
+            let mut input = Input::new(FailingReader::new(TEXT, passes));
+            let is_whole = match input.read_up_to(rt.alloc(), limit) {
+                Ok(first) => first.len() == limit && TEXT.starts_with(&first),
+                Err(fault) => fault == InputFault::Read && input.has_failed() && limit > passes,
+            };
+            assert!(rt; is_whole && input.has_failed() == (limit > passes));
         }
     }
     Ok(())
 }
 
 #[test]
-fn a_failed_write_is_remembered(rt: HostRuntime) -> Result<(), Fail> {
-    let alloc = rt.alloc();
+fn a_failed_write_is_remembered(rt: HostRuntime) {
     for passes in 0..14 {
-        let mut output = Output::new(FailingWriter {
-            bytes: Vec::new(alloc),
-            passes,
-        });
+        let mut output = Output::new(FailingWriter::new(Vec::new(rt.alloc()), passes));
         let put = output.put_refusal("Read");
-        assert!(rt; put.is_err() == (passes < 13), "{passes} bytes");
-        assert!(rt; output.has_failed() == (passes < 13), "{passes} bytes");
-        let written = output.into_writer().bytes;
-        assert!(rt; b"refused Read\n".starts_with(&written), "{passes} bytes");
-        assert!(rt; written.len() == passes.min(13), "{passes} bytes");
+        assert!(rt; put.is_err() == (passes < 13) && output.has_failed() == (passes < 13));
+        let written = output.writer().taken();
+        assert!(rt; written.len() == passes.min(13) && b"refused Read\n".starts_with(written));
     }
-    Ok(())
 }
+
+const TEXTS: &str = "\
+the input could not be read
+the input could not be read, out of memory
+the output could not be written
+the input does not begin with P1 or P4, the header is invalid, the image is too large
+the input ends inside the image, the raster has a byte that is no pixel
+the input could not be read, out of memory
+the image has not the shape of a symbol, out of memory";
 
 #[test]
 fn faults_say_what_is_wrong(rt: HostRuntime) -> Result<(), Fail> {
-    let text = format!(in rt.alloc(); "{}", ReadFault::Read)?;
-    assert!(rt; text.as_str() == "the input could not be read");
-    let text = format!(in rt.alloc(); "{}", InputFault::Read)?;
-    assert!(rt; text.as_str() == "the input could not be read");
-    let text = format!(in rt.alloc(); "{}", InputFault::Memory)?;
-    assert!(rt; text.as_str() == "out of memory");
-    let text = format!(in rt.alloc(); "{}", WriteFault::Write)?;
-    assert!(rt; text.as_str() == "the output could not be written");
+    let texts = format!(in rt.alloc();
+        "{}\n{}, {}\n{}\n{}, {}, {}\n{}, {}\n{}, {}\n{}, {}",
+        ReadFault::Read,
+        InputFault::Read,
+        InputFault::Memory,
+        WriteFault::Write,
+        PbmFault::Magic,
+        PbmFault::Header,
+        PbmFault::TooLarge,
+        PbmFault::Cut,
+        PbmFault::Pixel,
+        PbmFault::Read,
+        PbmFault::Memory,
+        ShapeFault::Shape,
+        ShapeFault::Memory,
+    )?;
+    assert!(rt; texts.as_str() == TEXTS);
     Ok(())
 }

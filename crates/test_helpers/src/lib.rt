@@ -2,18 +2,15 @@
 //! writers that fail, are interrupted or never end, and a look at the text of a fault.
 //!
 //! Proved: each call returns and is safe, and [`Refusing`] is an allocator, so that what owns memory of it owns memory
-//! of the allocator within. What else the comments say has no contract: the tests of this crate show it.
+//! of the allocator within. What else the comments say has no contract:
+//! `stream_and_image_tests` shows it.
 #![tactic(auto)]
 
 mod failing;
 mod interrupted;
 mod refusing;
-#[cfg(test)]
-mod refusing_tests;
 mod saying;
 mod spoiling;
-#[cfg(test)]
-mod spoiling_tests;
 
 pub use failing::{EndlessReader, FailingReader, FailingWriter};
 pub use interrupted::{InterruptedReader, InterruptedWriter};
