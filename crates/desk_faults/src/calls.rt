@@ -233,7 +233,7 @@ fn made_again<'a>(
     desk
 }
 
-// A desk over a set that holds the document 9 and stops after so many device calls, opened again where that failed.
+// A desk over a set that holds the document 9 and stops after that many device calls, opened again where that failed.
 fn begun<'a>(rt: &impl Abort, memory: &'a Memory, kept: Kept, passes: u32) -> FusedDesk<'a> {
     let mut set = MemSet::new(memory);
     assert!(rt; set.replace(9, THIRD).is_ok() || set.replace(9, THIRD).is_ok());
@@ -247,8 +247,8 @@ fn begun<'a>(rt: &impl Abort, memory: &'a Memory, kept: Kept, passes: u32) -> Fu
     }
 }
 
-// All calls over a set that stops after so many device calls: the place of the row that was not done at first, if there
-// is one.
+// All calls over a set that stops after that many device calls: the place of the row that was not done at first, if
+// there is one.
 fn run(rt: &impl Abort, way: &Way<'_>, passes: u32) -> Option<usize> {
     let mut desk = begun(rt, way.memory, way.kept, passes);
     let mut before = [b"".as_slice(), THIRD];

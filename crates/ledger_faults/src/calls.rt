@@ -186,7 +186,7 @@ fn made_again<'a>(
     printer
 }
 
-// All calls over a store that stops after so many device calls: the place of the row that was not done at first, if
+// All calls over a store that stops after that many device calls: the place of the row that was not done at first, if
 // there is one.
 fn run(rt: &impl Abort, way: &Way<'_>, passes: u32) -> Option<usize> {
     let store = FuseStore::new(MemStore::new(way.memory), passes, way.kept);

@@ -32,7 +32,7 @@ pub fn givers_at(ledger: &[u8]) -> usize {
     }
 }
 
-// How many numbers so many ranges of a ledger have, if they are in order.
+// How many numbers that many ranges of a ledger have, if they are in order.
 fn size_of(ledger: &[u8], ranges: u8) -> Option<u32> {
     let mut size = 0u32;
     let mut least = 0u32;
@@ -48,7 +48,7 @@ fn size_of(ledger: &[u8], ranges: u8) -> Option<u32> {
     Some(size)
 }
 
-// Whether the numbers of so many givers from a place on rise.
+// Whether the numbers of that many givers from a place on rise.
 fn rise(ledger: &[u8], at: usize, givers: u8) -> bool {
     let mut least = 0u32;
     for giver in 0..givers {

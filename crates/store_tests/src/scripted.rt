@@ -183,14 +183,14 @@ impl Scripted {
         self.system.alloc()
     }
 
-    // From now on these calls are to come, and the one after so many fails.
+    // From now on these calls are to come, and the one after that many fails.
     pub fn begin(&self, steps: Steps, passes: usize) {
         self.script.steps.set(steps);
         self.script.came.set(0);
         self.script.passes.set(passes);
     }
 
-    // From now on each folder lists these names so often.
+    // From now on each folder lists these names that often.
     pub fn list(&self, names: Listed, times: u32) {
         self.script.names.set(names);
         self.script.times.set(times);
