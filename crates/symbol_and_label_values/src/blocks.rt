@@ -1,81 +1,129 @@
-//! Sizes, and the words of a symbol in their blocks.
+//! The field, the sizes, the words of a symbol in their blocks, and blocks that are corrected.
 
-use dm_check_blocks::{Size, block_word, checks_of, complete};
+use dm_check_blocks::{Size, block_word, complete};
+use dm_corrector::{BlockFault, Elimination, Uncorrectable, correct_symbol, correct_with};
+use dm_gf256::Gf;
 use std::alloc::Global;
-use std::test::Fail;
+
+// The generator polynomial for five check words, which the standard prints.
+const GENERATOR: [Gf; 6] = [Gf(1), Gf(62), Gf(111), Gf(15), Gf(48), Gf(228)];
 
 #[test]
-fn the_sides_are_those_of_the_standard(rt: HostRuntime) {
-    let sides = [
-        10, 12, 14, 16, 18, 20, 22, 24, 26, 32, 36, 40, 44, 48, 52, 64, 72, 80, 88, 96, 104, 120,
-        132,
-    ];
+fn the_field_and_a_generator(rt: HostRuntime) {
+    assert!(rt; Gf(128).mul(Gf(2)) == Gf(45) && Gf(5).add(Gf(6)) == Gf(3));
+    assert!(rt; Gf(2).inv() == Gf(150) && Gf(150).mul_alpha(255) == Gf(150));
+    for k in 1..6u8 {
+        assert!(rt;
+            Gf::eval(&GENERATOR, Gf::alpha(k)) == Gf(0),
+            "2^{k} is a root"
+        );
+    }
+    assert!(rt; Gf::eval(&GENERATOR, Gf(1)) == Gf(1 ^ 62 ^ 111 ^ 15 ^ 48 ^ 228));
+}
+
+// The standard's table: the side, a region's side, the regions, data words, check words, blocks.
+#[rattlefmt::skip]
+const SIZES: [[usize; 6]; 23] = [
+    [ 10,  8,  1,    3,   5, 1],
+    [ 12, 10,  1,    5,   7, 1],
+    [ 14, 12,  1,    8,  10, 1],
+    [ 16, 14,  1,   12,  12, 1],
+    [ 18, 16,  1,   18,  14, 1],
+    [ 20, 18,  1,   22,  18, 1],
+    [ 22, 20,  1,   30,  20, 1],
+    [ 24, 22,  1,   36,  24, 1],
+    [ 26, 24,  1,   44,  28, 1],
+    [ 32, 14,  4,   62,  36, 1],
+    [ 36, 16,  4,   86,  42, 1],
+    [ 40, 18,  4,  114,  48, 1],
+    [ 44, 20,  4,  144,  56, 1],
+    [ 48, 22,  4,  174,  68, 1],
+    [ 52, 24,  4,  204,  84, 2],
+    [ 64, 14, 16,  280, 112, 2],
+    [ 72, 16, 16,  368, 144, 4],
+    [ 80, 18, 16,  456, 192, 4],
+    [ 88, 20, 16,  576, 224, 4],
+    [ 96, 22, 16,  696, 272, 4],
+    [104, 24, 16,  816, 336, 6],
+    [120, 18, 36, 1050, 408, 6],
+    [132, 20, 36, 1304, 496, 8],
+];
+
+// What the table says of a size.
+fn row_of(size: Size) -> [usize; 6] {
+    [
+        usize::from(size.side()),
+        usize::from(size.region()),
+        usize::from(size.regions()),
+        size.data_words(),
+        size.check_words(),
+        size.blocks(),
+    ]
+}
+
+#[test]
+fn the_sizes_are_those_of_the_standard(rt: HostRuntime) {
+    let mut count = 0;
     for side in 0..200u16 {
-        let found = Size::of_side(side).map(|size| size.side());
-        let wanted = if sides.contains(&side) {
-            Some(side)
-        } else {
-            None
-        };
-        assert!(rt; found == wanted, "side {side}");
+        if let Some(size) = Size::of_side(side) {
+            assert!(rt; count < SIZES.len());
+            assert!(rt; row_of(size) == SIZES[count], "side {side}");
+            count += 1;
+        }
     }
-}
-
-// The standard's row of side 52: 204 data words and 84 check words in two blocks, four regions of side 24.
-#[test]
-fn the_row_of_side_52(rt: HostRuntime) {
+    assert!(rt; count == SIZES.len());
     let size = Size::Side52;
-    assert!(rt;
-        (
-            size.data_words(),
-            size.check_words(),
-            size.blocks(),
-            size.limit()
-        ) == (204, 84, 2, 21)
-    );
-    assert!(rt; (size.region(), size.regions(), size.across(), size.mapping()) == (24, 4, 2, 48));
-    assert!(rt;
-        (
-            size.all_words(),
-            size.block_data(),
-            size.block_checks(),
-            size.block_length()
-        ) == (288, 102, 42, 144)
-    );
-    assert!(rt; block_word(size, 1, 0) == 1);
-    assert!(rt; block_word(size, 1, 102) == 205);
+    assert!(rt; (size.across(), size.mapping(), size.limit()) == (2, 48, 21));
+    assert!(rt; (size.block_data(), size.block_checks(), size.block_length()) == (102, 42, 144));
+    assert!(rt; size.all_words() == 288 && block_word(size, 1, 102) == 205);
 }
 
-// The words of the symbol of a message that is as long as the size asks.
-fn completed(alloc: Global, size: Size, message: &[u8]) -> Result<Vec<u8>, Fail> {
+// The words of the symbol of a message, where that is as long as the size asks.
+fn completed(alloc: Global, size: Size, message: &[u8]) -> Option<Vec<u8>> {
     if message.len() != size.data_words() {
-        return Err("the message isn't as long as the size asks".into());
+        return None;
     }
-    Ok(complete(alloc, size, message)?)
+    complete(alloc, size, message).ok()
 }
 
-// The standard's worked example: the digits 123456 in a symbol of side 10.
+// The standard's worked example, and a symbol of two blocks: its last data word belongs to block 1, so the check words
+// of block 0 stay 0, and none of block 1's is.
 #[test]
-fn completes_the_worked_example(rt: HostRuntime) -> Result<(), Fail> {
-    let message = [142, 164, 186];
-    let mut checks = [0; 5];
-    checks_of(&message, &mut checks);
-    assert!(rt; checks == [114, 25, 5, 88, 102]);
-    let words = completed(rt.alloc(), Size::Side10, &message)?;
+fn messages_are_completed(rt: HostRuntime) {
+    let words = completed(rt.alloc(), Size::Side10, &[142, 164, 186]).expect(&rt, "words");
     assert!(rt; words.as_slice() == [142, 164, 186, 114, 25, 5, 88, 102].as_slice());
-    Ok(())
-}
-
-// In side 52 the last data word belongs to block 1: the check words of block 0 stay 0, and none of block 1's is.
-#[test]
-fn the_last_data_word_changes_its_own_block(rt: HostRuntime) -> Result<(), Fail> {
-    let mut message = [0u8; 204];
+    let mut message = [0; 204];
     message[203] = 1;
-    let words = completed(rt.alloc(), Size::Side52, &message)?;
+    let words = completed(rt.alloc(), Size::Side52, &message).expect(&rt, "words");
     assert!(rt; words.len() == 288);
     for (at, word) in words.iter().enumerate() {
-        let is_of_block_1 = at == 203 || at > 203 && at % 2 == 1;
-        assert!(rt; (*word != 0) == is_of_block_1, "position {at}");
+        assert!(rt; (*word != 0) == (at >= 203 && at % 2 == 1), "position {at}");
     }
-    Ok(())
+}
+
+// As `correct_symbol` in side 52, whose blocks take the words in turn.
+fn corrected(words: &mut [u8; 288]) -> Option<Result<u16, BlockFault>> {
+    if Size::Side52.all_words() != 288 {
+        return None;
+    }
+    Some(correct_symbol(Size::Side52, words))
+}
+
+// In a block with five check words two wrong words are corrected, and three are not. In side 52 there are 21 wrong
+// words in each of two blocks, and then 22 in the second.
+#[test]
+fn blocks_are_corrected(rt: HostRuntime) {
+    let mut block = [0, 0, 1, 62, 111, 15, 0, 0];
+    assert!(rt; correct_with(&Elimination, &mut block, 5) == Ok(2));
+    assert!(rt; block == [0, 0, 1, 62, 111, 15, 48, 228]);
+    block = [0, 0, 1, 62, 111, 0, 0, 0];
+    assert!(rt; correct_with(&Elimination, &mut block, 5) == Err(Uncorrectable));
+    let mut words = [0; 288];
+    for k in 0..42u8 {
+        words[k as usize * 5] = k + 1;
+    }
+    let mut more = words;
+    more[3] = 1;
+    assert!(rt; corrected(&mut words) == Some(Ok(42)) && words == [0; 288]);
+    assert!(rt; corrected(&mut more) == Some(Err(BlockFault { block: 1 })));
 }

@@ -1,5 +1,5 @@
-//! Tests of symbols and labels, layer by layer, with values from outside: sizes and check words, encodations, placement,
-//! finder patterns, whole symbols, and labels; and the texts of faults.
+//! Tests of symbols and labels, layer by layer, with values from outside: the field, sizes and check words, corrections,
+//! encodations, the cells of the mapping matrix and finder patterns, whole symbols, and labels; and the texts of faults.
 #![tactic(auto)]
 
 #[cfg(test)]
@@ -7,11 +7,11 @@ mod blocks;
 #[cfg(test)]
 mod encodations;
 #[cfg(test)]
-mod frames;
+mod faults;
+#[cfg(test)]
+mod grids;
 #[cfg(test)]
 mod labels;
-#[cfg(test)]
-mod placement;
 #[cfg(test)]
 mod symbols;
 #[cfg(test)]

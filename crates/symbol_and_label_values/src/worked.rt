@@ -1,22 +1,12 @@
 //! The standard's own example: the digits 123456 in the smallest symbol, of side 10.
 
+use dm_finder_frame::Grid;
+
 /// Its three data words, and its five check words.
-pub(crate) static WORDS: [u8; 8] = [142, 164, 186, 114, 25, 5, 88, 102];
+pub(crate) const WORDS: [u8; 8] = [142, 164, 186, 114, 25, 5, 88, 102];
 
-/// The modules of its mapping matrix, row by row.
-pub(crate) static MATRIX: [[u8; 8]; 8] = [
-    *b"10010110",
-    *b"10000010",
-    *b"10001110",
-    *b"10000100",
-    *b"00000111",
-    *b"11011000",
-    *b"11101100",
-    *b"00111010",
-];
-
-/// The modules of the whole symbol, row by row.
-pub(crate) static MODULES: [[u8; 10]; 10] = [
+// The modules of the whole symbol, row by row.
+const MODULES: [[u8; 10]; 10] = [
     *b"1010101010",
     *b"1100101101",
     *b"1100000100",
@@ -28,3 +18,27 @@ pub(crate) static MODULES: [[u8; 10]; 10] = [
     *b"1001110100",
     *b"1111111111",
 ];
+
+/// Whether a grid is that symbol.
+pub(crate) fn is_worked_example(grid: &Grid) -> bool {
+    for (row, wanted) in (0..).zip(MODULES.iter()) {
+        if row >= grid.side() {
+            return false;
+        }
+        for (module, dark) in grid.row(row).iter().zip(wanted.iter()) {
+            if *module != (*dark == b'1') {
+                return false;
+            }
+        }
+    }
+    grid.side() == 10
+}
+
+/// Flips modules, by row and column; those outside the grid are passed over.
+pub(crate) fn flip_all(grid: &mut Grid, flips: &[(u16, u16)]) {
+    for (row, column) in flips {
+        if *row < grid.side() && *column < grid.side() {
+            grid.flip(*row, *column);
+        }
+    }
+}

@@ -1,0 +1,162 @@
+//! Desks over sets in memory: labels that are scanned, pages that come and go, and what is held.
+
+use dm_append_label::{FileId, Page, seal};
+use dm_assembly_desk::{Accepted, Desk, ForgetFault, Held, ImportFault, Imported, Kind, ScanFault};
+use dm_check_blocks::Size;
+use dm_encodation::Scheme;
+use dm_finder_frame::Grid;
+use dm_store::{MemSet, StoreSet};
+use std::alloc::Global;
+use std::process::Abort;
+use std::test::Fail;
+
+pub(crate) type MemDesk = Desk<MemSet>;
+
+/// The file of the document 0, of whose two pages the second is held: 34.
+pub(crate) const SECOND: &[u8] = b"DMPG\x02\x01\x01\x02\x00\x02\x00\x0234";
+
+/// The file of the document 0 with both pages.
+pub(crate) const WHOLE: &[u8] = b"DMPG\x02\x01\x01\x02\x00\x03\x00\x0212\x00\x0234";
+
+pub(crate) fn id_of(rt: &impl Abort, number: u16) -> FileId {
+    FileId::of_number(number).expect(rt, "an identification")
+}
+
+// A page, by its document, its number, the number of pages and its bytes.
+type Scan = (u16, u8, u8, &'static [u8]);
+
+// The label of a page, of side 14 in ASCII.
+fn label(alloc: Global, (number, m, n, bytes): Scan) -> Option<Grid> {
+    let id = FileId::of_number(number)?;
+    let page = Page::new(id, m, n, bytes.to_vec(alloc).ok()?)?;
+    seal(alloc, &page, Size::Side14, Scheme::Ascii).ok()
+}
+
+// Whether the desk answers so to the label of a page.
+fn answers(alloc: Global, desk: &mut MemDesk, scan: Scan, answer: Result<Kind, ScanFault>) -> bool {
+    let Some(grid) = label(alloc, scan) else {
+        return false;
+    };
+    match desk.accept(&grid) {
+        Ok(Accepted { id, m, n, kind }) => {
+            (id.number(), m, n) == (scan.0, scan.1, scan.2) && answer == Ok(kind)
+        }
+        Err(fault) => answer == Err(fault),
+    }
+}
+
+// The desk with room for this many documents over a set.
+pub(crate) fn opened(rt: &impl Abort, alloc: Global, set: MemSet, capacity: u16) -> MemDesk {
+    Desk::open(alloc, set, capacity)
+        .ok()
+        .expect(rt, "it is opened")
+}
+
+// Whether the document is given with these bytes.
+pub(crate) fn gives(desk: &MemDesk, id: FileId, bytes: &[u8]) -> bool {
+    match desk.document(id) {
+        Ok(document) => document.as_slice() == bytes,
+        Err(_) => false,
+    }
+}
+
+// Whether these bytes are the export.
+fn exports(desk: &MemDesk, id: FileId, bytes: &[u8]) -> bool {
+    match desk.export(id) {
+        Ok(file) => file.as_slice() == bytes,
+        Err(_) => false,
+    }
+}
+
+// The labels of two documents in any order, and some that disagree with these or find no room.
+const SCANS: [(Scan, Result<Kind, ScanFault>); 14] = [
+    ((5, 3, 3, b"56"), Ok(Kind::New)),
+    ((3, 2, 2, b"90"), Ok(Kind::New)),
+    ((5, 3, 3, b"56"), Ok(Kind::Again)),
+    ((3, 1, 2, b"78"), Ok(Kind::Complete)),
+    ((5, 3, 3, b"57"), Err(ScanFault::Conflict)),
+    ((5, 3, 3, b"5"), Err(ScanFault::Conflict)),
+    ((5, 1, 2, b"12"), Err(ScanFault::Conflict)),
+    ((5, 3, 4, b"56"), Err(ScanFault::Conflict)),
+    ((1, 1, 2, b"12"), Err(ScanFault::Full)),
+    ((5, 1, 3, b"12"), Ok(Kind::New)),
+    ((3, 2, 2, b"90"), Ok(Kind::Again)),
+    ((5, 2, 3, b""), Ok(Kind::Complete)),
+    ((5, 1, 3, b"12"), Ok(Kind::Again)),
+    ((5, 2, 3, b""), Ok(Kind::Again)),
+];
+
+#[test]
+fn documents_are_scanned(rt: HostRuntime) -> Result<(), Fail> {
+    let mut desk = opened(&rt, rt.alloc(), MemSet::new(rt.alloc()), 2);
+    for (scan, answer) in SCANS {
+        assert!(rt; answers(rt.alloc(), &mut desk, scan, answer), "{scan:?}");
+    }
+    let desk = opened(&rt, rt.alloc(), desk.close(), 2);
+    let (third, fifth) = (id_of(&rt, 3), id_of(&rt, 5));
+    assert!(rt; gives(&desk, third, b"7890") && gives(&desk, fifth, b"1256"));
+    let both = [
+        Held {
+            id: third,
+            n: 2,
+            mask: 3,
+        },
+        Held {
+            id: fifth,
+            n: 3,
+            mask: 7,
+        },
+    ];
+    assert!(rt; desk.held()?.as_slice() == both.as_slice());
+    Ok(())
+}
+
+// The imports of files of the document 0, one after another, to a desk with room for one: how many pages are new, or
+// the refusal.
+const IMPORTS: [(&[u8], Result<(u16, Kind), ImportFault>); 8] = [
+    (b"DMPG\x02", Err(ImportFault::Damaged)),
+    (SECOND, Ok((2, Kind::New))),
+    (SECOND, Ok((0, Kind::Again))),
+    (
+        b"DMPG\x02\x01\x01\x02\x00\x02\x00\x0235",
+        Err(ImportFault::Conflict),
+    ),
+    (
+        b"DMPG\x02\x01\x01\x03\x00\x02\x00\x0234",
+        Err(ImportFault::Conflict),
+    ),
+    // The first page would be new, and the second disagrees.
+    (
+        b"DMPG\x02\x01\x01\x02\x00\x03\x00\x0212\x00\x0235",
+        Err(ImportFault::Conflict),
+    ),
+    (
+        b"DMPG\x02\x01\x02\x02\x00\x02\x00\x0234",
+        Err(ImportFault::Full),
+    ),
+    (WHOLE, Ok((1, Kind::Complete))),
+];
+
+// Whether an import is answered so.
+fn imports(desk: &mut MemDesk, bytes: &[u8], answer: Result<(u16, Kind), ImportFault>) -> bool {
+    match desk.import(bytes) {
+        Ok(Imported { id, n, added, kind }) => (id.number(), n) == (0, 2)
+            && answer == Ok((added, kind)),
+        Err(fault) => answer == Err(fault),
+    }
+}
+
+#[test]
+fn pages_come_and_go(rt: HostRuntime) -> Result<(), Fail> {
+    let id = id_of(&rt, 0);
+    let mut desk = opened(&rt, rt.alloc(), MemSet::new(rt.alloc()), 1);
+    for (bytes, answer) in IMPORTS {
+        assert!(rt; imports(&mut desk, bytes, answer), "{bytes:?}");
+    }
+    assert!(rt; exports(&desk, id, WHOLE) && gives(&desk, id, b"1234"));
+    assert!(rt; desk.forget(id) == Ok(()) && desk.forget(id) == Err(ForgetFault::NotHeld));
+    assert!(rt; answers(rt.alloc(), &mut desk, (0, 2, 2, b"34"), Ok(Kind::New)));
+    let set = desk.close();
+    assert!(rt; set.content(0) == Some(SECOND));
+    Ok(())
+}
