@@ -16,7 +16,8 @@ use relay_world_command::world_command;
 use std::alloc::{Allocator, Global};
 use std::io::{Read, Write};
 
-/// The commands, each with these options: symbols of side 10, labels of side 12, the printer 0, the identification 0101.
+/// The commands, each with these options: symbols of side 10, labels of side 12, the printer 0, the identification
+/// 0101.
 #[derive(Clone, Copy, PartialEq, Eq)]
 pub enum Call {
     Words,

@@ -1,6 +1,6 @@
-//! Tests of the commands over what no process can be given: memory that is refused, growth by growth, stores that fail or
-//! are stopped, and readers and writers that fail or are interrupted after each number of bytes. What a command does over
-//! whole streams and real files is tested by the program itself, with the cases of tests/cases.
+//! Tests of the commands over what no process can be given: memory that is refused, growth by growth, stores that
+//! fail or are stopped, and readers and writers that fail or are interrupted after each number of bytes. What a
+//! command does over whole streams and real files is tested by the program itself, with the cases of tests/cases.
 #![tactic(auto)]
 
 #[cfg(test)]

@@ -1,5 +1,5 @@
-//! The calls between an image and its document, and those of labels, over an allocator that refuses each growth in turn:
-//! each is refused by name until no growth is refused, and then is whole.
+//! The calls between an image and its document, and those of labels, over an allocator that refuses each growth in
+//! turn: each is refused by name until no growth is refused, and then is whole.
 
 use dm_append_label::{FileId, LabelFault, Page, SealFault, open_label, seal, still_near};
 use dm_check_blocks::Size;

@@ -1,7 +1,7 @@
-// A desk whose set stops at each of the device calls, under both ends of a stopped save, and a desk to which each growth
-// of memory is refused in turn. A call that was refused for lack of memory has changed nothing, and is done when it is
-// made again. After a save that failed the desk is opened again: what was answered is held, and the call that stopped
-// has left the old or the new, and is then made again.
+// A desk whose set stops at each of the device calls, under both ends of a stopped save, and a desk to which each
+// growth of memory is refused in turn. A call that was refused for lack of memory has changed nothing, and is done
+// when it is made again. After a save that failed the desk is opened again: what was answered is held, and the call
+// that stopped has left the old or the new, and is then made again.
 use crate::files::{ALL_THREE, FIRST, THIRD, WHOLE};
 use dm_append_label::{FileId, Page, seal};
 use dm_assembly_desk::{Desk, ExportFault, Kind};

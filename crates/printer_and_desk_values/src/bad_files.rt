@@ -1,5 +1,5 @@
-//! Sets on which a desk is opened, and on which none is; and joint files of the first version, whose documents are moved
-//! to files of their own.
+//! Sets on which a desk is opened, and on which none is; and joint files of the first version, whose documents are
+//! moved to files of their own.
 
 use crate::desks::{SECOND, WHOLE, gives, id_of, opened};
 use dm_assembly_desk::{Desk, DeskFault, MoveFault, move_pages};

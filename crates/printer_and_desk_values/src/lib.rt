@@ -1,5 +1,5 @@
-//! Tests of printers and of desks over stores in memory: values from outside for each public call, over ample memory, and
-//! the texts of faults.
+//! Tests of printers and of desks over stores in memory: values from outside for each public call, over ample memory,
+//! and the texts of faults.
 #![tactic(auto)]
 
 #[cfg(test)]

@@ -128,8 +128,8 @@ fn name_files<R: AllocGlobal + Eprint + Files + Clone + Drop>(
     }
 }
 
-/// Names on the standard error each file that a refused command could not use, as `relay: FILE: NAME`. It saves nothing,
-/// and says nothing more where memory is refused.
+/// Names on the standard error each file that a refused command could not use, as `relay: FILE: NAME`. It saves
+/// nothing, and says nothing more where memory is refused.
 pub(crate) fn name_faulty_files<R: AllocGlobal + Eprint + Files + Clone + Drop>(
     rt: &R,
     place: &Workplace,

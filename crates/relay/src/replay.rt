@@ -24,8 +24,8 @@ impl<R> Recorder<R> {
         }
     }
 
-    /// The same bytes again, and then what the reader has left. An end that was met once is not asked for again, since a
-    /// terminal would wait for more.
+    /// The same bytes again, and then what the reader has left. An end that was met once is not asked for again,
+    /// since a terminal would wait for more.
     pub(crate) fn replay(self) -> Replay<R> {
         Replay {
             recorded: self,

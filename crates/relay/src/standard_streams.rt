@@ -5,9 +5,9 @@ use std::{fs, io};
 
 /// A folder opened for reading, once for each standard stream. It refuses each read and each write.
 ///
-/// The system gives a file that is opened the lowest place that is free. So these, opened before any other file, stand in
-/// the place of each standard stream that was closed when the program began: what is read or written there fails, and no
-/// file of the program's is ever taken for a standard stream.
+/// The system gives a file that is opened the lowest place that is free. So these, opened before any other file,
+/// stand in the place of each standard stream that was closed when the program began: what is read or written there
+/// fails, and no file of the program's is ever taken for a standard stream.
 #[derive(Drop)]
 pub(crate) struct HeldPlaces<F> {
     first: F,

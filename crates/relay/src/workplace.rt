@@ -22,8 +22,8 @@ const EMPTY_JOINT_FILE_BYTES: u64 = 7;
 pub(crate) enum WorkplaceFault {
     /// Another program is at work there.
     Busy,
-    /// The folder that the path lies in isn't there, or is no folder; or what is at the path is no plain file, or what is
-    /// at the path of a desk's folder no folder.
+    /// The folder that the path lies in isn't there, or is no folder; or what is at the path is no plain file, or
+    /// what is at the path of a desk's folder no folder.
     Device,
     /// The path is a symbolic link that can't be followed, or the file there has a second name by a hard link.
     Linked,

@@ -1,6 +1,6 @@
-//! Each call on the file system failing in turn, and each growth refused in turn: the store or the set answers Device or
-//! Memory, its file holds the old or the new bytes whole, and the same call made again is done. And what a set makes of
-//! the names that a folder lists.
+//! Each call on the file system failing in turn, and each growth refused in turn: the store or the set answers Device
+//! or Memory, its file holds the old or the new bytes whole, and the same call made again is done. And what a set
+//! makes of the names that a folder lists.
 
 use crate::calls::{Call, Memory, answer, text_of};
 use crate::scripted::{Listed, Scripted, Steps};

@@ -1,5 +1,6 @@
-//! Tests of symbols and labels, layer by layer, with values from outside: the field, sizes and check words, corrections,
-//! encodations, the cells of the mapping matrix and finder patterns, whole symbols, and labels; and the texts of faults.
+//! Tests of symbols and labels, layer by layer, with values from outside: the field, sizes and check words,
+//! corrections, encodations, the cells of the mapping matrix and finder patterns, whole symbols, and labels; and the
+//! texts of faults.
 #![tactic(auto)]
 
 #[cfg(test)]

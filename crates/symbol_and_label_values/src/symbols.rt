@@ -6,8 +6,8 @@ use dm_finder_frame::Grid;
 use dm_symbol::{SymbolFault, SymbolReader, correct_grid, draw_symbol, draw_words, still_near};
 use std::test::Fail;
 
-// Two words of eight are wrong: modules (2, 2) and (6, 6) stand in two words, (0, 1) and (9, 3) on the frame. One reader
-// reads that symbol, one of another size, and the first again.
+// Two words of eight are wrong: modules (2, 2) and (6, 6) stand in two words, (0, 1) and (9, 3) on the frame. One
+// reader reads that symbol, one of another size, and the first again.
 #[test]
 #[tactic(auto, unfolding(dm_check_blocks::specs::Sizes::row))]
 fn symbols_are_drawn_and_read(rt: HostRuntime) -> Result<(), Fail> {
