@@ -6,7 +6,7 @@ ghost use Rattle.relay.specs.Commands.{Does, file_of_command};
 use dm_print_ledger::Range;
 use dm_store::{Store, StoreSet};
 use relay_desk_commands::{
-    deliver_command, export_command, forget_command, import_command, scan_command,
+    Notes, deliver_command, export_command, forget_command, import_command, scan_with_notes,
 };
 use relay_line::Command;
 use relay_printer_commands::{
@@ -48,14 +48,23 @@ fn with_set<S: Store, T: StoreSet>(ended: Ended<S>, set: T) -> EndedDesk<S, T>
 }
 
 /// Does a command over the store at the path that it names and the set beside it, an input, and outputs for what it
-/// writes and for what the standard error is for.
-pub fn do_command<A: Allocator + Copy, S: Store, T: StoreSet, R: Read, W: Write, E: Write>(
+/// writes and for what the standard error is for. Which image of a `scan` was refused is told to `notes`.
+pub fn do_command<
+    A: Allocator + Copy,
+    S: Store,
+    T: StoreSet,
+    R: Read,
+    W: Write,
+    E: Write,
+    N: Notes,
+>(
     alloc: A,
     store: S,
     set: T,
     input: &mut Input<R>,
     output: &mut Output<W>,
     errors: &mut Output<E>,
+    notes: &mut N,
     command: Command,
 ) -> EndedDesk<S, T>
     ensures { Does A command.entry
@@ -133,7 +142,7 @@ pub fn do_command<A: Allocator + Copy, S: Store, T: StoreSet, R: Read, W: Write,
             ticket,
         } => with_set(take_command(alloc, store, output, number, ticket), set),
         Command::Scan { file: _, capacity } => {
-            scan_command(alloc, store, set, input, output, capacity)
+            scan_with_notes(alloc, store, set, input, output, notes, capacity)
         }
         Command::Deliver { file: _, id } => {
             deliver_command(alloc, store, set, output, errors, id)

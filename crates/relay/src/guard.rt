@@ -33,6 +33,15 @@ impl<'a, R: Files> Guard<'a, R> {
         self.is_lost.get()
     }
 
+    /// The name of a refusal: a save that was refused for its lock is named `Lock`.
+    pub(crate) fn name_of<'b>(&self, name: &'b str) -> &'b str {
+        if self.is_lost.get() && name == "Save" {
+            "Lock"
+        } else {
+            name
+        }
+    }
+
     // Whether a lock keeps other programs away.
     fn holds(&self) -> bool {
         match &self.lock {

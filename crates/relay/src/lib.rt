@@ -15,6 +15,7 @@ mod faulty_files;
 mod guard;
 mod lock;
 mod program;
+mod refused_images;
 mod rehearsal;
 mod replay;
 mod standard_error;
@@ -24,7 +25,8 @@ mod workplace;
 pub use commands::{do_command, file_of};
 pub use program::run;
 pub use relay_desk_commands::{
-    IMPORT_BYTES, deliver_command, export_command, forget_command, import_command, scan_command,
+    IMPORT_BYTES, NoNotes, Notes, deliver_command, export_command, forget_command, import_command,
+    scan_command, scan_with_notes,
 };
 pub use relay_line::{Command, LineFault, command_line};
 pub use relay_printer_commands::{

@@ -6,12 +6,14 @@ ghost use Rattle.relay.specs.Places.{refuses_on_errors_by_command};
 use crate::commands::{do_command, file_of};
 use crate::faulty_files::{name_faulty_files, name_file, name_missing_desk};
 use crate::guard::{Guard, GuardedLines, GuardedSet, GuardedStore};
+use crate::refused_images::RefusedImages;
 use crate::rehearsal::{Rehearsal, before_a_save, before_files};
 use crate::replay::Recorder;
 use crate::standard_error::ErrorWriter;
 use crate::standard_streams::HeldPlaces;
 use crate::workplace::{Work, Workplace, WorkplaceFault, work_of};
 use dm_store::{FileSet, FileStore, MemSet, MemStore};
+use relay_desk_commands::NoNotes;
 use relay_line::{Command, LineFault, command_line};
 use relay_shared::refuse;
 use relay_streams::{Input as StreamInput, Output};
@@ -89,6 +91,7 @@ fn run_over_nothing<R: AllocGlobal + Eprint, I: Read + Drop, W: Write + Drop>(
         &mut StreamInput::new(reader),
         &mut output,
         &mut Output::new(ErrorWriter::new(rt)),
+        &mut NoNotes,
         command,
     );
     finish(rt, output, ended.status)
@@ -113,6 +116,7 @@ fn run_at<R: AllocGlobal + Eprint + Files<File = File> + Clone, I: Read + Drop, 
         &mut StreamInput::new(reader),
         &mut output,
         &mut Output::new(GuardedLines::new(guard, ErrorWriter::new(rt))),
+        &mut RefusedImages::new(rt, guard),
         command,
     );
     let status = finish(rt, output, ended.status);

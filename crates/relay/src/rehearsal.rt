@@ -2,6 +2,7 @@
 
 use crate::commands::do_command;
 use dm_store::{FuseSet, FuseStore, Kept, MemSet, MemStore, Store};
+use relay_desk_commands::NoNotes;
 use relay_line::Command;
 use relay_streams::{Input, Output};
 use std::alloc::Global;
@@ -33,7 +34,16 @@ fn rehearse<S: Store, R: Read>(
     let set = FuseSet::new(MemSet::new(alloc), 0, Kept::Old);
     let mut output = Output::new(Vec::new(alloc));
     let mut errors = Output::new(Vec::new(alloc));
-    let ended = do_command(alloc, store, set, input, &mut output, &mut errors, command);
+    let ended = do_command(
+        alloc,
+        store,
+        set,
+        input,
+        &mut output,
+        &mut errors,
+        &mut NoNotes,
+        command,
+    );
     Rehearsal {
         goes_on: ended.store.spent() || ended.set.spent(),
         status: ended.status,

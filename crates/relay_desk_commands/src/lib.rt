@@ -12,10 +12,12 @@ mod file_id;
 mod forget;
 mod import;
 pub mod laws;
+mod notes;
 mod scan;
 
 pub use deliver::deliver_command;
 pub use export::export_command;
 pub use forget::forget_command;
 pub use import::{IMPORT_BYTES, import_command};
-pub use scan::scan_command;
+pub use notes::{NoNotes, Notes};
+pub use scan::{scan_command, scan_with_notes};

@@ -9,7 +9,10 @@ ghost use Rattle.relay_desk_commands.specs.inner.ScanSteps.{EndsScansAtMost, Han
 ghost use Rattle.relay_desk_commands.specs.inner.ScanSteps.{MakesScan, ScansLine, ScansStep};
 
 use crate::desk_opening::open_desk;
+use crate::notes::{NoNotes, Notes};
+use dm_append_label::{FileId, open_label};
 use dm_assembly_desk::{Desk, ScanFault};
+use dm_finder_frame::Grid;
 use dm_pbm_io::{Image, ShapeFault, grid_of};
 use dm_store::{Store, StoreSet};
 use relay_shared::{EndedDesk, MOST_IMAGES, Step, is_at_end, put_accepted, status_of};
@@ -25,11 +28,21 @@ fn is_save(fault: ScanFault) -> bool
     matches!(fault, ScanFault::Save)
 }
 
-// Hands the grid of an image to the desk, and writes the line of the answer.
-fn scan_image<A: Allocator + Copy, T: StoreSet, W: Write>(
+// The identification of a label, if the grid opens as one.
+fn id_of_label<A: Allocator + Copy>(alloc: A, grid: &Grid<A>) -> Option<FileId> {
+    match open_label(alloc, grid) {
+        Ok(opened) => Some(opened.page.id()),
+        Err(_) => None,
+    }
+}
+
+// Hands the grid of image number `number` to the desk, and writes the line of the answer.
+fn scan_image<A: Allocator + Copy, T: StoreSet, W: Write, N: Notes>(
     alloc: A,
     desk: &mut Desk<T, A>,
     output: &mut Output<W>,
+    notes: &mut N,
+    number: u32,
     image: &Image<A>,
 ) -> Result<Step, WriteFault>
     requires { desk.old.is_failed ≡ false }
@@ -43,10 +56,12 @@ fn scan_image<A: Allocator + Copy, T: StoreSet, W: Write>(
         Ok(grid) => grid,
         Err(ShapeFault::Shape) => {
             output.put_refusal("Shape")?;
+            notes.note(number, None, "Shape");
             return Ok(Step::Image { refused: true });
         }
         Err(ShapeFault::Memory) => {
             output.put_refusal("Memory")?;
+            notes.note(number, None, "Memory");
             return Ok(Step::Image { refused: true });
         }
     };
@@ -56,7 +71,9 @@ fn scan_image<A: Allocator + Copy, T: StoreSet, W: Write>(
             Ok(Step::Image { refused: false })
         }
         Err(fault) => {
-            output.put_refusal(fault.name())?;
+            let name = fault.name();
+            output.put_refusal(name)?;
+            notes.note(number, id_of_label(alloc, &grid), name);
             if is_save(fault) {
                 return Ok(Step::End { refused: true });
             }
@@ -65,12 +82,14 @@ fn scan_image<A: Allocator + Copy, T: StoreSet, W: Write>(
     }
 }
 
-// Reads the next image, hands its grid to the desk, and writes the line of the answer.
-fn next_scan<A: Allocator + Copy, T: StoreSet, R: Read, W: Write>(
+// Reads the next image, number `number`, hands its grid to the desk, and writes the line of the answer.
+fn next_scan<A: Allocator + Copy, T: StoreSet, R: Read, W: Write, N: Notes>(
     alloc: A,
     desk: &mut Desk<T, A>,
     input: &mut Input<R>,
     output: &mut Output<W>,
+    notes: &mut N,
+    number: u32,
 ) -> Result<Step, WriteFault>
     requires { desk.old.is_failed ≡ false }
     ensures step { IfOk result (λ step.
@@ -82,7 +101,7 @@ fn next_scan<A: Allocator + Copy, T: StoreSet, R: Read, W: Write>(
 {
     match Image::read(alloc, input) {
         Ok(None) => Ok(Step::End { refused: false }),
-        Ok(Some(image)) => match scan_image(alloc, desk, output, &image)? {
+        Ok(Some(image)) => match scan_image(alloc, desk, output, notes, number, &image)? {
             Step::Image { refused } => {
                 if image.plain {
                     return Ok(Step::End { refused });
@@ -92,7 +111,9 @@ fn next_scan<A: Allocator + Copy, T: StoreSet, R: Read, W: Write>(
             Step::End { refused } => Ok(Step::End { refused }),
         },
         Err(fault) => {
-            output.put_refusal(fault.name())?;
+            let name = fault.name();
+            output.put_refusal(name)?;
+            notes.note(number, None, name);
             Ok(Step::End { refused: true })
         }
     }
@@ -117,11 +138,12 @@ fn end_scans_at_most<A: Allocator + Copy, R: Read, W: Write>(
 }
 
 // Hands the grids of all images to the desk, and writes the lines of the answers.
-fn scan_all<A: Allocator + Copy, T: StoreSet, R: Read, W: Write>(
+fn scan_all<A: Allocator + Copy, T: StoreSet, R: Read, W: Write, N: Notes>(
     alloc: A,
     desk: &mut Desk<T, A>,
     input: &mut Input<R>,
     output: &mut Output<W>,
+    notes: &mut N,
 ) -> u8
     requires running { desk.old.is_failed ≡ false }
     requires order { IsInOrder desk.old }
@@ -129,7 +151,7 @@ fn scan_all<A: Allocator + Copy, T: StoreSet, R: Read, W: Write>(
 {
     let mut refused = false;
     for _count in 0..MOST_IMAGES {
-        match next_scan(alloc, desk, input, output) {
+        match next_scan(alloc, desk, input, output, notes, _count + 1) {
             Ok(Step::Image { refused: also }) => refused |= also,
             Ok(Step::End { refused: also }) => return status_of(refused | also),
             Err(WriteFault::Write) => return 1,
@@ -145,6 +167,28 @@ fn scan_all<A: Allocator + Copy, T: StoreSet, R: Read, W: Write>(
 /// each `IIII m/n new`, `again` or `complete`, after the save, or `refused NAME`. A refused image doesn't end the
 /// command; a save that failed does, and so do bytes that are no image, and a plain image. At most 65,536 images are
 /// read. The desk is opened before anything is read. The exit status is 0 where no line names a refusal, and else 1.
+/// After the line of a refused image it is told to `notes`, with the number of the image.
+pub fn scan_with_notes<A: Allocator + Copy, S: Store, T: StoreSet, R: Read, W: Write, N: Notes>(
+    alloc: A,
+    store: S,
+    set: T,
+    input: &mut Input<R>,
+    output: &mut Output<W>,
+    notes: &mut N,
+    capacity: u16,
+) -> EndedDesk<S, T>
+    ensures { EndsScan A (record { joint = S.state store; set = T.state set }) capacity input.old input.new output.old
+        result.status (record { joint = S.state result.store; set = T.state result.set }) output.new }
+{
+    let mut opened = match open_desk(alloc, store, set, output, capacity) {
+        Ok(opened) => opened,
+        Err(ended) => return ended,
+    };
+    let status = scan_all(alloc, &mut opened.desk, input, output, notes);
+    opened.end(status)
+}
+
+/// As [`scan_with_notes`], with no notes.
 pub fn scan_command<A: Allocator + Copy, S: Store, T: StoreSet, R: Read, W: Write>(
     alloc: A,
     store: S,
@@ -156,10 +200,5 @@ pub fn scan_command<A: Allocator + Copy, S: Store, T: StoreSet, R: Read, W: Writ
     ensures { EndsScan A (record { joint = S.state store; set = T.state set }) capacity input.old input.new output.old
         result.status (record { joint = S.state result.store; set = T.state result.set }) output.new }
 {
-    let mut opened = match open_desk(alloc, store, set, output, capacity) {
-        Ok(opened) => opened,
-        Err(ended) => return ended,
-    };
-    let status = scan_all(alloc, &mut opened.desk, input, output);
-    opened.end(status)
+    scan_with_notes(alloc, store, set, input, output, &mut NoNotes, capacity)
 }

@@ -98,8 +98,8 @@ After `refused Save` nothing more is read; the page may be held. A desk keeps a
 document until it is forgotten. Pages that disagree with those that are held are
 refused, and never joined. An old file of pages at PATH is moved first.
 
-A desk that holds more documents than --capacity is refused `TooMany`: give it at
-each `scan` and `import`. All other commands take any number of documents.
+The capacity is not remembered: a desk that holds more documents is refused
+`TooMany`. Give it at each `scan` and `import`; other commands take any number.
 
 Example:
   relay scan --file desk < labels.pbm";

@@ -175,7 +175,7 @@ fn capacity<'a>(alloc: Global) -> Arg<'a> {
     number_option(
         alloc,
         "capacity",
-        "how many documents the desk may hold, 1 to 1024; it is not remembered",
+        "how many documents it may hold, 1 to 1024",
     )
     .default_value("64")
 }

@@ -49,7 +49,7 @@ returns-clause-step g c =
       taken = stops.0;
       line = _;
       consumed = stops.1;
-      appended = rw c.name.ensures at c.in_ok-put_refusal-in-Err.ensures.written;
+      appended = rw c.name-name.ensures at c.in_ok-put_refusal-in-Err.ensures.written;
       takes = λ count h. unread c.in-Err.fault h (record { refused = stops.2; failed = λ e. c.in-Err.ensures.failed (ap (λ (f : PbmFault). Err f) e) });
     }
 

@@ -42,7 +42,7 @@ returns-then-is_save-clause-step g c =
         refused c.in-Ok.grid c.in-Err.fault inside.0 inside.1 accepts,
         fails_after accepts.opened c.args.desk.now c.accept.new.self (rw save at accepts.scans),
       );
-      appended = rw c.name.ensures at c.in_ok-put_refusal-in-Err.ensures.written;
+      appended = rw c.name-name.ensures at c.in_ok-put_refusal-in-Err.ensures.written;
     }
 
 pub returns-clause-step : goal.returns-clause-step
@@ -56,7 +56,7 @@ returns-clause-step g c =
         runs_unless accepts.opened c.in-Err.fault c.args.desk.now c.accept.new.self c.requires
             (c.is_save.ensures.no c.if-is_save.false) accepts.scans,
       );
-      appended = rw c.name.ensures at c.in_ok-put_refusal-in-Err.ensures.written;
+      appended = rw c.name-name.ensures at c.in_ok-put_refusal-in-Err.ensures.written;
     }
 
 pub returns-in_err-put_refusal-in-Err-Shape-clause-unsaid : goal.returns-in_err-put_refusal-in-Err-Shape-clause-unsaid

@@ -1,6 +1,6 @@
 use Rattle.std.proofs.Common.{refl}
 use Rattle.relay_desk_commands.specs.Scan.EndsScan.{no_desk, opened}
-use Rattle.relay_desk_commands.proofs.scan.scan_command.Goals as goal
+use Rattle.relay_desk_commands.proofs.scan.scan_with_notes.Goals as goal
 
 pub returns-in-Err : goal.returns-in-Err
 returns-in-Err g c = no_desk c.in-Err.ensures refl
