@@ -9,9 +9,23 @@ use relay_line::Command;
 use std::alloc::{AllocError, Global};
 use std::rt::Files;
 
-/// Says on the standard error which file is at fault, and why.
-pub(crate) fn name_file<R: Eprint>(rt: &R, file: &str, name: &str) {
+// Says on the standard error which file is at fault, and why.
+fn name_file<R: Eprint>(rt: &R, file: &str, name: &str) {
     let _ = eprint!(rt; "relay: {file}: {name}\n");
+}
+
+/// Says on the standard error which file or folder of a command is what it can't be.
+pub(crate) fn name_odd_place<R: AllocGlobal + Eprint + Files>(rt: &R, command: Command) {
+    let file = file_of(command);
+    let Ok(folder) = format!(in rt.alloc(); "{file}.pages") else {
+        return;
+    };
+    match (work_of(command), rt.metadata(folder.as_str())) {
+        (Work::Gathers | Work::Forgets | Work::Reads, Ok(metadata)) if !metadata.is_dir() => {
+            name_file(rt, folder.as_str(), "Device");
+        }
+        _ => name_file(rt, file, "Device"),
+    }
 }
 
 /// Says on the standard error that a command has found no desk, if it works on one that has to be there.

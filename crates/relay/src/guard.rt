@@ -33,12 +33,12 @@ impl<'a, R: Files> Guard<'a, R> {
         self.is_lost.get()
     }
 
-    /// The name of a refusal: a save that was refused for its lock is named `Lock`.
+    /// The name of a refusal: a save that was refused for its lock, which a command names `Save`, or `Device` where it
+    /// moves an old file, is named `Lock`.
     pub(crate) fn name_of<'b>(&self, name: &'b str) -> &'b str {
-        if self.is_lost.get() && name == "Save" {
-            "Lock"
-        } else {
-            name
+        match name {
+            "Save" | "Device" if self.is_lost.get() => "Lock",
+            _ => name,
         }
     }
 
@@ -159,9 +159,10 @@ impl<'a, R: Files, W> GuardedLines<'a, R, W> {
 
 impl<R: Files, W: Write> Write for GuardedLines<'_, R, W> {
     fn write(&mut self, buf: &[u8]) -> io::Result<usize> {
-        // A refusal's name is written by itself, and both names have four letters.
-        if self.guard.is_lost() && buf == b"Save".as_slice() {
-            return self.writer.write(b"Lock");
+        // A refusal's name is written by itself.
+        if self.guard.is_lost() && (buf == b"Save".as_slice() || buf == b"Device".as_slice()) {
+            self.writer.write_all(b"Lock")?;
+            return Ok(buf.len());
         }
         self.writer.write(buf)
     }

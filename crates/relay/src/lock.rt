@@ -36,39 +36,37 @@ fn open_plain<R: Files>(rt: &R, path: &str) -> Option<R::File> {
     }
 }
 
-// Opens the file that is locked, and makes it where it isn't there; or `None` where its folder isn't there, so that
-// nothing can be saved.
-fn open_lock<R: Files>(rt: &R, path: &str) -> Result<Option<R::File>, WorkplaceFault> {
+// Opens the file that is locked, and makes it where it isn't there.
+fn open_lock<R: Files>(rt: &R, path: &str) -> Result<R::File, WorkplaceFault> {
     let mut how = OpenOptions::new();
     how.read(true).write(true).create_new(true);
     match how.open(rt, path) {
-        Ok(file) => return Ok(Some(file)),
+        Ok(file) => return Ok(file),
         Err(error) => match error.kind() {
-            ErrorKind::NotFound | ErrorKind::NotADirectory => return Ok(None),
+            ErrorKind::NotFound | ErrorKind::NotADirectory => return Err(WorkplaceFault::Device),
             _ => {}
         },
     }
     match open_plain(rt, path) {
-        Some(file) => Ok(Some(file)),
+        Some(file) => Ok(file),
         None => Err(WorkplaceFault::Lock),
     }
 }
 
 impl Lock {
-    /// Locks the file `PATH.lock`; or answers `None` where there is no folder for it, so that nothing can be saved.
+    /// Locks the file `PATH.lock`.
     ///
     /// # Errors
-    /// `Busy` where another program has the lock. `Lock` where the file is no plain file, or can't be opened, made or
+    /// `Busy` where another program has the lock. `Device` where there is no folder for the file, so that nothing could
+    /// be saved. `Lock` where the file is no plain file, or can't be opened, made or
     /// locked.
     pub(crate) fn take<R: Files<File = File>>(
         rt: &R,
         alloc: Global,
         path: &str,
-    ) -> Result<Option<Lock>, WorkplaceFault> {
+    ) -> Result<Lock, WorkplaceFault> {
         let path = format!(in alloc; "{path}.lock")?;
-        let Some(file) = open_lock(rt, path.as_str())? else {
-            return Ok(None);
-        };
+        let file = open_lock(rt, path.as_str())?;
         match file.try_lock() {
             Ok(()) => {}
             Err(TryLockError::WouldBlock) => return Err(WorkplaceFault::Busy),
@@ -76,7 +74,7 @@ impl Lock {
         }
         let lock = Lock { file, path };
         if lock.is_in_place(rt) {
-            Ok(Some(lock))
+            Ok(lock)
         } else {
             Err(WorkplaceFault::Lock)
         }

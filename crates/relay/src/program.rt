@@ -4,7 +4,7 @@ ghost use Rattle.std.specs.Prelude.{◌≡◌};
 ghost use Rattle.relay.specs.Places.{refuses_on_errors_by_command};
 
 use crate::commands::{do_command, file_of};
-use crate::faulty_files::{name_faulty_files, name_file, name_missing_desk};
+use crate::faulty_files::{name_faulty_files, name_missing_desk, name_odd_place};
 use crate::guard::{Guard, GuardedLines, GuardedSet, GuardedStore};
 use crate::refused_images::RefusedImages;
 use crate::rehearsal::{Rehearsal, before_a_save, before_files};
@@ -126,14 +126,14 @@ fn run_at<R: AllocGlobal + Eprint + Files<File = File> + Clone, I: Read + Drop, 
     Ok(status)
 }
 
-// Whether a `give` or a `take` ends before its save, and what comes of it then.
+// Whether a `ledger`, a `give` or a `take` ends before its save, and what comes of it then.
 fn moves_nothing<R: AllocGlobal + Files>(
     rt: &R,
     place: &Workplace,
     command: Command,
 ) -> Result<Option<Rehearsal>, WorkplaceFault> {
     match command {
-        Command::Give { .. } | Command::Take { .. } => {
+        Command::Ledger { .. } | Command::Give { .. } | Command::Take { .. } => {
             let ledger = FileStore::new(rt.alloc(), rt, place.file.clone()?);
             let rehearsal = before_a_save(rt.alloc(), ledger, command);
             if rehearsal.goes_on {
@@ -189,7 +189,7 @@ fn run_to<R: AllocGlobal + Input + Print + Eprint + Files<File = File> + Clone, 
         Err(fault) => {
             let status = refuse_command(rt, command, fault.name());
             if let WorkplaceFault::Device = fault {
-                name_file(rt, file_of(command), fault.name());
+                name_odd_place(rt, command);
             }
             status
         }

@@ -1,27 +1,41 @@
 //! The places of the standard streams, held.
 
+use std::fs::File;
+use std::os::fd::AsRawFd;
 use std::rt::Files;
 use std::{fs, io};
 
-/// A folder opened for reading, once for each standard stream. It refuses each read and each write.
+// The greatest number of a standard stream, that of the standard error.
+const LAST_STREAM: i32 = 2;
+
+/// A folder opened for reading in the place of each standard stream that was closed when the program began. It refuses
+/// each read and each write.
 ///
-/// The system gives a file that is opened the lowest place that is free. So these, opened before any other file,
-/// stand in the place of each standard stream that was closed when the program began: what is read or written there
-/// fails, and no file of the program's is ever taken for a standard stream.
+/// The system gives a file that is opened the lowest place that is free. So with these, opened before any other file,
+/// what is read or written at a closed stream fails, and no file of the program's is ever taken for a standard stream.
 #[derive(Drop)]
-pub(crate) struct HeldPlaces<F> {
-    first: F,
-    second: F,
-    third: F,
+pub(crate) struct HeldPlaces {
+    first: Option<File>,
+    second: Option<File>,
+    third: Option<File>,
 }
 
-impl<F> HeldPlaces<F> {
-    /// Holds the three lowest places, those of open streams aside.
-    pub(crate) fn hold<R: Files<File = F>>(rt: &R) -> io::Result<HeldPlaces<F>> {
+// Holds the lowest free place, if it is that of a standard stream.
+fn held_place<R: Files<File = File>>(rt: &R) -> io::Result<Option<File>> {
+    let folder = fs::open(rt, "/")?;
+    if folder.as_raw_fd() > LAST_STREAM {
+        return Ok(None);
+    }
+    Ok(Some(folder))
+}
+
+impl HeldPlaces {
+    /// Holds the places of closed streams.
+    pub(crate) fn hold<R: Files<File = File>>(rt: &R) -> io::Result<HeldPlaces> {
         Ok(HeldPlaces {
-            first: fs::open(rt, "/")?,
-            second: fs::open(rt, "/")?,
-            third: fs::open(rt, "/")?,
+            first: held_place(rt)?,
+            second: held_place(rt)?,
+            third: held_place(rt)?,
         })
     }
 }

@@ -157,8 +157,16 @@ fn is_absent<R: Files>(rt: &R, path: &str) -> bool {
     }
 }
 
-// Whether the folder that the path lies in surely isn't there, or is no folder.
+// Whether no file can be made at the path: it ends in no name, or the folder that it lies in surely isn't there, or is
+// no folder.
 fn has_no_folder<R: Files>(rt: &R, path: &str) -> bool {
+    let name = match path.rsplit_once('/') {
+        Some((_, name)) => name,
+        None => path,
+    };
+    if matches!(name, "" | "." | "..") {
+        return true;
+    }
     let above = match Path::new(path).parent() {
         Some(parent) if !parent.as_str().is_empty() => parent.as_str(),
         _ => ".",
@@ -222,7 +230,10 @@ impl Workplace {
     ) -> Result<Workplace, WorkplaceFault> {
         let file = own_path(rt, file_of(command))?;
         let folder = format!(in rt.alloc(); "{file}.pages")?;
-        let folder = own_path(rt, folder.as_str())?;
+        let folder = match work_of(command) {
+            Work::Nothing | Work::MakesLedger | Work::SavesLedger => folder,
+            Work::Gathers | Work::Forgets | Work::Reads => own_path(rt, folder.as_str())?,
+        };
         if has_second_name(rt, file.as_str()) {
             return Err(WorkplaceFault::Linked);
         }
@@ -254,7 +265,7 @@ impl Workplace {
     /// The lock of a command that saves here, if it may save.
     ///
     /// # Errors
-    /// `Busy` or `Lock`.
+    /// `Busy`, `Lock` or `Device`.
     pub(crate) fn lock<R: AllocGlobal + Files<File = File>>(
         &self,
         rt: &R,
@@ -263,8 +274,8 @@ impl Workplace {
         let has_joint = has_joint_documents(rt, self.file.as_str());
         match locked_of(work_of(command), has_joint) {
             Locked::Nothing => Ok(None),
-            Locked::File => Lock::take(rt, rt.alloc(), self.file.as_str()),
-            Locked::Folder => Lock::take(rt, rt.alloc(), self.folder.as_str()),
+            Locked::File => Ok(Some(Lock::take(rt, rt.alloc(), self.file.as_str())?)),
+            Locked::Folder => Ok(Some(Lock::take(rt, rt.alloc(), self.folder.as_str())?)),
         }
     }
 }
