@@ -1,10 +1,10 @@
--- The batches of labels that left by a history: each is of a print, and no two have one identification.
+-- The batches of labels that left by a history: each is of a print, and their labels are those that left.
 use Rattle.std.proofs.Common.{◌≡◌, ◌<◌, ◌⊎◌, inl, inr, ℕ, nat_lt, IfSome, if◌then◌else◌, Option, Some, None, List, [], ◌∷◌, ◌++◌, length, slice_get, zero, suc, ◌+◌, ◌≤◌, take, refl, ap, sym, ◌∙◌, subst, arith}
 use Rattle.std.proofs.Common.{append_assoc}
 use Rattle.std.proofs.lemmas.List.{length-append, append-nil}
 use Rattle.std.proofs.lemmas.Bool.Decides.{nat_tests}
-use Rattle.dm_check_blocks.specs.declared.size.Size.{Size}
-use Rattle.dm_encodation.specs.declared.scheme.Scheme.{Scheme}
+use Rattle.dm_check_blocks.specs.declared.size.Size.TheVariants.{Side10}
+use Rattle.dm_encodation.specs.declared.scheme.Scheme.TheVariants.{Ascii}
 use Rattle.dm_print_ledger.specs.declared.range.Range.{Range}
 use Rattle.dm_event_history.specs.declared.stop.Stop.{Stop}
 use Rattle.dm_event_history.specs.declared.event.Event.{Event}
@@ -12,16 +12,32 @@ use Rattle.dm_event_history.specs.declared.event.Event.TheVariants.{Print}
 use Rattle.dm_event_history.specs.declared.reply.Reply.{Reply}
 use Rattle.dm_event_history.specs.declared.reply.Reply.TheVariants.{Printed, Stopped}
 use Rattle.dm_event_history.specs.History.{Entry, History, CutDocument, LabelName, names_from, out, printed_by, events_of, replies_of}
-use Rattle.dm_event_history.specs.Legal.{IsLegal, Fits, IsReply, LetsOut, IsUnused, NeverTwice}
+use Rattle.dm_event_history.specs.Legal.{Fits, IsReply, LetsOut, IsUnused}
 use Rattle.dm_append_label.specs.Parts.{AreParts}
-use Rattle.dm_event_history.specs.Headline.{Batch, IsPrintOf, LeftBy, labels_of, PrintsOnceBy}
+use Rattle.dm_event_history.specs.Headline.{Batch, count_of, IsPrintOf, LeftBy, labels_of}
 use Rattle.dm_event_history.proofs.Deciding.{if_not, if_so, decided, true_false}
-use Rattle.dm_event_history.proofs.Gotten.{get_more, get_last, get_either, get_beyond}
-use Rattle.dm_event_history.proofs.Printed.{is_cut}
+use Rattle.dm_event_history.proofs.Gotten.{get_more, get_last, get_either}
+
+-- what an event prints in these parts; of an event that prints nothing, the parts alone
+abbrev pub cut_of : {A : Type 0} → Event A → List (List ℕ) → CutDocument
+cut_of (Print printer document size scheme stop) parts = record { bytes = document; size = size; scheme = scheme; parts = parts }
+cut_of event parts = record { bytes = []; size = Side10; scheme = Ascii; parts = parts }
+
+parts_of : {A : Type 0} (event : Event A) (parts : List (List ℕ)) → (cut_of event parts).parts ≡ parts
+parts_of (Print printer document size scheme stop) parts = refl
+parts_of event parts = refl
+
+pub cut_is : {A : Type 0} (event : Event A) (parts : List (List ℕ)) (cut : CutDocument) → printed_by event parts ≡ Some cut → cut_of event parts ≡ cut
+cut_is (Print printer document size scheme stop) parts cut is =
+    let e : Some (record { bytes = document; size = size; scheme = scheme; parts = parts }) ≡ Some cut = is in cc (e)
+cut_is event parts cut is = absurd (cc (is))
 
 -- the labels of an entry that left, as many as they were
 abbrev pub all_of : {A : Type 0} → Entry A → Batch
-all_of e = record { id = e.id; n = length e.parts; left = e.left }
+all_of e = record { id = e.id; document = cut_of e.event e.parts; left = e.left }
+
+pub count_all : {A : Type 0} (e : Entry A) → count_of (all_of e) ≡ length e.parts
+count_all e = ap length (parts_of e.event e.parts)
 
 -- the batch of each entry by which labels left, the first of them first
 abbrev pub batch_of : {A : Type 0} → Entry A → Option Batch
@@ -85,7 +101,7 @@ name_at id count n (suc k) (suc i) name is =
 batch_some : {A : Type 0} (e : Entry A) → 0 < e.left → batch_of e ≡ Some (all_of e)
 batch_some e some = if_so (nat_lt 0 e.left) (Some (all_of e)) None (grind (arith, nat_tests, some))
 
-batch_means : {A : Type 0} (e : Entry A) (batch : Batch) → batch_of e ≡ Some batch → (0 < e.left) × (all_of e ≡ batch)
+pub batch_means : {A : Type 0} (e : Entry A) (batch : Batch) → batch_of e ≡ Some batch → (0 < e.left) × (all_of e ≡ batch)
 batch_means {A} e batch is = elim (decided (nat_lt 0 e.left)) [
   | inl some ↦
       (grind (arith, nat_tests, some), (let a : Some (all_of e) ≡ Some batch = sym (if_so (nat_lt 0 e.left) (Some (all_of e)) None some) ∙ is in cc))
@@ -107,19 +123,19 @@ in_either (z ∷ zs) ys (suc i) x is = elim (in_either zs ys i x is) [
 -- the labels of a batch, if there is one
 abbrev names_in : Option Batch → List LabelName
 names_in None = []
-names_in (Some batch) = names_from batch.id batch.n 1 batch.left
+names_in (Some batch) = names_from batch.id (count_of batch) 1 batch.left
 
 labels_more : (batches : List (Option Batch)) (more : Option Batch) → labels_of (batches ++ more ∷ []) ≡ labels_of batches ++ names_in more
 labels_more [] None = refl
-labels_more [] (Some batch) = append-nil (names_from batch.id batch.n 1 batch.left)
+labels_more [] (Some batch) = append-nil (names_from batch.id (count_of batch) 1 batch.left)
 labels_more (None ∷ batches) more = labels_more batches more
 labels_more (Some batch ∷ batches) more =
-    ap (λ (l : List LabelName). names_from batch.id batch.n 1 batch.left ++ l) (labels_more batches more) ∙
-    sym (append_assoc (names_from batch.id batch.n 1 batch.left) (labels_of batches) (names_in more))
+    ap (λ (l : List LabelName). names_from batch.id (count_of batch) 1 batch.left ++ l) (labels_more batches more) ∙
+    sym (append_assoc (names_from batch.id (count_of batch) 1 batch.left) (labels_of batches) (names_in more))
 
 names_are : {A : Type 0} (e : Entry A) → names_in (batch_of e) ≡ names_from e.id (length e.parts) 1 e.left
 names_are {A} e = elim (decided (nat_lt 0 e.left)) [
-  | inl some ↦ ap names_in (if_so (nat_lt 0 e.left) (Some (all_of e)) None some)
+  | inl some ↦ ap names_in (if_so (nat_lt 0 e.left) (Some (all_of e)) None some) ∙ ap (λ (n : ℕ). names_from e.id n 1 e.left) (count_all e)
   | inr none ↦
       (let zero_is : e.left ≡ 0 = grind (arith, nat_tests, none) in
       ap names_in (if_not (nat_lt 0 e.left) (Some (all_of e)) None (λ so. true_false (nat_lt 0 e.left) so none)) ∙
@@ -134,38 +150,34 @@ out_is (e ∷ h) = labels_more (batches_of h) (batch_of e) ∙ ap (λ (l : List 
 
 -- a label is of a batch
 pub label_in : (batches : List (Option Batch)) (label : ℕ) (name : LabelName) → slice_get (labels_of batches) label ≡ Some name →
-    (j : ℕ) × (batch : Batch) × (slice_get batches j ≡ Some (Some batch)) × (name.id ≡ batch.id) × (name.count ≡ batch.n)
+    (j : ℕ) × (batch : Batch) × (slice_get batches j ≡ Some (Some batch)) × (name.id ≡ batch.id) × (name.count ≡ count_of batch)
 label_in [] label name is = cc
 label_in (None ∷ batches) label name is = (let t = label_in batches label name is in (suc t.0, t.1, t.2, t.3, t.4))
-label_in (Some batch ∷ batches) label name is = elim (in_either (names_from batch.id batch.n 1 batch.left) (labels_of batches) label name is) [
-  | inl own ↦ (let t = name_at batch.id batch.n 1 batch.left label name own in (0, batch, refl, t.1, t.3))
+label_in (Some batch ∷ batches) label name is = elim (in_either (names_from batch.id (count_of batch) 1 batch.left) (labels_of batches) label name is) [
+  | inl own ↦ (let t = name_at batch.id (count_of batch) 1 batch.left label name own in (0, batch, refl, t.1, t.3))
   | inr later ↦ (let t = label_in batches later.0 name later.2 in (suc t.0, t.1, t.2, t.3, t.4))
 ]
 
 -- ---- one more event
 
-print_more : {A : Type 0} (events : List (Event A)) (event : Event A) (i : ℕ) (document : List ℕ) (n : ℕ) (stop : Stop) →
-    IsPrintOf events i document n stop → IsPrintOf (events ++ event ∷ []) i document n stop
-print_more events event i document n stop p = record {
+print_more : {A : Type 0} (events : List (Event A)) (event : Event A) (i : ℕ) (document : CutDocument) (stop : Stop) →
+    IsPrintOf events i document stop → IsPrintOf (events ++ event ∷ []) i document stop
+print_more events event i document stop p = record {
   printer = p.printer;
-  size = p.size;
-  scheme = p.scheme;
-  event = get_more events (event ∷ []) i (Print p.printer document p.size p.scheme stop) p.event;
-  parts = p.parts;
+  event = get_more events (event ∷ []) i (Print p.printer document.bytes document.size document.scheme stop) p.event;
   are_parts = p.are_parts;
-  count = p.count;
 }
 
-pub left_more : {A : Type 0} (events : List (Event A)) (replies : List (Reply A)) (event : Event A) (reply : Reply A) (i : ℕ) (batch : Batch) (document : List ℕ) →
-    LeftBy events replies i batch document → LeftBy (events ++ event ∷ []) (replies ++ reply ∷ []) i batch document
-left_more {A} events replies event reply i batch document p = record {
+pub left_more : {A : Type 0} (events : List (Event A)) (replies : List (Reply A)) (event : Event A) (reply : Reply A) (i : ℕ) (batch : Batch) →
+    LeftBy events replies i batch → LeftBy (events ++ event ∷ []) (replies ++ reply ∷ []) i batch
+left_more {A} events replies event reply i batch p = record {
   stop = p.stop;
-  is_print = print_more events event i document batch.n p.stop p.is_print;
+  is_print = print_more events event i batch.document p.stop p.is_print;
   ends = elim p.ends [
     | inl told ↦ inl (record {
       no_stop = told.no_stop;
       first = told.first;
-      reply = get_more replies (reply ∷ []) i (Printed batch.id told.first batch.n) told.reply;
+      reply = get_more replies (reply ∷ []) i (Printed batch.id told.first (count_of batch)) told.reply;
       all = told.all;
     })
     | inr stopped ↦ inr (record {
@@ -181,32 +193,21 @@ left_more {A} events replies event reply i batch document p = record {
 -- ---- one entry
 
 -- a print of which labels left tells so, or was stopped as they left
-pub last_prints : {A : Type 0} (ranges : List Range) (desks : ℕ) (h : History A) (e : Entry A) (cut : CutDocument) → Fits ranges desks h e → 0 < e.left →
-    printed_by e.event e.parts ≡ Some cut → LeftBy (events_of h ++ e.event ∷ []) (replies_of h ++ e.reply ∷ []) (length h) (all_of e) cut.bytes
-last_prints {A} ranges desks h e cut fits some is = by_entry e.event e.reply fits.reply fits.lets_out (fits.parts some) is
+pub last_prints : {A : Type 0} (ranges : List Range) (desks : ℕ) (h : History A) (e : Entry A) → Fits ranges desks h e → 0 < e.left →
+    LeftBy (events_of h ++ e.event ∷ []) (replies_of h ++ e.reply ∷ []) (length h) (all_of e)
+last_prints {A} ranges desks h e fits some = by_entry e.event e.reply fits.reply fits.lets_out (fits.parts some)
   where
-    print_is : (p : ℕ) (document : List ℕ) (size : Size) (scheme : Scheme) (stop : Stop) → AreParts size scheme document e.parts →
-        Some (record { bytes = document; size = size; scheme = scheme; parts = e.parts }) ≡ Some cut →
-        IsPrintOf (events_of h ++ Print p document size scheme stop ∷ []) (length h) cut.bytes (length e.parts) stop
-    print_is p document size scheme stop are is =
-        let same : record { bytes = document; size = size; scheme = scheme; parts = e.parts } ≡ cut = (let a : Some (record { bytes = document; size = size; scheme = scheme; parts = e.parts }) ≡ Some cut = is in cc) in
-        let bytes_are : document ≡ cut.bytes = ap (λ (c : CutDocument). c.bytes) same in record {
-          printer = p;
-          size = size;
-          scheme = scheme;
-          event = at_last (events_of h) (Print p document size scheme stop) (length h) (events_count h) ∙
-              ap (λ (d : List ℕ). Some (Print p d size scheme stop)) bytes_are;
-          parts = e.parts;
-          are_parts = subst (λ (d : List ℕ). AreParts size scheme d e.parts) bytes_are are;
-          count = refl;
-        }
-
     by_entry : (event : Event A) (reply : Reply A) → IsReply ranges h e.id e.left event reply → LetsOut event reply e.parts e.left →
         IfSome (printed_by event e.parts) (λ c. AreParts c.size c.scheme c.bytes c.parts) →
-        printed_by event e.parts ≡ Some cut → LeftBy (events_of h ++ event ∷ []) (replies_of h ++ reply ∷ []) (length h) (all_of e) cut.bytes
-    by_entry (Print p document size scheme stop) (Printed id first count) fine lets are is = record {
+        LeftBy (events_of h ++ event ∷ []) (replies_of h ++ reply ∷ []) (length h)
+        (record { id = e.id; document = cut_of event e.parts; left = e.left })
+    by_entry (Print p document size scheme stop) (Printed id first count) fine lets are = record {
       stop = stop;
-      is_print = print_is p document size scheme stop are is;
+      is_print = record {
+        printer = p;
+        event = at_last (events_of h) (Print p document size scheme stop) (length h) (events_count h);
+        are_parts = are;
+      };
       ends = inl (record {
         no_stop = fine.no_stop;
         first = first;
@@ -216,9 +217,13 @@ last_prints {A} ranges desks h e cut fits some is = by_entry e.event e.reply fit
       });
       not_none = omega arith;
     }
-    by_entry (Print p document size scheme stop) Stopped fine lets are is = record {
+    by_entry (Print p document size scheme stop) Stopped fine lets are = record {
       stop = stop;
-      is_print = print_is p document size scheme stop are is;
+      is_print = record {
+        printer = p;
+        event = at_last (events_of h) (Print p document size scheme stop) (length h) (events_count h);
+        are_parts = are;
+      };
       ends = elim lets [
         | inl none ↦ absurd (omega arith)
         | inr most ↦ inr (record {
@@ -230,11 +235,11 @@ last_prints {A} ranges desks h e cut fits some is = by_entry e.event e.reply fit
       ];
       not_none = omega arith;
     }
-    by_entry (Print p document size scheme stop) reply fine lets are is = absurd (omega arith)
-    by_entry event reply fine lets are is = absurd (let x = is in cc (x))
+    by_entry (Print p document size scheme stop) reply fine lets are = absurd (omega arith)
+    by_entry event reply fine lets are = absurd (omega arith)
 
 -- an entry that tells of a print let labels out under the identification that it tells
-told_is : {A : Type 0} (ranges : List Range) (h : History A) (e : Entry A) (id first count : ℕ) → IsReply ranges h e.id e.left e.event e.reply →
+pub told_is : {A : Type 0} (ranges : List Range) (h : History A) (e : Entry A) (id first count : ℕ) → IsReply ranges h e.id e.left e.event e.reply →
     LetsOut e.event e.reply e.parts e.left → e.reply ≡ Printed id first count →
     (0 < e.left) × (id ≡ e.id) × (first ≡ length (out h)) × (count ≡ e.left) × (count ≡ length e.parts)
 told_is {A} ranges h e id first count fine lets is =
@@ -248,7 +253,7 @@ told_is {A} ranges h e id first count fine lets is =
 -- ---- histories
 
 -- under an identification that is unused no label left
-unused_is_none : {A : Type 0} (h : History A) (i id : ℕ) (batch : Batch) → IsUnused id h → slice_get (batches_of h) i ≡ Some (Some batch) →
+pub unused_is_none : {A : Type 0} (h : History A) (i id : ℕ) (batch : Batch) → IsUnused id h → slice_get (batches_of h) i ≡ Some (Some batch) →
     batch.id ≡ id → ⊥
 unused_is_none [] i id batch unused is named = cc (is)
 unused_is_none (e ∷ h) i id batch unused is named = elim (before_or_last (batches_of h) (batch_of e) (Some batch) (length h) i (batches_count h) is) [
@@ -265,84 +270,3 @@ last_batch h e some =
 pub whole_before : {A : Type 0} (h : History A) (e : Entry A) → take (length h) (batches_of (e ∷ h)) ≡ batches_of h
 whole_before h e =
     subst (λ (k : ℕ). take k (batches_of (e ∷ h)) ≡ batches_of h) (batches_count h) (take_whole (batches_of h) (batch_of e ∷ []))
-
--- ---- no identification is printed twice
-
-once_first : {A : Type 0} → (let none : History A = [] in PrintsOnceBy (batches_of none) (events_of none) (replies_of none))
-once_first {A} = record {
-  each_reply = refl;
-  each_batch = refl;
-  told = λ i id first count is. absurd (cc (is));
-  printed = λ i batch is. absurd (cc (is));
-  once = λ i j one other a b same. absurd (cc (a));
-}
-
-once_next : {A : Type 0} (ranges : List Range) (desks : ℕ) (h : History A) (e : Entry A) → Fits ranges desks h e → NeverTwice (e ∷ h) →
-    PrintsOnceBy (batches_of h) (events_of h) (replies_of h) → PrintsOnceBy (batches_of (e ∷ h)) (events_of (e ∷ h)) (replies_of (e ∷ h))
-once_next {A} ranges desks h e fits never f = record {
-  each_reply = replies_count (e ∷ h) ∙ sym (events_count (e ∷ h));
-  each_batch = batches_count (e ∷ h) ∙ sym (events_count (e ∷ h));
-  told = tells;
-  printed = prints;
-  once = one;
-}
-  where
-    tells : (i id first count : ℕ) → slice_get (replies_of (e ∷ h)) i ≡ Some (Printed id first count) →
-        (slice_get (batches_of (e ∷ h)) i ≡ Some (Some (record { id = id; n = count; left = count }))) ×
-        (first ≡ length (labels_of (take i (batches_of (e ∷ h)))))
-    tells i id first count is = elim (before_or_last (replies_of h) e.reply (Printed id first count) (length h) i (replies_count h) is) [
-      | inl before ↦
-          (let t = f.told i id first count before in
-          let below = get_beyond (batches_of h) i (Some (record { id = id; n = count; left = count })) t.0 in (
-            get_more (batches_of h) (batch_of e ∷ []) i (Some (record { id = id; n = count; left = count })) t.0,
-            t.1 ∙ ap (λ (l : List (Option Batch)). length (labels_of l)) (sym (take_keeps (batches_of h) (batch_of e ∷ []) i (omega arith))),
-          ))
-      | inr last ↦
-          (let t = told_is ranges h e id first count fits.reply fits.lets_out last.1 in
-          subst (λ (k : ℕ). (slice_get (batches_of (e ∷ h)) k ≡ Some (Some (record { id = id; n = count; left = count }))) ×
-          (first ≡ length (labels_of (take k (batches_of (e ∷ h)))))) (sym last.0) (
-            last_batch h e t.0 ∙ ap (λ (b : Batch). Some (Some b))
-                (ap (λ (k : ℕ). record { id = k; n = length e.parts; left = e.left }) (sym t.1) ∙
-                ap (λ (k : ℕ). record { id = id; n = k; left = e.left }) (sym t.4) ∙
-                ap (λ (k : ℕ). record { id = id; n = count; left = k }) (sym t.3)),
-            t.2 ∙ ap length (sym (out_is h)) ∙ ap (λ (l : List (Option Batch)). length (labels_of l)) (sym (whole_before h e)),
-          ))
-    ]
-
-    prints : (i : ℕ) (batch : Batch) → slice_get (batches_of (e ∷ h)) i ≡ Some (Some batch) →
-        (document : List ℕ) × LeftBy (events_of (e ∷ h)) (replies_of (e ∷ h)) i batch document
-    prints i batch is = elim (before_or_last (batches_of h) (batch_of e) (Some batch) (length h) i (batches_count h) is) [
-      | inl before ↦
-          (let p = f.printed i batch before in (p.0, left_more (events_of h) (replies_of h) e.event e.reply i batch p.0 p.1))
-      | inr last ↦
-          (let t = batch_means e batch last.1 in
-          let c = is_cut e.event e.reply e.parts e.left fits.lets_out t.0 in
-          let p : LeftBy (events_of (e ∷ h)) (replies_of (e ∷ h)) (length h) (all_of e) c.0.bytes = last_prints ranges desks h e c.0 fits t.0 c.1 in (
-            c.0.bytes,
-            subst (λ (k : ℕ). LeftBy (events_of (e ∷ h)) (replies_of (e ∷ h)) k batch c.0.bytes) (sym last.0)
-                (subst (λ (b : Batch). LeftBy (events_of (e ∷ h)) (replies_of (e ∷ h)) (length h) b c.0.bytes) t.1 p),
-          ))
-    ]
-
-    new : (i : ℕ) (was now : Batch) → slice_get (batches_of h) i ≡ Some (Some was) → batch_of e ≡ Some now → was.id ≡ now.id → ⊥
-    new i was now before last same = (let t = batch_means e now last in
-        unused_is_none h i e.id was (never.0 t.0) before (same ∙ sym (ap (λ (b : Batch). b.id) t.1)))
-
-    one : (i j : ℕ) (a b : Batch) → slice_get (batches_of (e ∷ h)) i ≡ Some (Some a) → slice_get (batches_of (e ∷ h)) j ≡ Some (Some b) →
-        a.id ≡ b.id → i ≡ j
-    one i j a b is_a is_b same = elim (before_or_last (batches_of h) (batch_of e) (Some a) (length h) i (batches_count h) is_a) [
-      | inl first ↦ elim (before_or_last (batches_of h) (batch_of e) (Some b) (length h) j (batches_count h) is_b) [
-        | inl second ↦ f.once i j a b first second same
-        | inr last ↦ absurd (new i a b first last.1 same)
-      ]
-      | inr here ↦ elim (before_or_last (batches_of h) (batch_of e) (Some b) (length h) j (batches_count h) is_b) [
-        | inl second ↦ absurd (new j b a second here.1 (sym same))
-        | inr last ↦ here.0 ∙ sym last.0
-      ]
-    ]
-
-pub prints_once : {A : Type 0} (ranges : List Range) (desks : ℕ) (h : History A) → IsLegal ranges desks h → NeverTwice h →
-    PrintsOnceBy (batches_of h) (events_of h) (replies_of h)
-prints_once ranges desks [] legal never = once_first
-prints_once ranges desks (e ∷ h) legal never =
-    once_next ranges desks h e legal.0 never (prints_once ranges desks h legal.1 never.1)

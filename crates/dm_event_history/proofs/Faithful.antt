@@ -1,19 +1,20 @@
--- A legal and safe history is faithful: what its replies tell of documents is so, by its events and replies alone.
+-- A legal and safe history is faithful: what its replies tell of documents and pages is so, by its events and replies alone.
 use Rattle.std.proofs.Common.{◌≡◌, ◌<◌, inl, inr, ℕ, Option, Some, List, [], ◌∷◌, ◌++◌, length, slice_get, zero, suc, ◌≤◌, take, refl, ap, sym, ◌∙◌, subst, arith}
 use Rattle.dm_print_ledger.specs.declared.range.Range.{Range}
-use Rattle.dm_assembly_desk.specs.declared.reply.Accepted.{Accepted}
+use Rattle.dm_assembly_desk.specs.declared.fault.AskFault.TheVariants.{Incomplete}
 use Rattle.dm_event_history.specs.declared.stop.Stop.{Stop}
 use Rattle.dm_event_history.specs.declared.event.Event.{Event}
-use Rattle.dm_event_history.specs.declared.event.Event.TheVariants.{Print, Scan, Ask, Import, Export}
+use Rattle.dm_event_history.specs.declared.event.Event.TheVariants.{Scan, Ask, Forget, Import, Export}
 use Rattle.dm_event_history.specs.declared.reply.Reply.{Reply}
-use Rattle.dm_event_history.specs.declared.reply.Reply.TheVariants.{Scanned, Document, Exported}
+use Rattle.dm_event_history.specs.declared.reply.Reply.TheVariants.{Scanned, Document, AskRefused, Forgotten, Exported}
 use Rattle.dm_event_history.specs.History.{Entry, History, CutDocument, LabelName, ExportName, out, exports, exported, printed_by, prints_as, docs, events_of, replies_of}
 use Rattle.dm_event_history.specs.Legal.{IsLegal, IsReply, NeverTwice}
-use Rattle.dm_event_history.specs.Safe.{IsSafe, IsReplySafe, IsTrueDocument}
+use Rattle.dm_event_history.specs.Safe.{IsSafe, IsReplySafe, IsTrueDocument, IsTrulyMissing, IsExportSafe}
 use Rattle.dm_event_history.specs.Masks.{HasPage}
 use Rattle.dm_event_history.specs.Holding.{MayTake, IsPossiblyHeld}
-use Rattle.dm_event_history.specs.Headline.{Batch, LeftBy, labels_of, IsScanOf, WasPrinted, PrintsOnceBy, IsFaithfulBy}
-use Rattle.dm_event_history.proofs.Batches.{all_of, batch_of, batches_of, at_last, events_count, replies_count, batches_count, before_or_last, take_keeps, in_either, out_is, label_in, left_more, last_prints, last_batch, whole_before, prints_once}
+use Rattle.dm_event_history.specs.Headline.{Batch, count_of, labels_of, IsScanOf, WasScanned, LeftBefore, WasPrinted, WasBegun, PrintsOnceBy, IsFaithfulBy}
+use Rattle.dm_event_history.proofs.Batches.{all_of, cut_is, batch_of, batches_of, at_last, events_count, replies_count, batches_count, before_or_last, take_keeps, in_either, out_is, label_in, last_batch, whole_before}
+use Rattle.dm_event_history.proofs.PrintsOnce.{prints_once}
 use Rattle.dm_event_history.proofs.Deciding.{if_not, if_so, decided, true_false}
 use Rattle.dm_event_history.proofs.Gotten.{get_more, get_beyond}
 use Rattle.dm_event_history.proofs.Printed.{prints_as_means}
@@ -38,19 +39,42 @@ scan_more batches more events event i name within scan = record {
   had_left = ap (λ (l : List (Option Batch)). slice_get (labels_of l) scan.label) (take_keeps batches (more ∷ []) i within) ∙ scan.had_left;
 }
 
-printed_more : {A : Type 0} (batches : List (Option Batch)) (more : Option Batch) (events : List (Event A)) (replies : List (Reply A)) (event : Event A)
-    (reply : Reply A) (i id : ℕ) (document : List ℕ) → i ≤ length batches → WasPrinted batches events replies i id document →
-    WasPrinted (batches ++ more ∷ []) (events ++ event ∷ []) (replies ++ reply ∷ []) i id document
-printed_more batches more events replies event reply i id document within was = record {
+scanned_more : {A : Type 0} (batches : List (Option Batch)) (more : Option Batch) (events : List (Event A)) (event : Event A) (i id m n : ℕ) →
+    i ≤ length batches → WasScanned batches events i id m n → WasScanned (batches ++ more ∷ []) (events ++ event ∷ []) i id m n
+scanned_more batches more events event i id m n within was =
+    let before : was.k < i = was.before in record {
+      k = was.k;
+      before = was.before;
+      scan = scan_more batches more events event was.k (record { id = id; number = m; count = n }) (omega arith) was.scan;
+    }
+
+before_more : (batches : List (Option Batch)) (more : Option Batch) (i id : ℕ) (batch : Batch) → LeftBefore batches i id batch →
+    LeftBefore (batches ++ more ∷ []) i id batch
+before_more batches more i id batch was = record {
   j = was.j;
   before = was.before;
-  batch = was.batch;
-  there = get_more batches (more ∷ []) was.j (Some was.batch) was.there;
+  there = get_more batches (more ∷ []) was.j (Some batch) was.there;
   id_is = was.id_is;
-  printed = left_more events replies event reply was.j was.batch document was.printed;
-  scanned = λ m first last. (let t = was.scanned m first last in
-      let before : t.0 < i = t.1 in
-      (t.0, t.1, scan_more batches more events event t.0 (record { id = id; number = m; count = was.batch.n }) (omega arith) t.2));
+}
+
+printed_more : {A : Type 0} (batches : List (Option Batch)) (more : Option Batch) (events : List (Event A)) (event : Event A) (i id : ℕ)
+    (bytes : List ℕ) → i ≤ length batches → WasPrinted batches events i id bytes → WasPrinted (batches ++ more ∷ []) (events ++ event ∷ []) i id bytes
+printed_more batches more events event i id bytes within was = record {
+  batch = was.batch;
+  printed = before_more batches more i id was.batch was.printed;
+  bytes_are = was.bytes_are;
+  scanned = λ m first last. scanned_more batches more events event i id m (count_of was.batch) within (was.scanned m first last);
+}
+
+begun_more : {A : Type 0} (batches : List (Option Batch)) (more : Option Batch) (events : List (Event A)) (event : Event A) (i id missing : ℕ) →
+    i ≤ length batches → WasBegun batches events i id missing → WasBegun (batches ++ more ∷ []) (events ++ event ∷ []) i id missing
+begun_more batches more events event i id missing within was = record {
+  batch = was.batch;
+  printed = before_more batches more i id was.batch was.printed;
+  some_missing = was.some_missing;
+  not_all = was.not_all;
+  nothing_else = was.nothing_else;
+  scanned = λ m first last held. scanned_more batches more events event i id m (count_of was.batch) within (was.scanned m first last held);
 }
 
 -- a scan of what had left, as the last event
@@ -146,15 +170,11 @@ held_scanned ranges desks (e ∷ h) legal safe = held_next ranges h e legal.0.re
 
 -- ---- documents
 
--- what was printed under an identification was printed by an event
+-- what was printed under an identification left before
 pub record IsPrintedBy {A : Type 0} (h : History A) (id : ℕ) (cut : CutDocument) : Type 0 where
-  pub j : ℕ
-  pub before : j < length h
   pub batch : Batch
-  pub there : slice_get (batches_of h) j ≡ Some (Some batch)
-  pub id_is : batch.id ≡ id
-  pub n_is : batch.n ≡ length cut.parts
-  pub printed : LeftBy (events_of h) (replies_of h) j batch cut.bytes
+  pub printed : LeftBefore (batches_of h) (length h) id batch
+  pub document_is : batch.document ≡ cut
 
 pub printed_at : {A : Type 0} (ranges : List Range) (desks : ℕ) (h : History A) (id : ℕ) (cut : CutDocument) → IsLegal ranges desks h → docs h id ≡ Some cut →
     IsPrintedBy h id cut
@@ -163,189 +183,258 @@ printed_at {A} ranges desks (e ∷ h) id cut legal had = elim (decided (prints_a
   | inl is ↦
       (let t = prints_as_means e id is in
       let own : printed_by e.event e.parts ≡ Some cut = sym (if_so (prints_as e id) (printed_by e.event e.parts) (docs h id) is) ∙ had in record {
-        j = length h;
-        before = omega arith;
         batch = all_of e;
-        there = last_batch h e t.0;
-        id_is = t.1;
-        n_is = ap length (parts_are e.event own);
-        printed = last_prints ranges desks h e cut legal.0 t.0 own;
+        printed = record { j = length h; before = omega arith; there = last_batch h e t.0; id_is = t.1 };
+        document_is = cut_is e.event e.parts cut own;
       })
   | inr not_so ↦
       (let was = printed_at ranges desks h id cut legal.1
       (sym (if_not (prints_as e id) (printed_by e.event e.parts) (docs h id) (λ so. true_false (prints_as e id) so not_so)) ∙ had) in
-      let below : was.j < length h = was.before in record {
-        j = was.j;
-        before = omega arith;
+      let below : was.printed.j < length h = was.printed.before in record {
         batch = was.batch;
-        there = get_more (batches_of h) (batch_of e ∷ []) was.j (Some was.batch) was.there;
-        id_is = was.id_is;
-        n_is = was.n_is;
-        printed = left_more (events_of h) (replies_of h) e.event e.reply was.j was.batch cut.bytes was.printed;
+        printed = record {
+          j = was.printed.j;
+          before = omega arith;
+          there = get_more (batches_of h) (batch_of e ∷ []) was.printed.j (Some was.batch) was.printed.there;
+          id_is = was.printed.id_is;
+        };
+        document_is = was.document_is;
       })
 ]
-  where
-    parts_are : (event : Event A) → printed_by event e.parts ≡ Some cut → e.parts ≡ cut.parts
-    parts_are (Print p document size scheme stop) own =
-        let a : Some (record { bytes = document; size = size; scheme = scheme; parts = e.parts }) ≡ Some cut = own in
-        let same : record { bytes = document; size = size; scheme = scheme; parts = e.parts } ≡ cut = cc (a) in
-        ap (λ (c : CutDocument). c.parts) same
-    parts_are event own = absurd (cc (own))
 
--- a document that may be held whole was printed, and all its labels were scanned
-true_document : {A : Type 0} (ranges : List Range) (desks : ℕ) (h : History A) (desk id : ℕ) (document : List ℕ) → IsLegal ranges desks h → IsSafe h →
-    PrintsOnceBy (batches_of h) (events_of h) (replies_of h) → IsTrueDocument h desk id document →
-    WasPrinted (batches_of h) (events_of h) (replies_of h) (length h) id document
-true_document {A} ranges desks h desk id document legal safe once s =
-    let p : IsPrintedBy h id s.document = printed_at ranges desks h id s.document legal s.printed in
-    let n_is : p.batch.n ≡ length s.document.parts = p.n_is in record {
-      j = p.j;
-      before = p.before;
-      batch = p.batch;
-      there = p.there;
-      id_is = p.id_is;
-      printed = subst (λ (d : List ℕ). LeftBy (events_of h) (replies_of h) p.j p.batch d) (sym s.same) p.printed;
-      scanned = λ m first last.
-          (let t : Scans h id m = (held_scanned ranges desks h legal safe).held desk id m (s.possibly m first (omega arith)) in
-          let counted : t.name.count ≡ p.batch.n = count_is p.j p.batch p.there p.id_is t in (
-            t.k,
-            t.before,
-            subst (λ (name : LabelName). IsScanOf (batches_of h) (events_of h) t.k name)
-                (ap (λ (k : ℕ). record { id = k; number = t.name.number; count = t.name.count }) t.id_is ∙
-                ap (λ (k : ℕ). record { id = id; number = k; count = t.name.count }) t.number_is ∙
-                ap (λ (k : ℕ). record { id = id; number = m; count = k }) counted) t.scan,
-          ));
-    }
+-- the page of a label that was scanned is one of the batch under its identification
+scan_of : {A : Type 0} (h : History A) (id m n : ℕ) (batch : Batch) → PrintsOnceBy (batches_of h) (events_of h) (replies_of h) →
+    LeftBefore (batches_of h) (length h) id batch → n ≡ count_of batch → Scans h id m → WasScanned (batches_of h) (events_of h) (length h) id m n
+scan_of {A} h id m n batch once left n_is t = record {
+  k = t.k;
+  before = t.before;
+  scan = subst (λ (name : LabelName). IsScanOf (batches_of h) (events_of h) t.k name)
+      (ap (λ (k : ℕ). record { id = k; number = t.name.number; count = t.name.count }) t.id_is ∙
+      ap (λ (k : ℕ). record { id = id; number = k; count = t.name.count }) t.number_is ∙
+      ap (λ (k : ℕ). record { id = id; number = m; count = k }) (counted ∙ sym n_is)) t.scan;
+}
   where
-    count_is : (j : ℕ) (batch : Batch) → slice_get (batches_of h) j ≡ Some (Some batch) → batch.id ≡ id → {m : ℕ} → (t : Scans h id m) →
-        t.name.count ≡ batch.n
-    count_is j batch there named t =
+    counted : t.name.count ≡ count_of batch
+    counted =
         let own = label_in (take t.k (batches_of h)) t.scan.label t.name t.scan.had_left in
         let at : slice_get (batches_of h) own.0 ≡ Some (Some own.1) = get_taken t.k (batches_of h) own.0 (Some own.1) own.2 in
-        let place : own.0 ≡ j = once.once own.0 j own.1 batch at there (sym own.3 ∙ t.id_is ∙ sym named) in
-        let e : Some (Some own.1) ≡ Some (Some batch) = sym at ∙ ap (λ (k : ℕ). slice_get (batches_of h) k) place ∙ there in
+        let place : own.0 ≡ left.j = once.once own.0 left.j own.1 batch at left.there (sym own.3 ∙ t.id_is ∙ sym left.id_is) in
+        let e : Some (Some own.1) ≡ Some (Some batch) = sym at ∙ ap (λ (k : ℕ). slice_get (batches_of h) k) place ∙ left.there in
         let same : own.1 ≡ batch = cc (e) in
-        own.4 ∙ ap (λ (b : Batch). b.n) same
+        own.4 ∙ ap count_of same
+
+count_is : {A : Type 0} (h : History A) (id : ℕ) (cut : CutDocument) → (p : IsPrintedBy h id cut) → count_of p.batch ≡ length cut.parts
+count_is h id cut p = ap (λ (c : CutDocument). length c.parts) p.document_is
+
+-- a document that may be held whole was printed, and all its labels were scanned
+true_document : {A : Type 0} (ranges : List Range) (desks : ℕ) (h : History A) (desk id : ℕ) (bytes : List ℕ) → IsLegal ranges desks h → IsSafe h →
+    PrintsOnceBy (batches_of h) (events_of h) (replies_of h) → IsTrueDocument h desk id bytes →
+    WasPrinted (batches_of h) (events_of h) (length h) id bytes
+true_document {A} ranges desks h desk id bytes legal safe once s =
+    let p : IsPrintedBy h id s.document = printed_at ranges desks h id s.document legal s.printed in
+    let n_is = count_is h id s.document p in record {
+      batch = p.batch;
+      printed = p.printed;
+      bytes_are = ap (λ (c : CutDocument). c.bytes) p.document_is ∙ sym s.same;
+      scanned = λ m first last. scan_of h id m (count_of p.batch) p.batch once p.printed refl
+          ((held_scanned ranges desks h legal safe).held desk id m (s.possibly m first (omega arith)));
+    }
+
+-- a document that lacks pages was printed, and the labels of the other pages were scanned
+truly_missing : {A : Type 0} (ranges : List Range) (desks : ℕ) (h : History A) (desk id missing : ℕ) → IsLegal ranges desks h → IsSafe h →
+    PrintsOnceBy (batches_of h) (events_of h) (replies_of h) → IsTrulyMissing h desk id missing →
+    WasBegun (batches_of h) (events_of h) (length h) id missing
+truly_missing {A} ranges desks h desk id missing legal safe once s =
+    let p : IsPrintedBy h id s.document = printed_at ranges desks h id s.document legal s.printed in
+    let n_is = count_is h id s.document p in record {
+      batch = p.batch;
+      printed = p.printed;
+      some_missing = s.some_named;
+      not_all = (s.not_all.0, s.not_all.1, (let last : s.not_all.0 ≤ length s.document.parts = s.not_all.2 in omega arith), s.not_all.3);
+      nothing_else = λ m named. (let t = s.nothing_else m named in let last = t.1 in (t.0, omega arith));
+      scanned = λ m first last held. scan_of h id m (count_of p.batch) p.batch once p.printed refl
+          ((held_scanned ranges desks h legal safe).held desk id m (s.possibly m first (omega arith) held));
+    }
+
+-- the pages of an export are of a document that was printed, and their labels were scanned
+pages_scanned : {A : Type 0} (ranges : List Range) (desks : ℕ) (h : History A) (desk id n mask : ℕ) → IsLegal ranges desks h → IsSafe h →
+    PrintsOnceBy (batches_of h) (events_of h) (replies_of h) → IsExportSafe h desk id n mask →
+    (m : ℕ) → HasPage mask m → WasScanned (batches_of h) (events_of h) (length h) id m n
+pages_scanned {A} ranges desks h desk id n mask legal safe once s m named =
+    let p : IsPrintedBy h id s.document = printed_at ranges desks h id s.document legal s.printed in
+    scan_of h id m n p.batch once p.printed (s.n_is ∙ sym (count_is h id s.document p))
+    ((held_scanned ranges desks h legal safe).held desk id m (s.possibly m named))
+
+-- what is forgotten was begun
+page_scanned : {A : Type 0} (h : History A) (id m : ℕ) → (t : Scans h id m) → WasScanned (batches_of h) (events_of h) (length h) id m t.name.count
+page_scanned {A} h id m t = record {
+  k = t.k;
+  before = t.before;
+  scan = subst (λ (name : LabelName). IsScanOf (batches_of h) (events_of h) t.k name)
+      (ap (λ (k : ℕ). record { id = k; number = t.name.number; count = t.name.count }) t.id_is ∙
+      ap (λ (k : ℕ). record { id = id; number = k; count = t.name.count }) t.number_is) t.scan;
+}
 
 -- ---- the headline
 
--- each label that was scanned left
-abbrev ScansLabels : {A : Type 0} → History A → Type 0
-ScansLabels h = (i : ℕ) (accepted : Accepted) → slice_get (replies_of h) i ≡ Some (Scanned accepted) →
-    IsScanOf (batches_of h) (events_of h) i (record { id = accepted.id; number = accepted.m; count = accepted.n })
+-- what is so of this reply, to event number i
+abbrev Tells : {A : Type 0} → List (Option Batch) → List (Event A) → ℕ → Reply A → Type 0
+Tells batches events i (Scanned accepted) = IsScanOf batches events i (record { id = accepted.id; number = accepted.m; count = accepted.n })
+Tells batches events i (Document bytes) = (desk id : ℕ) × (slice_get events i ≡ Some (Ask desk id)) × WasPrinted batches events i id bytes
+Tells batches events i (AskRefused (Incomplete missing)) =
+    (desk id : ℕ) × (slice_get events i ≡ Some (Ask desk id)) × WasBegun batches events i id missing
+Tells batches events i Forgotten =
+    (desk id : ℕ) × (stop : Stop) × (slice_get events i ≡ Some (Forget desk id stop)) × (m n : ℕ) × WasScanned batches events i id m n
+Tells batches events i (Exported index id n mask) =
+    (desk : ℕ) × (slice_get events i ≡ Some (Export desk id)) × ((m : ℕ) → HasPage mask m → WasScanned batches events i id m n)
+Tells batches events i reply = Unit {0}
 
-scanned_next : {A : Type 0} (ranges : List Range) (h : History A) (e : Entry A) → IsReply ranges h e.id e.left e.event e.reply →
-    IsReplySafe h e.event e.reply → ScansLabels h → ScansLabels (e ∷ h)
-scanned_next {A} ranges h e fine safe scanned_before = scans
+tells_more : {A : Type 0} (batches : List (Option Batch)) (more : Option Batch) (events : List (Event A)) (event : Event A) (i : ℕ) (reply : Reply A) →
+    i ≤ length batches → Tells batches events i reply → Tells (batches ++ more ∷ []) (events ++ event ∷ []) i reply
+tells_more batches more events event i (Scanned accepted) within t =
+    scan_more batches more events event i (record { id = accepted.id; number = accepted.m; count = accepted.n }) within t
+tells_more batches more events event i (Document bytes) within t =
+    (t.0, t.1, get_more events (event ∷ []) i (Ask t.0 t.1) t.2, printed_more batches more events event i t.1 bytes within t.3)
+tells_more batches more events event i (AskRefused (Incomplete missing)) within t =
+    (t.0, t.1, get_more events (event ∷ []) i (Ask t.0 t.1) t.2, begun_more batches more events event i t.1 missing within t.3)
+tells_more batches more events event i Forgotten within t = (
+  t.0,
+  t.1,
+  t.2,
+  get_more events (event ∷ []) i (Forget t.0 t.1 t.2) t.3,
+  t.4,
+  t.5,
+  scanned_more batches more events event i t.1 t.4 t.5 within t.6,
+)
+tells_more batches more events event i (Exported index id n mask) within t = (
+  t.0,
+  get_more events (event ∷ []) i (Export t.0 id) t.1,
+  λ m named. scanned_more batches more events event i id m n within (t.2 m named),
+)
+tells_more batches more events event i reply within t = tt
+
+-- so it is of the last reply
+tells_last : {A : Type 0} (ranges : List Range) (desks : ℕ) (h : History A) (e : Entry A) → IsLegal ranges desks (e ∷ h) → IsSafe (e ∷ h) →
+    PrintsOnceBy (batches_of h) (events_of h) (replies_of h) → Tells (batches_of (e ∷ h)) (events_of (e ∷ h)) (length h) e.reply
+tells_last {A} ranges desks h e legal safe once = by_reply e.event e.reply refl legal.0.reply safe.0
   where
-    now : (event : Event A) (accepted : Accepted) → e.event ≡ event → IsReply ranges h e.id e.left event (Scanned accepted) →
-        IsReplySafe h event (Scanned accepted) →
-        IsScanOf (batches_of (e ∷ h)) (events_of (e ∷ h)) (length h) (record { id = accepted.id; number = accepted.m; count = accepted.n })
-    now (Scan desk label flips stop) accepted is fine s =
+    within : length h ≤ length (batches_of h)
+    within = (let all = batches_count h in omega arith)
+
+    asked : (event : Event A) → e.event ≡ event → slice_get (events_of (e ∷ h)) (length h) ≡ Some event
+    asked event is = at_last (events_of h) e.event (length h) (events_count h) ∙ ap (λ (v : Event A). Some v) is
+
+    on : (reply : Reply A) → Tells (batches_of h) (events_of h) (length h) reply → Tells (batches_of (e ∷ h)) (events_of (e ∷ h)) (length h) reply
+    on reply t = tells_more (batches_of h) (batch_of e) (events_of h) e.event (length h) reply within t
+
+    by_reply : (event : Event A) (reply : Reply A) → e.event ≡ event → IsReply ranges h e.id e.left event reply → IsReplySafe h event reply →
+        Tells (batches_of (e ∷ h)) (events_of (e ∷ h)) (length h) reply
+    by_reply (Scan desk label flips stop) (Scanned accepted) is fine s =
         subst (λ (name : LabelName). IsScanOf (batches_of (e ∷ h)) (events_of (e ∷ h)) (length h) name)
         (ap (λ (k : ℕ). record { id = k; number = s.name.number; count = s.name.count }) (sym s.id_is) ∙
         ap (λ (k : ℕ). record { id = accepted.id; number = k; count = s.name.count }) (sym s.m_is) ∙
         ap (λ (k : ℕ). record { id = accepted.id; number = accepted.m; count = k }) (sym s.n_is))
         (last_scan h e desk label flips stop s.name is s.scanned)
-    now event accepted is fine s = absurd fine
-
-    scans : (i : ℕ) (accepted : Accepted) → slice_get (replies_of (e ∷ h)) i ≡ Some (Scanned accepted) →
-        IsScanOf (batches_of (e ∷ h)) (events_of (e ∷ h)) i (record { id = accepted.id; number = accepted.m; count = accepted.n })
-    scans i accepted answered = elim (before_or_last (replies_of h) e.reply (Scanned accepted) (length h) i (replies_count h) answered) [
-      | inl before ↦
-          (let below = get_beyond (replies_of h) i (Scanned accepted) before in
-          let count = replies_count h in
-          let all = batches_count h in
-          scan_more (batches_of h) (batch_of e) (events_of h) e.event i (record { id = accepted.id; number = accepted.m; count = accepted.n })
-          (omega arith) (scanned_before i accepted before))
-      | inr last ↦ subst
-          (λ (k : ℕ). IsScanOf (batches_of (e ∷ h)) (events_of (e ∷ h)) k (record { id = accepted.id; number = accepted.m; count = accepted.n }))
-          (sym last.0)
-          (now e.event accepted refl (subst (λ (r : Reply A). IsReply ranges h e.id e.left e.event r) last.1 fine)
-          (subst (λ (r : Reply A). IsReplySafe h e.event r) last.1 safe))
-    ]
-
-scanned_labels : {A : Type 0} (ranges : List Range) (desks : ℕ) (h : History A) → IsLegal ranges desks h → IsSafe h → ScansLabels h
-scanned_labels ranges desks [] legal safe = λ i accepted a. absurd (cc (a))
-scanned_labels ranges desks (e ∷ h) legal safe = scanned_next ranges h e legal.0.reply safe.0 (scanned_labels ranges desks h legal.1 safe.1)
-
--- each document that was given was asked for, and printed
-abbrev IsGiven : {A : Type 0} → History A → ℕ → List ℕ → Type 0
-IsGiven h i document =
-    (desk id : ℕ) × (slice_get (events_of h) i ≡ Some (Ask desk id)) × WasPrinted (batches_of h) (events_of h) (replies_of h) i id document
-
-abbrev GivesPrinted : {A : Type 0} → History A → Type 0
-GivesPrinted h = (i : ℕ) (document : List ℕ) → slice_get (replies_of h) i ≡ Some (Document document) → IsGiven h i document
-
-given_next : {A : Type 0} (ranges : List Range) (h : History A) (e : Entry A) → IsReply ranges h e.id e.left e.event e.reply →
-    IsReplySafe h e.event e.reply →
-    ((desk id : ℕ) (document : List ℕ) → IsTrueDocument h desk id document →
-    WasPrinted (batches_of h) (events_of h) (replies_of h) (length h) id document) →
-    GivesPrinted h → GivesPrinted (e ∷ h)
-given_next {A} ranges h e fine safe true_was_printed given_before = gives
-  where
-    more : (i id : ℕ) (document : List ℕ) → i ≤ length h → WasPrinted (batches_of h) (events_of h) (replies_of h) i id document →
-        WasPrinted (batches_of (e ∷ h)) (events_of (e ∷ h)) (replies_of (e ∷ h)) i id document
-    more i id document within was =
-        let all = batches_count h in
-        printed_more (batches_of h) (batch_of e) (events_of h) (replies_of h) e.event e.reply i id document (omega arith) was
-
-    now : (event : Event A) (document : List ℕ) → e.event ≡ event → IsReply ranges h e.id e.left event (Document document) →
-        IsReplySafe h event (Document document) → IsGiven (e ∷ h) (length h) document
-    now (Ask desk id) document is fine s = (
+    by_reply (Ask desk id) (Document bytes) is fine s = (
       desk,
       id,
-      at_last (events_of h) e.event (length h) (events_count h) ∙ ap (λ (v : Event A). Some v) is,
-      more (length h) id document (omega arith) (true_was_printed desk id document s),
+      asked (Ask desk id) is,
+      printed_more (batches_of h) (batch_of e) (events_of h) e.event (length h) id bytes within
+          (true_document ranges desks h desk id bytes legal.1 safe.1 once s),
     )
-    now event document is fine s = absurd fine
+    by_reply (Ask desk id) (AskRefused (Incomplete missing)) is fine s = (
+      desk,
+      id,
+      asked (Ask desk id) is,
+      begun_more (batches_of h) (batch_of e) (events_of h) e.event (length h) id missing within
+          (truly_missing ranges desks h desk id missing legal.1 safe.1 once s),
+    )
+    by_reply (Forget desk id stop) Forgotten is fine s =
+        (let t : Scans h id s.0 = (held_scanned ranges desks h legal.1 safe.1).held desk id s.0 s.1 in (
+          desk,
+          id,
+          stop,
+          asked (Forget desk id stop) is,
+          s.0,
+          t.name.count,
+          scanned_more (batches_of h) (batch_of e) (events_of h) e.event (length h) id s.0 t.name.count within (page_scanned h id s.0 t),
+        ))
+    by_reply (Export desk name) (Exported index id n mask) is fine s =
+        (let same : id ≡ name = fine.id_is in (
+          desk,
+          asked (Export desk id) (is ∙ ap (λ (k : ℕ). Export desk k) (sym same)),
+          λ m named. scanned_more (batches_of h) (batch_of e) (events_of h) e.event (length h) id m n within
+              (subst (λ (k : ℕ). WasScanned (batches_of h) (events_of h) (length h) k m n) (sym same)
+              (pages_scanned ranges desks h desk name n mask legal.1 safe.1 once s m named)),
+        ))
+    by_reply event (Scanned accepted) is fine s = absurd fine
+    by_reply event (Document bytes) is fine s = absurd fine
+    by_reply event (AskRefused (Incomplete missing)) is fine s = absurd fine
+    by_reply event Forgotten is fine s = absurd fine
+    by_reply event (Exported index id n mask) is fine s = absurd fine
+    by_reply event reply is fine s = tt
 
-    gives : (i : ℕ) (document : List ℕ) → slice_get (replies_of (e ∷ h)) i ≡ Some (Document document) → IsGiven (e ∷ h) i document
-    gives i document answered = elim (before_or_last (replies_of h) e.reply (Document document) (length h) i (replies_count h) answered) [
+-- and of each
+each_tells : {A : Type 0} (ranges : List Range) (desks : ℕ) (h : History A) → IsLegal ranges desks h → NeverTwice h → IsSafe h →
+    (i : ℕ) (reply : Reply A) → slice_get (replies_of h) i ≡ Some reply → Tells (batches_of h) (events_of h) i reply
+each_tells ranges desks [] legal never safe i reply answered = absurd (cc (answered))
+each_tells {A} ranges desks (e ∷ h) legal never safe i reply answered =
+    elim (before_or_last (replies_of h) e.reply reply (length h) i (replies_count h) answered) [
       | inl before ↦
-          (let below = get_beyond (replies_of h) i (Document document) before in
+          (let below = get_beyond (replies_of h) i reply before in
           let count = replies_count h in
-          let g = given_before i document before in
-          (g.0, g.1, get_more (events_of h) (e.event ∷ []) i (Ask g.0 g.1) g.2, more i g.1 document (omega arith) g.3))
-      | inr last ↦ subst (λ (k : ℕ). IsGiven (e ∷ h) k document) (sym last.0)
-          (now e.event document refl (subst (λ (r : Reply A). IsReply ranges h e.id e.left e.event r) last.1 fine)
-          (subst (λ (r : Reply A). IsReplySafe h e.event r) last.1 safe))
+          let all = batches_count h in
+          tells_more (batches_of h) (batch_of e) (events_of h) e.event i reply (omega arith)
+          (each_tells ranges desks h legal.1 never.1 safe.1 i reply before))
+      | inr last ↦ subst (λ (k : ℕ). Tells (batches_of (e ∷ h)) (events_of (e ∷ h)) k reply) (sym last.0)
+          (subst (λ (r : Reply A). Tells (batches_of (e ∷ h)) (events_of (e ∷ h)) (length h) r) last.1
+          (tells_last ranges desks h e legal safe (prints_once ranges desks h legal.1 never.1)))
     ]
-
-given_printed : {A : Type 0} (ranges : List Range) (desks : ℕ) (h : History A) → IsLegal ranges desks h → NeverTwice h → IsSafe h → GivesPrinted h
-given_printed ranges desks [] legal never safe = λ i document a. absurd (cc (a))
-given_printed ranges desks (e ∷ h) legal never safe =
-    given_next ranges h e legal.0.reply safe.0
-    (λ desk id document s. true_document ranges desks h desk id document legal.1 safe.1 (prints_once ranges desks h legal.1 never.1) s)
-    (given_printed ranges desks h legal.1 never.1 safe.1)
 
 -- two documents of one identification are the same
 one_document : {A : Type 0} (batches : List (Option Batch)) (events : List (Event A)) (replies : List (Reply A)) (i j id : ℕ) (one other : List ℕ) →
-    PrintsOnceBy batches events replies → WasPrinted batches events replies i id one → WasPrinted batches events replies j id other → one ≡ other
+    PrintsOnceBy batches events replies → WasPrinted batches events i id one → WasPrinted batches events j id other → one ≡ other
 one_document {A} batches events replies i j id one other f a b =
-    let place : a.j ≡ b.j = f.once a.j b.j a.batch b.batch a.there b.there (a.id_is ∙ sym b.id_is) in
-    let p = a.printed.is_print in
-    let q = b.printed.is_print in
-    let e : Some (Print p.printer one p.size p.scheme a.printed.stop) ≡ Some (Print q.printer other q.size q.scheme b.printed.stop) =
-    sym p.event ∙ ap (λ (k : ℕ). slice_get events k) place ∙ q.event in cc (e)
-
--- what was asked for by an identification, as it was printed under it
-asked_for : {A : Type 0} (h : History A) (i desk id : ℕ) (document : List ℕ) → slice_get (events_of h) i ≡ Some (Ask desk id) → IsGiven h i document →
-    WasPrinted (batches_of h) (events_of h) (replies_of h) i id document
-asked_for {A} h i desk id document asked g =
-    let e : Some (Ask g.0 g.1) ≡ Some (Ask desk id) = sym g.2 ∙ asked in
-    let same : g.1 ≡ id = cc (e) in
-    subst (λ (k : ℕ). WasPrinted (batches_of h) (events_of h) (replies_of h) i k document) same g.3
+    let p = a.printed in
+    let q = b.printed in
+    let place : p.j ≡ q.j = f.once p.j q.j a.batch b.batch p.there q.there (p.id_is ∙ sym q.id_is) in
+    let e : Some (Some a.batch) ≡ Some (Some b.batch) = sym p.there ∙ ap (λ (k : ℕ). slice_get batches k) place ∙ q.there in
+    let same : a.batch ≡ b.batch = cc (e) in
+    sym a.bytes_are ∙ ap (λ (c : Batch). c.document.bytes) same ∙ b.bytes_are
 
 pub is_faithful : {A : Type 0} (ranges : List Range) (desks : ℕ) (h : History A) → IsLegal ranges desks h → NeverTwice h → IsSafe h →
     IsFaithfulBy (batches_of h) (events_of h) (replies_of h)
-is_faithful {A} ranges desks h legal never safe =
-    let once : PrintsOnceBy (batches_of h) (events_of h) (replies_of h) = prints_once ranges desks h legal never in
-    let given : GivesPrinted h = given_printed ranges desks h legal never safe in record {
-      prints = once;
-      scanned = scanned_labels ranges desks h legal safe;
-      given = given;
-      same = λ i j desk at id one other asked answered asked_too answered_too.
-          one_document (batches_of h) (events_of h) (replies_of h) i j id one other once
-          (asked_for h i desk id one asked (given i one answered)) (asked_for h j at id other asked_too (given j other answered_too));
-    }
+is_faithful {A} ranges desks h legal never safe = record {
+  prints = once;
+  scanned = λ i accepted answered. tells i (Scanned accepted) answered;
+  given = λ i bytes answered. tells i (Document bytes) answered;
+  same = λ i j desk at id one other asked answered asked_too answered_too.
+      one_document (batches_of h) (events_of h) (replies_of h) i j id one other once (printed i desk id one asked answered)
+      (printed j at id other asked_too answered_too);
+  begun = λ i desk id missing asked answered.
+      (let t = tells i (AskRefused (Incomplete missing)) answered in
+      subst (λ (k : ℕ). WasBegun (batches_of h) (events_of h) i k missing) (asked_is i desk id t.0 t.1 asked t.2) t.3);
+  forgotten = λ i desk id stop asked answered.
+      (let t = tells i Forgotten answered in
+      let e : Some (Forget t.0 t.1 t.2) ≡ Some (Forget desk id stop) = sym t.3 ∙ asked in
+      let same : t.1 ≡ id = cc (e) in
+      (t.4, t.5, subst (λ (k : ℕ). WasScanned (batches_of h) (events_of h) i k t.4 t.5) same t.6));
+  exported = λ i index id n mask answered. tells i (Exported index id n mask) answered;
+}
+  where
+    once : PrintsOnceBy (batches_of h) (events_of h) (replies_of h)
+    once = prints_once ranges desks h legal never
+
+    tells : (i : ℕ) (reply : Reply A) → slice_get (replies_of h) i ≡ Some reply → Tells (batches_of h) (events_of h) i reply
+    tells = each_tells ranges desks h legal never safe
+
+    asked_is : (i desk id at name : ℕ) → slice_get (events_of h) i ≡ Some (Ask desk id) → slice_get (events_of h) i ≡ Some (Ask at name) → name ≡ id
+    asked_is i desk id at name one other =
+        let e : Some (Ask desk id) ≡ Some (Ask at name) = sym one ∙ other in
+        let same : id ≡ name = cc (e) in sym same
+
+    printed : (i desk id : ℕ) (bytes : List ℕ) → slice_get (events_of h) i ≡ Some (Ask desk id) →
+        slice_get (replies_of h) i ≡ Some (Document bytes) → WasPrinted (batches_of h) (events_of h) i id bytes
+    printed i desk id bytes asked answered =
+        let t = tells i (Document bytes) answered in
+        subst (λ (k : ℕ). WasPrinted (batches_of h) (events_of h) i k bytes) (asked_is i desk id t.0 t.1 asked t.2) t.3

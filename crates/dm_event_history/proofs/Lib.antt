@@ -10,7 +10,10 @@ pub mod Fresh
 pub mod Holds
 pub mod LeftOnce
 pub mod Batches
+pub mod ScannedLabels
+pub mod PrintsOnce
 pub mod TakesOnce
+pub mod ImportsExports
 pub mod Faithful
 pub mod WorkedOut
 pub mod Right

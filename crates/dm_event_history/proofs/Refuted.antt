@@ -6,58 +6,73 @@ use Rattle.dm_assembly_desk.specs.declared.reply.Kind.TheVariants.{New}
 use Rattle.dm_append_label.specs.Parts.{parts_from}
 use Rattle.dm_append_label.proofs.CutParts.{each_cut_is}
 use Rattle.dm_event_history.specs.declared.event.Event.{Event}
-use Rattle.dm_event_history.specs.declared.event.Event.TheVariants.{Print, Scan, Ask, Give}
+use Rattle.dm_event_history.specs.declared.event.Event.TheVariants.{Print, Scan, Ask, Give, Export}
 use Rattle.dm_event_history.specs.declared.reply.Reply.{Reply}
+use Rattle.dm_event_history.specs.declared.reply.Reply.TheVariants.{Document, Exported, Stopped}
 use Rattle.dm_event_history.specs.declared.stop.Stop.{Stop}
 use Rattle.dm_event_history.specs.declared.stop.Stop.TheVariants as stops
 use Rattle.dm_event_history.specs.History.{LabelName, names_from}
-use Rattle.dm_event_history.specs.Headline.{Batch, LeftBy, labels_of, IsScanOf, WasPrinted, PrintsOnceBy, IsFaithfulBy}
+use Rattle.dm_event_history.specs.Headline.{Batch, count_of, LeftBy, labels_of, IsScanOf, WasScanned, WasPrinted, PrintsOnceBy, IsFaithfulBy}
 use Rattle.dm_print_ledger.specs.declared.range.Range.{Range}
+use Rattle.dm_event_history.specs.Masks.{HasPage}
 use Rattle.dm_event_history.specs.Tickets.{WasGiven}
 use Rattle.dm_event_history.specs.Worked.{digits, first_ticket}
-use Rattle.dm_event_history.specs.Unfaithful.{IsFaithfulRun, PrintsOnceRun, TakesOnceRun, other_digits, half_printed, printed_unseen, unseen_labels, print, never_printed, wrong_document, another_document, never_scanned, two_documents, printed_twice, told_twice, never_left, numbered_twice, taken_twice, taken_elsewhere, overlaps, AreUnfaithful}
+use Rattle.dm_event_history.specs.Unfaithful.{IsFaithfulRun, PrintsOnceRun, TakesOnceRun, ImportsExportsRun, other_digits, shown_not_left, shown_left, begun_unscanned, exported_unscanned, printed_after_forgotten, one_serial, taken_though_old, never_exported, imported_another_page, exported_twice, half_printed, printed_unseen, unseen_labels, print, never_printed, wrong_document, another_document, never_scanned, two_documents, printed_twice, told_twice, never_left, numbered_twice, taken_twice, taken_elsewhere, overlaps, AreUnfaithful}
 
 -- ---- what an event lets out
 
--- no label leaves by a print that is stopped before the first
-none_left : {A : Type 0} (events : List (Event A)) (replies : List (Reply A)) (i printer : ℕ) (batch : Batch) (document printed : List ℕ) →
-    slice_get events i ≡ Some (print printer printed (stops.AfterLabels 0)) → LeftBy events replies i batch document → ⊥
-none_left {A} events replies i printer batch document printed is left =
+-- what left by a stopped print of this document: some of its labels, but no more than the stop lets out
+record StoppedPrint (batch : Batch) (printed : List ℕ) (most : ℕ) : Type 0 where
+  pub document_is : batch.document.bytes ≡ printed
+  pub some : 1 ≤ batch.left
+  pub left_is : batch.left ≡ min most (count_of batch)
+
+stopped_print : {A : Type 0} (events : List (Event A)) (replies : List (Reply A)) (i printer most : ℕ) (batch : Batch) (printed : List ℕ) →
+    slice_get events i ≡ Some (print printer printed (stops.AfterLabels most)) → LeftBy events replies i batch → StoppedPrint batch printed most
+stopped_print {A} events replies i printer most batch printed is left =
     let p = left.is_print in
-    let e : Some (Print p.printer document p.size p.scheme left.stop) ≡ Some (Print printer printed Side12 Ascii (stops.AfterLabels 0)) =
+    let d = batch.document in
+    let e : Some (Print p.printer d.bytes d.size d.scheme left.stop) ≡ Some (Print printer printed Side12 Ascii (stops.AfterLabels most)) =
     sym p.event ∙ is in
-    let stop_is : left.stop ≡ stops.AfterLabels 0 = cc (e) in
-    let not_none : 1 ≤ batch.left = left.not_none in
-    elim left.ends [
-      | inl told ↦ (let n : stops.None ≡ stops.AfterLabels 0 = sym told.no_stop ∙ stop_is in cc (n))
-      | inr stopped ↦
-          (let m : stops.AfterLabels stopped.most ≡ stops.AfterLabels 0 = sym stopped.stopped_so ∙ stop_is in
-          let most_is : stopped.most ≡ 0 = cc (m) in
-          let some : batch.left ≡ min stopped.most batch.n = stopped.some in omega arith)
-    ]
+    let stop_is : left.stop ≡ stops.AfterLabels most = cc (e) in record {
+      document_is = cc (e);
+      some = left.not_none;
+      left_is = elim left.ends [
+        | inl told ↦ absurd (let n : stops.None ≡ stops.AfterLabels most = sym told.no_stop ∙ stop_is in cc (n))
+        | inr stopped ↦
+            (let m : stops.AfterLabels stopped.most ≡ stops.AfterLabels most = sym stopped.stopped_so ∙ stop_is in
+            let most_is : stopped.most ≡ most = cc (m) in
+            let few : batch.left ≡ min stopped.most (count_of batch) = stopped.some in omega arith)
+      ];
+    }
+
+-- no label leaves by a print that is stopped before the first
+none_left : {A : Type 0} (events : List (Event A)) (replies : List (Reply A)) (i printer : ℕ) (batch : Batch) (printed : List ℕ) →
+    slice_get events i ≡ Some (print printer printed (stops.AfterLabels 0)) → LeftBy events replies i batch → ⊥
+none_left events replies i printer batch printed is left =
+    let p = stopped_print events replies i printer 0 batch printed is left in
+    let some = p.some in let few : batch.left ≡ min 0 (count_of batch) = p.left_is in omega arith
 
 -- at most that many labels leave by a print that is stopped
-most_left : {A : Type 0} (events : List (Event A)) (replies : List (Reply A)) (i printer most : ℕ) (batch : Batch) (document printed : List ℕ) →
-    slice_get events i ≡ Some (print printer printed (stops.AfterLabels most)) → LeftBy events replies i batch document → batch.left ≤ most
-most_left {A} events replies i printer most batch document printed is left =
-    let p = left.is_print in
-    let e : Some (Print p.printer document p.size p.scheme left.stop) ≡ Some (Print printer printed Side12 Ascii (stops.AfterLabels most)) =
-    sym p.event ∙ is in
-    let stop_is : left.stop ≡ stops.AfterLabels most = cc (e) in
-    elim left.ends [
-      | inl told ↦ absurd (let n : stops.None ≡ stops.AfterLabels most = sym told.no_stop ∙ stop_is in cc (n))
-      | inr stopped ↦
-          (let m : stops.AfterLabels stopped.most ≡ stops.AfterLabels most = sym stopped.stopped_so ∙ stop_is in
-          let most_is : stopped.most ≡ most = cc (m) in
-          let some : batch.left ≡ min stopped.most batch.n = stopped.some in omega arith)
-    ]
+most_left : {A : Type 0} (events : List (Event A)) (replies : List (Reply A)) (i printer most : ℕ) (batch : Batch) (printed : List ℕ) →
+    slice_get events i ≡ Some (print printer printed (stops.AfterLabels most)) → LeftBy events replies i batch → batch.left ≤ most
+most_left events replies i printer most batch printed is left =
+    let few : batch.left ≡ min most (count_of batch) = (stopped_print events replies i printer most batch printed is left).left_is in omega arith
 
 -- a print is of the document that it prints
-document_is : {A : Type 0} (events : List (Event A)) (replies : List (Reply A)) (i printer : ℕ) (batch : Batch) (document printed : List ℕ) (stop : Stop) →
-    slice_get events i ≡ Some (print printer printed stop) → LeftBy events replies i batch document → document ≡ printed
-document_is {A} events replies i printer batch document printed stop is left =
+document_is : {A : Type 0} (events : List (Event A)) (replies : List (Reply A)) (i printer : ℕ) (batch : Batch) (printed : List ℕ) (stop : Stop) →
+    slice_get events i ≡ Some (print printer printed stop) → LeftBy events replies i batch → batch.document.bytes ≡ printed
+document_is {A} events replies i printer batch printed stop is left =
     let p = left.is_print in
-    let e : Some (Print p.printer document p.size p.scheme left.stop) ≡ Some (Print printer printed Side12 Ascii stop) = sym p.event ∙ is in cc (e)
+    let d = batch.document in
+    let e : Some (Print p.printer d.bytes d.size d.scheme left.stop) ≡ Some (Print printer printed Side12 Ascii stop) = sym p.event ∙ is in cc (e)
+
+-- what left before an event is a batch of one of the events before it
+printed_before : {A : Type 0} (batches : List (Option Batch)) (events : List (Event A)) (replies : List (Reply A)) (i id : ℕ) (bytes : List ℕ) →
+    PrintsOnceBy batches events replies → WasPrinted batches events i id bytes →
+    (j : ℕ) × (batch : Batch) × (j < i) × LeftBy events replies j batch × (batch.document.bytes ≡ bytes)
+printed_before batches events replies i id bytes f w =
+    (w.printed.j, w.batch, w.printed.before, f.printed w.printed.j w.batch w.printed.there, w.bytes_are)
 
 -- the first digits of the documents differ
 digits_differ : digits ≡ other_digits → ⊥
@@ -66,7 +81,8 @@ digits_differ same = (let a : ◌≡◌ {A = ℕ} 49 52 = cc (same) in omega ari
 -- ---- documents
 
 never_printed_is : (A : Type 0) → ¬ IsFaithfulRun (never_printed A)
-never_printed_is A (batches, f) = by_given (f.given 1 digits refl)
+never_printed_is A (batches, f) =
+    let t = printed_before batches events replies 1 (f.given 1 digits refl).1 digits f.prints (f.given 1 digits refl).3 in by_print t.0 t.1 t.2 t.3
   where
     events : List (Event A)
     events = map (λ one. one.0) (never_printed A)
@@ -74,15 +90,13 @@ never_printed_is A (batches, f) = by_given (f.given 1 digits refl)
     replies : List (Reply A)
     replies = map (λ one. one.1) (never_printed A)
 
-    by_print : (j : ℕ) (batch : Batch) → j < 1 → LeftBy events replies j batch digits → ⊥
-    by_print zero batch before left = none_left events replies 0 0 batch digits digits refl left
+    by_print : (j : ℕ) (batch : Batch) → j < 1 → LeftBy events replies j batch → ⊥
+    by_print zero batch before left = none_left events replies 0 0 batch digits refl left
     by_print (suc j) batch before left = omega arith
 
-    by_given : ((desk id : ℕ) × (slice_get events 1 ≡ Some (Ask desk id)) × WasPrinted batches events replies 1 id digits) → ⊥
-    by_given g = by_print g.3.j g.3.batch g.3.before g.3.printed
-
 wrong_document_is : (A : Type 0) → ¬ IsFaithfulRun (wrong_document A)
-wrong_document_is A (batches, f) = by_given (f.given 4 digits refl)
+wrong_document_is A (batches, f) =
+    let t = printed_before batches events replies 4 (f.given 4 digits refl).1 digits f.prints (f.given 4 digits refl).3 in by_print t.0 t.1 t.2 t.3 t.4
   where
     events : List (Event A)
     events = map (λ one. one.0) (wrong_document A)
@@ -90,18 +104,18 @@ wrong_document_is A (batches, f) = by_given (f.given 4 digits refl)
     replies : List (Reply A)
     replies = map (λ one. one.1) (wrong_document A)
 
-    by_print : (j : ℕ) (batch : Batch) → j < 4 → LeftBy events replies j batch digits → ⊥
-    by_print zero batch before left = none_left events replies 0 0 batch digits digits refl left
-    by_print (suc zero) batch before left = digits_differ (document_is events replies 1 1 batch digits other_digits (stops.AfterLabels 2) refl left)
-    by_print (suc (suc zero)) batch before left = (let x = left.is_print.event in cc (x))
-    by_print (suc (suc (suc zero))) batch before left = (let x = left.is_print.event in cc (x))
-    by_print (suc (suc (suc (suc j)))) batch before left = omega arith
-
-    by_given : ((desk id : ℕ) × (slice_get events 4 ≡ Some (Ask desk id)) × WasPrinted batches events replies 4 id digits) → ⊥
-    by_given g = by_print g.3.j g.3.batch g.3.before g.3.printed
+    by_print : (j : ℕ) (batch : Batch) → j < 4 → LeftBy events replies j batch → batch.document.bytes ≡ digits → ⊥
+    by_print zero batch before left bytes = none_left events replies 0 0 batch digits refl left
+    by_print (suc zero) batch before left bytes =
+        digits_differ (sym bytes ∙ document_is events replies 1 1 batch other_digits (stops.AfterLabels 2) refl left)
+    by_print (suc (suc zero)) batch before left bytes = (let x = left.is_print.event in cc (x))
+    by_print (suc (suc (suc zero))) batch before left bytes = (let x = left.is_print.event in cc (x))
+    by_print (suc (suc (suc (suc j)))) batch before left bytes = omega arith
 
 another_document_is : (A : Type 0) → ¬ IsFaithfulRun (another_document A)
-another_document_is A (batches, f) = by_given (f.given 3 other_digits refl)
+another_document_is A (batches, f) =
+    let t = printed_before batches events replies 3 (f.given 3 other_digits refl).1 other_digits f.prints (f.given 3 other_digits refl).3 in
+    by_print t.0 t.1 t.2 t.3 t.4
   where
     events : List (Event A)
     events = map (λ one. one.0) (another_document A)
@@ -109,57 +123,63 @@ another_document_is A (batches, f) = by_given (f.given 3 other_digits refl)
     replies : List (Reply A)
     replies = map (λ one. one.1) (another_document A)
 
-    by_print : (j : ℕ) (batch : Batch) → j < 3 → LeftBy events replies j batch other_digits → ⊥
-    by_print zero batch before left = digits_differ (sym (document_is events replies 0 0 batch other_digits digits stops.None refl left))
-    by_print (suc zero) batch before left = (let x = left.is_print.event in cc (x))
-    by_print (suc (suc zero)) batch before left = (let x = left.is_print.event in cc (x))
-    by_print (suc (suc (suc j))) batch before left = omega arith
+    by_print : (j : ℕ) (batch : Batch) → j < 3 → LeftBy events replies j batch → batch.document.bytes ≡ other_digits → ⊥
+    by_print zero batch before left bytes = digits_differ (sym (document_is events replies 0 0 batch digits stops.None refl left) ∙ bytes)
+    by_print (suc zero) batch before left bytes = (let x = left.is_print.event in cc (x))
+    by_print (suc (suc zero)) batch before left bytes = (let x = left.is_print.event in cc (x))
+    by_print (suc (suc (suc j))) batch before left bytes = omega arith
 
-    by_given : ((desk id : ℕ) × (slice_get events 3 ≡ Some (Ask desk id)) × WasPrinted batches events replies 3 id other_digits) → ⊥
-    by_given g = by_print g.3.j g.3.batch g.3.before g.3.printed
+-- a batch has a label, as one left
+some_count : {A : Type 0} (events : List (Event A)) (replies : List (Reply A)) (i : ℕ) (batch : Batch) → LeftBy events replies i batch → 1 ≤ count_of batch
+some_count events replies i batch left =
+    let not_none : 1 ≤ batch.left = left.not_none in
+    elim left.ends [
+      | inl told ↦ (let all : batch.left ≡ count_of batch = told.all in omega arith)
+      | inr stopped ↦ (let few : batch.left ≡ min stopped.most (count_of batch) = stopped.some in omega arith)
+    ]
+
+-- the first of two events is a print, so no label was scanned before the second
+none_scanned : {A : Type 0} (batches : List (Option Batch)) (first second : Event A) (id m n : ℕ) (document : List ℕ) → first ≡ print 0 document stops.None →
+    WasScanned batches (first ∷ second ∷ []) 1 id m n → ⊥
+none_scanned {A} batches first second id m n document is w = by_place w.k w.before w.scan
+  where
+    by_place : (k : ℕ) → k < 1 → IsScanOf batches (first ∷ second ∷ []) k (record { id = id; number = m; count = n }) → ⊥
+    by_place zero before scan =
+        let e : Some first ≡ Some (Scan scan.desk scan.label scan.flips scan.stop) = scan.event in
+        let x : first ≡ Scan scan.desk scan.label scan.flips scan.stop = cc (e) in
+        let y : Print 0 document Side12 Ascii stops.None ≡ Scan scan.desk scan.label scan.flips scan.stop = sym is ∙ x in cc (y)
+    by_place (suc k) before scan = omega arith
 
 never_scanned_is : (A : Type 0) → ¬ IsFaithfulRun (never_scanned A)
-never_scanned_is A (batches, f) = by_given (f.given 1 digits refl)
-  where
-    events : List (Event A)
-    events = map (λ one. one.0) (never_scanned A)
+never_scanned_is A (batches, f) =
+    let w = (f.given 1 digits refl).3 in
+    let left = f.prints.printed w.printed.j w.batch w.printed.there in
+    none_scanned batches (print 0 digits stops.None) (Ask 0 0) (f.given 1 digits refl).1 1 (count_of w.batch) digits refl
+    (w.scanned 1 (omega arith)
+    (some_count (map (λ one. one.0) (never_scanned A)) (map (λ one. one.1) (never_scanned A)) w.printed.j w.batch left))
 
-    replies : List (Reply A)
-    replies = map (λ one. one.1) (never_scanned A)
+begun_unscanned_is : (A : Type 0) → ¬ IsFaithfulRun (begun_unscanned A)
+begun_unscanned_is A (batches, f) =
+    let w = f.begun 1 0 0 2 refl refl in
+    let t = w.not_all in
+    none_scanned batches (print 0 digits stops.None) (Ask 0 0) 0 t.0 (count_of w.batch) digits refl (w.scanned t.0 t.1 t.2 t.3)
 
-    by_scan : (k : ℕ) (name : LabelName) → k < 1 → IsScanOf batches events k name → ⊥
-    by_scan zero name before scan = (let x = scan.event in cc (x))
-    by_scan (suc k) name before scan = omega arith
-
-    -- the batch has a label, as one left
-    by_print : (j : ℕ) (batch : Batch) → j < 1 → LeftBy events replies j batch digits →
-        ((m : ℕ) → 1 ≤ m → m ≤ batch.n → (k : ℕ) × (k < 1) × IsScanOf batches events k (record { id = batch.id; number = m; count = batch.n })) → ⊥
-    by_print j batch before left scanned =
-        let not_none : 1 ≤ batch.left = left.not_none in
-        let some : 1 ≤ batch.n = elim left.ends [
-          | inl told ↦ (let all : batch.left ≡ batch.n = told.all in omega arith)
-          | inr stopped ↦ (let few : batch.left ≡ min stopped.most batch.n = stopped.some in omega arith)
-        ] in
-        let s = scanned 1 (omega arith) some in
-        by_scan s.0 (record { id = batch.id; number = 1; count = batch.n }) s.1 s.2
-
-    by_given : ((desk id : ℕ) × (slice_get events 1 ≡ Some (Ask desk id)) × WasPrinted batches events replies 1 id digits) → ⊥
-    by_given g = by_print g.3.j g.3.batch g.3.before g.3.printed
-        (λ m first last. (let s = g.3.scanned m first last in
-        (s.0, s.1, subst (λ (i : ℕ). IsScanOf batches events s.0 (record { id = i; number = m; count = g.3.batch.n })) (sym g.3.id_is) s.2)))
+exported_unscanned_is : (A : Type 0) → ¬ IsFaithfulRun (exported_unscanned A)
+exported_unscanned_is A (batches, f) =
+    none_scanned batches (print 0 digits stops.None) (Export 0 0) 0 1 2 digits refl ((f.exported 1 0 0 2 1 refl).2 1 refl)
 
 -- a document is cut into two parts at least
 parts_count : (document : List ℕ) (from : ℕ) (ends : List ℕ) → length (parts_from document from ends) ≡ length ends
 parts_count document from [] = refl
 parts_count document from (end ∷ ends) = (let t = parts_count document end ends in omega arith)
 
-two_parts : {A : Type 0} (events : List (Event A)) (replies : List (Reply A)) (i : ℕ) (batch : Batch) (document : List ℕ) →
-    LeftBy events replies i batch document → 2 ≤ batch.n
-two_parts events replies i batch document left =
-    let p = left.is_print in
-    let least = (each_cut_is p.size p.scheme document p.are_parts.ends p.are_parts.are_ends).least in
-    let same : length p.parts ≡ length p.are_parts.ends = ap length p.are_parts.parts_are ∙ parts_count document 0 p.are_parts.ends in
-    let count : length p.parts ≡ batch.n = p.count in omega arith
+two_parts : {A : Type 0} (events : List (Event A)) (replies : List (Reply A)) (i : ℕ) (batch : Batch) →
+    LeftBy events replies i batch → 2 ≤ count_of batch
+two_parts events replies i batch left =
+    let p = left.is_print.are_parts in
+    let d = batch.document in
+    let least = (each_cut_is d.size d.scheme d.bytes p.ends p.are_ends).least in
+    let same : length d.parts ≡ length p.ends = ap length p.parts_are ∙ parts_count d.bytes 0 p.ends in omega arith
 
 half_printed_is : (A : Type 0) → ¬ IsFaithfulRun (half_printed A)
 half_printed_is A (batches, f) = by_batches batches f
@@ -172,11 +192,11 @@ half_printed_is A (batches, f) = by_batches batches f
 
     -- of one label or none there is none with number 2
     no_second : (batch : Batch) (left label id n : ℕ) → left ≤ 1 →
-        slice_get (names_from batch.id batch.n 1 left ++ []) label ≡ Some (record { id = id; number = 2; count = n }) → ⊥
+        slice_get (names_from batch.id (count_of batch) 1 left ++ []) label ≡ Some (record { id = id; number = 2; count = n }) → ⊥
     no_second batch zero label id n few is = cc (is)
     no_second batch (suc zero) zero id n few is =
-        let e : ◌≡◌ {A = Option LabelName} (Some (record { id = batch.id; number = 1; count = batch.n })) (Some (record { id = id; number = 2; count = n })) = is in
-        let same : ◌≡◌ {A = LabelName} (record { id = batch.id; number = 1; count = batch.n }) (record { id = id; number = 2; count = n }) = cc (e) in
+        let e : ◌≡◌ {A = Option LabelName} (Some (record { id = batch.id; number = 1; count = count_of batch })) (Some (record { id = id; number = 2; count = n })) = is in
+        let same : ◌≡◌ {A = LabelName} (record { id = batch.id; number = 1; count = count_of batch }) (record { id = id; number = 2; count = n }) = cc (e) in
         let numbers : ◌≡◌ {A = ℕ} 1 2 = ap {A = LabelName} {B = ℕ} (λ (l : LabelName). l.number) same in omega arith
     no_second batch (suc zero) (suc label) id n few is = cc (is)
     no_second batch (suc (suc left)) label id n few is = omega arith
@@ -187,25 +207,26 @@ half_printed_is A (batches, f) = by_batches batches f
     by_scan batch rest (suc zero) id n few before scan = no_second batch batch.left scan.label id n few scan.had_left
     by_scan batch rest (suc (suc k)) id n few before scan = omega arith
 
-    by_print : (batches : List (Option Batch)) (j : ℕ) (id : ℕ) → (w : WasPrinted batches events replies 2 id digits) → w.j ≡ j → j < 2 → ⊥
-    by_print [] j id w is before = (let x = w.there in cc (x))
-    by_print (None ∷ rest) zero id w is before =
-        (let x : slice_get (None ∷ rest) 0 ≡ Some (Some w.batch) = subst (λ (k : ℕ). slice_get (None ∷ rest) k ≡ Some (Some w.batch)) is w.there in cc (x))
-    by_print (Some batch ∷ rest) zero id w is before =
-        let left : LeftBy events replies 0 w.batch digits = subst (λ (k : ℕ). LeftBy events replies k w.batch digits) is w.printed in
-        let x : Some (Some batch) ≡ Some (Some w.batch) = subst (λ (k : ℕ). slice_get (Some batch ∷ rest) k ≡ Some (Some w.batch)) is w.there in
-        let same : batch ≡ w.batch = cc (x) in
-        let few : w.batch.left ≤ 1 = most_left events replies 0 0 1 w.batch digits digits refl left in
-        let counts : batch.left ≡ w.batch.left = ap (λ (b : Batch). b.left) same in
-        let s = w.scanned 2 (omega arith) (two_parts events replies 0 w.batch digits left) in
-        by_scan batch rest s.0 id w.batch.n (omega arith) s.1 s.2
-    by_print (first ∷ rest) (suc zero) id w is before =
-        (let left : LeftBy events replies 1 w.batch digits = subst (λ (k : ℕ). LeftBy events replies k w.batch digits) is w.printed in
-        let x = left.is_print.event in cc (x))
-    by_print (first ∷ rest) (suc (suc j)) id w is before = omega arith
+    by_print : (batches : List (Option Batch)) (j id : ℕ) (batch : Batch) → j < 2 → slice_get batches j ≡ Some (Some batch) →
+        LeftBy events replies j batch → WasScanned batches events 2 id 2 (count_of batch) → ⊥
+    by_print [] j id batch before there left w = cc (there)
+    by_print (None ∷ rest) zero id batch before there left w = cc (there)
+    by_print (Some own ∷ rest) zero id batch before there left w =
+        let x : Some (Some own) ≡ Some (Some batch) = there in
+        let same : own ≡ batch = cc (x) in
+        let few : batch.left ≤ 1 = most_left events replies 0 0 1 batch digits refl left in
+        let counts : own.left ≡ batch.left = ap (λ (b : Batch). b.left) same in
+        by_scan own rest w.k id (count_of batch) (omega arith) w.before w.scan
+    by_print (first ∷ rest) (suc zero) id batch before there left w = (let x = left.is_print.event in cc (x))
+    by_print (first ∷ rest) (suc (suc j)) id batch before there left w = omega arith
 
     by_batches : (batches : List (Option Batch)) → IsFaithfulBy batches events replies → ⊥
-    by_batches batches f = (let g = f.given 2 digits refl in by_print batches g.3.j g.1 g.3 refl g.3.before)
+    by_batches batches f =
+        let g = f.given 2 digits refl in
+        let w = g.3 in
+        let left = f.prints.printed w.printed.j w.batch w.printed.there in
+        by_print batches w.printed.j g.1 w.batch w.printed.before w.printed.there left
+        (w.scanned 2 (omega arith) (two_parts events replies w.printed.j w.batch left))
 
 two_documents_is : (A : Type 0) → ¬ IsFaithfulRun (two_documents A)
 two_documents_is A (batches, f) = digits_differ (f.same 0 1 0 1 0 digits other_digits refl refl refl refl)
@@ -217,11 +238,11 @@ first_label : (batch : Batch) (batches : List (Option Batch)) (name : LabelName)
     slice_get (labels_of (Some batch ∷ batches)) 0 ≡ Some name → batch.id ≡ name.id
 first_label batch batches name some is = by_count batch.left some is
   where
-    by_count : (left : ℕ) → 1 ≤ left → slice_get (names_from batch.id batch.n 1 left ++ labels_of batches) 0 ≡ Some name → batch.id ≡ name.id
+    by_count : (left : ℕ) → 1 ≤ left → slice_get (names_from batch.id (count_of batch) 1 left ++ labels_of batches) 0 ≡ Some name → batch.id ≡ name.id
     by_count zero some is = absurd (omega arith)
     by_count (suc left) some is =
-        let e : Some (record { id = batch.id; number = 1; count = batch.n }) ≡ Some name = is in
-        let same : record { id = batch.id; number = 1; count = batch.n } ≡ name = cc (e) in ap (λ (l : LabelName). l.id) same
+        let e : Some (record { id = batch.id; number = 1; count = count_of batch }) ≡ Some name = is in
+        let same : record { id = batch.id; number = 1; count = count_of batch } ≡ name = cc (e) in ap (λ (l : LabelName). l.id) same
 
 printed_twice_is : (A : Type 0) → ¬ IsFaithfulRun (printed_twice A)
 printed_twice_is A (batches, f) = by_batches batches f
@@ -232,24 +253,22 @@ printed_twice_is A (batches, f) = by_batches batches f
     replies : List (Reply A)
     replies = map (λ one. one.1) (printed_twice A)
 
-    two : Batch
-    two = record { id = 0; n = 2; left = 2 }
-
     by_batches : (batches : List (Option Batch)) → IsFaithfulBy batches events replies → ⊥
-    by_batches [] f = (let t = (f.prints.told 2 0 1 2 refl).0 in cc (t))
-    by_batches (None ∷ []) f = (let t = (f.prints.told 2 0 1 2 refl).0 in cc (t))
-    by_batches (None ∷ None ∷ rest) f = (let t : ◌≡◌ {A = ℕ} 1 0 = (f.prints.told 2 0 1 2 refl).1 in omega arith)
-    by_batches (None ∷ Some batch ∷ rest) f = (let p = (f.prints.printed 1 batch refl).1 in let x = p.is_print.event in cc (x))
+    by_batches [] f = (let t = (f.prints.told 2 0 1 2 refl).there in cc (t))
+    by_batches (None ∷ []) f = (let t = (f.prints.told 2 0 1 2 refl).there in cc (t))
+    by_batches (None ∷ None ∷ rest) f = (let t : ◌≡◌ {A = ℕ} 1 0 = (f.prints.told 2 0 1 2 refl).first_is in omega arith)
+    by_batches (None ∷ Some batch ∷ rest) f = (let x = (f.prints.printed 1 batch refl).is_print.event in cc (x))
     by_batches (Some batch ∷ rest) f =
         let p = f.prints.printed 0 batch refl in
+        let t = f.prints.told 2 0 1 2 refl in
         let s : IsScanOf (Some batch ∷ rest) events 3 (record { id = 0; number = 1; count = 2 }) =
         f.scanned 3 (record { id = 0; m = 1; n = 2; kind = New }) refl in
         let e : Some (Scan 0 0 [] stops.None) ≡ Some (Scan s.desk s.label s.flips s.stop) = s.event in
         let label_is : 0 ≡ s.label = cc (e) in
         let had : slice_get (labels_of (Some batch ∷ take 2 rest)) 0 ≡ Some (record { id = 0; number = 1; count = 2 }) =
         subst (λ (i : ℕ). slice_get (labels_of (Some batch ∷ take 2 rest)) i ≡ Some (record { id = 0; number = 1; count = 2 })) (sym label_is) s.had_left in
-        let same : batch.id ≡ 0 = first_label batch (take 2 rest) (record { id = 0; number = 1; count = 2 }) p.1.not_none had in
-        let place : ◌≡◌ {A = ℕ} 0 2 = f.prints.once 0 2 batch two refl (f.prints.told 2 0 1 2 refl).0 same in omega arith
+        let same : batch.id ≡ 0 = first_label batch (take 2 rest) (record { id = 0; number = 1; count = 2 }) p.not_none had in
+        let place : ◌≡◌ {A = ℕ} 0 2 = f.prints.once 0 2 batch t.batch refl t.there (same ∙ sym t.id_is) in omega arith
 
 printed_unseen_is : (A : Type 0) → ¬ PrintsOnceRun unseen_labels (printed_unseen A)
 printed_unseen_is A (batches, labels_are, p) = by_batches batches labels_are p
@@ -260,26 +279,142 @@ printed_unseen_is A (batches, labels_are, p) = by_batches batches labels_are p
     replies : List (Reply A)
     replies = map (λ one. one.1) (printed_unseen A)
 
-    two : Batch
-    two = record { id = 0; n = 2; left = 2 }
-
     by_batches : (batches : List (Option Batch)) → labels_of batches ≡ unseen_labels → PrintsOnceBy batches events replies → ⊥
-    by_batches [] are p = (let t = (p.told 2 0 1 2 refl).0 in cc (t))
-    by_batches (None ∷ []) are p = (let t = (p.told 2 0 1 2 refl).0 in cc (t))
-    by_batches (None ∷ None ∷ rest) are p = (let t : ◌≡◌ {A = ℕ} 1 0 = (p.told 2 0 1 2 refl).1 in omega arith)
-    by_batches (None ∷ Some batch ∷ rest) are p = (let q = (p.printed 1 batch refl).1 in let x = q.is_print.event in cc (x))
+    by_batches [] are p = (let t = (p.told 2 0 1 2 refl).there in cc (t))
+    by_batches (None ∷ []) are p = (let t = (p.told 2 0 1 2 refl).there in cc (t))
+    by_batches (None ∷ None ∷ rest) are p = (let t : ◌≡◌ {A = ℕ} 1 0 = (p.told 2 0 1 2 refl).first_is in omega arith)
+    by_batches (None ∷ Some batch ∷ rest) are p = (let x = (p.printed 1 batch refl).is_print.event in cc (x))
     by_batches (Some batch ∷ rest) are p =
         let q = p.printed 0 batch refl in
+        let t = p.told 2 0 1 2 refl in
         let had : slice_get (labels_of (Some batch ∷ rest)) 0 ≡ Some (record { id = 0; number = 1; count = 2 }) =
         ap (λ (l : List LabelName). slice_get l 0) are in
-        let same : batch.id ≡ 0 = first_label batch rest (record { id = 0; number = 1; count = 2 }) q.1.not_none had in
-        let place : ◌≡◌ {A = ℕ} 0 2 = p.once 0 2 batch two refl (p.told 2 0 1 2 refl).0 same in omega arith
+        let same : batch.id ≡ 0 = first_label batch rest (record { id = 0; number = 1; count = 2 }) q.not_none had in
+        let place : ◌≡◌ {A = ℕ} 0 2 = p.once 0 2 batch t.batch refl t.there (same ∙ sym t.id_is) in omega arith
 
 told_twice_is : (A : Type 0) → ¬ IsFaithfulRun (told_twice A)
 told_twice_is A (batches, f) =
     let p : PrintsOnceBy batches (map (λ one. one.0) (told_twice A)) (map (λ one. one.1) (told_twice A)) = f.prints in
-    let place : ◌≡◌ {A = ℕ} 0 1 = p.once 0 1 (record { id = 0; n = 2; left = 2 }) (record { id = 0; n = 2; left = 2 })
-    (p.told 0 0 0 2 refl).0 (p.told 1 0 2 2 refl).0 refl in omega arith
+    let a = p.told 0 0 0 2 refl in
+    let b = p.told 1 0 2 2 refl in
+    let place : ◌≡◌ {A = ℕ} 0 1 = p.once 0 1 a.batch b.batch a.there b.there (a.id_is ∙ sym b.id_is) in omega arith
+
+-- ---- labels that replies show to have left, or not
+
+-- no label of the first batch had left
+none_first : (batch : Batch) → 1 ≤ batch.left → length (names_from batch.id (count_of batch) 1 batch.left ++ []) ≤ 0 → ⊥
+none_first batch some few = by_count batch.left some few
+  where
+    by_count : (left : ℕ) → 1 ≤ left → length (names_from batch.id (count_of batch) 1 left ++ []) ≤ 0 → ⊥
+    by_count zero some few = omega arith
+    by_count (suc left) some few = omega arith
+
+shown_not_left_is : (A : Type 0) → ¬ IsFaithfulRun (shown_not_left A)
+shown_not_left_is A (batches, f) =
+    let w = (f.given 5 digits refl).3 in
+    by_print w.printed.j w.batch w.printed.before w.printed.there (f.prints.printed w.printed.j w.batch w.printed.there) w.bytes_are
+  where
+    events : List (Event A)
+    events = map (λ one. one.0) (shown_not_left A)
+
+    replies : List (Reply A)
+    replies = map (λ one. one.1) (shown_not_left A)
+
+    -- desk 0 is there, as it gives the document
+    few : length (labels_of (take 1 batches)) ≤ 0
+    few = f.prints.not_there 1 0 0 stops.None refl refl (record {
+      i = 5;
+      event = Ask 0 10;
+      asked = refl;
+      of_desk = refl;
+      reply = Document digits;
+      answered = refl;
+      is_such = λ x. cc (x);
+    })
+
+    first : (batches : List (Option Batch)) (batch : Batch) → slice_get batches 0 ≡ Some (Some batch) → 1 ≤ batch.left →
+        length (labels_of (take 1 batches)) ≤ 0 → ⊥
+    first [] batch there some few = cc (there)
+    first (None ∷ rest) batch there some few = cc (there)
+    first (Some own ∷ rest) batch there some few =
+        let x : Some (Some own) ≡ Some (Some batch) = there in
+        let same : own ≡ batch = cc (x) in
+        let counts : own.left ≡ batch.left = ap (λ (b : Batch). b.left) same in
+        none_first own (omega arith) few
+
+    by_print : (j : ℕ) (batch : Batch) → j < 5 → slice_get batches j ≡ Some (Some batch) → LeftBy events replies j batch →
+        batch.document.bytes ≡ digits → ⊥
+    by_print zero batch before there left bytes = first batches batch there left.not_none few
+    by_print (suc zero) batch before there left bytes = (let x = left.is_print.event in cc (x))
+    by_print (suc (suc zero)) batch before there left bytes =
+        digits_differ (sym bytes ∙ document_is events replies 2 1 batch other_digits (stops.AfterLabels 2) refl left)
+    by_print (suc (suc (suc zero))) batch before there left bytes = (let x = left.is_print.event in cc (x))
+    by_print (suc (suc (suc (suc zero)))) batch before there left bytes = (let x = left.is_print.event in cc (x))
+    by_print (suc (suc (suc (suc (suc j))))) batch before there left bytes = omega arith
+
+-- of two documents the first left, if label 0 had left before the second, and then the labels told are its own
+shown_left_is : (A : Type 0) → ¬ IsFaithfulRun (shown_left A)
+shown_left_is A (batches, f) = by_batches batches f
+  where
+    events : List (Event A)
+    events = map (λ one. one.0) (shown_left A)
+
+    replies : List (Reply A)
+    replies = map (λ one. one.1) (shown_left A)
+
+    by_batches : (batches : List (Option Batch)) → IsFaithfulBy batches events replies → ⊥
+    by_batches [] f = (let t = f.prints.each_batch in cc (t))
+    by_batches (None ∷ rest) f =
+        let below : 0 < 0 = f.prints.there 1 0 0 [] stops.BeforeSave Stopped refl refl (λ x. cc (x)) in omega arith
+    by_batches (Some batch ∷ rest) f =
+        let p = f.prints.printed 0 batch refl in
+        let s : IsScanOf (Some batch ∷ rest) events 3 (record { id = 10; number = 1; count = 2 }) =
+        f.scanned 3 (record { id = 10; m = 1; n = 2; kind = New }) refl in
+        let e : Some (Scan 0 0 [] stops.None) ≡ Some (Scan s.desk s.label s.flips s.stop) = s.event in
+        let label_is : 0 ≡ s.label = cc (e) in
+        let had : slice_get (labels_of (Some batch ∷ take 2 rest)) 0 ≡ Some (record { id = 10; number = 1; count = 2 }) =
+        subst (λ (i : ℕ). slice_get (labels_of (Some batch ∷ take 2 rest)) i ≡ Some (record { id = 10; number = 1; count = 2 })) (sym label_is) s.had_left in
+        let own : batch.id ≡ 10 = first_label batch (take 2 rest) (record { id = 10; number = 1; count = 2 }) p.not_none had in
+        let g = f.given 5 other_digits refl in
+        let w = g.3 in
+        let asked : Some (Ask 0 10) ≡ Some (Ask g.0 g.1) = g.2 in
+        let id_is : 10 ≡ g.1 = cc (asked) in
+        let place : 0 ≡ w.printed.j = f.prints.once 0 w.printed.j batch w.batch refl w.printed.there (own ∙ id_is ∙ sym w.printed.id_is) in
+        let x : Some (Some batch) ≡ Some (Some w.batch) =
+        subst (λ (j : ℕ). slice_get (Some batch ∷ rest) j ≡ Some (Some w.batch)) (sym place) w.printed.there in
+        let same : batch ≡ w.batch = cc (x) in
+        digits_differ (sym (document_is events replies 0 0 batch digits (stops.AfterLabels 2) refl p) ∙
+        ap (λ (b : Batch). b.document.bytes) same ∙ w.bytes_are)
+
+printed_after_forgotten_is : (A : Type 0) → ¬ IsFaithfulRun (printed_after_forgotten A)
+printed_after_forgotten_is A (batches, f) = by_batches batches f
+  where
+    events : List (Event A)
+    events = map (λ one. one.0) (printed_after_forgotten A)
+
+    replies : List (Reply A)
+    replies = map (λ one. one.1) (printed_after_forgotten A)
+
+    by_scan : (batch : Batch) (rest : List (Option Batch)) (m n k : ℕ) → 1 ≤ batch.left → k < 2 →
+        IsScanOf (Some batch ∷ rest) events k (record { id = 0; number = m; count = n }) → batch.id ≡ 0
+    by_scan batch rest m n zero some before s = absurd (let x = s.event in cc (x))
+    by_scan batch rest m n (suc zero) some before s =
+        let e : Some (Scan 0 0 [] (stops.AfterLabels 0)) ≡ Some (Scan s.desk s.label s.flips s.stop) = s.event in
+        let label_is : 0 ≡ s.label = cc (e) in
+        first_label batch [] (record { id = 0; number = m; count = n }) some
+        (subst (λ (i : ℕ). slice_get (labels_of (Some batch ∷ [])) i ≡ Some (record { id = 0; number = m; count = n })) (sym label_is) s.had_left)
+    by_scan batch rest m n (suc (suc k)) some before s = absurd (omega arith)
+
+    by_batches : (batches : List (Option Batch)) → IsFaithfulBy batches events replies → ⊥
+    by_batches [] f = (let t = f.prints.each_batch in cc (t))
+    by_batches (None ∷ rest) f =
+        let below : 0 < 0 = f.prints.there 1 0 0 [] (stops.AfterLabels 0) Stopped refl refl (λ x. cc (x)) in omega arith
+    by_batches (Some batch ∷ rest) f =
+        let p = f.prints.printed 0 batch refl in
+        let w = f.forgotten 2 0 0 stops.None refl refl in
+        let own : batch.id ≡ 0 = by_scan batch rest w.0 w.1 w.2.k p.not_none w.2.before w.2.scan in
+        let t = f.prints.told 3 0 1 2 refl in
+        let place : ◌≡◌ {A = ℕ} 0 3 = f.prints.once 0 3 batch t.batch refl t.there (own ∙ sym t.id_is) in omega arith
 
 -- ---- tickets
 
@@ -293,6 +428,13 @@ taken_twice_is A t =
 
 overlaps_is : (A : Type 0) → ¬ TakesOnceRun (overlaps A)
 overlaps_is A t = t.no_overlap 1 refl
+
+one_serial_is : (A : Type 0) → ¬ TakesOnceRun (one_serial A)
+one_serial_is A t = (let place : ◌≡◌ {A = ℕ} 0 1 = t.serials 0 1 0 1 first_ticket first_ticket refl refl refl refl in omega arith)
+
+taken_though_old_is : (A : Type 0) → ¬ TakesOnceRun (taken_though_old A)
+taken_though_old_is A t =
+    let before : 4 < 3 = t.old 3 4 1 0 stops.None refl refl (record { stop = stops.None; event = refl; reply = refl }) in omega arith
 
 taken_elsewhere_is : (A : Type 0) → ¬ TakesOnceRun (taken_elsewhere A)
 taken_elsewhere_is A t = by_give (t.given 1 2 0 (record { stop = stops.None; event = refl; reply = refl }))
@@ -322,7 +464,7 @@ never_left_is A (batches, f) = by_batches batches f
     replies = map (λ one. one.1) (never_left A)
 
     -- of one label or none there is no second
-    no_second : (batch : Batch) (left : ℕ) (name : LabelName) → left ≤ 1 → slice_get (names_from batch.id batch.n 1 left ++ []) 1 ≡ Some name → ⊥
+    no_second : (batch : Batch) (left : ℕ) (name : LabelName) → left ≤ 1 → slice_get (names_from batch.id (count_of batch) 1 left ++ []) 1 ≡ Some name → ⊥
     no_second batch zero name few is = cc (is)
     no_second batch (suc zero) name few is = cc (is)
     no_second batch (suc (suc left)) name few is = omega arith
@@ -341,7 +483,28 @@ never_left_is A (batches, f) = by_batches batches f
     by_batches (Some batch ∷ rest) f =
         let p = f.prints.printed 0 batch refl in
         no_second batch batch.left (record { id = 0; number = 2; count = 2 })
-        (most_left events replies 0 0 1 batch p.0 digits refl p.1) (told (Some batch ∷ rest) f)
+        (most_left events replies 0 0 1 batch digits refl p) (told (Some batch ∷ rest) f)
+
+-- ---- exports
+
+never_exported_is : (A : Type 0) → ¬ ImportsExportsRun (never_exported A)
+never_exported_is A t =
+    (let w = (t.exported 0 (record { id = 0; n = 2; added = 1; kind = New }) refl).4 in let before : w.j < 0 = w.before in omega arith)
+
+imported_another_page_is : (A : Type 0) → ¬ ImportsExportsRun (imported_another_page A)
+imported_another_page_is A t =
+    (let w = (t.exported 1 (record { id = 0; n = 2; added = 2; kind = New }) refl).4 in by_place w.j w.before w.mask w.reply (w.added 2 refl))
+  where
+    by_place : (j : ℕ) → j < 1 → {export : ℕ} (mask : ℕ) →
+        slice_get (map (λ one. one.1) (imported_another_page A)) j ≡ Some (Exported export 0 2 mask) → HasPage mask 2 → ⊥
+    by_place zero before {export} mask is page =
+        let e : ◌≡◌ {A = Option (Reply A)} (Some (Exported 0 0 2 1)) (Some (Exported export 0 2 mask)) = is in
+        let same : 1 ≡ mask = cc (e) in
+        let x : HasPage 1 2 = subst (λ (k : ℕ). HasPage k 2) (sym same) page in cc (x)
+    by_place (suc j) before mask is page = omega arith
+
+exported_twice_is : (A : Type 0) → ¬ ImportsExportsRun (exported_twice A)
+exported_twice_is A t = (let place : ◌≡◌ {A = ℕ} 0 1 = t.numbered 0 1 0 0 2 1 0 2 1 refl refl in omega arith)
 
 pub are_unfaithful : (A : Type 0) → AreUnfaithful A
 are_unfaithful A = record {
@@ -351,6 +514,11 @@ are_unfaithful A = record {
   half_printed_is = half_printed_is A;
   never_scanned_is = never_scanned_is A;
   two_documents_is = two_documents_is A;
+  shown_not_left_is = shown_not_left_is A;
+  shown_left_is = shown_left_is A;
+  begun_unscanned_is = begun_unscanned_is A;
+  exported_unscanned_is = exported_unscanned_is A;
+  printed_after_forgotten_is = printed_after_forgotten_is A;
   printed_twice_is = printed_twice_is A;
   printed_unseen_is = printed_unseen_is A;
   told_twice_is = told_twice_is A;
@@ -359,4 +527,9 @@ are_unfaithful A = record {
   taken_twice_is = taken_twice_is A;
   taken_elsewhere_is = taken_elsewhere_is A;
   overlaps_is = overlaps_is A;
+  one_serial_is = one_serial_is A;
+  taken_though_old_is = taken_though_old_is A;
+  never_exported_is = never_exported_is A;
+  imported_another_page_is = imported_another_page_is A;
+  exported_twice_is = exported_twice_is A;
 }

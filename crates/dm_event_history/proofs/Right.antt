@@ -1,5 +1,6 @@
 -- A run of two stopped prints that is faithful.
 use Rattle.std.proofs.Common.{◌≡◌, ◌<◌, ◌≤◌, ℕ, zero, suc, Option, Some, None, List, [], ◌∷◌, length, map, slice_get, take, refl, ap, sym, ◌∙◌, subst, arith, inr}
+use Rattle.std.specs.Prelude.{◌≢◌}
 use Rattle.dm_check_blocks.specs.declared.size.Size.TheVariants.{Side12}
 use Rattle.dm_check_blocks.specs.Sizes.{row}
 use Rattle.dm_encodation.specs.declared.scheme.Scheme.TheVariants.{Ascii}
@@ -7,13 +8,16 @@ use Rattle.dm_encodation.specs.Written.{IsGreatestPrefix, need_of}
 use Rattle.dm_encodation.specs.Written as written
 use Rattle.dm_append_label.specs.Parts.{AreParts}
 use Rattle.dm_assembly_desk.specs.declared.reply.Kind.TheVariants.{New, Complete}
+use Rattle.dm_assembly_desk.specs.declared.fault.AskFault.TheVariants.{Incomplete}
 use Rattle.dm_assembly_desk.specs.declared.reply.Accepted.{Accepted}
 use Rattle.dm_event_history.specs.declared.event.Event.{Event}
-use Rattle.dm_event_history.specs.declared.event.Event.TheVariants.{Ask}
+use Rattle.dm_event_history.specs.declared.event.Event.TheVariants.{Scan, Ask}
 use Rattle.dm_event_history.specs.declared.reply.Reply.{Reply}
-use Rattle.dm_event_history.specs.declared.reply.Reply.TheVariants.{Printed, Scanned, Document}
+use Rattle.dm_event_history.specs.declared.reply.Reply.TheVariants.{Printed, Scanned, Document, AskRefused, Forgotten, Exported, NoSuch}
+use Rattle.dm_event_history.specs.declared.stop.Stop.{Stop}
 use Rattle.dm_event_history.specs.declared.stop.Stop.TheVariants as stops
-use Rattle.dm_event_history.specs.Headline.{Batch, LeftBy, labels_of, IsScanOf, WasPrinted}
+use Rattle.dm_event_history.specs.History.{CutDocument}
+use Rattle.dm_event_history.specs.Headline.{Batch, LeftBy, labels_of, AllLeft, IsScanOf, WasScanned, WasPrinted}
 use Rattle.dm_event_history.specs.Unfaithful.{IsFaithfulRun, other_digits, page, right_document}
 
 -- two of the digits fill a label
@@ -51,10 +55,21 @@ pub right_document_is : (A : Type 0) → IsFaithfulRun (right_document A)
 right_document_is A = (
   batches,
   record {
-    prints = record { each_reply = refl; each_batch = refl; told = none_told; printed = one_printed; once = one };
+    prints = record {
+      each_reply = refl;
+      each_batch = refl;
+      told = none_told;
+      printed = one_printed;
+      once = one;
+      there = are_there;
+      not_there = λ i desk label stop asked answered there. absurd (none_missing i answered);
+    };
     scanned = two_scanned;
     given = one_given;
     same = λ i j desk at id first second asked answered asked_too answered_too. sym (only_given i first answered) ∙ only_given j second answered_too;
+    begun = λ i desk id missing asked answered. absurd (none_begun i missing answered);
+    forgotten = λ i desk id stop asked answered. absurd (none_forgotten i answered);
+    exported = λ i index id n mask answered. absurd (none_exported i index id n mask answered);
   },
 )
   where
@@ -64,36 +79,76 @@ right_document_is A = (
     replies : List (Reply A)
     replies = map (λ one. one.1) (right_document A)
 
+    document : CutDocument
+    document = record { bytes = other_digits; size = Side12; scheme = Ascii; parts = (52 ∷ 51 ∷ []) ∷ (50 ∷ 49 ∷ []) ∷ [] }
+
     batch : Batch
-    batch = record { id = 10; n = 2; left = 2 }
+    batch = record { id = 10; document = document; left = 2 }
 
     batches : List (Option Batch)
     batches = None ∷ Some batch ∷ None ∷ None ∷ None ∷ []
 
-    left : LeftBy events replies 1 batch other_digits
+    left : LeftBy events replies 1 batch
     left = record {
       stop = stops.AfterLabels 2;
-      is_print = record {
-        printer = 1;
-        size = Side12;
-        scheme = Ascii;
-        event = refl;
-        parts = (52 ∷ 51 ∷ []) ∷ (50 ∷ 49 ∷ []) ∷ [];
-        are_parts = are_parts;
-        count = refl;
-      };
+      is_print = record { printer = 1; event = refl; are_parts = are_parts };
       ends = inr (record { most = 2; stopped_so = refl; reply = refl; some = refl });
       not_none = omega arith;
     }
 
-    none_told : (i id first count : ℕ) → slice_get replies i ≡ Some (Printed id first count) →
-        (slice_get batches i ≡ Some (Some (record { id = id; n = count; left = count }))) × (first ≡ length (labels_of (take i batches)))
+    none_told : (i id first count : ℕ) → slice_get replies i ≡ Some (Printed id first count) → AllLeft batches i id first count
     none_told zero id first count is = absurd (cc (is))
     none_told (suc zero) id first count is = absurd (cc (is))
     none_told (suc (suc zero)) id first count is = absurd (cc (is))
     none_told (suc (suc (suc zero))) id first count is = absurd (cc (is))
     none_told (suc (suc (suc (suc zero)))) id first count is = absurd (cc (is))
     none_told (suc (suc (suc (suc (suc i))))) id first count is = absurd (cc (is))
+
+    none_missing : (i : ℕ) → slice_get replies i ≡ Some NoSuch → ⊥
+    none_missing zero is = cc (is)
+    none_missing (suc zero) is = cc (is)
+    none_missing (suc (suc zero)) is = cc (is)
+    none_missing (suc (suc (suc zero))) is = cc (is)
+    none_missing (suc (suc (suc (suc zero)))) is = cc (is)
+    none_missing (suc (suc (suc (suc (suc i))))) is = cc (is)
+
+    none_begun : (i missing : ℕ) → slice_get replies i ≡ Some (AskRefused (Incomplete missing)) → ⊥
+    none_begun zero missing is = cc (is)
+    none_begun (suc zero) missing is = cc (is)
+    none_begun (suc (suc zero)) missing is = cc (is)
+    none_begun (suc (suc (suc zero))) missing is = cc (is)
+    none_begun (suc (suc (suc (suc zero)))) missing is = cc (is)
+    none_begun (suc (suc (suc (suc (suc i))))) missing is = cc (is)
+
+    none_forgotten : (i : ℕ) → slice_get replies i ≡ Some Forgotten → ⊥
+    none_forgotten zero is = cc (is)
+    none_forgotten (suc zero) is = cc (is)
+    none_forgotten (suc (suc zero)) is = cc (is)
+    none_forgotten (suc (suc (suc zero))) is = cc (is)
+    none_forgotten (suc (suc (suc (suc zero)))) is = cc (is)
+    none_forgotten (suc (suc (suc (suc (suc i))))) is = cc (is)
+
+    none_exported : (i index id n mask : ℕ) → slice_get replies i ≡ Some (Exported index id n mask) → ⊥
+    none_exported zero index id n mask is = cc (is)
+    none_exported (suc zero) index id n mask is = cc (is)
+    none_exported (suc (suc zero)) index id n mask is = cc (is)
+    none_exported (suc (suc (suc zero))) index id n mask is = cc (is)
+    none_exported (suc (suc (suc (suc zero)))) index id n mask is = cc (is)
+    none_exported (suc (suc (suc (suc (suc i))))) index id n mask is = cc (is)
+
+    -- the two scans are of the two labels that had left
+    are_there : (i desk label : ℕ) (flips : List (ℕ × ℕ)) (stop : Stop) (reply : Reply A) → slice_get events i ≡ Some (Scan desk label flips stop) →
+        slice_get replies i ≡ Some reply → reply ≢ NoSuch → label < length (labels_of (take i batches))
+    are_there zero desk label flips stop reply is answered such = absurd (cc (is))
+    are_there (suc zero) desk label flips stop reply is answered such = absurd (cc (is))
+    are_there (suc (suc zero)) desk label flips stop reply is answered such =
+        let e : Some (Scan 0 0 [] stops.None) ≡ Some (Scan desk label flips stop) = is in
+        let same : 0 ≡ label = cc (e) in omega arith
+    are_there (suc (suc (suc zero))) desk label flips stop reply is answered such =
+        let e : Some (Scan 0 1 [] stops.None) ≡ Some (Scan desk label flips stop) = is in
+        let same : 1 ≡ label = cc (e) in omega arith
+    are_there (suc (suc (suc (suc zero)))) desk label flips stop reply is answered such = absurd (cc (is))
+    are_there (suc (suc (suc (suc (suc i))))) desk label flips stop reply is answered such = absurd (cc (is))
 
     only_batch : (i : ℕ) (other : Batch) → slice_get batches i ≡ Some (Some other) → (i ≡ 1) × (batch ≡ other)
     only_batch zero other is = absurd (cc (is))
@@ -103,13 +158,10 @@ right_document_is A = (
     only_batch (suc (suc (suc (suc zero)))) other is = absurd (cc (is))
     only_batch (suc (suc (suc (suc (suc i))))) other is = absurd (cc (is))
 
-    one_printed : (i : ℕ) (other : Batch) → slice_get batches i ≡ Some (Some other) → (document : List ℕ) × LeftBy events replies i other document
+    one_printed : (i : ℕ) (other : Batch) → slice_get batches i ≡ Some (Some other) → LeftBy events replies i other
     one_printed i other is =
-        let t = only_batch i other is in (
-          other_digits,
-          subst (λ (k : ℕ). LeftBy events replies k other other_digits) (sym t.0)
-              (subst (λ (b : Batch). LeftBy events replies 1 b other_digits) t.1 left),
-        )
+        let t = only_batch i other is in
+        subst (λ (k : ℕ). LeftBy events replies k other) (sym t.0) (subst (λ (b : Batch). LeftBy events replies 1 b) t.1 left)
 
     one : (i j : ℕ) (first second : Batch) → slice_get batches i ≡ Some (Some first) → slice_get batches j ≡ Some (Some second) →
         first.id ≡ second.id → i ≡ j
@@ -136,21 +188,18 @@ right_document_is A = (
     two_scanned (suc (suc (suc (suc zero)))) accepted is = absurd (cc (is))
     two_scanned (suc (suc (suc (suc (suc i))))) accepted is = absurd (cc (is))
 
-    was_printed : WasPrinted batches events replies 4 10 other_digits
+    was_printed : WasPrinted batches events 4 10 other_digits
     was_printed = record {
-      j = 1;
-      before = omega arith;
       batch = batch;
-      there = refl;
-      id_is = refl;
-      printed = left;
+      printed = record { j = 1; before = omega arith; there = refl; id_is = refl };
+      bytes_are = refl;
       scanned = scans;
     }
       where
-        scans : (m : ℕ) → 1 ≤ m → m ≤ 2 → (k : ℕ) × (k < 4) × IsScanOf batches events k (record { id = 10; number = m; count = 2 })
+        scans : (m : ℕ) → 1 ≤ m → m ≤ 2 → WasScanned batches events 4 10 m 2
         scans zero first last = absurd (omega arith)
-        scans (suc zero) first last = (2, omega arith, first_scan)
-        scans (suc (suc zero)) first last = (3, omega arith, second_scan)
+        scans (suc zero) first last = record { k = 2; before = omega arith; scan = first_scan }
+        scans (suc (suc zero)) first last = record { k = 3; before = omega arith; scan = second_scan }
         scans (suc (suc (suc m))) first last = absurd (omega arith)
 
     only_document : (i : ℕ) (document : List ℕ) → slice_get replies i ≡ Some (Document document) → (i ≡ 4) × (other_digits ≡ document)
@@ -166,12 +215,12 @@ right_document_is A = (
     only_given i document is = (only_document i document is).1
 
     one_given : (i : ℕ) (document : List ℕ) → slice_get replies i ≡ Some (Document document) →
-        (desk id : ℕ) × (slice_get events i ≡ Some (Ask desk id)) × WasPrinted batches events replies i id document
+        (desk id : ℕ) × (slice_get events i ≡ Some (Ask desk id)) × WasPrinted batches events i id document
     one_given i document is =
         let t = only_document i document is in (
           0,
           10,
           ap (λ (k : ℕ). slice_get events k) t.0,
-          subst (λ (k : ℕ). WasPrinted batches events replies k 10 document) (sym t.0)
-              (subst (λ (d : List ℕ). WasPrinted batches events replies 4 10 d) t.1 was_printed),
+          subst (λ (k : ℕ). WasPrinted batches events k 10 document) (sym t.0)
+              (subst (λ (d : List ℕ). WasPrinted batches events 4 10 d) t.1 was_printed),
         )

@@ -1,8 +1,8 @@
 -- In a legal history no ticket is taken twice: said of its events and replies alone.
-use Rattle.std.proofs.Common.{◌≡◌, ◌<◌, ◌+◌, ◌&&◌, ◌⊎◌, inl, inr, ℕ, zero, suc, true, Some, List, [], ◌∷◌, ◌++◌, length, slice_get, refl, ap, sym, ◌∙◌, subst, arith, eq-eqb}
+use Rattle.std.proofs.Common.{◌≡◌, ◌<◌, ◌+◌, ◌&&◌, ◌⊎◌, inl, inr, ℕ, zero, suc, true, Some, List, [], ◌∷◌, ◌++◌, length, slice_get, refl, ap, sym, ◌∙◌, subst, arith, eq-eqb, if◌then◌else◌}
 use Rattle.std.proofs.lemmas.List.{length-append}
 use Rattle.dm_print_ledger.specs.declared.range.Range.{Range}
-use Rattle.dm_print_ledger.specs.declared.fault.TakeFault.TheVariants.{Overlap}
+use Rattle.dm_print_ledger.specs.declared.fault.TakeFault.TheVariants.{Old, Overlap}
 use Rattle.dm_print_ledger.specs.Views.{TicketView}
 use Rattle.dm_event_history.specs.declared.stop.Stop.{Stop}
 use Rattle.dm_event_history.specs.declared.event.Event.{Event}
@@ -15,9 +15,13 @@ use Rattle.dm_event_history.specs.Places.{takes_ticket, is_taken}
 use Rattle.dm_event_history.specs.Legal.{IsLegal, Fits, IsReply, MayMove, MayBeTaken}
 use Rattle.dm_event_history.specs.Saving.{tells_of_save}
 use Rattle.dm_event_history.specs.Tickets.{TakesTicket, WasGiven, TakesOnce}
-use Rattle.dm_event_history.proofs.Deciding.{and_so, or_left, or_right, true_false}
+use Rattle.dm_event_history.specs.Actors.{PrinterAt, actor_of}
+use Rattle.dm_event_history.specs.Numbers.{last_serial}
+use Rattle.dm_event_history.proofs.Deciding.{and_so, if_so, or_left, or_right, true_false}
+use Rattle.dm_event_history.proofs.WhoActs.{same_so}
+use Rattle.dm_event_history.proofs.ScannedLabels.{asked_before_or_last}
 use Rattle.dm_event_history.proofs.Gotten.{get_more, get_beyond}
-use Rattle.dm_event_history.proofs.TakenTickets.{not_taken}
+use Rattle.dm_event_history.proofs.TakenTickets.{WasTaken, taken_more, taken_once, not_taken}
 use Rattle.dm_event_history.proofs.Batches.{events_count, replies_count, at_last, before_or_last, in_either}
 
 -- an event took the ticket before the last one, or it is the last one
@@ -131,11 +135,71 @@ number_within {A} ranges desks (e ∷ h) i k ticket legal is =
           let own : length (given e.reply) ≡ 1 = ap (λ (r : Reply A). length (given r)) last.1 in omega arith)
     ]
 
+-- ---- serials of tickets
+
+-- a ticket that is given has its giver's next serial, and the give saved
+next_serial : {A : Type 0} (ranges : List Range) (desks : ℕ) (h : History A) (e : Entry A) (k : ℕ) (ticket : TicketView) → Fits ranges desks h e →
+    e.reply ≡ Given k ticket → (ticket.serial ≡ numbers.gives h ticket.giver) × (numbers.gives (e ∷ h) ticket.giver ≡ 1 + numbers.gives h ticket.giver)
+next_serial {A} ranges desks h e k ticket fits is =
+    by_event e.event refl (subst (λ (r : Reply A). IsReply ranges h e.id e.left e.event r) is fits.reply)
+  where
+    saved : e.saved ≡ true
+    saved = fits.told (ap (λ (r : Reply A). tells_of_save r) is)
+
+    by_event : (event : Event A) → e.event ≡ event → IsReply ranges h e.id e.left event (Given k ticket) →
+        (ticket.serial ≡ numbers.gives h ticket.giver) × (numbers.gives (e ∷ h) ticket.giver ≡ 1 + numbers.gives h ticket.giver)
+    by_event (Give p receiver range stop) event_is fine =
+        let at : (numbers.saved_at e p && numbers.is_give e.event) ≡ true =
+        and_so (numbers.saved_at e p) (numbers.is_give e.event)
+        (and_so e.saved (numbers.is_of e p) saved (same_so (actor_of e.event) (PrinterAt p) (ap actor_of event_is)))
+        (ap numbers.is_give event_is) in
+        let more : numbers.gives (e ∷ h) p ≡ 1 + numbers.gives h p =
+        ap (λ (n : ℕ). n + numbers.gives h p) (if_so (numbers.saved_at e p && numbers.is_give e.event) 1 0 at) in
+        let own : ticket.serial ≡ numbers.gives h p = ap (λ (t : TicketView). t.serial) fine.ticket_is in
+        subst (λ (g : ℕ). (ticket.serial ≡ numbers.gives h g) × (numbers.gives (e ∷ h) g ≡ 1 + numbers.gives h g))
+        (sym (ap (λ (t : TicketView). t.giver) fine.ticket_is)) (own, more)
+    by_event event event_is fine = absurd fine
+
+-- the serial of a ticket that was given is below its giver's next
+serial_below : {A : Type 0} (ranges : List Range) (desks : ℕ) (h : History A) (i k : ℕ) (ticket : TicketView) → IsLegal ranges desks h →
+    slice_get (replies_of h) i ≡ Some (Given k ticket) → ticket.serial < numbers.gives h ticket.giver
+serial_below ranges desks [] i k ticket legal is = absurd (cc (is))
+serial_below {A} ranges desks (e ∷ h) i k ticket legal is =
+    elim (before_or_last (replies_of h) e.reply (Given k ticket) (length h) i (replies_count h) is) [
+      | inl before ↦
+          (let t = serial_below ranges desks h i k ticket legal.1 before in
+          let more : numbers.gives (e ∷ h) ticket.giver ≡
+          (if numbers.saved_at e ticket.giver && numbers.is_give e.event then 1 else 0) + numbers.gives h ticket.giver = refl in omega arith)
+      | inr last ↦ (let t = next_serial ranges desks h e k ticket legal.0 last.1 in let a = t.0 in let b = t.1 in omega arith)
+    ]
+
+-- a ticket that a printer refused as old was taken
+old_was_taken : {A : Type 0} (ranges : List Range) (desks : ℕ) (h : History A) (i printer ticket : ℕ) (stop : Stop) → IsLegal ranges desks h →
+    slice_get (events_of h) i ≡ Some (Take printer ticket stop) → slice_get (replies_of h) i ≡ Some (TakeRefused Old) → WasTaken h ticket
+old_was_taken ranges desks [] i printer ticket stop legal asked answered = absurd (cc (asked))
+old_was_taken {A} ranges desks (e ∷ h) i printer ticket stop legal asked answered =
+    taken_more ranges desks h e ticket legal.0 (elim (asked_before_or_last h e i (Take printer ticket stop) (TakeRefused Old) asked answered) [
+      | inl before ↦ old_was_taken ranges desks h i printer ticket stop legal.1 before.1 before.2
+      | inr last ↦
+          (let fits : Fits ranges desks h e = legal.0 in
+          let is : IsReply ranges h e.id e.left (Take printer ticket stop) (TakeRefused Old) =
+          subst (λ (v : Event A). IsReply ranges h e.id e.left v (TakeRefused Old)) last.1
+          (subst (λ (r : Reply A). IsReply ranges h e.id e.left e.event r) last.2 fits.reply) in record {
+            ticket = is.ticket;
+            there = is.there;
+            last = is.last;
+            last_is = ap (λ (p : ℕ). last_serial h p is.ticket.giver) is.is_for ∙ is.last_is;
+            reached = is.reached;
+          })
+    ])
+
 -- ---- histories
 
 takes_first : {A : Type 0} → (let none : History A = [] in TakesOnce (events_of none) (replies_of none))
 takes_first {A} = record {
   numbered = λ i j ticket one other a b. absurd (cc (a));
+  serials = λ i j ticket number one other a b giver serial. absurd (cc (a));
+  old = λ i j printer ticket stop a b t. absurd (cc (a));
   once = λ i j printer other ticket a b. absurd (let x = a.reply in cc (x));
   given = λ i printer ticket a. absurd (let x = a.reply in cc (x));
   no_overlap = λ i is. cc (is);
@@ -145,7 +209,9 @@ takes_next : {A : Type 0} (ranges : List Range) (desks : ℕ) (h : History A) (e
     TakesOnce (events_of h) (replies_of h) → TakesOnce (events_of (e ∷ h)) (replies_of (e ∷ h))
 takes_next {A} ranges desks h e fits legal f = record {
   numbered = number;
+  serials = serial;
   once = one;
+  old = old;
   given = λ i printer ticket t. elim (taken_either h e i printer ticket t) [
     | inl before ↦
         (let below = get_beyond (events_of h) i (Take printer ticket before.stop) before.event in
@@ -181,6 +247,40 @@ takes_next {A} ranges desks h e fits legal f = record {
         | inr last ↦ here.0 ∙ sym last.0
       ]
     ]
+
+    serial : (i j ticket number : ℕ) (one other : TicketView) → slice_get (replies_of (e ∷ h)) i ≡ Some (Given ticket one) →
+        slice_get (replies_of (e ∷ h)) j ≡ Some (Given number other) → one.giver ≡ other.giver → one.serial ≡ other.serial → i ≡ j
+    serial i j ticket number one other a b giver same =
+        let gives : numbers.gives h one.giver ≡ numbers.gives h other.giver = ap (numbers.gives h) giver in
+        elim (before_or_last (replies_of h) e.reply (Given ticket one) (length h) i (replies_count h) a) [
+          | inl first ↦ elim (before_or_last (replies_of h) e.reply (Given number other) (length h) j (replies_count h) b) [
+            | inl second ↦ f.serials i j ticket number one other first second giver same
+            | inr last ↦ absurd (let below = serial_below ranges desks h i ticket one legal first in
+                let next = (next_serial ranges desks h e number other fits last.1).0 in omega arith)
+          ]
+          | inr here ↦ elim (before_or_last (replies_of h) e.reply (Given number other) (length h) j (replies_count h) b) [
+            | inl second ↦ absurd (let below = serial_below ranges desks h j number other legal second in
+                let next = (next_serial ranges desks h e ticket one fits here.1).0 in omega arith)
+            | inr last ↦ here.0 ∙ sym last.0
+          ]
+        ]
+
+    old : (i j printer ticket : ℕ) (stop : Stop) → slice_get (events_of (e ∷ h)) i ≡ Some (Take printer ticket stop) →
+        slice_get (replies_of (e ∷ h)) i ≡ Some (TakeRefused Old) → TakesTicket (events_of (e ∷ h)) (replies_of (e ∷ h)) j printer ticket → j < i
+    old i j printer ticket stop asked answered t =
+        elim (asked_before_or_last h e i (Take printer ticket stop) (TakeRefused Old) asked answered) [
+          | inl before ↦ elim (taken_either h e j printer ticket t) [
+            | inl taken ↦ f.old i j printer ticket stop before.1 before.2 taken
+            | inr last ↦ absurd (taken_once h printer ticket (old_was_taken ranges desks h i printer ticket stop legal before.1 before.2)
+                (last_takes ranges desks h e printer ticket last.1 fits last.2 last.3).1)
+          ]
+          | inr now ↦ elim (taken_either h e j printer ticket t) [
+            | inl taken ↦
+                (let below = get_beyond (events_of h) j (Take printer ticket taken.stop) taken.event in
+                let all = events_count h in let at = now.0 in omega arith)
+            | inr last ↦ absurd (let x : TakeRefused Old ≡ Taken = sym now.2 ∙ last.3 in cc (x))
+          ]
+        ]
 
     again : (i printer other ticket : ℕ) (stop : Stop) → TakesTicket (events_of h) (replies_of h) i printer ticket →
         e.event ≡ Take other ticket stop → e.reply ≡ Taken → ⊥

@@ -1,8 +1,10 @@
 -- The worked histories, computed.
-use Rattle.std.proofs.Common.{◌≡◌, inl, inr, ℕ, Some, refl, ap, arith}
+use Rattle.std.proofs.Common.{◌≡◌, inl, inr, ℕ, Some, None, refl, ap, arith}
 use Rattle.dm_event_history.specs.History.{LabelName}
 use Rattle.dm_event_history.specs.Holding.{IsSurelyHeld, IsPossiblyHeld}
-use Rattle.dm_event_history.specs.Worked.{travelled, forgotten, MovedIs, TravelledIs, StoppedIs}
+use Rattle.dm_event_history.specs.Worked.{given_once, travelled, forgotten, MovedIs, TravelledIs, StoppedIs, NotSo}
+use Rattle.dm_event_history.specs.declared.stop.Stop.TheVariants as stops
+use Rattle.dm_event_history.specs.Legal.{IsOld}
 
 pub moved_is : (A : Type 0) → MovedIs A
 moved_is A = record {
@@ -104,4 +106,26 @@ stopped_is A = record {
   failed = refl;
   gone_by_a_fault = refl;
   restarted = refl;
+}
+
+-- of a ticket that was given nothing was taken
+not_old : (A : Type 0) → ¬ IsOld (given_once A) 1 0
+not_old A old = (let none : None ≡ Some old.last = old.last_is in cc (none))
+
+pub not_so : (A : Type 0) → NotSo A
+not_so A = record {
+  gone_is = refl;
+  not_given = refl;
+  unsaved_print = refl;
+  unsaved_give = refl;
+  unsaved_take = refl;
+  unsaved_scan = refl;
+  unsaved_forget = refl;
+  unsaved_import = refl;
+  none_came = refl;
+  no_overlap = λ told. told;
+  no_fault = λ told. (let fault : stops.None ≡ stops.SaveFault told.0 = told.1 in cc (fault));
+  held = λ safe. safe 1 (travelled_is A).scanned;
+  not_old = not_old A;
+  down = refl;
 }

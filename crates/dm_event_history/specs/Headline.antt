@@ -1,54 +1,57 @@
 -- The headline, said of the events and the replies of a run alone, both from the first on: whatever document any desk
 -- gives for an identification is the one document printed under it, and no identification is ever printed twice.
-use Rattle.std.specs.Prelude.{◌≡◌, ◌<◌, ◌≤◌, ◌⊎◌, ℕ, Option, None, Some, List, [], ◌∷◌, ◌++◌, length, slice_get, take, min}
-use Rattle.dm_check_blocks.specs.declared.size.Size.{Size}
-use Rattle.dm_encodation.specs.declared.scheme.Scheme.{Scheme}
+use Rattle.std.specs.Prelude.{◌≡◌, ◌≢◌, ◌<◌, ◌≤◌, ◌⊎◌, ℕ, Option, None, Some, List, [], ◌∷◌, ◌++◌, length, slice_get, take, min}
 use Rattle.dm_append_label.specs.Parts.{AreParts}
+use Rattle.dm_assembly_desk.specs.declared.fault.AskFault.TheVariants.{Incomplete}
 use Rattle.dm_assembly_desk.specs.declared.reply.Accepted.{Accepted}
+use Rattle.dm_event_history.specs.Masks.{HasPage}
 use Rattle.dm_event_history.specs.declared.event.Event.{Event}
-use Rattle.dm_event_history.specs.declared.event.Event.TheVariants.{Print, Scan, Ask}
+use Rattle.dm_event_history.specs.declared.event.Event.TheVariants.{Print, Scan, Ask, Forget, Export}
 use Rattle.dm_event_history.specs.declared.reply.Reply.{Reply}
-use Rattle.dm_event_history.specs.declared.reply.Reply.TheVariants.{Printed, Scanned, Document, Stopped}
+use Rattle.dm_event_history.specs.declared.reply.Reply.TheVariants.{Printed, Scanned, Document, AskRefused, Forgotten, Exported, Stopped, NoSuch}
 use Rattle.dm_event_history.specs.declared.stop.Stop.{Stop}
 use Rattle.dm_event_history.specs.declared.stop.Stop.TheVariants as stops
-use Rattle.dm_event_history.specs.History.{LabelName, names_from}
+use Rattle.dm_event_history.specs.Actors.{DeskAt, actor_of}
+use Rattle.dm_event_history.specs.History.{CutDocument, LabelName, names_from}
 
--- labels that left by one print: the first `left` of the `n` labels of its document, under an identification
+-- ---- the labels that left
+
+-- labels that left by one print: the first `left` of those of a document, which has one for each of its parts
 pub record Batch : Type 0 where
   pub id : ℕ
-  pub n : ℕ
+  pub document : CutDocument
   pub left : ℕ
 
--- event number i is a print of this document with this stop, and the document is cut into n parts, one for each label
-pub record IsPrintOf {A : Type 0} (events : List (Event A)) (i : ℕ) (document : List ℕ) (n : ℕ) (stop : Stop)
+-- how many labels the document has
+abbrev pub count_of : Batch → ℕ
+count_of batch = length batch.document.parts
+
+-- event number i is a print of this document, which is cut so, with this stop
+pub record IsPrintOf {A : Type 0} (events : List (Event A)) (i : ℕ) (document : CutDocument) (stop : Stop)
     : Type 0 where
   pub printer : ℕ
-  pub size : Size
-  pub scheme : Scheme
-  pub event : slice_get events i ≡ Some (Print printer document size scheme stop)
-  pub parts : List (List ℕ)
-  pub are_parts : AreParts size scheme document parts
-  pub count : length parts ≡ n
+  pub event : slice_get events i ≡ Some (Print printer document.bytes document.size document.scheme stop)
+  pub are_parts : AreParts document.size document.scheme document.bytes document.parts
 
 -- reply number i tells of the batch: all labels of the document left
 pub record IsTold {A : Type 0} (replies : List (Reply A)) (i : ℕ) (batch : Batch) (stop : Stop) : Type 0 where
   pub no_stop : stop ≡ stops.None
   pub first : ℕ
-  pub reply : slice_get replies i ≡ Some (Printed batch.id first batch.n)
-  pub all : batch.left ≡ batch.n
+  pub reply : slice_get replies i ≡ Some (Printed batch.id first (count_of batch))
+  pub all : batch.left ≡ count_of batch
 
 -- event number i was stopped when `most` labels had left, or all if there are fewer
 pub record IsStoppedAfter {A : Type 0} (replies : List (Reply A)) (i : ℕ) (batch : Batch) (stop : Stop) : Type 0 where
   pub most : ℕ
   pub stopped_so : stop ≡ stops.AfterLabels most
   pub reply : slice_get replies i ≡ Some Stopped
-  pub some : batch.left ≡ min most batch.n
+  pub some : batch.left ≡ min most (count_of batch)
 
--- the batch left by event number i, a print of this document: its reply tells so, or it was stopped as its labels left
+-- the batch left by event number i, a print of its document: the reply tells so, or it was stopped as its labels left
 pub record LeftBy {A : Type 0} (events : List (Event A)) (replies : List (Reply A)) (i : ℕ) (batch : Batch)
-    (document : List ℕ) : Type 0 where
+    : Type 0 where
   pub stop : Stop
-  pub is_print : IsPrintOf events i document batch.n stop
+  pub is_print : IsPrintOf events i batch.document stop
   pub ends : IsTold replies i batch stop ⊎ IsStoppedAfter replies i batch stop
   pub not_none : 1 ≤ batch.left
 
@@ -56,7 +59,54 @@ pub record LeftBy {A : Type 0} (events : List (Event A)) (replies : List (Reply 
 abbrev pub labels_of : List (Option Batch) → List LabelName
 labels_of [] = []
 labels_of (None ∷ batches) = labels_of batches
-labels_of (Some batch ∷ batches) = names_from batch.id batch.n 1 batch.left ++ labels_of batches
+labels_of (Some batch ∷ batches) = names_from batch.id (count_of batch) 1 batch.left ++ labels_of batches
+
+-- all labels of a document left by event number i, under this identification, numbered from `first` on
+pub record AllLeft (batches : List (Option Batch)) (i id first count : ℕ) : Type 0 where
+  pub batch : Batch
+  pub there : slice_get batches i ≡ Some (Some batch)
+  pub id_is : batch.id ≡ id
+  pub count_is : count_of batch ≡ count
+  pub all : batch.left ≡ count
+  pub first_is : first ≡ length (labels_of (take i batches))
+
+-- a reply other than `NoSuch` to an event at the desk shows that it is there
+pub record IsDeskThere {A : Type 0} (events : List (Event A)) (replies : List (Reply A)) (desk : ℕ) : Type 0 where
+  pub i : ℕ
+  pub event : Event A
+  pub asked : slice_get events i ≡ Some event
+  pub of_desk : actor_of event ≡ DeskAt desk
+  pub reply : Reply A
+  pub answered : slice_get replies i ≡ Some reply
+  pub is_such : reply ≢ NoSuch
+
+-- Each event has a reply, and its batch in `batches`, if labels left by it. No identification comes twice.
+pub record PrintsOnceBy {A : Type 0} (batches : List (Option Batch)) (events : List (Event A)) (replies : List (Reply A))
+    : Type 0 where
+  pub each_reply : length replies ≡ length events
+  pub each_batch : length batches ≡ length events
+  -- what a reply says was printed was printed
+  pub told : (i id first count : ℕ) → slice_get replies i ≡ Some (Printed id first count) →
+      AllLeft batches i id first count
+  -- each batch left by a print of its document
+  pub printed : (i : ℕ) (batch : Batch) → slice_get batches i ≡ Some (Some batch) → LeftBy events replies i batch
+  -- no identification is ever printed twice
+  pub once : (i j : ℕ) (one other : Batch) → slice_get batches i ≡ Some (Some one) →
+      slice_get batches j ≡ Some (Some other) → one.id ≡ other.id → i ≡ j
+  -- a label that is scanned, and there, had left
+  pub there : (i desk label : ℕ) (flips : List (ℕ × ℕ)) (stop : Stop) (reply : Reply A) →
+      slice_get events i ≡ Some (Scan desk label flips stop) → slice_get replies i ≡ Some reply → reply ≢ NoSuch →
+      label < length (labels_of (take i batches))
+  -- one that is not there, although the desk is and no module is named, had not
+  pub not_there : (i desk label : ℕ) (stop : Stop) → slice_get events i ≡ Some (Scan desk label [] stop) →
+      slice_get replies i ≡ Some NoSuch → IsDeskThere events replies desk →
+      length (labels_of (take i batches)) ≤ label
+
+-- no identification is ever printed twice
+abbrev pub PrintsOnce : {A : Type 0} → List (Event A) → List (Reply A) → Type 0
+PrintsOnce events replies = (batches : List (Option Batch)) × PrintsOnceBy batches events replies
+
+-- ---- what desks tell
 
 -- event number i is a scan of a label of this name, which had left
 pub record IsScanOf {A : Type 0} (batches : List (Option Batch)) (events : List (Event A)) (i : ℕ) (name : LabelName)
@@ -68,40 +118,40 @@ pub record IsScanOf {A : Type 0} (batches : List (Option Batch)) (events : List 
   pub event : slice_get events i ≡ Some (Scan desk label flips stop)
   pub had_left : slice_get (labels_of (take i batches)) label ≡ Some name
 
--- event number j, before number i, printed the document under this identification, and each of its labels was scanned
--- before number i
-pub record WasPrinted {A : Type 0} (batches : List (Option Batch)) (events : List (Event A)) (replies : List (Reply A))
-    (i id : ℕ) (document : List ℕ) : Type 0 where
+-- label m of n under an identification was scanned before event number i, at whichever desk
+pub record WasScanned {A : Type 0} (batches : List (Option Batch)) (events : List (Event A)) (i id m n : ℕ)
+    : Type 0 where
+  pub k : ℕ
+  pub before : k < i
+  pub scan : IsScanOf batches events k (record { id = id; number = m; count = n })
+
+-- the batch under this identification left before event number i
+pub record LeftBefore (batches : List (Option Batch)) (i id : ℕ) (batch : Batch) : Type 0 where
   pub j : ℕ
   pub before : j < i
-  pub batch : Batch
   pub there : slice_get batches j ≡ Some (Some batch)
   pub id_is : batch.id ≡ id
-  pub printed : LeftBy events replies j batch document
-  pub scanned : (m : ℕ) → 1 ≤ m → m ≤ batch.n →
-      (k : ℕ) × (k < i) × IsScanOf batches events k (record { id = id; number = m; count = batch.n })
 
--- Each event has a reply, and its batch in `batches`, if labels left by it. No identification comes twice.
-pub record PrintsOnceBy {A : Type 0} (batches : List (Option Batch)) (events : List (Event A)) (replies : List (Reply A))
+-- the document was printed under this identification before event number i, and each of its labels was scanned before
+pub record WasPrinted {A : Type 0} (batches : List (Option Batch)) (events : List (Event A)) (i id : ℕ)
+    (bytes : List ℕ) : Type 0 where
+  pub batch : Batch
+  pub printed : LeftBefore batches i id batch
+  pub bytes_are : batch.document.bytes ≡ bytes
+  pub scanned : (m : ℕ) → 1 ≤ m → m ≤ count_of batch → WasScanned batches events i id m (count_of batch)
+
+-- The same of a document that is not whole: it lacks some of its pages, and not all. Each other was scanned before.
+pub record WasBegun {A : Type 0} (batches : List (Option Batch)) (events : List (Event A)) (i id missing : ℕ)
     : Type 0 where
-  pub each_reply : length replies ≡ length events
-  pub each_batch : length batches ≡ length events
-  -- what a reply says was printed was printed, in that many labels, numbered on from those that left before
-  pub told : (i id first count : ℕ) → slice_get replies i ≡ Some (Printed id first count) →
-      (slice_get batches i ≡ Some (Some (record { id = id; n = count; left = count })))
-      × (first ≡ length (labels_of (take i batches)))
-  -- each batch left by a print of some document
-  pub printed : (i : ℕ) (batch : Batch) → slice_get batches i ≡ Some (Some batch) →
-      (document : List ℕ) × LeftBy events replies i batch document
-  -- no identification is ever printed twice
-  pub once : (i j : ℕ) (one other : Batch) → slice_get batches i ≡ Some (Some one) →
-      slice_get batches j ≡ Some (Some other) → one.id ≡ other.id → i ≡ j
+  pub batch : Batch
+  pub printed : LeftBefore batches i id batch
+  pub some_missing : (m : ℕ) × HasPage missing m
+  pub not_all : (m : ℕ) × (1 ≤ m) × (m ≤ count_of batch) × (¬ HasPage missing m)
+  pub nothing_else : (m : ℕ) → HasPage missing m → (1 ≤ m) × (m ≤ count_of batch)
+  pub scanned : (m : ℕ) → 1 ≤ m → m ≤ count_of batch → ¬ HasPage missing m →
+      WasScanned batches events i id m (count_of batch)
 
--- no identification is ever printed twice
-abbrev pub PrintsOnce : {A : Type 0} → List (Event A) → List (Reply A) → Type 0
-PrintsOnce events replies = (batches : List (Option Batch)) × PrintsOnceBy batches events replies
-
--- what desks tell of labels and documents is as they were printed
+-- what desks tell of labels, documents and pages is as they were printed and scanned
 pub record IsFaithfulBy {A : Type 0} (batches : List (Option Batch)) (events : List (Event A)) (replies : List (Reply A))
     : Type 0 where
   pub prints : PrintsOnceBy batches events replies
@@ -109,12 +159,22 @@ pub record IsFaithfulBy {A : Type 0} (batches : List (Option Batch)) (events : L
   pub scanned : (i : ℕ) (accepted : Accepted) → slice_get replies i ≡ Some (Scanned accepted) →
       IsScanOf batches events i (record { id = accepted.id; number = accepted.m; count = accepted.n })
   -- whatever document any desk gives is asked for by an identification, and was printed under it before
-  pub given : (i : ℕ) (document : List ℕ) → slice_get replies i ≡ Some (Document document) →
-      (desk id : ℕ) × (slice_get events i ≡ Some (Ask desk id)) × WasPrinted batches events replies i id document
+  pub given : (i : ℕ) (bytes : List ℕ) → slice_get replies i ≡ Some (Document bytes) →
+      (desk id : ℕ) × (slice_get events i ≡ Some (Ask desk id)) × WasPrinted batches events i id bytes
   -- and it is the one document: any other that is given for it, by any desk, is the same
   pub same : (i j desk at id : ℕ) (one other : List ℕ) →
       slice_get events i ≡ Some (Ask desk id) → slice_get replies i ≡ Some (Document one) →
       slice_get events j ≡ Some (Ask at id) → slice_get replies j ≡ Some (Document other) → one ≡ other
+  -- of a document that is not whole the pages that are not named as missing were scanned
+  pub begun : (i desk id missing : ℕ) → slice_get events i ≡ Some (Ask desk id) →
+      slice_get replies i ≡ Some (AskRefused (Incomplete missing)) → WasBegun batches events i id missing
+  -- what is forgotten was begun: a page of it was scanned
+  pub forgotten : (i desk id : ℕ) (stop : Stop) → slice_get events i ≡ Some (Forget desk id stop) →
+      slice_get replies i ≡ Some Forgotten → (m n : ℕ) × WasScanned batches events i id m n
+  -- each page that is exported is one of the document asked for, and was scanned
+  pub exported : (i index id n mask : ℕ) → slice_get replies i ≡ Some (Exported index id n mask) →
+      (desk : ℕ) × (slice_get events i ≡ Some (Export desk id))
+      × ((m : ℕ) → HasPage mask m → WasScanned batches events i id m n)
 
 -- the headline
 abbrev pub IsFaithful : {A : Type 0} → List (Event A) → List (Reply A) → Type 0

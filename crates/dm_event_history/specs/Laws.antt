@@ -10,6 +10,7 @@ use Rattle.dm_event_history.specs.Legal.{AreDisjoint, IsLegal, IsNoLabelTwice, N
 use Rattle.dm_event_history.specs.Safe.{IsSafe}
 use Rattle.dm_event_history.specs.Headline.{PrintsOnce, IsFaithful}
 use Rattle.dm_event_history.specs.Tickets.{TakesOnce}
+use Rattle.dm_event_history.specs.Imports.{ImportsExports}
 
 -- so it is of each legal history of printers that begin with disjoint ranges
 abbrev pub InLegal : (A : Type 0) → (List Range → History A → Type 0) → Type 0
@@ -55,6 +56,10 @@ LegalPrintsOnce A = InLegal A (λ ranges h. PrintsOnce (events_of h) (replies_of
 -- no ticket is taken twice, said of the events and replies alone
 abbrev pub LegalTakesOnce : Type 0 → Type 0
 LegalTakesOnce A = InLegal A (λ ranges h. TakesOnce (events_of h) (replies_of h))
+
+-- what is imported was exported, said of the events and replies alone
+abbrev pub LegalImportsExports : Type 0 → Type 0
+LegalImportsExports A = InLegal A (λ ranges h. ImportsExports (events_of h) (replies_of h))
 
 -- the headline: legal and safe histories are faithful
 abbrev pub LegalAndSafeIsFaithful : Type 0 → Type 0

@@ -27,8 +27,10 @@ use Rattle.dm_event_history.specs.declared.reply.Reply.{Reply}
 use Rattle.dm_event_history.specs.declared.reply.Reply.TheVariants.{Printed, PrintRefused, Scanned, ScanRefused, Document, AskRefused, Forgotten, ForgetRefused, Given, GiveRefused, Taken, TakeRefused, Exported, ExportRefused, Imported, ImportRefused, Restarted, PrinterRefused, DeskRefused, Stopped, Down, NoSuch, Memory}
 use Rattle.dm_event_history.specs.declared.stop.Stop.{Stop}
 use Rattle.dm_event_history.specs.declared.stop.Stop.TheVariants as stops
+use Rattle.dm_assembly_desk.specs.declared.reply.Imported as imported_type
+use Rattle.dm_event_history.specs.Masks.{HasPage}
 use Rattle.dm_event_history.specs.Actors.{PrinterAt, DeskAt, actor_of}
-use Rattle.dm_event_history.specs.History.{Entry, History, CutDocument, LabelName, printed_by, out, docs, tickets, exports}
+use Rattle.dm_event_history.specs.History.{Entry, History, CutDocument, LabelName, ExportName, printed_by, out, docs, tickets, exports}
 use Rattle.dm_event_history.specs.Running.{is_down, is_failed}
 use Rattle.dm_event_history.specs.Saving.{stop_of, may_save, tells_of_save}
 use Rattle.dm_event_history.specs.Numbers.{free_at, gives, last_serial, opening_count, gone, came}
@@ -134,12 +136,22 @@ IsGiveRefused before printer stop give_fault.Failed = is_failed before (PrinterA
 IsGiveRefused before printer stop give_fault.Save = IsSaveFault stop
 IsGiveRefused before printer stop other = Unit {0}
 
--- why a ticket is not taken: never since one of its numbers is free at the receiver
-abbrev pub IsTakeRefused : {A : Type 0} → History A → ℕ → Stop → TakeFault → Type 0
-IsTakeRefused before printer stop take_fault.Failed = is_failed before (PrinterAt printer) ≡ true
-IsTakeRefused before printer stop take_fault.Overlap = ⊥
-IsTakeRefused before printer stop take_fault.Save = IsSaveFault stop
-IsTakeRefused before printer stop other = Unit {0}
+-- the ticket is for this printer, with a serial not above the last that it took from the same giver
+pub record IsOld {A : Type 0} (before : History A) (printer number : ℕ) : Type 0 where
+  pub ticket : TicketView
+  pub there : slice_get (tickets before) number ≡ Some ticket
+  pub is_for : ticket.receiver ≡ printer
+  pub last : ℕ
+  pub last_is : last_serial before printer ticket.giver ≡ Some last
+  pub reached : ticket.serial ≤ last
+
+-- why the ticket of this number is not taken: never since a number that is on it is free at the receiver
+abbrev pub IsTakeRefused : {A : Type 0} → History A → ℕ → ℕ → Stop → TakeFault → Type 0
+IsTakeRefused before printer ticket stop take_fault.Failed = is_failed before (PrinterAt printer) ≡ true
+IsTakeRefused before printer ticket stop take_fault.Old = IsOld before printer ticket
+IsTakeRefused before printer ticket stop take_fault.Overlap = ⊥
+IsTakeRefused before printer ticket stop take_fault.Save = IsSaveFault stop
+IsTakeRefused before printer ticket stop other = Unit {0}
 
 -- why a scan, a forget and an import are refused, whether the history is honest or not
 abbrev pub IsScanRefused : {A : Type 0} → History A → ℕ → Stop → ScanFault → Type 0
@@ -161,6 +173,16 @@ IsImportRefused before desk stop other = Unit {0}
 pub record IsExported {A : Type 0} (before : History A) (id index told : ℕ) : Type 0 where
   pub index_is : index ≡ length (exports before)
   pub id_is : told ≡ id
+
+-- what the reply tells is of the export: its document, as many pages, and as added none but those that it has
+pub record IsImported {A : Type 0} (before : History A) (export : ℕ) (stop : Stop) (imported : imported_type.Imported)
+    : Type 0 where
+  pub no_stop : imported.kind ≢ Again → stop ≡ stops.None
+  pub name : ExportName
+  pub there : slice_get (exports before) export ≡ Some name
+  pub id_is : imported.id ≡ name.id
+  pub n_is : imported.n ≡ name.count
+  pub added : (m : ℕ) → HasPage imported.added m → HasPage name.mask m
 
 -- The reply is one to the event: what is so where it is given. A page that was not held is replied to as new only where nothing
 -- stopped its save, and a printer or a desk over its own store is refused its restart for memory alone.
@@ -190,12 +212,12 @@ IsReply ranges before id left (Give printer receiver range stop) (GiveRefused fa
     IsGiveRefused before printer stop fault
 IsReply ranges before id left (Give printer receiver range stop) Stopped = Unit {0}
 IsReply ranges before id left (Take printer ticket stop) Taken = stop ≡ stops.None
-IsReply ranges before id left (Take printer ticket stop) (TakeRefused fault) = IsTakeRefused before printer stop fault
+IsReply ranges before id left (Take printer ticket stop) (TakeRefused fault) =
+    IsTakeRefused before printer ticket stop fault
 IsReply ranges before id left (Take printer ticket stop) Stopped = Unit {0}
 IsReply ranges before id left (Export desk name) (Exported index told n mask) = IsExported before name index told
 IsReply ranges before id left (Export desk name) (ExportRefused fault) = Unit {0}
-IsReply ranges before id left (Import desk export stop) (Imported imported) =
-    imported.kind ≢ Again → stop ≡ stops.None
+IsReply ranges before id left (Import desk export stop) (Imported imported) = IsImported before export stop imported
 IsReply ranges before id left (Import desk export stop) (ImportRefused fault) = IsImportRefused before desk stop fault
 IsReply ranges before id left (Import desk export stop) Stopped = Unit {0}
 IsReply ranges before id left event Down = Unit {0}

@@ -11,6 +11,7 @@ pub mod Honest
 pub mod Safe
 pub mod Headline
 pub mod Tickets
+pub mod Imports
 pub mod Worked
 pub mod Unfaithful
 pub mod Laws

@@ -75,8 +75,11 @@ pub record IsAcceptedSafe {A : Type 0} (before : History A) (desk label : ℕ) (
 
 -- ---- exports and imports
 
--- what is exported is possibly held, and all that is surely held is exported
-pub record IsExportSafe {A : Type 0} (before : History A) (desk id mask : ℕ) : Type 0 where
+-- what is exported, of a document of n pages that was printed, is possibly held, and all that is surely held is exported
+pub record IsExportSafe {A : Type 0} (before : History A) (desk id n mask : ℕ) : Type 0 where
+  pub document : CutDocument
+  pub printed : docs before id ≡ Some document
+  pub n_is : n ≡ length document.parts
   pub possibly : (m : ℕ) → HasPage mask m → IsPossiblyHeld before desk id m
   pub surely : (m : ℕ) → IsSurelyHeld before desk id m → HasPage mask m
 
@@ -93,14 +96,11 @@ IsImportKindSafe before desk name added New =
 IsImportKindSafe before desk name added Complete =
     (m : ℕ) → 1 ≤ m → m ≤ name.count → ¬ HasPage added m → IsPossiblyHeld before desk name.id m
 
--- the document that was told is that of the export, and just the pages that were not held were added
+-- just the pages of the export that were not held were added
 pub record IsImportedSafe {A : Type 0} (before : History A) (desk export : ℕ) (imported : imported_type.Imported)
     : Type 0 where
   pub name : ExportName
   pub there : slice_get (exports before) export ≡ Some name
-  pub id_is : imported.id ≡ name.id
-  pub n_is : imported.n ≡ name.count
-  pub exported : (m : ℕ) → HasPage imported.added m → HasPage name.mask m
   pub not_surely : (m : ℕ) → HasPage imported.added m → ¬ IsSurelyHeld before desk name.id m
   pub possibly : (m : ℕ) → HasPage name.mask m → ¬ HasPage imported.added m → IsPossiblyHeld before desk name.id m
   pub again : (imported.kind ≡ Again) ↔ (imported.added ≡ 0)
@@ -115,7 +115,7 @@ IsReplySafe before (Ask desk id) (Document bytes) = IsTrueDocument before desk i
 IsReplySafe before (Ask desk id) (AskRefused fault) = IsAskSafe before desk id fault
 IsReplySafe before (Forget desk id stop) Forgotten = (m : ℕ) × IsPossiblyHeld before desk id m
 IsReplySafe before (Forget desk id stop) (ForgetRefused fault) = IsForgetSafe before desk id fault
-IsReplySafe before (Export desk id) (Exported index told n mask) = IsExportSafe before desk id mask
+IsReplySafe before (Export desk id) (Exported index told n mask) = IsExportSafe before desk id n mask
 IsReplySafe before (Export desk id) (ExportRefused fault) = IsExportRefusedSafe before desk id fault
 IsReplySafe before (Import desk export stop) (Imported imported) = IsImportedSafe before desk export imported
 IsReplySafe before event reply = Unit {0}

@@ -1,7 +1,7 @@
 -- No ticket is taken twice, said of the events and the replies of a run alone, both from the first on.
 use Rattle.std.specs.Prelude.{◌≡◌, ◌≢◌, ◌<◌, ℕ, Some, List, slice_get}
 use Rattle.dm_print_ledger.specs.declared.range.Range.{Range}
-use Rattle.dm_print_ledger.specs.declared.fault.TakeFault.TheVariants.{Overlap}
+use Rattle.dm_print_ledger.specs.declared.fault.TakeFault.TheVariants.{Old, Overlap}
 use Rattle.dm_print_ledger.specs.Views.{TicketView}
 use Rattle.dm_event_history.specs.declared.event.Event.{Event}
 use Rattle.dm_event_history.specs.declared.event.Event.TheVariants.{Give, Take}
@@ -34,9 +34,15 @@ pub record TakesOnce {A : Type 0} (events : List (Event A)) (replies : List (Rep
   -- no two tickets have one number
   pub numbered : (i j ticket : ℕ) (one other : TicketView) → slice_get replies i ≡ Some (Given ticket one) →
       slice_get replies j ≡ Some (Given ticket other) → i ≡ j
+  -- nor have two of one giver one serial
+  pub serials : (i j ticket number : ℕ) (one other : TicketView) → slice_get replies i ≡ Some (Given ticket one) →
+      slice_get replies j ≡ Some (Given number other) → one.giver ≡ other.giver → one.serial ≡ other.serial → i ≡ j
   -- no ticket is taken twice, by whichever printers
   pub once : (i j printer other ticket : ℕ) → TakesTicket events replies i printer ticket →
       TakesTicket events replies j other ticket → i ≡ j
+  -- nor is one that the printer refused as old, so that it had been taken, even if the take was stopped and not told
+  pub old : (i j printer ticket : ℕ) (stop : Stop) → slice_get events i ≡ Some (Take printer ticket stop) →
+      slice_get replies i ≡ Some (TakeRefused Old) → TakesTicket events replies j printer ticket → j < i
   -- what is taken was given before, to the printer that takes it
   pub given : (i printer ticket : ℕ) → TakesTicket events replies i printer ticket →
       WasGiven events replies i printer ticket

@@ -1,21 +1,23 @@
--- Runs that are not faithful, each one step from a run that is, and runs whose tickets are not taken once: the definitions
--- of the headline alone refuse them. Documents of four digits are printed in labels of side 12.
+-- Runs that are not faithful, each one step from a run that is, and runs whose tickets or exports are not as they should
+-- be: the definitions of the headline alone refuse them. Documents of four digits are printed in labels of side 12.
 use Rattle.std.specs.Prelude.{◌≡◌, ℕ, Option, List, [], ◌∷◌, map}
 use Rattle.dm_check_blocks.specs.declared.size.Size.TheVariants.{Side12}
 use Rattle.dm_encodation.specs.declared.scheme.Scheme.TheVariants.{Ascii}
-use Rattle.dm_print_ledger.specs.declared.fault.TakeFault.TheVariants.{Overlap}
+use Rattle.dm_print_ledger.specs.declared.fault.TakeFault.TheVariants.{Old, Overlap}
+use Rattle.dm_assembly_desk.specs.declared.fault.AskFault.TheVariants.{Incomplete}
 use Rattle.dm_assembly_desk.specs.declared.reply.Kind.TheVariants.{New, Complete}
 use Rattle.dm_assembly_desk.specs.declared.reply.Kind.{Kind}
 use Rattle.dm_assembly_desk.specs.declared.reply.Accepted.{Accepted}
 use Rattle.dm_event_history.specs.declared.event.Event.{Event}
-use Rattle.dm_event_history.specs.declared.event.Event.TheVariants.{Print, Scan, RestartPrinter, Ask, Give, Take}
+use Rattle.dm_event_history.specs.declared.event.Event.TheVariants.{Print, Scan, RestartPrinter, Ask, Forget, Give, Take, Export, Import}
 use Rattle.dm_event_history.specs.declared.reply.Reply.{Reply}
-use Rattle.dm_event_history.specs.declared.reply.Reply.TheVariants.{Printed, Scanned, Document, Given, Taken, TakeRefused, Restarted, Stopped}
+use Rattle.dm_event_history.specs.declared.reply.Reply.TheVariants.{Printed, Scanned, Document, AskRefused, Forgotten, Given, Taken, TakeRefused, Exported, Imported, Restarted, Stopped, NoSuch}
 use Rattle.dm_event_history.specs.declared.stop.Stop.{Stop}
-use Rattle.dm_event_history.specs.declared.stop.Stop.TheVariants.{None, AfterLabels}
+use Rattle.dm_event_history.specs.declared.stop.Stop.TheVariants.{None, BeforeSave, AfterLabels}
 use Rattle.dm_event_history.specs.History.{LabelName}
 use Rattle.dm_event_history.specs.Headline.{Batch, labels_of, PrintsOnceBy, IsFaithful}
 use Rattle.dm_event_history.specs.Tickets.{TakesOnce}
+use Rattle.dm_event_history.specs.Imports.{ImportsExports}
 use Rattle.dm_event_history.specs.Worked.{digits, first_ticket}
 
 -- events, each with its reply
@@ -33,6 +35,9 @@ PrintsOnceRun labels run =
 
 abbrev pub TakesOnceRun : {A : Type 0} → Run A → Type 0
 TakesOnceRun run = TakesOnce (map (λ one. one.0) run) (map (λ one. one.1) run)
+
+abbrev pub ImportsExportsRun : {A : Type 0} → Run A → Type 0
+ImportsExportsRun run = ImportsExports (map (λ one. one.0) run) (map (λ one. one.1) run)
 
 abbrev pub other_digits : List ℕ
 other_digits = 52 ∷ 51 ∷ 50 ∷ 49 ∷ []
@@ -91,6 +96,45 @@ never_scanned A = (print 0 digits None, Printed 0 0 2) ∷ (Ask 0 0, Document di
 abbrev pub two_documents : (A : Type 0) → Run A
 two_documents A = (Ask 0 0, Document digits) ∷ (Ask 1 0, Document other_digits) ∷ []
 
+-- the first print let no label out, as label 0 was not there after it; but its document is given for the labels of the
+-- second
+abbrev pub shown_not_left : (A : Type 0) → Run A
+shown_not_left A =
+    (print 0 digits (AfterLabels 2), Stopped) ∷
+    (scan 0, NoSuch) ∷
+    (print 1 other_digits (AfterLabels 2), Stopped) ∷
+    (scan 0, Scanned (page 10 1 New)) ∷
+    (scan 1, Scanned (page 10 2 Complete)) ∷
+    (Ask 0 10, Document digits) ∷ []
+
+-- the first print let label 0 out, as it was there after it; but the document of the second is given for it
+abbrev pub shown_left : (A : Type 0) → Run A
+shown_left A =
+    (print 0 digits (AfterLabels 2), Stopped) ∷
+    (Scan 0 0 [] BeforeSave, Stopped) ∷
+    (print 1 other_digits (AfterLabels 2), Stopped) ∷
+    (scan 0, Scanned (page 10 1 New)) ∷
+    (scan 1, Scanned (page 10 2 Complete)) ∷
+    (Ask 0 10, Document other_digits) ∷ []
+
+-- ---- pages
+
+-- some pages are missing of a document of which no label was scanned
+abbrev pub begun_unscanned : (A : Type 0) → Run A
+begun_unscanned A = (print 0 digits None, Printed 0 0 2) ∷ (Ask 0 0, AskRefused (Incomplete 2)) ∷ []
+
+-- a page is exported whose label was not scanned
+abbrev pub exported_unscanned : (A : Type 0) → Run A
+exported_unscanned A = (print 0 digits None, Printed 0 0 2) ∷ (Export 0 0, Exported 0 0 2 1) ∷ []
+
+-- what was forgotten shows that a label left under an identification that is then printed again
+abbrev pub printed_after_forgotten : (A : Type 0) → Run A
+printed_after_forgotten A =
+    (print 0 digits (AfterLabels 1), Stopped) ∷
+    (Scan 0 0 [] (AfterLabels 0), Stopped) ∷
+    (Forget 0 0 None, Forgotten) ∷
+    (print 1 other_digits None, Printed 0 1 2) ∷ []
+
 -- ---- prints
 
 -- the labels of a stopped print and of a later one have one identification
@@ -133,12 +177,40 @@ taken_twice A = give ∷ (Take 1 0 None, Taken) ∷ (Take 1 0 None, Taken) ∷ [
 abbrev pub numbered_twice : (A : Type 0) → Run A
 numbered_twice A = give ∷ give ∷ []
 
+-- two tickets of one giver have one serial
+abbrev pub one_serial : (A : Type 0) → Run A
+one_serial A = give ∷ (Give 0 1 first_ticket.range None, Given 1 first_ticket) ∷ []
+
+-- a ticket is taken that was taken by a take that was stopped, as the printer has told
+abbrev pub taken_though_old : (A : Type 0) → Run A
+taken_though_old A =
+    give ∷
+    (Take 1 0 (AfterLabels 0), Stopped) ∷
+    (RestartPrinter 1, Restarted) ∷
+    (Take 1 0 None, TakeRefused Old) ∷ (Take 1 0 None, Taken) ∷ []
+
 -- a ticket is taken by another printer than the one to which it was given
 abbrev pub taken_elsewhere : (A : Type 0) → Run A
 taken_elsewhere A = give ∷ (Take 2 0 None, Taken) ∷ []
 
 abbrev pub overlaps : (A : Type 0) → Run A
 overlaps A = give ∷ (Take 1 0 None, TakeRefused Overlap) ∷ []
+
+-- ---- exports
+
+abbrev pub import : {A : Type 0} → ℕ → Event A × Reply A
+import added = (Import 1 0 None, Imported (record { id = 0; n = 2; added = added; kind = New }))
+
+abbrev pub never_exported : (A : Type 0) → Run A
+never_exported A = import 1 ∷ []
+
+-- page 2 is imported from an export of page 1
+abbrev pub imported_another_page : (A : Type 0) → Run A
+imported_another_page A = (Export 0 0, Exported 0 0 2 1) ∷ import 2 ∷ []
+
+-- two exports have one number
+abbrev pub exported_twice : (A : Type 0) → Run A
+exported_twice A = (Export 0 0, Exported 0 0 2 1) ∷ (Export 0 0, Exported 0 0 2 1) ∷ []
 
 -- ---- the laws
 
@@ -152,6 +224,11 @@ pub record AreUnfaithful (A : Type 0) : Type 0 where
   pub half_printed_is : ¬ IsFaithfulRun (half_printed A)
   pub never_scanned_is : ¬ IsFaithfulRun (never_scanned A)
   pub two_documents_is : ¬ IsFaithfulRun (two_documents A)
+  pub shown_not_left_is : ¬ IsFaithfulRun (shown_not_left A)
+  pub shown_left_is : ¬ IsFaithfulRun (shown_left A)
+  pub begun_unscanned_is : ¬ IsFaithfulRun (begun_unscanned A)
+  pub exported_unscanned_is : ¬ IsFaithfulRun (exported_unscanned A)
+  pub printed_after_forgotten_is : ¬ IsFaithfulRun (printed_after_forgotten A)
   pub printed_twice_is : ¬ IsFaithfulRun (printed_twice A)
   pub printed_unseen_is : ¬ PrintsOnceRun unseen_labels (printed_unseen A)
   pub told_twice_is : ¬ IsFaithfulRun (told_twice A)
@@ -160,3 +237,8 @@ pub record AreUnfaithful (A : Type 0) : Type 0 where
   pub taken_twice_is : ¬ TakesOnceRun (taken_twice A)
   pub taken_elsewhere_is : ¬ TakesOnceRun (taken_elsewhere A)
   pub overlaps_is : ¬ TakesOnceRun (overlaps A)
+  pub one_serial_is : ¬ TakesOnceRun (one_serial A)
+  pub taken_though_old_is : ¬ TakesOnceRun (taken_though_old A)
+  pub never_exported_is : ¬ ImportsExportsRun (never_exported A)
+  pub imported_another_page_is : ¬ ImportsExportsRun (imported_another_page A)
+  pub exported_twice_is : ¬ ImportsExportsRun (exported_twice A)

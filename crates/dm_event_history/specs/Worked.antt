@@ -1,4 +1,4 @@
--- Three worked histories, and what the definitions say of them. A document of four digits is printed in two labels of
+-- Worked histories, and what the definitions say of them. A document of four digits is printed in two labels of
 -- side 12.
 use Rattle.std.specs.Prelude.{◌≡◌, ℕ, Bool, true, false, Some, None, List, [], ◌∷◌}
 use Rattle.dm_check_blocks.specs.declared.size.Size.TheVariants.{Side12}
@@ -6,14 +6,19 @@ use Rattle.dm_encodation.specs.declared.scheme.Scheme.TheVariants.{Ascii}
 use Rattle.dm_store.specs.declared.fuse.Kept.TheVariants as kept
 use Rattle.dm_print_ledger.specs.declared.range.Range.{Range}
 use Rattle.dm_print_ledger.specs.declared.fault.PrintFault.TheVariants as print_fault
+use Rattle.dm_print_ledger.specs.declared.fault.GiveFault.TheVariants as give_fault
 use Rattle.dm_print_ledger.specs.declared.fault.TakeFault.TheVariants as take_fault
 use Rattle.dm_print_ledger.specs.Views.{TicketView}
 use Rattle.dm_assembly_desk.specs.declared.reply.Kind.TheVariants.{New, Again, Complete}
+use Rattle.dm_assembly_desk.specs.declared.fault.ScanFault.TheVariants as scan_fault
+use Rattle.dm_assembly_desk.specs.declared.fault.AskFault.TheVariants as ask_fault
 use Rattle.dm_assembly_desk.specs.declared.fault.ForgetFault.TheVariants as forget_fault
+use Rattle.dm_assembly_desk.specs.declared.fault.ImportFault.TheVariants as import_fault
+use Rattle.dm_assembly_desk.specs.declared.fault.DeskFault.TheVariants as desk_fault
 use Rattle.dm_event_history.specs.declared.event.Event.{Event}
-use Rattle.dm_event_history.specs.declared.event.Event.TheVariants.{Print, Scan, RestartPrinter, Ask, Forget, Give, Take, Export, Import}
+use Rattle.dm_event_history.specs.declared.event.Event.TheVariants.{Print, Scan, RestartPrinter, RestartDesk, Ask, Forget, Give, Take, Export, Import}
 use Rattle.dm_event_history.specs.declared.reply.Reply.{Reply}
-use Rattle.dm_event_history.specs.declared.reply.Reply.TheVariants.{Printed, PrintRefused, Scanned, Document, ForgetRefused, Given, Taken, TakeRefused, Exported, Imported, Restarted, Stopped, Down, NoSuch}
+use Rattle.dm_event_history.specs.declared.reply.Reply.TheVariants.{Printed, PrintRefused, Scanned, ScanRefused, Document, AskRefused, ForgetRefused, Given, GiveRefused, Taken, TakeRefused, Exported, Imported, ImportRefused, Restarted, DeskRefused, Stopped, Down, NoSuch}
 use Rattle.dm_event_history.specs.declared.stop.Stop.{Stop}
 use Rattle.dm_event_history.specs.declared.stop.Stop.TheVariants as stops
 use Rattle.dm_event_history.specs.Actors.{PrinterAt, DeskAt}
@@ -21,7 +26,10 @@ use Rattle.dm_event_history.specs.History.{Entry, History, CutDocument, out, doc
 use Rattle.dm_event_history.specs.Running.{is_down, is_failed}
 use Rattle.dm_event_history.specs.Numbers.{gives, last_serial, opening_count, gone, came}
 use Rattle.dm_event_history.specs.Places.{FreeAt, OnTicket, Used, Lost, is_at}
+use Rattle.dm_event_history.specs.Saving.{may_save}
 use Rattle.dm_event_history.specs.Holding.{IsSurelyHeld, IsPossiblyHeld}
+use Rattle.dm_event_history.specs.Legal.{IsReply}
+use Rattle.dm_event_history.specs.Safe.{IsReplySafe}
 
 abbrev pub digits : List ℕ
 digits = 49 ∷ 50 ∷ 51 ∷ 52 ∷ []
@@ -166,3 +174,40 @@ pub record StoppedIs (A : Type 0) : Type 0 where
   pub failed : is_failed (save_failed A) (PrinterAt 0) ≡ true
   pub gone_by_a_fault : gone (save_failed A) 0 ≡ 1
   pub restarted : is_failed (told false (RestartPrinter 0) Restarted ∷ save_failed A) (PrinterAt 0) ≡ false
+
+-- ---- what is not so
+
+-- a save that meets a fault and leaves the old content
+abbrev pub faulty : Stop
+faulty = stops.SaveFault kept.Old
+
+-- a print and a give whose saves failed so
+abbrev pub kept_old : (A : Type 0) → History A
+kept_old A =
+    told false (Give 0 1 (range 0 1) faulty) (GiveRefused give_fault.Save) ∷
+    unprinted false faulty (PrintRefused print_fault.Save) ∷ []
+
+-- a ticket was given
+abbrev pub given_once : (A : Type 0) → History A
+given_once A = told true (Give 0 1 (range 5 9) stops.None) (Given 0 first_ticket) ∷ []
+
+pub record NotSo (A : Type 0) : Type 0 where
+  -- such a save takes no number away, and nothing was saved by it
+  pub gone_is : gone (kept_old A) 0 ≡ 0
+  pub not_given : gives (kept_old A) 0 ≡ 0
+  pub unsaved_print : may_save {A = A} (Print 0 digits Side12 Ascii faulty) (PrintRefused print_fault.Save) ≡ false
+  pub unsaved_give : may_save {A = A} (Give 0 1 (range 0 1) faulty) (GiveRefused give_fault.Save) ≡ false
+  pub unsaved_take : may_save {A = A} (Take 1 0 faulty) (TakeRefused take_fault.Save) ≡ false
+  pub unsaved_scan : may_save {A = A} (Scan 0 0 [] faulty) (ScanRefused scan_fault.Save) ≡ false
+  pub unsaved_forget : may_save {A = A} (Forget 0 0 faulty) (ForgetRefused forget_fault.Save) ≡ false
+  pub unsaved_import : may_save {A = A} (Import 0 0 faulty) (ImportRefused import_fault.Save) ≡ false
+  -- numbers come to the printer that takes the ticket alone
+  pub none_came : came (moved A) 0 ≡ 0
+  -- no take is refused for an overlap, no save without a fault, and no document as not held that surely is
+  pub no_overlap : ¬ IsReply two_ranges (moved A) 0 0 (Take 1 0 stops.None) (TakeRefused take_fault.Overlap)
+  pub no_fault : ¬ IsReply two_ranges (travelled A) 0 0 (Scan 0 0 [] stops.None) (ScanRefused scan_fault.Save)
+  pub held : ¬ IsReplySafe (travelled A) (Ask 1 0) (AskRefused ask_fault.NotHeld)
+  -- a ticket that was not taken is not refused as old
+  pub not_old : ¬ IsReply two_ranges (given_once A) 0 0 (Take 1 0 stops.None) (TakeRefused take_fault.Old)
+  -- a desk that is refused its restart is down
+  pub down : is_down (told false (RestartDesk 0) (DeskRefused desk_fault.Memory) ∷ travelled A) (DeskAt 0) ≡ true

@@ -1,10 +1,10 @@
 //! Laws of histories: each function's contract is the law. They speak of definitions alone, so the functions do
 //! nothing.
 
-ghost use Rattle.dm_event_history.specs.Laws.{EachNumberHasAPlace, FreeIsFresh, LegalPrintsOnce, LegalTakesOnce, NothingTwice};
+ghost use Rattle.dm_event_history.specs.Laws.{EachNumberHasAPlace, FreeIsFresh, LegalImportsExports, LegalPrintsOnce, LegalTakesOnce, NothingTwice};
 ghost use Rattle.dm_event_history.specs.Laws.{LabelsAreOpened, NoLabelTwice, TicketsAreElsewhere, SurelyIsPossibly, LegalAndSafeIsFaithful};
 ghost use Rattle.dm_event_history.specs.Unfaithful.{AreUnfaithful, IsOneFaithful};
-ghost use Rattle.dm_event_history.specs.Worked.{MovedIs, StoppedIs, TravelledIs};
+ghost use Rattle.dm_event_history.specs.Worked.{MovedIs, NotSo, StoppedIs, TravelledIs};
 
 use std::alloc::Allocator;
 
@@ -48,6 +48,11 @@ pub fn legal_takes_once<A: Allocator>()
     ensures { LegalTakesOnce A }
 {}
 
+/// In such a history what a desk tells of an import was exported before: said of the events and replies alone.
+pub fn legal_imports_exports<A: Allocator>()
+    ensures { LegalImportsExports A }
+{}
+
 /// The headline: in a legal and safe history of printers that begin with disjoint ranges, whatever document any desk
 /// gives for an identification is the one document printed under it, and no identification is ever printed twice.
 pub fn legal_and_safe_is_faithful<A: Allocator>()
@@ -60,6 +65,7 @@ pub fn worked_histories<A: Allocator>()
     ensures moved { MovedIs A }
     ensures travelled { TravelledIs A }
     ensures stopped { StoppedIs A }
+    ensures not_so { NotSo A }
 {}
 
 /// Runs of events and replies: one that is faithful, and those that are not, or whose tickets are not taken once, each

@@ -20,7 +20,7 @@ use Rattle.dm_event_steps.specs.declared.actor.DeskActor.{DeskActor}
 use Rattle.dm_event_steps.specs.Gathered.{IsGathered}
 use Rattle.dm_event_steps.specs.Stands.{IsLedgerOf, PrinterStands}
 use Rattle.dm_event_steps.specs.DeskStands.{DeskStands}
-use Rattle.dm_event_steps.specs.Worlds.{StandsFor}
+use Rattle.dm_event_steps.specs.StandsFor.{StandsFor}
 use Rattle.dm_event_steps.specs.Beginning.{IsFresh, IsEmptyDesk, AreFresh, AreEmpty}
 use Rattle.dm_event_steps.proofs.Gathering.{gathered_none}
 use Rattle.dm_event_steps.proofs.WorldGoing.{other_has}

@@ -147,6 +147,9 @@ export_goes {A} ranges capacities grids h d id capacity reply view state old new
         (sym x.reply_is) (
           goes tells (refl, record { index_is = index; id_is = x.id_is }) (λ y. cc) (λ y. cc) (λ y. cc) (λ y. cc) (λ i y. y) refl (λ b. refl)
               (λ g. record {
+                document = (parts_held h d id view.held x.pages g x.are_held).cut;
+                printed = (parts_held h d id view.held x.pages g x.are_held).printed;
+                n_is = x.count_is ∙ (parts_held h d id view.held x.pages g x.are_held).count;
                 possibly = λ m bit. g.possibly id m (subst (λ (o : Option (List ℕ)). IsSome o) (sym (page_is view.held id m x.pages x.are_held)) (named m bit));
                 surely = λ m is. subst (λ (k : ℕ). HasPage k m) (sym x.mask_is) (there_named x.pages m
                     (subst (λ (o : Option (List ℕ)). IsSome o) (page_is view.held id m x.pages x.are_held) (g.surely id m is)));

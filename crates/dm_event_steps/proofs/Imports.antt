@@ -41,7 +41,7 @@ use Rattle.dm_event_history.specs.Running.{failed_after, is_failed}
 use Rattle.dm_event_history.specs.Saving.{may_save}
 use Rattle.dm_event_history.specs.Masks.{HasPage}
 use Rattle.dm_event_history.specs.Holding.{Takes, Forgets}
-use Rattle.dm_event_history.specs.Legal.{IsImportRefused}
+use Rattle.dm_event_history.specs.Legal.{IsImportRefused, IsImported}
 use Rattle.dm_event_history.specs.Honest.{IsHonest, IsHonestlyNotImported, MayHoldOthers}
 use Rattle.dm_event_history.specs.Safe.{IsImportedSafe, IsImportKindSafe}
 use Rattle.dm_event_steps.specs.declared.actor.DeskState.{DeskState}
@@ -185,15 +185,25 @@ kind_safe h d held export grids s added Complete g short are says =
     subst (λ (o : Option (List ℕ)). IsSome o) (page_merged own s.pages m) (all_held (union_of own s.pages) says.1 m least (omega arith)) in
     g.possibly export.id m (either (page own m) (page s.pages m) some (λ x. none (are m ∙ x))))
 
+-- what the reply tells is of the export
+imported_is : {A : Type 0} (capacities : List ℕ) (grids : List GridView) (h : History A) (d number capacity : ℕ) (stop : Stop) (view : DeskView)
+    (export : LeftExport A) (i : imported_type.Imported) → (s : IsBrought capacities grids h d number capacity view export) →
+    NamesFile view.held export.id s.shows.pages i → (i.kind ≢ Again → stop ≡ stops.None) → IsImported h number stop i
+imported_is capacities grids h d number capacity stop view export i s names_are none = record {
+  no_stop = none;
+  name = export_name_of export;
+  there = s.named;
+  id_is = names_are.id_is;
+  n_is = names_are.n_is ∙ sym s.shows.count_is;
+  added = λ m named. has_page grids h export s.shows m (added_means view.held export.id s.shows.pages i.added m (names_are.names_are m) named).1;
+}
+
 imported_safe : {A : Type 0} (capacities : List ℕ) (grids : List GridView) (h : History A) (d number capacity : ℕ) (view : DeskView) (export : LeftExport A)
     (i : imported_type.Imported) → (s : IsBrought capacities grids h d number capacity view export) → IsGathered h d view.held →
     NamesFile view.held export.id s.shows.pages i → import_answer view.capacity view.held export.id s.shows.pages ≡ Ok i.kind → IsImportedSafe h d number i
 imported_safe capacities grids h d number capacity view export i s g names_are is = record {
   name = export_name_of export;
   there = s.named;
-  id_is = names_are.id_is;
-  n_is = names_are.n_is ∙ sym s.shows.count_is;
-  exported = λ m named. has_page grids h export s.shows m (added_means view.held export.id s.shows.pages i.added m (names_are.names_are m) named).1;
   not_surely = λ m named surely. some_none (page_at view.held export.id m) (g.surely export.id m surely)
       (added_means view.held export.id s.shows.pages i.added m (names_are.names_are m) named).0;
   possibly = λ m named none. g.possibly export.id m
@@ -254,7 +264,7 @@ again_goes {A} ranges capacities grids h d number capacity stop view mid export 
     desk_kept ranges capacities grids h event (Imported i) d capacity view (desk_planned mid next_save.Fine) s.room s.runs
     (ap (λ (v : DeskView). desk_planned v next_save.Fine) same ∙ fine_desk view (next_save_of stop) s.runs.store.ready)
     (call_told ranges (length capacities) h event (Imported i) d stop refl s.there s.runs.up called (λ x. x) (λ x. cc) (λ x. cc) (λ x. cc)
-    (refl, (λ other. absurd (other again))) (λ x. cc))
+    (refl, imported_is capacities grids h d number capacity stop view export i s names_are (λ other. absurd (other again))) (λ x. cc))
     refl refl
     (λ id m t. (at id m t, subst (λ (x : Documents). IsSome (page_at x id m)) (s.runs.shows was) (at id m t)))
     (λ id x. x)
@@ -276,7 +286,7 @@ took_goes {A} ranges capacities grids h d number capacity stop view mid export i
     (subst (λ (c : ℕ). finite.len (with_file view.held export.id s.shows.pages) ≤ c) s.runs.capacity_is
     (few_with view.capacity view.held export.id s.shows.pages i.kind order.few is))
     (call_told ranges (length capacities) h event (Imported i) d stop refl s.there s.runs.up called (λ x. x) (λ x. cc) (λ x. cc) (λ x. cc)
-    (refl, (λ _. none)) (λ x. cc))
+    (refl, imported_is capacities grids h d number capacity stop view export i s names_are (λ _. none)) (λ x. cc))
     refl refl
     (gathered_file capacities grids h d number capacity stop (Imported i) view export i.kind s is refl
     (takes_pages capacities grids h d number capacity stop i view export s) (λ id x. x))

@@ -1,5 +1,5 @@
 -- Gives and takes: each kind of answer gives an entry that fits the history.
-use Rattle.std.proofs.Common.{◌≡◌, inl, inr, ◌<◌, ℕ, true, false, Option, Some, Result, Ok, Err, List, [], length, slice_get, IfSome, refl, ap, sym, ◌∙◌, subst}
+use Rattle.std.proofs.Common.{◌≡◌, inl, inr, ◌<◌, ◌≤◌, ℕ, true, false, Option, Some, None, IsSomeAnd, Result, Ok, Err, List, [], length, slice_get, IfSome, refl, ap, sym, ◌∙◌, subst}
 use Rattle.std.proofs.lemmas.List.{append-nil}
 use Rattle.dm_store.specs.declared.fuse.Kept.{Kept}
 use Rattle.dm_store.specs.declared.fuse.Kept.TheVariants.{Old, New}
@@ -9,6 +9,7 @@ use Rattle.dm_print_ledger.specs.declared.fault.GiveFault.{GiveFault}
 use Rattle.dm_print_ledger.specs.declared.fault.GiveFault.TheVariants as give_fault
 use Rattle.dm_print_ledger.specs.declared.fault.TakeFault.{TakeFault}
 use Rattle.dm_print_ledger.specs.declared.fault.TakeFault.TheVariants as take_fault
+use Rattle.dm_print_ledger.specs.Givers.{last_taken}
 use Rattle.dm_print_ledger.specs.Ranges.{is_in}
 use Rattle.dm_print_ledger.specs.Saving.{FailsToSave}
 use Rattle.dm_print_ledger.specs.Views.{LedgerView, TicketView, PrinterView}
@@ -26,7 +27,7 @@ use Rattle.dm_event_history.specs.Running.{failed_after, is_failed}
 use Rattle.dm_event_history.specs.Saving.{may_save}
 use Rattle.dm_event_history.specs.Numbers.{free_at, gives}
 use Rattle.dm_event_history.specs.Places.{ArePlaced}
-use Rattle.dm_event_history.specs.Legal.{IsLegal, IsStopping, IsGiveRefused, IsTakeRefused, MayBeTaken}
+use Rattle.dm_event_history.specs.Legal.{IsLegal, IsStopping, IsGiveRefused, IsTakeRefused, IsOld, MayBeTaken}
 use Rattle.dm_event_history.proofs.WhoActs.{is_down_same, is_failed_same}
 use Rattle.dm_event_history.proofs.Fresh.{ticket_is_elsewhere}
 use Rattle.dm_event_steps.specs.declared.actor.PrinterActor.{PrinterActor}
@@ -239,6 +240,20 @@ may_be_taken ranges h p number ticket view s is was for new =
       above = subst (λ (o : Option ℕ). IfSome o (λ last. last < ticket.serial)) (now.givers ticket.giver) new;
     }
 
+-- a ticket whose serial is not new to the ledger is old
+is_old : {A : Type 0} (ranges : List Range) (h : History A) (p number : ℕ) (ticket : TicketView) (view : PrinterView) → IsLedgerOf ranges h p view.ledger →
+    slice_get (tickets h) number ≡ Some ticket → IsFor view.ledger.number ticket → (o : Option ℕ) → last_taken view.ledger.givers ticket.giver ≡ o →
+    IsSomeAnd o (λ last. ticket.serial ≤ last) → IsOld h p number
+is_old ranges h p number ticket view now is for (Some last) at reached = record {
+  ticket = ticket;
+  there = is;
+  is_for = for.0 ∙ now.number;
+  last = last;
+  last_is = sym (now.givers ticket.giver) ∙ at;
+  reached = reached;
+}
+is_old ranges h p number ticket view now is for None at reached = absurd reached
+
 -- a take at a running printer that isn't stopped
 take_called : {A : Type 0} (ranges : List Range) (desks : ℕ) (h : History A) (p number : ℕ) (ticket : TicketView) (stop : Stop)
     (view mid : PrinterView) (answer : Result (Unit {0}) TakeFault) (old new : Left A) → IsLegal ranges desks h → ArePlaced ranges h →
@@ -270,7 +285,7 @@ take_called {A} ranges desks h p number ticket stop view mid (Err fault) old new
   where
     none_taken : (f : TakeFault) → mid ≡ planned view (next_save_of stop) →
         (let r : Reply A = TakeRefused f in failed_after r (is_failed h (PrinterAt p)) ≡ is_failed h (PrinterAt p)) →
-        IsTakeRefused h p stop f →
+        IsTakeRefused h p number stop f →
         PrinterGoes ranges desks h (Take p number stop) (TakeRefused f) p (actors.Running (planned mid next_save.Fine)) old new
     none_taken f at failed why =
         refused_goes ranges desks h (Take p number stop) (TakeRefused f) p stop view mid old new refl (there, within) s at called (λ x. x)
@@ -323,7 +338,8 @@ take_called {A} ranges desks h p number ticket stop view mid (Err fault) old new
         PrinterGoes ranges desks h (Take p number stop) (TakeRefused f) p (actors.Running (planned mid next_save.Fine)) old new
     by_fault take_fault.Failed x = none_taken take_fault.Failed x.1 refl (sym s.failed ∙ x.0)
     by_fault take_fault.Receiver x = none_taken take_fault.Receiver x.1 refl tt
-    by_fault take_fault.Old x = none_taken take_fault.Old x.1 refl tt
+    by_fault take_fault.Old x = none_taken take_fault.Old x.1 refl
+        (is_old ranges h p number ticket view (ledger_now ranges h p view s x.0.0) is x.0.1 (last_taken view.ledger.givers ticket.giver) refl x.0.2)
     -- a number that is free here would be in two places
     by_fault take_fault.Overlap x =
         let m : MayBeTaken h p number = may_be_taken ranges h p number ticket view s is x.0.0 x.0.1 x.0.2 in

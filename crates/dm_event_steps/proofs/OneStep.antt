@@ -24,7 +24,8 @@ use Rattle.dm_event_steps.specs.Labels.{grid_of}
 use Rattle.dm_event_steps.specs.DeskStands.{DeskStands}
 use Rattle.dm_event_steps.specs.DeskActs.{DeskActs}
 use Rattle.dm_event_steps.specs.Goes.{quiet, DeskGoes, ExportsGo}
-use Rattle.dm_event_steps.specs.Worlds.{WorldView, left_of, grids_of, StandsFor, IsNamed, Steps}
+use Rattle.dm_event_steps.specs.Worlds.{WorldView, left_of, grids_of, IsNamed, Steps}
+use Rattle.dm_event_steps.specs.StandsFor.{StandsFor}
 use Rattle.dm_event_steps.proofs.PrinterGoing.{IsFine}
 use Rattle.dm_event_steps.proofs.Ledgers.{numbers_quiet}
 use Rattle.dm_event_steps.proofs.EachPrinter.{printer_goes}

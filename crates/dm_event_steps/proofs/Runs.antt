@@ -7,22 +7,25 @@ use Rattle.dm_print_ledger.specs.declared.range.Range.{Range}
 use Rattle.dm_event_history.specs.declared.event.Event.{Event}
 use Rattle.dm_event_history.specs.declared.event.Event.TheVariants.{Print, Scan, RestartPrinter, RestartDesk, Ask, Forget, Give, Take, Export, Import}
 use Rattle.dm_event_history.specs.declared.reply.Reply.{Reply}
-use Rattle.dm_event_history.specs.History.{Entry, History, out, names_from, events_of, replies_of}
+use Rattle.dm_event_history.specs.History.{Entry, History, CutDocument, out, names_from, events_of, replies_of}
 use Rattle.dm_event_history.specs.Legal.{IsLegal, IsThere, NeverTwice, IsNoLabelTwice}
 use Rattle.dm_event_history.specs.Honest.{IsFair, IsHonest}
 use Rattle.dm_event_history.specs.Headline.{PrintsOnceBy, IsFaithfulBy}
 use Rattle.dm_event_history.specs.Places.{AreOpened}
 use Rattle.dm_event_history.specs.Tickets.{TakesOnce}
+use Rattle.dm_event_history.specs.Imports.{ImportsExports}
 use Rattle.dm_event_history.proofs.Gotten.{get_beyond}
 use Rattle.std.proofs.lemmas.Option.{slice_get_within}
 use Rattle.dm_event_history.proofs.Fresh.{all_placed, never_twice}
 use Rattle.dm_event_history.proofs.LeftOnce.{labels_once, labels_opened}
-use Rattle.dm_event_history.proofs.Batches.{batches_of, out_is, prints_once}
+use Rattle.dm_event_history.proofs.Batches.{batches_of, out_is}
+use Rattle.dm_event_history.proofs.PrintsOnce.{prints_once}
+use Rattle.dm_event_history.proofs.ImportsExports.{imports_exports}
 use Rattle.dm_event_history.proofs.TakesOnce.{takes_once}
 use Rattle.dm_event_history.proofs.Faithful.{IsPrintedBy, printed_at, is_faithful}
-use Rattle.dm_event_history.proofs.Printed.{printed_cut}
-use Rattle.dm_event_steps.specs.Labels.{name_of, grid_of, ShowsDocument}
-use Rattle.dm_event_steps.specs.Worlds.{WorldView, left_of, grids_of, StandsFor, IsFairIn, Steps, Runs, RunsFairly, AreItsBatches, HasPrintedOnce, AreItsLabels, HasBeenFaithful}
+use Rattle.dm_event_steps.specs.Labels.{name_of, grid_of, IsPart, ShowsDocument}
+use Rattle.dm_event_steps.specs.Worlds.{WorldView, left_of, grids_of, IsFairIn, Steps, Runs, RunsFairly, AreItsBatches, HasPrintedOnce, AreItsLabels, HasBeenFaithful}
+use Rattle.dm_event_steps.specs.StandsFor.{StandsFor}
 use Rattle.dm_event_steps.proofs.EachPrinter.{printer_goes}
 use Rattle.dm_event_steps.proofs.WorldGoing.{grids_more}
 use Rattle.dm_event_steps.proofs.Stepping.{named_of, there_of}
@@ -162,21 +165,18 @@ fairly_on ranges capacities h old new (event ∷ events) [] s honest runs = absu
 
 -- the labels that left by a run are those of its batches, and show their documents
 its_batches : {A : Type 0} (ranges : List Range) (capacities : List ℕ) (world : WorldView A) (h : History A) → StandsFor ranges capacities world h →
-    AreItsBatches world (batches_of h) (events_of h) (replies_of h)
+    AreItsBatches world (batches_of h)
 its_batches {A} ranges capacities world h s = record {
   labels = out_is h ∙ sym s.left.names;
   shown = λ i label there.
       (let d : ShowsDocument h label = s.labels i label there in
       let p : IsPrintedBy h label.id d.document = printed_at ranges (length capacities) h label.id d.document s.legal d.printed in record {
-        j = p.j;
+        j = p.printed.j;
         batch = p.batch;
-        there = p.there;
-        id_is = p.id_is;
-        document = d.document;
-        printed = p.printed;
-        are_parts = printed_cut ranges (length capacities) h label.id d.document s.legal d.printed;
+        there = p.printed.there;
+        id_is = p.printed.id_is;
         bytes = d.bytes;
-        part = d.part;
+        part = subst (λ (c : CutDocument). IsPart c label.number d.bytes) (sym p.document_is) d.part;
         carries = d.carries;
       });
 }
@@ -190,9 +190,7 @@ run_once {A} ranges capacities old new events replies s runs =
     let never : NeverTwice r.after = never_twice ranges (length capacities) r.after r.stands.disjoint legal in (
       (
         batches_of r.after,
-        subst (λ (l : List (Event A)). AreItsBatches new (batches_of r.after) l replies) r.events_are
-            (subst (λ (l : List (Reply A)). AreItsBatches new (batches_of r.after) (events_of r.after) l) r.replies_are
-            (its_batches ranges capacities new r.after r.stands)),
+        its_batches ranges capacities new r.after r.stands,
         subst (λ (l : List (Event A)). PrintsOnceBy (batches_of r.after) l replies) r.events_are
             (subst (λ (l : List (Reply A)). PrintsOnceBy (batches_of r.after) (events_of r.after) l) r.replies_are
             (prints_once ranges (length capacities) r.after legal never)),
@@ -211,6 +209,15 @@ run_takes {A} ranges capacities old new events replies s runs =
     subst (λ (l : List (Event A)). TakesOnce l replies) r.events_are
     (subst (λ (l : List (Reply A)). TakesOnce (events_of r.after) l) r.replies_are (takes_once ranges (length capacities) r.after r.stands.legal))
 
+pub run_imports : {A : Type 0} (ranges : List Range) (capacities : List ℕ) (old new : WorldView A) (events : List (Event A)) (replies : List (Reply A)) →
+    StandsFor ranges capacities old [] → Runs old events replies new → ImportsExports events replies
+run_imports {A} ranges capacities old new events replies s runs =
+    let none : History A = [] in
+    let r : HasRun ranges capacities none events replies new = runs_on ranges capacities none old new events replies s runs in
+    subst (λ (l : List (Event A)). ImportsExports l replies) r.events_are
+    (subst (λ (l : List (Reply A)). ImportsExports (events_of r.after) l) r.replies_are
+    (imports_exports ranges (length capacities) r.after r.stands.legal))
+
 pub fair_run : {A : Type 0} (ranges : List Range) (capacities : List ℕ) (old new : WorldView A) (events : List (Event A)) (replies : List (Reply A)) →
     StandsFor ranges capacities old [] → RunsFairly old events replies new → HasBeenFaithful new events replies
 fair_run {A} ranges capacities old new events replies s runs =
@@ -219,9 +226,7 @@ fair_run {A} ranges capacities old new events replies s runs =
     let r : HasRun ranges capacities none events replies new = f.0 in
     let legal = r.stands.legal in (
       batches_of r.after,
-      subst (λ (l : List (Event A)). AreItsBatches new (batches_of r.after) l replies) r.events_are
-          (subst (λ (l : List (Reply A)). AreItsBatches new (batches_of r.after) (events_of r.after) l) r.replies_are
-          (its_batches ranges capacities new r.after r.stands)),
+      its_batches ranges capacities new r.after r.stands,
       subst (λ (l : List (Event A)). IsFaithfulBy (batches_of r.after) l replies) r.events_are
           (subst (λ (l : List (Reply A)). IsFaithfulBy (batches_of r.after) (events_of r.after) l) r.replies_are
           (is_faithful ranges (length capacities) r.after legal

@@ -26,7 +26,8 @@ use Rattle.dm_event_steps.specs.Exports.{export_name_of, ShowsPages}
 use Rattle.dm_event_steps.specs.Stands.{PrinterStands}
 use Rattle.dm_event_steps.specs.DeskStands.{DeskStands}
 use Rattle.dm_event_steps.specs.Goes.{PrinterGoes, quiet, DeskGoes, ExportsGo}
-use Rattle.dm_event_steps.specs.Worlds.{WorldView, left_of, grids_of, StandsFor, IsNamed}
+use Rattle.dm_event_steps.specs.Worlds.{WorldView, left_of, grids_of, IsNamed}
+use Rattle.dm_event_steps.specs.StandsFor.{StandsFor}
 use Rattle.dm_event_steps.proofs.Ledgers.{numbers_other}
 use Rattle.dm_event_steps.proofs.DeskGoing.{none_leaves}
 use Rattle.dm_event_steps.proofs.WorldGoing.{get_set_same, get_set_other, get_map, get_map_from, honest_before, quiet_other, printer_keeps, desk_keeps, takes_there, forgets_there, fresh_of, grids_more, goes_on}

@@ -34,7 +34,8 @@ use Rattle.dm_event_steps.specs.Labels.{name_of, grid_of, ShowsDocument}
 use Rattle.dm_event_steps.specs.Exports.{export_name_of, ShowsPages}
 use Rattle.dm_event_steps.specs.Stands.{PrinterStands}
 use Rattle.dm_event_steps.specs.DeskStands.{DeskStands}
-use Rattle.dm_event_steps.specs.Worlds.{WorldView, grids_of, StandsFor}
+use Rattle.dm_event_steps.specs.Worlds.{WorldView, grids_of}
+use Rattle.dm_event_steps.specs.StandsFor.{StandsFor}
 use Rattle.dm_event_steps.proofs.Ledgers.{KeepsNumbers, numbers_keep}
 use Rattle.dm_event_steps.proofs.Exports.{parts_keep}
 use Rattle.dm_event_steps.proofs.DeskGoing.{set_keeps, running_keeps}

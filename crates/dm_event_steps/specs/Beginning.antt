@@ -14,7 +14,7 @@ use Rattle.dm_event_steps.specs.declared.actor.DeskState.TheVariants as desks
 use Rattle.dm_event_steps.specs.declared.actor.DeskActor.{DeskActor}
 use Rattle.dm_event_steps.specs.Stands.{IsReady}
 use Rattle.dm_event_steps.specs.DeskStands.{IsReadySet}
-use Rattle.dm_event_steps.specs.Worlds.{StandsFor}
+use Rattle.dm_event_steps.specs.StandsFor.{StandsFor}
 
 -- a running printer of this number, with the ledger of a range of which nothing was used, over a store that holds it
 abbrev pub IsFresh : {A : Type 0} → ℕ → Range → PrinterActor A → Type 0

@@ -7,4 +7,5 @@ pub mod DeskActs
 pub mod Exports
 pub mod Goes
 pub mod Worlds
+pub mod StandsFor
 pub mod Beginning

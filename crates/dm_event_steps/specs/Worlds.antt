@@ -1,9 +1,8 @@
--- Worlds of printers and desks: which histories a world stands for, and what one step of it does.
+-- Worlds of printers and desks: what one step of a world does, what a run is, and which labels left by it.
 use Rattle.std.specs.Prelude.{◌≡◌, ◌⊎◌, ◌<◌, ℕ, Option, Some, List, [], ◌∷◌, length, map, slice_get, slice_set, All}
 use Rattle.dm_check_blocks.specs.Sizes.{side}
 use Rattle.dm_finder_frame.specs.Grids.{GridView}
 use Rattle.dm_append_label.specs.Labels.{Carries}
-use Rattle.dm_append_label.specs.Parts.{AreParts}
 use Rattle.dm_print_ledger.specs.declared.range.Range.{Range}
 use Rattle.dm_print_ledger.specs.Views.{TicketView}
 use Rattle.dm_event_history.specs.declared.event.Event.{Event}
@@ -11,25 +10,18 @@ use Rattle.dm_event_history.specs.declared.event.Event.TheVariants.{Print, Scan,
 use Rattle.dm_event_history.specs.declared.reply.Reply.{Reply}
 use Rattle.dm_event_history.specs.declared.reply.Reply.TheVariants.{NoSuch}
 use Rattle.dm_event_history.specs.Actors.{PrinterAt, DeskAt, actor_of}
-use Rattle.dm_event_history.specs.History.{Entry, History, CutDocument, exports}
-use Rattle.dm_event_history.specs.Legal.{AreDisjoint, IsLegal, IsNoLabelTwice}
-use Rattle.dm_event_history.specs.Honest.{IsFair, IsHonest, AreHonestReplies}
-use Rattle.dm_event_history.specs.Safe.{IsSafe}
-use Rattle.dm_event_history.specs.Headline.{Batch, LeftBy, labels_of, PrintsOnceBy, IsFaithfulBy}
+use Rattle.dm_event_history.specs.Legal.{IsNoLabelTwice}
+use Rattle.dm_event_history.specs.Honest.{IsFair}
+use Rattle.dm_event_history.specs.Headline.{Batch, labels_of, PrintsOnceBy, IsFaithfulBy}
 use Rattle.dm_event_history.specs.Places.{AreOpened}
-use Rattle.dm_event_history.specs.Tickets.{TakesOnce}
 use Rattle.dm_event_steps.specs.declared.actor.PrinterActor.{PrinterActor}
 use Rattle.dm_event_steps.specs.declared.actor.DeskActor.{DeskActor}
 use Rattle.dm_event_steps.specs.declared.actor.DeskState.{DeskState}
 use Rattle.dm_event_steps.specs.declared.actor.LeftLabel.{LeftLabel}
 use Rattle.dm_event_steps.specs.declared.actor.LeftExport.{LeftExport}
-use Rattle.dm_event_steps.specs.Labels.{name_of, grid_of, IsPart, ShowsDocument}
-use Rattle.dm_event_steps.specs.Exports.{export_name_of, ShowsPages}
-use Rattle.dm_event_steps.specs.Stands.{PrinterStands}
-use Rattle.dm_event_steps.specs.DeskStands.{DeskStands}
+use Rattle.dm_event_steps.specs.Labels.{name_of, grid_of, IsPart}
 use Rattle.dm_event_steps.specs.Acts.{Left, PrinterActs}
 use Rattle.dm_event_steps.specs.DeskActs.{DeskActs}
-use Rattle.dm_event_steps.specs.Goes.{AreOf}
 
 -- the printers and desks, and the labels, tickets and exports that left
 pub record WorldView (A : Type 0) : Type 0 where
@@ -44,31 +36,6 @@ left_of world = record { labels = world.labels; tickets = world.tickets }
 
 abbrev pub grids_of : {A : Type 0} → WorldView A → List GridView
 grids_of world = map grid_of world.labels
-
--- ---- which histories a world stands for
-
--- the world, whose printers began with these ranges and whose desks have room for that many documents each
-pub record StandsFor {A : Type 0} (ranges : List Range) (capacities : List ℕ) (world : WorldView A) (h : History A)
-    : Type 0 where
-  pub disjoint : AreDisjoint ranges
-  pub legal : IsLegal ranges (length capacities) h
-  -- in an honest history what desks answer is safe, and what is honest is refused for these reasons alone
-  pub safe : IsHonest (grids_of world) h → IsSafe h
-  pub answers : IsHonest (grids_of world) h → AreHonestReplies (grids_of world) capacities h
-  -- the labels, tickets and exports that left are the history's
-  pub left : AreOf h (left_of world)
-  pub labels : (i : ℕ) (label : LeftLabel A) → slice_get world.labels i ≡ Some label → ShowsDocument h label
-  pub export_names : map export_name_of world.exports ≡ exports h
-  pub exports : (i : ℕ) (export : LeftExport A) → slice_get world.exports i ≡ Some export →
-      ShowsPages (grids_of world) h export
-  -- each printer and each desk stands for its part
-  pub count : length world.printers ≡ length ranges
-  pub printers : (printer : ℕ) (actor : PrinterActor A) → slice_get world.printers printer ≡ Some actor →
-      PrinterStands ranges h printer actor
-  pub desk_count : length world.desks ≡ length capacities
-  pub desks : (desk capacity : ℕ) (actor : DeskActor A) →
-      slice_get capacities desk ≡ Some capacity → slice_get world.desks desk ≡ Some actor →
-      (actor.capacity ≡ capacity) × DeskStands (grids_of world) h desk capacity actor.state
 
 -- ---- steps
 
@@ -122,19 +89,11 @@ Steps old event reply new =
     ((reply ≡ NoSuch) × (new ≡ old) × (¬ IsNamed old event))
     ⊎ (PrinterSteps old event reply new ⊎ DeskSteps old event reply new)
 
--- ---- laws
+-- ---- runs
 
 -- what is asked of an event before it: if what it names is there, a scan's copy is near its label
 abbrev pub IsFairIn : {A : Type 0} → WorldView A → Event A → Type 0
 IsFairIn world event = IsNamed world event → IsFair (grids_of world) event
-
--- A world that stands for a history stands, after a step, for it with one entry more, of that event and that reply. If
--- the history was honest and the event is fair, the longer one is honest.
-abbrev pub EachStepStands : Type 0 → Type 0
-EachStepStands A = (ranges : List Range) (capacities : List ℕ) (h : History A) (old new : WorldView A)
-    (event : Event A) (reply : Reply A) → StandsFor ranges capacities old h → Steps old event reply new →
-    (entry : Entry A) × (entry.event ≡ event) × (entry.reply ≡ reply) × StandsFor ranges capacities new (entry ∷ h)
-    × (IsFairIn old event → IsHonest (grids_of old) h → IsHonest (grids_of new) (entry ∷ h))
 
 -- the world takes these events on, one after another, and replies so
 abbrev pub Runs : {A : Type 0} → WorldView A → List (Event A) → List (Reply A) → WorldView A → Type 0
@@ -144,49 +103,6 @@ Runs {A} old (event ∷ events) (reply ∷ replies) new =
 Runs old [] (reply ∷ replies) new = ⊥
 Runs old (event ∷ events) [] new = ⊥
 
--- the label carries its part of the document of its batch
-pub record ShowsBatch {A : Type 0} (batches : List (Option Batch)) (events : List (Event A)) (replies : List (Reply A))
-    (label : LeftLabel A) : Type 0 where
-  pub j : ℕ
-  pub batch : Batch
-  pub there : slice_get batches j ≡ Some (Some batch)
-  pub id_is : batch.id ≡ label.id
-  pub document : CutDocument
-  pub printed : LeftBy events replies j batch document.bytes
-  pub are_parts : AreParts document.size document.scheme document.bytes document.parts
-  pub bytes : List ℕ
-  pub part : IsPart document label.number bytes
-  pub carries : Carries (record { id = label.id; m = label.number; n = label.count; bytes = bytes }) label.grid
-
--- the labels of the batches are just those that left the world, and each of these carries a part of its document
-pub record AreItsBatches {A : Type 0} (world : WorldView A) (batches : List (Option Batch)) (events : List (Event A))
-    (replies : List (Reply A)) : Type 0 where
-  pub labels : labels_of batches ≡ map name_of world.labels
-  pub shown : (i : ℕ) (label : LeftLabel A) → slice_get world.labels i ≡ Some label →
-      ShowsBatch batches events replies label
-
--- no identification was printed twice, and just the world's labels left
-abbrev pub HasPrintedOnce : {A : Type 0} → WorldView A → List (Event A) → List (Reply A) → Type 0
-HasPrintedOnce world events replies =
-    (batches : List (Option Batch)) × AreItsBatches world batches events replies × PrintsOnceBy batches events replies
-
--- no label left the world twice, and each has an identification that a printer began with
-abbrev pub AreItsLabels : {A : Type 0} → List Range → WorldView A → Type 0
-AreItsLabels ranges world = IsNoLabelTwice (map name_of world.labels) × AreOpened ranges (map name_of world.labels)
-
--- a world that begins prints no identification twice, and lets no label out twice, whatever its events are
-abbrev pub EachRunPrintsOnce : Type 0 → Type 0
-EachRunPrintsOnce A = (ranges : List Range) (capacities : List ℕ) (old new : WorldView A)
-    (events : List (Event A)) (replies : List (Reply A)) →
-    StandsFor ranges capacities old [] → Runs old events replies new →
-    HasPrintedOnce new events replies × AreItsLabels ranges new
-
--- nor is a ticket taken twice in it
-abbrev pub EachRunTakesOnce : Type 0 → Type 0
-EachRunTakesOnce A = (ranges : List Range) (capacities : List ℕ) (old new : WorldView A)
-    (events : List (Event A)) (replies : List (Reply A)) →
-    StandsFor ranges capacities old [] → Runs old events replies new → TakesOnce events replies
-
 -- the world takes these events on, each of them fair, and replies so
 abbrev pub RunsFairly : {A : Type 0} → WorldView A → List (Event A) → List (Reply A) → WorldView A → Type 0
 RunsFairly old [] [] new = new ≡ old
@@ -195,13 +111,33 @@ RunsFairly {A} old (event ∷ events) (reply ∷ replies) new =
 RunsFairly old [] (reply ∷ replies) new = ⊥
 RunsFairly old (event ∷ events) [] new = ⊥
 
+-- ---- labels
+
+-- the label carries its part of the document of its batch
+pub record ShowsBatch {A : Type 0} (batches : List (Option Batch)) (label : LeftLabel A) : Type 0 where
+  pub j : ℕ
+  pub batch : Batch
+  pub there : slice_get batches j ≡ Some (Some batch)
+  pub id_is : batch.id ≡ label.id
+  pub bytes : List ℕ
+  pub part : IsPart batch.document label.number bytes
+  pub carries : Carries (record { id = label.id; m = label.number; n = label.count; bytes = bytes }) label.grid
+
+-- the labels of the batches are just those that left the world, and each of these carries its part of its document
+pub record AreItsBatches {A : Type 0} (world : WorldView A) (batches : List (Option Batch)) : Type 0 where
+  pub labels : labels_of batches ≡ map name_of world.labels
+  pub shown : (i : ℕ) (label : LeftLabel A) → slice_get world.labels i ≡ Some label → ShowsBatch batches label
+
+-- no identification was printed twice, and just the world's labels left
+abbrev pub HasPrintedOnce : {A : Type 0} → WorldView A → List (Event A) → List (Reply A) → Type 0
+HasPrintedOnce world events replies =
+    (batches : List (Option Batch)) × AreItsBatches world batches × PrintsOnceBy batches events replies
+
+-- no label left the world twice, and each has an identification that a printer began with
+abbrev pub AreItsLabels : {A : Type 0} → List Range → WorldView A → Type 0
+AreItsLabels ranges world = IsNoLabelTwice (map name_of world.labels) × AreOpened ranges (map name_of world.labels)
+
 -- the replies are faithful, and just the world's labels left
 abbrev pub HasBeenFaithful : {A : Type 0} → WorldView A → List (Event A) → List (Reply A) → Type 0
 HasBeenFaithful world events replies =
-    (batches : List (Option Batch)) × AreItsBatches world batches events replies × IsFaithfulBy batches events replies
-
--- the headline: a world that begins, and runs fairly, is faithful
-abbrev pub EachFairRunIsFaithful : Type 0 → Type 0
-EachFairRunIsFaithful A = (ranges : List Range) (capacities : List ℕ) (old new : WorldView A)
-    (events : List (Event A)) (replies : List (Reply A)) →
-    StandsFor ranges capacities old [] → RunsFairly old events replies new → HasBeenFaithful new events replies
+    (batches : List (Option Batch)) × AreItsBatches world batches × IsFaithfulBy batches events replies

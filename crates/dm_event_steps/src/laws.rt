@@ -2,7 +2,8 @@
 
 ghost use Rattle.dm_event_steps.specs.Beginning.{EachBeginningStands};
 ghost use Rattle.dm_event_steps.specs.Goes.{EachPrinterGoesOn};
-ghost use Rattle.dm_event_steps.specs.Worlds.{EachFairRunIsFaithful, EachRunPrintsOnce, EachRunTakesOnce, EachStepStands};
+ghost use Rattle.dm_event_steps.specs.StandsFor.{EachFairRunIsFaithful, EachRunImportsExports, EachRunPrintsOnce, EachRunTakesOnce};
+ghost use Rattle.dm_event_steps.specs.StandsFor.{EachStepStands};
 
 use std::alloc::Allocator;
 
@@ -34,6 +35,11 @@ pub fn each_run_prints_once<A: Allocator + Copy>()
 /// overlap, whatever its events are.
 pub fn each_run_takes_once<A: Allocator + Copy>()
     ensures { EachRunTakesOnce A }
+{}
+
+/// In such a world what a desk tells of an import was exported before, whatever its events are.
+pub fn each_run_imports_exports<A: Allocator + Copy>()
+    ensures { EachRunImportsExports A }
 {}
 
 /// The headline: whatever a world answers that begins with printers of disjoint ranges, whose scans are near the labels

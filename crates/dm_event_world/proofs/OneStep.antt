@@ -1,16 +1,16 @@
 -- One step of a world, from what one printer or one desk did.
-use Rattle.std.proofs.Common.{◌≡◌, ◌<◌, inl, inr, ℕ, Some, List, length, slice_get, slice_set, refl, ap, sym, ◌∙◌, subst}
+use Rattle.std.proofs.Common.{◌≡◌, inl, inr, ℕ, Some, List, slice_get, slice_set, refl, subst}
 use Rattle.dm_print_ledger.specs.Views.{TicketView}
 use Rattle.dm_event_history.specs.declared.event.Event.{Event}
 use Rattle.dm_event_history.specs.declared.reply.Reply.{Reply}
 use Rattle.dm_event_history.specs.declared.reply.Reply.TheVariants.{NoSuch}
-use Rattle.dm_event_history.specs.Actors.{Actor, PrinterAt, DeskAt, actor_of}
+use Rattle.dm_event_history.specs.Actors.{PrinterAt, DeskAt, actor_of}
 use Rattle.dm_event_steps.specs.declared.actor.PrinterActor.{PrinterActor}
 use Rattle.dm_event_steps.specs.declared.actor.DeskActor.{DeskActor}
 use Rattle.dm_event_steps.specs.declared.actor.DeskState.{DeskState}
 use Rattle.dm_event_steps.specs.declared.actor.LeftLabel.{LeftLabel}
 use Rattle.dm_event_steps.specs.declared.actor.LeftExport.{LeftExport}
-use Rattle.dm_event_steps.specs.Acts.{Left, PrinterActs}
+use Rattle.dm_event_steps.specs.Acts.{PrinterActs}
 use Rattle.dm_event_steps.specs.DeskActs.{DeskActs}
 use Rattle.dm_event_steps.specs.Worlds.{WorldView, IsNamed, Steps}
 use Rattle.dm_event_world.proofs.Ready.{same_set}

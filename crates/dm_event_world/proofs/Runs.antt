@@ -1,10 +1,9 @@
 -- Runs of worlds: one event more at their end, and the headline.
-use Rattle.std.proofs.Common.{◌≡◌, ◌↔◌, ℕ, true, List, [], ◌∷◌, ◌++◌, refl, sym, ◌∙◌, subst}
-use Rattle.dm_print_ledger.specs.declared.range.Range.{Range}
+use Rattle.std.proofs.Common.{List, [], ◌∷◌, ◌++◌, refl, subst}
 use Rattle.dm_event_history.specs.declared.event.Event.{Event}
 use Rattle.dm_event_history.specs.declared.reply.Reply.{Reply}
 use Rattle.dm_event_history.specs.History.{History}
-use Rattle.dm_event_steps.specs.Worlds.{WorldView, StandsFor, Steps, Runs, RunsFairly}
+use Rattle.dm_event_steps.specs.Worlds.{WorldView, Steps, Runs, RunsFairly}
 use Rattle.dm_event_world.specs.declared.answers.Answer.{Answer}
 use Rattle.dm_event_world.specs.declared.answers.Answer.TheVariants.{Given, NotGiven}
 use Rattle.dm_event_world.specs.Runs.{Continues, GoesOn, GoesOnByAll}

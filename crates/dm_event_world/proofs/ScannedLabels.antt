@@ -1,5 +1,5 @@
 -- Scans: which of them name what is there, and which are fair.
-use Rattle.std.proofs.Common.{◌≡◌, ◌↔◌, ◌<◌, ◌≤◌, ℕ, Bool, true, Some, Option, Result, Ok, Err, IfOk, OnErr, IsTrue, List, All, length, map, slice_get, refl, ap, sym, ◌∙◌, subst, arith}
+use Rattle.std.proofs.Common.{◌≡◌, ◌↔◌, ◌<◌, ◌≤◌, ℕ, Bool, true, Some, Result, Ok, Err, IfOk, OnErr, IsTrue, List, All, length, slice_get, ap, sym, ◌∙◌, subst, arith}
 use Rattle.std.specs.Prelude.{option_map}
 use Rattle.std.proofs.lemmas.Option.{slice_get-map, slice_get_within}
 use Rattle.dm_check_blocks.specs.Sizes.{side}
@@ -8,10 +8,9 @@ use Rattle.dm_symbol.specs.Symbols.{IsNear}
 use Rattle.dm_event_history.specs.declared.event.Event.{Event}
 use Rattle.dm_event_history.specs.declared.event.Event.TheVariants.{Scan}
 use Rattle.dm_event_history.specs.declared.stop.Stop.{Stop}
-use Rattle.dm_event_history.specs.Honest.{IsFair}
 use Rattle.dm_event_steps.specs.declared.actor.LeftLabel.{LeftLabel}
 use Rattle.dm_event_steps.specs.Labels.{grid_of}
-use Rattle.dm_event_steps.specs.Worlds.{WorldView, IsNamed, IsFairIn, grids_of}
+use Rattle.dm_event_steps.specs.Worlds.{WorldView, IsNamed, IsFairIn}
 use Rattle.dm_event_world.specs.Watched.{IsLookedAt}
 
 -- each module is in the grid

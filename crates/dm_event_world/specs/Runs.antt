@@ -5,7 +5,8 @@ use Rattle.dm_event_history.specs.declared.event.Event.{Event}
 use Rattle.dm_event_history.specs.declared.reply.Reply.{Reply}
 use Rattle.dm_event_history.specs.History.{Entry, History}
 use Rattle.dm_event_history.specs.Honest.{IsHonest}
-use Rattle.dm_event_steps.specs.Worlds.{WorldView, StandsFor, IsFairIn, grids_of}
+use Rattle.dm_event_steps.specs.Worlds.{WorldView, IsFairIn, grids_of}
+use Rattle.dm_event_steps.specs.StandsFor.{StandsFor}
 
 -- a history that the world stood for goes on with an entry of this event and this reply, and the world now stands for
 -- the longer one; if it was honest and the event is fair, that is honest

@@ -3,6 +3,7 @@
 ghost use Rattle.std.specs.Prelude.{◌≡◌, IfOk, IfErr, OnErr};
 ghost use Rattle.dm_event_history.specs.Headline.{PrintsOnce};
 ghost use Rattle.dm_event_history.specs.Tickets.{TakesOnce};
+ghost use Rattle.dm_event_history.specs.Imports.{ImportsExports};
 ghost use Rattle.dm_event_steps.specs.Worlds.{Runs};
 ghost use Rattle.dm_event_world.specs.Openings.{HasWorldFault};
 ghost use Rattle.dm_event_world.specs.Runs.{GoesOnByAll};
@@ -14,7 +15,9 @@ use crate::fault::WorldFault;
 use crate::steps::is_honest;
 use crate::world::World;
 use dm_event_history::{Event, Reply};
-use dm_event_steps::laws::{each_fair_run_is_faithful, each_run_prints_once, each_run_takes_once};
+use dm_event_steps::laws::{
+    each_fair_run_is_faithful, each_run_imports_exports, each_run_prints_once, each_run_takes_once,
+};
 use dm_print_ledger::Range;
 use std::alloc::{AllocError, Allocator};
 
@@ -80,6 +83,8 @@ pub fn watch<A: Allocator + Copy>(
     ensures once { IfOk result (λ answers. PrintsOnce (given events.now answers.items) (replies answers.items)) }
     // Nor was a ticket taken twice.
     ensures tickets { IfOk result (λ answers. TakesOnce (given events.now answers.items) (replies answers.items)) }
+    // And what a desk told of an import was exported before.
+    ensures exports { IfOk result (λ answers. ImportsExports (given events.now answers.items) (replies answers.items)) }
     ensures answers { IfOk result (λ answers. RunsFromTheStart ranges.now capacities.now events.now answers.items) }
     ensures refused { IfErr result (HasWorldFault ranges.now capacities.now) }
 {
@@ -89,6 +94,7 @@ pub fn watch<A: Allocator + Copy>(
     };
     each_run_prints_once::<A>();
     each_run_takes_once::<A>();
+    each_run_imports_exports::<A>();
     each_fair_run_is_faithful::<A>();
     match answer_all(alloc, &mut world, events) {
         Ok(answers) => Ok(answers),

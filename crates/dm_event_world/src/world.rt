@@ -1,7 +1,7 @@
 //! Worlds of printers and desks.
 
 ghost use Rattle.std.specs.Prelude.{◌≡◌, [], IfOk, IfErr, length, option_map, slice_get};
-ghost use Rattle.dm_event_steps.specs.Worlds.{StandsFor};
+ghost use Rattle.dm_event_steps.specs.StandsFor.{StandsFor};
 ghost use Rattle.dm_event_world.specs.Left.{label_name};
 ghost use Rattle.dm_event_world.specs.Openings.{Begins, HasWorldFault};
 

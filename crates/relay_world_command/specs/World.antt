@@ -4,6 +4,7 @@ use Rattle.std.specs.List.{flat_map}
 use Rattle.std.specs.Io.KnownBytes.{Appends}
 use Rattle.dm_event_history.specs.Headline.{PrintsOnce}
 use Rattle.dm_event_history.specs.Tickets.{TakesOnce}
+use Rattle.dm_event_history.specs.Imports.{ImportsExports}
 use Rattle.dm_event_world.specs.FaultNames.{world_fault_name}
 use Rattle.dm_event_world.specs.Openings.{HasWorldFault}
 use Rattle.dm_event_world.specs.Watched.{IsFaithfulIfHonest, RunsFromTheStart, given, replies}
@@ -35,8 +36,9 @@ TellsAnswers answers old new status =
     ⊎ ((new.has_failed ≡ true) × (status ≡ 1))
 
 -- How `world` ends: the input was read, it was a script, its world began and answered each event, and the line of each
--- answer was written. No identification was printed twice and no ticket taken twice, and if each event was found honest,
--- the answers are faithful. Or the first of these was not done, for a reason that stands; memory may be refused at any time.
+-- answer was written. No identification was printed twice, no ticket taken twice and nothing imported that was not
+-- exported, and if each event was found honest, the answers are faithful. Or the first of these was not done, for a reason
+-- that stands; memory may be refused at any time.
 pub data EndsWorld (A : Type 0) (input rest : InputView) (old : OutputView) : ℕ → OutputView → Type 0 where
   not_read : {status : ℕ} {new : OutputView} (fault : InputFault) → HasInputFault rest fault
       → TellsRefusal (input_fault_name fault) old new status → EndsWorld A input rest old status new
@@ -52,5 +54,6 @@ pub data EndsWorld (A : Type 0) (input rest : InputView) (old : OutputView) : �
       → RunsFromTheStart script.ranges.items script.capacities.items script.events.items answers
       → PrintsOnce (given script.events.items answers) (replies answers)
       → TakesOnce (given script.events.items answers) (replies answers)
+      → ImportsExports (given script.events.items answers) (replies answers)
       → IsFaithfulIfHonest script.events.items answers → TellsAnswers answers old new status
       → EndsWorld A input rest old status new

@@ -1,4 +1,5 @@
-use Rattle.dm_event_history.proofs.Batches.{batches_of, prints_once}
+use Rattle.dm_event_history.proofs.Batches.{batches_of}
+use Rattle.dm_event_history.proofs.PrintsOnce.{prints_once}
 use Rattle.dm_event_history.proofs.Fresh.{never_twice}
 use Rattle.dm_event_history.proofs.laws.legal_prints_once.Goals as goal
 

@@ -22,6 +22,12 @@ returns-in-Ok-answer_all-clause-tickets g c =
     (given c.args.events.now c.in-Ok-answer_all.answers.items) (replies c.in-Ok-answer_all.answers.items) c.in-Ok.ensures.stands
     (runs_by c.in-Ok.world c.answer_all.new.world c.args.events.now c.in-Ok-answer_all.answers.items c.in-Ok-answer_all.ensures)
 
+pub returns-in-Ok-answer_all-clause-exports : goal.returns-in-Ok-answer_all-clause-exports
+returns-in-Ok-answer_all-clause-exports g c =
+    c.each_run_imports_exports.ensures c.args.ranges.now c.args.capacities.now c.in-Ok.world c.answer_all.new.world
+    (given c.args.events.now c.in-Ok-answer_all.answers.items) (replies c.in-Ok-answer_all.answers.items) c.in-Ok.ensures.stands
+    (runs_by c.in-Ok.world c.answer_all.new.world c.args.events.now c.in-Ok-answer_all.answers.items c.in-Ok-answer_all.ensures)
+
 pub returns-in-Ok-answer_all-clause-answers : goal.returns-in-Ok-answer_all-clause-answers
 returns-in-Ok-answer_all-clause-answers g c =
     let once = c.each_run_prints_once.ensures c.args.ranges.now c.args.capacities.now c.in-Ok.world c.answer_all.new.world

@@ -1,4 +1,4 @@
-use Rattle.std.proofs.Common.{◌≡◌, ◌↔◌, ◌<◌, ℕ, Bool, true, IfOk, OnErr, List, length, refl, sym, subst, arith}
+use Rattle.std.proofs.Common.{◌≡◌, ◌↔◌, ◌<◌, true, IfOk, OnErr, length, refl, sym, subst, arith}
 use Rattle.dm_event_history.specs.declared.event.Event.{Event}
 use Rattle.dm_event_steps.specs.Worlds.{WorldView, IsFairIn}
 use Rattle.dm_event_world.specs.Watched.{IsLookedAt}

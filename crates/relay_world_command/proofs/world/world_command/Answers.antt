@@ -26,6 +26,7 @@ returns-in-Ok-watch-clause-ends g c =
     (rw c.deref.ensures.value at c.in-Ok-read_script.ensures)
     (rw (c.deref-2.ensures.value, c.deref-3.ensures.value, c.deref-4.ensures.value) at c.in-Ok-watch.ensures.answers)
     (rw c.deref-4.ensures.value at c.in-Ok-watch.ensures.once) (rw c.deref-4.ensures.value at c.in-Ok-watch.ensures.tickets)
+    (rw c.deref-4.ensures.value at c.in-Ok-watch.ensures.exports)
     (rw c.deref-4.ensures.value at c.in-Ok-watch.ensures.headline) (rw c.deref-in-Ok-watch.ensures.value at c.tell.ensures)
 
 pub returns-clause-ends : goal.returns-clause-ends

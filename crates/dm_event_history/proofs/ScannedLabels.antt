@@ -1,0 +1,153 @@
+-- A scan shows whether its label had left: one that is there had, and one that is not, although its desk is, had not.
+use Rattle.std.proofs.Common.{◌≡◌, ◌<◌, ◌≤◌, ◌⊎◌, inl, inr, ℕ, zero, suc, nat_lt, Option, Some, None, List, [], ◌∷◌, length, slice_get, take, refl, ap, sym, ◌∙◌, subst, arith}
+use Rattle.std.specs.Prelude.{◌≢◌}
+use Rattle.std.proofs.lemmas.Bool.Decides.{nat_tests}
+use Rattle.dm_print_ledger.specs.declared.range.Range.{Range}
+use Rattle.dm_event_history.specs.declared.stop.Stop.{Stop}
+use Rattle.dm_event_history.specs.declared.event.Event.{Event}
+use Rattle.dm_event_history.specs.declared.event.Event.TheVariants.{Print, Scan, RestartPrinter, RestartDesk, Ask, Forget, Give, Take, Export, Import}
+use Rattle.dm_event_history.specs.declared.reply.Reply.{Reply}
+use Rattle.dm_event_history.specs.declared.reply.Reply.TheVariants.{NoSuch}
+use Rattle.dm_event_history.specs.Actors.{DeskAt, actor_of}
+use Rattle.dm_event_history.specs.History.{Entry, History, CutDocument, LabelName, docs, out, events_of, replies_of}
+use Rattle.dm_event_history.specs.Legal.{HasModules, IsThere, IsLegal, Fits}
+use Rattle.dm_event_history.specs.Headline.{Batch, labels_of, IsDeskThere}
+use Rattle.dm_event_history.proofs.Batches.{batch_of, batches_of, events_count, replies_count, batches_count, before_or_last, take_keeps, out_is, label_in, unused_is_none, whole_before}
+use Rattle.dm_event_history.proofs.Deciding.{decided}
+use Rattle.dm_event_history.proofs.Gotten.{get_beyond}
+use Rattle.dm_event_history.proofs.Printed.{is_unused}
+use Rattle.dm_event_history.proofs.WhoActs.{desk_is}
+
+-- an event and its reply stand before the last ones, or are these
+pub asked_before_or_last : {A : Type 0} (h : History A) (e : Entry A) (i : ℕ) (event : Event A) (reply : Reply A) →
+    slice_get (events_of (e ∷ h)) i ≡ Some event → slice_get (replies_of (e ∷ h)) i ≡ Some reply →
+    ((i < length h) × (slice_get (events_of h) i ≡ Some event) × (slice_get (replies_of h) i ≡ Some reply))
+    ⊎ ((i ≡ length h) × (e.event ≡ event) × (e.reply ≡ reply))
+asked_before_or_last h e i event reply asked answered =
+    let all = events_count h in
+    let each = replies_count h in
+    elim (before_or_last (events_of h) e.event event (length h) i all asked) [
+      | inl before ↦ elim (before_or_last (replies_of h) e.reply reply (length h) i each answered) [
+        | inl told ↦ inl ((let below = get_beyond (events_of h) i event before in omega arith), before, told)
+        | inr last ↦ absurd (let below = get_beyond (events_of h) i event before in let at = last.0 in omega arith)
+      ]
+      | inr last ↦ elim (before_or_last (replies_of h) e.reply reply (length h) i each answered) [
+        | inl told ↦ absurd (let below = get_beyond (replies_of h) i reply told in let at = last.0 in omega arith)
+        | inr now ↦ inr (last.0, last.1, now.1)
+      ]
+    ]
+
+-- how many labels had left before event number i, which is not the last, or is
+left_before : {A : Type 0} (h : History A) (e : Entry A) (i : ℕ) → i < length h →
+    length (labels_of (take i (batches_of (e ∷ h)))) ≡ length (labels_of (take i (batches_of h)))
+left_before {A} h e i below =
+    let all = batches_count h in
+    ap (λ (l : List (Option Batch)). length (labels_of l)) (take_keeps (batches_of h) (batch_of e ∷ []) i (omega arith))
+
+left_at_last : {A : Type 0} (h : History A) (e : Entry A) → length (labels_of (take (length h) (batches_of (e ∷ h)))) ≡ length (out h)
+left_at_last h e = ap (λ (l : List (Option Batch)). length (labels_of l)) (whole_before h e) ∙ ap length (out_is h)
+
+-- ---- labels that are there
+
+-- a label that is scanned, and is there, had left
+pub there_had_left : {A : Type 0} (ranges : List Range) (desks : ℕ) (h : History A) (i desk label : ℕ) (flips : List (ℕ × ℕ)) (stop : Stop)
+    (reply : Reply A) → IsLegal ranges desks h → slice_get (events_of h) i ≡ Some (Scan desk label flips stop) →
+    slice_get (replies_of h) i ≡ Some reply → reply ≢ NoSuch → label < length (labels_of (take i (batches_of h)))
+there_had_left ranges desks [] i desk label flips stop reply legal asked answered is_such = absurd (cc (asked))
+there_had_left {A} ranges desks (e ∷ h) i desk label flips stop reply legal asked answered is_such =
+    elim (asked_before_or_last h e i (Scan desk label flips stop) reply asked answered) [
+      | inl before ↦
+          (let below = there_had_left ranges desks h i desk label flips stop reply legal.1 before.1 before.2 is_such in
+          let same = left_before h e i before.0 in omega arith)
+      | inr last ↦
+          (let fits : Fits ranges desks h e = legal.0 in
+          let there : IsThere (length ranges) desks h (Scan desk label flips stop) =
+          subst (λ (v : Event A). IsThere (length ranges) desks h v) last.1 (fits.there (λ none. is_such (sym last.2 ∙ none))) in
+          let below = get_beyond (out h) label there.1.name there.1.has_left in
+          let same = left_at_last h e in
+          subst (λ (k : ℕ). label < length (labels_of (take k (batches_of (e ∷ h))))) (sym last.0) (omega arith))
+    ]
+
+-- ---- labels that are not there
+
+-- what is there of an event at a desk is the desk, with all else
+desk_of : {A : Type 0} (printers desks : ℕ) (h : History A) (event : Event A) (desk : ℕ) → IsThere printers desks h event →
+    actor_of event ≡ DeskAt desk → desk < desks
+desk_of printers desks h (Print p document size scheme stop) desk there named = absurd (cc (named))
+desk_of printers desks h (Scan d label flips stop) desk there named =
+    (let same = desk_is d desk named in let below = there.0 in omega arith)
+desk_of printers desks h (RestartPrinter p) desk there named = absurd (cc (named))
+desk_of printers desks h (RestartDesk d) desk there named = (let same = desk_is d desk named in omega arith)
+desk_of printers desks h (Ask d id) desk there named = (let same = desk_is d desk named in omega arith)
+desk_of printers desks h (Forget d id stop) desk there named = (let same = desk_is d desk named in omega arith)
+desk_of printers desks h (Give p receiver range stop) desk there named = absurd (cc (named))
+desk_of printers desks h (Take p ticket stop) desk there named = absurd (cc (named))
+desk_of printers desks h (Export d id) desk there named = (let same = desk_is d desk named in omega arith)
+desk_of printers desks h (Import d export stop) desk there named =
+    (let same = desk_is d desk named in let below = there.0 in omega arith)
+
+-- a desk that a reply shows to be there is one of so many
+pub desk_within : {A : Type 0} (ranges : List Range) (desks : ℕ) (h : History A) (desk : ℕ) → IsLegal ranges desks h →
+    IsDeskThere (events_of h) (replies_of h) desk → desk < desks
+desk_within ranges desks [] desk legal t = absurd (let x = t.asked in cc (x))
+desk_within {A} ranges desks (e ∷ h) desk legal t = elim (asked_before_or_last h e t.i t.event t.reply t.asked t.answered) [
+  | inl before ↦ desk_within ranges desks h desk legal.1 (record {
+    i = t.i;
+    event = t.event;
+    asked = before.1;
+    of_desk = t.of_desk;
+    reply = t.reply;
+    answered = before.2;
+    is_such = t.is_such;
+  })
+  | inr last ↦
+      (let fits : Fits ranges desks h e = legal.0 in
+      desk_of (length ranges) desks h e.event desk (fits.there (λ none. t.is_such (sym last.2 ∙ none))) (ap actor_of last.1 ∙ t.of_desk))
+]
+
+get_below : {X : Type 0} (xs : List X) (i : ℕ) → i < length xs → (x : X) × (slice_get xs i ≡ Some x)
+get_below [] i below = absurd (omega arith)
+get_below (y ∷ ys) zero below = (y, refl)
+get_below (y ∷ ys) (suc i) below = get_below ys i (omega arith)
+
+-- a label that left is of a document that was printed
+had_document : {A : Type 0} (ranges : List Range) (desks : ℕ) (h : History A) (label : ℕ) (name : LabelName) → IsLegal ranges desks h →
+    slice_get (out h) label ≡ Some name → (document : CutDocument) × (docs h name.id ≡ Some document)
+had_document {A} ranges desks h label name legal left = by_docs (docs h name.id) refl
+  where
+    by_docs : (o : Option CutDocument) → docs h name.id ≡ o → (document : CutDocument) × (docs h name.id ≡ Some document)
+    by_docs (Some document) is = (document, is)
+    by_docs None is =
+        absurd (let own = label_in (batches_of h) label name (ap (λ (l : List LabelName). slice_get l label) (out_is h) ∙ left) in
+        unused_is_none h own.0 name.id own.1 (is_unused ranges desks h name.id legal is) own.2 (sym own.3))
+
+-- a label that is not there, although the desk is, had not left
+pub not_there_had_not : {A : Type 0} (ranges : List Range) (desks : ℕ) (h : History A) (i desk label : ℕ) (stop : Stop) → IsLegal ranges desks h →
+    desk < desks → slice_get (events_of h) i ≡ Some (Scan desk label [] stop) → slice_get (replies_of h) i ≡ Some NoSuch →
+    length (labels_of (take i (batches_of h))) ≤ label
+not_there_had_not ranges desks [] i desk label stop legal is_desk asked answered = absurd (cc (asked))
+not_there_had_not {A} ranges desks (e ∷ h) i desk label stop legal is_desk asked answered =
+    elim (asked_before_or_last h e i (Scan desk label [] stop) NoSuch asked answered) [
+      | inl before ↦
+          (let least = not_there_had_not ranges desks h i desk label stop legal.1 is_desk before.1 before.2 in
+          let same = left_before h e i before.0 in omega arith)
+      | inr last ↦
+          (let fits : Fits ranges desks h e = legal.0 in
+          let none : ¬ IsThere (length ranges) desks h (Scan desk label [] stop) =
+          subst (λ (v : Event A). ¬ IsThere (length ranges) desks h v) last.1 (fits.no_such last.2) in
+          let same = left_at_last h e in
+          let few : length (out h) ≤ label = had_not none in
+          subst (λ (k : ℕ). length (labels_of (take k (batches_of (e ∷ h)))) ≤ label) (sym last.0) (omega arith))
+    ]
+  where
+    is_left : label < length (out h) → HasModules h label []
+    is_left below =
+        let name = get_below (out h) label below in
+        let cut = had_document ranges desks h label name.0 legal.1 name.1 in
+        record { name = name.0; has_left = name.1; document = cut.0; printed = cut.1; within = λ k flip beyond. absurd (omega arith) }
+
+    had_not : ¬ IsThere (length ranges) desks h (Scan desk label [] stop) → length (out h) ≤ label
+    had_not none = elim (decided (nat_lt label (length (out h)))) [
+      | inl below ↦ absurd (none (is_desk, is_left (grind (arith, nat_tests, below))))
+      | inr beyond ↦ grind (arith, nat_tests, beyond)
+    ]

@@ -1,0 +1,79 @@
+-- Which histories a world stands for, and what follows of its runs.
+use Rattle.std.specs.Prelude.{◌≡◌, ℕ, Some, List, [], ◌∷◌, length, map, slice_get}
+use Rattle.dm_print_ledger.specs.declared.range.Range.{Range}
+use Rattle.dm_event_history.specs.declared.event.Event.{Event}
+use Rattle.dm_event_history.specs.declared.reply.Reply.{Reply}
+use Rattle.dm_event_history.specs.History.{Entry, History, exports}
+use Rattle.dm_event_history.specs.Legal.{AreDisjoint, IsLegal}
+use Rattle.dm_event_history.specs.Honest.{IsHonest, AreHonestReplies}
+use Rattle.dm_event_history.specs.Safe.{IsSafe}
+use Rattle.dm_event_history.specs.Tickets.{TakesOnce}
+use Rattle.dm_event_history.specs.Imports.{ImportsExports}
+use Rattle.dm_event_steps.specs.declared.actor.PrinterActor.{PrinterActor}
+use Rattle.dm_event_steps.specs.declared.actor.DeskActor.{DeskActor}
+use Rattle.dm_event_steps.specs.declared.actor.LeftLabel.{LeftLabel}
+use Rattle.dm_event_steps.specs.declared.actor.LeftExport.{LeftExport}
+use Rattle.dm_event_steps.specs.Labels.{ShowsDocument}
+use Rattle.dm_event_steps.specs.Exports.{export_name_of, ShowsPages}
+use Rattle.dm_event_steps.specs.Stands.{PrinterStands}
+use Rattle.dm_event_steps.specs.DeskStands.{DeskStands}
+use Rattle.dm_event_steps.specs.Goes.{AreOf}
+use Rattle.dm_event_steps.specs.Worlds.{WorldView, left_of, grids_of, IsFairIn, Steps, Runs, RunsFairly, HasPrintedOnce, AreItsLabels, HasBeenFaithful}
+
+-- the world, whose printers began with these ranges and whose desks have room for that many documents each
+pub record StandsFor {A : Type 0} (ranges : List Range) (capacities : List ℕ) (world : WorldView A) (h : History A)
+    : Type 0 where
+  pub disjoint : AreDisjoint ranges
+  pub legal : IsLegal ranges (length capacities) h
+  -- in an honest history what desks answer is safe, and what is honest is refused for these reasons alone
+  pub safe : IsHonest (grids_of world) h → IsSafe h
+  pub answers : IsHonest (grids_of world) h → AreHonestReplies (grids_of world) capacities h
+  -- the labels, tickets and exports that left are the history's
+  pub left : AreOf h (left_of world)
+  pub labels : (i : ℕ) (label : LeftLabel A) → slice_get world.labels i ≡ Some label → ShowsDocument h label
+  pub export_names : map export_name_of world.exports ≡ exports h
+  pub exports : (i : ℕ) (export : LeftExport A) → slice_get world.exports i ≡ Some export →
+      ShowsPages (grids_of world) h export
+  -- each printer and each desk stands for its part
+  pub count : length world.printers ≡ length ranges
+  pub printers : (printer : ℕ) (actor : PrinterActor A) → slice_get world.printers printer ≡ Some actor →
+      PrinterStands ranges h printer actor
+  pub desk_count : length world.desks ≡ length capacities
+  pub desks : (desk capacity : ℕ) (actor : DeskActor A) →
+      slice_get capacities desk ≡ Some capacity → slice_get world.desks desk ≡ Some actor →
+      (actor.capacity ≡ capacity) × DeskStands (grids_of world) h desk capacity actor.state
+
+-- ---- laws
+
+-- A world that stands for a history stands, after a step, for it with one entry more, of that event and that reply. If
+-- the history was honest and the event is fair, the longer one is honest.
+abbrev pub EachStepStands : Type 0 → Type 0
+EachStepStands A = (ranges : List Range) (capacities : List ℕ) (h : History A) (old new : WorldView A)
+    (event : Event A) (reply : Reply A) → StandsFor ranges capacities old h → Steps old event reply new →
+    (entry : Entry A) × (entry.event ≡ event) × (entry.reply ≡ reply) × StandsFor ranges capacities new (entry ∷ h)
+    × (IsFairIn old event → IsHonest (grids_of old) h → IsHonest (grids_of new) (entry ∷ h))
+
+-- a world that begins prints no identification twice, and lets no label out twice, whatever its events are
+abbrev pub EachRunPrintsOnce : Type 0 → Type 0
+EachRunPrintsOnce A = (ranges : List Range) (capacities : List ℕ) (old new : WorldView A)
+    (events : List (Event A)) (replies : List (Reply A)) →
+    StandsFor ranges capacities old [] → Runs old events replies new →
+    HasPrintedOnce new events replies × AreItsLabels ranges new
+
+-- nor is a ticket taken twice in it
+abbrev pub EachRunTakesOnce : Type 0 → Type 0
+EachRunTakesOnce A = (ranges : List Range) (capacities : List ℕ) (old new : WorldView A)
+    (events : List (Event A)) (replies : List (Reply A)) →
+    StandsFor ranges capacities old [] → Runs old events replies new → TakesOnce events replies
+
+-- and what is imported in it was exported
+abbrev pub EachRunImportsExports : Type 0 → Type 0
+EachRunImportsExports A = (ranges : List Range) (capacities : List ℕ) (old new : WorldView A)
+    (events : List (Event A)) (replies : List (Reply A)) →
+    StandsFor ranges capacities old [] → Runs old events replies new → ImportsExports events replies
+
+-- the headline: a world that begins, and runs fairly, is faithful
+abbrev pub EachFairRunIsFaithful : Type 0 → Type 0
+EachFairRunIsFaithful A = (ranges : List Range) (capacities : List ℕ) (old new : WorldView A)
+    (events : List (Event A)) (replies : List (Reply A)) →
+    StandsFor ranges capacities old [] → RunsFairly old events replies new → HasBeenFaithful new events replies
