@@ -29,10 +29,10 @@ def start(*words, output, **options):
     return subprocess.Popen([PROGRAM, *words], stdout=output, stderr=subprocess.DEVNULL, **options)
 
 
-def names_of_readme():
-    """The names of refusals that the table of README.md has."""
-    table = (TOP / "README.md").read_text().split("\n## Refusals\n")[1].split("\n## ")[0]
-    rows = [line.split("|")[1] for line in table.splitlines() if line.startswith("| `")]
+def names_of_refusals():
+    """The names of refusals that the tables of docs/REFUSALS.md have."""
+    tables = (TOP / "docs" / "REFUSALS.md").read_text()
+    rows = [line.split("|")[1] for line in tables.splitlines() if line.startswith("| `")]
     return {name for row in rows for name in re.findall(r"`(\w+)`", row)}
 
 
