@@ -1,18 +1,21 @@
 -- A legal and safe history is faithful: what its replies tell of documents and pages is so, by its events and replies alone.
 use Rattle.std.proofs.Common.{◌≡◌, ◌<◌, inl, inr, ℕ, Option, Some, List, [], ◌∷◌, ◌++◌, length, slice_get, zero, suc, ◌≤◌, take, refl, ap, sym, ◌∙◌, subst, arith}
+use Rattle.dm_finder_frame.specs.Grids.{GridView}
 use Rattle.dm_print_ledger.specs.declared.range.Range.{Range}
 use Rattle.dm_assembly_desk.specs.declared.fault.AskFault.TheVariants.{Incomplete}
+use Rattle.dm_assembly_desk.specs.declared.fault.ScanFault.TheVariants.{Conflict}
 use Rattle.dm_event_history.specs.declared.stop.Stop.{Stop}
 use Rattle.dm_event_history.specs.declared.event.Event.{Event}
 use Rattle.dm_event_history.specs.declared.event.Event.TheVariants.{Scan, Ask, Forget, Import, Export}
 use Rattle.dm_event_history.specs.declared.reply.Reply.{Reply}
-use Rattle.dm_event_history.specs.declared.reply.Reply.TheVariants.{Scanned, Document, AskRefused, Forgotten, Exported}
+use Rattle.dm_event_history.specs.declared.reply.Reply.TheVariants.{Scanned, ScanRefused, Document, AskRefused, Forgotten, Exported}
 use Rattle.dm_event_history.specs.History.{Entry, History, CutDocument, LabelName, ExportName, out, exports, exported, printed_by, prints_as, docs, events_of, replies_of}
 use Rattle.dm_event_history.specs.Legal.{IsLegal, IsReply, NeverTwice}
 use Rattle.dm_event_history.specs.Safe.{IsSafe, IsReplySafe, IsTrueDocument, IsTrulyMissing, IsExportSafe}
+use Rattle.dm_event_history.specs.Honest.{IsHonestReply, AreHonestReplies}
 use Rattle.dm_event_history.specs.Masks.{HasPage}
 use Rattle.dm_event_history.specs.Holding.{MayTake, IsPossiblyHeld}
-use Rattle.dm_event_history.specs.Headline.{Batch, count_of, labels_of, IsScanOf, WasScanned, LeftBefore, WasPrinted, WasBegun, PrintsOnceBy, IsFaithfulBy}
+use Rattle.dm_event_history.specs.Headline.{Batch, count_of, labels_of, IsScanOf, MayHaveSaved, WasScanned, LeftBefore, WasPrinted, WasBegun, PrintsOnceBy, IsFaithfulBy}
 use Rattle.dm_event_history.proofs.Batches.{all_of, cut_is, batch_of, batches_of, at_last, events_count, replies_count, batches_count, before_or_last, take_keeps, in_either, out_is, label_in, last_batch, whole_before}
 use Rattle.dm_event_history.proofs.PrintsOnce.{prints_once}
 use Rattle.dm_event_history.proofs.Deciding.{if_not, if_so, decided, true_false}
@@ -39,13 +42,25 @@ scan_more batches more events event i name within scan = record {
   had_left = ap (λ (l : List (Option Batch)). slice_get (labels_of l) scan.label) (take_keeps batches (more ∷ []) i within) ∙ scan.had_left;
 }
 
-scanned_more : {A : Type 0} (batches : List (Option Batch)) (more : Option Batch) (events : List (Event A)) (event : Event A) (i id m n : ℕ) →
-    i ≤ length batches → WasScanned batches events i id m n → WasScanned (batches ++ more ∷ []) (events ++ event ∷ []) i id m n
-scanned_more batches more events event i id m n within was =
+saved_more : {A : Type 0} (events : List (Event A)) (replies : List (Reply A)) (event : Event A) (reply : Reply A) (k : ℕ) →
+    MayHaveSaved events replies k → MayHaveSaved (events ++ event ∷ []) (replies ++ reply ∷ []) k
+saved_more events replies event reply k was = record {
+  event = was.event;
+  asked = get_more events (event ∷ []) k was.event was.asked;
+  reply = was.reply;
+  answered = get_more replies (reply ∷ []) k was.reply was.answered;
+  saves = was.saves;
+}
+
+scanned_more : {A : Type 0} (batches : List (Option Batch)) (more : Option Batch) (events : List (Event A)) (replies : List (Reply A)) (event : Event A)
+    (reply : Reply A) (i id m n : ℕ) → i ≤ length batches → WasScanned batches events replies i id m n →
+    WasScanned (batches ++ more ∷ []) (events ++ event ∷ []) (replies ++ reply ∷ []) i id m n
+scanned_more batches more events replies event reply i id m n within was =
     let before : was.k < i = was.before in record {
       k = was.k;
       before = was.before;
       scan = scan_more batches more events event was.k (record { id = id; number = m; count = n }) (omega arith) was.scan;
+      saved = saved_more events replies event reply was.k was.saved;
     }
 
 before_more : (batches : List (Option Batch)) (more : Option Batch) (i id : ℕ) (batch : Batch) → LeftBefore batches i id batch →
@@ -57,24 +72,28 @@ before_more batches more i id batch was = record {
   id_is = was.id_is;
 }
 
-printed_more : {A : Type 0} (batches : List (Option Batch)) (more : Option Batch) (events : List (Event A)) (event : Event A) (i id : ℕ)
-    (bytes : List ℕ) → i ≤ length batches → WasPrinted batches events i id bytes → WasPrinted (batches ++ more ∷ []) (events ++ event ∷ []) i id bytes
-printed_more batches more events event i id bytes within was = record {
+printed_more : {A : Type 0} (batches : List (Option Batch)) (more : Option Batch) (events : List (Event A)) (replies : List (Reply A)) (event : Event A)
+    (reply : Reply A) (i id : ℕ) (bytes : List ℕ) → i ≤ length batches → WasPrinted batches events replies i id bytes →
+    WasPrinted (batches ++ more ∷ []) (events ++ event ∷ []) (replies ++ reply ∷ []) i id bytes
+printed_more batches more events replies event reply i id bytes within was = record {
   batch = was.batch;
   printed = before_more batches more i id was.batch was.printed;
   bytes_are = was.bytes_are;
-  scanned = λ m first last. scanned_more batches more events event i id m (count_of was.batch) within (was.scanned m first last);
+  scanned = λ m first last.
+      scanned_more batches more events replies event reply i id m (count_of was.batch) within (was.scanned m first last);
 }
 
-begun_more : {A : Type 0} (batches : List (Option Batch)) (more : Option Batch) (events : List (Event A)) (event : Event A) (i id missing : ℕ) →
-    i ≤ length batches → WasBegun batches events i id missing → WasBegun (batches ++ more ∷ []) (events ++ event ∷ []) i id missing
-begun_more batches more events event i id missing within was = record {
+begun_more : {A : Type 0} (batches : List (Option Batch)) (more : Option Batch) (events : List (Event A)) (replies : List (Reply A)) (event : Event A)
+    (reply : Reply A) (i id missing : ℕ) → i ≤ length batches → WasBegun batches events replies i id missing →
+    WasBegun (batches ++ more ∷ []) (events ++ event ∷ []) (replies ++ reply ∷ []) i id missing
+begun_more batches more events replies event reply i id missing within was = record {
   batch = was.batch;
   printed = before_more batches more i id was.batch was.printed;
   some_missing = was.some_missing;
   not_all = was.not_all;
   nothing_else = was.nothing_else;
-  scanned = λ m first last held. scanned_more batches more events event i id m (count_of was.batch) within (was.scanned m first last held);
+  scanned = λ m first last held.
+      scanned_more batches more events replies event reply i id m (count_of was.batch) within (was.scanned m first last held);
 }
 
 -- a scan of what had left, as the last event
@@ -101,6 +120,7 @@ record Scans {A : Type 0} (h : History A) (id m : ℕ) : Type 0 where
   pub k : ℕ
   pub before : k < length h
   pub scan : IsScanOf (batches_of h) (events_of h) k name
+  pub saved : MayHaveSaved (events_of h) (replies_of h) k
 
 scans_more : {A : Type 0} (h : History A) (e : Entry A) (id m : ℕ) → Scans h id m → Scans (e ∷ h) id m
 scans_more h e id m scans =
@@ -112,6 +132,7 @@ scans_more h e id m scans =
       k = scans.k;
       before = omega arith;
       scan = scan_more (batches_of h) (batch_of e) (events_of h) e.event scans.k scans.name (omega arith) scans.scan;
+      saved = saved_more (events_of h) (replies_of h) e.event e.reply scans.k scans.saved;
     }
 
 -- each page that a desk may hold, and each that was exported, was scanned
@@ -150,6 +171,13 @@ held_next {A} ranges h e fine safe was = record {
       k = length h;
       before = omega arith;
       scan = last_scan h e d label flips stop may.2.0 is may.2.1;
+      saved = record {
+        event = Scan d label flips stop;
+        asked = at_last (events_of h) e.event (length h) (events_count h) ∙ ap (λ (v : Event A). Some v) is;
+        reply = e.reply;
+        answered = at_last (replies_of h) e.reply (length h) (replies_count h);
+        saves = may.1;
+      };
     }
     takes (Import d export stop) is desk id m may =
         subst (λ (i : ℕ). Scans (e ∷ h) i m) may.2.2 (scans_more h e may.2.0.id m (was.exported export may.2.0 m may.2.1 may.2.3))
@@ -204,7 +232,7 @@ printed_at {A} ranges desks (e ∷ h) id cut legal had = elim (decided (prints_a
 
 -- the page of a label that was scanned is one of the batch under its identification
 scan_of : {A : Type 0} (h : History A) (id m n : ℕ) (batch : Batch) → PrintsOnceBy (batches_of h) (events_of h) (replies_of h) →
-    LeftBefore (batches_of h) (length h) id batch → n ≡ count_of batch → Scans h id m → WasScanned (batches_of h) (events_of h) (length h) id m n
+    LeftBefore (batches_of h) (length h) id batch → n ≡ count_of batch → Scans h id m → WasScanned (batches_of h) (events_of h) (replies_of h) (length h) id m n
 scan_of {A} h id m n batch once left n_is t = record {
   k = t.k;
   before = t.before;
@@ -212,6 +240,7 @@ scan_of {A} h id m n batch once left n_is t = record {
       (ap (λ (k : ℕ). record { id = k; number = t.name.number; count = t.name.count }) t.id_is ∙
       ap (λ (k : ℕ). record { id = id; number = k; count = t.name.count }) t.number_is ∙
       ap (λ (k : ℕ). record { id = id; number = m; count = k }) (counted ∙ sym n_is)) t.scan;
+  saved = t.saved;
 }
   where
     counted : t.name.count ≡ count_of batch
@@ -229,7 +258,7 @@ count_is h id cut p = ap (λ (c : CutDocument). length c.parts) p.document_is
 -- a document that may be held whole was printed, and all its labels were scanned
 true_document : {A : Type 0} (ranges : List Range) (desks : ℕ) (h : History A) (desk id : ℕ) (bytes : List ℕ) → IsLegal ranges desks h → IsSafe h →
     PrintsOnceBy (batches_of h) (events_of h) (replies_of h) → IsTrueDocument h desk id bytes →
-    WasPrinted (batches_of h) (events_of h) (length h) id bytes
+    WasPrinted (batches_of h) (events_of h) (replies_of h) (length h) id bytes
 true_document {A} ranges desks h desk id bytes legal safe once s =
     let p : IsPrintedBy h id s.document = printed_at ranges desks h id s.document legal s.printed in
     let n_is = count_is h id s.document p in record {
@@ -243,7 +272,7 @@ true_document {A} ranges desks h desk id bytes legal safe once s =
 -- a document that lacks pages was printed, and the labels of the other pages were scanned
 truly_missing : {A : Type 0} (ranges : List Range) (desks : ℕ) (h : History A) (desk id missing : ℕ) → IsLegal ranges desks h → IsSafe h →
     PrintsOnceBy (batches_of h) (events_of h) (replies_of h) → IsTrulyMissing h desk id missing →
-    WasBegun (batches_of h) (events_of h) (length h) id missing
+    WasBegun (batches_of h) (events_of h) (replies_of h) (length h) id missing
 truly_missing {A} ranges desks h desk id missing legal safe once s =
     let p : IsPrintedBy h id s.document = printed_at ranges desks h id s.document legal s.printed in
     let n_is = count_is h id s.document p in record {
@@ -259,64 +288,71 @@ truly_missing {A} ranges desks h desk id missing legal safe once s =
 -- the pages of an export are of a document that was printed, and their labels were scanned
 pages_scanned : {A : Type 0} (ranges : List Range) (desks : ℕ) (h : History A) (desk id n mask : ℕ) → IsLegal ranges desks h → IsSafe h →
     PrintsOnceBy (batches_of h) (events_of h) (replies_of h) → IsExportSafe h desk id n mask →
-    (m : ℕ) → HasPage mask m → WasScanned (batches_of h) (events_of h) (length h) id m n
+    (m : ℕ) → HasPage mask m → WasScanned (batches_of h) (events_of h) (replies_of h) (length h) id m n
 pages_scanned {A} ranges desks h desk id n mask legal safe once s m named =
     let p : IsPrintedBy h id s.document = printed_at ranges desks h id s.document legal s.printed in
     scan_of h id m n p.batch once p.printed (s.n_is ∙ sym (count_is h id s.document p))
     ((held_scanned ranges desks h legal safe).held desk id m (s.possibly m named))
 
 -- what is forgotten was begun
-page_scanned : {A : Type 0} (h : History A) (id m : ℕ) → (t : Scans h id m) → WasScanned (batches_of h) (events_of h) (length h) id m t.name.count
+page_scanned : {A : Type 0} (h : History A) (id m : ℕ) → (t : Scans h id m) → WasScanned (batches_of h) (events_of h) (replies_of h) (length h) id m t.name.count
 page_scanned {A} h id m t = record {
   k = t.k;
   before = t.before;
   scan = subst (λ (name : LabelName). IsScanOf (batches_of h) (events_of h) t.k name)
       (ap (λ (k : ℕ). record { id = k; number = t.name.number; count = t.name.count }) t.id_is ∙
       ap (λ (k : ℕ). record { id = id; number = k; count = t.name.count }) t.number_is) t.scan;
+  saved = t.saved;
 }
 
 -- ---- the headline
 
 -- what is so of this reply, to event number i
-abbrev Tells : {A : Type 0} → List (Option Batch) → List (Event A) → ℕ → Reply A → Type 0
-Tells batches events i (Scanned accepted) = IsScanOf batches events i (record { id = accepted.id; number = accepted.m; count = accepted.n })
-Tells batches events i (Document bytes) = (desk id : ℕ) × (slice_get events i ≡ Some (Ask desk id)) × WasPrinted batches events i id bytes
-Tells batches events i (AskRefused (Incomplete missing)) =
-    (desk id : ℕ) × (slice_get events i ≡ Some (Ask desk id)) × WasBegun batches events i id missing
-Tells batches events i Forgotten =
-    (desk id : ℕ) × (stop : Stop) × (slice_get events i ≡ Some (Forget desk id stop)) × (m n : ℕ) × WasScanned batches events i id m n
-Tells batches events i (Exported index id n mask) =
-    (desk : ℕ) × (slice_get events i ≡ Some (Export desk id)) × ((m : ℕ) → HasPage mask m → WasScanned batches events i id m n)
-Tells batches events i reply = Unit {0}
+abbrev Tells : {A : Type 0} → List (Option Batch) → List (Event A) → List (Reply A) → ℕ → Reply A → Type 0
+Tells batches events replies i (Scanned accepted) =
+    IsScanOf batches events i (record { id = accepted.id; number = accepted.m; count = accepted.n })
+Tells batches events replies i (Document bytes) =
+    (desk id : ℕ) × (slice_get events i ≡ Some (Ask desk id)) × WasPrinted batches events replies i id bytes
+Tells batches events replies i (AskRefused (Incomplete missing)) =
+    (desk id : ℕ) × (slice_get events i ≡ Some (Ask desk id)) × WasBegun batches events replies i id missing
+Tells batches events replies i Forgotten =
+    (desk id : ℕ) × (stop : Stop) × (slice_get events i ≡ Some (Forget desk id stop)) × (m n : ℕ) × WasScanned batches events replies i id m n
+Tells batches events replies i (Exported index id n mask) =
+    (desk : ℕ) × (slice_get events i ≡ Some (Export desk id)) × ((m : ℕ) → HasPage mask m → WasScanned batches events replies i id m n)
+Tells batches events replies i (ScanRefused Conflict) = ⊥
+Tells batches events replies i reply = Unit {0}
 
-tells_more : {A : Type 0} (batches : List (Option Batch)) (more : Option Batch) (events : List (Event A)) (event : Event A) (i : ℕ) (reply : Reply A) →
-    i ≤ length batches → Tells batches events i reply → Tells (batches ++ more ∷ []) (events ++ event ∷ []) i reply
-tells_more batches more events event i (Scanned accepted) within t =
+tells_more : {A : Type 0} (batches : List (Option Batch)) (more : Option Batch) (events : List (Event A)) (replies : List (Reply A)) (event : Event A)
+    (answer : Reply A) (i : ℕ) (reply : Reply A) → i ≤ length batches → Tells batches events replies i reply →
+    Tells (batches ++ more ∷ []) (events ++ event ∷ []) (replies ++ answer ∷ []) i reply
+tells_more batches more events replies event answer i (Scanned accepted) within t =
     scan_more batches more events event i (record { id = accepted.id; number = accepted.m; count = accepted.n }) within t
-tells_more batches more events event i (Document bytes) within t =
-    (t.0, t.1, get_more events (event ∷ []) i (Ask t.0 t.1) t.2, printed_more batches more events event i t.1 bytes within t.3)
-tells_more batches more events event i (AskRefused (Incomplete missing)) within t =
-    (t.0, t.1, get_more events (event ∷ []) i (Ask t.0 t.1) t.2, begun_more batches more events event i t.1 missing within t.3)
-tells_more batches more events event i Forgotten within t = (
+tells_more batches more events replies event answer i (Document bytes) within t =
+    (t.0, t.1, get_more events (event ∷ []) i (Ask t.0 t.1) t.2, printed_more batches more events replies event answer i t.1 bytes within t.3)
+tells_more batches more events replies event answer i (AskRefused (Incomplete missing)) within t =
+    (t.0, t.1, get_more events (event ∷ []) i (Ask t.0 t.1) t.2, begun_more batches more events replies event answer i t.1 missing within t.3)
+tells_more batches more events replies event answer i Forgotten within t = (
   t.0,
   t.1,
   t.2,
   get_more events (event ∷ []) i (Forget t.0 t.1 t.2) t.3,
   t.4,
   t.5,
-  scanned_more batches more events event i t.1 t.4 t.5 within t.6,
+  scanned_more batches more events replies event answer i t.1 t.4 t.5 within t.6,
 )
-tells_more batches more events event i (Exported index id n mask) within t = (
+tells_more batches more events replies event answer i (Exported index id n mask) within t = (
   t.0,
   get_more events (event ∷ []) i (Export t.0 id) t.1,
-  λ m named. scanned_more batches more events event i id m n within (t.2 m named),
+  λ m named. scanned_more batches more events replies event answer i id m n within (t.2 m named),
 )
-tells_more batches more events event i reply within t = tt
+tells_more batches more events replies event answer i (ScanRefused Conflict) within t = absurd t
+tells_more batches more events replies event answer i reply within t = tt
 
 -- so it is of the last reply
-tells_last : {A : Type 0} (ranges : List Range) (desks : ℕ) (h : History A) (e : Entry A) → IsLegal ranges desks (e ∷ h) → IsSafe (e ∷ h) →
-    PrintsOnceBy (batches_of h) (events_of h) (replies_of h) → Tells (batches_of (e ∷ h)) (events_of (e ∷ h)) (length h) e.reply
-tells_last {A} ranges desks h e legal safe once = by_reply e.event e.reply refl legal.0.reply safe.0
+tells_last : {A : Type 0} (ranges : List Range) (desks : ℕ) (h : History A) (e : Entry A) (grids : List GridView) (capacities : List ℕ) →
+    IsLegal ranges desks (e ∷ h) → IsSafe (e ∷ h) → IsHonestReply grids capacities h e.event e.reply →
+    PrintsOnceBy (batches_of h) (events_of h) (replies_of h) → Tells (batches_of (e ∷ h)) (events_of (e ∷ h)) (replies_of (e ∷ h)) (length h) e.reply
+tells_last {A} ranges desks h e grids capacities legal safe honest once = by_reply e.event e.reply refl legal.0.reply safe.0 honest
   where
     within : length h ≤ length (batches_of h)
     within = (let all = batches_count h in omega arith)
@@ -324,32 +360,29 @@ tells_last {A} ranges desks h e legal safe once = by_reply e.event e.reply refl 
     asked : (event : Event A) → e.event ≡ event → slice_get (events_of (e ∷ h)) (length h) ≡ Some event
     asked event is = at_last (events_of h) e.event (length h) (events_count h) ∙ ap (λ (v : Event A). Some v) is
 
-    on : (reply : Reply A) → Tells (batches_of h) (events_of h) (length h) reply → Tells (batches_of (e ∷ h)) (events_of (e ∷ h)) (length h) reply
-    on reply t = tells_more (batches_of h) (batch_of e) (events_of h) e.event (length h) reply within t
-
     by_reply : (event : Event A) (reply : Reply A) → e.event ≡ event → IsReply ranges h e.id e.left event reply → IsReplySafe h event reply →
-        Tells (batches_of (e ∷ h)) (events_of (e ∷ h)) (length h) reply
-    by_reply (Scan desk label flips stop) (Scanned accepted) is fine s =
+        IsHonestReply grids capacities h event reply → Tells (batches_of (e ∷ h)) (events_of (e ∷ h)) (replies_of (e ∷ h)) (length h) reply
+    by_reply (Scan desk label flips stop) (Scanned accepted) is fine s honest =
         subst (λ (name : LabelName). IsScanOf (batches_of (e ∷ h)) (events_of (e ∷ h)) (length h) name)
         (ap (λ (k : ℕ). record { id = k; number = s.name.number; count = s.name.count }) (sym s.id_is) ∙
         ap (λ (k : ℕ). record { id = accepted.id; number = k; count = s.name.count }) (sym s.m_is) ∙
         ap (λ (k : ℕ). record { id = accepted.id; number = accepted.m; count = k }) (sym s.n_is))
         (last_scan h e desk label flips stop s.name is s.scanned)
-    by_reply (Ask desk id) (Document bytes) is fine s = (
+    by_reply (Ask desk id) (Document bytes) is fine s honest = (
       desk,
       id,
       asked (Ask desk id) is,
-      printed_more (batches_of h) (batch_of e) (events_of h) e.event (length h) id bytes within
+      printed_more (batches_of h) (batch_of e) (events_of h) (replies_of h) e.event e.reply (length h) id bytes within
           (true_document ranges desks h desk id bytes legal.1 safe.1 once s),
     )
-    by_reply (Ask desk id) (AskRefused (Incomplete missing)) is fine s = (
+    by_reply (Ask desk id) (AskRefused (Incomplete missing)) is fine s honest = (
       desk,
       id,
       asked (Ask desk id) is,
-      begun_more (batches_of h) (batch_of e) (events_of h) e.event (length h) id missing within
+      begun_more (batches_of h) (batch_of e) (events_of h) (replies_of h) e.event e.reply (length h) id missing within
           (truly_missing ranges desks h desk id missing legal.1 safe.1 once s),
     )
-    by_reply (Forget desk id stop) Forgotten is fine s =
+    by_reply (Forget desk id stop) Forgotten is fine s honest =
         (let t : Scans h id s.0 = (held_scanned ranges desks h legal.1 safe.1).held desk id s.0 s.1 in (
           desk,
           id,
@@ -357,43 +390,46 @@ tells_last {A} ranges desks h e legal safe once = by_reply e.event e.reply refl 
           asked (Forget desk id stop) is,
           s.0,
           t.name.count,
-          scanned_more (batches_of h) (batch_of e) (events_of h) e.event (length h) id s.0 t.name.count within (page_scanned h id s.0 t),
+          scanned_more (batches_of h) (batch_of e) (events_of h) (replies_of h) e.event e.reply (length h) id s.0 t.name.count within (page_scanned h id s.0 t),
         ))
-    by_reply (Export desk name) (Exported index id n mask) is fine s =
+    by_reply (Export desk name) (Exported index id n mask) is fine s honest =
         (let same : id ≡ name = fine.id_is in (
           desk,
           asked (Export desk id) (is ∙ ap (λ (k : ℕ). Export desk k) (sym same)),
-          λ m named. scanned_more (batches_of h) (batch_of e) (events_of h) e.event (length h) id m n within
-              (subst (λ (k : ℕ). WasScanned (batches_of h) (events_of h) (length h) k m n) (sym same)
+          λ m named. scanned_more (batches_of h) (batch_of e) (events_of h) (replies_of h) e.event e.reply (length h) id m n within
+              (subst (λ (k : ℕ). WasScanned (batches_of h) (events_of h) (replies_of h) (length h) k m n) (sym same)
               (pages_scanned ranges desks h desk name n mask legal.1 safe.1 once s m named)),
         ))
-    by_reply event (Scanned accepted) is fine s = absurd fine
-    by_reply event (Document bytes) is fine s = absurd fine
-    by_reply event (AskRefused (Incomplete missing)) is fine s = absurd fine
-    by_reply event Forgotten is fine s = absurd fine
-    by_reply event (Exported index id n mask) is fine s = absurd fine
-    by_reply event reply is fine s = tt
+    by_reply (Scan desk label flips stop) (ScanRefused Conflict) is fine s honest = absurd honest
+    by_reply event (ScanRefused Conflict) is fine s honest = absurd fine
+    by_reply event (Scanned accepted) is fine s honest = absurd fine
+    by_reply event (Document bytes) is fine s honest = absurd fine
+    by_reply event (AskRefused (Incomplete missing)) is fine s honest = absurd fine
+    by_reply event Forgotten is fine s honest = absurd fine
+    by_reply event (Exported index id n mask) is fine s honest = absurd fine
+    by_reply event reply is fine s honest = tt
 
 -- and of each
-each_tells : {A : Type 0} (ranges : List Range) (desks : ℕ) (h : History A) → IsLegal ranges desks h → NeverTwice h → IsSafe h →
-    (i : ℕ) (reply : Reply A) → slice_get (replies_of h) i ≡ Some reply → Tells (batches_of h) (events_of h) i reply
-each_tells ranges desks [] legal never safe i reply answered = absurd (cc (answered))
-each_tells {A} ranges desks (e ∷ h) legal never safe i reply answered =
+each_tells : {A : Type 0} (ranges : List Range) (desks : ℕ) (h : History A) (grids : List GridView) (capacities : List ℕ) → IsLegal ranges desks h →
+    NeverTwice h → IsSafe h → AreHonestReplies grids capacities h → (i : ℕ) (reply : Reply A) → slice_get (replies_of h) i ≡ Some reply →
+    Tells (batches_of h) (events_of h) (replies_of h) i reply
+each_tells ranges desks [] grids capacities legal never safe honest i reply answered = absurd (cc (answered))
+each_tells {A} ranges desks (e ∷ h) grids capacities legal never safe honest i reply answered =
     elim (before_or_last (replies_of h) e.reply reply (length h) i (replies_count h) answered) [
       | inl before ↦
           (let below = get_beyond (replies_of h) i reply before in
           let count = replies_count h in
           let all = batches_count h in
-          tells_more (batches_of h) (batch_of e) (events_of h) e.event i reply (omega arith)
-          (each_tells ranges desks h legal.1 never.1 safe.1 i reply before))
-      | inr last ↦ subst (λ (k : ℕ). Tells (batches_of (e ∷ h)) (events_of (e ∷ h)) k reply) (sym last.0)
-          (subst (λ (r : Reply A). Tells (batches_of (e ∷ h)) (events_of (e ∷ h)) (length h) r) last.1
-          (tells_last ranges desks h e legal safe (prints_once ranges desks h legal.1 never.1)))
+          tells_more (batches_of h) (batch_of e) (events_of h) (replies_of h) e.event e.reply i reply (omega arith)
+          (each_tells ranges desks h grids capacities legal.1 never.1 safe.1 honest.1 i reply before))
+      | inr last ↦ subst (λ (k : ℕ). Tells (batches_of (e ∷ h)) (events_of (e ∷ h)) (replies_of (e ∷ h)) k reply) (sym last.0)
+          (subst (λ (r : Reply A). Tells (batches_of (e ∷ h)) (events_of (e ∷ h)) (replies_of (e ∷ h)) (length h) r) last.1
+          (tells_last ranges desks h e grids capacities legal safe honest.0 (prints_once ranges desks h legal.1 never.1)))
     ]
 
 -- two documents of one identification are the same
 one_document : {A : Type 0} (batches : List (Option Batch)) (events : List (Event A)) (replies : List (Reply A)) (i j id : ℕ) (one other : List ℕ) →
-    PrintsOnceBy batches events replies → WasPrinted batches events i id one → WasPrinted batches events j id other → one ≡ other
+    PrintsOnceBy batches events replies → WasPrinted batches events replies i id one → WasPrinted batches events replies j id other → one ≡ other
 one_document {A} batches events replies i j id one other f a b =
     let p = a.printed in
     let q = b.printed in
@@ -402,9 +438,9 @@ one_document {A} batches events replies i j id one other f a b =
     let same : a.batch ≡ b.batch = cc (e) in
     sym a.bytes_are ∙ ap (λ (c : Batch). c.document.bytes) same ∙ b.bytes_are
 
-pub is_faithful : {A : Type 0} (ranges : List Range) (desks : ℕ) (h : History A) → IsLegal ranges desks h → NeverTwice h → IsSafe h →
-    IsFaithfulBy (batches_of h) (events_of h) (replies_of h)
-is_faithful {A} ranges desks h legal never safe = record {
+pub is_faithful : {A : Type 0} (ranges : List Range) (desks : ℕ) (h : History A) (grids : List GridView) (capacities : List ℕ) → IsLegal ranges desks h →
+    NeverTwice h → IsSafe h → AreHonestReplies grids capacities h → IsFaithfulBy (batches_of h) (events_of h) (replies_of h)
+is_faithful {A} ranges desks h grids capacities legal never safe honest = record {
   prints = once;
   scanned = λ i accepted answered. tells i (Scanned accepted) answered;
   given = λ i bytes answered. tells i (Document bytes) answered;
@@ -413,20 +449,21 @@ is_faithful {A} ranges desks h legal never safe = record {
       (printed j at id other asked_too answered_too);
   begun = λ i desk id missing asked answered.
       (let t = tells i (AskRefused (Incomplete missing)) answered in
-      subst (λ (k : ℕ). WasBegun (batches_of h) (events_of h) i k missing) (asked_is i desk id t.0 t.1 asked t.2) t.3);
+      subst (λ (k : ℕ). WasBegun (batches_of h) (events_of h) (replies_of h) i k missing) (asked_is i desk id t.0 t.1 asked t.2) t.3);
   forgotten = λ i desk id stop asked answered.
       (let t = tells i Forgotten answered in
       let e : Some (Forget t.0 t.1 t.2) ≡ Some (Forget desk id stop) = sym t.3 ∙ asked in
       let same : t.1 ≡ id = cc (e) in
-      (t.4, t.5, subst (λ (k : ℕ). WasScanned (batches_of h) (events_of h) i k t.4 t.5) same t.6));
+      (t.4, t.5, subst (λ (k : ℕ). WasScanned (batches_of h) (events_of h) (replies_of h) i k t.4 t.5) same t.6));
   exported = λ i index id n mask answered. tells i (Exported index id n mask) answered;
+  no_conflict = λ i answered. tells i (ScanRefused Conflict) answered;
 }
   where
     once : PrintsOnceBy (batches_of h) (events_of h) (replies_of h)
     once = prints_once ranges desks h legal never
 
-    tells : (i : ℕ) (reply : Reply A) → slice_get (replies_of h) i ≡ Some reply → Tells (batches_of h) (events_of h) i reply
-    tells = each_tells ranges desks h legal never safe
+    tells : (i : ℕ) (reply : Reply A) → slice_get (replies_of h) i ≡ Some reply → Tells (batches_of h) (events_of h) (replies_of h) i reply
+    tells = each_tells ranges desks h grids capacities legal never safe honest
 
     asked_is : (i desk id at name : ℕ) → slice_get (events_of h) i ≡ Some (Ask desk id) → slice_get (events_of h) i ≡ Some (Ask at name) → name ≡ id
     asked_is i desk id at name one other =
@@ -434,7 +471,7 @@ is_faithful {A} ranges desks h legal never safe = record {
         let same : id ≡ name = cc (e) in sym same
 
     printed : (i desk id : ℕ) (bytes : List ℕ) → slice_get (events_of h) i ≡ Some (Ask desk id) →
-        slice_get (replies_of h) i ≡ Some (Document bytes) → WasPrinted (batches_of h) (events_of h) i id bytes
+        slice_get (replies_of h) i ≡ Some (Document bytes) → WasPrinted (batches_of h) (events_of h) (replies_of h) i id bytes
     printed i desk id bytes asked answered =
         let t = tells i (Document bytes) answered in
-        subst (λ (k : ℕ). WasPrinted (batches_of h) (events_of h) i k bytes) (asked_is i desk id t.0 t.1 asked t.2) t.3
+        subst (λ (k : ℕ). WasPrinted (batches_of h) (events_of h) (replies_of h) i k bytes) (asked_is i desk id t.0 t.1 asked t.2) t.3

@@ -17,7 +17,7 @@ once_first {A} = record {
   printed = λ i batch is. absurd (cc (is));
   once = λ i j one other a b same. absurd (cc (a));
   there = λ i desk label flips stop reply a b such. absurd (cc (a));
-  not_there = λ i desk label stop a b such. absurd (cc (a));
+  not_there = λ i desk label flips stop a b desk_there small. absurd (cc (a));
 }
 
 once_next : {A : Type 0} (ranges : List Range) (desks : ℕ) (h : History A) (e : Entry A) → IsLegal ranges desks (e ∷ h) → NeverTwice (e ∷ h) →
@@ -29,8 +29,8 @@ once_next {A} ranges desks h e legal never f = record {
   printed = prints;
   once = one;
   there = λ i desk label flips stop reply. there_had_left ranges desks (e ∷ h) i desk label flips stop reply legal;
-  not_there = λ i desk label stop asked answered there.
-      not_there_had_not ranges desks (e ∷ h) i desk label stop legal (desk_within ranges desks (e ∷ h) desk legal there) asked answered;
+  not_there = λ i desk label flips stop asked answered there small.
+      not_there_had_not ranges desks (e ∷ h) i desk label flips stop legal (desk_within ranges desks (e ∷ h) desk legal there) small asked answered;
 }
   where
     fits : Fits ranges desks h e

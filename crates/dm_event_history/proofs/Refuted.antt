@@ -1,5 +1,5 @@
 -- Runs that are not faithful are refuted.
-use Rattle.std.proofs.Common.{◌≡◌, ◌<◌, ◌≤◌, inl, inr, ℕ, zero, suc, min, Option, Some, None, List, [], ◌∷◌, ◌++◌, length, map, take, slice_get, refl, ap, sym, ◌∙◌, subst, arith}
+use Rattle.std.proofs.Common.{◌≡◌, ◌<◌, ◌≤◌, inl, inr, ℕ, zero, suc, min, true, All, Option, Some, None, List, [], ◌∷◌, ◌++◌, length, map, take, slice_get, refl, ap, sym, ◌∙◌, subst, arith}
 use Rattle.dm_check_blocks.specs.declared.size.Size.TheVariants.{Side12}
 use Rattle.dm_encodation.specs.declared.scheme.Scheme.TheVariants.{Ascii}
 use Rattle.dm_assembly_desk.specs.declared.reply.Kind.TheVariants.{New}
@@ -8,16 +8,17 @@ use Rattle.dm_append_label.proofs.CutParts.{each_cut_is}
 use Rattle.dm_event_history.specs.declared.event.Event.{Event}
 use Rattle.dm_event_history.specs.declared.event.Event.TheVariants.{Print, Scan, Ask, Give, Export}
 use Rattle.dm_event_history.specs.declared.reply.Reply.{Reply}
-use Rattle.dm_event_history.specs.declared.reply.Reply.TheVariants.{Document, Exported, Stopped}
+use Rattle.dm_event_history.specs.declared.reply.Reply.TheVariants.{Document, Exported, Stopped, Memory}
 use Rattle.dm_event_history.specs.declared.stop.Stop.{Stop}
 use Rattle.dm_event_history.specs.declared.stop.Stop.TheVariants as stops
 use Rattle.dm_event_history.specs.History.{LabelName, names_from}
-use Rattle.dm_event_history.specs.Headline.{Batch, count_of, LeftBy, labels_of, IsScanOf, WasScanned, WasPrinted, PrintsOnceBy, IsFaithfulBy}
+use Rattle.dm_event_history.specs.Headline.{Batch, count_of, LeftBy, labels_of, IsScanOf, MayHaveSaved, WasScanned, WasPrinted, PrintsOnceBy, IsFaithfulBy}
 use Rattle.dm_print_ledger.specs.declared.range.Range.{Range}
 use Rattle.dm_event_history.specs.Masks.{HasPage}
+use Rattle.dm_event_history.specs.Saving.{may_save}
 use Rattle.dm_event_history.specs.Tickets.{WasGiven}
 use Rattle.dm_event_history.specs.Worked.{digits, first_ticket}
-use Rattle.dm_event_history.specs.Unfaithful.{IsFaithfulRun, PrintsOnceRun, TakesOnceRun, ImportsExportsRun, other_digits, shown_not_left, shown_left, begun_unscanned, exported_unscanned, printed_after_forgotten, one_serial, taken_though_old, never_exported, imported_another_page, exported_twice, half_printed, printed_unseen, unseen_labels, print, never_printed, wrong_document, another_document, never_scanned, two_documents, printed_twice, told_twice, never_left, numbered_twice, taken_twice, taken_elsewhere, overlaps, AreUnfaithful}
+use Rattle.dm_event_history.specs.Unfaithful.{IsFaithfulRun, PrintsOnceRun, TakesOnceRun, ImportsExportsRun, other_digits, scan, never_saved, conflicting, shown_not_left, shown_left, begun_unscanned, exported_unscanned, printed_after_forgotten, one_serial, taken_though_old, never_exported, imported_another_page, exported_twice, half_printed, printed_unseen, unseen_labels, print, never_printed, wrong_document, another_document, never_scanned, two_documents, printed_twice, told_twice, never_left, numbered_twice, taken_twice, taken_elsewhere, overlaps, AreUnfaithful}
 
 -- ---- what an event lets out
 
@@ -69,7 +70,7 @@ document_is {A} events replies i printer batch printed stop is left =
 
 -- what left before an event is a batch of one of the events before it
 printed_before : {A : Type 0} (batches : List (Option Batch)) (events : List (Event A)) (replies : List (Reply A)) (i id : ℕ) (bytes : List ℕ) →
-    PrintsOnceBy batches events replies → WasPrinted batches events i id bytes →
+    PrintsOnceBy batches events replies → WasPrinted batches events replies i id bytes →
     (j : ℕ) × (batch : Batch) × (j < i) × LeftBy events replies j batch × (batch.document.bytes ≡ bytes)
 printed_before batches events replies i id bytes f w =
     (w.printed.j, w.batch, w.printed.before, f.printed w.printed.j w.batch w.printed.there, w.bytes_are)
@@ -139,9 +140,9 @@ some_count events replies i batch left =
     ]
 
 -- the first of two events is a print, so no label was scanned before the second
-none_scanned : {A : Type 0} (batches : List (Option Batch)) (first second : Event A) (id m n : ℕ) (document : List ℕ) → first ≡ print 0 document stops.None →
-    WasScanned batches (first ∷ second ∷ []) 1 id m n → ⊥
-none_scanned {A} batches first second id m n document is w = by_place w.k w.before w.scan
+none_scanned : {A : Type 0} (batches : List (Option Batch)) (first second : Event A) (replies : List (Reply A)) (id m n : ℕ) (document : List ℕ) →
+    first ≡ print 0 document stops.None → WasScanned batches (first ∷ second ∷ []) replies 1 id m n → ⊥
+none_scanned {A} batches first second replies id m n document is w = by_place w.k w.before w.scan
   where
     by_place : (k : ℕ) → k < 1 → IsScanOf batches (first ∷ second ∷ []) k (record { id = id; number = m; count = n }) → ⊥
     by_place zero before scan =
@@ -154,7 +155,7 @@ never_scanned_is : (A : Type 0) → ¬ IsFaithfulRun (never_scanned A)
 never_scanned_is A (batches, f) =
     let w = (f.given 1 digits refl).3 in
     let left = f.prints.printed w.printed.j w.batch w.printed.there in
-    none_scanned batches (print 0 digits stops.None) (Ask 0 0) (f.given 1 digits refl).1 1 (count_of w.batch) digits refl
+    none_scanned batches (print 0 digits stops.None) (Ask 0 0) (map (λ one. one.1) (never_scanned A)) (f.given 1 digits refl).1 1 (count_of w.batch) digits refl
     (w.scanned 1 (omega arith)
     (some_count (map (λ one. one.0) (never_scanned A)) (map (λ one. one.1) (never_scanned A)) w.printed.j w.batch left))
 
@@ -162,11 +163,11 @@ begun_unscanned_is : (A : Type 0) → ¬ IsFaithfulRun (begun_unscanned A)
 begun_unscanned_is A (batches, f) =
     let w = f.begun 1 0 0 2 refl refl in
     let t = w.not_all in
-    none_scanned batches (print 0 digits stops.None) (Ask 0 0) 0 t.0 (count_of w.batch) digits refl (w.scanned t.0 t.1 t.2 t.3)
+    none_scanned batches (print 0 digits stops.None) (Ask 0 0) (map (λ one. one.1) (begun_unscanned A)) 0 t.0 (count_of w.batch) digits refl (w.scanned t.0 t.1 t.2 t.3)
 
 exported_unscanned_is : (A : Type 0) → ¬ IsFaithfulRun (exported_unscanned A)
 exported_unscanned_is A (batches, f) =
-    none_scanned batches (print 0 digits stops.None) (Export 0 0) 0 1 2 digits refl ((f.exported 1 0 0 2 1 refl).2 1 refl)
+    none_scanned batches (print 0 digits stops.None) (Export 0 0) (map (λ one. one.1) (exported_unscanned A)) 0 1 2 digits refl ((f.exported 1 0 0 2 1 refl).2 1 refl)
 
 -- a document is cut into two parts at least
 parts_count : (document : List ℕ) (from : ℕ) (ends : List ℕ) → length (parts_from document from ends) ≡ length ends
@@ -208,7 +209,7 @@ half_printed_is A (batches, f) = by_batches batches f
     by_scan batch rest (suc (suc k)) id n few before scan = omega arith
 
     by_print : (batches : List (Option Batch)) (j id : ℕ) (batch : Batch) → j < 2 → slice_get batches j ≡ Some (Some batch) →
-        LeftBy events replies j batch → WasScanned batches events 2 id 2 (count_of batch) → ⊥
+        LeftBy events replies j batch → WasScanned batches events replies 2 id 2 (count_of batch) → ⊥
     by_print [] j id batch before there left w = cc (there)
     by_print (None ∷ rest) zero id batch before there left w = cc (there)
     by_print (Some own ∷ rest) zero id batch before there left w =
@@ -227,6 +228,40 @@ half_printed_is A (batches, f) = by_batches batches f
         let left = f.prints.printed w.printed.j w.batch w.printed.there in
         by_print batches w.printed.j g.1 w.batch w.printed.before w.printed.there left
         (w.scanned 2 (omega arith) (two_parts events replies w.printed.j w.batch left))
+
+-- a scan that is answered for want of memory saves nothing
+unsaved : {A : Type 0} (label : ℕ) (event : Event A) (reply : Reply A) → scan label ≡ event → Memory ≡ reply → may_save event reply ≡ true → ⊥
+unsaved {A} label event reply asked answered saves =
+    let x : may_save {A = A} (scan label) Memory ≡ true =
+    subst (λ (v : Event A). may_save v Memory ≡ true) (sym asked) (subst (λ (r : Reply A). may_save event r ≡ true) (sym answered) saves) in cc (x)
+
+never_saved_is : (A : Type 0) → ¬ IsFaithfulRun (never_saved A)
+never_saved_is A (batches, f) =
+    let w = (f.given 3 digits refl).3 in
+    let left = f.prints.printed w.printed.j w.batch w.printed.there in
+    let t = w.scanned 1 (omega arith) (some_count events replies w.printed.j w.batch left) in by_scan t.k t.before t.scan.event t.saved
+  where
+    events : List (Event A)
+    events = map (λ one. one.0) (never_saved A)
+
+    replies : List (Reply A)
+    replies = map (λ one. one.1) (never_saved A)
+
+    by_scan : (k : ℕ) → k < 3 → {desk label : ℕ} {flips : List (ℕ × ℕ)} {stop : Stop} → slice_get events k ≡ Some (Scan desk label flips stop) →
+        MayHaveSaved events replies k → ⊥
+    by_scan zero before is saved = cc (is)
+    by_scan (suc zero) before is saved =
+        let e : Some (scan 0) ≡ Some saved.event = saved.asked in
+        let r : Some Memory ≡ Some saved.reply = saved.answered in
+        unsaved 0 saved.event saved.reply (cc (e)) (cc (r)) saved.saves
+    by_scan (suc (suc zero)) before is saved =
+        let e : Some (scan 1) ≡ Some saved.event = saved.asked in
+        let r : Some Memory ≡ Some saved.reply = saved.answered in
+        unsaved 1 saved.event saved.reply (cc (e)) (cc (r)) saved.saves
+    by_scan (suc (suc (suc k))) before is saved = omega arith
+
+conflicting_is : (A : Type 0) → ¬ IsFaithfulRun (conflicting A)
+conflicting_is A (batches, f) = f.no_conflict 1 refl
 
 two_documents_is : (A : Type 0) → ¬ IsFaithfulRun (two_documents A)
 two_documents_is A (batches, f) = digits_differ (f.same 0 1 0 1 0 digits other_digits refl refl refl refl)
@@ -320,17 +355,24 @@ shown_not_left_is A (batches, f) =
     replies : List (Reply A)
     replies = map (λ one. one.1) (shown_not_left A)
 
-    -- desk 0 is there, as it gives the document
+    -- the module is in each grid
+    small : All {X = ℕ × ℕ} (λ flip. (flip.0 < 10) × (flip.1 < 10)) ((0, 0) ∷ [])
+    small zero flip below = (omega arith, omega arith)
+    small (suc k) flip below = absurd (omega arith)
+
+    -- desk 0 is there, as desk 1 is, which gives the document
     few : length (labels_of (take 1 batches)) ≤ 0
-    few = f.prints.not_there 1 0 0 stops.None refl refl (record {
+    few = f.prints.not_there 1 0 0 ((0, 0) ∷ []) stops.None refl refl (record {
       i = 5;
-      event = Ask 0 10;
+      event = Ask 1 10;
       asked = refl;
+      at = 1;
       of_desk = refl;
+      not_above = omega arith;
       reply = Document digits;
       answered = refl;
       is_such = λ x. cc (x);
-    })
+    }) small
 
     first : (batches : List (Option Batch)) (batch : Batch) → slice_get batches 0 ≡ Some (Some batch) → 1 ≤ batch.left →
         length (labels_of (take 1 batches)) ≤ 0 → ⊥
@@ -513,6 +555,8 @@ are_unfaithful A = record {
   another_document_is = another_document_is A;
   half_printed_is = half_printed_is A;
   never_scanned_is = never_scanned_is A;
+  never_saved_is = never_saved_is A;
+  conflicting_is = conflicting_is A;
   two_documents_is = two_documents_is A;
   shown_not_left_is = shown_not_left_is A;
   shown_left_is = shown_left_is A;

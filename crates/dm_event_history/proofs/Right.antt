@@ -9,16 +9,17 @@ use Rattle.dm_encodation.specs.Written as written
 use Rattle.dm_append_label.specs.Parts.{AreParts}
 use Rattle.dm_assembly_desk.specs.declared.reply.Kind.TheVariants.{New, Complete}
 use Rattle.dm_assembly_desk.specs.declared.fault.AskFault.TheVariants.{Incomplete}
+use Rattle.dm_assembly_desk.specs.declared.fault.ScanFault.TheVariants.{Conflict}
 use Rattle.dm_assembly_desk.specs.declared.reply.Accepted.{Accepted}
 use Rattle.dm_event_history.specs.declared.event.Event.{Event}
 use Rattle.dm_event_history.specs.declared.event.Event.TheVariants.{Scan, Ask}
 use Rattle.dm_event_history.specs.declared.reply.Reply.{Reply}
-use Rattle.dm_event_history.specs.declared.reply.Reply.TheVariants.{Printed, Scanned, Document, AskRefused, Forgotten, Exported, NoSuch}
+use Rattle.dm_event_history.specs.declared.reply.Reply.TheVariants.{Printed, Scanned, ScanRefused, Document, AskRefused, Forgotten, Exported, NoSuch}
 use Rattle.dm_event_history.specs.declared.stop.Stop.{Stop}
 use Rattle.dm_event_history.specs.declared.stop.Stop.TheVariants as stops
 use Rattle.dm_event_history.specs.History.{CutDocument}
-use Rattle.dm_event_history.specs.Headline.{Batch, LeftBy, labels_of, AllLeft, IsScanOf, WasScanned, WasPrinted}
-use Rattle.dm_event_history.specs.Unfaithful.{IsFaithfulRun, other_digits, page, right_document}
+use Rattle.dm_event_history.specs.Headline.{Batch, LeftBy, labels_of, AllLeft, IsScanOf, MayHaveSaved, WasScanned, WasPrinted}
+use Rattle.dm_event_history.specs.Unfaithful.{IsFaithfulRun, other_digits, page, scan, right_document}
 
 -- two of the digits fill a label
 two_fit : IsGreatestPrefix Ascii 1 other_digits 2
@@ -62,7 +63,7 @@ right_document_is A = (
       printed = one_printed;
       once = one;
       there = are_there;
-      not_there = λ i desk label stop asked answered there. absurd (none_missing i answered);
+      not_there = λ i desk label flips stop asked answered there small. absurd (none_missing i answered);
     };
     scanned = two_scanned;
     given = one_given;
@@ -70,6 +71,7 @@ right_document_is A = (
     begun = λ i desk id missing asked answered. absurd (none_begun i missing answered);
     forgotten = λ i desk id stop asked answered. absurd (none_forgotten i answered);
     exported = λ i index id n mask answered. absurd (none_exported i index id n mask answered);
+    no_conflict = none_conflicts;
   },
 )
   where
@@ -136,6 +138,14 @@ right_document_is A = (
     none_exported (suc (suc (suc (suc zero)))) index id n mask is = cc (is)
     none_exported (suc (suc (suc (suc (suc i))))) index id n mask is = cc (is)
 
+    none_conflicts : (i : ℕ) → slice_get replies i ≢ Some (ScanRefused Conflict)
+    none_conflicts zero is = cc (is)
+    none_conflicts (suc zero) is = cc (is)
+    none_conflicts (suc (suc zero)) is = cc (is)
+    none_conflicts (suc (suc (suc zero))) is = cc (is)
+    none_conflicts (suc (suc (suc (suc zero)))) is = cc (is)
+    none_conflicts (suc (suc (suc (suc (suc i))))) is = cc (is)
+
     -- the two scans are of the two labels that had left
     are_there : (i desk label : ℕ) (flips : List (ℕ × ℕ)) (stop : Stop) (reply : Reply A) → slice_get events i ≡ Some (Scan desk label flips stop) →
         slice_get replies i ≡ Some reply → reply ≢ NoSuch → label < length (labels_of (take i batches))
@@ -173,6 +183,12 @@ right_document_is A = (
     second_scan : IsScanOf batches events 3 (record { id = 10; number = 2; count = 2 })
     second_scan = record { desk = 0; label = 1; flips = []; stop = stops.None; event = refl; had_left = refl }
 
+    first_saved : MayHaveSaved events replies 2
+    first_saved = record { event = scan 0; asked = refl; reply = Scanned (page 10 1 New); answered = refl; saves = refl }
+
+    second_saved : MayHaveSaved events replies 3
+    second_saved = record { event = scan 1; asked = refl; reply = Scanned (page 10 2 Complete); answered = refl; saves = refl }
+
     two_scanned : (i : ℕ) (accepted : Accepted) → slice_get replies i ≡ Some (Scanned accepted) →
         IsScanOf batches events i (record { id = accepted.id; number = accepted.m; count = accepted.n })
     two_scanned zero accepted is = absurd (cc (is))
@@ -188,7 +204,7 @@ right_document_is A = (
     two_scanned (suc (suc (suc (suc zero)))) accepted is = absurd (cc (is))
     two_scanned (suc (suc (suc (suc (suc i))))) accepted is = absurd (cc (is))
 
-    was_printed : WasPrinted batches events 4 10 other_digits
+    was_printed : WasPrinted batches events replies 4 10 other_digits
     was_printed = record {
       batch = batch;
       printed = record { j = 1; before = omega arith; there = refl; id_is = refl };
@@ -196,10 +212,10 @@ right_document_is A = (
       scanned = scans;
     }
       where
-        scans : (m : ℕ) → 1 ≤ m → m ≤ 2 → WasScanned batches events 4 10 m 2
+        scans : (m : ℕ) → 1 ≤ m → m ≤ 2 → WasScanned batches events replies 4 10 m 2
         scans zero first last = absurd (omega arith)
-        scans (suc zero) first last = record { k = 2; before = omega arith; scan = first_scan }
-        scans (suc (suc zero)) first last = record { k = 3; before = omega arith; scan = second_scan }
+        scans (suc zero) first last = record { k = 2; before = omega arith; scan = first_scan; saved = first_saved }
+        scans (suc (suc zero)) first last = record { k = 3; before = omega arith; scan = second_scan; saved = second_saved }
         scans (suc (suc (suc m))) first last = absurd (omega arith)
 
     only_document : (i : ℕ) (document : List ℕ) → slice_get replies i ≡ Some (Document document) → (i ≡ 4) × (other_digits ≡ document)
@@ -215,12 +231,12 @@ right_document_is A = (
     only_given i document is = (only_document i document is).1
 
     one_given : (i : ℕ) (document : List ℕ) → slice_get replies i ≡ Some (Document document) →
-        (desk id : ℕ) × (slice_get events i ≡ Some (Ask desk id)) × WasPrinted batches events i id document
+        (desk id : ℕ) × (slice_get events i ≡ Some (Ask desk id)) × WasPrinted batches events replies i id document
     one_given i document is =
         let t = only_document i document is in (
           0,
           10,
           ap (λ (k : ℕ). slice_get events k) t.0,
-          subst (λ (k : ℕ). WasPrinted batches events k 10 document) (sym t.0)
-              (subst (λ (d : List ℕ). WasPrinted batches events 4 10 d) t.1 was_printed),
+          subst (λ (k : ℕ). WasPrinted batches events replies k 10 document) (sym t.0)
+              (subst (λ (d : List ℕ). WasPrinted batches events replies 4 10 d) t.1 was_printed),
         )

@@ -1,18 +1,20 @@
 -- The headline, said of the events and the replies of a run alone, both from the first on: whatever document any desk
 -- gives for an identification is the one document printed under it, and no identification is ever printed twice.
-use Rattle.std.specs.Prelude.{◌≡◌, ◌≢◌, ◌<◌, ◌≤◌, ◌⊎◌, ℕ, Option, None, Some, List, [], ◌∷◌, ◌++◌, length, slice_get, take, min}
+use Rattle.std.specs.Prelude.{◌≡◌, ◌≢◌, ◌<◌, ◌≤◌, ◌⊎◌, ℕ, Option, None, Some, List, [], ◌∷◌, ◌++◌, length, slice_get, take, min, All, true}
 use Rattle.dm_append_label.specs.Parts.{AreParts}
 use Rattle.dm_assembly_desk.specs.declared.fault.AskFault.TheVariants.{Incomplete}
+use Rattle.dm_assembly_desk.specs.declared.fault.ScanFault.TheVariants.{Conflict}
 use Rattle.dm_assembly_desk.specs.declared.reply.Accepted.{Accepted}
 use Rattle.dm_event_history.specs.Masks.{HasPage}
 use Rattle.dm_event_history.specs.declared.event.Event.{Event}
 use Rattle.dm_event_history.specs.declared.event.Event.TheVariants.{Print, Scan, Ask, Forget, Export}
 use Rattle.dm_event_history.specs.declared.reply.Reply.{Reply}
-use Rattle.dm_event_history.specs.declared.reply.Reply.TheVariants.{Printed, Scanned, Document, AskRefused, Forgotten, Exported, Stopped, NoSuch}
+use Rattle.dm_event_history.specs.declared.reply.Reply.TheVariants.{Printed, Scanned, ScanRefused, Document, AskRefused, Forgotten, Exported, Stopped, NoSuch}
 use Rattle.dm_event_history.specs.declared.stop.Stop.{Stop}
 use Rattle.dm_event_history.specs.declared.stop.Stop.TheVariants as stops
 use Rattle.dm_event_history.specs.Actors.{DeskAt, actor_of}
 use Rattle.dm_event_history.specs.History.{CutDocument, LabelName, names_from}
+use Rattle.dm_event_history.specs.Saving.{may_save}
 
 -- ---- the labels that left
 
@@ -70,12 +72,14 @@ pub record AllLeft (batches : List (Option Batch)) (i id first count : ℕ) : Ty
   pub all : batch.left ≡ count
   pub first_is : first ≡ length (labels_of (take i batches))
 
--- a reply other than `NoSuch` to an event at the desk shows that it is there
+-- a reply other than `NoSuch` to an event at a desk shows that it is there, and each of a lower number
 pub record IsDeskThere {A : Type 0} (events : List (Event A)) (replies : List (Reply A)) (desk : ℕ) : Type 0 where
   pub i : ℕ
   pub event : Event A
   pub asked : slice_get events i ≡ Some event
-  pub of_desk : actor_of event ≡ DeskAt desk
+  pub at : ℕ
+  pub of_desk : actor_of event ≡ DeskAt at
+  pub not_above : desk ≤ at
   pub reply : Reply A
   pub answered : slice_get replies i ≡ Some reply
   pub is_such : reply ≢ NoSuch
@@ -97,9 +101,10 @@ pub record PrintsOnceBy {A : Type 0} (batches : List (Option Batch)) (events : L
   pub there : (i desk label : ℕ) (flips : List (ℕ × ℕ)) (stop : Stop) (reply : Reply A) →
       slice_get events i ≡ Some (Scan desk label flips stop) → slice_get replies i ≡ Some reply → reply ≢ NoSuch →
       label < length (labels_of (take i batches))
-  -- one that is not there, although the desk is and no module is named, had not
-  pub not_there : (i desk label : ℕ) (stop : Stop) → slice_get events i ≡ Some (Scan desk label [] stop) →
-      slice_get replies i ≡ Some NoSuch → IsDeskThere events replies desk →
+  -- one that is not there, although the desk is, and the modules are in each grid, as the least has side 10, had not
+  pub not_there : (i desk label : ℕ) (flips : List (ℕ × ℕ)) (stop : Stop) →
+      slice_get events i ≡ Some (Scan desk label flips stop) → slice_get replies i ≡ Some NoSuch →
+      IsDeskThere events replies desk → All (λ flip. (flip.0 < 10) × (flip.1 < 10)) flips →
       length (labels_of (take i batches)) ≤ label
 
 -- no identification is ever printed twice
@@ -118,12 +123,21 @@ pub record IsScanOf {A : Type 0} (batches : List (Option Batch)) (events : List 
   pub event : slice_get events i ≡ Some (Scan desk label flips stop)
   pub had_left : slice_get (labels_of (take i batches)) label ≡ Some name
 
--- label m of n under an identification was scanned before event number i, at whichever desk
-pub record WasScanned {A : Type 0} (batches : List (Option Batch)) (events : List (Event A)) (i id m n : ℕ)
-    : Type 0 where
+-- event number k may have saved: its reply says so, or it was stopped or failed after the new content was kept
+pub record MayHaveSaved {A : Type 0} (events : List (Event A)) (replies : List (Reply A)) (k : ℕ) : Type 0 where
+  pub event : Event A
+  pub asked : slice_get events k ≡ Some event
+  pub reply : Reply A
+  pub answered : slice_get replies k ≡ Some reply
+  pub saves : may_save event reply ≡ true
+
+-- label m of n under an identification was scanned before event number i, at whichever desk, which may have saved its page
+pub record WasScanned {A : Type 0} (batches : List (Option Batch)) (events : List (Event A)) (replies : List (Reply A))
+    (i id m n : ℕ) : Type 0 where
   pub k : ℕ
   pub before : k < i
   pub scan : IsScanOf batches events k (record { id = id; number = m; count = n })
+  pub saved : MayHaveSaved events replies k
 
 -- the batch under this identification left before event number i
 pub record LeftBefore (batches : List (Option Batch)) (i id : ℕ) (batch : Batch) : Type 0 where
@@ -133,23 +147,23 @@ pub record LeftBefore (batches : List (Option Batch)) (i id : ℕ) (batch : Batc
   pub id_is : batch.id ≡ id
 
 -- the document was printed under this identification before event number i, and each of its labels was scanned before
-pub record WasPrinted {A : Type 0} (batches : List (Option Batch)) (events : List (Event A)) (i id : ℕ)
-    (bytes : List ℕ) : Type 0 where
+pub record WasPrinted {A : Type 0} (batches : List (Option Batch)) (events : List (Event A)) (replies : List (Reply A))
+    (i id : ℕ) (bytes : List ℕ) : Type 0 where
   pub batch : Batch
   pub printed : LeftBefore batches i id batch
   pub bytes_are : batch.document.bytes ≡ bytes
-  pub scanned : (m : ℕ) → 1 ≤ m → m ≤ count_of batch → WasScanned batches events i id m (count_of batch)
+  pub scanned : (m : ℕ) → 1 ≤ m → m ≤ count_of batch → WasScanned batches events replies i id m (count_of batch)
 
 -- The same of a document that is not whole: it lacks some of its pages, and not all. Each other was scanned before.
-pub record WasBegun {A : Type 0} (batches : List (Option Batch)) (events : List (Event A)) (i id missing : ℕ)
-    : Type 0 where
+pub record WasBegun {A : Type 0} (batches : List (Option Batch)) (events : List (Event A)) (replies : List (Reply A))
+    (i id missing : ℕ) : Type 0 where
   pub batch : Batch
   pub printed : LeftBefore batches i id batch
   pub some_missing : (m : ℕ) × HasPage missing m
   pub not_all : (m : ℕ) × (1 ≤ m) × (m ≤ count_of batch) × (¬ HasPage missing m)
   pub nothing_else : (m : ℕ) → HasPage missing m → (1 ≤ m) × (m ≤ count_of batch)
   pub scanned : (m : ℕ) → 1 ≤ m → m ≤ count_of batch → ¬ HasPage missing m →
-      WasScanned batches events i id m (count_of batch)
+      WasScanned batches events replies i id m (count_of batch)
 
 -- what desks tell of labels, documents and pages is as they were printed and scanned
 pub record IsFaithfulBy {A : Type 0} (batches : List (Option Batch)) (events : List (Event A)) (replies : List (Reply A))
@@ -160,21 +174,23 @@ pub record IsFaithfulBy {A : Type 0} (batches : List (Option Batch)) (events : L
       IsScanOf batches events i (record { id = accepted.id; number = accepted.m; count = accepted.n })
   -- whatever document any desk gives is asked for by an identification, and was printed under it before
   pub given : (i : ℕ) (bytes : List ℕ) → slice_get replies i ≡ Some (Document bytes) →
-      (desk id : ℕ) × (slice_get events i ≡ Some (Ask desk id)) × WasPrinted batches events i id bytes
+      (desk id : ℕ) × (slice_get events i ≡ Some (Ask desk id)) × WasPrinted batches events replies i id bytes
   -- and it is the one document: any other that is given for it, by any desk, is the same
   pub same : (i j desk at id : ℕ) (one other : List ℕ) →
       slice_get events i ≡ Some (Ask desk id) → slice_get replies i ≡ Some (Document one) →
       slice_get events j ≡ Some (Ask at id) → slice_get replies j ≡ Some (Document other) → one ≡ other
   -- of a document that is not whole the pages that are not named as missing were scanned
   pub begun : (i desk id missing : ℕ) → slice_get events i ≡ Some (Ask desk id) →
-      slice_get replies i ≡ Some (AskRefused (Incomplete missing)) → WasBegun batches events i id missing
+      slice_get replies i ≡ Some (AskRefused (Incomplete missing)) → WasBegun batches events replies i id missing
   -- what is forgotten was begun: a page of it was scanned
   pub forgotten : (i desk id : ℕ) (stop : Stop) → slice_get events i ≡ Some (Forget desk id stop) →
-      slice_get replies i ≡ Some Forgotten → (m n : ℕ) × WasScanned batches events i id m n
+      slice_get replies i ≡ Some Forgotten → (m n : ℕ) × WasScanned batches events replies i id m n
   -- each page that is exported is one of the document asked for, and was scanned
   pub exported : (i index id n mask : ℕ) → slice_get replies i ≡ Some (Exported index id n mask) →
       (desk : ℕ) × (slice_get events i ≡ Some (Export desk id))
-      × ((m : ℕ) → HasPage mask m → WasScanned batches events i id m n)
+      × ((m : ℕ) → HasPage mask m → WasScanned batches events replies i id m n)
+  -- no label disagrees with the pages that a desk holds
+  pub no_conflict : (i : ℕ) → slice_get replies i ≢ Some (ScanRefused Conflict)
 
 -- the headline
 abbrev pub IsFaithful : {A : Type 0} → List (Event A) → List (Reply A) → Type 0

@@ -1,5 +1,6 @@
 -- What follows from what a history is: laws of histories, which hold whatever printers and desks do otherwise.
 use Rattle.std.specs.Prelude.{◌≡◌, ℕ, true, false, None, List}
+use Rattle.dm_finder_frame.specs.Grids.{GridView}
 use Rattle.dm_print_ledger.specs.declared.range.Range.{Range}
 use Rattle.dm_print_ledger.specs.Ranges.{is_in}
 use Rattle.dm_event_history.specs.History.{History, docs, events_of, out, replies_of}
@@ -8,6 +9,7 @@ use Rattle.dm_event_history.specs.Places.{ArePlaced, AreOpened, IsNoTicketTakenT
 use Rattle.dm_event_history.specs.Holding.{IsSurelyHeld, IsPossiblyHeld}
 use Rattle.dm_event_history.specs.Legal.{AreDisjoint, IsLegal, IsNoLabelTwice, NeverTwice, MayBeTaken}
 use Rattle.dm_event_history.specs.Safe.{IsSafe}
+use Rattle.dm_event_history.specs.Honest.{AreHonestReplies}
 use Rattle.dm_event_history.specs.Headline.{PrintsOnce, IsFaithful}
 use Rattle.dm_event_history.specs.Tickets.{TakesOnce}
 use Rattle.dm_event_history.specs.Imports.{ImportsExports}
@@ -61,6 +63,7 @@ LegalTakesOnce A = InLegal A (λ ranges h. TakesOnce (events_of h) (replies_of h
 abbrev pub LegalImportsExports : Type 0 → Type 0
 LegalImportsExports A = InLegal A (λ ranges h. ImportsExports (events_of h) (replies_of h))
 
--- the headline: legal and safe histories are faithful
+-- the headline: legal and safe histories, in which labels and exports are refused as in an honest one, are faithful
 abbrev pub LegalAndSafeIsFaithful : Type 0 → Type 0
-LegalAndSafeIsFaithful A = InLegal A (λ ranges h. IsSafe h → IsFaithful (events_of h) (replies_of h))
+LegalAndSafeIsFaithful A = InLegal A (λ ranges h. (grids : List GridView) (capacities : List ℕ) →
+    IsSafe h → AreHonestReplies grids capacities h → IsFaithful (events_of h) (replies_of h))

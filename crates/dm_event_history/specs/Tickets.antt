@@ -40,7 +40,7 @@ pub record TakesOnce {A : Type 0} (events : List (Event A)) (replies : List (Rep
   -- no ticket is taken twice, by whichever printers
   pub once : (i j printer other ticket : ℕ) → TakesTicket events replies i printer ticket →
       TakesTicket events replies j other ticket → i ≡ j
-  -- nor is one that the printer refused as old, so that it had been taken, even if the take was stopped and not told
+  -- nor is one that the printer refused as old: it, or a later one of its giver, had been taken by it
   pub old : (i j printer ticket : ℕ) (stop : Stop) → slice_get events i ≡ Some (Take printer ticket stop) →
       slice_get replies i ≡ Some (TakeRefused Old) → TakesTicket events replies j printer ticket → j < i
   -- what is taken was given before, to the printer that takes it

@@ -4,6 +4,7 @@ use Rattle.std.specs.Prelude.{◌≡◌, ℕ, Option, List, [], ◌∷◌, map}
 use Rattle.dm_check_blocks.specs.declared.size.Size.TheVariants.{Side12}
 use Rattle.dm_encodation.specs.declared.scheme.Scheme.TheVariants.{Ascii}
 use Rattle.dm_print_ledger.specs.declared.fault.TakeFault.TheVariants.{Old, Overlap}
+use Rattle.dm_assembly_desk.specs.declared.fault.ScanFault.TheVariants.{Conflict}
 use Rattle.dm_assembly_desk.specs.declared.fault.AskFault.TheVariants.{Incomplete}
 use Rattle.dm_assembly_desk.specs.declared.reply.Kind.TheVariants.{New, Complete}
 use Rattle.dm_assembly_desk.specs.declared.reply.Kind.{Kind}
@@ -11,7 +12,7 @@ use Rattle.dm_assembly_desk.specs.declared.reply.Accepted.{Accepted}
 use Rattle.dm_event_history.specs.declared.event.Event.{Event}
 use Rattle.dm_event_history.specs.declared.event.Event.TheVariants.{Print, Scan, RestartPrinter, Ask, Forget, Give, Take, Export, Import}
 use Rattle.dm_event_history.specs.declared.reply.Reply.{Reply}
-use Rattle.dm_event_history.specs.declared.reply.Reply.TheVariants.{Printed, Scanned, Document, AskRefused, Forgotten, Given, Taken, TakeRefused, Exported, Imported, Restarted, Stopped, NoSuch}
+use Rattle.dm_event_history.specs.declared.reply.Reply.TheVariants.{Printed, Scanned, ScanRefused, Document, AskRefused, Forgotten, Given, Taken, TakeRefused, Exported, Imported, Restarted, Stopped, NoSuch, Memory}
 use Rattle.dm_event_history.specs.declared.stop.Stop.{Stop}
 use Rattle.dm_event_history.specs.declared.stop.Stop.TheVariants.{None, BeforeSave, AfterLabels}
 use Rattle.dm_event_history.specs.History.{LabelName}
@@ -92,20 +93,25 @@ half_printed A =
 abbrev pub never_scanned : (A : Type 0) → Run A
 never_scanned A = (print 0 digits None, Printed 0 0 2) ∷ (Ask 0 0, Document digits) ∷ []
 
+-- each label was scanned, but each scan was answered for want of memory, so that no page was saved
+abbrev pub never_saved : (A : Type 0) → Run A
+never_saved A =
+    (print 0 digits None, Printed 0 0 2) ∷ (scan 0, Memory) ∷ (scan 1, Memory) ∷ (Ask 0 0, Document digits) ∷ []
+
 -- two documents are given for one identification
 abbrev pub two_documents : (A : Type 0) → Run A
 two_documents A = (Ask 0 0, Document digits) ∷ (Ask 1 0, Document other_digits) ∷ []
 
--- the first print let no label out, as label 0 was not there after it; but its document is given for the labels of the
--- second
+-- the first print let no label out, as label 0 was not there after it, at a desk below one that is there; but its
+-- document is given for the labels of the second
 abbrev pub shown_not_left : (A : Type 0) → Run A
 shown_not_left A =
     (print 0 digits (AfterLabels 2), Stopped) ∷
-    (scan 0, NoSuch) ∷
+    (Scan 0 0 ((0, 0) ∷ []) None, NoSuch) ∷
     (print 1 other_digits (AfterLabels 2), Stopped) ∷
-    (scan 0, Scanned (page 10 1 New)) ∷
-    (scan 1, Scanned (page 10 2 Complete)) ∷
-    (Ask 0 10, Document digits) ∷ []
+    (Scan 1 0 [] None, Scanned (page 10 1 New)) ∷
+    (Scan 1 1 [] None, Scanned (page 10 2 Complete)) ∷
+    (Ask 1 10, Document digits) ∷ []
 
 -- the first print let label 0 out, as it was there after it; but the document of the second is given for it
 abbrev pub shown_left : (A : Type 0) → Run A
@@ -116,6 +122,10 @@ shown_left A =
     (scan 0, Scanned (page 10 1 New)) ∷
     (scan 1, Scanned (page 10 2 Complete)) ∷
     (Ask 0 10, Document other_digits) ∷ []
+
+-- a label disagrees with what a desk holds
+abbrev pub conflicting : (A : Type 0) → Run A
+conflicting A = (print 0 digits None, Printed 0 0 2) ∷ (scan 0, ScanRefused Conflict) ∷ []
 
 -- ---- pages
 
@@ -223,6 +233,8 @@ pub record AreUnfaithful (A : Type 0) : Type 0 where
   pub another_document_is : ¬ IsFaithfulRun (another_document A)
   pub half_printed_is : ¬ IsFaithfulRun (half_printed A)
   pub never_scanned_is : ¬ IsFaithfulRun (never_scanned A)
+  pub never_saved_is : ¬ IsFaithfulRun (never_saved A)
+  pub conflicting_is : ¬ IsFaithfulRun (conflicting A)
   pub two_documents_is : ¬ IsFaithfulRun (two_documents A)
   pub shown_not_left_is : ¬ IsFaithfulRun (shown_not_left A)
   pub shown_left_is : ¬ IsFaithfulRun (shown_left A)

@@ -229,6 +229,6 @@ fair_run {A} ranges capacities old new events replies s runs =
       its_batches ranges capacities new r.after r.stands,
       subst (λ (l : List (Event A)). IsFaithfulBy (batches_of r.after) l replies) r.events_are
           (subst (λ (l : List (Reply A)). IsFaithfulBy (batches_of r.after) (events_of r.after) l) r.replies_are
-          (is_faithful ranges (length capacities) r.after legal
-          (never_twice ranges (length capacities) r.after r.stands.disjoint legal) (r.stands.safe f.1))),
+          (is_faithful ranges (length capacities) r.after (grids_of new) capacities legal
+          (never_twice ranges (length capacities) r.after r.stands.disjoint legal) (r.stands.safe f.1) (r.stands.answers f.1))),
     )

@@ -1,5 +1,5 @@
 -- Runs of worlds: one event more at their end, and the headline.
-use Rattle.std.proofs.Common.{List, [], ◌∷◌, ◌++◌, refl, subst}
+use Rattle.std.proofs.Common.{ℕ, List, [], ◌∷◌, ◌++◌, refl, subst, zero, suc, take}
 use Rattle.dm_event_history.specs.declared.event.Event.{Event}
 use Rattle.dm_event_history.specs.declared.reply.Reply.{Reply}
 use Rattle.dm_event_history.specs.History.{History}
@@ -55,6 +55,16 @@ runs_fairly {A} old new (event ∷ events) (NotGiven ∷ answers) runs honest =
     (runs_fairly runs.0 new events answers runs.2 honest)
 runs_fairly old new [] (answer ∷ answers) runs honest = absurd runs
 runs_fairly old new (event ∷ events) [] runs honest = absurd runs
+
+-- the first events are answered as they are among more
+pub first_answers : {A : Type 0} (k : ℕ) (old new : WorldView A) (events : List (Event A)) (answers : List (Answer A)) →
+    AnswersAll old events answers new → (mid : WorldView A) × AnswersAll old (take k events) (take k answers) mid
+first_answers zero old new events answers runs = (old, refl)
+first_answers (suc k) old new [] [] runs = (new, runs)
+first_answers (suc k) old new (event ∷ events) (answer ∷ answers) runs =
+    (let t = first_answers k runs.0 new events answers runs.2 in (t.0, (runs.0, runs.1, t.1)))
+first_answers (suc k) old new [] (answer ∷ answers) runs = absurd runs
+first_answers (suc k) old new (event ∷ events) [] runs = absurd runs
 
 -- the events that were given are a run
 pub runs_by : {A : Type 0} (old new : WorldView A) (events : List (Event A)) (answers : List (Answer A)) →

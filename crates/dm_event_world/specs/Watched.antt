@@ -1,5 +1,5 @@
 -- Runs in which each event is looked at first, and what is so of their answers: the headline.
-use Rattle.std.specs.Prelude.{◌≡◌, ◌↔◌, ℕ, true, List, [], ◌∷◌}
+use Rattle.std.specs.Prelude.{◌≡◌, ◌↔◌, ℕ, true, List, [], ◌∷◌, take}
 use Rattle.dm_print_ledger.specs.declared.range.Range.{Range}
 use Rattle.dm_event_history.specs.declared.event.Event.{Event}
 use Rattle.dm_event_history.specs.declared.event.Event.TheVariants.{Scan}
@@ -30,10 +30,11 @@ AreHonest [] = Unit {0}
 AreHonest (Given is_honest reply ∷ answers) = (is_honest ≡ true) × AreHonest answers
 AreHonest (NotGiven ∷ answers) = AreHonest answers
 
--- If each event was found honest, the replies are faithful: whatever document any desk gave for an identification is
--- the one document printed under it, and no identification was printed twice.
+-- As long as each event was found honest, the replies are faithful, whatever comes later: whatever document any desk gave
+-- for an identification is the one document printed under it, and no identification was printed twice.
 abbrev pub IsFaithfulIfHonest : {A : Type 0} → List (Event A) → List (Answer A) → Type 0
-IsFaithfulIfHonest events answers = AreHonest answers → IsFaithful (given events answers) (replies answers)
+IsFaithfulIfHonest events answers = (k : ℕ) → AreHonest (take k answers) →
+    IsFaithful (given (take k events) (take k answers)) (replies (take k answers))
 
 -- ---- what the answers are
 

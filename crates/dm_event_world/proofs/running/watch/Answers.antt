@@ -1,12 +1,15 @@
 use Rattle.dm_event_world.specs.Watched.{given, replies}
-use Rattle.dm_event_world.proofs.Runs.{runs_by, runs_fairly}
+use Rattle.std.specs.Prelude.{take}
+use Rattle.dm_event_world.proofs.Runs.{first_answers, runs_by, runs_fairly}
 use Rattle.dm_event_world.proofs.running.watch.Goals as goal
 
 pub returns-in-Ok-answer_all-clause-headline : goal.returns-in-Ok-answer_all-clause-headline
-returns-in-Ok-answer_all-clause-headline g c = λ honest.
-    (let f = c.each_fair_run_is_faithful.ensures c.args.ranges.now c.args.capacities.now c.in-Ok.world c.answer_all.new.world
-    (given c.args.events.now c.in-Ok-answer_all.answers.items) (replies c.in-Ok-answer_all.answers.items) c.in-Ok.ensures.stands
-    (runs_fairly c.in-Ok.world c.answer_all.new.world c.args.events.now c.in-Ok-answer_all.answers.items c.in-Ok-answer_all.ensures honest) in
+returns-in-Ok-answer_all-clause-headline g c = λ k honest.
+    (let events = take k c.args.events.now in
+    let answers = take k c.in-Ok-answer_all.answers.items in
+    let first = first_answers k c.in-Ok.world c.answer_all.new.world c.args.events.now c.in-Ok-answer_all.answers.items c.in-Ok-answer_all.ensures in
+    let f = c.each_fair_run_is_faithful.ensures c.args.ranges.now c.args.capacities.now c.in-Ok.world first.0 (given events answers) (replies answers)
+    c.in-Ok.ensures.stands (runs_fairly c.in-Ok.world first.0 events answers first.1 honest) in
     (f.0, f.2))
 
 pub returns-in-Ok-answer_all-clause-once : goal.returns-in-Ok-answer_all-clause-once
