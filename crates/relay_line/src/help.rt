@@ -11,8 +11,8 @@ Without a command, relay does `words` with its defaults. `relay COMMAND --help`
 says more of each.
 
 Exit status: 0 where all was done; 1 where something was refused, which a line
-`refused NAME` says; 2 where the command line was refused. README.md lists the
-names.";
+`refused NAME` says; 2 where the command line was refused. docs/REFUSALS.md lists
+the names.";
 
 pub const WORDS: &str = "\
 A word is one of the numbers from 0 to 255 that a symbol holds. Side 10 holds 6
