@@ -229,7 +229,7 @@ half_printed_is A (batches, f) = by_batches batches f
         by_print batches w.printed.j g.1 w.batch w.printed.before w.printed.there left
         (w.scanned 2 (omega arith) (two_parts events replies w.printed.j w.batch left))
 
--- a scan that is answered for want of memory saves nothing
+-- a scan that is answered as memory was refused saves nothing
 unsaved : {A : Type 0} (label : ℕ) (event : Event A) (reply : Reply A) → scan label ≡ event → Memory ≡ reply → may_save event reply ≡ true → ⊥
 unsaved {A} label event reply asked answered saves =
     let x : may_save {A = A} (scan label) Memory ≡ true =

@@ -262,7 +262,7 @@ pub record Fits {A : Type 0} (ranges : List Range) (desks : ℕ) (before : Histo
   pub down : (entry.reply ≡ Down) ↔
       (IsThere (length ranges) desks before entry.event × NeedsRunning entry.event
       × (is_down before (actor_of entry.event) ≡ true))
-  -- a call is stopped only where the event says so, and there it is, if the memory that the event needs is there
+  -- a call is stopped only where the event says so, and there it is, unless memory is refused
   pub stopped : entry.reply ≡ Stopped → IsStopped entry.event
   pub stops : IsThere (length ranges) desks before entry.event → is_down before (actor_of entry.event) ≡ false →
       IsStopped entry.event → (entry.reply ≡ Stopped) ⊎ (entry.reply ≡ Memory)

@@ -93,7 +93,7 @@ half_printed A =
 abbrev pub never_scanned : (A : Type 0) → Run A
 never_scanned A = (print 0 digits None, Printed 0 0 2) ∷ (Ask 0 0, Document digits) ∷ []
 
--- each label was scanned, but each scan was answered for want of memory, so that no page was saved
+-- each label was scanned, but each scan was answered as memory was refused, so that no page was saved
 abbrev pub never_saved : (A : Type 0) → Run A
 never_saved A =
     (print 0 digits None, Printed 0 0 2) ∷ (scan 0, Memory) ∷ (scan 1, Memory) ∷ (Ask 0 0, Document digits) ∷ []

@@ -56,6 +56,6 @@ pub enum Reply<A: Allocator = Global> {
     Down,
     /// The printer, the desk, the label, a module, the ticket or the export that is named is not there.
     NoSuch,
-    /// The memory that the event itself needs was refused: nothing changed.
+    /// Memory was refused, for the event itself or for a call that was to be stopped: nothing changed.
     Memory,
 }

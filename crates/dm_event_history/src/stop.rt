@@ -3,7 +3,7 @@
 use dm_store::Kept;
 
 /// What happens to a call before its time. A call that never reaches a save takes no notice of `SaveFault`, and every
-/// other stop ends it where it would end.
+/// other stop ends it where it would end; but one whose memory is refused before that is not stopped.
 #[derive(Clone, Copy, Debug, PartialEq, Eq)]
 pub enum Stop {
     /// Nothing: the call answers.

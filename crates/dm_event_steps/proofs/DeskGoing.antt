@@ -1,5 +1,5 @@
 -- What is left of one event at a desk: its entry fits, and the desk stands, as it was, with what it saved, or down.
-use Rattle.std.proofs.Common.{◌≡◌, ◌≢◌, ◌⊎◌, inl, ◌<◌, ◌≤◌, ℕ, true, false, None, List, ◌∷◌, length, IsSome, refl, ap, sym, ◌∙◌, subst, arith}
+use Rattle.std.proofs.Common.{◌≡◌, ◌≢◌, ◌⊎◌, inl, inr, ◌<◌, ◌≤◌, ℕ, true, false, None, List, ◌∷◌, length, IsSome, refl, ap, sym, ◌∙◌, subst, arith}
 use Rattle.std.specs.FinMap as finite
 use Rattle.dm_finder_frame.specs.Grids.{GridView}
 use Rattle.dm_store.specs.Saved.{SavePlan, Outcome, Done, Faulted, HeldAfterFault}
@@ -33,7 +33,7 @@ use Rattle.dm_event_steps.specs.declared.actor.DeskState.TheVariants as desks
 use Rattle.dm_event_steps.specs.Acts.{IsCalled, next_save_of}
 use Rattle.dm_event_steps.specs.Gathered.{IsGathered}
 use Rattle.dm_event_steps.specs.DeskStands.{IsReadySet, SetStands, DeskRuns, DeskLiesDown}
-use Rattle.dm_event_steps.specs.DeskActs.{desk_planned}
+use Rattle.dm_event_steps.specs.DeskActs.{desk_planned, DeskLacksMemory}
 use Rattle.dm_event_steps.specs.Goes.{quiet, DeskGoes}
 use Rattle.dm_event_steps.proofs.PrinterGoing.{IsFine, not_both}
 use Rattle.dm_event_steps.proofs.Gathering.{gathered_keeps}
@@ -309,6 +309,35 @@ desk_down {A} ranges capacities grids h event reply d capacity saved state room 
       safe = λ _. safe;
       answers = λ _. answers;
     }))
+
+-- a running desk that answers `Memory` is as it was
+pub memory_goes : {A : Type 0} (ranges : List Range) (capacities : List ℕ) (grids : List GridView) (h : History A) (event : Event A)
+    (d capacity : ℕ) (view : DeskView) (reply : Reply A) (state : DeskState A) → IsCapacity capacity → DeskRuns grids h d capacity view →
+    actor_of event ≡ DeskAt d → IsThere (length ranges) (length capacities) h event → (let none : Reply A = Memory in IsFine ranges h 0 event none) →
+    ((id m : ℕ) → (let none : Reply A = Memory in ¬ Takes h event none d id m)) → ((id : ℕ) → (let none : Reply A = Memory in ¬ Forgets event none d id)) →
+    (let none : Reply A = Memory in IsReplySafe h event none) → (let none : Reply A = Memory in IsHonestReply grids capacities h event none) →
+    reply ≡ Memory → state ≡ desks.Running view → DeskGoes ranges capacities grids h event reply d capacity state
+memory_goes {A} ranges capacities grids h event d capacity view reply state room s named there fine takes stays safe answers is at =
+    subst (λ (y : Reply A). DeskGoes ranges capacities grids h event y d capacity state) (sym is)
+    (subst (λ (x : DeskState A). DeskGoes ranges capacities grids h event Memory d capacity x) (sym at)
+    (desk_kept ranges capacities grids h event Memory d capacity view view room s refl (record {
+      named = named;
+      there = there;
+      some_such = λ x. cc;
+      down = λ x. cc;
+      down_so = λ _ x. let up = s.up in cc (x, up);
+      stopped = λ x. cc;
+      stops = λ _ _. inr refl;
+      is_reply = fine;
+      untold = λ x. cc;
+    }) refl refl (λ id m t. absurd (takes id m t)) stays (λ honest. safe) (λ honest. answers)))
+
+-- a call that lacked memory changed nothing, so the desk is as it was
+pub lacks_same : {A : Type 0} (stop : Stop) (Call : DeskView → Type 0) (view : DeskView) (state : DeskState A) → IsReadySet view.saved →
+    ((mid : DeskView) → Call mid → mid ≡ desk_planned view next_save.Fine) → DeskLacksMemory stop Call state → state ≡ desks.Running view
+lacks_same stop Call view state ready same lacks =
+    lacks.state_is ∙ ap desks.Running
+    (ap (λ (v : DeskView). desk_planned v next_save.Fine) (same lacks.mid lacks.call) ∙ fine_desk view next_save.Fine ready)
 
 -- a call that is made and told so
 pub call_told : {A : Type 0} (ranges : List Range) (desks : ℕ) (h : History A) (event : Event A) (reply : Reply A) (d : ℕ) (stop : Stop) →

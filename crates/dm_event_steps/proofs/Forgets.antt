@@ -44,7 +44,7 @@ use Rattle.dm_event_steps.specs.Goes.{quiet, DeskGoes}
 use Rattle.dm_event_steps.proofs.DeskFacts.{some_page}
 use Rattle.dm_event_steps.proofs.Asks.{not_surely, page_is}
 use Rattle.dm_event_steps.proofs.Gathering.{HoldsWithout, gathered_keeps, gathered_without}
-use Rattle.dm_event_steps.proofs.DeskGoing.{none_leaves, set_keeps, fine_desk, done_with_none, faulted_with, desk_kept, set_saved, desk_saves, kept_held, desk_fails, desk_stopped, call_told, stop_told}
+use Rattle.dm_event_steps.proofs.DeskGoing.{none_leaves, memory_goes, lacks_same, set_keeps, fine_desk, done_with_none, faulted_with, desk_kept, set_saved, desk_saves, kept_held, desk_fails, desk_stopped, call_told, stop_told}
 
 -- ---- what is held without a document
 
@@ -230,7 +230,8 @@ stored_stopped {A} grids h d id capacity stop view mid given s may f = by_failed
 
 stopped_goes : {A : Type 0} (ranges : List Range) (capacities : List ℕ) (grids : List GridView) (h : History A) (d id capacity : ℕ) (stop : Stop)
     (view : DeskView) (state : DeskState A) → d < length capacities → IsCapacity capacity → DeskRuns grids h d capacity view →
-    StopsDesk stop view (λ mid. (given : Result (Unit {0}) ForgetFault) × ForgetsOne id (desk_planned view next_save.Fine) given mid) state →
+    StopsDesk stop view (λ mid. (given : Result (Unit {0}) ForgetFault) × (given ≢ Err forget_fault.Memory)
+    × ForgetsOne id (desk_planned view next_save.Fine) given mid) state →
     DeskGoes ranges capacities grids h (Forget d id stop) Stopped d capacity state
 stopped_goes {A} ranges capacities grids h d id capacity stop view state there room s acts = by_stop stop acts
   where
@@ -239,30 +240,43 @@ stopped_goes {A} ranges capacities grids h d id capacity stop view state there r
         (λ x. none_leaves {A = A} (Forget d id t) Stopped _ x) (λ i m x. absurd x) (λ i x. x) s.store
 
     by_stop : (t : Stop) →
-        StopsDesk t view (λ mid. (given : Result (Unit {0}) ForgetFault) × ForgetsOne id (desk_planned view next_save.Fine) given mid) state →
+        StopsDesk t view (λ mid. (given : Result (Unit {0}) ForgetFault) × (given ≢ Err forget_fault.Memory)
+        × ForgetsOne id (desk_planned view next_save.Fine) given mid) state →
         DeskGoes ranges capacities grids h (Forget d id t) Stopped d capacity state
     by_stop BeforeSave x = desk_stopped ranges capacities grids h (Forget d id BeforeSave) d capacity view.saved s.stored state room
         (stop_told ranges (length capacities) h (Forget d id BeforeSave) d refl there s.up tt (refl, tt)) (before BeforeSave) tt tt x
     by_stop (InSave kept.Old) x = desk_stopped ranges capacities grids h (Forget d id (InSave kept.Old)) d capacity view.saved s.stored state room
         (stop_told ranges (length capacities) h (Forget d id (InSave kept.Old)) d refl there s.up tt (refl, tt)) (before (InSave kept.Old)) tt tt x
     by_stop (InSave kept.New) x =
-        (let stored = stored_stopped grids h d id capacity (InSave kept.New) view x.0 x.1.0 s refl x.1.1 in
+        (let stored = stored_stopped grids h d id capacity (InSave kept.New) view x.0 x.1.0 s refl x.1.2 in
         desk_stopped ranges capacities grids h (Forget d id (InSave kept.New)) d capacity (desk_planned x.0 next_save.Fine).saved stored.0 state room
         (stop_told ranges (length capacities) h (Forget d id (InSave kept.New)) d refl there s.up tt (refl, tt)) stored.1 tt tt x.2)
     by_stop (AfterLabels most) x =
-        (let stored = stored_stopped grids h d id capacity (AfterLabels most) view x.0 x.1.0 s refl x.1.1 in
+        (let stored = stored_stopped grids h d id capacity (AfterLabels most) view x.0 x.1.0 s refl x.1.2 in
         desk_stopped ranges capacities grids h (Forget d id (AfterLabels most)) d capacity (desk_planned x.0 next_save.Fine).saved stored.0 state room
         (stop_told ranges (length capacities) h (Forget d id (AfterLabels most)) d refl there s.up tt (refl, tt)) stored.1 tt tt x.2)
     by_stop stops.None x = absurd x
     by_stop (SaveFault k) x = absurd x
 
+-- a forget whose memory was refused
+none_forgotten : (id : ℕ) (old new : DeskView) → ForgetsOne id old (Err forget_fault.Memory) new → new ≡ old
+none_forgotten id old new f = by_failed old.is_failed refl
+  where
+    by_failed : (b : Bool) → old.is_failed ≡ b → new ≡ old
+    by_failed true was = (f.failed was).1
+    by_failed false was = (f.forgotten was).1
+
 pub forget_goes : {A : Type 0} (ranges : List Range) (capacities : List ℕ) (grids : List GridView) (h : History A) (d id capacity : ℕ) (stop : Stop)
     (view : DeskView) (reply : Reply A) (state : DeskState A) → d < length capacities → IsCapacity capacity → DeskRuns grids h d capacity view →
-    CallActs (ForgetsOne id) forget_reply view stop reply state → DeskGoes ranges capacities grids h (Forget d id stop) reply d capacity state
+    CallActs (ForgetsOne id) forget_reply (Err forget_fault.Memory) view stop reply state →
+    DeskGoes ranges capacities grids h (Forget d id stop) reply d capacity state
 forget_goes {A} ranges capacities grids h d id capacity stop view reply state there room s (inl made) =
     subst (λ (r : Reply A). DeskGoes ranges capacities grids h (Forget d id stop) r d capacity state) (sym made.reply_is)
     (subst (λ (x : DeskState A). DeskGoes ranges capacities grids h (Forget d id stop) (forget_reply made.answer) d capacity x) (sym made.state_is)
     (called_goes ranges capacities grids h d id capacity stop view made.mid made.answer there room s made.called made.makes))
-forget_goes {A} ranges capacities grids h d id capacity stop view reply state there room s (inr stopped) =
+forget_goes {A} ranges capacities grids h d id capacity stop view reply state there room s (inr (inl stopped)) =
     subst (λ (r : Reply A). DeskGoes ranges capacities grids h (Forget d id stop) r d capacity state) (sym stopped.0)
     (stopped_goes ranges capacities grids h d id capacity stop view state there room s stopped.1)
+forget_goes ranges capacities grids h d id capacity stop view reply state there room s (inr (inr lacks)) =
+    memory_goes ranges capacities grids h (Forget d id stop) d capacity view reply state room s refl there (refl, tt) (λ i m t. t) (λ i x. x) tt tt lacks.0
+    (lacks_same stop _ view state s.store.ready (none_forgotten id (desk_planned view next_save.Fine)) lacks.1)

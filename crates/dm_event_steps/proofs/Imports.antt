@@ -58,7 +58,7 @@ use Rattle.dm_event_steps.proofs.Asks.{counted_is, page_is, some_none}
 use Rattle.dm_event_steps.proofs.Scans.{other_held}
 use Rattle.dm_event_steps.proofs.Exports.{named_there, there_named}
 use Rattle.dm_event_steps.proofs.Gathering.{HoldsFileToo, gathered_keeps, gathered_with_file}
-use Rattle.dm_event_steps.proofs.DeskGoing.{none_leaves, set_keeps, fine_desk, done_with_none, faulted_with, desk_kept, set_saved, desk_saves, kept_held, desk_fails, desk_stopped, call_told, stop_told}
+use Rattle.dm_event_steps.proofs.DeskGoing.{none_leaves, memory_goes, lacks_same, set_keeps, fine_desk, done_with_none, faulted_with, desk_kept, set_saved, desk_saves, kept_held, desk_fails, desk_stopped, call_told, stop_told}
 
 -- an export that left is imported at a desk that runs
 pub record IsBrought {A : Type 0} (capacities : List ℕ) (grids : List GridView) (h : History A) (d number capacity : ℕ)
@@ -454,7 +454,8 @@ stored_stopped {A} capacities grids h d number capacity stop view mid export giv
 
 stopped_goes : {A : Type 0} (ranges : List Range) (capacities : List ℕ) (grids : List GridView) (h : History A) (d number capacity : ℕ) (stop : Stop)
     (view : DeskView) (export : LeftExport A) (state : DeskState A) → IsBrought capacities grids h d number capacity view export →
-    StopsDesk stop view (λ mid. (given : Result imported_type.Imported ImportFault) × ImportsIn export.bytes (desk_planned view next_save.Fine) given mid) state →
+    StopsDesk stop view (λ mid. (given : Result imported_type.Imported ImportFault) × (given ≢ Err import_fault.Memory)
+    × ImportsIn export.bytes (desk_planned view next_save.Fine) given mid) state →
     DeskGoes ranges capacities grids h (Import d number stop) Stopped d capacity state
 stopped_goes {A} ranges capacities grids h d number capacity stop view export state s acts = by_stop stop acts
   where
@@ -463,30 +464,47 @@ stopped_goes {A} ranges capacities grids h d number capacity stop view export st
         (λ x. none_leaves {A = A} (Import d number t) Stopped _ x) (λ i m x. absurd x) (λ i x. x) s.runs.store
 
     by_stop : (t : Stop) →
-        StopsDesk t view (λ mid. (given : Result imported_type.Imported ImportFault) × ImportsIn export.bytes (desk_planned view next_save.Fine) given mid) state →
+        StopsDesk t view (λ mid. (given : Result imported_type.Imported ImportFault) × (given ≢ Err import_fault.Memory)
+        × ImportsIn export.bytes (desk_planned view next_save.Fine) given mid) state →
         DeskGoes ranges capacities grids h (Import d number t) Stopped d capacity state
     by_stop BeforeSave x = desk_stopped ranges capacities grids h (Import d number BeforeSave) d capacity view.saved s.runs.stored state s.room
         (stop_told ranges (length capacities) h (Import d number BeforeSave) d refl s.there s.runs.up tt (refl, tt)) (before BeforeSave) tt tt x
     by_stop (InSave kept.Old) x = desk_stopped ranges capacities grids h (Import d number (InSave kept.Old)) d capacity view.saved s.runs.stored state s.room
         (stop_told ranges (length capacities) h (Import d number (InSave kept.Old)) d refl s.there s.runs.up tt (refl, tt)) (before (InSave kept.Old)) tt tt x
     by_stop (InSave kept.New) x =
-        (let stored = stored_stopped capacities grids h d number capacity (InSave kept.New) view x.0 export x.1.0 s refl x.1.1 in
+        (let stored = stored_stopped capacities grids h d number capacity (InSave kept.New) view x.0 export x.1.0 s refl x.1.2 in
         desk_stopped ranges capacities grids h (Import d number (InSave kept.New)) d capacity (desk_planned x.0 next_save.Fine).saved stored.0 state s.room
         (stop_told ranges (length capacities) h (Import d number (InSave kept.New)) d refl s.there s.runs.up tt (refl, tt)) stored.1 tt tt x.2)
     by_stop (AfterLabels most) x =
-        (let stored = stored_stopped capacities grids h d number capacity (AfterLabels most) view x.0 export x.1.0 s refl x.1.1 in
+        (let stored = stored_stopped capacities grids h d number capacity (AfterLabels most) view x.0 export x.1.0 s refl x.1.2 in
         desk_stopped ranges capacities grids h (Import d number (AfterLabels most)) d capacity (desk_planned x.0 next_save.Fine).saved stored.0 state s.room
         (stop_told ranges (length capacities) h (Import d number (AfterLabels most)) d refl s.there s.runs.up tt (refl, tt)) stored.1 tt tt x.2)
     by_stop stops.None x = absurd x
     by_stop (SaveFault k) x = absurd x
 
+-- an import whose memory was refused
+none_imported : {A : Type 0} (capacities : List ℕ) (grids : List GridView) (h : History A) (d number capacity : ℕ) (view old new : DeskView)
+    (export : LeftExport A) → IsBrought capacities grids h d number capacity view export →
+    ImportsIn export.bytes old (Err import_fault.Memory) new → new ≡ old
+none_imported capacities grids h d number capacity view old new export s f = by_failed old.is_failed refl
+  where
+    by_failed : (b : Bool) → old.is_failed ≡ b → new ≡ old
+    by_failed true was = (f.failed was).1
+    by_failed false was = ((f.imported was).spelled export.id s.shows.pages s.shows.spells).1
+
 pub import_goes : {A : Type 0} (ranges : List Range) (capacities : List ℕ) (grids : List GridView) (h : History A) (d number capacity : ℕ) (stop : Stop)
     (view : DeskView) (export : LeftExport A) (reply : Reply A) (state : DeskState A) → IsBrought capacities grids h d number capacity view export →
-    CallActs (ImportsIn export.bytes) import_reply view stop reply state → DeskGoes ranges capacities grids h (Import d number stop) reply d capacity state
+    CallActs (ImportsIn export.bytes) import_reply (Err import_fault.Memory) view stop reply state →
+    DeskGoes ranges capacities grids h (Import d number stop) reply d capacity state
 import_goes {A} ranges capacities grids h d number capacity stop view export reply state s (inl made) =
     subst (λ (r : Reply A). DeskGoes ranges capacities grids h (Import d number stop) r d capacity state) (sym made.reply_is)
     (subst (λ (x : DeskState A). DeskGoes ranges capacities grids h (Import d number stop) (import_reply made.answer) d capacity x) (sym made.state_is)
     (called_goes ranges capacities grids h d number capacity stop view made.mid export made.answer s made.called made.makes))
-import_goes {A} ranges capacities grids h d number capacity stop view export reply state s (inr stopped) =
+import_goes {A} ranges capacities grids h d number capacity stop view export reply state s (inr (inl stopped)) =
     subst (λ (r : Reply A). DeskGoes ranges capacities grids h (Import d number stop) r d capacity state) (sym stopped.0)
     (stopped_goes ranges capacities grids h d number capacity stop view export state s stopped.1)
+import_goes ranges capacities grids h d number capacity stop view export reply state s (inr (inr lacks)) =
+    memory_goes ranges capacities grids h (Import d number stop) d capacity view reply state s.room s.runs refl s.there (refl, tt) (λ i m t. t) (λ i x. x)
+    tt tt lacks.0
+    (lacks_same stop _ view state s.runs.store.ready
+    (λ mid call. none_imported capacities grids h d number capacity view (desk_planned view next_save.Fine) mid export s call) lacks.1)

@@ -1,5 +1,5 @@
 -- Gives and takes: each kind of answer gives an entry that fits the history.
-use Rattle.std.proofs.Common.{◌≡◌, inl, inr, ◌<◌, ◌≤◌, ℕ, true, false, Option, Some, None, IsSomeAnd, Result, Ok, Err, List, [], length, slice_get, IfSome, refl, ap, sym, ◌∙◌, subst}
+use Rattle.std.proofs.Common.{◌≡◌, ◌≢◌, inl, inr, ◌<◌, ◌≤◌, ℕ, true, false, Option, Some, None, IsSomeAnd, Result, Ok, Err, List, [], length, slice_get, IfSome, refl, ap, sym, ◌∙◌, subst}
 use Rattle.std.proofs.lemmas.List.{append-nil}
 use Rattle.dm_store.specs.declared.fuse.Kept.{Kept}
 use Rattle.dm_store.specs.declared.fuse.Kept.TheVariants.{Old, New}
@@ -36,7 +36,7 @@ use Rattle.dm_event_steps.specs.Stands.{IsLedgerOf, Runs}
 use Rattle.dm_event_steps.specs.Acts.{Left, IsCalled, next_save_of, planned, StopsPrinter, TellsGive, GiveActs, take_reply, TakeActs}
 use Rattle.dm_event_steps.specs.Goes.{PrinterGoes}
 use Rattle.dm_event_steps.proofs.Ledgers.{numbers_quiet, numbers_keep, ledger_gave, ledger_took, comes_at_most}
-use Rattle.dm_event_steps.proofs.PrinterGoing.{plain, plain_goes, no_ticket, ledger_now, saved_with_none, failed_with_fault, store_saved, runs_saved, runs_failed, IsOutcome, none_saved, none_changed, outcome_goes, kept_goes, refused_goes}
+use Rattle.dm_event_steps.proofs.PrinterGoing.{plain, plain_goes, no_ticket, ledger_now, fine_printer, saved_with_none, failed_with_fault, store_saved, runs_saved, runs_failed, IsOutcome, none_saved, none_changed, outcome_goes, kept_goes, refused_goes}
 
 -- the numbers of a range that can be given are free
 were_free : {A : Type 0} (ranges : List Range) (h : History A) (p receiver : ℕ) (range : Range) (view : PrinterView) → Runs ranges h p view →
@@ -193,7 +193,8 @@ give_outcome ranges h p receiver range stop view mid (Err give_fault.Save) s may
 give_stopped : {A : Type 0} (ranges : List Range) (desks : ℕ) (h : History A) (p receiver : ℕ) (range : Range) (stop : Stop)
     (view : PrinterView) (actor : PrinterActor A) (old new : Left A) → p < length ranges → Runs ranges h p view →
     new.labels ≡ old.labels → new.tickets ≡ old.tickets →
-    StopsPrinter stop view (λ mid. (answer : Result TicketView GiveFault) × Gives (planned view next_save.Fine) receiver range answer mid) actor →
+    StopsPrinter stop view (λ mid. (answer : Result TicketView GiveFault) × (answer ≢ Err give_fault.Memory)
+    × Gives (planned view next_save.Fine) receiver range answer mid) actor →
     PrinterGoes ranges desks h (Give p receiver range stop) Stopped p actor old new
 give_stopped ranges desks h p receiver range BeforeSave view actor old new there s labels same acts =
     outcome_goes ranges desks h (Give p receiver range BeforeSave) p view view.saved actor old new refl there s tt (λ id. (refl, tt)) acts labels same
@@ -203,10 +204,10 @@ give_stopped ranges desks h p receiver range (InSave Old) view actor old new the
     (none_saved ranges h (Give p receiver range (InSave Old)) p view view.saved s refl)
 give_stopped ranges desks h p receiver range (InSave New) view actor old new there s labels same acts =
     outcome_goes ranges desks h (Give p receiver range (InSave New)) p view (planned acts.0 next_save.Fine).saved actor old new refl there s tt
-    (λ id. (refl, tt)) acts.2 labels same (give_outcome ranges h p receiver range (InSave New) view acts.0 acts.1.0 s refl acts.1.1)
+    (λ id. (refl, tt)) acts.2 labels same (give_outcome ranges h p receiver range (InSave New) view acts.0 acts.1.0 s refl acts.1.2)
 give_stopped ranges desks h p receiver range (AfterLabels k) view actor old new there s labels same acts =
     outcome_goes ranges desks h (Give p receiver range (AfterLabels k)) p view (planned acts.0 next_save.Fine).saved actor old new refl there s tt
-    (λ id. (refl, tt)) acts.2 labels same (give_outcome ranges h p receiver range (AfterLabels k) view acts.0 acts.1.0 s refl acts.1.1)
+    (λ id. (refl, tt)) acts.2 labels same (give_outcome ranges h p receiver range (AfterLabels k) view acts.0 acts.1.0 s refl acts.1.2)
 give_stopped ranges desks h p receiver range stops.None view actor old new there s labels same acts = absurd acts
 give_stopped ranges desks h p receiver range (SaveFault k) view actor old new there s labels same acts = absurd acts
 
@@ -391,7 +392,8 @@ take_outcome ranges h p number ticket stop view mid (Err take_fault.Save) s is m
 take_stopped : {A : Type 0} (ranges : List Range) (desks : ℕ) (h : History A) (p number : ℕ) (ticket : TicketView) (stop : Stop)
     (view : PrinterView) (actor : PrinterActor A) (old new : Left A) → p < length ranges → number < length (tickets h) → Runs ranges h p view →
     slice_get (tickets h) number ≡ Some ticket → new.labels ≡ old.labels → new.tickets ≡ old.tickets →
-    StopsPrinter stop view (λ mid. (answer : Result (Unit {0}) TakeFault) × Takes (planned view next_save.Fine) ticket answer mid) actor →
+    StopsPrinter stop view (λ mid. (answer : Result (Unit {0}) TakeFault) × (answer ≢ Err take_fault.Memory)
+    × Takes (planned view next_save.Fine) ticket answer mid) actor →
     PrinterGoes ranges desks h (Take p number stop) Stopped p actor old new
 take_stopped ranges desks h p number ticket BeforeSave view actor old new there within s is labels same acts =
     outcome_goes ranges desks h (Take p number BeforeSave) p view view.saved actor old new refl (there, within) s tt (λ id. (refl, tt)) acts labels same
@@ -401,10 +403,10 @@ take_stopped ranges desks h p number ticket (InSave Old) view actor old new ther
     (none_saved ranges h (Take p number (InSave Old)) p view view.saved s refl)
 take_stopped ranges desks h p number ticket (InSave New) view actor old new there within s is labels same acts =
     outcome_goes ranges desks h (Take p number (InSave New)) p view (planned acts.0 next_save.Fine).saved actor old new refl (there, within) s tt
-    (λ id. (refl, tt)) acts.2 labels same (take_outcome ranges h p number ticket (InSave New) view acts.0 acts.1.0 s is refl acts.1.1)
+    (λ id. (refl, tt)) acts.2 labels same (take_outcome ranges h p number ticket (InSave New) view acts.0 acts.1.0 s is refl acts.1.2)
 take_stopped ranges desks h p number ticket (AfterLabels k) view actor old new there within s is labels same acts =
     outcome_goes ranges desks h (Take p number (AfterLabels k)) p view (planned acts.0 next_save.Fine).saved actor old new refl (there, within) s tt
-    (λ id. (refl, tt)) acts.2 labels same (take_outcome ranges h p number ticket (AfterLabels k) view acts.0 acts.1.0 s is refl acts.1.1)
+    (λ id. (refl, tt)) acts.2 labels same (take_outcome ranges h p number ticket (AfterLabels k) view acts.0 acts.1.0 s is refl acts.1.2)
 take_stopped ranges desks h p number ticket stops.None view actor old new there within s is labels same acts = absurd acts
 take_stopped ranges desks h p number ticket (SaveFault k) view actor old new there within s is labels same acts = absurd acts
 
@@ -418,7 +420,14 @@ take_goes {A} ranges desks h p number ticket stop reply view actor old new legal
     (subst (λ (r : Reply A). PrinterGoes ranges desks h (Take p number stop) r p (actors.Running (planned called.3.mid next_save.Fine)) old new)
     (sym called.3.reply_is)
     (take_called ranges desks h p number ticket stop view called.3.mid called.3.answer old new legal placed there is within s called.2 called.3.takes same))
-take_goes {A} ranges desks h p number ticket stop reply view actor old new legal placed there within s is same (inr stopped) =
+take_goes {A} ranges desks h p number ticket stop reply view actor old new legal placed there within s is same (inr (inl stopped)) =
     subst (λ (r : Reply A). PrinterGoes ranges desks h (Take p number stop) r p actor old new) (sym stopped.0)
     (take_stopped ranges desks h p number ticket stop view actor old new there within s is
     (ap (λ (l : Left A). l.labels) same) (ap (λ (l : Left A). l.tickets) same) stopped.1)
+take_goes {A} ranges desks h p number ticket stop reply view actor old new legal placed there within s is same (inr (inr lacks)) =
+    subst (λ (r : Reply A). PrinterGoes ranges desks h (Take p number stop) r p actor old new) (sym lacks.0)
+    (subst (λ (a : PrinterActor A). PrinterGoes ranges desks h (Take p number stop) Memory p a old new) (sym lacks.1.actor_is)
+    (kept_goes ranges desks h (Take p number stop) Memory p view (planned lacks.1.mid next_save.Fine) old new refl (there, within) s
+    (ap (λ (v : PrinterView). planned v next_save.Fine) lacks.1.call.1 ∙ fine_printer view next_save.Fine s.store.ready)
+    (λ x. cc) (λ x. cc) (λ x. cc) (λ _. refl) refl refl (λ x. cc) refl (refl, tt)
+    (ap (λ (l : Left A). l.labels) same) (ap (λ (l : Left A). l.tickets) same)))

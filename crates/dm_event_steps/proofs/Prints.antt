@@ -1,5 +1,5 @@
 -- Each kind of answer to a print gives an entry that fits the history.
-use Rattle.std.proofs.Common.{◌≡◌, inl, inr, ◌<◌, ℕ, true, false, Result, Ok, Err, List, [], ◌∷◌, ◌++◌, length, map, take, min, refl, ap, sym, ◌∙◌, subst, arith}
+use Rattle.std.proofs.Common.{◌≡◌, ◌≢◌, inl, inr, ◌<◌, ℕ, true, false, Result, Ok, Err, List, [], ◌∷◌, ◌++◌, length, map, take, min, refl, ap, sym, ◌∙◌, subst, arith}
 use Rattle.std.proofs.lemmas.List.{length-map, append-nil}
 use Rattle.dm_check_blocks.specs.declared.size.Size.{Size}
 use Rattle.dm_encodation.specs.declared.scheme.Scheme.{Scheme}
@@ -306,7 +306,7 @@ stop_goes : {A : Type 0} (ranges : List Range) (desks : ℕ) (h : History A) (p 
     (stop : Stop) (view : PrinterView) (answer : Result JobView PrintFault) (actor : PrinterActor A) (old new : Left A) →
     p < length ranges → Runs ranges h p view →
     new.labels ≡ old.labels ++ stopped_labels stop answer → new.tickets ≡ old.tickets →
-    StopsPrinter stop view (λ mid. Prints (planned view next_save.Fine) size scheme document answer mid) actor →
+    StopsPrinter stop view (λ mid. (answer ≢ Err print_fault.Memory) × Prints (planned view next_save.Fine) size scheme document answer mid) actor →
     PrinterGoes ranges desks h (Print p document size scheme stop) Stopped p actor old new
 stop_goes {A} ranges desks h p document size scheme BeforeSave view answer actor old new there s labels tickets acts =
     outcome_goes ranges desks h (Print p document size scheme BeforeSave) p view view.saved actor old new refl there s tt (λ id. (inl refl, tt)) acts
@@ -317,13 +317,13 @@ stop_goes {A} ranges desks h p document size scheme (InSave Old) view answer act
 stop_goes {A} ranges desks h p document size scheme (InSave New) view answer actor old new there s labels tickets acts =
     outcome_goes ranges desks h (Print p document size scheme (InSave New)) p view (planned acts.0 next_save.Fine).saved actor old new refl there s tt
     (λ id. (inl refl, tt)) acts.2 (labels ∙ append-nil old.labels) tickets
-    (stopped_outcome ranges desks h p document size scheme (InSave New) view acts.0 answer s refl acts.1)
+    (stopped_outcome ranges desks h p document size scheme (InSave New) view acts.0 answer s refl acts.1.1)
 stop_goes {A} ranges desks h p document size scheme (AfterLabels most) view (Ok job) actor old new there s labels tickets acts =
-    some_goes ranges desks h p document size scheme most view acts.0 job actor old new there s acts.1 acts.2 labels tickets
+    some_goes ranges desks h p document size scheme most view acts.0 job actor old new there s acts.1.1 acts.2 labels tickets
 stop_goes {A} ranges desks h p document size scheme (AfterLabels most) view (Err fault) actor old new there s labels tickets acts =
     outcome_goes ranges desks h (Print p document size scheme (AfterLabels most)) p view (planned acts.0 next_save.Fine).saved actor old new refl there s tt
     (λ id. (inl refl, tt)) acts.2 (labels ∙ append-nil old.labels) tickets
-    (stopped_outcome ranges desks h p document size scheme (AfterLabels most) view acts.0 (Err fault) s refl acts.1)
+    (stopped_outcome ranges desks h p document size scheme (AfterLabels most) view acts.0 (Err fault) s refl acts.1.1)
 stop_goes ranges desks h p document size scheme stops.None view answer actor old new there s labels tickets acts = absurd acts
 stop_goes ranges desks h p document size scheme (SaveFault k) view answer actor old new there s labels tickets acts = absurd acts
 

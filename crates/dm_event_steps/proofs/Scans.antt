@@ -59,7 +59,7 @@ use Rattle.dm_event_steps.specs.Goes.{quiet, DeskGoes}
 use Rattle.dm_event_steps.proofs.PrinterGoing.{IsFine, not_both}
 use Rattle.dm_event_steps.proofs.DeskFacts.{HoldsPage, is_free, holds_also, holds_all_others, lacks_another, Disagrees, holds_again, disagrees, is_full, some_page}
 use Rattle.dm_event_steps.proofs.Gathering.{gathered_keeps, gathered_with}
-use Rattle.dm_event_steps.proofs.DeskGoing.{none_leaves, IsTold, set_keeps, fine_desk, done_with_none, faulted_with, desk_kept, set_saved, desk_saves, kept_held, desk_fails, desk_stopped}
+use Rattle.dm_event_steps.proofs.DeskGoing.{none_leaves, memory_goes, lacks_same, IsTold, set_keeps, fine_desk, done_with_none, faulted_with, desk_kept, set_saved, desk_saves, kept_held, desk_fails, desk_stopped}
 
 -- a label that left is scanned at a desk that runs
 pub record IsScanned {A : Type 0} (capacities : List ℕ) (grids : List GridView) (h : History A) (d number capacity : ℕ)
@@ -573,7 +573,8 @@ stored_stopped {A} capacities grids h d number capacity flips stop view mid labe
 stopped_goes : {A : Type 0} (ranges : List Range) (capacities : List ℕ) (grids : List GridView) (h : History A)
     (d number capacity : ℕ) (flips : List (ℕ × ℕ)) (stop : Stop) (view : DeskView) (label : LeftLabel A) (state : DeskState A) →
     IsScanned capacities grids h d number capacity flips view label →
-    StopsDesk stop view (λ mid. (given : Result Accepted ScanFault) × Accepts A (flipped label.grid flips) (desk_planned view next_save.Fine) given mid) state →
+    StopsDesk stop view (λ mid. (given : Result Accepted ScanFault) × (given ≢ Err scan_fault.Memory)
+    × Accepts A (flipped label.grid flips) (desk_planned view next_save.Fine) given mid) state →
     DeskGoes ranges capacities grids h (Scan d number flips stop) Stopped d capacity state
 stopped_goes {A} ranges capacities grids h d number capacity flips stop view label state s acts = by_stop stop acts
   where
@@ -595,22 +596,35 @@ stopped_goes {A} ranges capacities grids h d number capacity flips stop view lab
         (λ x. none_leaves {A = A} (Scan d number flips t) Stopped _ x) (λ id m t. absurd t) (λ id x. x) s.runs.store
 
     by_stop : (t : Stop) →
-        StopsDesk t view (λ mid. (given : Result Accepted ScanFault) × Accepts A (flipped label.grid flips) (desk_planned view next_save.Fine) given mid) state →
+        StopsDesk t view (λ mid. (given : Result Accepted ScanFault) × (given ≢ Err scan_fault.Memory)
+        × Accepts A (flipped label.grid flips) (desk_planned view next_save.Fine) given mid) state →
         DeskGoes ranges capacities grids h (Scan d number flips t) Stopped d capacity state
     by_stop BeforeSave x = desk_stopped ranges capacities grids h (Scan d number flips BeforeSave) d capacity view.saved s.runs.stored state s.room
         (told BeforeSave tt) (before BeforeSave) tt tt x
     by_stop (InSave kept.Old) x = desk_stopped ranges capacities grids h (Scan d number flips (InSave kept.Old)) d capacity view.saved s.runs.stored state s.room
         (told (InSave kept.Old) tt) (before (InSave kept.Old)) tt tt x
     by_stop (InSave kept.New) x =
-        (let stored = stored_stopped capacities grids h d number capacity flips (InSave kept.New) view x.0 label x.1.0 s refl x.1.1 in
+        (let stored = stored_stopped capacities grids h d number capacity flips (InSave kept.New) view x.0 label x.1.0 s refl x.1.2 in
         desk_stopped ranges capacities grids h (Scan d number flips (InSave kept.New)) d capacity (desk_planned x.0 next_save.Fine).saved stored.0 state s.room
         (told (InSave kept.New) tt) stored.1 tt tt x.2)
     by_stop (AfterLabels most) x =
-        (let stored = stored_stopped capacities grids h d number capacity flips (AfterLabels most) view x.0 label x.1.0 s refl x.1.1 in
+        (let stored = stored_stopped capacities grids h d number capacity flips (AfterLabels most) view x.0 label x.1.0 s refl x.1.2 in
         desk_stopped ranges capacities grids h (Scan d number flips (AfterLabels most)) d capacity (desk_planned x.0 next_save.Fine).saved stored.0 state s.room
         (told (AfterLabels most) tt) stored.1 tt tt x.2)
     by_stop stops.None x = absurd x
     by_stop (SaveFault k) x = absurd x
+
+-- a scan whose memory was refused
+none_scanned : {A : Type 0} (grid : GridView) (old new : DeskView) → Accepts A grid old (Err scan_fault.Memory) new → new ≡ old
+none_scanned {A} grid old new accepts = by_failed old.is_failed refl
+  where
+    by_opened : (opened : Result (Opened A) LabelFault) → Scans opened old (Err scan_fault.Memory) new → new ≡ old
+    by_opened (Ok opened) x = x.1
+    by_opened (Err fault) x = x.1
+
+    by_failed : (b : Bool) → old.is_failed ≡ b → new ≡ old
+    by_failed true was = (accepts.failed was).1
+    by_failed false was = (let x = accepts.scanned was in by_opened x.opened x.scans)
 
 -- ---- any scan of a label that left, at a running desk
 
@@ -619,23 +633,16 @@ pub scan_goes : {A : Type 0} (ranges : List Range) (capacities : List ℕ) (grid
     IsScanned capacities grids h d number capacity flips view label →
     ScanActs view (flipped label.grid flips) stop reply state → DeskGoes ranges capacities grids h (Scan d number flips stop) reply d capacity state
 scan_goes {A} ranges capacities grids h d number capacity flips stop view label reply state s (inl none) =
-    subst (λ (r : Reply A). DeskGoes ranges capacities grids h (Scan d number flips stop) r d capacity state) (sym none.0)
-    (subst (λ (x : DeskState A). DeskGoes ranges capacities grids h (Scan d number flips stop) Memory d capacity x) (sym none.1)
-    (desk_kept ranges capacities grids h (Scan d number flips stop) Memory d capacity view view s.room s.runs refl (record {
-      named = refl;
-      there = s.there;
-      some_such = λ x. cc;
-      down = λ x. cc;
-      down_so = λ _ x. let up = s.runs.up in cc (x, up);
-      stopped = λ x. cc;
-      stops = λ _ _. inr refl;
-      is_reply = (refl, tt);
-      untold = λ x. cc;
-    }) refl refl (λ id m t. absurd t) (λ id x. x) (λ honest. tt) (λ honest. tt)))
+    memory_goes ranges capacities grids h (Scan d number flips stop) d capacity view reply state s.room s.runs refl s.there (refl, tt)
+    (λ id m t. t) (λ id x. x) tt tt none.0 none.1
 scan_goes {A} ranges capacities grids h d number capacity flips stop view label reply state s (inr (inl made)) =
     subst (λ (r : Reply A). DeskGoes ranges capacities grids h (Scan d number flips stop) r d capacity state) (sym made.reply_is)
     (subst (λ (x : DeskState A). DeskGoes ranges capacities grids h (Scan d number flips stop) (scan_reply made.answer) d capacity x) (sym made.state_is)
     (called_goes ranges capacities grids h d number capacity flips stop view made.mid label made.answer s made.called made.makes))
-scan_goes {A} ranges capacities grids h d number capacity flips stop view label reply state s (inr (inr stopped)) =
+scan_goes {A} ranges capacities grids h d number capacity flips stop view label reply state s (inr (inr (inl stopped))) =
     subst (λ (r : Reply A). DeskGoes ranges capacities grids h (Scan d number flips stop) r d capacity state) (sym stopped.0)
     (stopped_goes ranges capacities grids h d number capacity flips stop view label state s stopped.1)
+scan_goes ranges capacities grids h d number capacity flips stop view label reply state s (inr (inr (inr lacks))) =
+    memory_goes ranges capacities grids h (Scan d number flips stop) d capacity view reply state s.room s.runs refl s.there (refl, tt)
+    (λ id m t. t) (λ id x. x) tt tt lacks.0
+    (lacks_same stop _ view state s.runs.store.ready (none_scanned (flipped label.grid flips) (desk_planned view next_save.Fine)) lacks.1)

@@ -1,6 +1,8 @@
 -- What one event does to the printer that it names, and to the labels and tickets that left. A call that is made is
--- the single call on that printer, the next save's plan being that of the stop; then the plan is fine again.
-use Rattle.std.specs.Prelude.{◌≡◌, ◌⊎◌, ℕ, false, Some, Result, Ok, Err, List, [], ◌∷◌, ◌++◌, length, slice_get, take}
+-- the single call on that printer, the next save's plan being that of the stop; then the plan is fine again. A call
+-- that is stopped after its save is made too, and had its memory: if that is refused it is not stopped, and the reply
+-- is `Memory`.
+use Rattle.std.specs.Prelude.{◌≡◌, ◌≢◌, ◌⊎◌, ℕ, true, false, Some, Result, Ok, Err, List, [], ◌∷◌, ◌++◌, length, slice_get, take}
 use Rattle.dm_check_blocks.specs.declared.size.Size.{Size}
 use Rattle.dm_encodation.specs.declared.scheme.Scheme.{Scheme}
 use Rattle.dm_store.specs.Saved.{Saved}
@@ -10,8 +12,11 @@ use Rattle.dm_store.specs.declared.mem_store.NextSave.{NextSave}
 use Rattle.dm_store.specs.declared.mem_store.NextSave.TheVariants as next_save
 use Rattle.dm_print_ledger.specs.declared.range.Range.{Range}
 use Rattle.dm_print_ledger.specs.declared.fault.PrintFault.{PrintFault}
+use Rattle.dm_print_ledger.specs.declared.fault.PrintFault.TheVariants as print_fault
 use Rattle.dm_print_ledger.specs.declared.fault.GiveFault.{GiveFault}
+use Rattle.dm_print_ledger.specs.declared.fault.GiveFault.TheVariants as give_fault
 use Rattle.dm_print_ledger.specs.declared.fault.TakeFault.{TakeFault}
+use Rattle.dm_print_ledger.specs.declared.fault.TakeFault.TheVariants as take_fault
 use Rattle.dm_print_ledger.specs.declared.fault.OpenFault.TheVariants as open_fault
 use Rattle.dm_print_ledger.specs.Views.{LedgerView, TicketView, PrinterView, JobView}
 use Rattle.dm_print_ledger.specs.Saving.{HoldsLedger}
@@ -24,6 +29,7 @@ use Rattle.dm_event_history.specs.declared.reply.Reply.TheVariants.{Printed, Pri
 use Rattle.dm_event_history.specs.declared.stop.Stop.{Stop}
 use Rattle.dm_event_history.specs.declared.stop.Stop.TheVariants.{BeforeSave, InSave, SaveFault, AfterLabels}
 use Rattle.dm_event_history.specs.declared.stop.Stop.TheVariants as stops
+use Rattle.dm_event_history.specs.Saving.{stops_after_save}
 use Rattle.dm_event_steps.specs.declared.actor.PrinterActor.{PrinterActor}
 use Rattle.dm_event_steps.specs.declared.actor.PrinterActor.TheVariants as actors
 use Rattle.dm_event_steps.specs.declared.actor.LeftLabel.{LeftLabel}
@@ -47,8 +53,8 @@ next_save_of other = next_save.Fine
 abbrev pub planned : PrinterView → NextSave → PrinterView
 planned view next = record view { saved = record view.saved { save_plan = save_plan_of next } }
 
--- A call of a printer that is stopped leaves it down, with what its store then holds: as it was where the stop comes
--- before the new content is held, and else as the call left it.
+-- A call of a printer that is stopped leaves it down, with what its store then holds: as it was if the stop comes
+-- before the new content is held, and else as the call left it. `Call` says what a call does that had its memory.
 abbrev pub StopsPrinter : {A : Type 0} → Stop → PrinterView → (PrinterView → Type 0) → PrinterActor A → Type 0
 StopsPrinter BeforeSave view Call actor = actor ≡ actors.Down view.saved
 StopsPrinter (InSave Old) view Call actor = actor ≡ actors.Down view.saved
@@ -57,6 +63,14 @@ StopsPrinter (InSave New) view Call actor =
 StopsPrinter (AfterLabels count) view Call actor =
     (mid : PrinterView) × Call mid × (actor ≡ actors.Down (planned mid next_save.Fine).saved)
 StopsPrinter other view Call actor = ⊥
+
+-- A call of a printer that was to be stopped after its save lacks memory: the printer runs on, as the call left it.
+-- `Call` says what a call does whose memory is refused.
+pub record LacksMemory {A : Type 0} (stop : Stop) (Call : PrinterView → Type 0) (actor : PrinterActor A) : Type 0 where
+  pub to_be_stopped : stops_after_save (Some stop) ≡ true
+  pub mid : PrinterView
+  pub call : Call mid
+  pub actor_is : actor ≡ actors.Running (planned mid next_save.Fine)
 
 -- ---- prints
 
@@ -82,7 +96,8 @@ stopped_labels (AfterLabels most) (Ok job) = left_labels job.id job.count 1 (tak
 stopped_labels (AfterLabels most) (Err fault) = []
 stopped_labels other answer = []
 
--- memory for the labels may be refused first
+-- Memory for the labels may be refused first, and that of a print which was to be stopped after its save: then nothing
+-- changes.
 abbrev pub PrintActs : {A : Type 0} → PrinterView → List ℕ → Size → Scheme → Stop → List (LeftLabel A) →
     Reply A → PrinterActor A → List (LeftLabel A) → Type 0
 PrintActs view document size scheme stop labels reply actor all =
@@ -90,7 +105,8 @@ PrintActs view document size scheme stop labels reply actor all =
     ⊎ (((after : PrinterView) × (actor ≡ actors.Running after) × IsCalled stop
     × PrintsAt view document size scheme stop labels reply after all)
     ⊎ ((reply ≡ Stopped) × (answer : Result JobView PrintFault) × (all ≡ labels ++ stopped_labels stop answer)
-    × StopsPrinter stop view (λ mid. Prints (planned view next_save.Fine) size scheme document answer mid) actor))
+    × StopsPrinter stop view (λ mid. (answer ≢ Err print_fault.Memory)
+    × Prints (planned view next_save.Fine) size scheme document answer mid) actor))
 
 -- ---- gives and takes
 
@@ -108,7 +124,8 @@ pub record GivesAt {A : Type 0} (view : PrinterView) (receiver : ℕ) (range : R
   pub after_is : after ≡ planned mid next_save.Fine
   pub tells : TellsGive tickets answer reply all
 
--- memory for the ticket may be refused first
+-- Memory for the ticket may be refused first, and that of a give which was to be stopped after its save: then nothing
+-- changes.
 abbrev pub GiveActs : {A : Type 0} → PrinterView → ℕ → Range → Stop → List TicketView →
     Reply A → PrinterActor A → List TicketView → Type 0
 GiveActs view receiver range stop tickets reply actor all =
@@ -116,7 +133,7 @@ GiveActs view receiver range stop tickets reply actor all =
     ⊎ (((after : PrinterView) × (actor ≡ actors.Running after) × IsCalled stop
     × GivesAt view receiver range stop tickets reply after all)
     ⊎ ((reply ≡ Stopped) × (all ≡ tickets)
-    × StopsPrinter stop view (λ mid. (answer : Result TicketView GiveFault)
+    × StopsPrinter stop view (λ mid. (answer : Result TicketView GiveFault) × (answer ≢ Err give_fault.Memory)
     × moving.Gives (planned view next_save.Fine) receiver range answer mid) actor))
 
 abbrev pub take_reply : {A : Type 0} → Result (Unit {0}) TakeFault → Reply A
@@ -132,12 +149,15 @@ pub record TakesAt {A : Type 0} (view : PrinterView) (ticket : TicketView) (stop
   pub takes : moving.Takes (planned view (next_save_of stop)) ticket answer mid
   pub after_is : after ≡ planned mid next_save.Fine
 
+-- the take is made and answers, it is stopped, or it lacks memory
 abbrev pub TakeActs : {A : Type 0} → PrinterView → TicketView → Stop → Reply A → PrinterActor A → Type 0
 TakeActs view ticket stop reply actor =
     ((after : PrinterView) × (actor ≡ actors.Running after) × IsCalled stop × TakesAt view ticket stop reply after)
-    ⊎ ((reply ≡ Stopped)
-    × StopsPrinter stop view (λ mid. (answer : Result (Unit {0}) TakeFault)
+    ⊎ (((reply ≡ Stopped)
+    × StopsPrinter stop view (λ mid. (answer : Result (Unit {0}) TakeFault) × (answer ≢ Err take_fault.Memory)
     × moving.Takes (planned view next_save.Fine) ticket answer mid) actor)
+    ⊎ ((reply ≡ Memory)
+    × LacksMemory stop (λ mid. moving.Takes (planned view next_save.Fine) ticket (Err take_fault.Memory) mid) actor))
 
 -- ---- restarts
 

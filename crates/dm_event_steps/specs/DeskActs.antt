@@ -1,6 +1,7 @@
 -- What one event does to the desk that it names, and to the exports that left. A call that is made is the single call
--- on that desk, the next save's plan being that of the stop; then the plan is fine again.
-use Rattle.std.specs.Prelude.{◌≡◌, ◌⊎◌, ◌≤◌, ℕ, true, false, Some, Result, Ok, Err, List, [], ◌∷◌, ◌++◌, length, slice_get}
+-- on that desk, the next save's plan being that of the stop; then the plan is fine again. A call that is stopped after
+-- its save is made too, and had its memory: if that is refused it is not stopped, and the reply is `Memory`.
+use Rattle.std.specs.Prelude.{◌≡◌, ◌≢◌, ◌⊎◌, ◌≤◌, ℕ, true, false, Some, Result, Ok, Err, List, [], ◌∷◌, ◌++◌, length, slice_get}
 use Rattle.std.specs.FinMap as map
 use Rattle.dm_finder_frame.specs.Grids.{GridView, flipped}
 use Rattle.dm_store.specs.Sets.{SavedSet}
@@ -34,6 +35,7 @@ use Rattle.dm_event_history.specs.declared.reply.Reply.{Reply}
 use Rattle.dm_event_history.specs.declared.reply.Reply.TheVariants.{Scanned, ScanRefused, Document, AskRefused, Forgotten, ForgetRefused, Exported, ExportRefused, Imported, ImportRefused, Restarted, DeskRefused, Stopped, Down, Memory}
 use Rattle.dm_event_history.specs.declared.stop.Stop.{Stop}
 use Rattle.dm_event_history.specs.declared.stop.Stop.TheVariants.{BeforeSave, InSave, AfterLabels}
+use Rattle.dm_event_history.specs.Saving.{stops_after_save}
 use Rattle.dm_event_steps.specs.declared.actor.DeskState.{DeskState}
 use Rattle.dm_event_steps.specs.declared.actor.DeskState.TheVariants as desks
 use Rattle.dm_event_steps.specs.declared.actor.LeftExport.{LeftExport}
@@ -64,8 +66,8 @@ pub record ImportsIn (bytes : List ℕ) (old : DeskView) (answer : Result import
 abbrev pub desk_planned : DeskView → NextSave → DeskView
 desk_planned view next = record view { saved = record view.saved { save_plan = save_plan_of next } }
 
--- A call of a desk that is stopped leaves it down, with what its set then holds: as it was where the stop comes before
--- the new content is held, and else as the call left it.
+-- A call of a desk that is stopped leaves it down, with what its set then holds: as it was if the stop comes before the
+-- new content is held, and else as the call left it. `Call` says what a call does that had its memory.
 abbrev pub StopsDesk : {A : Type 0} → Stop → DeskView → (DeskView → Type 0) → DeskState A → Type 0
 StopsDesk BeforeSave view Call state = state ≡ desks.Down view.saved
 StopsDesk (InSave Old) view Call state = state ≡ desks.Down view.saved
@@ -75,8 +77,16 @@ StopsDesk (AfterLabels count) view Call state =
     (mid : DeskView) × Call mid × (state ≡ desks.Down (desk_planned mid next_save.Fine).saved)
 StopsDesk other view Call state = ⊥
 
--- A call of a running desk: it is made and answers, or it is stopped. `Call` relates the desk before it, its answer and
--- the desk after it, `reply_of` gives the reply to an answer.
+-- A call of a desk that was to be stopped after its save lacks memory: the desk runs on, as the call left it. `Call`
+-- says what a call does whose memory is refused.
+pub record DeskLacksMemory {A : Type 0} (stop : Stop) (Call : DeskView → Type 0) (state : DeskState A) : Type 0 where
+  pub to_be_stopped : stops_after_save (Some stop) ≡ true
+  pub mid : DeskView
+  pub call : Call mid
+  pub state_is : state ≡ desks.Running (desk_planned mid next_save.Fine)
+
+-- A call of a running desk is made and answers. `Call` relates the desk before it, its answer and the desk after it,
+-- `reply_of` gives the reply to an answer.
 pub record IsMade {A X : Type 0} (Call : DeskView → X → DeskView → Type 0) (reply_of : X → Reply A)
     (view : DeskView) (stop : Stop) (reply : Reply A) (state : DeskState A) : Type 0 where
   pub called : IsCalled stop
@@ -86,12 +96,15 @@ pub record IsMade {A X : Type 0} (Call : DeskView → X → DeskView → Type 0)
   pub makes : Call (desk_planned view (next_save_of stop)) answer mid
   pub state_is : state ≡ desks.Running (desk_planned mid next_save.Fine)
 
-abbrev pub CallActs : {A X : Type 0} → (DeskView → X → DeskView → Type 0) → (X → Reply A) →
+-- A call of a running desk: it is made and answers, it is stopped, or it lacks memory, which `no_memory` answers.
+abbrev pub CallActs : {A X : Type 0} → (DeskView → X → DeskView → Type 0) → (X → Reply A) → X →
     DeskView → Stop → Reply A → DeskState A → Type 0
-CallActs {A} {X} Call reply_of view stop reply state =
+CallActs {A} {X} Call reply_of no_memory view stop reply state =
     IsMade Call reply_of view stop reply state
-    ⊎ ((reply ≡ Stopped)
-    × StopsDesk stop view (λ mid. (answer : X) × Call (desk_planned view next_save.Fine) answer mid) state)
+    ⊎ (((reply ≡ Stopped) × StopsDesk stop view
+    (λ mid. (answer : X) × (answer ≢ no_memory) × Call (desk_planned view next_save.Fine) answer mid) state)
+    ⊎ ((reply ≡ Memory)
+    × DeskLacksMemory stop (λ mid. Call (desk_planned view next_save.Fine) no_memory mid) state))
 
 -- ---- scans, forgets and imports
 
@@ -110,7 +123,8 @@ import_reply (Err fault) = ImportRefused fault
 -- a scan is `accept` on the flipped grid; memory for that copy may be refused first
 abbrev pub ScanActs : {A : Type 0} → DeskView → GridView → Stop → Reply A → DeskState A → Type 0
 ScanActs {A} view grid stop reply state =
-    ((reply ≡ Memory) × (state ≡ desks.Running view)) ⊎ CallActs (Accepts A grid) scan_reply view stop reply state
+    ((reply ≡ Memory) × (state ≡ desks.Running view))
+    ⊎ CallActs (Accepts A grid) scan_reply (Err scan_fault.Memory) view stop reply state
 
 -- ---- asks, exports and restarts
 
@@ -184,10 +198,10 @@ DeskActs {A} labels (Scan desk number flips stop) capacity (desks.Running view) 
     (new ≡ old) × (label : LeftLabel A) × (slice_get labels number ≡ Some label)
     × ScanActs view (flipped label.grid flips) stop reply state
 DeskActs labels (Forget desk id stop) capacity (desks.Running view) old reply state new =
-    (new ≡ old) × CallActs (ForgetsOne id) forget_reply view stop reply state
+    (new ≡ old) × CallActs (ForgetsOne id) forget_reply (Err forget_fault.Memory) view stop reply state
 DeskActs {A} labels (Import desk number stop) capacity (desks.Running view) old reply state new =
     (new ≡ old) × (export : LeftExport A) × (slice_get old number ≡ Some export)
-    × CallActs (ImportsIn export.bytes) import_reply view stop reply state
+    × CallActs (ImportsIn export.bytes) import_reply (Err import_fault.Memory) view stop reply state
 DeskActs labels (Ask desk id) capacity (desks.Running view) old reply state new =
     (new ≡ old) × (state ≡ desks.Running view) × AskActs view id reply
 DeskActs labels (Export desk id) capacity (desks.Running view) old reply state new =

@@ -5,8 +5,9 @@
 //! are free there, its next serial, and the last serial of each giver (`specs/Stands`). A desk does, in an honest
 //! history, where it holds each page that it surely holds by it, and none that it does not possibly hold
 //! (`specs/DeskStands`). A world does where each of its printers and desks does, and what left it is what left by the
-//! history (`specs/Worlds`). What an event does is the single call of that printer or desk, the next save's plan being
-//! that of the event's stop (`specs/Acts`, `specs/DeskActs`).
+//! history (`specs/StandsFor`). What an event does is the single call of that printer or desk, the next save's plan
+//! being that of the event's stop (`specs/Acts`, `specs/DeskActs`). A call that is stopped after its save is made too;
+//! if its memory is refused it is not stopped, and the reply is `Memory`.
 //!
 //! Proved ([`laws`]): a world of fresh printers and empty desks stands for the empty history. One that stands for a
 //! history stands, after each of the ten events, for it with one entry more, of that event and its reply. So of each

@@ -1,6 +1,9 @@
 //! Events at one desk: scans, asks, forgets and restarts.
+//!
+//! A call that is stopped after its save is made before the desk is taken down. If its own memory is refused, that is
+//! answered, and the desk runs on as it was.
 
-ghost use Rattle.std.specs.Prelude.{◌≡◌, All};
+ghost use Rattle.std.specs.Prelude.{◌≡◌, ◌↔◌, Err, IsTrue, All};
 ghost use Rattle.dm_finder_frame.specs.Grids.{IsInGrid};
 ghost use Rattle.dm_assembly_desk.specs.Views.{IsCapacity};
 ghost use Rattle.dm_event_steps.specs.DeskStands.{IsReadySet};
@@ -72,6 +75,13 @@ fn reply_to_scan<A: Allocator + Copy>(answer: Result<Accepted, ScanFault>) -> Re
     }
 }
 
+// Whether the memory of a scan was refused.
+fn scan_lacks_memory(answer: Result<Accepted, ScanFault>) -> bool
+    ensures { IsTrue result ↔ (answer ≡ Err ScanFault.Memory) }
+{
+    matches!(answer, Err(ScanFault::Memory))
+}
+
 /// A desk scans a copy of a label's grid, with these modules flipped. Memory for the copy is asked for first; without
 /// it nothing changes.
 pub(crate) fn scan<A: Allocator + Copy>(
@@ -97,11 +107,14 @@ pub(crate) fn scan<A: Allocator + Copy>(
         return Reply::Stopped;
     }
     let answer = accept_under(desk, &copy, stop);
-    if is_stopping(stop) {
-        take_down(alloc, state);
-        return Reply::Stopped;
+    if !is_stopping(stop) {
+        return reply_to_scan(answer);
     }
-    reply_to_scan(answer)
+    if scan_lacks_memory(answer) {
+        return Reply::Memory;
+    }
+    take_down(alloc, state);
+    Reply::Stopped
 }
 
 /// A desk is asked for a document.
@@ -143,6 +156,13 @@ fn reply_to_forget<A: Allocator + Copy>(answer: Result<(), ForgetFault>) -> Repl
     }
 }
 
+// Whether the memory of a forget was refused.
+fn forget_lacks_memory(answer: Result<(), ForgetFault>) -> bool
+    ensures { IsTrue result ↔ (answer ≡ Err ForgetFault.Memory) }
+{
+    matches!(answer, Err(ForgetFault::Memory))
+}
+
 /// A desk is to forget a document.
 pub(crate) fn forget<A: Allocator + Copy>(
     alloc: A,
@@ -162,11 +182,14 @@ pub(crate) fn forget<A: Allocator + Copy>(
         return Reply::Stopped;
     }
     let answer = forget_under(desk, id, stop);
-    if is_stopping(stop) {
-        take_down(alloc, state);
-        return Reply::Stopped;
+    if !is_stopping(stop) {
+        return reply_to_forget(answer);
     }
-    reply_to_forget(answer)
+    if forget_lacks_memory(answer) {
+        return Reply::Memory;
+    }
+    take_down(alloc, state);
+    Reply::Stopped
 }
 
 /// A desk, with room for `capacity` documents, is closed, if it runs, and opened again. If it is not opened it is down.

@@ -1,6 +1,6 @@
 //! Pages that travel: exports from one desk, and imports at another.
 
-ghost use Rattle.std.specs.Prelude.{◌≡◌};
+ghost use Rattle.std.specs.Prelude.{◌≡◌, ◌↔◌, Err, IsTrue};
 ghost use Rattle.dm_event_steps.specs.DeskStands.{IsReadySet};
 ghost use Rattle.dm_event_steps.specs.DeskActs.{ImportsIn, desk_saved, import_reply};
 ghost use Rattle.dm_event_world.specs.inner.DeskEvents.{IsMadeUnder, ExportsDocument, ImportsExport};
@@ -76,6 +76,13 @@ fn reply_to_import<A: Allocator + Copy>(answer: Result<Imported, ImportFault>) -
     }
 }
 
+// Whether the memory of an import was refused.
+fn import_lacks_memory(answer: Result<Imported, ImportFault>) -> bool
+    ensures { IsTrue result ↔ (answer ≡ Err ImportFault.Memory) }
+{
+    matches!(answer, Err(ImportFault::Memory))
+}
+
 /// A desk imports an export, of these bytes.
 pub(crate) fn import<A: Allocator + Copy>(
     alloc: A,
@@ -95,9 +102,12 @@ pub(crate) fn import<A: Allocator + Copy>(
         return Reply::Stopped;
     }
     let answer = import_under(desk, bytes, stop);
-    if is_stopping(stop) {
-        take_down(alloc, state);
-        return Reply::Stopped;
+    if !is_stopping(stop) {
+        return reply_to_import(answer);
     }
-    reply_to_import(answer)
+    if import_lacks_memory(answer) {
+        return Reply::Memory;
+    }
+    take_down(alloc, state);
+    Reply::Stopped
 }

@@ -2,8 +2,10 @@
 //! labels, tickets and exports that left them. Stops and failed saves are part of the events.
 //!
 //! An event is the single call on the printer or the desk that it names, with the plan of its stop for the next save
-//! ([`World::step`]). A scan gives the desk a copy of the label's grid with some modules flipped. An event is honest
-//! ([`is_honest`]) unless it is a scan of a copy in which more codewords of a block are wrong than can be corrected.
+//! ([`World::step`]). A call that is stopped after its save is made too; if its memory is refused it is not stopped,
+//! and the reply is `Memory`. A scan gives the desk a copy of the label's grid with some modules flipped. An event is
+//! honest ([`is_honest`]) unless it is a scan of a copy in which more codewords of a block are wrong than can be
+//! corrected.
 //!
 //! Proved: a world that begins stands for the empty history, and one that stands for a history stands, after an event,
 //! for it with one entry more ([`World::new`], [`World::step`], [`run`]). So of each run that is watched from its

@@ -1,15 +1,18 @@
 //! One event at one printer.
 //!
 //! A printer that is down answers so. Then the memory that the event itself needs is asked for. Then the call is made,
-//! the next save's plan being that of the stop; or it is stopped, and the printer is down over its store.
+//! the next save's plan being that of the stop; or it is stopped, and the printer is down over its store. A call that
+//! is stopped after its save is made too; if its own memory is refused, that is answered, and the printer runs on as it
+//! was.
 
-ghost use Rattle.std.specs.Prelude.{◌≡◌, ◌+◌, ◌≤◌, ◌++◌, ℕ, List, Some, Result, length, slice_get, take, vec_len, vec_capacity};
+ghost use Rattle.std.specs.Prelude.{◌≡◌, ◌≢◌, ◌+◌, ◌≤◌, ◌++◌, ℕ, List, Some, Result, Err, OnOk, OnErr};
+ghost use Rattle.std.specs.Prelude.{length, slice_get, take, vec_len, vec_capacity};
 ghost use Rattle.dm_print_ledger.specs.Moving.{Gives, Takes};
 ghost use Rattle.dm_print_ledger.specs.Printing.{Prints};
 ghost use Rattle.dm_print_ledger.specs.Views.{JobView, TicketView};
 ghost use Rattle.dm_event_history.specs.declared.event.Event.TheVariants.{Print, Give, Take, RestartPrinter};
 ghost use Rattle.dm_event_history.specs.Legal.{IsStopping};
-ghost use Rattle.dm_event_steps.specs.Acts.{PrinterActs, StopsPrinter, PrintsAt, GivesAt, TakesAt};
+ghost use Rattle.dm_event_steps.specs.Acts.{PrinterActs, StopsPrinter, LacksMemory, PrintsAt, GivesAt, TakesAt};
 ghost use Rattle.dm_event_steps.specs.Acts.{planned, saved_of, stopped_labels};
 ghost use Rattle.dm_event_steps.specs.Labels.{left_labels};
 ghost use Rattle.dm_event_steps.specs.Stands.{IsReady};
@@ -23,7 +26,7 @@ use dm_event_history::{Kept, Reply, Stop};
 use dm_event_steps::{LeftLabel, PrinterActor};
 use dm_print_ledger::{GiveFault, Job, OpenRefused, PrintFault, Printer, Range, TakeFault, Ticket};
 use dm_store::{MemStore, NextSave};
-use std::alloc::Allocator;
+use std::alloc::{AllocError, Allocator};
 use std::mem;
 
 // ---- down and up
@@ -157,7 +160,8 @@ fn labels_before(stop: Stop) -> Option<u8>
     }
 }
 
-// What a print that is stopped does to the labels, and to its printer until that is taken down.
+// What a print that is stopped does to the labels, and to its printer until that is taken down. Where the print's own
+// memory is refused, nothing changes.
 fn stop_print<A: Allocator + Copy>(
     printer: &mut Printer<MemStore<A>, A>,
     labels: &mut Vec<LeftLabel<A>, A>,
@@ -165,28 +169,35 @@ fn stop_print<A: Allocator + Copy>(
     size: Size,
     scheme: Scheme,
     stop: Stop,
-)
+) -> Result<(), AllocError>
     requires ready { IsReady printer.old.saved }
     requires room { vec_len labels.old + MOST_LABELS ≤ vec_capacity labels.old }
     requires stopping { IsStopping stop }
-    ensures stops { (answer : Result JobView PrintFault) ×
+    ensures stops { OnOk result ((answer : Result JobView PrintFault) ×
         (labels.new.items ≡ labels.old.items ++ stopped_labels stop answer) ×
         StopsPrinter {A = A} stop printer.old
-        (λ mid. Prints (planned printer.old NextSave.Fine) size scheme document.now answer mid)
-        (PrinterActor.Down printer.new.saved) }
+        (λ mid. (answer ≢ Err PrintFault.Memory) ×
+        Prints (planned printer.old NextSave.Fine) size scheme document.now answer mid)
+        (PrinterActor.Down printer.new.saved)) }
+    ensures no_memory { OnErr result ((printer.new ≡ printer.old) × (labels.new.items ≡ labels.old.items)) }
     ensures ready { IsReady printer.new.saved }
 {
     let Some(most) = labels_before(stop) else {
-        return;
+        return Ok(());
     };
     match print_under(printer, document, size, scheme, Stop::None) {
-        Ok(job) => let_out(labels, job, most),
-        Err(_) => {}
+        Ok(job) => {
+            let_out(labels, job, most);
+            Ok(())
+        }
+        Err(PrintFault::Memory) => Err(AllocError),
+        Err(_) => Ok(()),
     }
 }
 
 /// Prints a document, and lets its labels out; under a stop, some of them or none, and the printer is down. The memory
-/// for the labels is asked for before all else.
+/// for the labels is asked for before all else; where it is refused, or that of a print that is to be stopped, nothing
+/// changes.
 pub(crate) fn print<A: Allocator + Copy>(
     alloc: A,
     actor: &mut PrinterActor<A>,
@@ -212,7 +223,9 @@ pub(crate) fn print<A: Allocator + Copy>(
     if !is_stopping(stop) {
         return print_at(printer, labels, document, size, scheme, stop);
     }
-    stop_print(printer, labels, document, size, scheme, stop);
+    let Ok(()) = stop_print(printer, labels, document, size, scheme, stop) else {
+        return Reply::Memory;
+    };
     take_down(alloc, actor);
     Reply::Stopped
 }
@@ -259,31 +272,37 @@ fn give_at<A: Allocator + Copy>(
     }
 }
 
-// What a give that is stopped does to its printer, until that is taken down.
+// What a give that is stopped does to its printer, until that is taken down. Where the give's own memory is refused,
+// nothing changes.
 fn stop_give<A: Allocator + Copy>(
     printer: &mut Printer<MemStore<A>, A>,
     receiver: u16,
     range: Range,
     stop: Stop,
-)
+) -> Result<(), AllocError>
     requires ready { IsReady printer.old.saved }
     requires stopping { IsStopping stop }
-    ensures stops { StopsPrinter {A = A} stop printer.old
-        (λ mid. (answer : Result TicketView GiveFault) ×
+    ensures stops { OnOk result (StopsPrinter {A = A} stop printer.old
+        (λ mid. (answer : Result TicketView GiveFault) × (answer ≢ Err GiveFault.Memory) ×
         Gives (planned printer.old NextSave.Fine) receiver range answer mid)
-        (PrinterActor.Down printer.new.saved) }
+        (PrinterActor.Down printer.new.saved)) }
+    ensures no_memory { OnErr result (printer.new ≡ printer.old) }
     ensures ready { IsReady printer.new.saved }
 {
     match stop {
         Stop::InSave(Kept::New) | Stop::AfterLabels(_) => {
-            let _ = give_under(printer, receiver, range, Stop::None);
+            match give_under(printer, receiver, range, Stop::None) {
+                Err(GiveFault::Memory) => Err(AllocError),
+                _ => Ok(()),
+            }
         }
-        Stop::BeforeSave | Stop::InSave(Kept::Old) | Stop::None | Stop::SaveFault(_) => {}
+        Stop::BeforeSave | Stop::InSave(Kept::Old) | Stop::None | Stop::SaveFault(_) => Ok(()),
     }
 }
 
 /// Gives a range of numbers to a receiver, and lets the ticket out; under a stop there is no ticket, and the printer is
-/// down. The memory for the ticket is asked for before all else.
+/// down. The memory for the ticket is asked for before all else; where it is refused, or that of a give that is to be
+/// stopped, nothing changes.
 pub(crate) fn give<A: Allocator + Copy>(
     alloc: A,
     actor: &mut PrinterActor<A>,
@@ -308,7 +327,9 @@ pub(crate) fn give<A: Allocator + Copy>(
     if !is_stopping(stop) {
         return give_at(printer, tickets, receiver, range, stop);
     }
-    stop_give(printer, receiver, range, stop);
+    let Ok(()) = stop_give(printer, receiver, range, stop) else {
+        return Reply::Memory;
+    };
     take_down(alloc, actor);
     Reply::Stopped
 }
@@ -347,29 +368,36 @@ fn take_at<A: Allocator + Copy>(
     }
 }
 
-// What a take that is stopped does to its printer, until that is taken down.
+// What a take that is stopped does to its printer, until that is taken down. Where the take's own memory is refused,
+// the printer runs on.
 fn stop_take<A: Allocator + Copy>(
     printer: &mut Printer<MemStore<A>, A>,
     ticket: &Ticket,
     stop: Stop,
-)
+) -> Result<(), AllocError>
     requires ready { IsReady printer.old.saved }
     requires stopping { IsStopping stop }
-    ensures stops { StopsPrinter {A = A} stop printer.old
-        (λ mid. (answer : Result (Unit {0}) TakeFault) ×
+    ensures stops { OnOk result (StopsPrinter {A = A} stop printer.old
+        (λ mid. (answer : Result (Unit {0}) TakeFault) × (answer ≢ Err TakeFault.Memory) ×
         Takes (planned printer.old NextSave.Fine) ticket.now answer mid)
-        (PrinterActor.Down printer.new.saved) }
+        (PrinterActor.Down printer.new.saved)) }
+    ensures no_memory { OnErr result (LacksMemory {A = A} stop
+        (λ mid. Takes (planned printer.old NextSave.Fine) ticket.now (Err TakeFault.Memory) mid)
+        (PrinterActor.Running printer.new)) }
     ensures ready { IsReady printer.new.saved }
 {
     match stop {
         Stop::InSave(Kept::New) | Stop::AfterLabels(_) => {
-            let _ = take_under(printer, ticket, Stop::None);
+            match take_under(printer, ticket, Stop::None) {
+                Err(TakeFault::Memory) => Err(AllocError),
+                _ => Ok(()),
+            }
         }
-        Stop::BeforeSave | Stop::InSave(Kept::Old) | Stop::None | Stop::SaveFault(_) => {}
+        Stop::BeforeSave | Stop::InSave(Kept::Old) | Stop::None | Stop::SaveFault(_) => Ok(()),
     }
 }
 
-/// Takes a ticket that was given; under a stop the printer is down.
+/// Takes a ticket that was given; under a stop the printer is down, unless the take's own memory is refused.
 pub(crate) fn take<A: Allocator + Copy>(
     alloc: A,
     actor: &mut PrinterActor<A>,
@@ -389,7 +417,9 @@ pub(crate) fn take<A: Allocator + Copy>(
     if !is_stopping(stop) {
         return take_at(printer, ticket, stop);
     }
-    stop_take(printer, ticket, stop);
+    let Ok(()) = stop_take(printer, ticket, stop) else {
+        return Reply::Memory;
+    };
     take_down(alloc, actor);
     Reply::Stopped
 }

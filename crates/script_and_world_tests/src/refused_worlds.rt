@@ -1,9 +1,9 @@
 //! Worlds whose memory is refused, one growth after another.
 
-use dm_assembly_desk::{AskFault, DeskFault, Kind, ScanFault};
+use dm_assembly_desk::{AskFault, DeskFault, ExportFault, Kind, ScanFault};
 use dm_event_history::{Event, Reply};
 use dm_event_world::World;
-use dm_print_ledger::{OpenFault, PrintFault};
+use dm_print_ledger::{GiveFault, OpenFault, PrintFault, TakeFault};
 use relay_script::{Script, read_script};
 use std::alloc::Allocator;
 use std::test::Fail;
@@ -26,6 +26,56 @@ const FAILING: &str =
 
 const FAILED: [&str; 4] = ["save", "failed", "restarted", "printed"];
 
+// Printers that are stopped after their saves: the first identification is used by a label that left, the second by
+// none, so the third label that is there is the second of the third identification.
+const STOPPING_PRINTERS: &str =
+    "range 0 9\nrange 10 19\ndesks 1 4\nprint 0 12 ascii 31323334 after:1\n\
+    restart printer 0\nprint 0 12 ascii 35363738 in-new\nrestart printer 0\nprint 0 12 ascii 35363738 -\n\
+    scan 0 0 - -\nscan 0 1 - -\nscan 0 2 - -\nask 0 0103\ngive 0 1 5 5 after:0\nrestart printer 0\n\
+    give 0 1 5 5 -\ngive 0 1 6 6 -\ntake 1 0 in-new\nrestart printer 1\ntake 1 0 -\n";
+
+const STOPPED_PRINTERS: [&str; 16] = [
+    "stopped",
+    "restarted",
+    "stopped",
+    "restarted",
+    "printed",
+    "new",
+    "new",
+    "complete",
+    "document",
+    "stopped",
+    "restarted",
+    "not free",
+    "given",
+    "stopped",
+    "restarted",
+    "old",
+];
+
+// Desks that are stopped after their saves: each page is held once they are restarted, and no page after a forget.
+const STOPPING_DESKS: &str =
+    "range 0 9\ndesks 2 4\nprint 0 12 ascii 31323334 -\nscan 0 0 in-new -\n\
+    restart desk 0\nscan 0 0 - -\nscan 0 1 after:0 -\nrestart desk 0\nask 0 0101\nexport 0 0101\n\
+    import 1 0 in-new\nrestart desk 1\nask 1 0101\nforget 1 0101 after:0\nrestart desk 1\nask 1 0101\n";
+
+const STOPPED_DESKS: [&str; 14] = [
+    "printed",
+    "stopped",
+    "restarted",
+    "again",
+    "stopped",
+    "restarted",
+    "document",
+    "exported",
+    "stopped",
+    "restarted",
+    "document",
+    "stopped",
+    "restarted",
+    "not held",
+];
+
 // What a reply tells, in a word.
 fn told<A: Allocator>(reply: &Reply<A>) -> &'static str {
     match reply {
@@ -39,14 +89,22 @@ fn told<A: Allocator>(reply: &Reply<A>) -> &'static str {
         Reply::AskRefused(AskFault::NotHeld) => "not held",
         Reply::PrintRefused(PrintFault::Save) => "save",
         Reply::PrintRefused(PrintFault::Failed) => "failed",
+        Reply::Given { .. } => "given",
+        Reply::GiveRefused(GiveFault::NotFree) => "not free",
+        Reply::TakeRefused(TakeFault::Old) => "old",
+        Reply::Exported { .. } => "exported",
         Reply::Restarted => "restarted",
+        Reply::Stopped => "stopped",
         Reply::Down => "down",
         Reply::PrinterRefused(OpenFault::Memory) | Reply::DeskRefused(DeskFault::Memory) =>
             "not restarted",
         Reply::Memory
         | Reply::PrintRefused(PrintFault::Memory)
+        | Reply::GiveRefused(GiveFault::Memory)
+        | Reply::TakeRefused(TakeFault::Memory)
         | Reply::ScanRefused(ScanFault::Memory)
-        | Reply::AskRefused(AskFault::Memory) => "memory",
+        | Reply::AskRefused(AskFault::Memory)
+        | Reply::ExportRefused(ExportFault::Memory) => "memory",
         _ => "other",
     }
 }
@@ -54,15 +112,16 @@ fn told<A: Allocator>(reply: &Reply<A>) -> &'static str {
 // More refusals than one event meets.
 const MOST_TIMES: u32 = 4;
 
-// Gives an event until it is not refused for memory. After a restart that was refused the printer is down.
+// Gives an event until it is not refused for memory. After a restart that was refused, what the event after it names is
+// down.
 fn given<A: Allocator + Copy>(
     world: &mut World<A>,
     event: &Event<A>,
-    print: &Event<A>,
+    next: &Event<A>,
 ) -> &'static str {
     for _time in 0..MOST_TIMES {
         let word = told(&world.step(event));
-        if word == "not restarted" && told(&world.step(print)) != "down" {
+        if word == "not restarted" && told(&world.step(next)) != "down" {
             return "not down";
         }
         if word != "not restarted" && word != "memory" {
@@ -91,15 +150,15 @@ fn world_of<A: Allocator + Copy>(alloc: A, script: &Script<A>) -> Result<World<A
     Err("no world".into())
 }
 
-// Whether the replies to a script, whose first event is a print, are these words, where each event that is refused
-// for memory is given again.
+// Whether the replies to a script are these words, where each event that is refused for memory is given again. The
+// event after a restart names what was restarted.
 fn tells<A: Allocator + Copy>(alloc: A, text: &str, words: &[&str]) -> Result<bool, Fail> {
     let script = script_of(alloc, text)?;
     let mut world = world_of(alloc, &script)?;
-    let print = script.events.first().ok_or("no event")?;
     let mut same = script.events.len() == words.len();
-    for (event, word) in script.events.iter().zip(words.iter()) {
-        same = same && given(&mut world, event, print) == *word;
+    let nexts = script.events.iter().skip(1).chain(script.events.last());
+    for ((event, next), word) in script.events.iter().zip(nexts).zip(words.iter()) {
+        same = same && given(&mut world, event, next) == *word;
     }
     Ok(same)
 }
@@ -111,6 +170,8 @@ fn refused_growths_leave_the_replies(rt: HostRuntime) -> Result<(), Fail> {
     for (text, words) in [
         (GATHERING, GATHERED.as_slice()),
         (FAILING, FAILED.as_slice()),
+        (STOPPING_PRINTERS, STOPPED_PRINTERS.as_slice()),
+        (STOPPING_DESKS, STOPPED_DESKS.as_slice()),
     ] {
         let mut refusals = 0u64;
         for growths in 0..MOST_GROWTHS {

@@ -1,24 +1,35 @@
-use Rattle.std.proofs.Common.{refl, sym, ◌∙◌}
-use Rattle.dm_event_history.specs.declared.reply.Reply.TheVariants.{Stopped}
+use Rattle.std.proofs.Common.{Err, refl, sym, ◌∙◌}
+use Rattle.dm_assembly_desk.specs.declared.fault.ImportFault.TheVariants as import_fault
+use Rattle.dm_event_history.specs.declared.reply.Reply.TheVariants.{Stopped, Memory}
 use Rattle.dm_event_steps.specs.declared.actor.DeskState.TheVariants.{Running}
 use Rattle.dm_event_steps.specs.DeskActs.{import_reply}
-use Rattle.dm_event_world.proofs.DeskCalls.{call_answers, call_stops_after}
+use Rattle.dm_event_world.proofs.DeskCalls.{call_answers, call_stops_after, call_lacks_memory}
 use Rattle.dm_event_world.proofs.DeskReplies.{imports_running}
 use Rattle.dm_event_world.proofs.desk_moves.import.Goals as goal
 
-pub returns-then-is_stopping-clause-acts : goal.returns-then-is_stopping-clause-acts
-returns-then-is_stopping-clause-acts g c =
-    imports_running c.args.bytes.now c.args.stop c.in-Running.desk c.args.state.now Stopped
-    c.take_down-then-is_stopping.new.state c.in-Running.is
-    ((call_stops_after _ import_reply c.args.stop c.in-Running.desk c.import_under-answer.result
-    c.import_under-answer.new.desk Stopped c.take_down-then-is_stopping.new.state c.import_under-answer.ensures.made
+pub returns-then-not-is_stopping-clause-acts : goal.returns-then-not-is_stopping-clause-acts
+returns-then-not-is_stopping-clause-acts g c =
+    imports_running c.args.bytes.now c.args.stop c.in-Running.desk c.args.state.now c.reply_to_import.result
+    (Running c.import_under-answer.new.desk) c.in-Running.is
+    (call_answers _ import_reply (Err import_fault.Memory) c.args.stop c.in-Running.desk c.import_under-answer.result
+    c.import_under-answer.new.desk c.reply_to_import.result (Running c.import_under-answer.new.desk) c.import_under-answer.ensures.made
+    (c.is_stopping.ensures.no c.if-not-is_stopping.true) c.reply_to_import.ensures refl)
+
+pub returns-then-import_lacks_memory-clause-acts : goal.returns-then-import_lacks_memory-clause-acts
+returns-then-import_lacks_memory-clause-acts g c =
+    imports_running c.args.bytes.now c.args.stop c.in-Running.desk c.args.state.now Memory
+    (Running c.import_under-answer.new.desk) c.in-Running.is
+    (call_lacks_memory _ import_reply (Err import_fault.Memory) c.args.stop c.in-Running.desk
+    c.import_under-answer.result c.import_under-answer.new.desk Memory (Running c.import_under-answer.new.desk) c.import_under-answer.ensures.made
     (sym c.is_stopped_before.ensures ∙ c.if-is_stopped_before.false)
-    (c.is_stopping.ensures.yes.0 c.if-is_stopping.true) refl c.take_down-then-is_stopping.ensures))
+    (c.is_stopping.ensures.yes.0 c.if-not-is_stopping.false) (c.import_lacks_memory.ensures.0 c.if-import_lacks_memory.true) refl refl)
 
 pub returns-clause-acts : goal.returns-clause-acts
 returns-clause-acts g c =
-    imports_running c.args.bytes.now c.args.stop c.in-Running.desk c.args.state.now c.reply_to_import.result
-    (Running c.import_under-answer.new.desk) c.in-Running.is
-    ((call_answers _ import_reply c.args.stop c.in-Running.desk c.import_under-answer.result
-    c.import_under-answer.new.desk c.reply_to_import.result (Running c.import_under-answer.new.desk) c.import_under-answer.ensures.made
-    (c.is_stopping.ensures.no c.if-is_stopping.false) c.reply_to_import.ensures refl))
+    imports_running c.args.bytes.now c.args.stop c.in-Running.desk c.args.state.now Stopped
+    c.take_down-2.new.state c.in-Running.is
+    (call_stops_after _ import_reply (Err import_fault.Memory) c.args.stop c.in-Running.desk c.import_under-answer.result
+    c.import_under-answer.new.desk Stopped c.take_down-2.new.state c.import_under-answer.ensures.made
+    (sym c.is_stopped_before.ensures ∙ c.if-is_stopped_before.false)
+    (c.is_stopping.ensures.yes.0 c.if-not-is_stopping.false)
+    (λ lacks. let yes = c.import_lacks_memory.ensures.1 lacks in let no = c.if-import_lacks_memory.false in cc) refl c.take_down-2.ensures)
