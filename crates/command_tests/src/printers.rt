@@ -18,10 +18,13 @@ const OPTIONS: PrintOptions = PrintOptions {
     scheme: Scheme::Ascii,
 };
 
-// Where the line can't be written no label goes out, and the identification stays used.
+const LINE: &[u8] = b"printed 0101 2 left 9\n";
+
+// Where the line can't be written no label goes out, nothing follows what is out of the line, and the identification
+// stays used.
 #[test]
 fn prints_no_label_without_its_line(rt: HostRuntime) -> Result<(), Fail> {
-    for passes in 0..b"printed 0101 2 left 9\n".len() {
+    for passes in 0..LINE.len() {
         let store = MemStore::with(rt.alloc(), NEW.to_vec(rt.alloc())?);
         let mut input = Input::new(b"1234".as_slice());
         let mut output = Output::new(Vec::new(rt.alloc()));
@@ -37,6 +40,10 @@ fn prints_no_label_without_its_line(rt: HostRuntime) -> Result<(), Fail> {
         assert!(rt; ended.status == 1, "{passes}");
         assert!(rt; ended.store.content() == Some(AFTER_PRINT), "{passes}");
         assert!(rt; output.writer().is_empty(), "{passes}");
+        assert!(rt;
+            LINE.get(..passes) == Some(errors.writer().taken()),
+            "{passes}"
+        );
     }
     Ok(())
 }

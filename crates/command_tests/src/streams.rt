@@ -82,7 +82,8 @@ fn tells_of_the_output(call: Call, errors: &[u8], whole: &[u8]) -> bool {
     }
 }
 
-// A writer that fails after a number of bytes: these went out, and what the whole command saves is saved.
+// A writer that fails after a number of bytes: these went out and no other, though it takes bytes again, and what the
+// whole command saves is saved.
 fn fails_to_write(
     rt: &impl Abort,
     alloc: Global,

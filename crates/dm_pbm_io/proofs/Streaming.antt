@@ -1,8 +1,9 @@
 -- What a source has given, step by step, and what it remembers.
-use Rattle.std.proofs.Common.{◌≡◌, ℕ, List, [], ◌++◌, refl, ◌∙◌, subst, append-nil}
-use Rattle.std.specs.Prelude.{◌≢◌}
+use Rattle.std.proofs.Common.{◌≡◌, ℕ, List, [], ◌++◌, Ok, Err, Option, Result, refl, sym, ◌∙◌, subst, append-nil}
+use Rattle.std.specs.Prelude.{◌≢◌, OnOk}
 use Rattle.std.proofs.KnownBytes.{Appends-trans, Appends-nil, Consumes-trans, Consumes-kept, Consumes-nil}
-use Rattle.relay_streams.specs.Streams.{InputView, OutputView}
+use Rattle.relay_streams.proofs.Parts.{part_more, part_after}
+use Rattle.relay_streams.specs.Streams.{AppendsPart, InputView, OutputView}
 use Rattle.dm_pbm_io.specs.inner.Streaming.{Takes, FindsEnd, Remembers, TakesUntil, Adds}
 use Rattle.dm_pbm_io.specs.declared.fault.PbmFault.{PbmFault}
 use Rattle.dm_pbm_io.specs.declared.fault.PbmFault.TheVariants.{Magic, Header, TooLarge, Cut, Pixel, Read, Memory}
@@ -74,3 +75,16 @@ adds-nil a = record { appended = Appends-nil a.contents; kept = refl }
 pub adds-trans : (a b c : OutputView) (bs cs : List ℕ) → Adds a b bs → Adds b c cs → Adds a c (bs ++ cs)
 adds-trans a b c bs cs p q =
     record { appended = Appends-trans a.contents b.contents c.contents bs cs p.appended q.appended; kept = q.kept ∙ p.kept }
+
+-- first some text, and then the rest of the whole, if it was written
+pub adds_rest : {E : Type 0} (a b c : OutputView) (all first rest : List ℕ) (put : Result (Unit {0}) E) → all ≡ first ++ rest
+    → Adds a b first → OnOk put (Adds b c rest) → OnOk put (Adds a c all)
+adds_rest a b c all first rest (Ok x) is p q = subst (Adds a c) (sym is) (adds-trans a b c first rest p q)
+adds_rest a b c all first rest (Err e) is p q = tt
+
+-- first some text, and then a part of what comes next
+pub adds_part : (a b : OutputView) (end : Option (List ℕ)) (all done next rest : List ℕ) → all ≡ done ++ (next ++ rest)
+    → Adds a b done → AppendsPart b.contents end next → AppendsPart a.contents end all
+adds_part a b end all done next rest is p q =
+    subst (AppendsPart a.contents end) (sym is)
+    (part_after a.contents b.contents end done (next ++ rest) p.appended (part_more b.contents end next rest q))

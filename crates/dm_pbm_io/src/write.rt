@@ -9,6 +9,7 @@ ghost use Rattle.dm_pbm_io.specs.Raster.{stride, digit_of};
 ghost use Rattle.dm_pbm_io.specs.Shown.{picture};
 ghost use Rattle.dm_pbm_io.specs.Writing.{number_of_first, packed, plain_row, row_text, rows_text, written};
 ghost use Rattle.dm_pbm_io.specs.inner.Streaming.{Adds};
+ghost use Rattle.relay_streams.specs.Streams.{AppendsPart};
 
 use crate::image::Image;
 use crate::sink::ByteSink;
@@ -88,6 +89,8 @@ fn write_packed_row<M, K: ByteSink<M>>(sink: &mut K, row: &[bool]) -> Result<(),
     requires { length row.now ≤ u16.MAX }
     ensures written { OnOk result
         (Adds (K.view sink.old) (K.view sink.new) (packed (stride (length row.now)) row.now)) }
+    ensures part { AppendsPart (K.view sink.old).contents (K.view sink.new).contents
+        (packed (stride (length row.now)) row.now) }
     ensures failed { OnErr result ((K.view sink.new).has_failed ≡ true) }
 {
     let mut rest = row;
@@ -123,6 +126,8 @@ fn line_text(line: &[bool]) -> ArrayVec<u8, LINE_BYTES>
 fn write_plain_row<M, K: ByteSink<M>>(sink: &mut K, row: &[bool]) -> Result<(), WriteFault>
     requires { length row.now ≤ u16.MAX }
     ensures written { OnOk result (Adds (K.view sink.old) (K.view sink.new) (plain_row 0 row.now)) }
+    ensures part { AppendsPart (K.view sink.old).contents (K.view sink.new).contents
+        (plain_row 0 row.now) }
     ensures failed { OnErr result ((K.view sink.new).has_failed ≡ true) }
 {
     let mut rest = row;
@@ -139,6 +144,8 @@ fn write_row<M, K: ByteSink<M>>(sink: &mut K, plain: bool, row: &[bool]) -> Resu
     requires { length row.now ≤ u16.MAX }
     ensures written { OnOk result
         (Adds (K.view sink.old) (K.view sink.new) (row_text plain (length row.now) row.now)) }
+    ensures part { AppendsPart (K.view sink.old).contents (K.view sink.new).contents
+        (row_text plain (length row.now) row.now) }
     ensures failed { OnErr result ((K.view sink.new).has_failed ≡ true) }
 {
     if plain {
@@ -161,6 +168,8 @@ fn write_rows<M, K: ByteSink<M>>(
     requires pixels { length pixels.now ≡ width * height }
     ensures written { OnOk result
         (Adds (K.view sink.old) (K.view sink.new) (rows_text plain width height pixels.now)) }
+    ensures part { AppendsPart (K.view sink.old).contents (K.view sink.new).contents
+        (rows_text plain width height pixels.now) }
     ensures failed { OnErr result ((K.view sink.new).has_failed ≡ true) }
 {
     let mut rest = pixels;
@@ -179,7 +188,11 @@ fn write_to<M, K: ByteSink<M>, A: Allocator>(
 ) -> Result<(), WriteFault>
     requires { length image.now.pixels.items ≡ image.now.width * image.now.height }
     ensures written { OnOk result (Adds (K.view sink.old) (K.view sink.new) (written (picture image.now))) }
+    ensures part { AppendsPart (K.view sink.old).contents (K.view sink.new).contents
+        (written (picture image.now)) }
     ensures failed { OnErr result ((K.view sink.new).has_failed ≡ true) }
+    ensures stuck { K.is_stuck sink.old ≡ true
+        → (result ≡ Err WriteFault.Write) × (K.view sink.new ≡ K.view sink.old) }
 {
     let (width, height) = (usize::from(image.width), usize::from(image.height));
     let header = header_text(image.plain, image.width, image.height);
@@ -199,7 +212,9 @@ pub fn write_image<W: Write, A: Allocator>(
     image: &Image<A>,
 ) -> Result<(), WriteFault>
     requires { length image.now.pixels.items ≡ image.now.width * image.now.height }
-    ensures { OnOk result (Appends (W.contents writer.old) (W.contents writer.new) (written (picture image.now))) }
+    ensures written { OnOk result
+        (Appends (W.contents writer.old) (W.contents writer.new) (written (picture image.now))) }
+    ensures part { AppendsPart (W.contents writer.old) (W.contents writer.new) (written (picture image.now)) }
 {
     write_to(writer, image)
 }
@@ -209,17 +224,20 @@ impl<A: Allocator> Image<A> {
     ghost use Rattle.std.specs.Io.KnownBytes.{Appends};
     ghost use Rattle.dm_pbm_io.specs.Shown.{picture};
     ghost use Rattle.dm_pbm_io.specs.Writing.{written};
+    ghost use Rattle.relay_streams.specs.Streams.{AppendsPart, StaysFailed};
 
     /// Writes the image in its own form. No memory is taken.
     ///
     /// # Errors
-    /// `Write` where the writer failed; some of the bytes may have gone out.
+    /// `Write` where the writer fails or has failed before; a part of the bytes may have gone out, and nothing else.
     pub fn write<W: Write>(&self, output: &mut Output<W>) -> Result<(), WriteFault>
         requires { length self.now.pixels.items ≡ self.now.width * self.now.height }
         ensures written { OnOk result
             (Appends output.old.contents output.new.contents (written (picture self.now))) }
+        ensures part { AppendsPart output.old.contents output.new.contents (written (picture self.now)) }
         ensures kept { OnOk result (output.new.has_failed ≡ output.old.has_failed) }
         ensures failed { OnErr result (output.new.has_failed ≡ true) }
+        ensures stuck { StaysFailed output.old result output.new }
     {
         write_to(output, self)
     }

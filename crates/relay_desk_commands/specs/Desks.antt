@@ -26,7 +26,7 @@ use Rattle.dm_assembly_desk.specs.declared.fault.ImportFault.{ImportFault}
 use Rattle.dm_assembly_desk.specs.declared.fault.MoveFault.{MoveFault}
 use Rattle.dm_assembly_desk.specs.declared.reply.Imported.{Imported}
 use Rattle.relay_streams.specs.FaultNames.{input_fault_name}
-use Rattle.relay_streams.specs.Streams.{InputView, OutputView, TakesFirst}
+use Rattle.relay_streams.specs.Streams.{AppendsPart, InputView, OutputView, TakesFirst}
 use Rattle.relay_streams.specs.declared.fault.InputFault.{InputFault}
 use Rattle.relay_desk_commands.specs.declared.import.TheConstants.{IMPORT_BYTES}
 use Rattle.relay_shared.specs.DeskLines.{forgotten_line, imported_line}
@@ -75,12 +75,13 @@ HasId text = (first second : ℕ) × (decode_sized text 2 ≡ Ok (first ∷ seco
 
 -- ---- what is given out
 
--- The bytes were written to the output and nothing to the other; or the output has refused a write, and the line that
--- says so was written to the other, or it has refused that.
+-- The bytes were written to the output and nothing to the other; or the output has failed, a part of the bytes is out
+-- from their first on, and the line that says so was written to the other, or that has failed too.
 abbrev pub TellsBytes : List ℕ → OutputView → OutputView → ℕ → OutputView → OutputView → Type 0
 TellsBytes bytes old old_errors status new errors =
     (Appends old.contents new.contents bytes × (errors ≡ old_errors) × (status ≡ 0))
-    ⊎ ((new.has_failed ≡ true) × TellsRefusal (codes "Write") old_errors errors status)
+    ⊎ ((new.has_failed ≡ true) × AppendsPart old.contents new.contents bytes
+    × TellsRefusal (codes "Write") old_errors errors status)
 
 -- why no document is given, by what is held of it
 abbrev pub HasAskFault : Option Pages → AskFault → Type 0

@@ -19,6 +19,7 @@ use Rattle.relay_streams.specs.Streams.{InputView, OutputView}
 use Rattle.relay_shared.specs.DeskLines.{accepted_line}
 use Rattle.relay_desk_commands.specs.Desks.{DeskFiles, HasNoDesk, OpensDesk}
 use Rattle.relay_shared.specs.Images.{IsAnother, IsUnread}
+use Rattle.relay_shared.specs.Telling.{AppendsThenPart}
 use Rattle.relay_shared.specs.declared.images.TheConstants.{MOST_IMAGES}
 
 -- ---- one image
@@ -78,20 +79,19 @@ pub record ScansInput (A : Type 0) (start : DeskView) (input rest : InputView) (
 
 -- ---- an output that has refused a line
 
--- What comes last after this many images, where its line or an earlier one was refused: what was taken, what is left, and
--- the desk.
-pub data EndsUnsaid (A : Type 0) (desk : DeskView) : ℕ → List ℕ → InputView → DeskView → Type 0 where
+-- What comes last after this many images, if its line was refused: what was taken, what is left, the line, and the desk.
+pub data EndsUnsaid (A : Type 0) (desk : DeskView) : ℕ → List ℕ → InputView → List ℕ → DeskView → Type 0 where
   image : {count : ℕ} {taken line : List ℕ} {rest : InputView} {refused : Bool} {after : DeskView} (p : Picture)
       → count < MOST_IMAGES → Spells taken p → ScansPicture A p desk line refused after
-      → EndsUnsaid A desk count taken rest after
+      → EndsUnsaid A desk count taken rest line after
   unread : {count : ℕ} {taken : List ℕ} {rest : InputView} (fault : PbmFault) → count < MOST_IMAGES
-      → IsUnread fault taken rest → EndsUnsaid A desk count taken rest desk
-  too_many : {taken : List ℕ} {rest : InputView} → IsAnother taken rest → EndsUnsaid A desk MOST_IMAGES taken rest desk
+      → IsUnread fault taken rest → EndsUnsaid A desk count taken rest (refused_line (pbm_fault_name fault)) desk
+  too_many : {taken : List ℕ} {rest : InputView} → IsAnother taken rest
+      → EndsUnsaid A desk MOST_IMAGES taken rest (refused_line (codes "TooMany")) desk
 
--- The output has refused a line. What was taken of the input is images and what comes last, and the desk was handed their
--- grids, in order, and no other. Which of their lines was refused no clause says, since no contract knows what a writer
--- holds after a write that failed.
-pub record StopsScanning (A : Type 0) (start : DeskView) (input rest : InputView) (written : OutputView) (status : ℕ)
+-- The output has failed. What was taken of the input is images and what comes last, and the desk was handed their grids,
+-- in order, and no other. The lines of the images are out, then a part of the last line, and nothing else.
+pub record StopsScanning (A : Type 0) (start : DeskView) (input rest : InputView) (output written : OutputView) (status : ℕ)
     (after : DeskView) : Type 0 where
   pub count : ℕ
   pub desk : DeskView
@@ -99,19 +99,21 @@ pub record StopsScanning (A : Type 0) (start : DeskView) (input rest : InputView
   pub image_lines : List ℕ
   pub any_refused : Bool
   pub end_taken : List ℕ
+  pub last_line : List ℕ
   pub scanned : ScansImages A start count images_taken image_lines any_refused desk
-  pub ended : EndsUnsaid A desk count end_taken rest after
+  pub ended : EndsUnsaid A desk count end_taken rest last_line after
   pub consumed : Consumes input.remaining rest.remaining (images_taken ++ end_taken)
+  pub appended : AppendsThenPart output.contents written.contents image_lines last_line
   pub failed : written.has_failed ≡ true
   pub status_is : status ≡ 1
 
 -- ---- the command
 
--- The whole input was scanned, or the output has refused a line and the images up to one of them were. Either way each
+-- The whole input was scanned, or the output has refused a line and the images up to that were. Either way each
 -- page that was held is held with the same bytes, and what the desk holds is in order with its set.
 pub record TellsScan (A : Type 0) (before : DeskView) (input rest : InputView) (old : OutputView) (status : ℕ)
     (after : DeskView) (new : OutputView) : Type 0 where
-  pub told : ScansInput A before input rest old new status after ⊎ StopsScanning A before input rest new status after
+  pub told : ScansInput A before input rest old new status after ⊎ StopsScanning A before input rest old new status after
   pub kept : KeepsPages before.held after.held
   pub in_order : IsInOrder after
 

@@ -47,7 +47,8 @@ fn scan_image<A: Allocator + Copy, T: StoreSet, W: Write, N: Notes>(
 ) -> Result<Step, WriteFault>
     requires { desk.old.is_failed ≡ false }
     ensures step { IfOk result (λ step. ScansLine A (picture image.now) step desk.old desk.new output.old output.new) }
-    ensures unsaid { OnErr result (HandsPicture A (picture image.now) desk.old desk.new) }
+    ensures unsaid { OnErr result
+        (HandsPicture A (picture image.now) desk.old desk.new output.old output.new) }
     ensures failed { OnErr result (output.new.has_failed ≡ true) }
     ensures kept { KeepsPages desk.old.held desk.new.held }
     ensures order { IsInOrder desk.old → IsInOrder desk.new }
@@ -94,7 +95,8 @@ fn next_scan<A: Allocator + Copy, T: StoreSet, R: Read, W: Write, N: Notes>(
     requires { desk.old.is_failed ≡ false }
     ensures step { IfOk result (λ step.
         MakesScan A step input.old input.new desk.old desk.new output.old output.new) }
-    ensures unsaid { OnErr result (HandsNext A input.old input.new desk.old desk.new) }
+    ensures unsaid { OnErr result
+        (HandsNext A input.old input.new desk.old desk.new output.old output.new) }
     ensures failed { OnErr result (output.new.has_failed ≡ true) }
     ensures kept { KeepsPages desk.old.held desk.new.held }
     ensures order { IsInOrder desk.old → IsInOrder desk.new }
@@ -127,7 +129,8 @@ fn end_scans_at_most<A: Allocator + Copy, R: Read, W: Write>(
 ) -> Result<bool, WriteFault>
     ensures ended { IfOk result (λ refused.
         (desk : DeskView) → EndsScansAtMost A desk refused input.old input.new output.old output.new) }
-    ensures unsaid { OnErr result ((desk : DeskView) → HandsNone A desk input.old input.new) }
+    ensures unsaid { OnErr result
+        ((desk : DeskView) → HandsNone A desk input.old input.new output.old output.new) }
     ensures failed { OnErr result (output.new.has_failed ≡ true) }
 {
     if is_at_end(alloc, input) {

@@ -16,12 +16,12 @@ use Rattle.dm_print_ledger.specs.Views.{JobView, PrinterView}
 use Rattle.dm_print_ledger.specs.declared.fault.PrintFault.{PrintFault}
 use Rattle.relay_streams.specs.FaultNames.{input_fault_name}
 use Rattle.relay_streams.specs.Refusal.{refused_line}
-use Rattle.relay_streams.specs.Streams.{InputView, OutputView}
+use Rattle.relay_streams.specs.Streams.{AppendsPart, InputView, OutputView}
 use Rattle.relay_streams.specs.declared.fault.InputFault.{InputFault}
 use Rattle.relay_shared.specs.Documents.{HasInputFault, ReadsDocument}
 use Rattle.relay_shared.specs.PrinterLines.{printed_line}
 use Rattle.relay_printer_commands.specs.Printers.{IsNotOpened}
-use Rattle.relay_shared.specs.Telling.{TellsRefusal}
+use Rattle.relay_shared.specs.Telling.{AppendsThenPart, TellsRefusal}
 
 -- ---- the labels of a job
 
@@ -29,24 +29,36 @@ use Rattle.relay_shared.specs.Telling.{TellsRefusal}
 abbrev pub images_of : List GridView → List ℕ
 images_of grids = flat_map p4 grids
 
--- the line `printed` was written, and after it the line of a refusal, or the output has refused a write
+-- the line `printed` was written whole, and after it the line of a refusal; or the output has failed, and after the whole
+-- line a part of that refusal is out
 abbrev pub PrintsButRefuses : List ℕ → List ℕ → OutputView → OutputView → Type 0
 PrintsButRefuses line name old new =
-    (Appends old.contents new.contents (line ++ refused_line name)) ⊎ (new.has_failed ≡ true)
+    (Appends old.contents new.contents (line ++ refused_line name))
+    ⊎ ((new.has_failed ≡ true) × AppendsThenPart old.contents new.contents line (refused_line name))
 
--- How the labels of a job go out, from both outputs to both: first the line, then the images. Without memory for an
--- image the labels before it are out, and it is not; after a write that failed no clause says how many are.
+-- How the labels of a job go out, from both outputs to both: first the line, then the images. If the line can't be
+-- written, no byte of an image goes out. Without memory for an image the labels before it are out, and it is not; where a
+-- write of an image fails, the images are out up to a byte.
 pub data PrintsLabels (labels : List GridView) (line : List ℕ) (old old_errors : OutputView)
     : ℕ → OutputView → OutputView → Type 0 where
   all : {new errors : OutputView} → Appends old_errors.contents errors.contents line
       → Appends old.contents new.contents (images_of labels) → PrintsLabels labels line old old_errors 0 new errors
-  no_line : {errors : OutputView} → errors.has_failed ≡ true → PrintsLabels labels line old old_errors 1 old errors
+  no_line : {errors : OutputView} → errors.has_failed ≡ true → AppendsPart old_errors.contents errors.contents line
+      → PrintsLabels labels line old old_errors 1 old errors
   no_memory : {new errors : OutputView} (done : List GridView) (next : GridView) (rest : List GridView)
       → labels ≡ done ++ next ∷ rest
       → Appends old.contents new.contents (images_of done) → PrintsButRefuses line (codes "Memory") old_errors errors
       → PrintsLabels labels line old old_errors 1 new errors
-  not_written : {new errors : OutputView} → new.has_failed ≡ true → PrintsButRefuses line (codes "Write") old_errors errors
-      → PrintsLabels labels line old old_errors 1 new errors
+  not_written : {new errors : OutputView} → new.has_failed ≡ true
+      → AppendsPart old.contents new.contents (images_of labels)
+      → PrintsButRefuses line (codes "Write") old_errors errors → PrintsLabels labels line old old_errors 1 new errors
+
+-- No image goes out before its line: nothing went to the output, or a line `printed` is out whole on the errors.
+abbrev pub PrintsLineFirst : OutputView → OutputView → OutputView → OutputView → Type 0
+PrintsLineFirst old old_errors new errors =
+    (new ≡ old)
+    ⊎ ((id count left : ℕ) × (after : List ℕ)
+    × Appends old_errors.contents errors.contents (printed_line id count left ++ after))
 
 -- ---- the whole
 

@@ -3,8 +3,8 @@
 ghost use Rattle.std.specs.Prelude.{◌≡◌, true, OnOk, IsErrOf};
 ghost use Rattle.std.specs.Io.KnownBytes.{Appends};
 ghost use Rattle.dm_pbm_io.specs.SymbolImage.{p4};
-ghost use Rattle.relay_streams.specs.Streams.{TakesPart};
-ghost use Rattle.relay_printer_commands.specs.Print.{EndsPrint, PrintsLabels, TellsPrint, images_of};
+ghost use Rattle.relay_streams.specs.Streams.{AppendsPart, TakesPart};
+ghost use Rattle.relay_printer_commands.specs.Print.{EndsPrint, PrintsLabels, PrintsLineFirst, TellsPrint, images_of};
 ghost use Rattle.relay_printer_commands.specs.inner.Images.{PutsFirst, images_fault_name};
 ghost use Rattle.relay_printer_commands.specs.declared.print.ImagesFault.TheVariants as images_faults;
 ghost use Rattle.relay_shared.specs.PrinterLines.{printed_line};
@@ -61,6 +61,7 @@ fn put_image<A: Allocator + Copy, W: Write>(
     grid: &Grid<A>,
 ) -> Result<(), ImagesFault>
     ensures written { OnOk result (Appends output.old.contents output.new.contents (p4 grid.now)) }
+    ensures part { AppendsPart output.old.contents output.new.contents (p4 grid.now) }
     ensures memory { IsErrOf result images_faults.Memory → output.new ≡ output.old }
     ensures write { IsErrOf result images_faults.Write → output.new.has_failed ≡ true }
 {
@@ -80,6 +81,7 @@ fn put_images<A: Allocator + Copy, W: Write>(
     job: Job<A>,
 ) -> Result<(), ImagesFault>
     ensures written { OnOk result (Appends output.old.contents output.new.contents (images_of job.labels)) }
+    ensures part { AppendsPart output.old.contents output.new.contents (images_of job.labels) }
     ensures memory { IsErrOf result images_faults.Memory → PutsFirst job.labels output.old output.new }
     ensures write { IsErrOf result images_faults.Write → output.new.has_failed ≡ true }
 {
@@ -132,7 +134,8 @@ fn print<A: Allocator + Copy, S: Store, W: Write, E: Write>(
 /// Prints a document as labels under an identification of its own: `printed IIII n left N` goes to `errors`, and then
 /// the labels go to `output` as packed images, one after another. A refusal is a line on `errors`. The side is looked
 /// at first, then the input is read, at most 41,601 bytes of it, then the printer is opened. The identification is
-/// saved as used before the first byte goes out; it stays used where the labels can't be written.
+/// saved as used before the first byte goes out; it stays used where the labels can't be written. If the line can't be
+/// written, no byte of a label goes out.
 pub fn print_command<A: Allocator + Copy, S: Store, R: Read, W: Write, E: Write>(
     alloc: A,
     store: S,
@@ -142,6 +145,7 @@ pub fn print_command<A: Allocator + Copy, S: Store, R: Read, W: Write, E: Write>
     options: PrintOptions,
 ) -> Ended<S>
     ensures part { TakesPart input.old.remaining input.new.remaining DOCUMENT_BYTES }
+    ensures line_first { PrintsLineFirst output.old errors.old output.new errors.new }
     ensures ends { EndsPrint (S.state store) options.number options.side options.scheme input.old input.new
         output.old errors.old result.status (S.state result.store) output.new errors.new }
 {

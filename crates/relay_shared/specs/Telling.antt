@@ -1,14 +1,20 @@
--- How a command says what has happened: by one line, and by its exit status.
-use Rattle.std.specs.Prelude.{◌≡◌, ◌⊎◌, ℕ, List, true}
+-- How a command says what has happened, by one line and by its exit status, and what is out if its output fails.
+use Rattle.std.specs.Prelude.{◌≡◌, ◌⊎◌, ◌++◌, ℕ, List, Option, true}
 use Rattle.std.specs.Io.KnownBytes.{Appends}
-use Rattle.relay_streams.specs.Streams.{OutputView}
+use Rattle.relay_streams.specs.Streams.{AppendsPart, IsFirstPart, OutputView}
 use Rattle.relay_streams.specs.Refusal.{refused_line}
 
--- the line was written and the exit status is this one, or the output has refused a write and it is 1
+-- the line was written and the exit status is this one; or the output has failed, a part of the line is out from its
+-- first byte on, and the exit status is 1
 abbrev pub Tells : List ℕ → ℕ → OutputView → OutputView → ℕ → Type 0
 Tells line wanted old new status =
-    (Appends old.contents new.contents line × (status ≡ wanted)) ⊎ ((new.has_failed ≡ true) × (status ≡ 1))
+    (Appends old.contents new.contents line × (status ≡ wanted))
+    ⊎ ((new.has_failed ≡ true) × AppendsPart old.contents new.contents line × (status ≡ 1))
 
--- the line of a refusal with this name was written, with the status 1, or the output has refused a write
+-- the line of a refusal with this name was written, with the status 1, or a part of it, and the output has failed
 abbrev pub TellsRefusal : List ℕ → OutputView → OutputView → ℕ → Type 0
 TellsRefusal name old new status = Tells (refused_line name) 1 old new status
+
+-- a text was appended whole, after it a part of the next one, its first bytes, and nothing else
+abbrev pub AppendsThenPart : Option (List ℕ) → Option (List ℕ) → List ℕ → List ℕ → Type 0
+AppendsThenPart old new text next = (part : List ℕ) × IsFirstPart part next × Appends old new (text ++ part)

@@ -1,10 +1,12 @@
 //! The lines that the commands of desks write. They take no memory.
 
-ghost use Rattle.std.specs.Prelude.{◌≡◌, true, OnOk, OnErr};
+ghost use Rattle.std.specs.Prelude.{◌≡◌, ◌∷◌, [], ◌/◌, ◌%◌, true, OnOk, OnErr};
 ghost use Rattle.std.specs.Io.KnownBytes.{Appends};
-ghost use Rattle.relay_shared.specs.DeskLines.{accepted_line, added_end, forgotten_line, imported_line, kind_end, kind_name};
+ghost use Rattle.hex.specs.Hex.{encode_lower};
+ghost use Rattle.relay_streams.specs.Streams.{AppendsPart};
+ghost use Rattle.relay_shared.specs.DeskLines.{accepted_line, forgotten_line, imported_line, kind_name};
 
-use crate::printer_lines::put_identification;
+use crate::printer_lines::id_digits;
 use dm_append_label::FileId;
 use dm_assembly_desk::{Accepted, Imported, Kind};
 use itoa::Buffer;
@@ -22,14 +24,16 @@ fn name_of(kind: Kind) -> &'static str
     }
 }
 
-// Writes what a page or an import was, and ends the line.
-fn put_kind<W: Write>(output: &mut Output<W>, kind: Kind) -> Result<(), WriteFault>
-    ensures written { OnOk result (Appends output.old.contents output.new.contents (kind_end kind)) }
-    ensures failed { OnErr result (output.new.has_failed ≡ true) }
+/// A number of two bytes in hexadecimal.
+pub fn mask_digits(mask: u16) -> [u8; 4]
+    ensures { result ≡ encode_lower (mask / 256 ∷ mask % 256 ∷ []) }
 {
-    output.put(b" ")?;
-    output.put(name_of(kind).as_bytes())?;
-    output.put(b"\n")
+    let bytes = [(mask / 256) as u8, (mask % 256) as u8];
+    let mut digits = [0u8; 4];
+    let Ok(()) = hex::encode_to_slice(bytes, &mut digits) else {
+        unreachable!()
+    };
+    digits
 }
 
 /// Writes which page was accepted, and what it was.
@@ -38,30 +42,15 @@ fn put_kind<W: Write>(output: &mut Output<W>, kind: Kind) -> Result<(), WriteFau
 /// Where the output refuses a write.
 pub fn put_accepted<W: Write>(output: &mut Output<W>, accepted: Accepted) -> Result<(), WriteFault>
     ensures written { OnOk result (Appends output.old.contents output.new.contents (accepted_line accepted)) }
+    ensures part { AppendsPart output.old.contents output.new.contents (accepted_line accepted) }
     ensures failed { OnErr result (output.new.has_failed ≡ true) }
 {
-    let mut digits = Buffer::new();
-    put_identification(output, accepted.id)?;
-    output.put(b" ")?;
-    output.put(digits.format(accepted.m).as_bytes())?;
-    output.put(b"/")?;
-    output.put(digits.format(accepted.n).as_bytes())?;
-    put_kind(output, accepted.kind)
-}
-
-// Writes which pages were added and what the import was, and ends the line.
-fn put_added<W: Write>(output: &mut Output<W>, added: u16, kind: Kind) -> Result<(), WriteFault>
-    ensures written { OnOk result (Appends output.old.contents output.new.contents (added_end added kind)) }
-    ensures failed { OnErr result (output.new.has_failed ≡ true) }
-{
-    let mut digits = [0u8; 4];
-    let bytes = [(added / 256) as u8, (added % 256) as u8];
-    let Ok(()) = hex::encode_to_slice(bytes, &mut digits) else {
-        unreachable!()
-    };
-    output.put(b" added ")?;
-    output.put(&digits)?;
-    put_kind(output, kind)
+    let id = id_digits(accepted.id);
+    let (mut page, mut pages) = (Buffer::new(), Buffer::new());
+    let m = page.format(accepted.m).as_bytes();
+    let n = pages.format(accepted.n).as_bytes();
+    let kind = name_of(accepted.kind).as_bytes();
+    output.put_all(&[&id, b" ", m, b"/", n, b" ", kind, b"\n"])
 }
 
 /// Writes of which document pages were imported, which of them were added, and what the import was.
@@ -70,13 +59,15 @@ fn put_added<W: Write>(output: &mut Output<W>, added: u16, kind: Kind) -> Result
 /// Where the output refuses a write.
 pub fn put_imported<W: Write>(output: &mut Output<W>, imported: Imported) -> Result<(), WriteFault>
     ensures written { OnOk result (Appends output.old.contents output.new.contents (imported_line imported)) }
+    ensures part { AppendsPart output.old.contents output.new.contents (imported_line imported) }
     ensures failed { OnErr result (output.new.has_failed ≡ true) }
 {
+    let id = id_digits(imported.id);
     let mut digits = Buffer::new();
-    put_identification(output, imported.id)?;
-    output.put(b" ")?;
-    output.put(digits.format(imported.n).as_bytes())?;
-    put_added(output, imported.added, imported.kind)
+    let n = digits.format(imported.n).as_bytes();
+    let added = mask_digits(imported.added);
+    let kind = name_of(imported.kind).as_bytes();
+    output.put_all(&[&id, b" ", n, b" added ", &added, b" ", kind, b"\n"])
 }
 
 /// Writes which document was forgotten.
@@ -85,9 +76,8 @@ pub fn put_imported<W: Write>(output: &mut Output<W>, imported: Imported) -> Res
 /// Where the output refuses a write.
 pub fn put_forgotten<W: Write>(output: &mut Output<W>, id: FileId) -> Result<(), WriteFault>
     ensures written { OnOk result (Appends output.old.contents output.new.contents (forgotten_line id)) }
+    ensures part { AppendsPart output.old.contents output.new.contents (forgotten_line id) }
     ensures failed { OnErr result (output.new.has_failed ≡ true) }
 {
-    output.put(b"forgotten ")?;
-    put_identification(output, id)?;
-    output.put(b"\n")
+    output.put_all(&[b"forgotten ", &id_digits(id), b"\n"])
 }

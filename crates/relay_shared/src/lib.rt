@@ -2,7 +2,7 @@
 //! it writes of printers and of desks.
 //!
 //! Proved: which bytes of an input are the document, and when there is none; where the images on an input end; that a
-//! line is written whole, in the words of its definition, or that the output has refused a write.
+//! line is written whole, in the words of its definition, or that the output has failed and a part of the line is out.
 #![tactic(auto)]
 
 mod desk_lines;
@@ -12,8 +12,8 @@ mod images;
 pub mod laws;
 mod printer_lines;
 
-pub use desk_lines::{put_accepted, put_forgotten, put_imported};
+pub use desk_lines::{mask_digits, put_accepted, put_forgotten, put_imported};
 pub use document::{DOCUMENT_BYTES, read_document};
 pub use ended::{Ended, EndedDesk, refuse, status_after};
 pub use images::{MOST_IMAGES, Step, is_at_end, status_of};
-pub use printer_lines::{put_identification, put_left, put_printed, put_taken, put_ticket};
+pub use printer_lines::{id_digits, put_left, put_printed, put_taken, put_ticket};

@@ -1,6 +1,8 @@
 -- What contracts see of a reader and of a writer: the bytes, where they are known, and whether it has failed.
-use Rattle.std.specs.Prelude.{◌≡◌, ◌≤◌, ℕ, Bool, List, [], ◌∷◌, length, take, Option, IfSome, MatchOption}
-use Rattle.std.specs.Io.KnownBytes.{Keeps, Consumes, IsAtEnd}
+use Rattle.std.specs.Prelude.{◌≡◌, ◌≤◌, ℕ, Bool, true, List, [], ◌∷◌, ◌++◌, length, take, Option, IfSome, MatchOption, Result, Err}
+use Rattle.std.specs.Io.KnownBytes.{Keeps, Consumes, Appends, IsAtEnd}
+use Rattle.relay_streams.specs.declared.fault.WriteFault.{WriteFault}
+use Rattle.relay_streams.specs.declared.fault.WriteFault.TheVariants as write_faults
 
 -- the bytes that are left to read, and whether a read has failed
 pub record InputView : Type 0 where
@@ -26,3 +28,15 @@ pub record TakesFirst (old new : Option (List ℕ)) (limit : ℕ) (bytes : List 
 -- some of the bytes that were left, at most `limit`, are taken
 abbrev pub TakesPart : Option (List ℕ) → Option (List ℕ) → ℕ → Type 0
 TakesPart old new limit = (part : List ℕ) × Consumes old new part × (length part ≤ limit)
+
+-- a text begins with this part, which may be nothing or the whole
+abbrev pub IsFirstPart : List ℕ → List ℕ → Type 0
+IsFirstPart part text = (rest : List ℕ) × (text ≡ part ++ rest)
+
+-- a part of the text was appended, its first bytes, and nothing else
+abbrev pub AppendsPart : Option (List ℕ) → Option (List ℕ) → List ℕ → Type 0
+AppendsPart old new text = (part : List ℕ) × IsFirstPart part text × Appends old new part
+
+-- once a write has failed, each later one is refused, and nothing goes out
+abbrev pub StaysFailed : OutputView → Result (Unit {0}) WriteFault → OutputView → Type 0
+StaysFailed old result new = old.has_failed ≡ true → (result ≡ Err write_faults.Write) × (new ≡ old)

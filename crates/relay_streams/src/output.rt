@@ -1,10 +1,12 @@
 //! Writers that remember whether a write has failed.
 
-ghost use Rattle.std.specs.Prelude.{OnOk};
-ghost use Rattle.std.specs.Io.KnownBytes.{Appends};
+ghost use Rattle.std.specs.Prelude.{◌<◌, length, IfOk, OnOk};
+ghost use Rattle.std.specs.Io.{WritesAtMost};
+ghost use Rattle.std.specs.Io.KnownBytes.{Appends, WriteAppends};
+ghost use Rattle.relay_streams.specs.Streams.{AppendsPart};
 
 use crate::fault::WriteFault;
-use std::io::Write;
+use std::io::{ErrorKind, Write};
 use std::marker::Model;
 
 /// A writer, and whether a write has failed.
@@ -22,24 +24,50 @@ impl<W: Write> Model for Output<W> {
     ghost view = { λ output. record { contents = W.contents output.writer; has_failed = output.failed } };
 }
 
-/// Writes the whole text to any writer. Of a bare writer no contract says that a write has failed: [`Output::put`]
-/// says it.
+/// Writes some bytes of a text, at least one if it has any. A write that a signal interrupts is made again, and one that
+/// takes no byte has failed.
+fn write_some<W: Write>(writer: &mut W, text: &[u8]) -> Result<usize, WriteFault>
+    ensures bound { WritesAtMost result text.now }
+    ensures some { IfOk result (λ count. 0 < count) }
+    ensures bytes { WriteAppends (W.contents writer.old) (W.contents writer.new) result text.now }
+{
+    for _ in 0..u64::MAX {
+        match writer.write(text) {
+            Ok(0) => return Err(WriteFault::Write),
+            Ok(count) => return Ok(count),
+            Err(error) => {
+                if error.kind() != ErrorKind::Interrupted {
+                    return Err(WriteFault::Write);
+                }
+            }
+        }
+    }
+    Err(WriteFault::Write)
+}
+
+/// Writes the whole text to any writer, in as many writes as it takes. Of a bare writer no contract says that a write
+/// has failed: [`Output::put`] says it.
 ///
 /// # Errors
-/// `Write` where the writer has refused a write.
+/// `Write` where the writer has refused a write; a part of the text has gone out, and nothing else.
 pub fn put_to<W: Write>(writer: &mut W, text: &[u8]) -> Result<(), WriteFault>
-    ensures { OnOk result (Appends (W.contents writer.old) (W.contents writer.new) text.now) }
+    ensures written { OnOk result (Appends (W.contents writer.old) (W.contents writer.new) text.now) }
+    ensures part { AppendsPart (W.contents writer.old) (W.contents writer.new) text.now }
 {
-    match writer.write_all(text) {
-        Ok(()) => Ok(()),
-        Err(_) => Err(WriteFault::Write),
+    let mut rest = text;
+    while !rest.is_empty() {
+        let count = write_some(writer, rest)?;
+        rest = &rest[count..];
     }
+    Ok(())
 }
 
 impl<W: Write> Output<W> {
     ghost use Rattle.std.specs.Prelude.{◌≡◌, true, false, OnOk, OnErr};
+    ghost use Rattle.std.specs.List.{flat_map};
     ghost use Rattle.std.specs.Io.KnownBytes.{Appends};
     ghost use Rattle.relay_streams.specs.Refusal.{refused_line};
+    ghost use Rattle.relay_streams.specs.Streams.{AppendsPart, StaysFailed};
 
     /// The writer, to which no write has failed.
     pub fn new(writer: W) -> Self
@@ -74,15 +102,20 @@ impl<W: Write> Output<W> {
         writer
     }
 
-    /// Writes the whole text.
+    /// Writes the whole text. Once a write has failed nothing more is written.
     ///
     /// # Errors
-    /// `Write` where the writer failed; some of the text may have gone out.
+    /// `Write` where the writer fails or has failed before; a part of the text may have gone out, and nothing else.
     pub fn put(&mut self, text: &[u8]) -> Result<(), WriteFault>
         ensures written { OnOk result (Appends self.old.contents self.new.contents text.now) }
+        ensures part { AppendsPart self.old.contents self.new.contents text.now }
         ensures kept { OnOk result (self.new.has_failed ≡ self.old.has_failed) }
         ensures failed { OnErr result (self.new.has_failed ≡ true) }
+        ensures stuck { StaysFailed self.old result self.new }
     {
+        if self.failed {
+            return Err(WriteFault::Write);
+        }
         let put = put_to(&mut self.writer, text);
         if put.is_err() {
             self.failed = true;
@@ -90,17 +123,38 @@ impl<W: Write> Output<W> {
         put
     }
 
+    /// Writes the texts of all pieces, one after another.
+    ///
+    /// # Errors
+    /// As [`Output::put`] of the whole text.
+    pub fn put_all(&mut self, pieces: &[&[u8]]) -> Result<(), WriteFault>
+        ensures written { OnOk result
+            (Appends self.old.contents self.new.contents (flat_map (λ piece. piece.now) pieces.now)) }
+        ensures part { AppendsPart self.old.contents self.new.contents (flat_map (λ piece. piece.now) pieces.now) }
+        ensures kept { OnOk result (self.new.has_failed ≡ self.old.has_failed) }
+        ensures failed { OnErr result (self.new.has_failed ≡ true) }
+        ensures stuck { StaysFailed self.old result self.new }
+    {
+        if self.has_failed() {
+            return Err(WriteFault::Write);
+        }
+        for piece in pieces {
+            self.put(piece)?;
+        }
+        Ok(())
+    }
+
     /// Writes the line `refused NAME`. No memory is taken.
     ///
     /// # Errors
-    /// `Write` where the writer failed; some of the line may have gone out.
+    /// As [`Output::put`] of the line.
     pub fn put_refusal(&mut self, name: &str) -> Result<(), WriteFault>
         ensures written { OnOk result (Appends self.old.contents self.new.contents (refused_line name.now)) }
+        ensures part { AppendsPart self.old.contents self.new.contents (refused_line name.now) }
         ensures kept { OnOk result (self.new.has_failed ≡ self.old.has_failed) }
         ensures failed { OnErr result (self.new.has_failed ≡ true) }
+        ensures stuck { StaysFailed self.old result self.new }
     {
-        self.put(b"refused ")?;
-        self.put(name.as_bytes())?;
-        self.put(b"\n")
+        self.put_all(&[b"refused ", name.as_bytes(), b"\n"])
     }
 }

@@ -1,15 +1,14 @@
 -- The symbol that carries a document, and when there is none.
 use Rattle.std.specs.Prelude.{◌≡◌, ℕ, ◌<◌, ◌≤◌, true, List, [], IfSome}
-use Rattle.std.specs.Io.KnownBytes.{Appends}
 use Rattle.dm_check_blocks.specs.declared.size.Size.{Size}
 use Rattle.dm_check_blocks.specs.Sizes.{IsSide, side, data_words}
 use Rattle.dm_check_blocks.specs.Blocks.{Completes}
 use Rattle.dm_encodation.specs.declared.scheme.Scheme.{Scheme}
 use Rattle.dm_encodation.specs.Written.{filled, need_of}
 use Rattle.relay_streams.specs.Streams.{InputView, OutputView}
-use Rattle.relay_streams.specs.Refusal.{refused_line}
 use Rattle.relay_symbol_commands.specs.Refusals.{symbol_refusal_name}
 use Rattle.relay_shared.specs.Documents.{document_of}
+use Rattle.relay_shared.specs.Telling.{TellsRefusal}
 use Rattle.relay_symbol_commands.specs.declared.refusal.SymbolRefusal.{SymbolRefusal}
 use Rattle.relay_symbol_commands.specs.declared.refusal.SymbolRefusal.TheVariants.{Side, Read, TooLong, Memory}
 
@@ -28,8 +27,9 @@ RefusesSymbol n scheme old new TooLong =
     (size : Size) × (side size ≡ n) × IfSome old.remaining (λ bytes. data_words size < need_of scheme (document_of bytes))
 RefusesSymbol n scheme old new Memory = IsSide n
 
--- the line of a refusal for which there was a reason was written, and nothing else
+-- the line of a refusal for which there was a reason was written, or the output has failed and a part of it is out; and
+-- nothing else
 pub record PrintsRefusal (n : ℕ) (scheme : Scheme) (input rest : InputView) (old new : OutputView) : Type 0 where
   pub refusal : SymbolRefusal
   pub reason : RefusesSymbol n scheme input rest refusal
-  pub printed : Appends old.contents new.contents (refused_line (symbol_refusal_name refusal))
+  pub told : TellsRefusal (symbol_refusal_name refusal) old new 1

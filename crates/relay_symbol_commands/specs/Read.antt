@@ -26,6 +26,7 @@ use Rattle.dm_pbm_io.specs.declared.fault.PbmFault.{PbmFault}
 use Rattle.relay_streams.specs.Refusal.{refused_line}
 use Rattle.relay_streams.specs.Streams.{InputView, OutputView}
 use Rattle.relay_shared.specs.Images.{IsAnother, IsUnread}
+use Rattle.relay_shared.specs.Telling.{AppendsThenPart}
 use Rattle.relay_symbol_commands.specs.Refusals.{read_refusal_name}
 use Rattle.relay_symbol_commands.specs.ReadLines.{label_line, symbol_line}
 use Rattle.relay_shared.specs.declared.images.TheConstants.{MOST_IMAGES}
@@ -106,7 +107,31 @@ pub record PrintsInput (input rest : InputView) (output written : OutputView) (s
   pub appended : Appends output.contents written.contents (image_lines ++ end_line)
   pub status_is : status ≡ (if any_refused || end_refused then 1 else 0)
 
--- How `read` ends: the lines of its input were written, or the output has refused a write.
+-- What comes last after this many images, if its line was refused: what was taken, what is left, and the line.
+pub data EndsUnsaid : ℕ → List ℕ → InputView → List ℕ → Type 0 where
+  image : {count : ℕ} {taken line : List ℕ} {rest : InputView} {refused : Bool} (p : Picture) → count < MOST_IMAGES
+      → Spells taken p → PrintsPicture p line refused → EndsUnsaid count taken rest line
+  unread : {count : ℕ} {taken : List ℕ} {rest : InputView} (fault : PbmFault) → count < MOST_IMAGES
+      → IsUnread fault taken rest → EndsUnsaid count taken rest (refused_line (read_refusal_name (Image fault)))
+  too_many : {taken : List ℕ} {rest : InputView} → IsAnother taken rest
+      → EndsUnsaid MOST_IMAGES taken rest (refused_line (read_refusal_name TooMany))
+
+-- The output has failed. What was taken of the input is images and what comes last. The lines of the images are out, in
+-- order, then a part of the last line, and nothing else.
+pub record StopsReading (input rest : InputView) (output written : OutputView) (status : ℕ) : Type 0 where
+  pub count : ℕ
+  pub images_taken : List ℕ
+  pub image_lines : List ℕ
+  pub any_refused : Bool
+  pub end_taken : List ℕ
+  pub last_line : List ℕ
+  pub printed : PrintsImages count images_taken image_lines any_refused
+  pub ended : EndsUnsaid count end_taken rest last_line
+  pub consumed : Consumes input.remaining rest.remaining (images_taken ++ end_taken)
+  pub appended : AppendsThenPart output.contents written.contents image_lines last_line
+  pub failed : written.has_failed ≡ true
+  pub status_is : status ≡ 1
+
+-- How `read` ends: the lines of its input were written, or the output has failed at one of them.
 abbrev pub EndsRead : InputView → InputView → OutputView → ℕ → OutputView → Type 0
-EndsRead input rest old status new =
-    ((new.has_failed ≡ true) × (status ≡ 1)) ⊎ PrintsInput input rest old new status
+EndsRead input rest old status new = StopsReading input rest old new status ⊎ PrintsInput input rest old new status

@@ -5,7 +5,7 @@ use Rattle.std.specs.Fmt.{decimal}
 use Rattle.std.specs.Io.KnownBytes.{Appends}
 use Rattle.dm_check_blocks.specs.declared.size.Size.{Size}
 use Rattle.dm_encodation.specs.declared.scheme.Scheme.{Scheme}
-use Rattle.relay_streams.specs.Streams.{InputView, OutputView, TakesPart}
+use Rattle.relay_streams.specs.Streams.{AppendsPart, InputView, OutputView, TakesPart}
 use Rattle.relay_symbol_commands.specs.DocumentSymbol.{CarriesDocument, PrintsRefusal}
 use Rattle.relay_shared.specs.Documents.{document_of}
 use Rattle.relay_shared.specs.declared.document.TheConstants.{DOCUMENT_BYTES}
@@ -28,11 +28,18 @@ PrintsWords n scheme input old new =
     IfSome input.remaining (λ bytes.
     (line : List ℕ) × IsLineOf n scheme (document_of bytes) line × Appends old.contents new.contents line)
 
--- How `words` ends, from an input and an output to both and the exit status: the words were printed; or the line of a
--- refusal for which there was a reason was, or the output has refused a write.
+-- a part of that line was written, from its first byte on, and nothing else
+abbrev pub PrintsPartOfWords : ℕ → Scheme → InputView → OutputView → OutputView → Type 0
+PrintsPartOfWords n scheme input old new =
+    IfSome input.remaining (λ bytes.
+    (line : List ℕ) × IsLineOf n scheme (document_of bytes) line × AppendsPart old.contents new.contents line)
+
+-- How `words` ends, from an input and an output to both and the exit status: the words were printed; or the output has
+-- failed and a part of them is out; or there was a reason for a refusal, and its line was written or a part of it.
 pub record EndsWords (n : ℕ) (scheme : Scheme) (input rest : InputView) (old : OutputView) (status : ℕ) (new : OutputView)
     : Type 0 where
   pub status_is : (status ≡ 0) ⊎ (status ≡ 1)
   pub part : TakesPart input.remaining rest.remaining DOCUMENT_BYTES
   pub printed : status ≡ 0 → PrintsWords n scheme input old new
-  pub refused : status ≡ 1 → (new.has_failed ≡ true) ⊎ PrintsRefusal n scheme input rest old new
+  pub refused : status ≡ 1 → ((new.has_failed ≡ true) × PrintsPartOfWords n scheme input old new)
+      ⊎ PrintsRefusal n scheme input rest old new

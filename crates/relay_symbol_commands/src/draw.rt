@@ -15,7 +15,7 @@ use crate::refusal::SymbolRefusal;
 use dm_encodation::Scheme;
 use dm_pbm_io::{Image, image_of};
 use dm_symbol::draw_words;
-use relay_shared::DOCUMENT_BYTES;
+use relay_shared::{DOCUMENT_BYTES, refuse};
 use relay_streams::{Input, Output};
 use std::alloc::{AllocError, Allocator};
 use std::io::{Read, Write};
@@ -77,14 +77,8 @@ pub fn draw_command<A: Allocator + Copy, R: Read, W: Write, E: Write>(
     match image_of_document(alloc, input, side, scheme, plain) {
         Ok(image) => match image.write(output) {
             Ok(()) => 0,
-            Err(fault) => {
-                let _ = errors.put_refusal(fault.name());
-                1
-            }
+            Err(fault) => refuse(errors, fault.name()),
         },
-        Err(refusal) => {
-            let _ = errors.put_refusal(refusal.name());
-            1
-        }
+        Err(refusal) => refuse(errors, refusal.name()),
     }
 }

@@ -4,6 +4,7 @@ ghost use Rattle.std.specs.Prelude.{◌≡◌, ◌⊎◌, true, IfOk, OnErr};
 ghost use Rattle.dm_pbm_io.specs.Shown.{picture};
 ghost use Rattle.relay_symbol_commands.specs.Read.{EndsRead};
 ghost use Rattle.relay_symbol_commands.specs.inner.Steps.{EndsAtMost, MakesStep, PrintsLine};
+ghost use Rattle.relay_symbol_commands.specs.inner.Steps.{PrintsPartOfLine, StopsAtMost, StopsStep};
 
 use crate::read_grid::line_of_image;
 use crate::refusal::ReadRefusal;
@@ -22,6 +23,7 @@ fn put_line_of<A: Allocator + Copy, W: Write>(
     image: &Image<A>,
 ) -> Result<bool, WriteFault>
     ensures written { IfOk result (λ refused. PrintsLine (picture image.now) refused output.old output.new) }
+    ensures unsaid { OnErr result (PrintsPartOfLine (picture image.now) output.old output.new) }
     ensures failed { OnErr result (output.new.has_failed ≡ true) }
 {
     match line_of_image(alloc, reader, image) {
@@ -44,6 +46,7 @@ fn next_step<A: Allocator + Copy, R: Read, W: Write>(
     output: &mut Output<W>,
 ) -> Result<Step, WriteFault>
     ensures step { IfOk result (λ step. MakesStep step input.old input.new output.old output.new) }
+    ensures unsaid { OnErr result (StopsStep input.old input.new output.old output.new) }
     ensures failed { OnErr result (output.new.has_failed ≡ true) }
 {
     match Image::read(alloc, input) {
@@ -70,6 +73,7 @@ fn end_at_most<A: Allocator + Copy, R: Read, W: Write>(
     output: &mut Output<W>,
 ) -> Result<bool, WriteFault>
     ensures ended { IfOk result (λ refused. EndsAtMost refused input.old input.new output.old output.new) }
+    ensures unsaid { OnErr result (StopsAtMost input.old input.new output.old output.new) }
     ensures failed { OnErr result (output.new.has_failed ≡ true) }
 {
     if is_at_end(alloc, input) {

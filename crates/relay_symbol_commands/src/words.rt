@@ -11,7 +11,7 @@ ghost use Rattle.relay_symbol_commands.specs.Words.{EndsWords, IsLineOf, words_l
 use crate::document_symbol::read_symbol;
 use crate::refusal::SymbolRefusal;
 use dm_encodation::Scheme;
-use relay_shared::DOCUMENT_BYTES;
+use relay_shared::{DOCUMENT_BYTES, refuse, status_after};
 use relay_streams::{Input, Output};
 use std::alloc::{AllocError, Allocator};
 use std::fmt::Write as _;
@@ -76,10 +76,7 @@ pub fn words_command<A: Allocator + Copy, R: Read, W: Write>(
     ensures { EndsWords side scheme input.old input.new output.old result output.new }
 {
     match line_of_document(alloc, input, side, scheme) {
-        Ok(line) => u8::from(output.put(line.as_bytes()).is_err()),
-        Err(refusal) => {
-            let _ = output.put_refusal(refusal.name());
-            1
-        }
+        Ok(line) => status_after(output.put(line.as_bytes())),
+        Err(refusal) => refuse(output, refusal.name()),
     }
 }

@@ -5,14 +5,15 @@ ghost use Rattle.std.specs.Io.KnownBytes.{Appends};
 ghost use Rattle.hex.specs.Hex.{encode_lower};
 ghost use Rattle.dm_print_ledger.specs.Tickets.{ticket_bytes};
 ghost use Rattle.relay_streams.specs.Refusal.{refused_line};
-ghost use Rattle.relay_world_command.specs.ReplyLines.{answer_line, document_line, export_end, export_line, has_refusal, is_refusal, label_numbers, labels_line, numbered_ticket_line, reply_line};
+ghost use Rattle.relay_streams.specs.Streams.{AppendsPart};
+ghost use Rattle.relay_world_command.specs.ReplyLines.{answer_line, document_line, export_line, has_refusal, is_refusal, labels_line, numbered_ticket_line, reply_line};
 
 use dm_append_label::FileId;
 use dm_event_history::Reply;
 use dm_event_world::Answer;
 use dm_print_ledger::Ticket;
 use itoa::Buffer;
-use relay_shared::{put_accepted, put_identification, put_imported};
+use relay_shared::{id_digits, mask_digits, put_accepted, put_imported};
 use relay_streams::{Output, WriteFault};
 use std::alloc::Allocator;
 use std::io::Write;
@@ -37,29 +38,11 @@ fn put_document<W: Write>(output: &mut Output<W>, bytes: &[u8]) -> Result<(), Wr
     ensures written { OnOk result (Appends output.old.contents output.new.contents (document_line bytes.now)) }
     ensures failed { OnErr result (output.new.has_failed ≡ true) }
 {
-    output.put(b"document ")?;
     if bytes.is_empty() {
-        output.put(b"-")?;
-    } else {
-        put_hex(output, bytes)?;
+        return output.put(b"document -\n");
     }
-    output.put(b"\n")
-}
-
-// Writes the number of the first label and how many they are, and ends the line.
-fn put_label_numbers<W: Write>(
-    output: &mut Output<W>,
-    first: usize,
-    count: u8,
-) -> Result<(), WriteFault>
-    ensures written { OnOk result (Appends output.old.contents output.new.contents (label_numbers first count)) }
-    ensures failed { OnErr result (output.new.has_failed ≡ true) }
-{
-    let mut digits = Buffer::new();
-    output.put(b" ")?;
-    output.put(digits.format(first).as_bytes())?;
-    output.put(b" ")?;
-    output.put(digits.format(count).as_bytes())?;
+    output.put(b"document ")?;
+    put_hex(output, bytes)?;
     output.put(b"\n")
 }
 
@@ -71,11 +54,14 @@ fn put_labels<W: Write>(
     count: u8,
 ) -> Result<(), WriteFault>
     ensures written { OnOk result (Appends output.old.contents output.new.contents (labels_line id first count)) }
+    ensures part { AppendsPart output.old.contents output.new.contents (labels_line id first count) }
     ensures failed { OnErr result (output.new.has_failed ≡ true) }
 {
-    output.put(b"printed ")?;
-    put_identification(output, id)?;
-    put_label_numbers(output, first, count)
+    let id = id_digits(id);
+    let (mut digits, mut counted) = (Buffer::new(), Buffer::new());
+    let first = digits.format(first).as_bytes();
+    let count = counted.format(count).as_bytes();
+    output.put_all(&[b"printed ", &id, b" ", first, b" ", count, b"\n"])
 }
 
 // Writes the line of a ticket that left.
@@ -86,27 +72,17 @@ fn put_given<W: Write>(
 ) -> Result<(), WriteFault>
     ensures written { OnOk result
         (Appends output.old.contents output.new.contents (numbered_ticket_line index (ticket_bytes ticket))) }
+    ensures part { AppendsPart output.old.contents output.new.contents
+        (numbered_ticket_line index (ticket_bytes ticket)) }
     ensures failed { OnErr result (output.new.has_failed ≡ true) }
 {
     let mut digits = Buffer::new();
-    output.put(b"ticket ")?;
-    output.put(digits.format(index).as_bytes())?;
-    output.put(b" ")?;
-    put_hex(output, &ticket.bytes())?;
-    output.put(b"\n")
-}
-
-// Writes how many pages the document of an export has and which of them it has, and ends the line.
-fn put_export_end<W: Write>(output: &mut Output<W>, n: u8, mask: u16) -> Result<(), WriteFault>
-    ensures written { OnOk result (Appends output.old.contents output.new.contents (export_end n mask)) }
-    ensures failed { OnErr result (output.new.has_failed ≡ true) }
-{
-    let mut digits = Buffer::new();
-    output.put(b" ")?;
-    output.put(digits.format(n).as_bytes())?;
-    output.put(b" ")?;
-    put_hex(output, &[(mask / 256) as u8, (mask % 256) as u8])?;
-    output.put(b"\n")
+    let mut bytes = [0u8; 20];
+    let Ok(()) = hex::encode_to_slice(ticket.bytes(), &mut bytes) else {
+        unreachable!()
+    };
+    let index = digits.format(index).as_bytes();
+    output.put_all(&[b"ticket ", index, b" ", &bytes, b"\n"])
 }
 
 // Writes the line of an export that left.
@@ -118,14 +94,14 @@ fn put_exported<W: Write>(
     mask: u16,
 ) -> Result<(), WriteFault>
     ensures written { OnOk result (Appends output.old.contents output.new.contents (export_line index id n mask)) }
+    ensures part { AppendsPart output.old.contents output.new.contents (export_line index id n mask) }
     ensures failed { OnErr result (output.new.has_failed ≡ true) }
 {
-    let mut digits = Buffer::new();
-    output.put(b"export ")?;
-    output.put(digits.format(index).as_bytes())?;
-    output.put(b" ")?;
-    put_identification(output, id)?;
-    put_export_end(output, n, mask)
+    let (id, mask) = (id_digits(id), mask_digits(mask));
+    let (mut digits, mut pages) = (Buffer::new(), Buffer::new());
+    let index = digits.format(index).as_bytes();
+    let n = pages.format(n).as_bytes();
+    output.put_all(&[b"export ", index, b" ", &id, b" ", n, b" ", &mask, b"\n"])
 }
 
 // Writes the line of a reply.

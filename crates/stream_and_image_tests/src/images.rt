@@ -90,6 +90,7 @@ fn rows_are_written_and_fail_in_mid_stream(rt: HostRuntime) -> Result<(), Fail> 
                 "writer, {passes}"
             );
             assert!(rt; output.has_failed() != is_whole, "writer, {passes}");
+            assert!(rt; is_whole || image.write(&mut output).is_err());
             let written = output.writer().taken();
             assert!(rt;
                 written.len() == passes && text.starts_with(written),

@@ -47,12 +47,15 @@ fn the_first_bytes_are_read(rt: HostRuntime) -> Result<(), Fail> {
     Ok(())
 }
 
+// The writer takes bytes again after it has failed: none comes.
 #[test]
 fn a_failed_write_is_remembered(rt: HostRuntime) {
     for passes in 0..14 {
         let mut output = Output::new(FailingWriter::new(Vec::new(rt.alloc()), passes));
         let put = output.put_refusal("Read");
         assert!(rt; put.is_err() == (passes < 13) && output.has_failed() == (passes < 13));
+        assert!(rt; output.has_failed() == output.put(b"").is_err());
+        assert!(rt; !output.has_failed() || output.put(TEXT).is_err());
         let written = output.writer().taken();
         assert!(rt; written.len() == passes.min(13) && b"refused Read\n".starts_with(written));
     }

@@ -75,17 +75,21 @@ impl Read for EndlessReader<'_> {
     }
 }
 
-/// A writer that keeps what it takes, one byte at a time, and fails after that many.
+/// A writer that keeps what it takes, one byte at a time, and fails once after that many. Then it takes bytes again, so
+/// that a test sees what is written after the failure.
 #[derive(Drop)]
 pub struct FailingWriter {
     taken: Vec<u8>,
-    passes: usize,
+    passes: Option<usize>,
 }
 
 impl FailingWriter {
-    /// A writer that takes `passes` bytes into the vector.
+    /// A writer that takes bytes into the vector, and fails after `passes` of them.
     pub fn new(taken: Vec<u8>, passes: usize) -> Self {
-        FailingWriter { taken, passes }
+        FailingWriter {
+            taken,
+            passes: Some(passes),
+        }
     }
 
     /// What was taken.
@@ -96,14 +100,15 @@ impl FailingWriter {
 
 impl Write for FailingWriter {
     fn write(&mut self, buf: &[u8]) -> Result<usize> {
-        if self.passes == 0 {
+        if self.passes == Some(0) {
+            self.passes = None;
             return Err(Error::from(ErrorKind::Other));
         }
         let Some(first) = buf.first() else {
             return Ok(0);
         };
         self.taken.push(*first)?;
-        self.passes -= 1;
+        self.passes = self.passes.map(|passes| passes.saturating_sub(1));
         Ok(1)
     }
 

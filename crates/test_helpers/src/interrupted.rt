@@ -1,12 +1,16 @@
-//! A reader and a writer that are interrupted once in mid-stream.
+//! A reader and a writer that are interrupted in mid-stream, three times in a row.
 
 use std::io::{Error, ErrorKind, Read, Result, Write};
 
-/// A reader that gives its bytes one at a time, and is interrupted once after that many.
+// How often a call is interrupted before it goes on.
+const INTERRUPTS: u8 = 3;
+
+/// A reader that gives its bytes one at a time, and is interrupted three times in a row after that many.
 #[derive(Drop)]
 pub struct InterruptedReader<'a> {
     bytes: &'a [u8],
-    passes: Option<usize>,
+    passes: usize,
+    interrupts: u8,
 }
 
 impl<'a> InterruptedReader<'a> {
@@ -14,15 +18,16 @@ impl<'a> InterruptedReader<'a> {
     pub fn new(bytes: &'a [u8], passes: usize) -> Self {
         InterruptedReader {
             bytes,
-            passes: Some(passes),
+            passes,
+            interrupts: INTERRUPTS,
         }
     }
 }
 
 impl Read for InterruptedReader<'_> {
     fn read(&mut self, buf: &mut [u8]) -> Result<usize> {
-        if self.passes == Some(0) {
-            self.passes = None;
+        if self.passes == 0 && self.interrupts > 0 {
+            self.interrupts -= 1;
             return Err(Error::from(ErrorKind::Interrupted));
         }
         let Some((first, rest)) = self.bytes.split_first() else {
@@ -33,16 +38,17 @@ impl Read for InterruptedReader<'_> {
         };
         *place = *first;
         self.bytes = rest;
-        self.passes = self.passes.map(|passes| passes.saturating_sub(1));
+        self.passes = self.passes.saturating_sub(1);
         Ok(1)
     }
 }
 
-/// A writer that keeps what it takes, one byte at a time, and is interrupted once after that many.
+/// A writer that keeps what it takes, one byte at a time, and is interrupted three times in a row after that many.
 #[derive(Drop)]
 pub struct InterruptedWriter {
     taken: Vec<u8>,
-    passes: Option<usize>,
+    passes: usize,
+    interrupts: u8,
 }
 
 impl InterruptedWriter {
@@ -50,7 +56,8 @@ impl InterruptedWriter {
     pub fn new(taken: Vec<u8>, passes: usize) -> Self {
         InterruptedWriter {
             taken,
-            passes: Some(passes),
+            passes,
+            interrupts: INTERRUPTS,
         }
     }
 
@@ -65,12 +72,12 @@ impl Write for InterruptedWriter {
         let Some(first) = buf.first() else {
             return Ok(0);
         };
-        if self.passes == Some(0) {
-            self.passes = None;
+        if self.passes == 0 && self.interrupts > 0 {
+            self.interrupts -= 1;
             return Err(Error::from(ErrorKind::Interrupted));
         }
         self.taken.push(*first)?;
-        self.passes = self.passes.map(|passes| passes.saturating_sub(1));
+        self.passes = self.passes.saturating_sub(1);
         Ok(1)
     }
 

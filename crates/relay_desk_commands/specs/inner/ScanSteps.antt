@@ -3,7 +3,7 @@ use Rattle.std.specs.Prelude.{◌≡◌, ℕ, ◌<◌, true, false, Bool, List}
 use Rattle.std.specs.Io.KnownBytes.{Appends, Consumes}
 use Rattle.dm_pbm_io.specs.Image.{Picture, Spells}
 use Rattle.dm_assembly_desk.specs.Views.{DeskView}
-use Rattle.relay_streams.specs.Streams.{InputView, OutputView}
+use Rattle.relay_streams.specs.Streams.{AppendsPart, InputView, OutputView}
 use Rattle.relay_desk_commands.specs.Scan.{EndsScans, EndsUnsaid, ScansPicture}
 use Rattle.relay_shared.specs.declared.images.TheConstants.{MOST_IMAGES}
 use Rattle.relay_shared.specs.declared.images.Step.{Step}
@@ -45,18 +45,25 @@ pub record EndsScansAtMost (A : Type 0) (desk : DeskView) (refused : Bool) (inpu
   pub appended : Appends old.contents new.contents line
   pub ends : EndsScans A desk MOST_IMAGES taken rest line refused desk
 
--- a picture was handed to the desk, if it has a grid, whatever became of its line
-abbrev pub HandsPicture : Type 0 → Picture → DeskView → DeskView → Type 0
-HandsPicture A p before after = (line : List ℕ) × (refused : Bool) × ScansPicture A p before line refused after
+-- a picture was handed to the desk, if it has a grid, and a part of its line is out
+pub record HandsPicture (A : Type 0) (p : Picture) (before after : DeskView) (old new : OutputView) : Type 0 where
+  pub line : List ℕ
+  pub refused : Bool
+  pub scans : ScansPicture A p before line refused after
+  pub part : AppendsPart old.contents new.contents line
 
--- what was taken and handed to the desk, where its line could not be written, whatever the number of images before
-pub record HandsNext (A : Type 0) (input rest : InputView) (before after : DeskView) : Type 0 where
+-- what was taken and handed to the desk, and that a part of its line is out, whatever the number of images before
+pub record HandsNext (A : Type 0) (input rest : InputView) (before after : DeskView) (old new : OutputView) : Type 0 where
   pub taken : List ℕ
+  pub line : List ℕ
   pub consumed : Consumes input.remaining rest.remaining taken
-  pub ends : (count : ℕ) → count < MOST_IMAGES → EndsUnsaid A before count taken rest after
+  pub part : AppendsPart old.contents new.contents line
+  pub ends : (count : ℕ) → count < MOST_IMAGES → EndsUnsaid A before count taken rest line after
 
--- one image too many, whose refusal could not be written
-pub record HandsNone (A : Type 0) (desk : DeskView) (input rest : InputView) : Type 0 where
+-- one image too many, and a part of its refusal is out
+pub record HandsNone (A : Type 0) (desk : DeskView) (input rest : InputView) (old new : OutputView) : Type 0 where
   pub taken : List ℕ
+  pub line : List ℕ
   pub consumed : Consumes input.remaining rest.remaining taken
-  pub ends : EndsUnsaid A desk MOST_IMAGES taken rest desk
+  pub part : AppendsPart old.contents new.contents line
+  pub ends : EndsUnsaid A desk MOST_IMAGES taken rest line desk

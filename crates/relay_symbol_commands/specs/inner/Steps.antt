@@ -2,8 +2,8 @@
 use Rattle.std.specs.Prelude.{◌≡◌, ℕ, ◌<◌, false, Bool, List}
 use Rattle.std.specs.Io.KnownBytes.{Appends, Consumes}
 use Rattle.dm_pbm_io.specs.Image.{Picture, Spells}
-use Rattle.relay_streams.specs.Streams.{InputView, OutputView}
-use Rattle.relay_symbol_commands.specs.Read.{PrintsPicture, EndsInput}
+use Rattle.relay_streams.specs.Streams.{AppendsPart, InputView, OutputView}
+use Rattle.relay_symbol_commands.specs.Read.{PrintsPicture, EndsInput, EndsUnsaid}
 use Rattle.relay_shared.specs.declared.images.TheConstants.{MOST_IMAGES}
 use Rattle.relay_shared.specs.declared.images.Step.{Step}
 use Rattle.relay_shared.specs.declared.images.Step.TheVariants.{Image, End}
@@ -34,3 +34,26 @@ pub record EndsAtMost (refused : Bool) (input rest : InputView) (old new : Outpu
   pub consumed : Consumes input.remaining rest.remaining taken
   pub appended : Appends old.contents new.contents line
   pub ends : EndsInput MOST_IMAGES taken rest line refused
+
+-- a part of the line of a picture is out
+pub record PrintsPartOfLine (p : Picture) (old new : OutputView) : Type 0 where
+  pub line : List ℕ
+  pub refused : Bool
+  pub prints : PrintsPicture p line refused
+  pub part : AppendsPart old.contents new.contents line
+
+-- what was taken, and that a part of its line is out, whatever the number of images before
+pub record StopsStep (input rest : InputView) (old new : OutputView) : Type 0 where
+  pub taken : List ℕ
+  pub line : List ℕ
+  pub consumed : Consumes input.remaining rest.remaining taken
+  pub part : AppendsPart old.contents new.contents line
+  pub ends : (count : ℕ) → count < MOST_IMAGES → EndsUnsaid count taken rest line
+
+-- one image too many, and a part of its refusal is out
+pub record StopsAtMost (input rest : InputView) (old new : OutputView) : Type 0 where
+  pub taken : List ℕ
+  pub line : List ℕ
+  pub consumed : Consumes input.remaining rest.remaining taken
+  pub part : AppendsPart old.contents new.contents line
+  pub ends : EndsUnsaid MOST_IMAGES taken rest line

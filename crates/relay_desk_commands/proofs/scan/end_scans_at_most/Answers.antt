@@ -31,4 +31,10 @@ pub returns-in_err-put_refusal-clause-unsaid : goal.returns-in_err-put_refusal-c
 returns-in_err-put_refusal-clause-unsaid g c =
     let p = err_from_is_err_and c.from_residual.result c.from_residual.ensures.1 in
     let more = c.is_at_end.ensures.another c.if-is_at_end.false in
-    rw p.1 (λ desk. record { taken = more.taken; consumed = more.consumed; ends = too_many_unsaid more.another })
+    rw p.1 (λ desk. record {
+      taken = more.taken;
+      line = _;
+      consumed = more.consumed;
+      part = c.put_refusal.ensures.part;
+      ends = too_many_unsaid more.another;
+    })

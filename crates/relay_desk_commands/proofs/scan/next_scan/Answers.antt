@@ -60,8 +60,10 @@ returns-in_err-refused-in-Ok-Some-clause-unsaid g c =
     let handed = c.in_err-refused-in-Ok-Some.ensures.unsaid in
     rw p.1 record {
       taken = image.0;
+      line = handed.line;
       consumed = image.1;
-      ends = λ count h. image_unsaid (picture c.in-Ok-Some.image) h image.2 handed.2;
+      part = handed.part;
+      ends = λ count h. image_unsaid (picture c.in-Ok-Some.image) h image.2 handed.scans;
     }
 
 pub returns-in_err-put_refusal-in-Err-clause-unsaid : goal.returns-in_err-put_refusal-in-Err-clause-unsaid
@@ -71,7 +73,9 @@ returns-in_err-put_refusal-in-Err-clause-unsaid g c =
     let stops = c.in-Err.ensures.read in
     rw p.1 record {
       taken = stops.0;
+      line = _;
       consumed = stops.1;
+      part = rw c.name-name.ensures at c.put_refusal.ensures.part;
       ends = λ count h. unread_unsaid c.in-Err.fault h (
           record { refused = stops.2; failed = λ e. c.in-Err.ensures.failed (ap (λ (f : PbmFault). Err f) e) }
           );

@@ -1,5 +1,6 @@
 use Rattle.std.proofs.Common.{◌≡◌, ℕ, [], ◌++◌, inl, inr, refl, subst, arith}
 use Rattle.std.proofs.KnownBytes.{Consumes-nil, Consumes-trans, Appends-nil, Appends-trans}
+use Rattle.relay_shared.proofs.Telling.{then_part}
 use Rattle.relay_desk_commands.specs.Scan.{ScansImages}
 use Rattle.relay_desk_commands.specs.Scan.ScansImages.{none, another}
 use Rattle.relay_desk_commands.proofs.scan.scan_all.Goals as goal
@@ -93,9 +94,11 @@ returns-in-Err-Write g c =
         image_lines = so_far.lines;
         any_refused = c.loop-count.refused;
         end_taken = handed.taken;
+        last_line = handed.line;
         scanned = so_far.scanned;
         ended = handed.ends c.loop-count._count (omega arith);
         consumed = Consumes-trans _ _ _ _ _ so_far.consumed handed.consumed;
+        appended = then_part _ _ _ _ _ so_far.appended handed.part;
         failed = rw c.in-Err-Write.is at c.next_scan.ensures.failed;
         status_is = refl;
       };
@@ -116,12 +119,14 @@ returns-in-Err-Write-end_scans_at_most g c =
         image_lines = so_far.lines;
         any_refused = c.loop-count.refused;
         end_taken = handed.taken;
+        last_line = handed.line;
         scanned = subst
             (λ (n : ℕ). ScansImages g.row.A.Denot c.args.desk.now n so_far.images so_far.lines c.loop-count.refused
             c.loop-count.desk)
             all so_far.scanned;
         ended = handed.ends;
         consumed = Consumes-trans _ _ _ _ _ so_far.consumed handed.consumed;
+        appended = then_part _ _ _ _ _ so_far.appended handed.part;
         failed = c.in-Err-Write-end_scans_at_most.ensures.failed;
         status_is = refl;
       };

@@ -62,25 +62,44 @@ returns-clause-step g c =
 pub returns-in_err-put_refusal-in-Err-Shape-clause-unsaid : goal.returns-in_err-put_refusal-in-Err-Shape-clause-unsaid
 returns-in_err-put_refusal-in-Err-Shape-clause-unsaid g c =
     let p = err_from_is_err_and c.from_residual.result c.from_residual.ensures.1 in
-    rw p.1 (_, _, shape (c.in-Err-Shape.ensures.shape (ap Err c.in-Err-Shape.field-0-is)))
+    rw p.1 record {
+      line = _;
+      refused = _;
+      scans = shape (c.in-Err-Shape.ensures.shape (ap Err c.in-Err-Shape.field-0-is));
+      part = c.put_refusal.ensures.part;
+    }
 
 pub returns-in_err-put_refusal-in-Err-Memory-clause-unsaid : goal.returns-in_err-put_refusal-in-Err-Memory-clause-unsaid
 returns-in_err-put_refusal-in-Err-Memory-clause-unsaid g c =
     let last = c.from_residual-in_err-put_refusal-in-Err-Memory in
     let p = err_from_is_err_and last.result last.ensures.1 in
-    rw p.1 (_, _, memory (c.in-Err-Memory.ensures.memory (ap Err c.in-Err-Memory.field-0-is)))
+    rw p.1 record {
+      line = _;
+      refused = _;
+      scans = memory (c.in-Err-Memory.ensures.memory (ap Err c.in-Err-Memory.field-0-is));
+      part = c.put_refusal-in-Err-Memory.ensures.part;
+    }
 
 pub returns-in_err-put_accepted-in-Ok-accept-clause-unsaid : goal.returns-in_err-put_accepted-in-Ok-accept-clause-unsaid
 returns-in_err-put_accepted-in-Ok-accept-clause-unsaid g c =
     let last = c.from_residual-in_err-put_accepted-in-Ok-accept in
     let p = err_from_is_err_and last.result last.ensures.1 in
     let inside = c.in-Ok.ensures.grid in
-    rw p.1
-    (_, _, accepted c.in-Ok.grid c.in-Ok-accept.accepted inside.0 inside.1 (c.in-Ok-accept.ensures.scanned c.requires))
+    rw p.1 record {
+      line = _;
+      refused = _;
+      scans = accepted c.in-Ok.grid c.in-Ok-accept.accepted inside.0 inside.1 (c.in-Ok-accept.ensures.scanned c.requires);
+      part = c.put_accepted.ensures.part;
+    }
 
 pub returns-in_err-put_refusal-in-Err-clause-unsaid : goal.returns-in_err-put_refusal-in-Err-clause-unsaid
 returns-in_err-put_refusal-in-Err-clause-unsaid g c =
     let last = c.from_residual-in_err-put_refusal-in-Err in
     let p = err_from_is_err_and last.result last.ensures.1 in
     let inside = c.in-Ok.ensures.grid in
-    rw p.1 (_, _, refused c.in-Ok.grid c.in-Err.fault inside.0 inside.1 (c.in-Err.ensures.scanned c.requires))
+    rw p.1 record {
+      line = _;
+      refused = _;
+      scans = refused c.in-Ok.grid c.in-Err.fault inside.0 inside.1 (c.in-Err.ensures.scanned c.requires);
+      part = rw c.name-name.ensures at c.put_refusal-in-Err.ensures.part;
+    }

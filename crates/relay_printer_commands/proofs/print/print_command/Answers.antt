@@ -1,5 +1,6 @@
 use Rattle.std.proofs.Common.{Err, ap, refl}
 use Rattle.relay_printer_commands.specs.Print.EndsPrint.{no_side, not_read, not_opened, opened}
+use Rattle.relay_printer_commands.proofs.PrintedLabels.{line_first}
 use Rattle.relay_printer_commands.proofs.print.print_command.Goals as goal
 
 pub returns-in_default-clause-ends : goal.returns-in_default-clause-ends
@@ -20,3 +21,6 @@ returns-clause-ends g c =
     rw c.close-store.ensures (opened c.in-Some.size c.in-Ok.document.items c.in-Ok-open_printer.printer c.print-status.new.printer
     c.in-Some.ensures.found c.in-Ok.ensures.taken c.in-Ok-open_printer.ensures.0
     (rw (c.in-Ok-open_printer.ensures.1, c.deref.ensures.value) at c.print-status.ensures))
+
+pub returns-clause-line_first : goal.returns-clause-line_first
+returns-clause-line_first g c = rw c.in-Ok-open_printer.ensures.1 at (line_first _ _ _ _ _ _ _ _ _ _ c.print-status.ensures)

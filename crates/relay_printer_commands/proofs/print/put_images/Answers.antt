@@ -1,7 +1,13 @@
-use Rattle.std.proofs.Common.{◌≡◌, [], ◌∷◌, ◌++◌, refl, arith, ap, sym, ◌∙◌, append_assoc, append-nil}
+use Rattle.std.proofs.Common.{◌≡◌, List, [], ◌∷◌, ◌++◌, refl, arith, ap, sym, ◌∙◌, subst, append_assoc, append-nil}
 use Rattle.std.proofs.KnownBytes.{Appends-nil, Appends-trans}
+use Rattle.std.proofs.lemmas.Grind.{flat_map-append}
 use Rattle.std.proofs.lemmas.List.{flat_map_more}
+use Rattle.std.proofs.lemmas.List.Concat.{flat_map-cons}
+use Rattle.dm_finder_frame.specs.Grids.{GridView}
 use Rattle.dm_pbm_io.specs.SymbolImage.{p4}
+use Rattle.relay_streams.specs.Streams.{AppendsPart}
+use Rattle.relay_streams.proofs.Parts.{part_after, part_more}
+use Rattle.relay_printer_commands.specs.Print.{images_of}
 use Rattle.relay_printer_commands.proofs.print.put_images.Goals as goal
 
 pub loop-grid-init : goal.loop-grid-init
@@ -28,3 +34,16 @@ returns-clause-written g c =
     let done = c.loop-grid.invariant.0 in
     let all : c.args.job.labels ≡ done = c.loop-grid.invariant.1 ∙ ap (λ l. done ++ l) none ∙ append-nil done in
     rw all c.loop-grid.invariant.2
+
+-- the images of some labels, that of the next, and those of the others
+images_at : (labels done rest : List GridView) (grid : GridView) → labels ≡ done ++ grid ∷ rest
+    → images_of labels ≡ images_of done ++ (p4 grid ++ images_of rest)
+images_at labels done rest grid is =
+    ap images_of is ∙ flat_map-append p4 done (grid ∷ rest) ∙ ap (λ l. images_of done ++ l) (flat_map-cons p4 grid rest)
+
+pub returns-in_err-put_image-clause-part : goal.returns-in_err-put_image-clause-part
+returns-in_err-put_image-clause-part g c =
+    let left : c.loop-grid.job.labels ≡ c.in-Some.grid ∷ c.next_label.new.self.labels = ap (λ j. j.labels) c.in-Some.ensures in
+    let done = c.loop-grid.invariant.0 in
+    let all = images_at _ done _ c.in-Some.grid (c.loop-grid.invariant.1 ∙ ap (λ l. done ++ l) left) in
+    subst (AppendsPart _ _) (sym all) (part_after _ _ _ _ _ c.loop-grid.invariant.2 (part_more _ _ _ _ c.put_image.ensures.part))

@@ -2,7 +2,9 @@ use Rattle.std.proofs.Common.{[], Err, ap, arith}
 use Rattle.std.proofs.KnownBytes.{Consumes-kept, Consumes-nil, Appends-nil}
 use Rattle.dm_pbm_io.specs.Shown.{picture}
 use Rattle.dm_pbm_io.specs.declared.fault.PbmFault.{PbmFault}
+use Rattle.std.proofs.lemmas.Result.{err_from_is_err_and}
 use Rattle.relay_symbol_commands.specs.Read.EndsInput.{no_image, plain_image, unread}
+use Rattle.relay_symbol_commands.specs.Read.EndsUnsaid.{image as image_unsaid, unread as unread_unsaid}
 use Rattle.relay_symbol_commands.proofs.read.next_step.Goals as goal
 
 pub returns-in-Ok-None-clause-step : goal.returns-in-Ok-None-clause-step
@@ -37,4 +39,32 @@ returns-clause-step g c =
       consumed = stops.1;
       appended = rw c.name.ensures at c.in_ok-put_refusal-in-Err.ensures.written;
       takes = λ count h. unread c.in-Err.fault h (record { refused = stops.2; failed = λ e. c.in-Err.ensures.failed (ap (λ (f : PbmFault). Err f) e) });
+    }
+
+pub returns-in_err-refused-in-Ok-Some-clause-unsaid : goal.returns-in_err-refused-in-Ok-Some-clause-unsaid
+returns-in_err-refused-in-Ok-Some-clause-unsaid g c =
+    let p = err_from_is_err_and c.from_residual.result c.from_residual.ensures.1 in
+    let image = rw c.in-Ok-Some.field-0-is at c.in-Ok-Some.ensures.read in
+    let unsaid = c.in_err-refused-in-Ok-Some.ensures.unsaid in
+    rw p.1 record {
+      taken = image.0;
+      line = unsaid.line;
+      consumed = image.1;
+      part = unsaid.part;
+      ends = λ count h. image_unsaid (picture c.in-Ok-Some.image) h image.2 unsaid.prints;
+    }
+
+pub returns-in_err-put_refusal-in-Err-clause-unsaid : goal.returns-in_err-put_refusal-in-Err-clause-unsaid
+returns-in_err-put_refusal-in-Err-clause-unsaid g c =
+    let last = c.from_residual-in_err-put_refusal-in-Err in
+    let p = err_from_is_err_and last.result last.ensures.1 in
+    let stops = c.in-Err.ensures.read in
+    rw p.1 record {
+      taken = stops.0;
+      line = _;
+      consumed = stops.1;
+      part = rw c.name.ensures at c.put_refusal.ensures.part;
+      ends = λ count h. unread_unsaid c.in-Err.fault h (
+          record { refused = stops.2; failed = λ e. c.in-Err.ensures.failed (ap (λ (f : PbmFault). Err f) e) }
+          );
     }

@@ -1,5 +1,6 @@
-use Rattle.std.proofs.Common.{◌≡◌, ℕ, [], ◌++◌, inr, subst, arith}
+use Rattle.std.proofs.Common.{◌≡◌, ℕ, [], ◌++◌, inl, inr, refl, subst, arith}
 use Rattle.std.proofs.KnownBytes.{Consumes-nil, Consumes-trans, Appends-nil, Appends-trans}
+use Rattle.relay_shared.proofs.Telling.{then_part}
 use Rattle.relay_symbol_commands.specs.Read.{PrintsImages}
 use Rattle.relay_symbol_commands.specs.Read.PrintsImages.{none, another}
 use Rattle.relay_symbol_commands.proofs.read.read_command.Goals as goal
@@ -57,4 +58,23 @@ returns-in-Ok-clause-printed g c =
       consumed = Consumes-trans _ _ _ _ _ so_far.consumed end.consumed;
       appended = Appends-trans _ _ _ _ _ so_far.appended end.appended;
       status_is = c.status_of-in-Ok.ensures;
+    }
+
+pub returns-in-Err-Write-clause-printed : goal.returns-in-Err-Write-clause-printed
+returns-in-Err-Write-clause-printed g c =
+    let so_far = c.loop-count.invariant in
+    let stops = rw c.in-Err-Write.is at c.next_step.ensures.unsaid in
+    inl record {
+      count = c.loop-count._count;
+      images_taken = so_far.images;
+      image_lines = so_far.lines;
+      any_refused = c.loop-count.refused;
+      end_taken = stops.taken;
+      last_line = stops.line;
+      printed = so_far.printed;
+      ended = stops.ends c.loop-count._count (omega arith);
+      consumed = Consumes-trans _ _ _ _ _ so_far.consumed stops.consumed;
+      appended = then_part _ _ _ _ _ so_far.appended stops.part;
+      failed = rw c.in-Err-Write.is at c.next_step.ensures.failed;
+      status_is = refl;
     }

@@ -1,0 +1,40 @@
+use Rattle.std.proofs.Common.{◌≡◌, ℕ, List, [], ◌∷◌, ◌++◌, ap, sym, ◌∙◌, subst, append_assoc}
+use Rattle.std.specs.Fmt.{decimal}
+use Rattle.dm_pbm_io.specs.Header.{magic}
+use Rattle.dm_pbm_io.specs.Image.{Picture}
+use Rattle.dm_pbm_io.specs.Shown.{picture}
+use Rattle.dm_pbm_io.specs.Writing.{rows_text, written}
+use Rattle.dm_pbm_io.proofs.Streaming.{adds_rest}
+use Rattle.relay_streams.proofs.Parts.{part_more, part_after}
+use Rattle.relay_streams.specs.Streams.{AppendsPart}
+use Rattle.dm_pbm_io.proofs.write.write_to.Goals as goal
+
+-- the rows come after the header
+after_header : (first width height rows : List ℕ) → first ++ (10 ∷ (width ++ (32 ∷ (height ++ (10 ∷ rows)))))
+    ≡ (first ++ (10 ∷ (width ++ (32 ∷ (height ++ 10 ∷ []))))) ++ rows
+after_header first width height rows = simp append_assoc
+
+-- the whole image
+whole : (image : Picture) (header : List ℕ)
+    → header ≡ magic image.plain ++ (10 ∷ (decimal image.width ++ (32 ∷ (decimal image.height ++ 10 ∷ []))))
+    → written image ≡ header ++ rows_text image.plain image.width image.height image.pixels
+whole image header is =
+    let rows = rows_text image.plain image.width image.height image.pixels in
+    after_header (magic image.plain) (decimal image.width) (decimal image.height) rows ∙ ap (λ t. t ++ rows) (sym is)
+
+pub returns-in_err-put_text-clause-part : goal.returns-in_err-put_text-clause-part
+returns-in_err-put_text-clause-part g c =
+    let all = whole (picture c.args.image.now) c.as_bytes.result.now (cc) in
+    subst (AppendsPart _ _) (sym all) (part_more _ _ _ _ c.put_text.ensures.part)
+
+pub returns-clause-written : goal.returns-clause-written
+returns-clause-written g c =
+    let all = whole (picture c.args.image.now) c.as_bytes.result.now (cc) in
+    adds_rest _ _ _ _ _ _ _ all c.in_ok-put_text.ensures.written
+    (rw (c.from-width.ensures, c.from-height.ensures, c.as_slice.ensures.value) at c.write_rows.ensures.written)
+
+pub returns-clause-part : goal.returns-clause-part
+returns-clause-part g c =
+    let all = whole (picture c.args.image.now) c.as_bytes.result.now (cc) in
+    subst (AppendsPart _ _) (sym all) (part_after _ _ _ _ _ c.in_ok-put_text.ensures.written.appended
+    (rw (c.from-width.ensures, c.from-height.ensures, c.as_slice.ensures.value) at c.write_rows.ensures.part))
