@@ -3,12 +3,16 @@ use Rattle.std.proofs.Common.{◌≡◌, ℕ, zero, suc, ◌-◌, ◌<◌, List,
 use Rattle.std.proofs.lemmas.List.{append-nil}
 
 -- to take one more key leaves the whole as it was
-pub one_more : (front total ks : List ℕ) (count k : ℕ) → length front < count → front ++ take (count - length front) (k ∷ ks) ≡ total
+pub one_more : (front total ks : List ℕ) (count k : ℕ) → length front < count →
+    front ++ take (count - length front) (k ∷ ks) ≡ total
     → (front ++ k ∷ []) ++ take (count - length (front ++ k ∷ [])) ks ≡ total
 one_more front total ks count k lt h =
-    let n : count - length front ≡ suc (count - length (front ++ k ∷ [])) = omega (arith, length-append front (k ∷ [])) in
-    let split : take (count - length front) (k ∷ ks) ≡ k ∷ take (count - length (front ++ k ∷ [])) ks = ap (λ (i : ℕ). take i (k ∷ ks)) n in
-    append_assoc front (k ∷ []) (take (count - length (front ++ k ∷ [])) ks) ∙ ap (λ (xs : List ℕ). front ++ xs) (sym split) ∙ h
+    let n : count - length front ≡ suc (count - length (front ++ k ∷ [])) =
+    omega (arith, length-append front (k ∷ [])) in
+    let split : take (count - length front) (k ∷ ks) ≡ k ∷ take (count - length (front ++ k ∷ [])) ks =
+    ap (λ (i : ℕ). take i (k ∷ ks)) n in
+    append_assoc front (k ∷ []) (take (count - length (front ++ k ∷ [])) ks) ∙
+    ap (λ (xs : List ℕ). front ++ xs) (sym split) ∙ h
 
 -- where as many as were asked for are taken, they are the whole
 pub all_taken : (front total ks : List ℕ) (count : ℕ) → length front ≡ count

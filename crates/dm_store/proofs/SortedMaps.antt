@@ -17,7 +17,8 @@ both true b p q = q
 both false b p q = p
 
 -- a key that is below each of these keys is below each of these entries
-below : {X : Type 0} (k : ℕ) (es : List (ℕ × X)) → AllByRecursion (λ y. nat_cmp k y ≡ Less) (keys_of es) → T (below_all nat_cmp k es)
+below : {X : Type 0} (k : ℕ) (es : List (ℕ × X)) → AllByRecursion (λ y. nat_cmp k y ≡ Less) (keys_of es) →
+    T (below_all nat_cmp k es)
 below k [] h = tt
 below k (e ∷ es) h = both _ _ (subst (λ r. T (is_lt r)) (sym h.0) tt) (below k es h.1)
 
@@ -47,23 +48,28 @@ module _ {X : Type 0} where
 
   -- entries that differ at one key make maps that differ there
   pub one_given : (es fs : List (ℕ × X)) (k : ℕ) (v : X)
-      → ((q : ℕ) → lookup (is_at (nat_cmp q)) fs ≡ cond (is_at (nat_cmp k) q) (Some v) (lookup (is_at (nat_cmp q)) es)) → as_map fs ≡ insert (as_map es) k v
+      → ((q : ℕ) → lookup (is_at (nat_cmp q)) fs ≡ cond (is_at (nat_cmp k) q) (Some v)
+      (lookup (is_at (nat_cmp q)) es)) → as_map fs ≡ insert (as_map es) k v
   one_given es fs k v h = same _ _ (λ q.
-      get_is fs q ∙ h q ∙ ap (λ b. cond b (Some v) (lookup (is_at (nat_cmp q)) es)) ((eq_by_cmp_equiv nat_cmp_total).symm k q)
+      get_is fs q ∙ h q ∙ ap (λ b. cond b (Some v) (lookup (is_at (nat_cmp q)) es))
+      ((eq_by_cmp_equiv nat_cmp_total).symm k q)
       ∙ sym (get-insert nat_cmp_total (as_map es) k v q ∙ ap (cond (is_at (nat_cmp q) k) (Some v)) (get_is es q)))
 
   -- entries that differ by one key that is gone make maps that do
   pub one_removed : (es fs : List (ℕ × X)) (k : ℕ)
-      → ((q : ℕ) → lookup (is_at (nat_cmp q)) fs ≡ cond (is_at (nat_cmp k) q) None (lookup (is_at (nat_cmp q)) es)) → as_map fs ≡ remove (as_map es) k
+      → ((q : ℕ) → lookup (is_at (nat_cmp q)) fs ≡ cond (is_at (nat_cmp k) q) None (lookup (is_at (nat_cmp q)) es)) →
+      as_map fs ≡ remove (as_map es) k
   one_removed es fs k h = same _ _ (λ q.
-      get_is fs q ∙ h q ∙ ap (λ b. cond b None (lookup (is_at (nat_cmp q)) es)) ((eq_by_cmp_equiv nat_cmp_total).symm k q)
+      get_is fs q ∙ h q ∙ ap (λ b. cond b None (lookup (is_at (nat_cmp q)) es))
+      ((eq_by_cmp_equiv nat_cmp_total).symm k q)
       ∙ sym (get-remove nat_cmp_total (as_map es) k q ∙ ap (cond (is_at (nat_cmp q) k) None) (get_is es q)))
 
   -- entries in order are those of their map
   pub entries_are : (es : List (ℕ × X)) → IsStrictlySortedBy nat_cmp (keys_of es) → entries (as_map es) ≡ es
   entries_are es h =
       let s = sorted es h in
-      let is : as_map es ≡ from_sorted es = same _ _ (λ q. get-from_entries nat_cmp_total es q ∙ sym (get-from_sorted nat_cmp es q s)) in
+      let is : as_map es ≡ from_sorted es = same _ _ (λ q. get-from_entries nat_cmp_total es q ∙
+      sym (get-from_sorted nat_cmp es q s)) in
       ap entries is ∙ entries-from_sorted nat_cmp es s
 
   -- the keys of entries in order are those of their map

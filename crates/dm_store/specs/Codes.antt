@@ -53,12 +53,18 @@ saved_whole p = record { content = p.0; is_honest = p.1.0; load_plan = load_of p
 
 pub saved_whole-parts : (s : Saved) → saved_whole (saved_parts s) ≡ s
 saved_whole-parts s = λ i.
-    record { content = s.content; is_honest = s.is_honest; load_plan = same_load s.load_plan i; save_plan = same_save s.save_plan i }
+    record {
+      content = s.content;
+      is_honest = s.is_honest;
+      load_plan = same_load s.load_plan i;
+      save_plan = same_save s.save_plan i;
+    }
 
 -- the code of a store
 abbrev pub saved_code : Coded Saved
 saved_code =
-    code_by (Parts (Option (List ℕ))) (parts_code (coded_option (coded_list coded_ℕ))) saved_parts saved_whole saved_whole-parts
+    code_by (Parts (Option (List ℕ))) (parts_code (coded_option (coded_list coded_ℕ))) saved_parts saved_whole
+    saved_whole-parts
 
 abbrev pub set_parts : SavedSet → Parts Contents
 set_parts s = (s.content, (s.is_honest, (load_bit s.load_plan, save_bits s.save_plan)))
@@ -68,9 +74,15 @@ set_whole p = record { content = p.0; is_honest = p.1.0; load_plan = load_of p.1
 
 pub set_whole-parts : (s : SavedSet) → set_whole (set_parts s) ≡ s
 set_whole-parts s = λ i.
-    record { content = s.content; is_honest = s.is_honest; load_plan = same_load s.load_plan i; save_plan = same_save s.save_plan i }
+    record {
+      content = s.content;
+      is_honest = s.is_honest;
+      load_plan = same_load s.load_plan i;
+      save_plan = same_save s.save_plan i;
+    }
 
 -- the code of a set
 abbrev pub saved_set_code : Coded SavedSet
 saved_set_code =
-    code_by (Parts Contents) (parts_code (map.code {R = nat_cmp} coded_ℕ (coded_list coded_ℕ))) set_parts set_whole set_whole-parts
+    code_by (Parts Contents) (parts_code (map.code {R = nat_cmp} coded_ℕ (coded_list coded_ℕ))) set_parts set_whole
+    set_whole-parts

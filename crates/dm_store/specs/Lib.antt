@@ -6,3 +6,6 @@ pub mod Turns
 pub mod Fused
 pub mod Lending
 pub mod Unclaimed
+pub mod Disk
+pub mod DiskCalls
+pub mod Filed

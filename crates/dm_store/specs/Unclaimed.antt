@@ -1,13 +1,19 @@
--- What contracts see of a store and a set in files: they claim nothing of what is held.
-use Rattle.std.specs.Prelude.{false, None}
+-- What contracts see of the files of the system: nothing is claimed of what they hold.
+use Rattle.std.specs.Prelude.{false, None, ⊤}
 use Rattle.std.specs.FinMap as map
-use Rattle.dm_store.specs.Saved.{Saved, LoadsOpen, SavesOpen}
+use Rattle.dm_store.specs.Saved.{LoadsOpen, SavesOpen}
 use Rattle.dm_store.specs.Sets.{SavedSet}
+use Rattle.dm_store.specs.Disk.{DiskState}
 
--- a store that is not honest, so that no law speaks of its content, and each call of which may fail
-abbrev pub unclaimed : Saved
-unclaimed = record { content = None; is_honest = false; load_plan = LoadsOpen; save_plan = SavesOpen }
+-- a disk that is not honest, so that no law speaks of what a reader finds or a stop leaves
+abbrev pub unclaimed : DiskState
+unclaimed = record {
+  is_honest = false;
+  seen = λ name. None;
+  is_synced = λ name. ⊤;
+  may_leave = λ name content. ⊤;
+}
 
--- a set of the same kind
+-- a set that is not honest, so that no law speaks of its content, and each call of which may fail
 abbrev pub unclaimed_set : SavedSet
 unclaimed_set = record { content = map.empty; is_honest = false; load_plan = LoadsOpen; save_plan = SavesOpen }

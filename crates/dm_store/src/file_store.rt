@@ -1,75 +1,136 @@
-//! A store in a file.
+//! A store in a file of a disk.
 
-ghost use Rattle.std.specs.Prelude.{◌≡◌};
+ghost use Rattle.std.specs.Prelude.{◌≡◌, ◌≢◌, ◌++◌, ℕ, List, Some, IfOk, IsErrOf, IsSome, codes, IsTrue};
 ghost use Rattle.std.specs.String.{string_bytes};
+ghost use Rattle.dm_store.specs.Disk.{KeepsAll, SavesFile};
 
-use crate::files::{load_file, new_path_of, replace_file};
+use crate::disk::{Disk, DiskFault};
+use crate::files::new_path_of;
 use crate::store::{LoadFault, ReplaceFault, Store};
 use std::alloc::{Allocator, Global};
 use std::marker::Model;
-use std::rt::Files;
 
-/// A store in a file, which contracts see as the bytes of its path. It claims nothing of what the file holds: it is not
-/// honest, and its plans are open.
+/// A store in the file at a path of a disk, which is honest if the disk is.
 ///
-/// A `replace` writes the bytes to the file `PATH.new`, syncs it, renames it to `PATH`, and syncs the folder. So after
-/// a stop at any moment the file should hold the old or the new bytes, which tests show and no contract says. The file
-/// `PATH.new` is made anew: what stands there, as a link or what a stop has left, is never read or written, and the
-/// next `replace` removes it. So `PATH` is a plain file after a `replace`.
+/// A `replace` writes the bytes to the file `PATH.new`, syncs it, renames it to `PATH`, and syncs the folder. So
+/// whenever the machine stops the file holds the old or the new bytes, and the new ones once the `replace` is done.
+/// The file `PATH.new` is made anew: what stands there, as a link or what a stop has left, is never read or written. So
+/// `PATH` is a plain file after a `replace`, which makes no folder.
 ///
-/// A load answers `None` where the file or its folder isn't there, and `Device` where the path goes through a file, or
-/// leads to what is no plain file, which is not opened. A `replace` makes no folder.
+/// A `load` syncs the folder before it answers, so that no stop takes back what it gives. It answers `None` if the file
+/// or its folder isn't there.
 #[derive(Drop)]
-pub struct FileStore<'a, R: Files, A: Allocator + Copy = Global> {
+pub struct FileStore<D, A: Allocator + Copy = Global> {
     alloc: A,
-    runtime: &'a R,
+    disk: D,
     path: String<A>,
 }
 
-impl<'a, R: Files, A: Allocator + Copy> Model for FileStore<'a, R, A> {
-    ghost use Rattle.std.specs.Prelude.{List, ℕ};
+impl<D, A: Allocator + Copy> Model for FileStore<D, A> {
     ghost use Rattle.std.specs.String.{string_bytes};
+    ghost use Rattle.dm_store.specs.Filed.{Filed};
 
-    ghost Value = { List ℕ };
+    ghost Value = { Filed D };
 
-    ghost view = { λ f. string_bytes f.path };
+    ghost view = { λ f. record { disk = f.disk; path = string_bytes f.path } };
 }
 
-impl<'a, R: Files, A: Allocator + Copy> FileStore<'a, R, A> {
-    /// A store in the file at `path`, which need not be there. It takes no memory, and looks at no file.
-    pub fn new(alloc: A, runtime: &'a R, path: String<A>) -> FileStore<'a, R, A>
-        ensures { result ≡ string_bytes path }
+impl<D: Disk, A: Allocator + Copy> FileStore<D, A> {
+    /// A store in the file at `path` of the disk, which need not be there. It takes no memory, and makes no call.
+    pub fn new(alloc: A, disk: D, path: String<A>) -> FileStore<D, A>
+        ensures { result ≡ record { disk = disk; path = string_bytes path } }
     {
-        FileStore {
-            alloc,
-            runtime,
-            path,
-        }
+        FileStore { alloc, disk, path }
+    }
+
+    /// The disk, as the calls left it.
+    pub fn into_disk(self) -> D
+        ensures { result ≡ self.disk }
+    {
+        self.disk
     }
 }
 
-impl<R: Files, A: Allocator + Copy> Store for FileStore<'_, R, A> {
+// Puts the file at `new_path`, which was just written, in the place of the file at `path`.
+fn put_in_place<D: Disk>(disk: &mut D, path: &str, new_path: &str) -> Result<(), DiskFault>
+    requires { path.now ≢ new_path.now }
+    ensures honesty { (D.state disk.new).is_honest ≡ (D.state disk.old).is_honest }
+    ensures saves { IsTrue (D.state disk.old).is_honest
+        → (bytes : List ℕ) → (D.state disk.old).seen new_path.now ≡ Some bytes
+        → SavesFile (D.state disk.old) path.now bytes result (D.state disk.new) }
+{
+    disk.sync(new_path)?;
+    disk.rename(new_path, path)?;
+    disk.sync_entry(path)
+}
+
+// Puts the bytes into the file at `path` by way of the file at `new_path`.
+fn replace_file<D: Disk>(
+    disk: &mut D,
+    path: &str,
+    new_path: &str,
+    bytes: &[u8],
+) -> Result<(), ReplaceFault>
+    requires { path.now ≢ new_path.now }
+    ensures honesty { (D.state disk.new).is_honest ≡ (D.state disk.old).is_honest }
+    ensures refused { IsErrOf result ReplaceFault.Memory → KeepsAll (D.state disk.old) (D.state disk.new) }
+    ensures saves { IsTrue (D.state disk.old).is_honest
+        → SavesFile (D.state disk.old) path.now bytes.now result (D.state disk.new) }
+{
+    match disk.write(new_path, bytes) {
+        Ok(()) => {}
+        Err(DiskFault::Device) => return Err(ReplaceFault::Device),
+        Err(DiskFault::Memory) => return Err(ReplaceFault::Memory),
+    }
+    match put_in_place(disk, path, new_path) {
+        Ok(()) => Ok(()),
+        Err(_) => Err(ReplaceFault::Device),
+    }
+}
+
+impl<D: Disk, A: Allocator + Copy> Store for FileStore<D, A> {
     ghost use Rattle.dm_store.specs.Saved.{Loads, Replaces};
-    ghost use Rattle.dm_store.specs.Unclaimed.{unclaimed};
+    ghost use Rattle.dm_store.specs.Disk.{IsSettled};
+    ghost use Rattle.dm_store.specs.Filed.{saved_under};
 
-    type Memory = A;
+    type Memory = D::Memory;
 
-    ghost state = { λ _. unclaimed };
+    ghost state = { λ f. saved_under (D.state f.disk) f.path };
 
-    fn load(&mut self, limit: usize) -> Result<Option<Vec<u8, A>>, LoadFault>
-        ensures loads { Loads (λ bytes. bytes.items) unclaimed limit result unclaimed }
-        ensures path { self.new ≡ self.old }
+    fn load(&mut self, limit: usize) -> Result<Option<Vec<u8, D::Memory>>, LoadFault>
+        ensures loads { Loads (λ bytes. bytes.items) (saved_under (D.state self.old.disk) self.old.path) limit result
+            (saved_under (D.state self.new.disk) self.new.path) }
+        ensures path { self.new.path ≡ self.old.path }
+        ensures kept { KeepsAll (D.state self.old.disk) (D.state self.new.disk) }
+        // No stop takes back what is loaded, if the file's bytes are on the disk, as those of a save are.
+        ensures settles { IsTrue (D.state self.old.disk).is_honest
+            → (D.state self.old.disk).is_synced self.old.path
+            → IfOk result (λ loaded. IsSome loaded → IsSettled (D.state self.new.disk) self.new.path) }
     {
-        load_file(self.alloc, self.runtime, self.path.as_str(), limit)
+        match self.disk.read(self.path.as_str(), limit)? {
+            None => Ok(None),
+            Some(bytes) => match self.disk.sync_entry(self.path.as_str()) {
+                Ok(()) => Ok(Some(bytes)),
+                Err(DiskFault::Device) => Err(LoadFault::Device),
+                Err(DiskFault::Memory) => Err(LoadFault::Memory),
+            },
+        }
     }
 
     fn replace(&mut self, bytes: &[u8]) -> Result<(), ReplaceFault>
-        ensures replaces { Replaces unclaimed bytes.now result unclaimed }
-        ensures path { self.new ≡ self.old }
+        ensures replaces { Replaces (saved_under (D.state self.old.disk) self.old.path) bytes.now result
+            (saved_under (D.state self.new.disk) self.new.path) }
+        ensures path { self.new.path ≡ self.old.path }
+        ensures refused { IsErrOf result ReplaceFault.Memory
+            → KeepsAll (D.state self.old.disk) (D.state self.new.disk) }
+        // Whenever the machine stops, in this save or after it, the old content is left or the new, and the new once it is
+        // done.
+        ensures saves { IsTrue (D.state self.old.disk).is_honest
+            → SavesFile (D.state self.old.disk) self.old.path bytes.now result (D.state self.new.disk) }
     {
         let Ok(new_path) = new_path_of(self.alloc, self.path.as_str()) else {
             return Err(ReplaceFault::Memory);
         };
-        replace_file(self.runtime, self.path.as_str(), new_path.as_str(), bytes)
+        replace_file(&mut self.disk, self.path.as_str(), new_path.as_str(), bytes)
     }
 }

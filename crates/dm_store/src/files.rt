@@ -1,5 +1,8 @@
 //! One file that is replaced whole: what a store in a file and a set in a folder share.
 
+ghost use Rattle.std.specs.Prelude.{◌≡◌, ◌++◌, IfOk, codes};
+ghost use Rattle.std.specs.String.{string_bytes};
+
 use crate::store::{LoadFault, ReplaceFault};
 use std::alloc::{AllocError, Allocator};
 use std::fs::{File, OpenFile};
@@ -58,7 +61,7 @@ pub(crate) fn load_file<R: Files, A: Allocator>(
 
 // Makes a file of its own at `path`. What stands there, as a link, a second name of another file, or what a stop has
 // left, is itself removed; what it leads to is not touched.
-fn create_anew<R: Files>(runtime: &R, path: &str) -> io::Result<R::File> {
+pub(crate) fn create_anew<R: Files>(runtime: &R, path: &str) -> io::Result<R::File> {
     match File::create_new(runtime, path) {
         Ok(file) => Ok(file),
         Err(error) if error.kind() == ErrorKind::AlreadyExists => {
@@ -86,7 +89,9 @@ pub(crate) fn sync_folder_of<R: Files>(runtime: &R, path: &str) -> io::Result<()
 }
 
 // The path of the file that the new bytes go to first.
-pub(crate) fn new_path_of<A: Allocator>(alloc: A, path: &str) -> Result<String<A>, AllocError> {
+pub(crate) fn new_path_of<A: Allocator>(alloc: A, path: &str) -> Result<String<A>, AllocError>
+    ensures { IfOk result (λ new_path. string_bytes new_path ≡ path.now ++ codes ".new") }
+{
     format!(in alloc; "{path}.new")
 }
 

@@ -10,30 +10,47 @@
 //! - No call changes the honesty or what loads may do.
 //!
 //! [`MemStore`] and [`MemSet`] are honest, and meet a device fault exactly where they were set to. [`FuseStore`] and
-//! [`FuseSet`] stop after a number of calls, over any store or set. [`FileStore`] and [`FileSet`] claim nothing of
-//! their files: what these hold after a stop is tested, and not proved. [`KeyMap`] is the map that a set in memory is
-//! made of.
+//! [`FuseSet`] stop after a number of calls, over any store or set. [`KeyMap`] is the map that a set in memory is made
+//! of.
+//!
+//! [`FileStore`] is a store in a file of a [`Disk`], whose contract (`specs/Disk.antt`) says what a reader finds and
+//! what a stop of the machine may leave. Proved over every disk that keeps it: the store is honest if the disk is;
+//! whenever the machine stops in a save, the file holds the old or the new bytes, whole, and the new ones once the save
+//! has answered `Ok` ([`save_until_stop`] says it of a stop at each call); and no stop takes back what a load gave of a
+//! file that was saved. [`MemDisk`] is the worst disk that keeps the contract, and [`FuseDisk`] one that stops after a
+//! number of calls. [`RealDisk`] is the system's own files: it claims nothing, so that its few lines do what the
+//! contract says is trusted, and tested. [`FileSet`] claims nothing of its files either, and has no disk of its own yet.
 #![tactic(auto)]
 
+mod disk;
 mod file_set;
 mod file_store;
 mod files;
 mod fuse;
+mod fuse_disk;
 mod fuse_set;
 mod fuse_store;
 mod key_map;
+mod mem_disk;
 mod mem_set;
 mod mem_store;
+mod real_disk;
 mod set;
+mod stopped_save;
 mod store;
 
+pub use disk::{Disk, DiskFault};
 pub use file_set::FileSet;
 pub use file_store::FileStore;
 pub use fuse::Kept;
+pub use fuse_disk::FuseDisk;
 pub use fuse_set::FuseSet;
 pub use fuse_store::FuseStore;
 pub use key_map::KeyMap;
+pub use mem_disk::{DiskCall, MemDisk};
 pub use mem_set::MemSet;
 pub use mem_store::{MemStore, NextSave};
+pub use real_disk::RealDisk;
 pub use set::{RemoveFault, StoreSet};
+pub use stopped_save::save_until_stop;
 pub use store::{LoadFault, ReplaceFault, Store};

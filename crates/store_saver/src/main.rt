@@ -2,7 +2,7 @@
 //! of a folder, that many rounds. `store_saver FOLDER` says how many keys a folder has, or why it gives none.
 #![tactic(auto)]
 
-use dm_store::{FileSet, FileStore, ReplaceFault, Store, StoreSet};
+use dm_store::{FileSet, FileStore, RealDisk, ReplaceFault, Store, StoreSet};
 use std::process::ExitCode;
 use std::{env, io};
 
@@ -32,7 +32,7 @@ fn save_rounds<S: Store, T: StoreSet>(
 fn save(rt: &HostRuntime, rounds: u32, file: String, folder: String) -> io::Result<ExitCode> {
     let first = vec![in rt.alloc(); b'a'; FIRST_LENGTH]?;
     let second = vec![in rt.alloc(); b'b'; SECOND_LENGTH]?;
-    let mut store = FileStore::new(rt.alloc(), rt, file);
+    let mut store = FileStore::new(rt.alloc(), RealDisk::new(rt.alloc(), rt), file);
     let mut set = FileSet::new(rt.alloc(), rt, folder);
     let contents = [first.as_slice(), second.as_slice()];
     Ok(match save_rounds(&mut store, &mut set, rounds, contents) {

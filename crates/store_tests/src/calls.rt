@@ -1,7 +1,9 @@
 //! One call on a store in a file or on a set in a folder, and the name of its answer.
 
 use crate::scripted::Scripted;
-use dm_store::{FileSet, FileStore, LoadFault, RemoveFault, ReplaceFault, Store, StoreSet};
+use dm_store::{
+    FileSet, FileStore, LoadFault, RealDisk, RemoveFault, ReplaceFault, Store, StoreSet,
+};
 use std::alloc::{Allocator, Global};
 use test_helpers::Refusing;
 
@@ -82,7 +84,7 @@ fn of_store<A: Allocator + Copy>(
     let Ok(path) = format!(in memory; "{folder}/0001") else {
         return "Memory";
     };
-    let mut store = FileStore::new(memory, files, path);
+    let mut store = FileStore::new(memory, RealDisk::new(memory, files), path);
     match call {
         Call::Load(limit) => loaded(store.load(*limit)),
         _ => replaced(store.replace(b"three")),

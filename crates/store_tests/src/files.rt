@@ -39,6 +39,7 @@ const CASES: &[Case] = &[
     LOADS,
     Case {
         call: Call::LoadKey(9),
+        steps: Steps::LoadKey,
         ..LOADS
     },
     Case {

@@ -5,6 +5,8 @@
 #[cfg(test)]
 mod calls;
 #[cfg(test)]
+mod disks;
+#[cfg(test)]
 mod files;
 #[cfg(test)]
 mod memory;

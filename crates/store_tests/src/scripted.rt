@@ -20,6 +20,7 @@ type Step = (&'static str, &'static str);
 pub enum Steps {
     Any,
     Load,
+    LoadKey,
     LoadNothing,
     Replace,
     ReplaceKey,
@@ -29,8 +30,18 @@ pub enum Steps {
     Keys,
 }
 
-// A load sees first what is there. It takes two bytes at a time, and then none.
+// A load sees first what is there. It takes two bytes at a time, and then none. That of a store then syncs the folder.
 const LOAD: &[Step] = &[
+    ("look", "pages/0001"),
+    ("open", "pages/0001"),
+    ("read", ""),
+    ("read", ""),
+    ("read", ""),
+    ("open", "above/pages"),
+    ("sync", ""),
+];
+
+const LOAD_KEY: &[Step] = &[
     ("look", "pages/0001"),
     ("open", "pages/0001"),
     ("read", ""),
@@ -91,6 +102,7 @@ impl Steps {
         match self {
             Steps::Any => &[],
             Steps::Load => LOAD,
+            Steps::LoadKey => LOAD_KEY,
             Steps::LoadNothing => &[("look", "pages/0001")],
             Steps::Replace => REPLACE,
             Steps::ReplaceKey => REPLACE_KEY,

@@ -23,5 +23,9 @@ loop-key-preserved g c =
     let is : keys_of c.loop-key.key-iterator ≡ e ∷ keys_of c.next.new.self = search rules in
     let pushed : c.push.new.self.items ≡ c.loop-key.keys.items ++ e ∷ [] = search rules in
     let lt : length c.loop-key.keys.items < c.args.count = omega (arith, c.loop-key.invariant.1) in
-    let more = one_more c.loop-key.keys.items _ (keys_of c.next.new.self) c.args.count e lt (rw is at c.loop-key.invariant.0) in
-    (rw pushed more, rw pushed (omega (arith, lt, length-append c.loop-key.keys.items (e ∷ []))), c.loop-key.invariant.2)
+    let more = one_more c.loop-key.keys.items _ (keys_of c.next.new.self) c.args.count e lt
+    (rw is at c.loop-key.invariant.0) in (
+      rw pushed more,
+      rw pushed (omega (arith, lt, length-append c.loop-key.keys.items (e ∷ []))),
+      c.loop-key.invariant.2,
+    )

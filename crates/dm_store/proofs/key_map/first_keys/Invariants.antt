@@ -6,5 +6,6 @@ use Rattle.dm_store.proofs.key_map.first_keys.Given as goal
 
 abbrev pub invariant-loop-key : goal.invariant-loop-key
 invariant-loop-key g l =
-    (l.keys.items ++ take (l.count - length l.keys.items) (keys_of l.key-iterator) ≡ take l.count (keys_of l.tree.entries))
+    (l.keys.items ++ take (l.count - length l.keys.items) (keys_of l.key-iterator) ≡ take l.count
+    (keys_of l.tree.entries))
     × (length l.keys.items ≤ l.count) × IsStrictlySortedBy nat_cmp (keys_of l.tree.entries)

@@ -4,7 +4,8 @@ use Rattle.dm_store.proofs.key_map.KeyMap.insert.Goals as goal
 
 pub returns-clause-ok : goal.returns-clause-ok
 returns-clause-ok g c =
-    rw (← c.self.view_is) (one_given c.self.inside.tree.entries _ c.args.key c.args.value c.in_ok-insert.ensures.updates.0)
+    rw (← c.self.view_is) (one_given c.self.inside.tree.entries _ c.args.key c.args.value
+    c.in_ok-insert.ensures.updates.0)
 
 pub returns-clause-before : goal.returns-clause-before
 returns-clause-before g c =

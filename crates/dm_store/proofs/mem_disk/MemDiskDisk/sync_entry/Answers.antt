@@ -1,0 +1,8 @@
+use Rattle.dm_store.proofs.Noted.{noted_entry, noted_kept}
+use Rattle.dm_store.proofs.mem_disk.MemDiskDisk.sync_entry.Goals as goal
+
+pub returns-clause-syncs : goal.returns-clause-syncs
+returns-clause-syncs g c = λ _. noted_entry _ _ _ _ c.note.result c.in_ok-synced.ensures c.note.ensures.ok
+
+pub returns-clause-kept : goal.returns-clause-kept
+returns-clause-kept g c = λ each. noted_kept _ _ _ each c.note.result c.note.ensures.ok c.note.ensures.err

@@ -1,0 +1,80 @@
+-- What contracts see of a disk: what a reader finds under each name, and what a stop of the machine may leave there.
+-- A stop may come at any moment: a call that it cuts short is a call that fails, and so is each later one.
+use Rattle.std.specs.Prelude.{◌≡◌, ◌≢◌, ◌+◌, ◌⊎◌, ℕ, Bool, List, take, Option, None, Some, option_map, Result, IsOk, IsErr, IfOk}
+use Rattle.dm_store.specs.declared.disk.DiskFault.{DiskFault}
+use Rattle.dm_store.specs.declared.store.LoadFault.{LoadFault}
+
+-- the bytes of the file under a name, or None where no file is
+abbrev pub Content : Type 0
+Content = Option (List ℕ)
+
+-- A disk: whether it is honest (it does what is said below); what a reader finds under a name; whether the bytes of the
+-- file that has the name are on the disk, as a reader finds them; what a stop at this moment may leave under a name.
+pub record DiskState : Type 1 where
+  pub is_honest : Bool
+  pub seen : List ℕ → Content
+  pub is_synced : List ℕ → Type 0
+  pub may_leave : List ℕ → Content → Type 0
+
+-- nothing changes under this name, and a stop leaves nothing there that it did not leave before
+pub record Keeps (old : DiskState) (name : List ℕ) (new : DiskState) : Type 0 where
+  pub seen : new.seen name ≡ old.seen name
+  pub synced : old.is_synced name → new.is_synced name
+  pub left : (content : Content) → new.may_leave name content → old.may_leave name content
+
+-- so it is of every name
+abbrev pub KeepsAll : DiskState → DiskState → Type 0
+KeepsAll old new = (name : List ℕ) → Keeps old name new
+
+-- A read under this name, up to the byte after the limit. `bytes` gives the list in what was read.
+abbrev pub Reads : {V : Type 0} → (V → List ℕ) → DiskState → List ℕ → ℕ → Result (Option V) LoadFault → Type 0
+Reads bytes old name limit answer =
+    IfOk answer (λ read. option_map bytes read ≡ option_map (take (limit + 1)) (old.seen name))
+
+-- A file is made under the name, in place of the one that is there, and the bytes are written to it. Nothing is said of
+-- what a stop may leave there, nor of what a write that fails leaves.
+pub record Writes (old : DiskState) (name bytes : List ℕ) (answer : Result (Unit {0}) DiskFault) (new : DiskState)
+    : Type 0 where
+  pub others : (other : List ℕ) → other ≢ name → Keeps old other new
+  pub done : IsOk answer → new.seen name ≡ Some bytes
+
+-- The bytes of the file are brought to the disk. The file's entry in its folder is not: what a stop may leave under the
+-- name is as before. A sync that fails may lose what was written, unless it was on the disk before.
+pub record Syncs (old : DiskState) (name : List ℕ) (answer : Result (Unit {0}) DiskFault)
+    (new : DiskState) : Type 0 where
+  pub others : (other : List ℕ) → other ≢ name → Keeps old other new
+  pub kept : IsOk answer ⊎ old.is_synced name → Keeps old name new
+  pub done : IsOk answer → new.is_synced name
+
+-- The file gets another name, in place of the file that had it. If its bytes are on the disk, a stop leaves under the
+-- new
+-- name what it left before, or these bytes; if they are not, nothing is said. Nothing is said of the old name.
+pub record Renames (old : DiskState) (from to : List ℕ) (answer : Result (Unit {0}) DiskFault) (new : DiskState)
+    : Type 0 where
+  pub others : (other : List ℕ) → other ≢ from → other ≢ to → Keeps old other new
+  pub done : IsOk answer → new.seen to ≡ old.seen from
+  pub failed : IsErr answer → (new.seen to ≡ old.seen to) ⊎ (new.seen to ≡ old.seen from)
+  pub synced : old.is_synced from → IsOk answer ⊎ old.is_synced to → new.is_synced to
+  pub left : old.is_synced from
+      → (content : Content) → new.may_leave to content → old.may_leave to content ⊎ (content ≡ old.seen from)
+
+-- The entry of the name in its folder is brought to the disk, or the want of one. If the file's bytes are there too, a
+-- stop then leaves just what a reader finds.
+pub record SyncsEntry (old : DiskState) (name : List ℕ) (answer : Result (Unit {0}) DiskFault) (new : DiskState)
+    : Type 0 where
+  pub done : IsOk answer → old.is_synced name
+      → (content : Content) → new.may_leave name content → content ≡ old.seen name
+
+-- a stop leaves under this name just what a reader finds
+abbrev pub IsSettled : DiskState → List ℕ → Type 0
+IsSettled disk name = (content : Content) → disk.may_leave name content → content ≡ disk.seen name
+
+-- A save of these bytes under a name, done or not. A stop after it, or in it, leaves what it might have left before, or
+-- these bytes; and once the save is done, these bytes alone.
+pub record SavesFile (old : DiskState) (name bytes : List ℕ) {F : Type 0} (answer : Result (Unit {0}) F)
+    (new : DiskState) : Type 0 where
+  pub done : IsOk answer → new.seen name ≡ Some bytes
+  pub failed : IsErr answer → (new.seen name ≡ old.seen name) ⊎ (new.seen name ≡ Some bytes)
+  pub left : (content : Content) → new.may_leave name content → old.may_leave name content ⊎ (content ≡ Some bytes)
+  pub lasting : IsOk answer → (content : Content) → new.may_leave name content → content ≡ Some bytes
+  pub synced : IsOk answer ⊎ old.is_synced name → new.is_synced name

@@ -1,0 +1,211 @@
+//! A disk in memory.
+
+ghost use Rattle.std.specs.Prelude.{◌≡◌, ◌∷◌, [], option_map, IfOk, OnOk, OnErr, IsErrOf};
+ghost use Rattle.std.specs.String.{string_bytes};
+ghost use Rattle.dm_store.specs.DiskCalls.{seen_after, synced_after, content_eq, leaves_after};
+
+use crate::disk::{Disk, DiskFault};
+use crate::mem_store::copy_of;
+use crate::store::LoadFault;
+use std::alloc::{AllocError, Allocator, Global};
+
+/// A call of a disk that was done.
+#[derive(Drop)]
+pub enum DiskCall<A: Allocator = Global> {
+    /// Bytes were written to the file under a name.
+    Wrote(String<A>, Vec<u8, A>),
+    /// The bytes of a file were brought to the disk.
+    Synced(String<A>),
+    /// The file under the first name got the second.
+    Renamed(String<A>, String<A>),
+    /// A name's entry was brought to the disk.
+    SyncedEntry(String<A>),
+}
+
+/// A disk in memory, which is empty at first. It keeps the calls that were done, the newest first, and is as bad as a
+/// disk may be: it may leave whatever the contract lets it leave.
+#[derive(Drop)]
+pub struct MemDisk<A: Allocator + Copy = Global> {
+    alloc: A,
+    calls: Vec<DiskCall<A>, A>,
+}
+
+// What a reader finds under the name.
+fn seen_in<'a, A: Allocator>(calls: &'a [DiskCall<A>], name: &str) -> Option<&'a [u8]>
+    ensures { option_map (λ bytes. bytes.now) result ≡ seen_after calls.now name.now }
+{
+    let [call, before @ ..] = calls else {
+        return None;
+    };
+    match call {
+        DiskCall::Wrote(written, bytes) => {
+            if written.as_str() == name {
+                Some(bytes.as_slice())
+            } else {
+                seen_in(before, name)
+            }
+        }
+        DiskCall::Renamed(from, to) => {
+            if to.as_str() == name {
+                seen_in(before, from.as_str())
+            } else if from.as_str() == name {
+                None
+            } else {
+                seen_in(before, name)
+            }
+        }
+        DiskCall::Synced(_) | DiskCall::SyncedEntry(_) => seen_in(before, name),
+    }
+}
+
+// Whether the bytes of the file under the name are on the disk.
+fn is_synced_in<A: Allocator>(calls: &[DiskCall<A>], name: &str) -> bool
+    ensures { result ≡ synced_after calls.now name.now }
+{
+    let [call, before @ ..] = calls else {
+        return true;
+    };
+    match call {
+        DiskCall::Wrote(written, _) => written.as_str() != name && is_synced_in(before, name),
+        DiskCall::Synced(synced) => synced.as_str() == name || is_synced_in(before, name),
+        DiskCall::Renamed(from, to) => {
+            if to.as_str() == name {
+                is_synced_in(before, from.as_str())
+            } else {
+                is_synced_in(before, name)
+            }
+        }
+        DiskCall::SyncedEntry(_) => is_synced_in(before, name),
+    }
+}
+
+fn is_same(content: Option<&[u8]>, other: Option<&[u8]>) -> bool
+    ensures { result
+        ≡ content_eq (option_map (λ bytes. bytes.now) content.entry) (option_map (λ bytes. bytes.now) other.entry) }
+{
+    match (content, other) {
+        (None, None) => true,
+        (Some(bytes), Some(others)) => bytes == others,
+        _ => false,
+    }
+}
+
+// Whether a stop may leave this content under the name.
+fn may_leave_in<A: Allocator>(calls: &[DiskCall<A>], name: &str, content: Option<&[u8]>) -> bool
+    ensures { result ≡ leaves_after calls.now name.now (option_map (λ bytes. bytes.now) content.entry) }
+{
+    let [call, before @ ..] = calls else {
+        return content.is_none();
+    };
+    match call {
+        DiskCall::Wrote(written, _) => {
+            written.as_str() == name || may_leave_in(before, name, content)
+        }
+        DiskCall::Synced(_) => may_leave_in(before, name, content),
+        DiskCall::Renamed(from, to) => {
+            if to.as_str() == name {
+                if is_synced_in(before, from.as_str()) {
+                    may_leave_in(before, name, content)
+                        || is_same(content, seen_in(before, from.as_str()))
+                } else {
+                    true
+                }
+            } else {
+                from.as_str() == name || may_leave_in(before, name, content)
+            }
+        }
+        DiskCall::SyncedEntry(synced) => {
+            if synced.as_str() == name && is_synced_in(before, name) {
+                is_same(content, seen_in(before, name))
+            } else {
+                may_leave_in(before, name, content)
+            }
+        }
+    }
+}
+
+// Keeps a call that is done.
+fn note<A: Allocator>(calls: &mut Vec<DiskCall<A>, A>, call: DiskCall<A>) -> Result<(), DiskFault>
+    ensures ok { OnOk result (calls.new.items ≡ call ∷ calls.old.items) }
+    ensures err { OnErr result (calls.new.items ≡ calls.old.items) }
+{
+    match calls.insert(0, call) {
+        Ok(()) => Ok(()),
+        Err(_) => Err(DiskFault::Memory),
+    }
+}
+
+// A name that is kept.
+fn name_of<A: Allocator>(alloc: A, name: &str) -> Result<String<A>, DiskFault>
+    ensures { IfOk result (λ kept. string_bytes kept ≡ name.now) }
+{
+    match String::from_str(alloc, name) {
+        Ok(kept) => Ok(kept),
+        Err(AllocError) => Err(DiskFault::Memory),
+    }
+}
+
+impl<A: Allocator + Copy> MemDisk<A> {
+    /// An empty disk. It takes no memory.
+    pub fn new(alloc: A) -> MemDisk<A>
+        ensures { result.calls.items ≡ [] }
+    {
+        MemDisk {
+            alloc,
+            calls: Vec::new(alloc),
+        }
+    }
+
+    /// Whether a stop may leave this content under the name.
+    pub fn may_leave(&self, name: &str, content: Option<&[u8]>) -> bool
+        ensures { result
+            ≡ leaves_after self.now.calls.items name.now (option_map (λ bytes. bytes.now) content.entry) }
+    {
+        may_leave_in(&self.calls, name, content)
+    }
+}
+
+impl<A: Allocator + Copy> Disk for MemDisk<A> {
+    ghost use Rattle.dm_store.specs.DiskCalls.{disk_after};
+
+    type Memory = A;
+
+    ghost state = { λ d. disk_after d.calls.items };
+
+    fn read(&mut self, name: &str, limit: usize) -> Result<Option<Vec<u8, A>>, LoadFault> {
+        let Some(bytes) = seen_in(&self.calls, name) else {
+            return Ok(None);
+        };
+        match copy_of(self.alloc, bytes, limit) {
+            Ok(copy) => Ok(Some(copy)),
+            Err(AllocError) => Err(LoadFault::Memory),
+        }
+    }
+
+    fn write(&mut self, name: &str, bytes: &[u8]) -> Result<(), DiskFault> {
+        let written = name_of(self.alloc, name)?;
+        let Ok(copy) = Vec::from_slice(self.alloc, bytes) else {
+            return Err(DiskFault::Memory);
+        };
+        note(&mut self.calls, DiskCall::Wrote(written, copy))
+    }
+
+    fn sync(&mut self, name: &str) -> Result<(), DiskFault> {
+        let synced = name_of(self.alloc, name)?;
+        note(&mut self.calls, DiskCall::Synced(synced))
+    }
+
+    fn rename(&mut self, from: &str, to: &str) -> Result<(), DiskFault> {
+        if seen_in(&self.calls, from).is_none() {
+            return Err(DiskFault::Device);
+        }
+        let old = name_of(self.alloc, from)?;
+        let new = name_of(self.alloc, to)?;
+        note(&mut self.calls, DiskCall::Renamed(old, new))
+    }
+
+    fn sync_entry(&mut self, name: &str) -> Result<(), DiskFault> {
+        let synced = name_of(self.alloc, name)?;
+        note(&mut self.calls, DiskCall::SyncedEntry(synced))
+    }
+}
