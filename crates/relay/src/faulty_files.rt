@@ -1,10 +1,13 @@
 //! Which files are at fault where a command was refused: a line on the standard error names each.
 
 use crate::commands::file_of;
-use crate::workplace::{Work, Workplace, work_of};
+use crate::plan::{Plan, Work, plan_of, work_of};
+use crate::workplace::Workplace;
 use dm_assembly_desk::{Desk, DeskFault, MOST_CAPACITY, MOST_FILE_BYTES, MoveFault, move_pages};
 use dm_print_ledger::{OpenFault, Printer};
-use dm_store::{FileSet, FileStore, FuseSet, FuseStore, Kept, LoadFault, MemSet, StoreSet};
+use dm_store::{
+    FileSet, FileStore, FuseSet, FuseStore, Kept, LoadFault, MemSet, RealDisk, StoreSet,
+};
 use relay_line::Command;
 use std::alloc::{AllocError, Global};
 use std::rt::Files;
@@ -25,6 +28,17 @@ pub(crate) fn name_odd_place<R: AllocGlobal + Eprint + Files>(rt: &R, command: C
             name_file(rt, folder.as_str(), "Device");
         }
         _ => name_file(rt, file, "Device"),
+    }
+}
+
+/// Says on the standard error which file of a command can't be locked.
+pub(crate) fn name_lock<R: AllocGlobal + Eprint + Files>(rt: &R, command: Command) {
+    let Ok(place) = Workplace::of(rt, command) else {
+        return;
+    };
+    if let Plan::OverFiles(Some(locked)) = plan_of(command, place.sight) {
+        let path = place.path_of(locked);
+        let _ = eprint!(rt; "relay: {path}.lock: Lock\n");
     }
 }
 
@@ -53,7 +67,7 @@ fn name_ledger<R: AllocGlobal + Eprint + Files>(
     number: u16,
 ) -> Result<(), AllocError> {
     let path = String::from_str(rt.alloc(), file)?;
-    let store = FileStore::new(rt.alloc(), rt, path);
+    let store = FileStore::new(rt.alloc(), RealDisk::new(rt.alloc(), rt), path);
     let fault = match Printer::open(rt.alloc(), store, number) {
         Ok(_) => return Ok(()),
         Err(refused) => refused.fault,
@@ -71,7 +85,11 @@ fn name_ledger<R: AllocGlobal + Eprint + Files>(
 fn name_joint_file<R: AllocGlobal + Eprint + Files>(rt: &R, file: &str) -> Result<(), AllocError> {
     let alloc = rt.alloc();
     let path = String::from_str(alloc, file)?;
-    let mut old = FuseStore::new(FileStore::new(alloc, rt, path), 1, Kept::Old);
+    let mut old = FuseStore::new(
+        FileStore::new(alloc, RealDisk::new(alloc, rt), path),
+        1,
+        Kept::Old,
+    );
     let mut set = FuseSet::new(MemSet::new(alloc), 0, Kept::Old);
     let answer = move_pages(alloc, &mut old, &mut set);
     match answer {

@@ -14,13 +14,13 @@ use std::rt::Files;
 #[derive(Drop)]
 pub(crate) struct Guard<'a, R> {
     rt: &'a R,
-    lock: Option<Lock>,
+    lock: &'a Option<Lock>,
     is_lost: Cell<bool>,
 }
 
 impl<'a, R: Files> Guard<'a, R> {
     /// Watches this lock. A command without one saves nothing.
-    pub(crate) fn new(rt: &'a R, lock: Option<Lock>) -> Guard<'a, R> {
+    pub(crate) fn new(rt: &'a R, lock: &'a Option<Lock>) -> Guard<'a, R> {
         Guard {
             rt,
             lock,
@@ -44,7 +44,7 @@ impl<'a, R: Files> Guard<'a, R> {
 
     // Whether a lock keeps other programs away.
     fn holds(&self) -> bool {
-        match &self.lock {
+        match self.lock {
             Some(lock) => {
                 let holds = lock.is_in_place(self.rt);
                 self.is_lost.set(!holds);

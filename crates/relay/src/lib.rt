@@ -14,12 +14,15 @@ mod commands;
 mod faulty_files;
 mod guard;
 mod lock;
+mod plan;
 mod program;
 mod refused_images;
 mod rehearsal;
 mod replay;
 mod standard_error;
 mod standard_streams;
+mod steps;
+mod system_steps;
 mod workplace;
 
 pub use commands::{do_command, file_of};

@@ -1,7 +1,9 @@
 //! The lock that keeps other programs from what a command saves to.
 
-use crate::workplace::WorkplaceFault;
-use std::alloc::Global;
+ghost use Rattle.std.specs.Prelude.{◌≡◌, ◌++◌, IfOk, codes, string_bytes};
+
+use crate::plan::WorkplaceFault;
+use std::alloc::{AllocError, Global};
 use std::fs;
 use std::fs::{File, Metadata, OpenOptions, TryLockError};
 use std::io::ErrorKind;
@@ -19,6 +21,15 @@ pub(crate) struct Lock {
 // Whether both are of one file.
 fn is_same(one: &Metadata, other: &Metadata) -> bool {
     (one.dev(), one.ino()) == (other.dev(), other.ino())
+}
+
+// A path with an ending.
+fn with_ending(alloc: Global, path: &str, ending: &str) -> Result<String, AllocError>
+    ensures { IfOk result (λ text. string_bytes text ≡ path.now ++ ending.now) }
+{
+    let mut text = String::from_str(alloc, path)?;
+    text.push_str(ending)?;
+    Ok(text)
 }
 
 // Opens the plain file at `path`, if it may be opened.
@@ -64,8 +75,10 @@ impl Lock {
         rt: &R,
         alloc: Global,
         path: &str,
-    ) -> Result<Lock, WorkplaceFault> {
-        let path = format!(in alloc; "{path}.lock")?;
+    ) -> Result<Lock, WorkplaceFault>
+        ensures { IfOk result (λ lock. string_bytes lock.path ≡ path.now ++ codes ".lock") }
+    {
+        let path = with_ending(alloc, path, ".lock")?;
         let file = open_lock(rt, path.as_str())?;
         match file.try_lock() {
             Ok(()) => {}

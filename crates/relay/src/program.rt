@@ -1,198 +1,41 @@
 //! The program over its own streams and files.
 
 ghost use Rattle.std.specs.Prelude.{◌≡◌};
-ghost use Rattle.relay.specs.Places.{refuses_on_errors_by_command};
 
-use crate::commands::{do_command, file_of};
-use crate::faulty_files::{name_faulty_files, name_missing_desk, name_odd_place};
-use crate::guard::{Guard, GuardedLines, GuardedSet, GuardedStore};
-use crate::refused_images::RefusedImages;
-use crate::rehearsal::{Rehearsal, before_a_save, before_files};
-use crate::replay::Recorder;
-use crate::standard_error::ErrorWriter;
+use crate::commands::file_of;
+use crate::plan::{Work, work_of};
 use crate::standard_streams::HeldPlaces;
-use crate::workplace::{Work, Workplace, WorkplaceFault, work_of};
-use dm_store::{FileSet, FileStore, MemSet, MemStore};
-use relay_desk_commands::NoNotes;
+use crate::steps::{refuses_on_errors, take_steps};
+use crate::system_steps::{SystemSteps, refuse_at};
 use relay_line::{Command, LineFault, command_line};
-use relay_shared::refuse;
-use relay_streams::{Input as StreamInput, Output};
 use std::fs::File;
-use std::io::{BufReader, BufWriter, ErrorKind, Read, Write};
+use std::io::{BufReader, BufWriter, ErrorKind, Write};
 use std::rt::{Env, Files};
 use std::{env, io};
 
 // Refuses on the standard error, and gives the exit status.
-fn refuse_on_errors<R: Eprint>(rt: &R, name: &str) -> u8 {
-    refuse(&mut Output::new(ErrorWriter::new(rt)), name)
-}
-
-// Whether the refusals of a command go to the standard error.
-fn refuses_on_errors(command: Command) -> bool
-    ensures { result ≡ refuses_on_errors_by_command command.entry }
+fn refuse_on_errors<R: Print + Eprint>(rt: &R, name: &str) -> u8
+    ensures { result ≡ 1 }
 {
-    match command {
-        Command::Draw { .. }
-        | Command::Print { .. }
-        | Command::Deliver { .. }
-        | Command::Export { .. } => true,
-        Command::Words { .. }
-        | Command::Read
-        | Command::Ledger { .. }
-        | Command::Give { .. }
-        | Command::Take { .. }
-        | Command::Scan { .. }
-        | Command::Forget { .. }
-        | Command::Import { .. }
-        | Command::World => false,
-    }
+    refuse_at(rt, true, name)
 }
 
 // Refuses a command before it begins, where its other refusals go.
-fn refuse_command<R: Print + Eprint>(rt: &R, command: Command, name: &str) -> u8 {
-    if refuses_on_errors(command) {
-        refuse_on_errors(rt, name)
-    } else {
-        refuse(&mut Output::new(io::writer(rt)), name)
-    }
+fn refuse_command<R: Print + Eprint>(rt: &R, command: Command, name: &str) -> u8
+    ensures { result ≡ 1 }
+{
+    refuse_at(rt, refuses_on_errors(command), name)
 }
 
-// Lets the end of an output out, and gives the exit status.
-fn finish<R: Eprint, W: Write + Drop>(rt: &R, output: Output<W>, status: u8) -> u8 {
-    let mut writer = output.into_writer();
-    if writer.flush().is_err() && status == 0 {
-        return refuse_on_errors(rt, "Write");
-    }
-    status
-}
-
-// Says what a command that needs no file has written, and gives the exit status.
-fn say<R: Eprint, W: Write + Drop>(rt: &R, writer: W, rehearsal: &Rehearsal) -> u8 {
-    let mut output = Output::new(writer);
-    let mut errors = Output::new(ErrorWriter::new(rt));
-    let is_said = output.put(rehearsal.output.as_slice()).is_ok()
-        && errors.put(rehearsal.errors.as_slice()).is_ok();
-    let status = if is_said { rehearsal.status } else { 1 };
-    finish(rt, output, status)
-}
-
-// Does a command over nothing: one that names no file, or that finds nothing at its path and makes nothing there.
-fn run_over_nothing<R: AllocGlobal + Eprint, I: Read + Drop, W: Write + Drop>(
-    rt: &R,
-    reader: I,
-    writer: W,
-    command: Command,
-) -> u8 {
-    let mut output = Output::new(writer);
-    let ended = do_command(
-        rt.alloc(),
-        MemStore::new(rt.alloc()),
-        MemSet::new(rt.alloc()),
-        &mut StreamInput::new(reader),
-        &mut output,
-        &mut Output::new(ErrorWriter::new(rt)),
-        &mut NoNotes,
-        command,
-    );
-    finish(rt, output, ended.status)
-}
-
-// Does a command over the files at its place, which it saves only while its lock is held.
-fn run_at<R: AllocGlobal + Eprint + Files<File = File> + Clone, I: Read + Drop, W: Write + Drop>(
-    rt: &R,
-    place: &Workplace,
-    guard: &Guard<'_, R>,
-    reader: I,
-    writer: W,
-    command: Command,
-) -> Result<u8, WorkplaceFault> {
-    let ledger = FileStore::new(rt.alloc(), rt, place.file.clone()?);
-    let pages = FileSet::new(rt.alloc(), rt, place.folder.clone()?);
-    let mut output = Output::new(GuardedLines::new(guard, writer));
-    let ended = do_command(
-        rt.alloc(),
-        GuardedStore::new(guard, ledger),
-        GuardedSet::new(guard, pages),
-        &mut StreamInput::new(reader),
-        &mut output,
-        &mut Output::new(GuardedLines::new(guard, ErrorWriter::new(rt))),
-        &mut RefusedImages::new(rt, guard),
-        command,
-    );
-    let status = finish(rt, output, ended.status);
-    if status != 0 {
-        name_faulty_files(rt, place, command);
-    }
-    Ok(status)
-}
-
-// Whether a `ledger`, a `give` or a `take` ends before its save, and what comes of it then.
-fn moves_nothing<R: AllocGlobal + Files>(
-    rt: &R,
-    place: &Workplace,
-    command: Command,
-) -> Result<Option<Rehearsal>, WorkplaceFault> {
-    match command {
-        Command::Ledger { .. } | Command::Give { .. } | Command::Take { .. } => {
-            let ledger = FileStore::new(rt.alloc(), rt, place.file.clone()?);
-            let rehearsal = before_a_save(rt.alloc(), ledger, command);
-            if rehearsal.goes_on {
-                return Ok(None);
-            }
-            Ok(Some(rehearsal))
-        }
-        _ => Ok(None),
-    }
-}
-
-// Does a command on files, which are looked at only now.
-fn run_on_files<
-    R: AllocGlobal + Eprint + Files<File = File> + Clone,
-    I: Read + Drop,
-    W: Write + Drop,
->(rt: &R, reader: I, writer: W, command: Command) -> Result<u8, WorkplaceFault> {
-    let place = Workplace::of(rt, command)?;
-    if place.is_empty(rt, command) {
-        let status = run_over_nothing(rt, reader, writer, command);
-        name_missing_desk(rt, command);
-        return Ok(status);
-    }
-    if let Some(rehearsal) = moves_nothing(rt, &place, command)? {
-        let status = say(rt, writer, &rehearsal);
-        name_faulty_files(rt, &place, command);
-        return Ok(status);
-    }
-    let guard = Guard::new(rt, place.lock(rt, command)?);
-    run_at(rt, &place, &guard, reader, writer, command)
-}
-
-// Does a command over the program's input, files and standard error, and a writer. What can be said without a file is
-// said first, and then its input is read again from what was kept of it.
+// Does a command over the program's input, files and standard error, and a writer.
 fn run_to<R: AllocGlobal + Input + Print + Eprint + Files<File = File> + Clone, W: Write + Drop>(
     rt: &R,
     writer: W,
     command: Command,
 ) -> u8 {
-    let Ok(reader) = BufReader::new(rt.alloc(), rt.reader()) else {
-        return refuse_command(rt, command, "Memory");
-    };
-    if let Work::Nothing = work_of(command) {
-        return run_over_nothing(rt, reader, writer, command);
-    }
-    let mut input = StreamInput::new(Recorder::new(rt.alloc(), reader));
-    let rehearsal = before_files(rt.alloc(), &mut input, command);
-    if !rehearsal.goes_on {
-        return say(rt, writer, &rehearsal);
-    }
-    match run_on_files(rt, input.into_reader().replay(), writer, command) {
-        Ok(status) => status,
-        Err(fault) => {
-            let status = refuse_command(rt, command, fault.name());
-            if let WorkplaceFault::Device = fault {
-                name_odd_place(rt, command);
-            }
-            status
-        }
+    match BufReader::new(rt.alloc(), rt.reader()) {
+        Ok(reader) => take_steps(&mut SystemSteps::new(rt, command, reader, writer), command),
+        Err(_) => refuse_command(rt, command, "Memory"),
     }
 }
 
@@ -232,7 +75,7 @@ fn own_words<R: AllocGlobal + Env>(rt: &R) -> io::Result<Vec<String>> {
 }
 
 // Says why the program's own words can't be had, and answers the exit status.
-fn show_word_fault<R: Eprint>(rt: &R, error: &io::Error) -> u8 {
+fn show_word_fault<R: Print + Eprint>(rt: &R, error: &io::Error) -> u8 {
     match error.kind() {
         ErrorKind::OutOfMemory => refuse_on_errors(rt, "Memory"),
         ErrorKind::InvalidData => {

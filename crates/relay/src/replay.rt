@@ -6,50 +6,47 @@ use std::alloc::Global;
 use std::io;
 use std::io::Read;
 
-/// A reader that keeps what it has given.
-#[derive(Drop)]
-pub(crate) struct Recorder<R> {
-    reader: R,
-    bytes: Vec<u8>,
-    has_ended: bool,
+// What a reader does with what it gives.
+#[derive(Clone, Copy)]
+enum Mode {
+    // It keeps none of it.
+    Passes,
+    // It keeps all of it.
+    Keeps,
+    // It gives what it has kept again, of which it has given so many bytes, and then what is left.
+    Repeats { given: usize },
 }
 
-impl<R> Recorder<R> {
-    /// The reader, of which nothing was read.
-    pub(crate) fn new(alloc: Global, reader: R) -> Recorder<R> {
-        Recorder {
-            reader,
-            bytes: Vec::new(alloc),
-            has_ended: false,
-        }
-    }
-
-    /// The same bytes again, and then what the reader has left. An end that was met once is not asked for again,
-    /// since a terminal would wait for more.
-    pub(crate) fn replay(self) -> Replay<R> {
-        Replay {
-            recorded: self,
-            given: 0,
-        }
-    }
-}
-
-impl<R: Read> Read for Recorder<R> {
-    fn read(&mut self, buf: &mut [u8]) -> io::Result<usize> {
-        let count = self.reader.read(buf)?;
-        if count == 0 {
-            self.has_ended = true;
-        }
-        self.bytes.extend_from_slice(&buf[..count])?;
-        Ok(count)
-    }
-}
-
-/// What a recorder has kept, and then the rest of its reader.
+/// A reader that can keep what it gives, and give it again.
 #[derive(Drop)]
 pub(crate) struct Replay<R> {
-    recorded: Recorder<R>,
-    given: usize,
+    reader: R,
+    kept: Vec<u8>,
+    has_ended: bool,
+    mode: Mode,
+}
+
+impl<R> Replay<R> {
+    /// The reader, which keeps nothing.
+    pub(crate) fn new(alloc: Global, reader: R) -> Replay<R> {
+        Replay {
+            reader,
+            kept: Vec::new(alloc),
+            has_ended: false,
+            mode: Mode::Passes,
+        }
+    }
+
+    /// Keeps what it gives from now on.
+    pub(crate) fn keep(&mut self) {
+        self.mode = Mode::Keeps;
+    }
+
+    /// Gives the same bytes again, and then what the reader has left. An end that was met once is not asked for again,
+    /// since a terminal would wait for more.
+    pub(crate) fn repeat(&mut self) {
+        self.mode = Mode::Repeats { given: 0 };
+    }
 }
 
 // Copies what comes after the first bytes, as much as there is room for, and says how much that is.
@@ -62,13 +59,42 @@ fn copy_after(bytes: &[u8], first: usize, buf: &mut [u8]) -> usize
     count
 }
 
+impl<R: Read> Replay<R> {
+    ghost use Rattle.std.specs.Io.{ReadsAtMost};
+
+    // Reads, and keeps what was read.
+    fn read_and_keep(&mut self, buf: &mut [u8]) -> io::Result<usize>
+        ensures { ReadsAtMost result buf.new }
+    {
+        let count = self.reader.read(buf)?;
+        if count == 0 {
+            self.has_ended = true;
+        }
+        self.kept.extend_from_slice(&buf[..count])?;
+        Ok(count)
+    }
+
+    // Reads what was kept after the bytes that were given again, and then what the reader has left.
+    fn read_again(&mut self, given: usize, buf: &mut [u8]) -> io::Result<usize>
+        ensures { ReadsAtMost result buf.new }
+    {
+        let count = copy_after(self.kept.as_slice(), given, buf);
+        if count == 0 && !self.has_ended {
+            return self.reader.read(buf);
+        }
+        self.mode = Mode::Repeats {
+            given: given.saturating_add(count),
+        };
+        Ok(count)
+    }
+}
+
 impl<R: Read> Read for Replay<R> {
     fn read(&mut self, buf: &mut [u8]) -> io::Result<usize> {
-        let count = copy_after(self.recorded.bytes.as_slice(), self.given, buf);
-        if count == 0 && !self.recorded.has_ended {
-            return self.recorded.reader.read(buf);
+        match self.mode {
+            Mode::Passes => self.reader.read(buf),
+            Mode::Keeps => self.read_and_keep(buf),
+            Mode::Repeats { given } => self.read_again(given, buf),
         }
-        self.given = self.given.saturating_add(count);
-        Ok(count)
     }
 }
