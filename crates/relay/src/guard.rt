@@ -70,7 +70,7 @@ impl<'a, R: Files, S: Store> GuardedStore<'a, R, S> {
 
 impl<R: Files, S: Store> Store for GuardedStore<'_, R, S> {
     ghost use Rattle.dm_store.specs.Saved.{Loads, Replaces};
-    ghost use Rattle.dm_store.specs.Unclaimed.{unclaimed};
+    ghost use Rattle.relay.specs.Unclaimed.{unclaimed};
 
     type Memory = S::Memory;
 
