@@ -11,7 +11,7 @@ Without a command, relay does `words` with its defaults. `relay COMMAND --help`
 says more of each.
 
 Exit status: 0 where all was done; 1 where something was refused, which a line
-`refused NAME` says; 2 where the command line was refused. docs/REFUSALS.md lists
+`refused NAME` says; 2 where the command line was refused. docs/REFUSALS.md has
 the names.";
 
 pub const WORDS: &str = "\
