@@ -1,4 +1,5 @@
--- The parts of a document: how many there are, that each fits a label, that joined they are the document, and that there
+-- The parts of a document: how many there are, that each fits a label, that joined they are the document, and that
+-- there
 -- is one list of them at most.
 use Rattle.std.specs.Prelude.{slice_range}
 use Rattle.std.specs.List.{concat}
@@ -24,11 +25,13 @@ empty_need Text = refl
 empty_need Base256 = refl
 
 -- An empty part fits.
-empty_fits : (size : Size) (scheme : Scheme) (document : List ℕ) (at : ℕ) → 4 ≤ data_words size → Fits size scheme (slice_range document at at)
+empty_fits : (size : Size) (scheme : Scheme) (document : List ℕ) (at : ℕ) → 4 ≤ data_words size →
+    Fits size scheme (slice_range document at at)
 empty_fits size scheme document at head =
     let zero : at - at ≡ 0 = omega arith in
     let none : slice_range document at at ≡ [] = ap (λ n. take n (drop at document)) zero in
-    subst (λ (bytes : List ℕ). Fits size scheme bytes) (sym none) (record { head = head; text = let e = empty_need scheme in omega arith })
+    subst (λ (bytes : List ℕ). Fits size scheme bytes) (sym none)
+    (record { head = head; text = let e = empty_need scheme in omega arith })
 
 -- Parts that are not empty fit.
 full_fit : (size : Size) (scheme : Scheme) (document : List ℕ) (from : ℕ) (full : List ℕ) → 4 ≤ data_words size →
@@ -37,24 +40,34 @@ full_fit size scheme document from [] head parts = tt
 full_fit size scheme document from (end ∷ ends) head parts =
     let rises : from < end = parts.0 in
     let within : end - from ≤ length (drop from document) = parts.1.within in
-    let len : length (drop from document) ≡ length document - from = length-drop from document in
-    (omega arith, omega arith, record { head = head; text = parts.1.fits }, full_fit size scheme document end ends head parts.2)
+    let len : length (drop from document) ≡ length document - from = length-drop from document in (
+      omega arith,
+      omega arith,
+      record { head = head; text = parts.1.fits },
+      full_fit size scheme document end ends head parts.2,
+    )
 
 -- So do all parts, with the empty ones that make two.
 two_fit : (size : Size) (scheme : Scheme) (document full : List ℕ) → 4 ≤ data_words size →
-    AreFullEnds scheme (data_words size - 4) document 0 full → PartsFit size scheme document 0 (until_two (length document) full)
+    AreFullEnds scheme (data_words size - 4) document 0 full →
+    PartsFit size scheme document 0 (until_two (length document) full)
 two_fit size scheme document [] head parts =
     let none : 0 ≡ length document = parts in
     let first : Fits size scheme (slice_range document 0 (length document)) =
-    subst (λ (k : ℕ). Fits size scheme (slice_range document 0 k)) none (empty_fits size scheme document 0 head) in
-    (omega arith, omega arith, first, (omega arith, omega arith, empty_fits size scheme document (length document) head, tt))
+    subst (λ (k : ℕ). Fits size scheme (slice_range document 0 k)) none (empty_fits size scheme document 0 head) in (
+      omega arith,
+      omega arith,
+      first,
+      (omega arith, omega arith, empty_fits size scheme document (length document) head, tt),
+    )
 two_fit size scheme document (end ∷ []) head parts =
     let fit : PartsFit size scheme document 0 (end ∷ []) = full_fit size scheme document 0 (end ∷ []) head parts in
     let all : end ≡ length document = parts.2 in
     let second : Fits size scheme (slice_range document end (length document)) =
     subst (λ (k : ℕ). Fits size scheme (slice_range document end k)) all (empty_fits size scheme document end head) in
     (fit.0, fit.1, fit.2, (omega arith, omega arith, second, tt))
-two_fit size scheme document (first ∷ second ∷ ends) head parts = full_fit size scheme document 0 (first ∷ second ∷ ends) head parts
+two_fit size scheme document (first ∷ second ∷ ends) head parts = full_fit size scheme document 0
+    (first ∷ second ∷ ends) head parts
 
 -- ---- how many there are
 
@@ -77,13 +90,15 @@ drop_twice a (suc b) (suc c) [] e = drop-nil a
 drop_twice a (suc b) (suc c) (x ∷ l) e = let less : c ≡ b + a = omega arith in drop_twice a b c l less
 
 -- Parts that are not empty are, joined, what remains of the document.
-full_joined : (scheme : Scheme) (room : ℕ) (document : List ℕ) (from : ℕ) (ends : List ℕ) → AreFullEnds scheme room document from ends
+full_joined : (scheme : Scheme) (room : ℕ) (document : List ℕ) (from : ℕ) (ends : List ℕ) →
+    AreFullEnds scheme room document from ends
     → concat (parts_from document from ends) ≡ drop from document
 full_joined scheme room document from [] p = sym (ap (λ n. drop n document) p ∙ drop-length document)
 full_joined scheme room document from (end ∷ ends) p =
     let first : from < end = p.0 in
     let sum : end ≡ from + (end - from) = omega arith in
-    let rest : drop end document ≡ drop (end - from) (drop from document) = sym (drop_twice (end - from) from end document sum) in
+    let rest : drop end document ≡ drop (end - from) (drop from document) =
+    sym (drop_twice (end - from) from end document sum) in
     ap (λ l. take (end - from) (drop from document) ++ l) (full_joined scheme room document end ends p.2 ∙ rest)
     ∙ take-append-drop (end - from) (drop from document)
 
@@ -115,8 +130,10 @@ each_cut_is size scheme document ends h =
 
 -- ---- there is one list
 
-one_greatest : (scheme : Scheme) (room : ℕ) (bytes : List ℕ) (j k : ℕ) → IsGreatestPrefix scheme room bytes j → IsGreatestPrefix scheme room bytes k → j ≡ k
-one_greatest scheme room bytes j k a b = let up = b.greatest j a.within a.fits in let down = a.greatest k b.within b.fits in omega arith
+one_greatest : (scheme : Scheme) (room : ℕ) (bytes : List ℕ) (j k : ℕ) → IsGreatestPrefix scheme room bytes j →
+    IsGreatestPrefix scheme room bytes k → j ≡ k
+one_greatest scheme room bytes j k a b = let up = b.greatest j a.within a.fits in
+    let down = a.greatest k b.within b.fits in omega arith
 
 -- Nothing is left to cut where the document has ended.
 nothing_left : (scheme : Scheme) (room : ℕ) (document : List ℕ) (from end : ℕ) (ends : List ℕ) → from ≡ length document
@@ -137,7 +154,8 @@ one_full scheme room document from (end ∷ ends) (last ∷ others) p q =
     let first : from < end = p.0 in
     let second : from < last = q.0 in
     let is : end ≡ last = omega arith in
-    let rest : AreFullEnds scheme room document last ends = subst (λ (k : ℕ). AreFullEnds scheme room document k ends) is p.2 in
+    let rest : AreFullEnds scheme room document last ends =
+    subst (λ (k : ℕ). AreFullEnds scheme room document k ends) is p.2 in
     ap (λ k. k ∷ ends) is ∙ ap (λ l. last ∷ l) (one_full scheme room document last ends others rest q.2)
 
 -- A document has one list of ends.

@@ -1,4 +1,5 @@
--- What a grid opens as, from its corrected symbol and the symbol's page; a grid near a label opens as that label's page.
+-- What a grid opens as, from its corrected symbol and the symbol's page; a grid near a label opens as that label's
+-- page.
 use Rattle.std.proofs.Common.{◌≡◌, ℕ, ◌+◌, ◌-◌, ◌*◌, ◌/◌, ◌%◌, ◌≤◌, List, [], ◌∷◌, Result, Ok, Err, take, drop, length, get_or, sym, ap, subst, ◌∙◌, arith, eq-eqb, le-ltb}
 use Rattle.dm_check_blocks.specs.declared.size.Size.{Size}
 use Rattle.dm_check_blocks.specs.Blocks.{IsSymbol}
@@ -22,14 +23,16 @@ use Rattle.dm_append_label.specs.declared.opening.Opened.{Opened}
 
 -- ---- heads
 
-head_by_parts : (h : HeadView) (m n id : ℕ) → m ≡ h.m → n ≡ h.n → id ≡ h.id → let q : HeadView = record { m = m; n = n; id = id } in q ≡ h
+head_by_parts : (h : HeadView) (m n id : ℕ) → m ≡ h.m → n ≡ h.n → id ≡ h.id →
+    let q : HeadView = record { m = m; n = n; id = id } in q ≡ h
 head_by_parts h m n id a b c =
     ap (λ (x : ℕ). let q : HeadView = record { m = x; n = n; id = id } in q) a
     ∙ ap (λ (x : ℕ). let q : HeadView = record { m = h.m; n = x; id = id } in q) b
     ∙ ap (λ (x : ℕ). let q : HeadView = record { m = h.m; n = h.n; id = x } in q) c
 
 -- The words of a head spell that head.
-spelled : (h : HeadView) (i a b : ℕ) → IsHead h → i ≡ 16 * (h.m - 1) + (17 - h.n) → a ≡ h.id / 254 + 1 → b ≡ h.id % 254 + 1 → head_from i a b ≡ Ok h
+spelled : (h : HeadView) (i a b : ℕ) → IsHead h → i ≡ 16 * (h.m - 1) + (17 - h.n) → a ≡ h.id / 254 + 1 →
+    b ≡ h.id % 254 + 1 → head_from i a b ≡ Ok h
 spelled h i a b is ei ea eb =
     let fits = is.id_fits in let least = is.least in let most = is.most in let first = is.first in let last = is.last in
     let low : i % 16 ≡ 17 - h.n = omega arith in
@@ -58,7 +61,8 @@ at_head h (w ∷ []) is e = absurd (omega (arith, ap length e))
 at_head h (w ∷ i ∷ []) is e = absurd (omega (arith, ap length e))
 at_head h (w ∷ i ∷ a ∷ []) is e = absurd (omega (arith, ap length e))
 at_head h (w ∷ i ∷ a ∷ b ∷ rest) is e =
-    let at : (k : ℕ) → get_or (w ∷ i ∷ a ∷ b ∷ []) k 0 ≡ get_or (head_words h) k 0 = λ k. ap (λ (x : List ℕ). get_or x k 0) e in
+    let at : (k : ℕ) → get_or (w ∷ i ∷ a ∷ b ∷ []) k 0 ≡ get_or (head_words h) k 0 =
+    λ k. ap (λ (x : List ℕ). get_or x k 0) e in
     rw (eq-eqb w 233 (at 0)) (spelled h i a b is (at 1) (at 2) (at 3))
 
 -- ---- a label of the size of a grid near it
@@ -74,14 +78,23 @@ record CarriesAt (size : Size) (page : PageView) (label : GridView) : Type 0 whe
 at_size : (s : Size) (page : PageView) (label : GridView) → Carries page label → s ≡ label.size → CarriesAt s page label
 at_size s page label c e =
     let here : CarriesAt label.size page label =
-    record { words = c.words; symbol = c.symbol; drawn = c.drawn; is_head = c.is_head; begins = c.begins; reads = c.reads } in
+    record {
+      words = c.words;
+      symbol = c.symbol;
+      drawn = c.drawn;
+      is_head = c.is_head;
+      begins = c.begins;
+      reads = c.reads;
+    } in
     subst (λ (x : Size). CarriesAt x page label) (sym e) here
 
 -- what a call says of a grid near that of a symbol
 abbrev pub GivesNear : GridView → Result CorrectedView SymbolFault → Type 0
-GivesNear grid result = (words : List ℕ) → IsSymbol grid.size words → IsNear grid (grid_of_words grid.size words) → CorrectsNear words result
+GivesNear grid result = (words : List ℕ) → IsSymbol grid.size words → IsNear grid (grid_of_words grid.size words) →
+    CorrectsNear words result
 
-gives : (grid label : GridView) (page : PageView) (result : Result CorrectedView SymbolFault) → GivesNear grid result → Carries page label
+gives : (grid label : GridView) (page : PageView) (result : Result CorrectedView SymbolFault) → GivesNear grid result →
+    Carries page label
     → (near : IsNear grid label) → (c : CarriesAt grid.size page label) × CorrectsNear c.words result
 gives grid label page result give carries near =
     let c = at_size grid.size page label carries near.same_size in
@@ -110,32 +123,38 @@ not_both r h fault a b = subst IsOkHead (sym a ∙ b) tt
 one_page : (words : List ℕ) (one other : PageView) → IsPageOf words one → IsPageOf words other → one ≡ other
 one_page words one other p q =
     let same : head_of one ≡ head_of other = ap (head_or (head_of other)) (sym p.head ∙ q.head) in
-    page_by_parts one other (ap (λ (h : HeadView). h.id) same) (ap (λ (h : HeadView). h.m) same) (ap (λ (h : HeadView). h.n) same)
+    page_by_parts one other (ap (λ (h : HeadView). h.id) same) (ap (λ (h : HeadView). h.m) same)
+    (ap (λ (h : HeadView). h.n) same)
     (q.reads.only one.bytes p.reads.reads)
 
 -- the page of the words of a label
-page_there : (grid label : GridView) (page : PageView) (symbol : CorrectedView) (c : CarriesAt grid.size page label) → symbol.size ≡ grid.size
+page_there : (grid label : GridView) (page : PageView) (symbol : CorrectedView) (c : CarriesAt grid.size page label) →
+    symbol.size ≡ grid.size
     → symbol.words ≡ c.words → IsPageOf (data_of symbol.size symbol.words) page
 page_there grid label page symbol c size words =
     let here : IsPageOf (data_of grid.size c.words) page =
     record { head = at_head (head_of page) (data_of grid.size c.words) c.is_head c.begins; reads = c.reads } in
-    let same : data_of symbol.size symbol.words ≡ data_of grid.size c.words = ap (λ (s : Size). data_of s symbol.words) size ∙ ap (data_of grid.size) words in
+    let same : data_of symbol.size symbol.words ≡ data_of grid.size c.words =
+    ap (λ (s : Size). data_of s symbol.words) size ∙ ap (data_of grid.size) words in
     subst (λ (d : List ℕ). IsPageOf d page) (sym same) here
 
 -- the data words of a symbol that was read from a grid
-data_there : (grid : GridView) (symbol : CorrectedView) → symbol.size ≡ grid.size → data_of symbol.size symbol.words ≡ data_of grid.size symbol.words
+data_there : (grid : GridView) (symbol : CorrectedView) → symbol.size ≡ grid.size →
+    data_of symbol.size symbol.words ≡ data_of grid.size symbol.words
 data_there grid symbol size = ap (λ (s : Size). data_of s symbol.words) size
 
 -- ---- the three ends of an opening
 
 -- No symbol is near the grid, or its finder patterns are bad, or memory was refused.
-pub no_symbol : {A : Type 0} (grid : GridView) (fault : SymbolFault) → CorrectsGrid grid (Err fault) → GivesNear grid (Err fault)
+pub no_symbol : {A : Type 0} (grid : GridView) (fault : SymbolFault) → CorrectsGrid grid (Err fault) →
+    GivesNear grid (Err fault)
     → LabelOpens {A = A} grid (Err (symbol_fault fault))
 no_symbol {A} grid fault corrects give =
     record {
       opens = opens fault corrects;
       near = λ label page carries near.
-          let near_words = gives grid label page (Err fault) give carries near in nothing page near_words.0.words fault near_words.1;
+          let near_words = gives grid label page (Err fault) give carries near in
+          nothing page near_words.0.words fault near_words.1;
       short = tt;
     }
   where
@@ -144,13 +163,15 @@ no_symbol {A} grid fault corrects give =
     opens (symbol_faults.Block block) h = h
     opens symbol_faults.Memory h = h
 
-    nothing : (page : PageView) (words : List ℕ) (f : SymbolFault) → CorrectsNear words (Err f) → OpensNear {A = A} page (Err (symbol_fault f))
+    nothing : (page : PageView) (words : List ℕ) (f : SymbolFault) → CorrectsNear words (Err f) →
+        OpensNear {A = A} page (Err (symbol_fault f))
     nothing page words (symbol_faults.Border wrong) h = tt
     nothing page words (symbol_faults.Block block) h = h
     nothing page words symbol_faults.Memory h = tt
 
 -- The symbol has no page.
-pub no_page : {A : Type 0} (grid : GridView) (symbol : CorrectedView) (fault : PageFault) → IsCorrectedAs grid symbol → GivesNear grid (Ok symbol)
+pub no_page : {A : Type 0} (grid : GridView) (symbol : CorrectedView) (fault : PageFault) → IsCorrectedAs grid symbol →
+    GivesNear grid (Ok symbol)
     → ReadsPage (data_of symbol.size symbol.words) (Err fault) → LabelOpens {A = A} grid (Err (page_fault fault))
 no_page {A} grid symbol fault is give reads = record {
   opens = opens fault (subst (λ (d : List ℕ). ReadsPage d (Err fault)) (data_there grid symbol is.same_size) reads);
@@ -160,7 +181,8 @@ no_page {A} grid symbol fault is give reads = record {
   short = tt;
 }
   where
-    opens : (f : PageFault) → ReadsPage (data_of grid.size symbol.words) (Err f) → Opens {A = A} grid (Err (page_fault f))
+    opens : (f : PageFault) → ReadsPage (data_of grid.size symbol.words) (Err f) →
+        Opens {A = A} grid (Err (page_fault f))
     opens (page_faults.Head head_faults.NotAppended) h = (symbol.words, is.read, h)
     opens (page_faults.Head (head_faults.Sequence word)) h = (symbol.words, is.read, h)
     opens (page_faults.Head head_faults.FileId) h = (symbol.words, is.read, h)
@@ -170,17 +192,23 @@ no_page {A} grid symbol fault is give reads = record {
     headless : (words : List ℕ) (page : PageView) (f : HeadFault) → IsPageOf words page → head_at words ≡ Err f → ⊥
     headless words page f p h = not_both (head_at words) (head_of page) f p.head h
 
-    nothing : (page : PageView) (f : PageFault) → IsPageOf (data_of symbol.size symbol.words) page → ReadsPage (data_of symbol.size symbol.words) (Err f)
+    nothing : (page : PageView) (f : PageFault) → IsPageOf (data_of symbol.size symbol.words) page →
+        ReadsPage (data_of symbol.size symbol.words) (Err f)
         → OpensNear {A = A} page (Err (page_fault f))
-    nothing page (page_faults.Head head_faults.NotAppended) p h = headless (data_of symbol.size symbol.words) page head_faults.NotAppended p h
-    nothing page (page_faults.Head (head_faults.Sequence word)) p h = headless (data_of symbol.size symbol.words) page (head_faults.Sequence word) p h
-    nothing page (page_faults.Head head_faults.FileId) p h = headless (data_of symbol.size symbol.words) page head_faults.FileId p h
+    nothing page (page_faults.Head head_faults.NotAppended) p h =
+        headless (data_of symbol.size symbol.words) page head_faults.NotAppended p h
+    nothing page (page_faults.Head (head_faults.Sequence word)) p h = headless (data_of symbol.size symbol.words) page
+        (head_faults.Sequence word) p h
+    nothing page (page_faults.Head head_faults.FileId) p h =
+        headless (data_of symbol.size symbol.words) page head_faults.FileId p h
     nothing page (page_faults.Content f) p h = let stuck = h.stuck in stuck.unread page.bytes p.reads.reads
     nothing page page_faults.Memory p h = tt
 
 -- The symbol has a page.
-pub one_page_opens : {A : Type 0} (grid : GridView) (symbol : CorrectedView) (opened : Opened A) → IsCorrectedAs grid symbol → GivesNear grid (Ok symbol)
-    → IsPageOf (data_of symbol.size symbol.words) opened.page → opened.corrected ≡ symbol.corrected → opened.wrong ≡ symbol.wrong
+pub one_page_opens : {A : Type 0} (grid : GridView) (symbol : CorrectedView) (opened : Opened A) →
+    IsCorrectedAs grid symbol → GivesNear grid (Ok symbol)
+    → IsPageOf (data_of symbol.size symbol.words) opened.page → opened.corrected ≡ symbol.corrected →
+    opened.wrong ≡ symbol.wrong
     → length opened.page.bytes ≤ MOST_PAGE_BYTES → LabelOpens grid (Ok opened)
 one_page_opens grid symbol opened is give page corrected wrong short = record {
   opens = record {
@@ -192,6 +220,7 @@ one_page_opens grid symbol opened is give page corrected wrong short = record {
   };
   near = λ label other carries near.
       let near_words = gives grid label other (Ok symbol) give carries near in
-      one_page (data_of symbol.size symbol.words) opened.page other page (page_there grid label other symbol near_words.0 is.same_size near_words.1);
+      one_page (data_of symbol.size symbol.words) opened.page other page
+      (page_there grid label other symbol near_words.0 is.same_size near_words.1);
   short = short;
 }

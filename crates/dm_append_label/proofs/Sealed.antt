@@ -19,12 +19,14 @@ same_head page m n id a b c =
     ∙ ap (λ (x : ℕ). let h : HeadView = record { m = page.m; n = page.n; id = x } in h) c
 
 -- The grid drawn of a page's data words is the page's label.
-pub sealed : (size : Size) (scheme : Scheme) (page : PageView) (words : List ℕ) (grid : GridView) → IsDataOf size scheme page words
+pub sealed : (size : Size) (scheme : Scheme) (page : PageView) (words : List ℕ) (grid : GridView) →
+    IsDataOf size scheme page words
     → DrawsSymbol size words grid → Seals size scheme page grid
 sealed size scheme page words grid data' drawn = subst (λ (x : List ℕ). DrawsSymbol size x grid) data'.filled_is drawn
 
 -- It carries the page.
-pub carries : (size : Size) (scheme : Scheme) (page : PageView) (words : List ℕ) (grid : GridView) → IsDataOf size scheme page words
+pub carries : (size : Size) (scheme : Scheme) (page : PageView) (words : List ℕ) (grid : GridView) →
+    IsDataOf size scheme page words
     → DrawsSymbol size words grid → Carries page grid
 carries size scheme page words grid data' drawn =
     let begins : data_of size drawn.words ≡ words = drawn.completed.begins in

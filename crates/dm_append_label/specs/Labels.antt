@@ -23,7 +23,8 @@ pub record Carries (page : PageView) (grid : GridView) : Type 0 where
 
 -- the grid of the one symbol whose data words are the page's head, the text of its bytes in an encodation, and pads
 abbrev pub Seals : Size → Scheme → PageView → GridView → Type 0
-Seals size scheme page grid = DrawsSymbol size (filled scheme (head_words (head_of page)) page.bytes (data_words size)) grid
+Seals size scheme page grid = DrawsSymbol size
+    (filled scheme (head_words (head_of page)) page.bytes (data_words size)) grid
 
 -- a label of this size has room for these bytes after its head
 pub record Fits (size : Size) (scheme : Scheme) (bytes : List ℕ) : Type 0 where

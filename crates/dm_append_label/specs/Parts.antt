@@ -8,11 +8,13 @@ use Rattle.dm_encodation.specs.declared.scheme.Scheme.{Scheme}
 use Rattle.dm_encodation.specs.Written.{IsGreatestPrefix}
 use Rattle.dm_append_label.specs.Labels.{Fits}
 
--- From the byte `from` on, the parts end there: each is the greatest prefix of what remains that fits, and none is empty.
+-- From the byte `from` on, the parts end there: each is the greatest prefix of what remains that fits, and none is
+-- empty.
 abbrev pub AreFullEnds : Scheme → ℕ → List ℕ → ℕ → List ℕ → Type 0
 AreFullEnds scheme room document from [] = from ≡ length document
 AreFullEnds scheme room document from (end ∷ ends) =
-    (from < end) × IsGreatestPrefix scheme room (drop from document) (end - from) × AreFullEnds scheme room document end ends
+    (from < end) × IsGreatestPrefix scheme room (drop from document) (end - from) ×
+    AreFullEnds scheme room document end ends
 
 -- empty parts follow until there are two
 abbrev pub until_two : ℕ → List ℕ → List ℕ
@@ -66,4 +68,5 @@ HasOneCut = (size : Size) (scheme : Scheme) (document one other : List ℕ)
     → AreEnds size scheme document one → AreEnds size scheme document other → one ≡ other
 
 abbrev pub EachCutIs : Type 0
-EachCutIs = (size : Size) (scheme : Scheme) (document ends : List ℕ) → AreEnds size scheme document ends → IsCut size scheme document ends
+EachCutIs = (size : Size) (scheme : Scheme) (document ends : List ℕ) → AreEnds size scheme document ends →
+    IsCut size scheme document ends

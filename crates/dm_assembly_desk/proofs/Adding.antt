@@ -38,26 +38,33 @@ adding_page pages p (Some bytes) h =
       | false ↦ λ x. no_error faults.Conflict x
     ] h
 
-adding_at : (capacity count : ℕ) (p : PageView) (o : Option Pages) → NeedsSave (answer_at capacity count p o) → IfSome o (λ pages. (length pages ≡ p.n) × (page pages p.m ≡ None))
+adding_at : (capacity count : ℕ) (p : PageView) (o : Option Pages) → NeedsSave (answer_at capacity count p o) →
+    IfSome o (λ pages. (length pages ≡ p.n) × (page pages p.m ≡ None))
 adding_at capacity count p None h = tt
 adding_at capacity count p (Some pages) h =
-    elim (eqb (length pages) p.n) as (λ b. eqb (length pages) p.n ≡ b → NeedsSave (cond b (answer_at_page pages p (page pages p.m)) (Err faults.Conflict)) → (length pages ≡ p.n) × (page pages p.m ≡ None)) [
+    elim (eqb (length pages) p.n) as (λ b. eqb (length pages) p.n ≡ b →
+    NeedsSave (cond b (answer_at_page pages p (page pages p.m)) (Err faults.Conflict)) →
+    (length pages ≡ p.n) × (page pages p.m ≡ None)) [
       | true ↦ λ e x. (eqb-true _ _ e, adding_page pages p (page pages p.m) x)
       | false ↦ λ e x. no_error faults.Conflict x
     ] refl h
 
-pub can_be_added : (capacity : ℕ) (held : Documents) (p : PageView) → NeedsSave (answer capacity held p) → CanBeAdded held p
+pub can_be_added : (capacity : ℕ) (held : Documents) (p : PageView) → NeedsSave (answer capacity held p) →
+    CanBeAdded held p
 can_be_added capacity held p h = adding_at capacity (len held) p (get held p.id) h
 
-room_at : (capacity count : ℕ) (p : PageView) (o : Option Pages) → NeedsSave (answer_at capacity count p o) → o ≡ None → count < capacity
+room_at : (capacity count : ℕ) (p : PageView) (o : Option Pages) → NeedsSave (answer_at capacity count p o) → o ≡ None →
+    count < capacity
 room_at capacity count p None h is =
-    elim (ltb count capacity) as (λ b. ltb count capacity ≡ b → NeedsSave (cond b (Ok New) (Err faults.Full)) → count < capacity) [
+    elim (ltb count capacity) as (λ b. ltb count capacity ≡ b → NeedsSave (cond b (Ok New) (Err faults.Full)) →
+    count < capacity) [
       | true ↦ λ e x. ltb-true _ _ e
       | false ↦ λ e x. no_error faults.Full x
     ] refl h
 room_at capacity count p (Some pages) h is = absurd cc
 
-pub room_for : (capacity : ℕ) (held : Documents) (p : PageView) → NeedsSave (answer capacity held p) → get held p.id ≡ None → len held < capacity
+pub room_for : (capacity : ℕ) (held : Documents) (p : PageView) → NeedsSave (answer capacity held p) →
+    get held p.id ≡ None → len held < capacity
 room_for capacity held p h is = room_at capacity (len held) p (get held p.id) h is
 
 -- ---- what a page brings
@@ -76,7 +83,8 @@ length-set_at [] i o = refl
 length-set_at (p ∷ ps) zero o = refl
 length-set_at (p ∷ ps) (suc i) o = ap suc (length-set_at ps i o)
 
-short_set : (ps : Pages) (i : ℕ) (o : Option (List ℕ)) → IsShort o → AllByRecursion IsShort ps → AllByRecursion IsShort (slice_set ps i o)
+short_set : (ps : Pages) (i : ℕ) (o : Option (List ℕ)) → IsShort o → AllByRecursion IsShort ps →
+    AllByRecursion IsShort (slice_set ps i o)
 short_set [] i o h all = tt
 short_set (p ∷ ps) zero o h all = (h, all.1)
 short_set (p ∷ ps) (suc i) o h all = (all.0, short_set ps i o h all.1)
@@ -99,14 +107,17 @@ record AreReady (p : PageView) (pages : Pages) : Type 0 where
   count : length pages ≡ p.n
   short : AllByRecursion IsShort pages
 
-ready_at : (held : Documents) (p : PageView) (o : Option Pages) → get held p.id ≡ o → AreEntries held → IfSome o (λ pages. (length pages ≡ p.n) × (page pages p.m ≡ None)) → AreReady p (unwrap_or o (replicate p.n None))
+ready_at : (held : Documents) (p : PageView) (o : Option Pages) → get held p.id ≡ o → AreEntries held →
+    IfSome o (λ pages. (length pages ≡ p.n) × (page pages p.m ≡ None)) → AreReady p (unwrap_or o (replicate p.n None))
 ready_at held p None is sound h = record { count = length-blank p.n; short = short_blank p.n }
 ready_at held p (Some pages) is sound h = record { count = h.0; short = (sound p.id pages is).short }
 
-ready : (held : Documents) (p : PageView) → AreEntries held → CanBeAdded held p → AreReady p (unwrap_or (get held p.id) (replicate p.n None))
+ready : (held : Documents) (p : PageView) → AreEntries held → CanBeAdded held p →
+    AreReady p (unwrap_or (get held p.id) (replicate p.n None))
 ready held p sound h = ready_at held p (get held p.id) refl sound h
 
-pub entry_with : (held : Documents) (p : PageView) → IsPage p → AreEntries held → CanBeAdded held p → IsEntry p.id (pages_with held p)
+pub entry_with : (held : Documents) (p : PageView) → IsPage p → AreEntries held → CanBeAdded held p →
+    IsEntry p.id (pages_with held p)
 entry_with held p q sound h =
     let r = ready held p sound h in
     let before : Pages = unwrap_or (get held p.id) (replicate p.n None) in
@@ -119,14 +130,17 @@ entry_with held p q sound h =
       short = short_set before (p.m - 1) (Some p.bytes) q.short r.short;
     }
 
-pub entries_with : (held : Documents) (p : PageView) → IsPage p → AreEntries held → CanBeAdded held p → AreEntries (with_page held p)
+pub entries_with : (held : Documents) (p : PageView) → IsPage p → AreEntries held → CanBeAdded held p →
+    AreEntries (with_page held p)
 entries_with held p q sound h = entries_insert held p.id (pages_with held p) sound (entry_with held p q sound h)
 
-pub more_at : (o : Option Pages) (n capacity : ℕ) → n ≤ capacity → (o ≡ None → n < capacity) → cond (is_some o) n (n + 1) ≤ capacity
+pub more_at : (o : Option Pages) (n capacity : ℕ) → n ≤ capacity → (o ≡ None → n < capacity) →
+    cond (is_some o) n (n + 1) ≤ capacity
 more_at None n capacity le h = omega (arith, h refl)
 more_at (Some pages) n capacity le h = le
 
-pub few_with : (held : Documents) (p : PageView) (capacity : ℕ) → len held ≤ capacity → (get held p.id ≡ None → len held < capacity) → len (with_page held p) ≤ capacity
+pub few_with : (held : Documents) (p : PageView) (capacity : ℕ) → len held ≤ capacity →
+    (get held p.id ≡ None → len held < capacity) → len (with_page held p) ≤ capacity
 few_with held p capacity le h =
     let is = len-insert nat_cmp_total held p.id (pages_with held p) in
     rw is (more_at (get held p.id) (len held) capacity le h)
@@ -151,13 +165,15 @@ twice false x y z = refl
 
 pub undo_first : (held : Documents) (id : ℕ) (w : Pages) → get held id ≡ None → remove (insert held id w) id ≡ held
 undo_first held id w none = same _ _ (λ q.
-    get-remove nat_cmp_total (insert held id w) id q ∙ ap (cond (eq_by_cmp nat_cmp q id) None) (get-insert nat_cmp_total held id w q)
+    get-remove nat_cmp_total (insert held id w) id q ∙
+    ap (cond (eq_by_cmp nat_cmp q id) None) (get-insert nat_cmp_total held id w q)
     ∙ twice (eq_by_cmp nat_cmp q id) None (Some w) (get held q)
     ∙ cond_same (eq_by_cmp nat_cmp q id) None (get held q) (λ e. ap (get held) (same_key q id e) ∙ none))
 
 undo_insert : (held : Documents) (id : ℕ) (w v : Pages) → get held id ≡ Some v → insert (insert held id w) id v ≡ held
 undo_insert held id w v is = same _ _ (λ q.
-    get-insert nat_cmp_total (insert held id w) id v q ∙ ap (cond (eq_by_cmp nat_cmp q id) (Some v)) (get-insert nat_cmp_total held id w q)
+    get-insert nat_cmp_total (insert held id w) id v q ∙
+    ap (cond (eq_by_cmp nat_cmp q id) (Some v)) (get-insert nat_cmp_total held id w q)
     ∙ twice (eq_by_cmp nat_cmp q id) (Some v) (Some w) (get held q)
     ∙ cond_same (eq_by_cmp nat_cmp q id) (Some v) (get held q) (λ e. ap (get held) (same_key q id e) ∙ is))
 
@@ -168,11 +184,14 @@ not_at : (pages : Pages) (m : ℕ) → 1 ≤ m → page pages m ≡ None → get
 not_at pages zero one none = absurd (omega arith)
 not_at pages (suc i) one none = let e : suc i - 1 ≡ i = omega arith in rw e none
 
-pub undo_held : (held : Documents) (p : PageView) (pages : Pages) → get held p.id ≡ Some pages → 1 ≤ p.m → page pages p.m ≡ None
+pub undo_held : (held : Documents) (p : PageView) (pages : Pages) → get held p.id ≡ Some pages → 1 ≤ p.m →
+    page pages p.m ≡ None
     → insert (with_page held p) p.id (slice_set (unwrap_or (get (with_page held p) p.id) []) (p.m - 1) None) ≡ held
 undo_held held p pages is one none =
-    let w : pages_with held p ≡ slice_set pages (p.m - 1) (Some p.bytes) = ap (λ (o : Option Pages). slice_set (unwrap_or o (replicate p.n None)) (p.m - 1) (Some p.bytes)) is in
-    let now : unwrap_or (get (with_page held p) p.id) [] ≡ pages_with held p = ap (λ (o : Option Pages). unwrap_or o []) (get_here held p.id (pages_with held p)) in
+    let w : pages_with held p ≡ slice_set pages (p.m - 1) (Some p.bytes) =
+    ap (λ (o : Option Pages). slice_set (unwrap_or o (replicate p.n None)) (p.m - 1) (Some p.bytes)) is in
+    let now : unwrap_or (get (with_page held p) p.id) [] ≡ pages_with held p = ap (λ (o : Option Pages). unwrap_or o [])
+    (get_here held p.id (pages_with held p)) in
     let back : slice_set (unwrap_or (get (with_page held p) p.id) []) (p.m - 1) None ≡ pages =
     ap (λ (ps : Pages). slice_set ps (p.m - 1) None) (now ∙ w) ∙ set_twice pages (p.m - 1) (Some p.bytes) None
     ∙ ap (slice_set pages (p.m - 1)) (sym (not_at pages p.m one none)) ∙ set-get_or pages (p.m - 1) None in

@@ -23,23 +23,28 @@ pub key_is : (key : ℕ) (bytes : List ℕ) (pages : Pages) → Spells key bytes
 key_is key bytes pages h = ap key_at h.spelled ∙ key_of_file key pages h.sound
 
 -- bytes that are no file under the key that they name are none under any key
-pub no_file_at_all : (bytes : List ℕ) (key : ℕ) (fault : FileFault) → key ≡ key_at bytes → HasFileFault key bytes fault → HasNoFile bytes fault
+pub no_file_at_all : (bytes : List ℕ) (key : ℕ) (fault : FileFault) → key ≡ key_at bytes →
+    HasFileFault key bytes fault → HasNoFile bytes fault
 no_file_at_all bytes key NotPages named h = h
 no_file_at_all bytes key Version named h = h
-no_file_at_all bytes key Damaged named h = (h.0, h.1, λ other f. h.2 (subst (λ (k : ℕ). IsFile k bytes) (sym (named ∙ key_is other bytes f.0 f.1)) f))
+no_file_at_all bytes key Damaged named h =
+    (h.0, h.1, λ other f. h.2 (subst (λ (k : ℕ). IsFile k bytes) (sym (named ∙ key_is other bytes f.0 f.1)) f))
 
 -- that bytes are the file of these pages
 abbrev read_as : ℕ → Pages → Result (ℕ × Pages) FileFault
 read_as id pages = Ok (id, pages)
 
 -- bytes are no more than one file
-pub one_spelled : (bytes : List ℕ) (key : ℕ) (pages : Pages) (id : ℕ) (others : Pages) → Spells key bytes pages → Spells id bytes others → read_as key pages ≡ read_as id others
+pub one_spelled : (bytes : List ℕ) (key : ℕ) (pages : Pages) (id : ℕ) (others : Pages) → Spells key bytes pages →
+    Spells id bytes others → read_as key pages ≡ read_as id others
 one_spelled bytes key pages id others h k =
     let same : key ≡ id = sym (key_is key bytes pages h) ∙ key_is id bytes others k in
     let moved : Spells id bytes pages = subst (λ (i : ℕ). Spells i bytes pages) same h in
-    ap (λ (i : ℕ). read_as i pages) same ∙ ap (read_as id) (one_file id pages others moved.sound k.sound (sym moved.spelled ∙ k.spelled))
+    ap (λ (i : ℕ). read_as i pages) same ∙
+    ap (read_as id) (one_file id pages others moved.sound k.sound (sym moved.spelled ∙ k.spelled))
 
-not_faulty : (bytes : List ℕ) (fault : FileFault) (id : ℕ) (pages : Pages) → HasNoFile bytes fault → ¬ Spells id bytes pages
+not_faulty : (bytes : List ℕ) (fault : FileFault) (id : ℕ) (pages : Pages) → HasNoFile bytes fault →
+    ¬ Spells id bytes pages
 not_faulty bytes NotPages id pages h k = h (ap (take 4) k.spelled ∙ file_marked id pages)
 not_faulty bytes Version id pages h k = file_not_other id pages (subst IsOfOtherVersion k.spelled h.1)
 not_faulty bytes Damaged id pages h k = h.2 id (pages, k)
@@ -57,7 +62,8 @@ one_fault bytes Damaged Version h k = absurd (h.1 k.1)
 one_fault bytes Damaged Damaged h k = refl
 
 -- an import of bytes that are a file
-pub imports_file : (bytes : List ℕ) (id : ℕ) (pages : Pages) (old : DeskView) (result : Result Imported ImportFault) (new : DeskView) → Spells id bytes pages → ImportsFile id pages old result new → ImportsBytes bytes old result new
+pub imports_file : (bytes : List ℕ) (id : ℕ) (pages : Pages) (old : DeskView) (result : Result Imported ImportFault)
+    (new : DeskView) → Spells id bytes pages → ImportsFile id pages old result new → ImportsBytes bytes old result new
 imports_file bytes id pages old result new h imports = record {
   read = read_as id pages;
   is_read = h;
@@ -70,7 +76,8 @@ imports_file bytes id pages old result new h imports = record {
     imports_of (Err fault) = Unit {0}
 
 -- an import of bytes that are none
-pub imports_nothing : (bytes : List ℕ) (fault : FileFault) (old : DeskView) → HasNoFile bytes fault → ImportsBytes bytes old (Err (import_fault fault)) old
+pub imports_nothing : (bytes : List ℕ) (fault : FileFault) (old : DeskView) → HasNoFile bytes fault →
+    ImportsBytes bytes old (Err (import_fault fault)) old
 imports_nothing bytes fault old h = record {
   read = Err fault;
   is_read = h;

@@ -20,7 +20,8 @@ and_none true = refl
 and_none false = refl
 
 -- what is added_mask are just the pages of the file that aren't held
-pub names_added : (own pages : Pages) (m : ℕ) → names (added_mask own pages) m ≡ (is_none (page own m) && is_some (page pages m))
+pub names_added : (own pages : Pages) (m : ℕ) →
+    names (added_mask own pages) m ≡ (is_none (page own m) && is_some (page pages m))
 names_added own pages zero = refl
 names_added [] pages (suc m) = names_mask pages (suc m)
 names_added (p ∷ ps) [] (suc m) = none_named (suc m) ∙ sym (and_none (is_none (page (p ∷ ps) (suc m))))
@@ -62,33 +63,44 @@ by_all own pages false is some = (some, is)
 kind_says : (own pages : Pages) → added_mask own pages ≢ 0 → KindSays (kind_of (union_of own pages)) own pages
 kind_says own pages some = by_all own pages (list_all is_some (union_of own pages)) refl some
 
--- an answer with a kind: the document is held with as many pages, all of which agree, or it isn't held and there is room
+-- an answer with a kind: the document is held with as many pages, all of which agree, or it isn't held and there is
+-- room
 pub record Answered (capacity count : ℕ) (pages : Pages) (own : Option Pages) (kind : Kind) : Type 0 where
   pub says : KindSays kind (unwrap_or own []) pages
   pub agrees : agree (unwrap_or own []) pages ≡ true
 
-picked : (own pages : Pages) (t z : Bool) (kind : Kind) → (length own == length pages && agree own pages) ≡ t → (added_mask own pages == 0) ≡ z →
+picked : (own pages : Pages) (t z : Bool) (kind : Kind) → (length own == length pages && agree own pages) ≡ t →
+    (added_mask own pages == 0) ≡ z →
     (if t then (if z then Ok Again else Ok (kind_of (union_of own pages))) else Err imports.Conflict) ≡ Ok kind →
     (agree own pages ≡ true) × KindSays kind own pages
 picked own pages true true kind x y is =
-    (let k : Again ≡ kind = cc in
-    ((both (length own == length pages) (agree own pages) x).1, subst (λ (c : Kind). KindSays c own pages) k (grind (arith, nat_tests, y))))
+    (let k : Again ≡ kind = cc in (
+      (both (length own == length pages) (agree own pages) x).1,
+      subst (λ (c : Kind). KindSays c own pages) k
+          (grind (arith, nat_tests, y)),
+    ))
 picked own pages true false kind x y is =
-    (let k : kind_of (union_of own pages) ≡ kind = cc in
-    ((both (length own == length pages) (agree own pages) x).1, subst (λ (c : Kind). KindSays c own pages) k (kind_says own pages (not_zero (added_mask own pages) y))))
+    (let k : kind_of (union_of own pages) ≡ kind = cc in (
+      (both (length own == length pages) (agree own pages) x).1,
+      subst (λ (c : Kind). KindSays c own pages) k
+          (kind_says own pages (not_zero (added_mask own pages) y)),
+    ))
 picked own pages false z kind x y is = cc
 
 pub answered : (capacity count id : ℕ) (pages : Pages) (own : Option Pages) (kind : Kind) → IsEntry id pages →
     answer_by capacity count pages own ≡ Ok kind → Answered capacity count pages own kind
 answered capacity count id pages (Some own) kind entry is =
-    let t = picked own pages (length own == length pages && agree own pages) (added_mask own pages == 0) kind refl refl is in
+    let t = picked own pages (length own == length pages && agree own pages)
+    (added_mask own pages == 0) kind refl refl is in
     record { says = t.1; agrees = t.0 }
 answered capacity count id pages None kind entry is = room (nat_lt count capacity) is
   where
-    room : (b : Bool) → (if b then Ok (kind_of pages) else Err imports.Full) ≡ Ok kind → Answered capacity count pages None kind
+    room : (b : Bool) → (if b then Ok (kind_of pages) else Err imports.Full) ≡ Ok kind →
+        Answered capacity count pages None kind
     room true e = (let k : kind_of pages ≡ kind = cc in
         record {
-          says = subst (λ (x : Kind). KindSays x [] pages) k (kind_says [] pages (let a = entry.some_held in (λ z. omega arith)));
+          says = subst (λ (x : Kind). KindSays x [] pages) k
+              (kind_says [] pages (let a = entry.some_held in (λ z. omega arith)));
           agrees = refl;
         })
     room false e = cc

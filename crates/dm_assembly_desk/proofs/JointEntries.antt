@@ -33,9 +33,13 @@ all_from n m (j ∷ ks) le h = (omega (arith, h.0, le), all_from n m ks le h.1)
 
 rises : (next : ℕ) (e : ℕ × Pages) (es : List (ℕ × Pages)) → next ≤ e.0 → Rising (e.0 + 1) es → Rising next (e ∷ es)
 unfolding IsStrictlySortedBy
-rises next e es le r = record { from = (le, all_from next (e.0 + 1) (keys_of es) (omega arith) r.from); rising = (all_above e.0 (keys_of es) r.from, r.rising) }
+rises next e es le r = record {
+  from = (le, all_from next (e.0 + 1) (keys_of es) (omega arith) r.from);
+  rising = (all_above e.0 (keys_of es) r.from, r.rising);
+}
 
-bind_some : {A B : Type 0} (r : Option A) (f : A → Option B) (y : B) → (r >>= f) ≡ Some y → (x : A) × (r ≡ Some x) × (f x ≡ Some y)
+bind_some : {A B : Type 0} (r : Option A) (f : A → Option B) (y : B) → (r >>= f) ≡ Some y →
+    (x : A) × (r ≡ Some x) × (f x ≡ Some y)
 bind_some (Some x) f y e = (x, refl, e)
 bind_some None f y e = absurd cc
 
@@ -50,21 +54,25 @@ pub record TakesAll (count next : ℕ) (bytes : List ℕ) (es : List (ℕ × Pag
   pub sound : AllByRecursion (λ e. IsEntry e.0 e.1) es
   pub rising : Rising next es
 
-pub entries_take : (count next : ℕ) (bytes : List ℕ) (es : List (ℕ × Pages)) → IsBytes bytes → entries_at count next bytes ≡ Some es → TakesAll count next bytes es
+pub entries_take : (count next : ℕ) (bytes : List ℕ) (es : List (ℕ × Pages)) → IsBytes bytes →
+    entries_at count next bytes ≡ Some es → TakesAll count next bytes es
 unfolding entries_at IsStrictlySortedBy
 entries_take zero next [] es fits e =
     let none : [] ≡ es = cc in
-    subst (TakesAll 0 next []) none (record { spelled = refl; counted = refl; sound = tt; rising = record { from = tt; rising = tt } })
+    subst (TakesAll 0 next []) none
+    (record { spelled = refl; counted = refl; sound = tt; rising = record { from = tt; rising = tt } })
 entries_take zero next (b ∷ bytes) es fits e = absurd cc
 entries_take (suc count) next bytes es fits e =
-    let a = bind_some (entry_at bytes) (λ x. cond (ltb x.0.0 next) None (entries_at count (x.0.0 + 1) x.1 >>= λ es. Some (x.0 ∷ es))) es e in
+    let a = bind_some (entry_at bytes)
+    (λ x. cond (ltb x.0.0 next) None (entries_at count (x.0.0 + 1) x.1 >>= λ es. Some (x.0 ∷ es))) es e in
     let g = guard_more (ltb a.0.0.0 next) (entries_at count (a.0.0.0 + 1) a.0.1 >>= λ es. Some (a.0.0 ∷ es)) es a.2 in
     let r = bind_some (entries_at count (a.0.0.0 + 1) a.0.1) (λ es. Some (a.0.0 ∷ es)) es g.1 in
     let t = entry_takes bytes a.0 fits a.1 in
     let later = entries_take count (a.0.0.0 + 1) a.0.1 r.0 t.0.rest_fits r.1 in
     let made : a.0.0 ∷ r.0 ≡ es = some_is (a.0.0 ∷ r.0) es r.2 in
     subst (TakesAll (suc count) next bytes) made (record {
-      spelled = t.0.parts ∙ ap (λ (bs : List ℕ). entry a.0.0.0 a.0.0.1 ++ bs) later.spelled ∙ sym (flat_map-cons (λ (x : ℕ × Pages). entry x.0 x.1) a.0.0 r.0);
+      spelled = t.0.parts ∙ ap (λ (bs : List ℕ). entry a.0.0.0 a.0.0.1 ++ bs) later.spelled ∙
+          sym (flat_map-cons (λ (x : ℕ × Pages). entry x.0 x.1) a.0.0 r.0);
       counted = ap suc later.counted;
       sound = (t.1, later.sound);
       rising = rises next a.0.0 r.0 (ltb-false _ _ g.0) later.rising;
@@ -73,15 +81,20 @@ entries_take (suc count) next bytes es fits e =
     some_is : (x y : List (ℕ × Pages)) → Some x ≡ Some y → x ≡ y
     some_is x y e = cc
 
-pub entries_again : (next : ℕ) (es : List (ℕ × Pages)) → AllByRecursion (λ e. IsEntry e.0 e.1) es → Rising next es → entries_at (length es) next (entries_of es) ≡ Some es
+pub entries_again : (next : ℕ) (es : List (ℕ × Pages)) → AllByRecursion (λ e. IsEntry e.0 e.1) es → Rising next es →
+    entries_at (length es) next (entries_of es) ≡ Some es
 unfolding entries_at IsStrictlySortedBy
 entries_again next [] sound r = refl
 entries_again next (e ∷ es) sound r =
-    let split : entries_of (e ∷ es) ≡ entry e.0 e.1 ++ entries_of es = flat_map-cons (λ (x : ℕ × Pages). entry x.0 x.1) e es in
-    let first : entry_at (entries_of (e ∷ es)) ≡ Some (e, entries_of es) = ap entry_at split ∙ entry_again e.0 e.1 (entries_of es) sound.0 in
+    let split : entries_of (e ∷ es) ≡ entry e.0 e.1 ++ entries_of es =
+    flat_map-cons (λ (x : ℕ × Pages). entry x.0 x.1) e es in
+    let first : entry_at (entries_of (e ∷ es)) ≡ Some (e, entries_of es) = ap entry_at split ∙
+    entry_again e.0 e.1 (entries_of es) sound.0 in
     let in_order : ltb e.0 next ≡ false = le-ltb _ _ r.from.0 in
-    let later = entries_again (e.0 + 1) es sound.1 (record { from = below (keys_of es) e.0 r.rising.0; rising = r.rising.1 }) in
-    ap (λ (o : Option ((ℕ × Pages) × List ℕ)). o >>= λ x. cond (ltb x.0.0 next) None (entries_at (length es) (x.0.0 + 1) x.1 >>= λ fs. Some (x.0 ∷ fs))) first
+    let later = entries_again (e.0 + 1) es sound.1
+    (record { from = below (keys_of es) e.0 r.rising.0; rising = r.rising.1 }) in
+    ap (λ (o : Option ((ℕ × Pages) × List ℕ)). o >>= λ x. cond (ltb x.0.0 next) None
+    (entries_at (length es) (x.0.0 + 1) x.1 >>= λ fs. Some (x.0 ∷ fs))) first
     ∙ ap (λ b. cond b None (entries_at (length es) (e.0 + 1) (entries_of es) >>= λ fs. Some (e ∷ fs))) in_order
     ∙ ap (λ (o : Option (List (ℕ × Pages))). o >>= λ fs. Some (e ∷ fs)) later
   where
@@ -91,7 +104,8 @@ entries_again next (e ∷ es) sound r =
 
 -- ---- whether entries are read, one after the other
 
-pub step : (count i next : ℕ) (bytes : List ℕ) (x : (ℕ × Pages) × List ℕ) → i < count → entry_at bytes ≡ Some x → next ≤ x.0.0 → is_some (entries_at (count - (i + 1)) (x.0.0 + 1) x.1) ≡ is_some (entries_at (count - i) next bytes)
+pub step : (count i next : ℕ) (bytes : List ℕ) (x : (ℕ × Pages) × List ℕ) → i < count → entry_at bytes ≡ Some x →
+    next ≤ x.0.0 → is_some (entries_at (count - (i + 1)) (x.0.0 + 1) x.1) ≡ is_some (entries_at (count - i) next bytes)
 unfolding entries_at
 step count i next bytes x lt is le =
     let k : count - i ≡ suc (count - (i + 1)) = omega arith in
@@ -102,20 +116,23 @@ step count i next bytes x lt is le =
     same None = refl
     same (Some es) = refl
 
-pub stuck : (count i next : ℕ) (bytes : List ℕ) → i < count → entry_at bytes ≡ None → false ≡ is_some (entries_at (count - i) next bytes)
+pub stuck : (count i next : ℕ) (bytes : List ℕ) → i < count → entry_at bytes ≡ None →
+    false ≡ is_some (entries_at (count - i) next bytes)
 unfolding entries_at
 stuck count i next bytes lt is =
     let k : count - i ≡ suc (count - (i + 1)) = omega arith in
     rw (k, is) refl
 
-pub falling : (count i next : ℕ) (bytes : List ℕ) (x : (ℕ × Pages) × List ℕ) → i < count → entry_at bytes ≡ Some x → x.0.0 < next → false ≡ is_some (entries_at (count - i) next bytes)
+pub falling : (count i next : ℕ) (bytes : List ℕ) (x : (ℕ × Pages) × List ℕ) → i < count → entry_at bytes ≡ Some x →
+    x.0.0 < next → false ≡ is_some (entries_at (count - i) next bytes)
 unfolding entries_at
 falling count i next bytes x lt is less =
     let k : count - i ≡ suc (count - (i + 1)) = omega arith in
     let out : ltb x.0.0 next ≡ true = lt-ltb x.0.0 next less in
     rw (k, is, out) refl
 
-pub ended : (count i next : ℕ) (bytes : List ℕ) (b : Bool) → count ≤ i → (b ≡ true → bytes ≡ []) → (b ≡ false → bytes ≡ [] → ⊥) → b ≡ is_some (entries_at (count - i) next bytes)
+pub ended : (count i next : ℕ) (bytes : List ℕ) (b : Bool) → count ≤ i → (b ≡ true → bytes ≡ []) →
+    (b ≡ false → bytes ≡ [] → ⊥) → b ≡ is_some (entries_at (count - i) next bytes)
 unfolding entries_at
 ended count i next [] true le t f = let k : count - i ≡ 0 = omega arith in rw k refl
 ended count i next [] false le t f = absurd (f refl refl)

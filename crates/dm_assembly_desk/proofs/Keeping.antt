@@ -20,33 +20,48 @@ module _ (held put : Documents) (p : PageView) (after : put ≡ with_page held p
   now = ap (λ (d : Documents). get d p.id) after ∙ get_here held p.id (pages_with held p)
 
   entry_at : IsPage p → AreEntries held → CanBeAdded held p → IsSomeAnd (get put p.id) (IsEntry p.id)
-  entry_at q sound free = subst (λ (o : Option Pages). IsSomeAnd o (IsEntry p.id)) (sym now) (entry_with held p q sound free)
+  entry_at q sound free = subst (λ (o : Option Pages). IsSomeAnd o (IsEntry p.id)) (sym now)
+      (entry_with held p q sound free)
 
-  saved_at : (set after : SavedSet) (answer : Result (Unit {0}) ReplaceFault) → ReplacesKey set p.id (file p.id (unwrap_or (get put p.id) [])) answer after → ReplacesKey set p.id (file p.id (pages_with held p)) answer after
-  saved_at set after answer r = subst (λ (o : Option Pages). ReplacesKey set p.id (file p.id (unwrap_or o [])) answer after) now r
+  saved_at : (set after : SavedSet) (answer : Result (Unit {0}) ReplaceFault) →
+      ReplacesKey set p.id (file p.id (unwrap_or (get put p.id) [])) answer after →
+      ReplacesKey set p.id (file p.id (pages_with held p)) answer after
+  saved_at set after answer r = subst (λ (o : Option Pages). ReplacesKey set p.id
+      (file p.id (unwrap_or o [])) answer after) now r
 
-  long_at : IsPage p → AreEntries held → CanBeAdded held p → length (pages_with held p) ≡ p.n → IfSome (get put p.id) (λ pages. p.m ≤ length pages)
-  long_at q sound free len = subst (λ (o : Option Pages). IfSome o (λ pages. p.m ≤ length pages)) (sym now) (omega (arith, len, q.last))
+  long_at : IsPage p → AreEntries held → CanBeAdded held p → length (pages_with held p) ≡ p.n →
+      IfSome (get put p.id) (λ pages. p.m ≤ length pages)
+  long_at q sound free len = subst (λ (o : Option Pages). IfSome o (λ pages. p.m ≤ length pages)) (sym now)
+      (omega (arith, len, q.last))
 
   pub some_there : (id : ℕ) → id ≡ p.id → IsSome (get put id)
-  some_there id is = subst (λ (i : ℕ). IsSome (get put i)) (sym is) (subst (λ (o : Option Pages). IsSome o) (sym now) refl)
+  some_there id is = subst (λ (i : ℕ). IsSome (get put i)) (sym is)
+      (subst (λ (o : Option Pages). IsSome o) (sym now) refl)
 
-  pub entry_there : (id : ℕ) → id ≡ p.id → IsPage p → AreEntries held → CanBeAdded held p → IsSomeAnd (get put id) (IsEntry id)
+  pub entry_there : (id : ℕ) → id ≡ p.id → IsPage p → AreEntries held → CanBeAdded held p →
+      IsSomeAnd (get put id) (IsEntry id)
   entry_there id is q sound free = subst (λ (i : ℕ). IsSomeAnd (get put i) (IsEntry i)) (sym is) (entry_at q sound free)
 
-  pub saved_there : (id : ℕ) → id ≡ p.id → (set after : SavedSet) (answer : Result (Unit {0}) ReplaceFault) → ReplacesKey set id (file id (unwrap_or (get put id) [])) answer after → ReplacesKey set p.id (file p.id (pages_with held p)) answer after
-  saved_there id is set after answer r = saved_at set after answer (subst (λ (i : ℕ). ReplacesKey set i (file i (unwrap_or (get put i) [])) answer after) is r)
+  pub saved_there : (id : ℕ) → id ≡ p.id → (set after : SavedSet) (answer : Result (Unit {0}) ReplaceFault) →
+      ReplacesKey set id (file id (unwrap_or (get put id) [])) answer after →
+      ReplacesKey set p.id (file p.id (pages_with held p)) answer after
+  saved_there id is set after answer r =
+      saved_at set after answer (subst (λ (i : ℕ). ReplacesKey set i
+      (file i (unwrap_or (get put i) [])) answer after) is r)
 
   pub back_first : (id : ℕ) → id ≡ p.id → get held id ≡ None → remove put id ≡ held
-  back_first id is none = ap (λ (i : ℕ). remove put i) is ∙ ap (λ (d : Documents). remove d p.id) after ∙ undo_first held p.id (pages_with held p) (ap (get held) (sym is) ∙ none)
+  back_first id is none = ap (λ (i : ℕ). remove put i) is ∙ ap (λ (d : Documents). remove d p.id) after ∙
+      undo_first held p.id (pages_with held p) (ap (get held) (sym is) ∙ none)
 
   -- the document is held
-  module _ (id m : ℕ) (is : id ≡ p.id) (m_is : m ≡ p.m) (q : IsPage p) (free : CanBeAdded held p) (some : IsSome (get held id)) where
+  module _ (id m : ℕ) (is : id ≡ p.id) (m_is : m ≡ p.m) (q : IsPage p) (free : CanBeAdded held p)
+      (some : IsSome (get held id)) where
     before : (pages : Pages) × (get held p.id ≡ Some pages)
     before = some_is (get held p.id) (subst (λ (i : ℕ). IsSome (get held i)) is some)
 
     known : (length before.0 ≡ p.n) × (page before.0 p.m ≡ None)
-    known = subst (λ (o : Option Pages). IfSome o (λ pages. (length pages ≡ p.n) × (page pages p.m ≡ None))) before.1 free
+    known = subst (λ (o : Option Pages). IfSome o
+        (λ pages. (length pages ≡ p.n) × (page pages p.m ≡ None))) before.1 free
 
     pub back_held : insert put id (slice_set (unwrap_or (get put id) []) (m - 1) None) ≡ held
     back_held =
@@ -57,6 +72,8 @@ module _ (held put : Documents) (p : PageView) (after : put ≡ with_page held p
 
     pub long_there : AreEntries held → IfSome (get put id) (λ pages. m ≤ length pages)
     long_there sound =
-        let len : length (pages_with held p) ≡ p.n = ap (λ (o : Option Pages). length (slice_set (unwrap_or o (Rattle.std.proofs.Common.replicate p.n None)) (p.m - 1) (Some p.bytes))) before.1 ∙ length-set_at before.0 (p.m - 1) (Some p.bytes) ∙ known.0 in
+        let len : length (pages_with held p) ≡ p.n =
+        ap (λ (o : Option Pages). length (slice_set (unwrap_or o (Rattle.std.proofs.Common.replicate p.n None))
+        (p.m - 1) (Some p.bytes))) before.1 ∙ length-set_at before.0 (p.m - 1) (Some p.bytes) ∙ known.0 in
         subst (λ (i : ℕ). IfSome (get put i) (λ pages. m ≤ length pages)) (sym is)
         (subst (λ (k : ℕ). IfSome (get put p.id) (λ pages. k ≤ length pages)) (sym m_is) (long_at q sound free len))

@@ -48,7 +48,8 @@ same_key a b e =
 pub above : (a b : ℕ) → nat_cmp a b ≡ Less → a < b
 above a b is = ranked a b Less (sym is)
 
-none_below : (key first : ℕ) (ks : List ℕ) → key ≤ first → AllByRecursion (λ y. nat_cmp first y ≡ Less) ks → among key ks ≡ false
+none_below : (key first : ℕ) (ks : List ℕ) → key ≤ first → AllByRecursion (λ y. nat_cmp first y ≡ Less) ks →
+    among key ks ≡ false
 none_below key first [] le h = refl
 none_below key first (k ∷ ks) le h =
     let lt : first < k = above first k h.0 in
@@ -60,7 +61,8 @@ pub not_again : (key : ℕ) (rest : List ℕ) → IsStrictlySortedBy nat_cmp (ke
 not_again key rest h = none_below key key rest (omega arith) (sorted_head nat_cmp key rest h)
 
 -- a key below the first of rising keys is not among them
-not_earlier : (other key : ℕ) (rest : List ℕ) → other < key → IsStrictlySortedBy nat_cmp (key ∷ rest) → among other (key ∷ rest) ≡ false
+not_earlier : (other key : ℕ) (rest : List ℕ) → other < key → IsStrictlySortedBy nat_cmp (key ∷ rest) →
+    among other (key ∷ rest) ≡ false
 not_earlier other key rest lt h =
     let e : eq_by_cmp nat_cmp other key ≡ false = apart other key (λ is. absurd (omega arith)) in
     rw e (none_below other key rest (omega arith) (sorted_head nat_cmp key rest h))
@@ -78,7 +80,8 @@ less Less p = refl
 less Equal p = absurd p
 less Greater p = absurd p
 
-below_them : {X : Type 0} (key : ℕ) (es : List (ℕ × X)) → T (below_all nat_cmp key es) → AllByRecursion (λ y. nat_cmp key y ≡ Less) (keys_of es)
+below_them : {X : Type 0} (key : ℕ) (es : List (ℕ × X)) → T (below_all nat_cmp key es) →
+    AllByRecursion (λ y. nat_cmp key y ≡ Less) (keys_of es)
 below_them key [] h = tt
 below_them key (e ∷ es) h = (less _ (one_holds _ _ h), below_them key es (other_holds _ _ h))
 
@@ -108,11 +111,13 @@ start content = record {
 }
 
 -- a key is the first of the keys, or is not among the others
-module _ (content : Contents) (held : Documents) (had_memory : Bool) (key : ℕ) (rest : List ℕ) (h : SoFar content held had_memory (key ∷ rest)) where
+module _ (content : Contents) (held : Documents) (had_memory : Bool) (key : ℕ) (rest : List ℕ)
+    (h : SoFar content held had_memory (key ∷ rest)) where
   left : IsStrictlySortedBy nat_cmp rest
   left = sorted_tail nat_cmp key rest h.rising
 
-  out_of_both : (other : ℕ) → eq_by_cmp nat_cmp other key ≡ false → among other rest ≡ false → among other (key ∷ rest) ≡ false
+  out_of_both : (other : ℕ) → eq_by_cmp nat_cmp other key ≡ false → among other rest ≡ false →
+      among other (key ∷ rest) ≡ false
   out_of_both other e out = rw e out
 
   other_than : (other : ℕ) → among other rest ≡ true → eq_by_cmp nat_cmp other key ≡ false
@@ -126,7 +131,8 @@ module _ (content : Contents) (held : Documents) (had_memory : Bool) (key : ℕ)
   held_none = h.absent key (rw (itself key) refl)
 
   -- what is known of the keys before, where it is known of this key
-  files_before : ((bytes : List ℕ) → get content key ≡ Some bytes → IsFile key bytes) → (other : ℕ) (bytes : List ℕ) → among other rest ≡ false → get content other ≡ Some bytes → IsFile other bytes
+  files_before : ((bytes : List ℕ) → get content key ≡ Some bytes → IsFile key bytes) → (other : ℕ) (bytes : List ℕ) →
+      among other rest ≡ false → get content other ≡ Some bytes → IsFile other bytes
   files_before here other bytes out there =
       elim (eq_by_cmp nat_cmp other key) as (λ b. eq_by_cmp nat_cmp other key ≡ b → IsFile other bytes) [
         | true ↦ λ e. let is = same_key other key e in
@@ -140,7 +146,8 @@ module _ (content : Contents) (held : Documents) (had_memory : Bool) (key : ℕ)
     rising = left;
     before = files_before (λ bytes there. absurd cc);
     found = λ fine other out.
-        elim (eq_by_cmp nat_cmp other key) as (λ b. eq_by_cmp nat_cmp other key ≡ b → get content other ≡ option_map (file other) (get held other)) [
+        elim (eq_by_cmp nat_cmp other key) as (λ b. eq_by_cmp nat_cmp other key ≡ b →
+        get content other ≡ option_map (file other) (get held other)) [
           | true ↦ λ e. let is = same_key other key e in
               ap (get content) is ∙ none ∙ sym (ap (option_map (file other)) (ap (get held) is ∙ held_none))
           | false ↦ λ e. h.found fine other (out_of_both other e out)
@@ -152,31 +159,41 @@ module _ (content : Contents) (held : Documents) (had_memory : Bool) (key : ℕ)
   pub not_held : (bytes : List ℕ) → get content key ≡ Some bytes → IsFile key bytes → SoFar content held false rest
   not_held bytes there is_file = record {
     rising = left;
-    before = files_before (λ others found. let e : others ≡ bytes = cc in subst (λ (bs : List ℕ). IsFile key bs) (sym e) is_file);
+    before = files_before (λ others found. let e : others ≡ bytes = cc in
+        subst (λ (bs : List ℕ). IsFile key bs) (sym e) is_file);
     found = λ fine. absurd cc;
     absent = λ other in_rest. h.absent other (among_both other in_rest);
   }
 
   -- a file whose document is held
-  pub held_too : (bytes : List ℕ) (pages : Pages) → get content key ≡ Some bytes → Spells key bytes pages → SoFar content (insert held key pages) had_memory rest
+  pub held_too : (bytes : List ℕ) (pages : Pages) → get content key ≡ Some bytes → Spells key bytes pages →
+      SoFar content (insert held key pages) had_memory rest
   held_too bytes pages there spells = record {
     rising = left;
-    before = files_before (λ others found. let e : others ≡ bytes = cc in subst (λ (bs : List ℕ). IsFile key bs) (sym e) (pages, spells));
+    before = files_before (λ others found. let e : others ≡ bytes = cc in
+        subst (λ (bs : List ℕ). IsFile key bs) (sym e) (pages, spells));
     found = λ fine other out.
-        elim (eq_by_cmp nat_cmp other key) as (λ b. eq_by_cmp nat_cmp other key ≡ b → get content other ≡ option_map (file other) (get (insert held key pages) other)) [
+        elim (eq_by_cmp nat_cmp other key) as (λ b. eq_by_cmp nat_cmp other key ≡ b →
+        get content other ≡ option_map (file other) (get (insert held key pages) other)) [
           | true ↦ λ e. let is = same_key other key e in
-              let now : get (insert held key pages) other ≡ Some pages = get-insert nat_cmp_total held key pages other ∙ ap (λ b. cond b (Some pages) (get held other)) e in
-              ap (get content) is ∙ there ∙ ap (λ (bs : List ℕ). Some bs) spells.spelled ∙ ap (λ (k : ℕ). Some (file k pages)) (sym is) ∙ sym (ap (option_map (file other)) now)
+              let now : get (insert held key pages) other ≡ Some pages = get-insert nat_cmp_total held key pages other ∙
+              ap (λ b. cond b (Some pages) (get held other)) e in
+              ap (get content) is ∙ there ∙ ap (λ (bs : List ℕ). Some bs) spells.spelled ∙
+              ap (λ (k : ℕ). Some (file k pages)) (sym is) ∙ sym (ap (option_map (file other)) now)
           | false ↦ λ e.
-              let same : get (insert held key pages) other ≡ get held other = get-insert nat_cmp_total held key pages other ∙ ap (λ b. cond b (Some pages) (get held other)) e in
+              let same : get (insert held key pages) other ≡ get held other =
+              get-insert nat_cmp_total held key pages other ∙ ap (λ b. cond b (Some pages) (get held other)) e in
               h.found fine other (out_of_both other e out) ∙ sym (ap (option_map (file other)) same)
         ] refl;
     absent = λ other in_rest.
-        get-insert nat_cmp_total held key pages other ∙ ap (λ b. cond b (Some pages) (get held other)) (other_than other in_rest) ∙ h.absent other (among_both other in_rest);
+        get-insert nat_cmp_total held key pages other ∙
+        ap (λ b. cond b (Some pages) (get held other)) (other_than other in_rest) ∙
+        h.absent other (among_both other in_rest);
   }
 
   -- bytes that are no file
-  pub first_fault : (bytes : List ℕ) (fault : FileFault) → get content key ≡ Some bytes → HasFileFault key bytes fault → FirstFault content fault
+  pub first_fault : (bytes : List ℕ) (fault : FileFault) → get content key ≡ Some bytes → HasFileFault key bytes fault →
+      FirstFault content fault
   first_fault bytes fault there faulty = record {
     key = key;
     bytes = bytes;
@@ -186,15 +203,18 @@ module _ (content : Contents) (held : Documents) (had_memory : Bool) (key : ℕ)
   }
 
 -- all keys were loaded, with memory for all
-pub done : (content : Contents) (held : Documents) → SoFar content held true [] → AreEntries held → HoldsFiles content held
+pub done : (content : Contents) (held : Documents) → SoFar content held true [] → AreEntries held →
+    HoldsFiles content held
 done content held h sound = record { entries = sound; files = λ key. h.found refl key refl }
 
 -- ---- what is held stays in order
 
-pub entries_insert : (held : Documents) (key : ℕ) (pages : Pages) → AreEntries held → IsEntry key pages → AreEntries (insert held key pages)
+pub entries_insert : (held : Documents) (key : ℕ) (pages : Pages) → AreEntries held → IsEntry key pages →
+    AreEntries (insert held key pages)
 entries_insert held key pages sound entry other others is =
     let now = get-insert nat_cmp_total held key pages other in
-    elim (eq_by_cmp nat_cmp other key) as (λ b. eq_by_cmp nat_cmp other key ≡ b → cond b (Some pages) (get held other) ≡ Some others → IsEntry other others) [
+    elim (eq_by_cmp nat_cmp other key) as (λ b. eq_by_cmp nat_cmp other key ≡ b →
+    cond b (Some pages) (get held other) ≡ Some others → IsEntry other others) [
       | true ↦ λ e found. let k = same_key other key e in let p : pages ≡ others = cc in
           subst (λ (x : ℕ × Pages). IsEntry x.0 x.1) (λ i. (sym k i, p i)) entry
       | false ↦ λ e found. sound other others found
@@ -217,16 +237,21 @@ none_saved : (n : ℕ) (o : Option (List ℕ)) → None ≡ option_map (take n) 
 none_saved n None e = refl
 none_saved n (Some bytes) e = absurd cc
 
-some_saved : (n : ℕ) (o : Option (List ℕ)) (loaded : List ℕ) → Some loaded ≡ option_map (take n) o → (bytes : List ℕ) × (o ≡ Some bytes) × (loaded ≡ take n bytes)
+some_saved : (n : ℕ) (o : Option (List ℕ)) (loaded : List ℕ) → Some loaded ≡ option_map (take n) o →
+    (bytes : List ℕ) × (o ≡ Some bytes) × (loaded ≡ take n bytes)
 some_saved n None loaded e = absurd cc
 some_saved n (Some bytes) loaded e = (bytes, refl, cc)
 
-pub goes_past : (saved : SavedSet) (key : ℕ) (old : Documents) → (IsTrue saved.is_honest → None ≡ option_map (take (41642 + 1)) (get saved.content key)) → GoesOn saved key true old old
+pub goes_past : (saved : SavedSet) (key : ℕ) (old : Documents) →
+    (IsTrue saved.is_honest → None ≡ option_map (take (41642 + 1)) (get saved.content key)) →
+    GoesOn saved key true old old
 goes_past saved key old loads honest had_memory rest h =
     subst (λ (b : Bool). SoFar saved.content old b rest) (sym (and_fine had_memory))
-    (passed_over saved.content old had_memory key rest h (none_saved (41642 + 1) (get saved.content key) (loads honest)))
+    (passed_over saved.content old had_memory key rest h
+    (none_saved (41642 + 1) (get saved.content key) (loads honest)))
 
-module _ (saved : SavedSet) (key : ℕ) (loaded : List ℕ) (old new : Documents) (loads : IsTrue saved.is_honest → Some loaded ≡ option_map (take (41642 + 1)) (get saved.content key)) where
+module _ (saved : SavedSet) (key : ℕ) (loaded : List ℕ) (old new : Documents) (loads : IsTrue saved.is_honest →
+    Some loaded ≡ option_map (take (41642 + 1)) (get saved.content key)) where
   pub takes_one : (r : Bool) → TakesIn key loaded old (Ok r) new → GoesOn saved key r old new
   takes_one true t honest had_memory rest h =
       let l = some_saved (41642 + 1) (get saved.content key) loaded (loads honest) in
@@ -246,8 +271,10 @@ module _ (saved : SavedSet) (key : ℕ) (loaded : List ℕ) (old new : Documents
       let l = some_saved (41642 + 1) (get saved.content key) loaded (loads honest) in
       first_fault saved.content old had_memory key rest h l.0 fault l.1 (fault_whole key l.0 loaded l.2 fault t.0)
 
-pub entries_taken : (key : ℕ) (loaded : List ℕ) (old new : Documents) (r : Result Bool FileFault) → TakesIn key loaded old r new → AreEntries old → AreEntries new
-entries_taken key loaded old new (Ok true) t sound = subst AreEntries (sym t.2) (entries_insert old key t.0 sound t.1.sound)
+pub entries_taken : (key : ℕ) (loaded : List ℕ) (old new : Documents) (r : Result Bool FileFault) →
+    TakesIn key loaded old r new → AreEntries old → AreEntries new
+entries_taken key loaded old new (Ok true) t sound =
+    subst AreEntries (sym t.2) (entries_insert old key t.0 sound t.1.sound)
 entries_taken key loaded old new (Ok false) t sound = subst AreEntries (sym t.1) sound
 entries_taken key loaded old new (Err fault) t sound = subst AreEntries (sym t.1) sound
 
@@ -255,8 +282,10 @@ more : (b : Bool) (n : ℕ) → cond b n (n + 1) ≤ n + 1
 more true n = omega arith
 more false n = omega arith
 
-pub few_taken : (key : ℕ) (loaded : List ℕ) (old new : Documents) (r : Result Bool FileFault) → TakesIn key loaded old r new → len new ≤ len old + 1
-few_taken key loaded old new (Ok true) t = rw (t.2, len-insert nat_cmp_total old key t.0) (more (is_some (get old key)) (len old))
+pub few_taken : (key : ℕ) (loaded : List ℕ) (old new : Documents) (r : Result Bool FileFault) →
+    TakesIn key loaded old r new → len new ≤ len old + 1
+few_taken key loaded old new (Ok true) t = rw (t.2, len-insert nat_cmp_total old key t.0)
+    (more (is_some (get old key)) (len old))
 few_taken key loaded old new (Ok false) t = rw t.1 (omega arith)
 few_taken key loaded old new (Err fault) t = rw t.1 (omega arith)
 
@@ -278,9 +307,14 @@ length-keys m = counted (entries m) ∙ sym (len-entries m)
     counted [] = refl
     counted (e ∷ es) = ap suc (counted es)
 
-module _ (saved : SavedSet) (capacity : ℕ) (ks : List ℕ) (saves : IsTrue saved.is_honest → ks ≡ take (capacity + 1) (keys saved.content)) where
+module _ (saved : SavedSet) (capacity : ℕ) (ks : List ℕ) (saves : IsTrue saved.is_honest →
+    ks ≡ take (capacity + 1) (keys saved.content)) where
   pub too_many : capacity < length ks → IsTrue saved.is_honest → capacity < len saved.content
-  too_many lt honest = omega (arith, many_keys ks (keys saved.content) capacity (saves honest) lt, length-keys saved.content)
+  too_many lt honest = omega (
+    arith,
+    many_keys ks (keys saved.content) capacity (saves honest) lt,
+    length-keys saved.content,
+  )
 
   pub few_enough : length ks ≤ capacity → IsTrue saved.is_honest → len saved.content ≤ capacity
   few_enough le honest =
@@ -288,15 +322,21 @@ module _ (saved : SavedSet) (capacity : ℕ) (ks : List ℕ) (saves : IsTrue sav
       omega (arith, all.1, length-keys saved.content)
 
   pub begins : length ks ≤ capacity → IsTrue saved.is_honest → SoFar saved.content empty true ks
-  begins le honest = subst (SoFar saved.content empty true) (sym (all_keys ks (keys saved.content) capacity (saves honest) le).0) (start saved.content)
+  begins le honest = subst (SoFar saved.content empty true)
+      (sym (all_keys ks (keys saved.content) capacity (saves honest) le).0) (start saved.content)
 
 -- a key whose load ends it all
-pub desk_fault : (saved : SavedSet) (capacity key : ℕ) (old new : Documents) (fault : DeskFault) → IsCapacity capacity → (IsTrue saved.is_honest → len saved.content ≤ capacity)
-    → (had_memory : Bool) (rest : List ℕ) → (IsTrue saved.is_honest → SoFar saved.content old had_memory (key ∷ rest)) → LoadsFile saved key old (Err fault) new → HasDeskFault saved capacity fault
+pub desk_fault : (saved : SavedSet) (capacity key : ℕ) (old new : Documents) (fault : DeskFault) → IsCapacity capacity →
+    (IsTrue saved.is_honest → len saved.content ≤ capacity)
+    → (had_memory : Bool) (rest : List ℕ) → (IsTrue saved.is_honest → SoFar saved.content old had_memory (key ∷ rest)) →
+    LoadsFile saved key old (Err fault) new → HasDeskFault saved capacity fault
 desk_fault saved capacity key old new opens.Capacity room few had rest so_far h = absurd h
 desk_fault saved capacity key old new opens.TooMany room few had rest so_far h = absurd h
 desk_fault saved capacity key old new opens.Device room few had rest so_far h = (room, h)
 desk_fault saved capacity key old new opens.Memory room few had rest so_far h = room
-desk_fault saved capacity key old new opens.NotPages room few had rest so_far h = (room, λ honest. (few honest, h honest had rest (so_far honest)))
-desk_fault saved capacity key old new opens.Version room few had rest so_far h = (room, λ honest. (few honest, h honest had rest (so_far honest)))
-desk_fault saved capacity key old new opens.Damaged room few had rest so_far h = (room, λ honest. (few honest, h honest had rest (so_far honest)))
+desk_fault saved capacity key old new opens.NotPages room few had rest so_far h =
+    (room, λ honest. (few honest, h honest had rest (so_far honest)))
+desk_fault saved capacity key old new opens.Version room few had rest so_far h =
+    (room, λ honest. (few honest, h honest had rest (so_far honest)))
+desk_fault saved capacity key old new opens.Damaged room few had rest so_far h =
+    (room, λ honest. (few honest, h honest had rest (so_far honest)))

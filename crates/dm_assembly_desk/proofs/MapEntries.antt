@@ -16,7 +16,8 @@ both true b p q = q
 both false b p q = p
 
 -- a key that is below each of these keys is below each of these entries
-below : {X : Type 0} (k : ℕ) (es : List (ℕ × X)) → AllByRecursion (λ y. nat_cmp k y ≡ Less) (keys_of es) → T (below_all nat_cmp k es)
+below : {X : Type 0} (k : ℕ) (es : List (ℕ × X)) → AllByRecursion (λ y. nat_cmp k y ≡ Less) (keys_of es) →
+    T (below_all nat_cmp k es)
 below k [] h = tt
 below k (e ∷ es) h = both _ _ (subst (λ r. T (is_lt r)) (sym h.0) tt) (below k es h.1)
 
@@ -39,7 +40,8 @@ module _ {X : Type 0} where
   pub entries_are : (es : List (ℕ × X)) → IsStrictlySortedBy nat_cmp (keys_of es) → entries (as_map es) ≡ es
   entries_are es h =
       let s = sorted es h in
-      let is : as_map es ≡ from_sorted es = same _ _ (λ q. get-from_entries nat_cmp_total es q ∙ sym (get-from_sorted nat_cmp es q s)) in
+      let is : as_map es ≡ from_sorted es = same _ _ (λ q. get-from_entries nat_cmp_total es q ∙
+      sym (get-from_sorted nat_cmp es q s)) in
       ap entries is ∙ entries-from_sorted nat_cmp es s
 
   -- there are as many keys in the map as entries in order

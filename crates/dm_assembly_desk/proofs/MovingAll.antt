@@ -31,12 +31,14 @@ use Rattle.dm_assembly_desk.proofs.JointFileLaws.{old_again, each_entry, held_ri
 module _ (bytes loaded : List ℕ) (is : loaded ≡ take (42636295 + 1) bytes) where
   whole_old : (held : Documents) → SpellsAll loaded held → SpellsAll bytes held
   whole_old held s =
-      let short : length (take (suc 42636295) bytes) ≤ 42636295 = omega (arith, ap (λ (bs : List ℕ). length bs) is, s.short) in
+      let short : length (take (suc 42636295) bytes) ≤ 42636295 =
+      omega (arith, ap (λ (bs : List ℕ). length bs) is, s.short) in
       let all : bytes ≡ loaded = sym (all_taken 42636295 bytes short) ∙ sym is in
       subst (λ (bs : List ℕ). SpellsAll bs held) (sym all) s
 
   loaded_old : (held : Documents) → SpellsAll bytes held → SpellsAll loaded held
-  loaded_old held s = subst (λ (bs : List ℕ). SpellsAll bs held) (sym (is ∙ take_all (42636295 + 1) bytes (omega (arith, s.short)))) s
+  loaded_old held s = subst (λ (bs : List ℕ). SpellsAll bs held)
+      (sym (is ∙ take_all (42636295 + 1) bytes (omega (arith, s.short)))) s
 
   same_front : take 4 loaded ≡ take 4 bytes
   same_front = ap (take 4) is ∙ four_of 42636291 bytes
@@ -64,26 +66,35 @@ module _ (bytes loaded : List ℕ) (is : loaded ≡ take (42636295 + 1) bytes) w
   fault_of_loaded Device h = h
   fault_of_loaded Memory h = h
 
-some_saved : (n : ℕ) (o : Option (List ℕ)) (loaded : List ℕ) → Some loaded ≡ option_map (take n) o → (bytes : List ℕ) × (o ≡ Some bytes) × (loaded ≡ take n bytes)
+some_saved : (n : ℕ) (o : Option (List ℕ)) (loaded : List ℕ) → Some loaded ≡ option_map (take n) o →
+    (bytes : List ℕ) × (o ≡ Some bytes) × (loaded ≡ take n bytes)
 some_saved n None loaded e = absurd cc
 some_saved n (Some bytes) loaded e = (bytes, refl, cc)
 
-pub faulty_content : (content : Option (List ℕ)) (loaded : List ℕ) (fault : MoveFault) → Some loaded ≡ option_map (take (42636295 + 1)) content → HasJointFileFault loaded fault → IsSomeAnd content (λ bytes. HasJointFileFault bytes fault)
+pub faulty_content : (content : Option (List ℕ)) (loaded : List ℕ) (fault : MoveFault) →
+    Some loaded ≡ option_map (take (42636295 + 1)) content → HasJointFileFault loaded fault →
+    IsSomeAnd content (λ bytes. HasJointFileFault bytes fault)
 faulty_content content loaded fault e h =
     let l = some_saved (42636295 + 1) content loaded e in
-    subst (λ (o : Option (List ℕ)). IsSomeAnd o (λ bytes. HasJointFileFault bytes fault)) (sym l.1) (fault_of_whole l.0 loaded l.2 fault h)
+    subst (λ (o : Option (List ℕ)). IsSomeAnd o (λ bytes. HasJointFileFault bytes fault)) (sym l.1)
+    (fault_of_whole l.0 loaded l.2 fault h)
 
-pub loaded_fault : (content : Option (List ℕ)) (loaded : List ℕ) (fault : MoveFault) → Some loaded ≡ option_map (take (42636295 + 1)) content → IsSomeAnd content (λ bytes. HasJointFileFault bytes fault) → HasJointFileFault loaded fault
+pub loaded_fault : (content : Option (List ℕ)) (loaded : List ℕ) (fault : MoveFault) →
+    Some loaded ≡ option_map (take (42636295 + 1)) content →
+    IsSomeAnd content (λ bytes. HasJointFileFault bytes fault) → HasJointFileFault loaded fault
 loaded_fault content loaded fault e h =
     let l = some_saved (42636295 + 1) content loaded e in
-    fault_of_loaded l.0 loaded l.2 fault (subst (λ (o : Option (List ℕ)). IsSomeAnd o (λ bytes. HasJointFileFault bytes fault)) l.1 h)
+    fault_of_loaded l.0 loaded l.2 fault
+    (subst (λ (o : Option (List ℕ)). IsSomeAnd o (λ bytes. HasJointFileFault bytes fault)) l.1 h)
 
-pub old_content : (content : Option (List ℕ)) (loaded : List ℕ) (held : Documents) → Some loaded ≡ option_map (take (42636295 + 1)) content → SpellsAll loaded held → HoldsJointFile content held
+pub old_content : (content : Option (List ℕ)) (loaded : List ℕ) (held : Documents) →
+    Some loaded ≡ option_map (take (42636295 + 1)) content → SpellsAll loaded held → HoldsJointFile content held
 old_content content loaded held e s =
     let l = some_saved (42636295 + 1) content loaded e in
     subst (λ (o : Option (List ℕ)). HoldsJointFile o held) (sym l.1) (whole_old l.0 loaded l.2 held s)
 
-pub spelled_content : (content : Option (List ℕ)) (loaded : List ℕ) (held : Documents) → Some loaded ≡ option_map (take (42636295 + 1)) content → HoldsJointFile content held → SpellsAll loaded held
+pub spelled_content : (content : Option (List ℕ)) (loaded : List ℕ) (held : Documents) →
+    Some loaded ≡ option_map (take (42636295 + 1)) content → HoldsJointFile content held → SpellsAll loaded held
 spelled_content content loaded held e h =
     let l = some_saved (42636295 + 1) content loaded e in
     loaded_old l.0 loaded l.2 held (subst (λ (o : Option (List ℕ)). HoldsJointFile o held) l.1 h)
@@ -99,18 +110,23 @@ pair_is a b e = cc
 entries_is : (a b : List (ℕ × Pages)) → Some a ≡ Some b → a ≡ b
 entries_is a b e = cc
 
-reads_held : (held : Documents) (bytes : List ℕ) → SpellsAll bytes held → entries_at (len held) 0 (entries_of (entries held)) ≡ Some (entries held)
+reads_held : (held : Documents) (bytes : List ℕ) → SpellsAll bytes held →
+    entries_at (len held) 0 (entries_of (entries held)) ≡ Some (entries held)
 reads_held held bytes s =
     ap (λ (n : ℕ). entries_at n 0 (entries_of (entries held))) (len-entries held)
-    ∙ entries_again 0 (entries held) (each_entry held (entries held) s.entries (all_found (entries held) (keys_rise held))) (held_rising held)
+    ∙ entries_again 0 (entries held)
+    (each_entry held (entries held) s.entries (all_found (entries held) (keys_rise held))) (held_rising held)
 
 pub one_old : (bytes : List ℕ) (a b : Documents) → SpellsAll bytes a → SpellsAll bytes b → a ≡ b
 one_old bytes a b s t =
     let same : joint_file a ≡ joint_file b = sym s.spelled ∙ t.spelled in
     let la : length (joint_file a) ≤ 42636295 = omega (arith, s.short, ap (λ (bs : List ℕ). length bs) s.spelled) in
     let lb : length (joint_file b) ≤ 42636295 = omega (arith, t.short, ap (λ (bs : List ℕ). length bs) t.spelled) in
-    let read : (len a, entries_of (entries a)) ≡ (len b, entries_of (entries b)) = pair_is _ _ (sym (old_again a s.entries la) ∙ ap Rattle.dm_assembly_desk.specs.inner.ReadingJoint.joint_file_at same ∙ old_again b t.entries lb) in
-    let all : Some (entries a) ≡ Some (entries b) = sym (reads_held a bytes s) ∙ ap (λ (x : ℕ × List ℕ). entries_at x.0 0 x.1) read ∙ reads_held b bytes t in
+    let read : (len a, entries_of (entries a)) ≡ (len b, entries_of (entries b)) =
+    pair_is _ _ (sym (old_again a s.entries la) ∙
+    ap Rattle.dm_assembly_desk.specs.inner.ReadingJoint.joint_file_at same ∙ old_again b t.entries lb) in
+    let all : Some (entries a) ≡ Some (entries b) = sym (reads_held a bytes s) ∙
+    ap (λ (x : ℕ × List ℕ). entries_at x.0 0 x.1) read ∙ reads_held b bytes t in
     same_entries_map a b (entries_is (entries a) (entries b) all)
 
 -- ---- all keys of a set
@@ -122,13 +138,15 @@ rising_front zero (k ∷ ks) h = tt
 rising_front (suc n) [] h = tt
 rising_front (suc n) (k ∷ ks) h = (front n ks h.0, rising_front n ks h.1)
   where
-    front : (n : ℕ) (ks : List ℕ) → AllByRecursion (λ y. nat_cmp k y ≡ Less) ks → AllByRecursion (λ y. nat_cmp k y ≡ Less) (take n ks)
+    front : (n : ℕ) (ks : List ℕ) → AllByRecursion (λ y. nat_cmp k y ≡ Less) ks →
+        AllByRecursion (λ y. nat_cmp k y ≡ Less) (take n ks)
     front zero [] h = tt
     front zero (j ∷ js) h = tt
     front (suc n) [] h = tt
     front (suc n) (j ∷ js) h = (h.0, front n js h.1)
 
-few_below : (next limit : ℕ) (ks : List ℕ) → AllByRecursion (λ k. next ≤ k) ks → IsStrictlySortedBy nat_cmp ks → ((i : ℕ) → get_or ks i 0 < limit) → next ≤ limit → length ks + next ≤ limit
+few_below : (next limit : ℕ) (ks : List ℕ) → AllByRecursion (λ k. next ≤ k) ks → IsStrictlySortedBy nat_cmp ks →
+    ((i : ℕ) → get_or ks i 0 < limit) → next ≤ limit → length ks + next ≤ limit
 unfolding IsStrictlySortedBy
 few_below next limit [] from rising fits le = omega arith
 few_below next limit (k ∷ ks) from rising fits le =
@@ -144,11 +162,14 @@ from_zero : (ks : List ℕ) → AllByRecursion (λ k. 0 ≤ k) ks
 from_zero [] = tt
 from_zero (k ∷ ks) = (omega arith, from_zero ks)
 
-pub all_of_them : (content : Contents) (ks : List ℕ) → ((i : ℕ) → get_or ks i 0 < 65536) → ks ≡ take (65536 + 1) (keys content) → ks ≡ keys content
+pub all_of_them : (content : Contents) (ks : List ℕ) → ((i : ℕ) → get_or ks i 0 < 65536) →
+    ks ≡ take (65536 + 1) (keys content) → ks ≡ keys content
 all_of_them content ks fits is =
-    let rising : IsStrictlySortedBy nat_cmp ks = subst (IsStrictlySortedBy nat_cmp) (sym is) (rising_front (65536 + 1) (keys content) (keys_rise content)) in
+    let rising : IsStrictlySortedBy nat_cmp ks = subst (IsStrictlySortedBy nat_cmp) (sym is)
+    (rising_front (65536 + 1) (keys content) (keys_rise content)) in
     let few = few_below 0 65536 ks (from_zero ks) rising fits (omega arith) in
-    let short : length (keys content) ≤ 65536 + 1 = omega (arith, few, ap (λ (xs : List ℕ). length xs) is, length-take (65536 + 1) (keys content)) in
+    let short : length (keys content) ≤ 65536 + 1 =
+    omega (arith, few, ap (λ (xs : List ℕ). length xs) is, length-take (65536 + 1) (keys content)) in
     is ∙ take_all (65536 + 1) (keys content) short
 
 -- ---- an emptied old file
@@ -161,7 +182,8 @@ pub emptied : joint_file empty ≡ 68 ∷ 77 ∷ 80 ∷ 71 ∷ 1 ∷ 0 ∷ 0 ∷
 unfolding joint_file
 emptied =
     let none : len {X = Pages} {R = nat_cmp} empty ≡ 0 = len-empty nat_cmp Pages in
-    let es : entries {X = Pages} {R = nat_cmp} empty ≡ [] = no_entries (entries empty) (sym (len-entries empty) ∙ none) in
+    let es : entries {X = Pages} {R = nat_cmp} empty ≡ [] = no_entries (entries empty) (sym (len-entries empty) ∙
+    none) in
     rw (none, es) refl
 
 pub holds_none : SpellsAll (68 ∷ 77 ∷ 80 ∷ 71 ∷ 1 ∷ 0 ∷ 0 ∷ []) empty
@@ -184,7 +206,8 @@ plans_stay old set = record {
 
 -- the plans once entries were moved, and once the old file was replaced after that
 module _ (old : Saved) (set : SavedSet) (ks : List ℕ) (count : ℕ) (rest : List ℕ) (after : SavedSet) where
-  pub plans_abandoned : (fault : ReplaceFault) → MovesEntries set ks count rest (Err fault) after → KeepsPlans old set old after
+  pub plans_abandoned : (fault : ReplaceFault) → MovesEntries set ks count rest (Err fault) after →
+      KeepsPlans old set old after
   plans_abandoned fault m = record {
     old_honesty = refl;
     old_loads = refl;
@@ -194,7 +217,9 @@ module _ (old : Saved) (set : SavedSet) (ks : List ℕ) (count : ℕ) (rest : Li
     set_saves = m.2.fine;
   }
 
-  pub plans_replaced : (written : ℕ) → MovesEntries set ks count rest (Ok written) after → (bytes : List ℕ) (answer : Result (Unit {0}) ReplaceFault) (old_after : Saved) → Replaces old bytes answer old_after → KeepsPlans old set old_after after
+  pub plans_replaced : (written : ℕ) → MovesEntries set ks count rest (Ok written) after →
+      (bytes : List ℕ) (answer : Result (Unit {0}) ReplaceFault) (old_after : Saved) →
+      Replaces old bytes answer old_after → KeepsPlans old set old_after after
   plans_replaced written m bytes answer old_after p = record {
     old_honesty = p.same_honesty;
     old_loads = p.same_load_plan;
@@ -209,30 +234,46 @@ module _ (old : Saved) (set : SavedSet) (loaded : List ℕ) (ks : List ℕ) (cou
     (r : ReadsJointFile loaded count rest)
     (loads : IsTrue old.is_honest → Some loaded ≡ option_map (take (42636295 + 1)) old.content)
     (known : IsTrue set.is_honest → ks ≡ keys set.content) where
-  these : (all : List (ℕ × Pages)) → entries_at count 0 rest ≡ Some all → IsTrue old.is_honest → (held : Documents) → HoldsJointFile old.content held → entries held ≡ all
+  these : (all : List (ℕ × Pages)) → entries_at count 0 rest ≡ Some all → IsTrue old.is_honest → (held : Documents) →
+      HoldsJointFile old.content held → entries held ≡ all
   these all read honest held h =
-      let one : r.held ≡ held = one_old loaded r.held held r.spelled (spelled_content old.content loaded held (loads honest) h) in
+      let one : r.held ≡ held = one_old loaded r.held held r.spelled
+      (spelled_content old.content loaded held (loads honest) h) in
       ap (λ (d : Documents). entries d) (sym one) ∙ entries_is (entries r.held) all (sym r.read ∙ read)
 
-  pub abandoned : (after : SavedSet) (fault : ReplaceFault) → MovesEntries set ks count rest (Err fault) after → KeepsFiles old set old after
-  abandoned after fault m honest set_honest held h = (held, h, λ id. m.2.joined set_honest (known set_honest) held (these m.0 m.1 honest held h) id)
+  pub abandoned : (after : SavedSet) (fault : ReplaceFault) → MovesEntries set ks count rest (Err fault) after →
+      KeepsFiles old set old after
+  abandoned after fault m honest set_honest held h =
+      (held, h, λ id. m.2.joined set_honest (known set_honest) held (these m.0 m.1 honest held h) id)
 
   module _ (set_after : SavedSet) (written : ℕ) (m : MovesEntries set ks count rest (Ok written) set_after) where
-    carried : IsTrue old.is_honest → IsTrue set.is_honest → (held : Documents) → HoldsJointFile old.content held → Moving set.content set_after.content held [] written
+    carried : IsTrue old.is_honest → IsTrue set.is_honest → (held : Documents) → HoldsJointFile old.content held →
+        Moving set.content set_after.content held [] written
     carried honest set_honest held h = m.2.moving set_honest (known set_honest) held (these m.0 m.1 honest held h)
 
-    kept_emptied : (after : Saved) → after.content ≡ Some (68 ∷ 77 ∷ 80 ∷ 71 ∷ 1 ∷ 0 ∷ 0 ∷ []) → IsTrue old.is_honest → IsTrue set.is_honest → (held : Documents) → HoldsJointFile old.content held →
-        (kept : Documents) × HoldsJointFile after.content kept × ((id : ℕ) → file_in_either set_after.content kept id ≡ file_in_either set.content held id)
+    kept_emptied : (after : Saved) → after.content ≡ Some (68 ∷ 77 ∷ 80 ∷ 71 ∷ 1 ∷ 0 ∷ 0 ∷ []) → IsTrue old.is_honest →
+        IsTrue set.is_honest → (held : Documents) → HoldsJointFile old.content held →
+        (kept : Documents) × HoldsJointFile after.content kept ×
+        ((id : ℕ) → file_in_either set_after.content kept id ≡ file_in_either set.content held id)
     kept_emptied after is honest set_honest held h =
-        let c = carried honest set_honest held h in
-        (empty, subst (λ (o : Option (List ℕ)). HoldsJointFile o empty) (sym is) holds_none, λ id. joined_alone set_after.content id ∙ moved set.content set_after.content held written c id)
+        let c = carried honest set_honest held h in (
+          empty,
+          subst (λ (o : Option (List ℕ)). HoldsJointFile o empty) (sym is) holds_none,
+          λ id. joined_alone set_after.content id ∙ moved set.content set_after.content held written c id,
+        )
 
-    kept_old : (after : Saved) → after.content ≡ old.content → IsTrue old.is_honest → IsTrue set.is_honest → (held : Documents) → HoldsJointFile old.content held →
-        (kept : Documents) × HoldsJointFile after.content kept × ((id : ℕ) → file_in_either set_after.content kept id ≡ file_in_either set.content held id)
-    kept_old after is honest set_honest held h =
-        (held, subst (λ (o : Option (List ℕ)). HoldsJointFile o held) (sym is) h, (carried honest set_honest held h).joined)
+    kept_old : (after : Saved) → after.content ≡ old.content → IsTrue old.is_honest → IsTrue set.is_honest →
+        (held : Documents) → HoldsJointFile old.content held →
+        (kept : Documents) × HoldsJointFile after.content kept ×
+        ((id : ℕ) → file_in_either set_after.content kept id ≡ file_in_either set.content held id)
+    kept_old after is honest set_honest held h = (
+      held,
+      subst (λ (o : Option (List ℕ)). HoldsJointFile o held) (sym is) h,
+      (carried honest set_honest held h).joined,
+    )
 
-    pub joined_done : (after : Saved) → Replaces old (68 ∷ 77 ∷ 80 ∷ 71 ∷ 1 ∷ 0 ∷ 0 ∷ []) (Ok tt) after → KeepsFiles old set after set_after
+    pub joined_done : (after : Saved) → Replaces old (68 ∷ 77 ∷ 80 ∷ 71 ∷ 1 ∷ 0 ∷ 0 ∷ []) (Ok tt) after →
+        KeepsFiles old set after set_after
     joined_done after p honest set_honest held h = kept_emptied after (p.done refl honest) honest set_honest held h
 
     either : (plan : SavePlan) (a b c : Option (List ℕ)) → HeldAfterFault plan a b c → (c ≡ a) ⊎ (c ≡ b)
@@ -241,16 +282,21 @@ module _ (old : Saved) (set : SavedSet) (loaded : List ℕ) (ks : List ℕ) (cou
     either SavesFine a b c h = h
     either SavesOpen a b c h = h
 
-    pub joined_faulted : (after : Saved) (fault : ReplaceFault) → Replaces old (68 ∷ 77 ∷ 80 ∷ 71 ∷ 1 ∷ 0 ∷ 0 ∷ []) (Err fault) after → KeepsFiles old set after set_after
-    joined_faulted after replaces.Memory p honest set_honest held h = kept_old after (ap (λ (s : Saved). s.content) (p.refused refl)) honest set_honest held h
+    pub joined_faulted : (after : Saved) (fault : ReplaceFault) →
+        Replaces old (68 ∷ 77 ∷ 80 ∷ 71 ∷ 1 ∷ 0 ∷ 0 ∷ []) (Err fault) after → KeepsFiles old set after set_after
+    joined_faulted after replaces.Memory p honest set_honest held h =
+        kept_old after (ap (λ (s : Saved). s.content) (p.refused refl)) honest set_honest held h
     joined_faulted after replaces.Device p honest set_honest held h =
-        elim (either old.save_plan old.content (Some (68 ∷ 77 ∷ 80 ∷ 71 ∷ 1 ∷ 0 ∷ 0 ∷ [])) after.content (p.faulted refl honest)) as (λ _.
-        (kept : Documents) × HoldsJointFile after.content kept × ((id : ℕ) → file_in_either set_after.content kept id ≡ file_in_either set.content held id)) [
+        elim (either old.save_plan old.content (Some (68 ∷ 77 ∷ 80 ∷ 71 ∷ 1 ∷ 0 ∷ 0 ∷ [])) after.content
+        (p.faulted refl honest)) as (λ _.
+        (kept : Documents) × HoldsJointFile after.content kept ×
+        ((id : ℕ) → file_in_either set_after.content kept id ≡ file_in_either set.content held id)) [
           | inl is ↦ kept_old after is honest set_honest held h
           | inr is ↦ kept_emptied after is honest set_honest held h
         ]
 
-    pub moves_done : (after : Saved) → (count ≡ 0 → ⊥) → Replaces old (68 ∷ 77 ∷ 80 ∷ 71 ∷ 1 ∷ 0 ∷ 0 ∷ []) (Ok tt) after → Moves old set written after set_after
+    pub moves_done : (after : Saved) → (count ≡ 0 → ⊥) →
+        Replaces old (68 ∷ 77 ∷ 80 ∷ 71 ∷ 1 ∷ 0 ∷ 0 ∷ []) (Ok tt) after → Moves old set written after set_after
     moves_done after some p honest set_honest =
         let h : HoldsJointFile old.content r.held = old_content old.content loaded r.held (loads honest) r.spelled in
         let c = carried honest set_honest r.held h in (
@@ -259,7 +305,10 @@ module _ (old : Saved) (set : SavedSet) (loaded : List ℕ) (ks : List ℕ) (cou
             holds = h;
             each = moved set.content set_after.content r.held written c;
             count = c.count;
-            emptied = ((λ _. p.done refl honest ∙ ap (λ (bs : List ℕ). Some bs) (sym emptied)), λ none. absurd (some (r.counted ∙ none)));
+            emptied = (
+              (λ _. p.done refl honest ∙ ap (λ (bs : List ℕ). Some bs) (sym emptied)),
+              λ none. absurd (some (r.counted ∙ none)),
+            );
           },
         )
 
@@ -271,7 +320,8 @@ module _ (old : Saved) (set : SavedSet) (loaded : List ℕ) (ks : List ℕ) (cou
         r.held,
         record {
           holds = h;
-          each = λ id. sym (joined_alone set.content id) ∙ ap (λ (d : Documents). file_in_either set.content d id) (sym is);
+          each = λ id. sym (joined_alone set.content id) ∙ ap (λ (d : Documents). file_in_either set.content d id)
+              (sym is);
           count = omega arith;
           emptied = ((λ lt. absurd (omega arith)), λ _. (refl, refl));
         },
@@ -281,7 +331,8 @@ none_content : (content : Option (List ℕ)) → None ≡ option_map (take (4263
 none_content None e = refl
 none_content (Some bytes) e = absurd cc
 
-pub moves_none : (old : Saved) (set : SavedSet) → (IsTrue old.is_honest → None ≡ option_map (take (42636295 + 1)) old.content) → Moves old set 0 old set
+pub moves_none : (old : Saved) (set : SavedSet) →
+    (IsTrue old.is_honest → None ≡ option_map (take (42636295 + 1)) old.content) → Moves old set 0 old set
 moves_none old set loads honest set_honest =
     let is : old.content ≡ None = none_content old.content (loads honest) in
     let none : len {X = Pages} {R = nat_cmp} empty ≡ 0 = len-empty nat_cmp Pages in (
@@ -294,15 +345,34 @@ moves_none old set loads honest set_honest =
       },
     )
 
-pub faulty : (old : Saved) (set : SavedSet) (loaded : List ℕ) (fault : MoveFault) → (IsTrue old.is_honest → Some loaded ≡ option_map (take (42636295 + 1)) old.content) → HasJointFileFault loaded fault → HasMoveFault old set fault old set
-faulty old set loaded NotPages loads h = record { faulty = λ honest. faulty_content old.content loaded NotPages (loads honest) h; same_old = refl; same_set = refl }
-faulty old set loaded Version loads h = record { faulty = λ honest. faulty_content old.content loaded Version (loads honest) h; same_old = refl; same_set = refl }
-faulty old set loaded Damaged loads h = record { faulty = λ honest. faulty_content old.content loaded Damaged (loads honest) h; same_old = refl; same_set = refl }
+pub faulty : (old : Saved) (set : SavedSet) (loaded : List ℕ) (fault : MoveFault) →
+    (IsTrue old.is_honest → Some loaded ≡ option_map (take (42636295 + 1)) old.content) →
+    HasJointFileFault loaded fault → HasMoveFault old set fault old set
+faulty old set loaded NotPages loads h =
+    record {
+      faulty = λ honest. faulty_content old.content loaded NotPages (loads honest) h;
+      same_old = refl;
+      same_set = refl;
+    }
+faulty old set loaded Version loads h =
+    record {
+      faulty = λ honest. faulty_content old.content loaded Version (loads honest) h;
+      same_old = refl;
+      same_set = refl;
+    }
+faulty old set loaded Damaged loads h =
+    record {
+      faulty = λ honest. faulty_content old.content loaded Damaged (loads honest) h;
+      same_old = refl;
+      same_set = refl;
+    }
 faulty old set loaded Device loads h = absurd h
 faulty old set loaded Memory loads h = absurd h
 
-pub not_fine : (old : Saved) (set : SavedSet) (bytes : List ℕ) (after : Saved) → Replaces old bytes (Err replaces.Device) after → ¬ AllFine old set
-not_fine old set bytes after p f = subst (λ (plan : SavePlan). Follows plan Faulted after.save_plan) f.old_saves p.follows
+pub not_fine : (old : Saved) (set : SavedSet) (bytes : List ℕ) (after : Saved) →
+    Replaces old bytes (Err replaces.Device) after → ¬ AllFine old set
+not_fine old set bytes after p f =
+    subst (λ (plan : SavePlan). Follows plan Faulted after.save_plan) f.old_saves p.follows
 
 -- ---- an old store that has nothing to move
 
@@ -314,10 +384,12 @@ fifth : (held : Documents) → slice_get (joint_file held) 4 ≡ Some 1
 unfolding joint_file
 fifth held = refl
 
-no_fault : (bytes : List ℕ) (held : Documents) → SpellsAll bytes held → (fault : MoveFault) → HasJointFileFault bytes fault → ⊥
+no_fault : (bytes : List ℕ) (held : Documents) → SpellsAll bytes held → (fault : MoveFault) →
+    HasJointFileFault bytes fault → ⊥
 no_fault bytes held s NotPages h = h (ap (take 4) s.spelled ∙ marked held)
 no_fault bytes held s Version h =
-    subst (λ (o : Option ℕ). IsSomeAnd o (λ version. version ≢ 1)) (ap (λ (bs : List ℕ). slice_get bs 4) s.spelled ∙ fifth held) h.1 refl
+    subst (λ (o : Option ℕ). IsSomeAnd o (λ version. version ≢ 1)) (ap (λ (bs : List ℕ). slice_get bs 4) s.spelled ∙
+    fifth held) h.1 refl
 no_fault bytes held s Damaged h = h.2 held s
 no_fault bytes held s Device h = h
 no_fault bytes held s Memory h = h
@@ -343,12 +415,15 @@ answered written = Ok written
 abbrev refused : MoveFault → Result ℕ MoveFault
 refused fault = Err fault
 
-pub leaves_none : (old : Saved) (set : SavedSet) → (IsTrue old.is_honest → None ≡ option_map (take (42636295 + 1)) old.content) → LeavesAlone old set (Ok 0) old set
+pub leaves_none : (old : Saved) (set : SavedSet) →
+    (IsTrue old.is_honest → None ≡ option_map (take (42636295 + 1)) old.content) → LeavesAlone old set (Ok 0) old set
 leaves_none old set loads honest (Ok written) h = (refl, refl, inl (ap answered (sym h.1)))
 leaves_none old set loads honest (Err fault) h =
-    absurd (subst (λ (o : Option (List ℕ)). IsSomeAnd o (λ bytes. HasJointFileFault bytes fault)) (none_content old.content (loads honest)) h)
+    absurd (subst (λ (o : Option (List ℕ)). IsSomeAnd o (λ bytes. HasJointFileFault bytes fault))
+    (none_content old.content (loads honest)) h)
 
-pub leaves_failed : (old : Saved) (set : SavedSet) → old.load_plan ≡ LoadsOpen → LeavesAlone old set (Err Device) old set
+pub leaves_failed : (old : Saved) (set : SavedSet) → old.load_plan ≡ LoadsOpen →
+    LeavesAlone old set (Err Device) old set
 leaves_failed old set may honest answer h = (refl, refl, inr may)
 
 pub leaves_refused : (old : Saved) (set : SavedSet) → LeavesAlone old set (Err Memory) old set
@@ -357,19 +432,30 @@ leaves_refused old set honest answer h = (refl, refl, inr tt)
 module _ (old : Saved) (set : SavedSet) (loaded : List ℕ)
     (loads : IsTrue old.is_honest → Some loaded ≡ option_map (take (42636295 + 1)) old.content) where
   pub leaves_faulty : (fault : MoveFault) → HasJointFileFault loaded fault → LeavesAlone old set (Err fault) old set
-  leaves_faulty fault f honest (Ok written) h = absurd (no_fault loaded empty (spelled_content old.content loaded empty (loads honest) h.0) fault f)
-  leaves_faulty fault f honest (Err other) h = (refl, refl, inl (ap refused (one_fault loaded fault other f (loaded_fault old.content loaded other (loads honest) h))))
+  leaves_faulty fault f honest (Ok written) h =
+      absurd (no_fault loaded empty (spelled_content old.content loaded empty (loads honest) h.0) fault f)
+  leaves_faulty fault f honest (Err other) h = (
+    refl,
+    refl,
+    inl (ap refused (one_fault loaded fault other f
+        (loaded_fault old.content loaded other (loads honest) h))),
+  )
 
   module _ (count : ℕ) (rest : List ℕ) (r : ReadsJointFile loaded count rest) where
     pub leaves_empty : LeavesAlone old set (Ok 0) old set
     leaves_empty honest (Ok written) h = (refl, refl, inl (ap answered (sym h.1)))
-    leaves_empty honest (Err fault) h = absurd (no_fault loaded r.held r.spelled fault (loaded_fault old.content loaded fault (loads honest) h))
+    leaves_empty honest (Err fault) h =
+        absurd (no_fault loaded r.held r.spelled fault (loaded_fault old.content loaded fault (loads honest) h))
 
-    has_some : (count ≡ 0 → ⊥) → IsTrue old.is_honest → (answer : Result ℕ MoveFault) → AnswersNone old.content answer → ⊥
+    has_some : (count ≡ 0 → ⊥) → IsTrue old.is_honest → (answer : Result ℕ MoveFault) →
+        AnswersNone old.content answer → ⊥
     has_some some honest (Ok written) h =
-        let none : r.held ≡ empty = one_old loaded r.held empty r.spelled (spelled_content old.content loaded empty (loads honest) h.0) in
+        let none : r.held ≡ empty = one_old loaded r.held empty r.spelled
+        (spelled_content old.content loaded empty (loads honest) h.0) in
         some (r.counted ∙ ap (λ (d : Documents). len d) none ∙ len-empty nat_cmp Pages)
-    has_some some honest (Err fault) h = no_fault loaded r.held r.spelled fault (loaded_fault old.content loaded fault (loads honest) h)
+    has_some some honest (Err fault) h = no_fault loaded r.held r.spelled fault
+        (loaded_fault old.content loaded fault (loads honest) h)
 
-    pub leaves_some : (count ≡ 0 → ⊥) → (result : Result ℕ MoveFault) (old_after : Saved) (set_after : SavedSet) → LeavesAlone old set result old_after set_after
+    pub leaves_some : (count ≡ 0 → ⊥) → (result : Result ℕ MoveFault) (old_after : Saved) (set_after : SavedSet) →
+        LeavesAlone old set result old_after set_after
     leaves_some some result old_after set_after honest answer h = absurd (has_some some honest answer h)

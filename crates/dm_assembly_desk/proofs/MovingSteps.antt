@@ -27,9 +27,11 @@ use Rattle.dm_assembly_desk.proofs.MovingLaws.{begin_moving, pass, write, joined
 some_is : (x y : List (ℕ × Pages)) → Some x ≡ Some y → x ≡ y
 some_is x y e = cc
 
-pub none_left : (count i next : ℕ) (bytes : List ℕ) (left : List (ℕ × Pages)) → count ≤ i → entries_at (count - i) next bytes ≡ Some left → left ≡ []
+pub none_left : (count i next : ℕ) (bytes : List ℕ) (left : List (ℕ × Pages)) → count ≤ i →
+    entries_at (count - i) next bytes ≡ Some left → left ≡ []
 unfolding entries_at
-none_left count i next bytes left le e = at_end bytes (subst (λ (k : ℕ). entries_at k next bytes ≡ Some left) zero_left e)
+none_left count i next bytes left le e =
+    at_end bytes (subst (λ (k : ℕ). entries_at k next bytes ≡ Some left) zero_left e)
   where
     zero_left : count - i ≡ 0
     zero_left = omega arith
@@ -44,7 +46,8 @@ pub record Splits (count i next : ℕ) (x : (ℕ × Pages) × List ℕ) (left : 
   pub is : left ≡ x.0 ∷ others
   pub read : entries_at (count - (i + 1)) (x.0.0 + 1) x.1 ≡ Some others
 
-bind_some : {A B : Type 0} (r : Option A) (f : A → Option B) (y : B) → (r >>= f) ≡ Some y → (x : A) × (r ≡ Some x) × (f x ≡ Some y)
+bind_some : {A B : Type 0} (r : Option A) (f : A → Option B) (y : B) → (r >>= f) ≡ Some y →
+    (x : A) × (r ≡ Some x) × (f x ≡ Some y)
 bind_some (Some x) f y e = (x, refl, e)
 bind_some None f y e = absurd cc
 
@@ -52,34 +55,46 @@ guard_more : {A : Type 0} (b : Bool) (r : Option A) (y : A) → cond b None r �
 guard_more true r y e = absurd cc
 guard_more false r y e = (refl, e)
 
-pub splits : (count i next : ℕ) (bytes : List ℕ) (x : (ℕ × Pages) × List ℕ) (left : List (ℕ × Pages)) → i < count → entry_at bytes ≡ Some x → entries_at (count - i) next bytes ≡ Some left → Splits count i next x left
+pub splits : (count i next : ℕ) (bytes : List ℕ) (x : (ℕ × Pages) × List ℕ) (left : List (ℕ × Pages)) → i < count →
+    entry_at bytes ≡ Some x → entries_at (count - i) next bytes ≡ Some left → Splits count i next x left
 unfolding entries_at
 splits count i next bytes x left lt is e =
     let k : count - i ≡ suc (count - (i + 1)) = omega arith in
-    let more : entries_at (suc (count - (i + 1))) next bytes ≡ Some left = subst (λ (n : ℕ). entries_at n next bytes ≡ Some left) k e in
-    let first : cond (ltb x.0.0 next) None (entries_at (count - (i + 1)) (x.0.0 + 1) x.1 >>= λ es. Some (x.0 ∷ es)) ≡ Some left =
-    sym (ap (λ (o : Option ((ℕ × Pages) × List ℕ)). o >>= λ y. cond (ltb y.0.0 next) None (entries_at (count - (i + 1)) (y.0.0 + 1) y.1 >>= λ es. Some (y.0 ∷ es))) is) ∙ more in
-    let g = guard_more (ltb x.0.0 next) (entries_at (count - (i + 1)) (x.0.0 + 1) x.1 >>= λ es. Some (x.0 ∷ es)) left first in
+    let more : entries_at (suc (count - (i + 1))) next bytes ≡ Some left =
+    subst (λ (n : ℕ). entries_at n next bytes ≡ Some left) k e in
+    let first : cond (ltb x.0.0 next) None
+    (entries_at (count - (i + 1)) (x.0.0 + 1) x.1 >>= λ es. Some (x.0 ∷ es)) ≡ Some left =
+    sym (ap (λ (o : Option ((ℕ × Pages) × List ℕ)). o >>= λ y. cond (ltb y.0.0 next) None
+    (entries_at (count - (i + 1)) (y.0.0 + 1) y.1 >>= λ es. Some (y.0 ∷ es))) is) ∙ more in
+    let g = guard_more (ltb x.0.0 next) (entries_at (count - (i + 1)) (x.0.0 + 1) x.1 >>= λ es. Some (x.0 ∷ es)) left
+    first in
     let r = bind_some (entries_at (count - (i + 1)) (x.0.0 + 1) x.1) (λ es. Some (x.0 ∷ es)) left g.1 in
     record { others = r.0; is = sym (some_is (x.0 ∷ r.0) left r.2); read = r.1 }
 
-pub not_stuck : (count i next : ℕ) (bytes : List ℕ) (left : List (ℕ × Pages)) → i < count → entry_at bytes ≡ None → entries_at (count - i) next bytes ≡ Some left → ⊥
+pub not_stuck : (count i next : ℕ) (bytes : List ℕ) (left : List (ℕ × Pages)) → i < count → entry_at bytes ≡ None →
+    entries_at (count - i) next bytes ≡ Some left → ⊥
 unfolding entries_at
 not_stuck count i next bytes left lt is e =
     let k : count - i ≡ suc (count - (i + 1)) = omega arith in
-    let more : entries_at (suc (count - (i + 1))) next bytes ≡ Some left = subst (λ (n : ℕ). entries_at n next bytes ≡ Some left) k e in
-    let none : None ≡ Some left = sym (ap (λ (o : Option ((ℕ × Pages) × List ℕ)). o >>= λ y. cond (ltb y.0.0 next) None (entries_at (count - (i + 1)) (y.0.0 + 1) y.1 >>= λ es. Some (y.0 ∷ es))) is) ∙ more in
+    let more : entries_at (suc (count - (i + 1))) next bytes ≡ Some left =
+    subst (λ (n : ℕ). entries_at n next bytes ≡ Some left) k e in
+    let none : None ≡ Some left = sym (ap (λ (o : Option ((ℕ × Pages) × List ℕ)). o >>= λ y. cond (ltb y.0.0 next) None
+    (entries_at (count - (i + 1)) (y.0.0 + 1) y.1 >>= λ es. Some (y.0 ∷ es))) is) ∙ more in
     absurd cc
 
 -- the bytes of an entry
-pub spelled_front : (bytes : List ℕ) (x : (ℕ × Pages) × List ℕ) → IsBytes bytes → entry_at bytes ≡ Some x → take (length bytes - length x.1) bytes ≡ entry x.0.0 x.0.1
+pub spelled_front : (bytes : List ℕ) (x : (ℕ × Pages) × List ℕ) → IsBytes bytes → entry_at bytes ≡ Some x →
+    take (length bytes - length x.1) bytes ≡ entry x.0.0 x.0.1
 spelled_front bytes x fits is =
     let t = entry_takes bytes x fits is in
     let front : List ℕ = entry x.0.0 x.0.1 in
-    let n : length front ≡ length bytes - length x.1 = omega (arith, ap (λ (bs : List ℕ). length bs) t.0.parts, length-append front x.1) in
-    ap (λ (bs : List ℕ). take (length bytes - length x.1) bs) t.0.parts ∙ take_at front x.1 (length bytes - length x.1) n
+    let n : length front ≡ length bytes - length x.1 =
+    omega (arith, ap (λ (bs : List ℕ). length bs) t.0.parts, length-append front x.1) in
+    ap (λ (bs : List ℕ). take (length bytes - length x.1) bs) t.0.parts ∙
+    take_at front x.1 (length bytes - length x.1) n
 
-pub not_longer : (bytes : List ℕ) (x : (ℕ × Pages) × List ℕ) → IsBytes bytes → entry_at bytes ≡ Some x → length x.1 ≤ length bytes
+pub not_longer : (bytes : List ℕ) (x : (ℕ × Pages) × List ℕ) → IsBytes bytes → entry_at bytes ≡ Some x →
+    length x.1 ≤ length bytes
 not_longer bytes x fits is =
     let t = entry_takes bytes x fits is in
     omega (arith, ap (λ (bs : List ℕ). length bs) t.0.parts, length-append (entry x.0.0 x.0.1) x.1)
@@ -100,7 +115,8 @@ tested_one id y =
 
 pub tested : (id : ℕ) (ks : List ℕ) → list_any (λ y. eqb y id) ks ≡ among id ks
 tested id [] = refl
-tested id (k ∷ ks) = ap (λ b. b || list_any (λ y. eqb y id) ks) (tested_one id k) ∙ ap (λ b. eq_by_cmp nat_cmp id k || b) (tested id ks)
+tested id (k ∷ ks) = ap (λ b. b || list_any (λ y. eqb y id) ks) (tested_one id k) ∙
+    ap (λ b. eq_by_cmp nat_cmp id k || b) (tested id ks)
 
 some_true : {X : Type 0} (o : Option X) → is_some o ≡ true → IsSome o
 some_true None e = absurd cc
@@ -119,7 +135,8 @@ begins_carrying s ks all = record {
   same_honesty = refl;
   same_load_plan = refl;
   fine = λ e. e;
-  moving = λ honest known held is. subst (λ (es : List (ℕ × Pages)). Moving s.content s.content held es 0) is (begin_moving s.content held);
+  moving = λ honest known held is. subst (λ (es : List (ℕ × Pages)). Moving s.content s.content held es 0) is
+      (begin_moving s.content held);
 }
 
 either : (plan : SavePlan) (a b c : Contents) → HeldAfterFault plan a b c → (c ≡ a) ⊎ (c ≡ b)
@@ -129,7 +146,8 @@ either SavesFine a b c h = h
 either SavesOpen a b c h = h
 
 -- a fine plan stays fine, however a save ends
-pub stays_fine : (plan : SavePlan) (outcome : Outcome) (next : SavePlan) → Follows plan outcome next → plan ≡ SavesFine → next ≡ SavesFine
+pub stays_fine : (plan : SavePlan) (outcome : Outcome) (next : SavePlan) → Follows plan outcome next →
+    plan ≡ SavesFine → next ≡ SavesFine
 stays_fine plan outcome next f e = from_fine outcome (subst (λ (p : SavePlan). Follows p outcome next) e f)
   where
     from_fine : (end : Outcome) → Follows SavesFine end next → next ≡ SavesFine
@@ -137,13 +155,16 @@ stays_fine plan outcome next f e = from_fine outcome (subst (λ (p : SavePlan). 
     from_fine Refused h = h
     from_fine Faulted h = absurd h
 
-module _ (start now : SavedSet) (ks : List ℕ) (all : List (ℕ × Pages)) (e : ℕ × Pages) (rest : List (ℕ × Pages)) (written : ℕ) (c : Carries start now ks all (e ∷ rest) written) where
+module _ (start now : SavedSet) (ks : List ℕ)
+    (all : List (ℕ × Pages)) (e : ℕ × Pages) (rest : List (ℕ × Pages)) (written : ℕ)
+    (c : Carries start now ks all (e ∷ rest) written) where
   pub passes : among e.0 ks ≡ true → Carries start now ks all rest written
   passes there = record {
     same_honesty = c.same_honesty;
     same_load_plan = c.same_load_plan;
     fine = c.fine;
-    moving = λ honest known held is. pass start.content now.content held e rest written (c.moving honest known held is) (has_key start.content ks e.0 known there);
+    moving = λ honest known held is. pass start.content now.content held e rest written (c.moving honest known held is)
+        (has_key start.content ks e.0 known there);
   }
 
   module _ (after : SavedSet) (absent : among e.0 ks ≡ false) where
@@ -157,24 +178,36 @@ module _ (start now : SavedSet) (ks : List ℕ) (all : List (ℕ × Pages)) (e :
       fine = λ fine. subst (λ (p : SavePlan). Follows p Done after.save_plan) (c.fine fine) r.follows;
       moving = λ honest known held is.
           let m = c.moving honest known held is in
-          subst (λ (content : Contents). Moving start.content content held rest (written + 1)) (sym (r.done refl (still_honest honest)))
+          subst (λ (content : Contents). Moving start.content content held rest
+          (written + 1)) (sym (r.done refl (still_honest honest)))
           (write start.content now.content held e rest written m (no_key start.content ks e.0 known absent));
     }
 
-    joined_after : (fault : ReplaceFault) → ReplacesKey now e.0 (file e.0 e.1) (Err fault) after → IsTrue start.is_honest → ks ≡ keys start.content → (held : Documents) → entries held ≡ all → (id : ℕ) → file_in_either after.content held id ≡ file_in_either start.content held id
+    joined_after : (fault : ReplaceFault) → ReplacesKey now e.0 (file e.0 e.1) (Err fault) after →
+        IsTrue start.is_honest → ks ≡ keys start.content → (held : Documents) → entries held ≡ all → (id : ℕ) →
+        file_in_either after.content held id ≡ file_in_either start.content held id
     joined_after replaces.Memory r honest known held is id =
-        ap (λ (s : SavedSet). file_in_either s.content held id) (r.refused refl) ∙ (c.moving honest known held is).joined id
+        ap (λ (s : SavedSet). file_in_either s.content held id) (r.refused refl) ∙
+        (c.moving honest known held is).joined id
     joined_after replaces.Device r honest known held is id =
-        elim (either now.save_plan now.content (insert now.content e.0 (file e.0 e.1)) after.content (r.faulted refl (still_honest honest))) as (λ _. file_in_either after.content held id ≡ file_in_either start.content held id) [
-          | inl same ↦ ap (λ (content : Contents). file_in_either content held id) same ∙ (c.moving honest known held is).joined id
-          | inr put ↦ ap (λ (content : Contents). file_in_either content held id) put ∙ joined_with start.content now.content held e rest written (c.moving honest known held is) (no_key start.content ks e.0 known absent) id
+        elim (either now.save_plan now.content (insert now.content e.0 (file e.0 e.1)) after.content
+        (r.faulted refl (still_honest honest))) as (λ _. file_in_either after.content held
+        id ≡ file_in_either start.content held id) [
+          | inl same ↦ ap (λ (content : Contents). file_in_either content held id) same ∙
+              (c.moving honest known held is).joined id
+          | inr put ↦ ap (λ (content : Contents). file_in_either content held id) put ∙
+              joined_with start.content now.content held e rest written (c.moving honest known held is)
+              (no_key start.content ks e.0 known absent) id
         ]
 
-    not_fine : (fault : ReplaceFault) → ReplacesKey now e.0 (file e.0 e.1) (Err fault) after → fault ≡ replaces.Device → start.save_plan ≢ SavesFine
-    not_fine replaces.Device r is fine = subst (λ (p : SavePlan). Follows p Faulted after.save_plan) (c.fine fine) r.follows
+    not_fine : (fault : ReplaceFault) → ReplacesKey now e.0 (file e.0 e.1) (Err fault) after → fault ≡ replaces.Device →
+        start.save_plan ≢ SavesFine
+    not_fine replaces.Device r is fine = subst (λ (p : SavePlan). Follows p Faulted after.save_plan)
+        (c.fine fine) r.follows
     not_fine replaces.Memory r is fine = absurd cc
 
-    pub abandons : (fault : ReplaceFault) → ReplacesKey now e.0 (file e.0 e.1) (Err fault) after → Abandons start after ks all fault
+    pub abandons : (fault : ReplaceFault) → ReplacesKey now e.0 (file e.0 e.1) (Err fault) after →
+        Abandons start after ks all fault
     abandons fault r = record {
       same_honesty = r.same_honesty ∙ c.same_honesty;
       same_load_plan = r.same_load_plan ∙ c.same_load_plan;

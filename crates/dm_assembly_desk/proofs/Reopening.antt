@@ -33,10 +33,12 @@ unfolding file
 one_file id a b one other is =
     let same : entry id a ≡ entry id b = ap (λ (bs : List ℕ). drop 5 bs) is in
     let again : Some ((id, a), []) ≡ Some ((id, b), []) =
-    sym (entry_again id a [] one) ∙ ap (λ (bs : List ℕ). entry_at (Rattle.std.proofs.Common.◌++◌ bs [])) same ∙ entry_again id b [] other in
+    sym (entry_again id a [] one) ∙ ap (λ (bs : List ℕ). entry_at (Rattle.std.proofs.Common.◌++◌ bs [])) same ∙
+    entry_again id b [] other in
     ap (λ (x : (ℕ × Pages) × List ℕ). x.0.1) (pair_is ((id, a), []) ((id, b), []) again)
 
-one_saved : (id : ℕ) (a b : Option Pages) → ((pages : Pages) → a ≡ Some pages → IsEntry id pages) → ((pages : Pages) → b ≡ Some pages → IsEntry id pages) → option_map (file id) a ≡ option_map (file id) b → a ≡ b
+one_saved : (id : ℕ) (a b : Option Pages) → ((pages : Pages) → a ≡ Some pages → IsEntry id pages) →
+    ((pages : Pages) → b ≡ Some pages → IsEntry id pages) → option_map (file id) a ≡ option_map (file id) b → a ≡ b
 one_saved id None None one other is = refl
 one_saved id None (Some b) one other is = absurd cc
 one_saved id (Some a) None one other is = absurd cc
@@ -55,11 +57,14 @@ files_of : List (ℕ × Pages) → List (ℕ × List ℕ)
 files_of [] = []
 files_of (e ∷ es) = (e.0, file e.0 e.1) ∷ files_of es
 
-found_file : (es : List (ℕ × Pages)) (id : ℕ) → find nat_cmp id (files_of es) ≡ option_map (file id) (find nat_cmp id es)
+found_file : (es : List (ℕ × Pages)) (id : ℕ) →
+    find nat_cmp id (files_of es) ≡ option_map (file id) (find nat_cmp id es)
 unfolding files_of
 found_file [] id = refl
 found_file (e ∷ es) id =
-    elim (eq_by_cmp nat_cmp id e.0) as (λ b. eq_by_cmp nat_cmp id e.0 ≡ b → cond b (Some (file e.0 e.1)) (find nat_cmp id (files_of es)) ≡ option_map (file id) (cond b (Some e.1) (find nat_cmp id es))) [
+    elim (eq_by_cmp nat_cmp id e.0) as (λ b. eq_by_cmp nat_cmp id e.0 ≡ b →
+    cond b (Some (file e.0 e.1)) (find nat_cmp id (files_of es)) ≡ option_map (file id)
+    (cond b (Some e.1) (find nat_cmp id es))) [
       | true ↦ λ is. ap (λ (k : ℕ). Some (file k e.1)) (sym (same_key id e.0 is))
       | false ↦ λ is. found_file es id
     ] refl
@@ -78,13 +83,16 @@ pub as_many : (content : Contents) (held : Documents) → HoldsFiles content hel
 as_many content held h =
     let fs : List (ℕ × List ℕ) = files_of (entries held) in
     let is : content ≡ as_map fs = same_map nat_cmp_total nat_cmp-IsAntisymmetric content (as_map fs) (λ id.
-    h.files id ∙ ap (option_map (file id)) (get-entries held id) ∙ sym (found_file (entries held) id) ∙ sym (get-from_entries nat_cmp_total fs id)) in
-    let rising : IsStrictlySortedBy nat_cmp (keys_of fs) = subst (IsStrictlySortedBy nat_cmp) (sym (keys_of_files (entries held))) (keys_rise held) in
+    h.files id ∙ ap (option_map (file id)) (get-entries held id) ∙ sym (found_file (entries held) id) ∙
+    sym (get-from_entries nat_cmp_total fs id)) in
+    let rising : IsStrictlySortedBy nat_cmp (keys_of fs) = subst (IsStrictlySortedBy nat_cmp)
+    (sym (keys_of_files (entries held))) (keys_rise held) in
     ap (λ (m : Contents). len m) is ∙ len_is fs rising ∙ length_of_files (entries held) ∙ sym (len-entries held)
 
 -- ---- why such a set gives no desk
 
-there_is : (id : ℕ) (o : Option Pages) (bytes : List ℕ) → option_map (file id) o ≡ Some bytes → (pages : Pages) × (o ≡ Some pages) × (bytes ≡ file id pages)
+there_is : (id : ℕ) (o : Option Pages) (bytes : List ℕ) → option_map (file id) o ≡ Some bytes →
+    (pages : Pages) × (o ≡ Some pages) × (bytes ≡ file id pages)
 there_is id None bytes e = absurd cc
 there_is id (Some pages) bytes e = (pages, refl, cc)
 
@@ -93,22 +101,35 @@ no_fault id pages NotPages sound h = h (file_marked id pages)
 no_fault id pages Version sound h = file_not_other id pages h.1
 no_fault id pages Damaged sound h = h.2 (pages, record { sound = sound; spelled = refl })
 
-pub no_first_fault : (content : Contents) (held : Documents) (fault : FileFault) → HoldsFiles content held → ¬ FirstFault content fault
+pub no_first_fault : (content : Contents) (held : Documents) (fault : FileFault) → HoldsFiles content held →
+    ¬ FirstFault content fault
 no_first_fault content held fault h first =
     let t = there_is first.key (get held first.key) first.bytes (sym (h.files first.key) ∙ first.there) in
-    no_fault first.key t.0 fault (h.entries first.key t.0 t.1) (subst (λ (bs : List ℕ). HasFileFault first.key bs fault) t.2 first.faulty)
+    no_fault first.key t.0 fault (h.entries first.key t.0 t.1)
+    (subst (λ (bs : List ℕ). HasFileFault first.key bs fault) t.2 first.faulty)
 
-pub may_fail : (saved : SavedSet) (capacity : ℕ) (held : Documents) (fault : DeskFault) → IsTrue saved.is_honest → HoldsFiles saved.content held → IsCapacity capacity → len held ≤ capacity
+pub may_fail : (saved : SavedSet) (capacity : ℕ) (held : Documents) (fault : DeskFault) → IsTrue saved.is_honest →
+    HoldsFiles saved.content held → IsCapacity capacity → len held ≤ capacity
     → HasDeskFault saved capacity fault → MayFailToLoad fault
 may_fail saved capacity held opens.Device honest h room few f = tt
 may_fail saved capacity held opens.Memory honest h room few f = tt
 may_fail saved capacity held opens.Capacity honest h room few f = f room
-may_fail saved capacity held opens.TooMany honest h room few f = absurd (omega (arith, f.1 honest, as_many saved.content held h))
-may_fail saved capacity held opens.NotPages honest h room few f = no_first_fault saved.content held NotPages h (f.1 honest).1
-may_fail saved capacity held opens.Version honest h room few f = no_first_fault saved.content held Version h (f.1 honest).1
-may_fail saved capacity held opens.Damaged honest h room few f = no_first_fault saved.content held Damaged h (f.1 honest).1
+may_fail saved capacity held opens.TooMany honest h room few f =
+    absurd (omega (arith, f.1 honest, as_many saved.content held h))
+may_fail saved capacity held opens.NotPages honest h room few f = no_first_fault saved.content held NotPages h
+    (f.1 honest).1
+may_fail saved capacity held opens.Version honest h room few f = no_first_fault saved.content held Version h
+    (f.1 honest).1
+may_fail saved capacity held opens.Damaged honest h room few f = no_first_fault saved.content held Damaged h
+    (f.1 honest).1
 
 -- ---- an opened desk is in order
 
-pub in_order : (desk : DeskView) → IsCapacity desk.capacity → FindsAll desk.saved desk.capacity desk.held → IsInOrder desk
-in_order desk room found = record { room = room; few = found.few; entries = found.entries; saved = λ _ honest. found.found honest }
+pub in_order : (desk : DeskView) → IsCapacity desk.capacity → FindsAll desk.saved desk.capacity desk.held →
+    IsInOrder desk
+in_order desk room found = record {
+  room = room;
+  few = found.few;
+  entries = found.entries;
+  saved = λ _ honest. found.found honest;
+}

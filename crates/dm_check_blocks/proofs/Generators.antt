@@ -9,13 +9,16 @@ use borrow.Rule.Slice.PartMut.{put_mid, post_of}
 use Rattle.dm_gf256.proofs.Divide.{length-add_scaled, value-times_root}
 
 -- the product with one root more, as the generator's array holds it, has the product's values
-next_value : (h k r : ℕ) (rest ys more : List ℕ) → k < length rest → get_or rest k 0 ≡ 0 → ys ≡ add_scaled r (take (suc k) rest) (h ∷ take k rest) → (x : ℕ) →
+next_value : (h k r : ℕ) (rest ys more : List ℕ) → k < length rest → get_or rest k 0 ≡ 0 →
+    ys ≡ add_scaled r (take (suc k) rest) (h ∷ take k rest) → (x : ℕ) →
     value (h ∷ take (suc k) (ys ++ more)) x ≡ product (bit_xor x r) (value (h ∷ take k rest) x)
 next_value h k r rest ys more l z e x =
     let gs = take k rest in
-    let split : take (suc k) rest ≡ gs ++ 0 ∷ [] = ap (λ n. take n rest) (sym (add-one k)) ∙ take_more rest k 0 l ∙ ap (λ t. gs ++ t ∷ []) z in
+    let split : take (suc k) rest ≡ gs ++ 0 ∷ [] = ap (λ n. take n rest) (sym (add-one k)) ∙ take_more rest k 0 l ∙
+    ap (λ t. gs ++ t ∷ []) z in
     let is : ys ≡ add_scaled r (gs ++ 0 ∷ []) (h ∷ gs) = e ∙ ap (λ t. add_scaled r t (h ∷ gs)) split in
-    let long : length ys ≡ suc k = ap length is ∙ length-add_scaled r (gs ++ 0 ∷ []) (h ∷ gs) ∙ ap length (sym split) ∙ (let q : length (take (suc k) rest) ≡ suc k = simp length-take (omega arith) in q) in
+    let long : length ys ≡ suc k = ap length is ∙ length-add_scaled r (gs ++ 0 ∷ []) (h ∷ gs) ∙ ap length (sym split) ∙
+    (let q : length (take (suc k) rest) ≡ suc k = simp length-take (omega arith) in q) in
     ap (λ t. value (h ∷ t) x) (take_at ys more (suc k) long ∙ is) ∙ value-times_root h gs r x
 
 -- one step of `coefficients_of`: the array holds the polynomial with one root more
@@ -27,13 +30,15 @@ next_generator (h ∷ rest) ys k r e l z a x =
     let p : k + 2 - 1 ≡ suc k = omega arith in
     let q : k + 1 + 1 ≡ suc (suc k) = omega arith in
     let a2 : ys ≡ add_scaled r (take (suc k) rest) (h ∷ take k rest) =
-    a ∙ ap (λ n. add_scaled r (take n rest) (take (k + 1) (h ∷ rest))) p ∙ ap (λ n. add_scaled r (take (suc k) rest) (take n (h ∷ rest))) (add-one k) in
+    a ∙ ap (λ n. add_scaled r (take n rest) (take (k + 1) (h ∷ rest))) p ∙
+    ap (λ n. add_scaled r (take (suc k) rest) (take n (h ∷ rest))) (add-one k) in
     ap (λ n. value (take n (put_mid 1 (k + 2 - 1) (h ∷ rest) ys)) x) q
     ∙ next_value h k r rest ys (post_of 1 (k + 2 - 1) (h ∷ rest)) (omega arith) (z (suc k) (omega arith)) a2 x
     ∙ ap (λ n. product (bit_xor x r) (value (take n (h ∷ rest)) x)) (sym (add-one k))
 
 -- past the new coefficient the generator's array still holds zeros
-pub next_zeros : (arr ys : List ℕ) (k : ℕ) → length arr ≡ 69 → k < 68 → length ys ≡ k + 1 → ((j : ℕ) → k < j → get_or arr j 0 ≡ 0) →
+pub next_zeros : (arr ys : List ℕ) (k : ℕ) → length arr ≡ 69 → k < 68 → length ys ≡ k + 1 →
+    ((j : ℕ) → k < j → get_or arr j 0 ≡ 0) →
     (j : ℕ) → k + 1 < j → get_or (put_mid 1 (k + 2 - 1) arr ys) j 0 ≡ 0
 next_zeros arr ys k e l m z j h =
     let one : length (take 1 arr) ≡ 1 = simp length-take (omega arith) in
@@ -52,7 +57,8 @@ first_zeros (suc n) (suc zero) h = refl
 first_zeros (suc n) (suc (suc j)) h = first_zeros n (suc j) (omega arith)
 
 -- the array keeps its length
-pub next_size : (arr ys : List ℕ) (k : ℕ) → length arr ≡ 69 → k < 68 → length ys ≡ k + 1 → length (put_mid 1 (k + 2 - 1) arr ys) ≡ 69
+pub next_size : (arr ys : List ℕ) (k : ℕ) → length arr ≡ 69 → k < 68 → length ys ≡ k + 1 →
+    length (put_mid 1 (k + 2 - 1) arr ys) ≡ 69
 next_size arr ys k e l m = simp (length-append, length-take, length-drop) (omega arith)
 
 -- the array keeps its leading coefficient
@@ -65,4 +71,5 @@ pub monic : (g : List ℕ) (n : ℕ) → get_or g 0 0 ≡ 1 → 1 ∷ take (n + 
 monic [] n e = absurd (omega arith)
 monic (h ∷ rest) n e =
     let p : n + 1 - 1 ≡ n = omega arith in
-    ap (λ t. t ∷ take (n + 1 - 1) rest) (sym e) ∙ ap (λ m. h ∷ take m rest) p ∙ ap (λ m. take m (h ∷ rest)) (sym (add-one n))
+    ap (λ t. t ∷ take (n + 1 - 1) rest) (sym e) ∙ ap (λ m. h ∷ take m rest) p ∙
+    ap (λ m. take m (h ∷ rest)) (sym (add-one n))

@@ -28,7 +28,9 @@ position-closed s b i =
     let whole : data_words s ≡ block_data s * blocks s = (let e = (sound s).equal_data in omega arith) in
     let low : i < block_data s → position s b i ≡ i * blocks s + b = λ h. grind (arith, nat_tests) in
     let high : block_data s ≤ i → position s b i ≡ i * blocks s + b =
-    λ h. (let e : (if nat_lt i (block_data s) then i * blocks s + b else data_words s + (i - block_data s) * blocks s + b) ≡ data_words s + (i - block_data s) * blocks s + b = grind (arith, nat_tests) in e)
+    λ h. (let e : (if nat_lt i (block_data s) then i * blocks s + b else data_words
+    s + (i - block_data s) * blocks s + b) ≡ data_words s + (i - block_data s) * blocks s + b =
+    grind (arith, nat_tests) in e)
     ∙ ap (λ t. t + b) (past_data i (block_data s) (blocks s) (data_words s) h whole) in
     ⊎_elim low high (cases_lt i (block_data s))
 
@@ -36,13 +38,15 @@ position-closed s b i =
 pub whole_blocks : (s : Size) → block_length s * blocks s ≡ all_words s
 whole_blocks s =
     let one = (sound s).equal_data in let two = (sound s).equal_checks in let three = (sound s).equal_blocks in
-    let e : block_length s * blocks s ≡ (block_data s + block_checks s) * blocks s = ap (λ t. t * blocks s) (sym three) in
+    let e : block_length s * blocks s ≡ (block_data s + block_checks s) * blocks s =
+    ap (λ t. t * blocks s) (sym three) in
     omega arith
 
 -- a position lies in the symbol
 pub position-lt : (s : Size) (b i : ℕ) → b < blocks s → i < block_length s → position s b i < all_words s
 position-lt s b i p q =
-    let more : (i + 1) * blocks s ≤ block_length s * blocks s = mul-le-mul_right (blocks s) (let h : i + 1 ≤ block_length s = omega arith in h) in
+    let more : (i + 1) * blocks s ≤ block_length s * blocks s =
+    mul-le-mul_right (blocks s) (let h : i + 1 ≤ block_length s = omega arith in h) in
     omega (arith, position-closed s b i, whole_blocks s)
 
 -- a position, divided by the number of blocks, leaves the block's number
@@ -52,7 +56,8 @@ position-mod s b i p = ap (λ t. t % blocks s) (position-closed s b i) ∙ mod-m
 -- a data word stands among the data words
 pub position_in_data : (s : Size) (b i : ℕ) → b < blocks s → i < block_data s → position s b i < data_words s
 position_in_data s b i p q =
-    let more : (i + 1) * blocks s ≤ block_data s * blocks s = mul-le-mul_right (blocks s) (let h : i + 1 ≤ block_data s = omega arith in h) in
+    let more : (i + 1) * blocks s ≤ block_data s * blocks s =
+    mul-le-mul_right (blocks s) (let h : i + 1 ≤ block_data s = omega arith in h) in
     let e = (sound s).equal_data in
     omega (arith, position-closed s b i)
 
@@ -76,7 +81,8 @@ word_at s p h =
     let e = whole_blocks s in let q = div-add-mod' p (blocks s) in
     ⊎_elim (λ (l : p / blocks s < block_length s). l)
     (λ (l : block_length s ≤ p / blocks s).
-    let more : block_length s * blocks s ≤ p / blocks s * blocks s = mul-le-mul_right (blocks s) l in absurd (omega arith))
+    let more : block_length s * blocks s ≤ p / blocks s * blocks s = mul-le-mul_right (blocks s) l in
+    absurd (omega arith))
     (cases_lt (p / blocks s) (block_length s))
 
 -- a block has as many words as the size says
@@ -85,12 +91,15 @@ unfolding block_of
 length-block_of s b words = length-map-range_with_len (λ i. get_or words (position s b i) 0) 0 (block_length s)
 
 -- word i of a block is the symbol's word at its position
-pub get_or-block_of : (s : Size) (b : ℕ) (words : List ℕ) (i : ℕ) → i < block_length s → get_or (block_of s b words) i 0 ≡ get_or words (position s b i) 0
+pub get_or-block_of : (s : Size) (b : ℕ) (words : List ℕ) (i : ℕ) → i < block_length s →
+    get_or (block_of s b words) i 0 ≡ get_or words (position s b i) 0
 unfolding block_of
-get_or-block_of s b words i h = get_or-map-range_with_len (λ i. get_or words (position s b i) 0) 0 (block_length s) i i 0 h (let e : 0 + i ≡ i = omega arith in e)
+get_or-block_of s b words i h = get_or-map-range_with_len (λ i. get_or words (position s b i) 0) 0
+    (block_length s) i i 0 h (let e : 0 + i ≡ i = omega arith in e)
 
 -- a block depends on its own words alone
-pub block_of_same : (s : Size) (b : ℕ) (xs ys : List ℕ) → b < blocks s → ((p : ℕ) → p % blocks s ≡ b → get_or xs p 0 ≡ get_or ys p 0) → block_of s b xs ≡ block_of s b ys
+pub block_of_same : (s : Size) (b : ℕ) (xs ys : List ℕ) → b < blocks s →
+    ((p : ℕ) → p % blocks s ≡ b → get_or xs p 0 ≡ get_or ys p 0) → block_of s b xs ≡ block_of s b ys
 block_of_same s b xs ys l h =
     ext_get_or 0 (block_of s b xs) (block_of s b ys) (length-block_of s b xs ∙ sym (length-block_of s b ys))
     (λ i q.
@@ -98,13 +107,15 @@ block_of_same s b xs ys l h =
     get_or-block_of s b xs i r ∙ h (position s b i) (position-mod s b i l) ∙ sym (get_or-block_of s b ys i r))
 
 -- two lists whose blocks are the same are the same
-pub same_from_blocks : (s : Size) (xs ys : List ℕ) → length xs ≡ all_words s → length ys ≡ all_words s → ((b : ℕ) → b < blocks s → block_of s b xs ≡ block_of s b ys) → xs ≡ ys
+pub same_from_blocks : (s : Size) (xs ys : List ℕ) → length xs ≡ all_words s → length ys ≡ all_words s →
+    ((b : ℕ) → b < blocks s → block_of s b xs ≡ block_of s b ys) → xs ≡ ys
 same_from_blocks s xs ys l m h =
     ext_get_or 0 xs ys (l ∙ sym m)
     (λ p q.
     let b = p % blocks s in let i = p / blocks s in
     let r : i < block_length s = word_at s p (omega arith) in
-    let at : (zs : List ℕ) → get_or zs p 0 ≡ get_or (block_of s b zs) i 0 = λ zs. sym (get_or-block_of s b zs i r ∙ ap (λ t. get_or zs t 0) (position_of s p)) in
+    let at : (zs : List ℕ) → get_or zs p 0 ≡ get_or (block_of s b zs) i 0 =
+    λ zs. sym (get_or-block_of s b zs i r ∙ ap (λ t. get_or zs t 0) (position_of s p)) in
     at xs ∙ ap (λ t. get_or t i 0) (h b (block_at s p)) ∙ sym (at ys))
 
 -- later words of a block stand later
@@ -115,7 +126,8 @@ position-rising s b i j h =
     omega (arith, position-closed s b i, position-closed s b j)
 
 -- one data word more is read
-pub gathered_more : (data' words : List ℕ) (place : ℕ → ℕ) (i v : ℕ) → i < length data' → v ≡ get_or words (place i) 0 → ((j : ℕ) → j < i → get_or data' j 0 ≡ get_or words (place j) 0) →
+pub gathered_more : (data' words : List ℕ) (place : ℕ → ℕ) (i v : ℕ) → i < length data' → v ≡ get_or words (place i) 0 →
+    ((j : ℕ) → j < i → get_or data' j 0 ≡ get_or words (place j) 0) →
     (j : ℕ) → j < i + 1 → get_or (set data' i v) j 0 ≡ get_or words (place j) 0
 gathered_more data' words place i v l e h =
     below_more _ _ (λ j q. let ne : j ≢ i = omega arith in rw get_or-set_other (h j q)) (rw get_or-set_same e)
@@ -123,14 +135,18 @@ gathered_more data' words place i v l e h =
 -- one check word more is written
 pub written_more : (s : Size) (b k : ℕ) (words checks : List ℕ) → position s b (block_data s + k) < length words →
     ((j : ℕ) → j < k → get_or words (position s b (block_data s + j)) 0 ≡ get_or checks j 0) →
-    (j : ℕ) → j < k + 1 → get_or (set words (position s b (block_data s + k)) (get_or checks k 0)) (position s b (block_data s + j)) 0 ≡ get_or checks j 0
+    (j : ℕ) → j < k + 1 → get_or (set words (position s b (block_data s + k)) (get_or checks k 0))
+    (position s b (block_data s + j)) 0 ≡ get_or checks j 0
 written_more s b k words checks l h =
     below_more _ _
-    (λ j q. let ne : position s b (block_data s + j) ≢ position s b (block_data s + k) = (let r = position-rising s b (block_data s + j) (block_data s + k) (omega arith) in omega arith) in rw get_or-set_other (h j q))
+    (λ j q. let ne : position s b (block_data s + j) ≢ position s b (block_data s + k) =
+    (let r = position-rising s b (block_data s + j) (block_data s + k) (omega arith) in omega arith) in
+    rw get_or-set_other (h j q))
     (rw get_or-set_same refl)
 
 -- and nothing else is
-pub others_more : (s : Size) (b k p v : ℕ) (words : List ℕ) → b < blocks s → (p < data_words s) ⊎ (p % blocks s ≢ b) → get_or (set words (position s b (block_data s + k)) v) p 0 ≡ get_or words p 0
+pub others_more : (s : Size) (b k p v : ℕ) (words : List ℕ) → b < blocks s → (p < data_words s) ⊎ (p % blocks s ≢ b) →
+    get_or (set words (position s b (block_data s + k)) v) p 0 ≡ get_or words p 0
 others_more s b k p v words l h =
     let q = position s b (block_data s + k) in
     let ne : p ≢ q = ⊎_elim
@@ -139,12 +155,16 @@ others_more s b k p v words l h =
     rw get_or-set_other refl
 
 -- a block is its data words and its check words
-pub block_of-parts : (s : Size) (b : ℕ) (message checks words : List ℕ) → length message ≡ block_data s → length checks ≡ block_checks s →
+pub block_of-parts : (s : Size) (b : ℕ) (message checks words : List ℕ) → length message ≡ block_data s →
+    length checks ≡ block_checks s →
     ((i : ℕ) → i < block_data s → get_or message i 0 ≡ get_or words (position s b i) 0) →
-    ((k : ℕ) → k < block_checks s → get_or words (position s b (block_data s + k)) 0 ≡ get_or checks k 0) → block_of s b words ≡ message ++ checks
+    ((k : ℕ) → k < block_checks s → get_or words (position s b (block_data s + k)) 0 ≡ get_or checks k 0) →
+    block_of s b words ≡ message ++ checks
 block_of-parts s b message checks words l m h w =
     let e = (sound s).equal_blocks in
-    ext_get_or 0 (block_of s b words) (message ++ checks) (length-block_of s b words ∙ sym (length-append message checks ∙ (let q : length message + length checks ≡ block_length s = omega arith in q)))
+    ext_get_or 0 (block_of s b words) (message ++ checks) (length-block_of s b words ∙
+    sym (length-append message checks ∙
+    (let q : length message + length checks ≡ block_length s = omega arith in q)))
     (λ i q.
     let r : i < block_length s = omega (arith, length-block_of s b words) in
     get_or-block_of s b words i r

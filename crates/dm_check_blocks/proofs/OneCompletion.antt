@@ -25,7 +25,8 @@ differ_after [] a b e = differ_most a b
 differ_after (x ∷ m) a b e = rw (eq-eqb x x refl) (omega (arith, differ_after m a b e))
 
 -- there is one block word with a given message
-pub one_completion : (m a b : List ℕ) → length a ≡ length b → length (m ++ a) ≤ 255 → Bytes (m ++ a) → Bytes (m ++ b) → IsBlockWord (length a) (m ++ a) → IsBlockWord (length a) (m ++ b) → m ++ a ≡ m ++ b
+pub one_completion : (m a b : List ℕ) → length a ≡ length b → length (m ++ a) ≤ 255 → Bytes (m ++ a) → Bytes (m ++ b) →
+    IsBlockWord (length a) (m ++ a) → IsBlockWord (length a) (m ++ b) → m ++ a ≡ m ++ b
 one_completion m a b e l p q u v =
     one_block_word (length a) (m ++ a) (m ++ b) (simp length-append (omega arith)) l p q u v (differ_after m a b e)
 
@@ -35,8 +36,10 @@ bytes_append [] ys p q = q
 bytes_append (x ∷ xs) ys p q = (p.0, bytes_append xs ys (p.1) q)
 
 -- a message has one list of check words
-pub one_list_of_checks : (n : ℕ) (m a b : List ℕ) → length a ≡ n → length b ≡ n → length m + n ≤ 255 → Bytes m → Bytes a → Bytes b → IsBlockWord n (m ++ a) → IsBlockWord n (m ++ b) → a ≡ b
+pub one_list_of_checks : (n : ℕ) (m a b : List ℕ) → length a ≡ n → length b ≡ n → length m + n ≤ 255 → Bytes m →
+    Bytes a → Bytes b → IsBlockWord n (m ++ a) → IsBlockWord n (m ++ b) → a ≡ b
 one_list_of_checks n m a b p q fits u v w y z =
     append_cancel_left m a b
-    (one_block_word n (m ++ a) (m ++ b) (simp length-append (omega arith)) (simp length-append (omega arith)) (bytes_append m a u v) (bytes_append m b u w) y z
+    (one_block_word n (m ++ a) (m ++ b) (simp length-append (omega arith)) (simp length-append (omega arith))
+    (bytes_append m a u v) (bytes_append m b u w) y z
     (let d = differ_after m a b (p ∙ sym q) in omega arith))

@@ -27,17 +27,20 @@ unfolding block_of
 length-block_of s b words = length-map-range_with_len (λ i. get_or words (position s b i) 0) 0 (block_length s)
 
 -- word i of block b is the symbol's word at i times the number of blocks, plus b
-pub block_of-at : (s : Size) (b : ℕ) (words : List ℕ) (i : ℕ) → IsSound s → i < block_length s → get_or (block_of s b words) i 0 ≡ get_or words (i * blocks s + b) 0
+pub block_of-at : (s : Size) (b : ℕ) (words : List ℕ) (i : ℕ) → IsSound s → i < block_length s →
+    get_or (block_of s b words) i 0 ≡ get_or words (i * blocks s + b) 0
 unfolding block_of
 block_of-at s b words i t l =
-    get_or-map-range_with_len (λ i. get_or words (position s b i) 0) 0 (block_length s) i i 0 l (omega arith) ∙ ap (λ p. get_or words p 0) (position-even s b i t)
+    get_or-map-range_with_len (λ i. get_or words (position s b i) 0) 0 (block_length s) i i 0 l (omega arith) ∙
+    ap (λ p. get_or words p 0) (position-even s b i t)
 
 -- a list with the words of a block is that block
 pub is_block : (s : Size) (b : ℕ) (words block : List ℕ) → IsSound s → length block ≡ block_length s →
     ((i : ℕ) → i < block_length s → get_or block i 0 ≡ get_or words (i * blocks s + b) 0) → block ≡ block_of s b words
 unfolding block_of
 is_block s b words block t n h =
-    fill_by_all (λ i. get_or words (position s b i) 0) block (block_length s) 0 n (λ i l. h i l ∙ ap (λ p. get_or words p 0) (sym (position-even s b i t)))
+    fill_by_all (λ i. get_or words (position s b i) 0) block (block_length s) 0 n (λ i l. h i l ∙
+    ap (λ p. get_or words p 0) (sym (position-even s b i t)))
 
 -- the blocks together have all words
 pub whole : (s : Size) → IsSound s → block_length s * blocks s ≡ all_words s
@@ -63,5 +66,7 @@ same_symbol s v w t m n same =
     let i = p / B in let b = p % B in
     let e : i * B + b ≡ p = div-add-mod' p B in
     let k : i < block_length s = div_below p B (block_length s) some (omega (arith, whole s t)) in
-    ap (λ q. get_or v q 0) (sym e) ∙ sym (block_of-at s b v i t k) ∙ ap (λ x. get_or x i 0) (same b (mod_below p B some)) ∙ block_of-at s b w i t k ∙ ap (λ q. get_or w q 0) e in
-    fill_by_all (λ p. get_or w p 0) v (all_words s) 0 m at ∙ sym (fill_by_all (λ p. get_or w p 0) w (all_words s) 0 n (λ p l. refl))
+    ap (λ q. get_or v q 0) (sym e) ∙ sym (block_of-at s b v i t k) ∙
+    ap (λ x. get_or x i 0) (same b (mod_below p B some)) ∙ block_of-at s b w i t k ∙ ap (λ q. get_or w q 0) e in
+    fill_by_all (λ p. get_or w p 0) v (all_words s) 0 m at ∙
+    sym (fill_by_all (λ p. get_or w p 0) w (all_words s) 0 n (λ p l. refl))

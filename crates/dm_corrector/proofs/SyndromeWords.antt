@@ -7,14 +7,17 @@ use Rattle.dm_gf256.specs.Polynomial.{value, IsBlockWord}
 use Rattle.dm_corrector.specs.inner.Syndromes.{AreSyndromes}
 
 -- where all syndromes are zero the block is a block word
-pub word_from_zeros : (checks : ℕ) (s w : List ℕ) → AreSyndromes checks s w → ((k : ℕ) → get_or s k 0 ≡ 0) → (k : ℕ) → 1 ≤ k → k ≤ checks → value w (power 2 k) ≡ 0
+pub word_from_zeros : (checks : ℕ) (s w : List ℕ) → AreSyndromes checks s w → ((k : ℕ) → get_or s k 0 ≡ 0) → (k : ℕ) →
+    1 ≤ k → k ≤ checks → value w (power 2 k) ≡ 0
 word_from_zeros checks s w a z zero l m = absurd (omega arith)
 word_from_zeros checks s w a z (suc j) l m = sym (a j (omega arith)) ∙ z j
 
 -- all syndromes of a block word are zero
-pub zeros_from_word : (checks : ℕ) (s w : List ℕ) → length s ≡ checks → AreSyndromes checks s w → IsBlockWord checks w → (k : ℕ) → get_or s k 0 ≡ 0
+pub zeros_from_word : (checks : ℕ) (s w : List ℕ) → length s ≡ checks → AreSyndromes checks s w → IsBlockWord checks w →
+    (k : ℕ) → get_or s k 0 ≡ 0
 zeros_from_word checks s w n a b k =
-    ⊎_elim (λ (h : k < checks). a k h ∙ b (suc k) (omega arith) (omega arith)) (λ (h : checks ≤ k). get_or_past s k 0 (omega arith)) (cases_lt k checks)
+    ⊎_elim (λ (h : k < checks). a k h ∙ b (suc k) (omega arith) (omega arith))
+    (λ (h : checks ≤ k). get_or_past s k 0 (omega arith)) (cases_lt k checks)
 
 -- a zero before zeros
 all_zeros : (s : List ℕ) → ((k : ℕ) → get_or s k 0 ≡ 0) → (k : ℕ) → get_or (zero ∷ s) k 0 ≡ 0

@@ -20,7 +20,8 @@ digit_range b e = let both = and_parts _ _ e in (leb-true _ _ both.0, leb-true _
 pub begins : (bytes : List ℕ) → has_digits bytes ≡ true → BeginsWithDigits bytes
 begins [] e = absurd cc
 begins (a ∷ []) e = absurd cc
-begins (a ∷ b ∷ bs) e = let both = and_parts _ _ e in record { long = omega arith; tens = digit_range a both.0; ones = digit_range b both.1 }
+begins (a ∷ b ∷ bs) e = let both = and_parts _ _ e in
+    record { long = omega arith; tens = digit_range a both.0; ones = digit_range b both.1 }
 
 pub ascii-digits : (bytes : List ℕ) → has_digits bytes ≡ true
     → ascii bytes ≡ (130 + (10 * (get_or bytes 0 0 - 48) + (get_or bytes 1 0 - 48))) ∷ ascii (drop 2 bytes)
@@ -55,14 +56,16 @@ ascii_done out bytes all e h = sym (append-nil out) ∙ ap (λ (x : List ℕ). o
 -- a byte takes one word or two
 pub some_words : (b : ℕ) → (1 ≤ length (ascii_byte b)) × (length (ascii_byte b) ≤ 2)
 some_words b =
-    cond_both (ltb b 128) ((b + 1) ∷ []) (235 ∷ (b - 127) ∷ []) (λ (ws : List ℕ). (1 ≤ length ws) × (length ws ≤ 2)) (λ _. (omega arith, omega arith)) (λ _. (omega arith, omega arith))
+    cond_both (ltb b 128) ((b + 1) ∷ []) (235 ∷ (b - 127) ∷ []) (λ (ws : List ℕ). (1 ≤ length ws) ×
+    (length ws ≤ 2)) (λ _. (omega arith, omega arith)) (λ _. (omega arith, omega arith))
 
 pub some_ascii : (b : ℕ) (bs : List ℕ) → 1 ≤ length (ascii (b ∷ bs))
 unfolding ascii
 some_ascii b [] = (some_words b).0
 some_ascii b (c ∷ bs) =
     let one = some_words b in
-    cond_both (is_ascii_digit b && is_ascii_digit c) ((130 + (10 * (b - 48) + (c - 48))) ∷ ascii bs) (ascii_byte b ++ ascii (c ∷ bs)) (λ (ws : List ℕ). 1 ≤ length ws)
+    cond_both (is_ascii_digit b && is_ascii_digit c) ((130 + (10 * (b - 48) + (c - 48))) ∷ ascii bs)
+    (ascii_byte b ++ ascii (c ∷ bs)) (λ (ws : List ℕ). 1 ≤ length ws)
     (λ _. omega arith) (λ _. omega (arith, length-append (ascii_byte b) (ascii (c ∷ bs))))
 
 -- a text in ASCII is at most twice as long
@@ -74,7 +77,8 @@ length-ascii (b ∷ c ∷ bs) =
     let one = length-ascii bs in
     let two = length-ascii (c ∷ bs) in
     let few = some_words b in
-    cond_both (is_ascii_digit b && is_ascii_digit c) ((130 + (10 * (b - 48) + (c - 48))) ∷ ascii bs) (ascii_byte b ++ ascii (c ∷ bs)) (λ (ws : List ℕ). length ws ≤ 2 * length (b ∷ c ∷ bs))
+    cond_both (is_ascii_digit b && is_ascii_digit c) ((130 + (10 * (b - 48) + (c - 48))) ∷ ascii bs)
+    (ascii_byte b ++ ascii (c ∷ bs)) (λ (ws : List ℕ). length ws ≤ 2 * length (b ∷ c ∷ bs))
     (λ _. omega arith) (λ _. simp length-append (omega arith))
 
 -- ---- one byte more at the end
@@ -88,8 +92,11 @@ both_or_not false = inr refl
 
 -- What one byte more does to a text: the last lone digit shares its word with it, or it stands alone.
 record Pushed (bytes : List ℕ) (c : ℕ) : Type 0 where
-  shared : has_lone_digit bytes ≡ true → is_ascii_digit c ≡ true → (length (ascii (bytes ++ c ∷ [])) ≡ length (ascii bytes)) × (has_lone_digit (bytes ++ c ∷ []) ≡ false)
-  alone : (has_lone_digit bytes && is_ascii_digit c) ≡ false → (length (ascii (bytes ++ c ∷ [])) ≡ length (ascii bytes) + length (ascii_byte c)) × (has_lone_digit (bytes ++ c ∷ []) ≡ is_ascii_digit c)
+  shared : has_lone_digit bytes ≡ true → is_ascii_digit c ≡ true →
+      (length (ascii (bytes ++ c ∷ [])) ≡ length (ascii bytes)) × (has_lone_digit (bytes ++ c ∷ []) ≡ false)
+  alone : (has_lone_digit bytes && is_ascii_digit c) ≡ false →
+      (length (ascii (bytes ++ c ∷ [])) ≡ length (ascii bytes) + length (ascii_byte c)) ×
+      (has_lone_digit (bytes ++ c ∷ []) ≡ is_ascii_digit c)
 
 pushed : (bytes : List ℕ) (c : ℕ) → Pushed bytes c
 unfolding ascii has_lone_digit
@@ -118,14 +125,16 @@ unfolding ascii has_lone_digit
 counts_none c e f = record { words = e; lone = f }
 
 -- one byte more shares the last lone digit's word
-pub counts_shared : (c d : AsciiCounter) (b : ℕ) → c.lone_digit ≡ true → is_ascii_digit b ≡ true → d.words ≡ c.words → d.lone_digit ≡ false
+pub counts_shared : (c d : AsciiCounter) (b : ℕ) → c.lone_digit ≡ true → is_ascii_digit b ≡ true → d.words ≡ c.words →
+    d.lone_digit ≡ false
     → (bytes : List ℕ) → CountsAscii bytes c → CountsAscii (bytes ++ b ∷ []) d
 counts_shared c d b lone digit words last bytes counts =
     let h = (pushed bytes b).shared (sym counts.lone ∙ lone) digit in
     record { words = words ∙ counts.words ∙ sym h.0; lone = last ∙ sym h.1 }
 
 -- one byte more stands alone
-pub counts_alone : (c d : AsciiCounter) (b : ℕ) → (c.lone_digit && is_ascii_digit b) ≡ false → d.words ≡ c.words + length (ascii_byte b) → d.lone_digit ≡ is_ascii_digit b
+pub counts_alone : (c d : AsciiCounter) (b : ℕ) → (c.lone_digit && is_ascii_digit b) ≡ false →
+    d.words ≡ c.words + length (ascii_byte b) → d.lone_digit ≡ is_ascii_digit b
     → (bytes : List ℕ) → CountsAscii bytes c → CountsAscii (bytes ++ b ∷ []) d
 counts_alone c d b not_shared words last bytes counts =
     let h = (pushed bytes b).alone (ap (λ (l : Bool). l && is_ascii_digit b) (sym counts.lone) ∙ not_shared) in

@@ -17,19 +17,22 @@ is_length n pos le =
       | inl big ↦
           let t : leb n 249 ≡ false = lt-leb n 249 big in
           let whole : 250 * (n / 250 + 249 - 249) + n % 250 ≡ n = omega arith in
-          rw t (subst (IsLength ((n / 250 + 249) ∷ (n % 250) ∷ [])) whole (Grammar.IsLength.two (omega arith) (omega arith) (omega arith)))
+          rw t (subst (IsLength ((n / 250 + 249) ∷ (n % 250) ∷ [])) whole
+          (Grammar.IsLength.two (omega arith) (omega arith) (omega arith)))
       | inr small ↦ let t : leb n 249 ≡ true = le-leb n 249 small in rw t (Grammar.IsLength.one pos (omega arith))
     ]
 
 -- the words of a text in Base 256 read as its bytes
-pub base_256_read : (p : ℕ) (bytes rest : List ℕ) → AllByRecursion (λ b. b < 256) bytes → length bytes ≤ 1555 → ((q : ℕ) → Reads q rest []) → Reads p (base_256 p bytes ++ rest) bytes
+pub base_256_read : (p : ℕ) (bytes rest : List ℕ) → AllByRecursion (λ b. b < 256) bytes → length bytes ≤ 1555 →
+    ((q : ℕ) → Reads q rest []) → Reads p (base_256 p bytes ++ rest) bytes
 unfolding base_256
 base_256_read p [] rest fits le more = more p
 base_256_read p (b ∷ bs) rest fits le more =
     let n = length (b ∷ bs) in
     let words = 231 ∷ randomised (p + 1) (length_words n ++ b ∷ bs) in
     subst (λ (l : List ℕ). Reads p (words ++ rest) l) (append-nil (b ∷ bs))
-    (Grammar.Reads.joined words rest (b ∷ bs) [] (Grammar.Segment.bytes (length_words n) (is_length n (omega arith) le) fits) (more (p + length words)))
+    (Grammar.Reads.joined words rest (b ∷ bs) []
+    (Grammar.Segment.bytes (length_words n) (is_length n (omega arith) le) fits) (more (p + length words)))
 
 -- the latch, the length words and the bytes, counted
 length-length_words : (n : ℕ) → n ≤ 249 ⊎ (249 < n) → 1 + length (length_words n) + n ≡ cond (leb n 249) (n + 2) (n + 3)
@@ -62,8 +65,10 @@ unfolding base_256
 base_256_nil p bytes e = rw e refl
 
 -- the words, one part after another
-pub base_256_parts : (p : ℕ) (bytes out first second third : List ℕ) (q : ℕ) → length bytes ≢ 0 → first ≡ out ++ 231 ∷ [] → second ≡ first ++ randomised (p + 1) (length_words (length bytes))
-    → q ≡ p + 1 + length (length_words (length bytes)) → third ≡ second ++ randomised q bytes → third ≡ out ++ base_256 p bytes
+pub base_256_parts : (p : ℕ) (bytes out first second third : List ℕ) (q : ℕ) → length bytes ≢ 0 →
+    first ≡ out ++ 231 ∷ [] → second ≡ first ++ randomised (p + 1) (length_words (length bytes))
+    → q ≡ p + 1 + length (length_words (length bytes)) → third ≡ second ++ randomised q bytes →
+    third ≡ out ++ base_256 p bytes
 unfolding base_256
 base_256_parts p [] out first second third q ne a b c d = absurd (ne refl)
 base_256_parts p (b ∷ bs) out first second third q ne a e c d =

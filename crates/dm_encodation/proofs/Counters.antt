@@ -23,7 +23,8 @@ pub need-base_256 : (bytes : List ℕ) → need_of Base256 bytes ≡ base_256_ne
 unfolding need_of text
 need-base_256 bytes =
     let n = length bytes in
-    cond_both (leb n 1555) (length (base_256 1 bytes)) (n + 3) (λ (k : ℕ). k ≡ base_256_need n) (λ _. length-base_256 1 bytes) (λ e.
+    cond_both (leb n 1555) (length (base_256 1 bytes)) (n + 3) (λ (k : ℕ). k ≡ base_256_need n)
+    (λ _. length-base_256 1 bytes) (λ e.
     let big = leb-false n 1555 e in
     let a : eqb n 0 ≡ false = ne_eqb n 0 (λ e. omega arith) in
     let b : leb n 249 ≡ false = lt-leb n 249 (omega arith) in
@@ -78,7 +79,8 @@ short_base_256 bytes le =
 -- ---- what a counter says
 
 -- an ASCII counter has the need
-pub words-ascii : (c : AsciiCounter) (scheme : Scheme) (bytes : List ℕ) → Counts scheme bytes (counters.Ascii c) → c.words ≡ need_of scheme bytes
+pub words-ascii : (c : AsciiCounter) (scheme : Scheme) (bytes : List ℕ) → Counts scheme bytes (counters.Ascii c) →
+    c.words ≡ need_of scheme bytes
 unfolding need_of text
 words-ascii c Ascii bytes counts = counts.words
 words-ascii c C40 bytes counts = absurd counts
@@ -86,11 +88,14 @@ words-ascii c Text bytes counts = absurd counts
 words-ascii c Base256 bytes counts = absurd counts
 
 -- a run's counter has the number of words
-counts_run : (t : Letters) (c : RunCounter) (bytes : List ℕ) → CountsRun t bytes c → run_need c.run c.after.words ≡ length (run_and_rest t (run_length t bytes) bytes)
-counts_run t c bytes counts = words_run t (run_length t bytes) bytes c.run c.after.words (run_within t bytes) counts.run counts.after.words
+counts_run : (t : Letters) (c : RunCounter) (bytes : List ℕ) → CountsRun t bytes c →
+    run_need c.run c.after.words ≡ length (run_and_rest t (run_length t bytes) bytes)
+counts_run t c bytes counts = words_run t (run_length t bytes) bytes c.run c.after.words
+    (run_within t bytes) counts.run counts.after.words
 
 -- a run's counter has the need
-pub words-run : (t : Letters) (c : RunCounter) (scheme : Scheme) (bytes : List ℕ) → Counts scheme bytes (counters.Run t c) → run_need c.run c.after.words ≡ need_of scheme bytes
+pub words-run : (t : Letters) (c : RunCounter) (scheme : Scheme) (bytes : List ℕ) →
+    Counts scheme bytes (counters.Run t c) → run_need c.run c.after.words ≡ need_of scheme bytes
 unfolding need_of text
 words-run Capital c C40 bytes counts = counts_run Capital c bytes counts
 words-run Small c Text bytes counts = counts_run Small c bytes counts
@@ -100,7 +105,8 @@ words-run t c Ascii bytes counts = absurd counts
 words-run t c Base256 bytes counts = absurd counts
 
 -- a Base 256 counter has the need
-pub words-base_256 : (n k : ℕ) → k ≡ base_256_need n → (scheme : Scheme) (bytes : List ℕ) → Counts scheme bytes (counters.Base256 n) → k ≡ need_of scheme bytes
+pub words-base_256 : (n k : ℕ) → k ≡ base_256_need n → (scheme : Scheme) (bytes : List ℕ) →
+    Counts scheme bytes (counters.Base256 n) → k ≡ need_of scheme bytes
 words-base_256 n k e Base256 bytes counts = e ∙ ap base_256_need counts ∙ sym (need-base_256 bytes)
 words-base_256 n k e Ascii bytes counts = absurd counts
 words-base_256 n k e C40 bytes counts = absurd counts

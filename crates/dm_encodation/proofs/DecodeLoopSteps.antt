@@ -9,8 +9,10 @@ use Rattle.dm_encodation.specs.inner.StepViews.{Fails}
 use Rattle.dm_encodation.proofs.ReadsToReading.{reading_step, prepend-prepend}
 
 -- a step that succeeds
-pub goes_on : (m next : Mode) (at : ℕ) (words front bs : List ℕ) (total : Result (List ℕ) DecodeFault) → at < length words → Ok (next, bs) ≡ step m (at + 1) (get_or words at 0)
-    → prepend front (reading m (at + 1) (drop at words)) ≡ total → prepend (front ++ bs) (reading next (at + 1 + 1) (drop (at + 1) words)) ≡ total
+pub goes_on : (m next : Mode) (at : ℕ) (words front bs : List ℕ) (total : Result (List ℕ) DecodeFault) →
+    at < length words → Ok (next, bs) ≡ step m (at + 1) (get_or words at 0)
+    → prepend front (reading m (at + 1) (drop at words)) ≡ total →
+    prepend (front ++ bs) (reading next (at + 1 + 1) (drop (at + 1) words)) ≡ total
 goes_on m next at words front bs total lt e so_far =
     let d = drop_more words at 0 lt in
     let w = get_or words at 0 in
@@ -19,29 +21,34 @@ goes_on m next at words front bs total lt e so_far =
     ∙ ap (λ (l : List ℕ). prepend front (reading m (at + 1) l)) (sym d) ∙ so_far
 
 -- a step that fails
-pub fails_at : (m : Mode) (at : ℕ) (words front : List ℕ) (f : DecodeFault) (total : Result (List ℕ) DecodeFault) → at < length words → Err f ≡ step m (at + 1) (get_or words at 0)
+pub fails_at : (m : Mode) (at : ℕ) (words front : List ℕ) (f : DecodeFault) (total : Result (List ℕ) DecodeFault) →
+    at < length words → Err f ≡ step m (at + 1) (get_or words at 0)
     → prepend front (reading m (at + 1) (drop at words)) ≡ total → total ≡ Err f
 unfolding reading
 fails_at m at words front f total lt e so_far =
     let d = drop_more words at 0 lt in
     let w = get_or words at 0 in
-    let r : reading m (at + 1) (w ∷ drop (at + 1) words) ≡ Err f = ap (λ (s : Stepped). s >>= λ n. prepend n.1 (reading n.0 (at + 1 + 1) (drop (at + 1) words))) (sym e) in
+    let r : reading m (at + 1) (w ∷ drop (at + 1) words) ≡ Err f =
+    ap (λ (s : Stepped). s >>= λ n. prepend n.1 (reading n.0 (at + 1 + 1) (drop (at + 1) words))) (sym e) in
     sym so_far ∙ ap (λ (l : List ℕ). prepend front (reading m (at + 1) l)) d ∙ ap (prepend front) r
 
 -- after the last word only the end is left
-at_last : (m : Mode) (at : ℕ) (words : List ℕ) → length words ≤ at → at ≤ length words → reading m (at + 1) (drop at words) ≡ finish m (length words + 1)
+at_last : (m : Mode) (at : ℕ) (words : List ℕ) → length words ≤ at → at ≤ length words →
+    reading m (at + 1) (drop at words) ≡ finish m (length words + 1)
 unfolding reading
 at_last m at words le ge =
     let k : at + 1 ≡ length words + 1 = omega arith in
     ap (reading m (at + 1)) (drop_all at words le) ∙ ap (finish m) k
 
 -- an end that succeeds
-pub finishes : (m : Mode) (at : ℕ) (words front bs : List ℕ) (total : Result (List ℕ) DecodeFault) → length words ≤ at → at ≤ length words → Ok bs ≡ finish m (length words + 1)
+pub finishes : (m : Mode) (at : ℕ) (words front bs : List ℕ) (total : Result (List ℕ) DecodeFault) → length words ≤ at →
+    at ≤ length words → Ok bs ≡ finish m (length words + 1)
     → prepend front (reading m (at + 1) (drop at words)) ≡ total → total ≡ Ok (front ++ bs)
 finishes m at words front bs total le ge e so_far = sym so_far ∙ ap (prepend front) (at_last m at words le ge ∙ sym e)
 
 -- an end that fails
-pub fails_last : (m : Mode) (at : ℕ) (words front : List ℕ) (f : DecodeFault) (total : Result (List ℕ) DecodeFault) → length words ≤ at → at ≤ length words → Err f ≡ finish m (length words + 1)
+pub fails_last : (m : Mode) (at : ℕ) (words front : List ℕ) (f : DecodeFault) (total : Result (List ℕ) DecodeFault) →
+    length words ≤ at → at ≤ length words → Err f ≡ finish m (length words + 1)
     → prepend front (reading m (at + 1) (drop at words)) ≡ total → total ≡ Err f
 fails_last m at words front f total le ge e so_far = sym so_far ∙ ap (prepend front) (at_last m at words le ge ∙ sym e)
 

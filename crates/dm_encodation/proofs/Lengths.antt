@@ -20,18 +20,34 @@ length-pair [] = refl
 length-pair (t ∷ ts) = let l = length-pair ts in omega arith
 
 -- values spell at most as many bytes as they are
-chars_short : (t : Letters) (triples : List Triple) (bytes : List ℕ) → Chars t (flat_map triple_values triples) bytes → length bytes ≤ 3 * length triples
+chars_short : (t : Letters) (triples : List Triple) (bytes : List ℕ) → Chars t (flat_map triple_values triples) bytes →
+    length bytes ≤ 3 * length triples
 chars_short t triples bytes chars =
-    omega (arith, length-values t bytes, length-triple_values triples, ap length chars.spelled, length-append (flat_map (values_of t) bytes) chars.tail)
+    omega (
+      arith,
+      length-values t bytes,
+      length-triple_values triples,
+      ap length chars.spelled,
+      length-append (flat_map (values_of t) bytes) chars.tail,
+    )
 
 -- a segment has at most two bytes a word
 segment_short : {p : ℕ} {words after bytes : List ℕ} → Segment p words after bytes → length bytes ≤ 2 * length words
 segment_short (Grammar.Segment.character lt) = omega arith
 segment_short (Grammar.Segment.digits lm ln) = omega arith
 segment_short (Grammar.Segment.upper lt) = omega arith
-segment_short (Grammar.Segment.run {t = t} {bytes = bytes} triples fits chars) = omega (arith, chars_short t triples bytes chars, length-pair triples, length-append (flat_map pair triples) (254 ∷ []))
-segment_short (Grammar.Segment.open_run {t = t} {bytes = bytes} triples fits chars ends) = omega (arith, chars_short t triples bytes chars, length-pair triples)
-segment_short {p = p} (Grammar.Segment.bytes {bs = bs} len is_len fits) = omega (arith, length-randomised (p + 1) (len ++ bs), length-append len bs)
+segment_short (Grammar.Segment.run {t = t} {bytes = bytes} triples fits chars) =
+    omega (
+      arith,
+      chars_short t triples bytes chars,
+      length-pair triples,
+      length-append (flat_map pair triples)
+          (254 ∷ []),
+    )
+segment_short (Grammar.Segment.open_run {t = t} {bytes = bytes} triples fits chars ends) =
+    omega (arith, chars_short t triples bytes chars, length-pair triples)
+segment_short {p = p} (Grammar.Segment.bytes {bs = bs} len is_len fits) =
+    omega (arith, length-randomised (p + 1) (len ++ bs), length-append len bs)
 segment_short {p = p} (Grammar.Segment.rest {bs = bs} fits) = omega (arith, length-randomised (p + 1) (0 ∷ bs))
 
 -- a text has at most two bytes a word

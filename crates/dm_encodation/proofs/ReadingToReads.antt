@@ -24,9 +24,12 @@ pub data InMode : Mode → ℕ → List ℕ → List ℕ → Type 0 where
   ascii : {p : ℕ} → InMode Ascii p [] []
   upper : {p : ℕ} → InMode Upper p (235 ∷ []) []
   run : {t : Letters} {s : Pending} {p : ℕ} {given : List ℕ} (triples : List Triple) → AllByRecursion IsTriple triples
-      → values_step t no_pending (flat_map triple_values triples) ≡ Ok (s, given) → InMode (Run t s) p (latch t ∷ flat_map pair triples) given
-  half : {t : Letters} {s : Pending} {p a : ℕ} {given : List ℕ} (triples : List Triple) → AllByRecursion IsTriple triples
-      → values_step t no_pending (flat_map triple_values triples) ≡ Ok (s, given) → a ≢ 254 → a < 256 → InMode (Half t s a) p (latch t ∷ (flat_map pair triples ++ a ∷ [])) given
+      → values_step t no_pending (flat_map triple_values triples) ≡ Ok (s, given) →
+      InMode (Run t s) p (latch t ∷ flat_map pair triples) given
+  half : {t : Letters} {s : Pending} {p a : ℕ} {given : List ℕ} (triples : List Triple) →
+      AllByRecursion IsTriple triples
+      → values_step t no_pending (flat_map triple_values triples) ≡ Ok (s, given) → a ≢ 254 → a < 256 →
+      InMode (Half t s a) p (latch t ∷ (flat_map pair triples ++ a ∷ [])) given
   length_due : {p : ℕ} → InMode Length p (231 ∷ []) []
   long_length : {p v : ℕ} → 250 ≤ v → v < 256 → InMode (LongLength v) p (231 ∷ state_255 (p + 1) v ∷ []) []
   bytes : {p n : ℕ} (len bs : List ℕ) → IsLength len (length bs + suc n) → AllByRecursion (λ b. b < 256) bs
@@ -47,7 +50,8 @@ pub chosen : {A : Type 0} (b : Bool) (x y z : A) → cond b x y ≡ z → ((b �
 chosen true x y z e = inl (refl, e)
 chosen false x y z e = inr (refl, e)
 
-pub unless : {A E : Type 0} (b : Bool) (f : E) (r : Result A E) (out : A) → cond b (Err f) r ≡ Ok out → (b ≡ false) × (r ≡ Ok out)
+pub unless : {A E : Type 0} (b : Bool) (f : E) (r : Result A E) (out : A) → cond b (Err f) r ≡ Ok out →
+    (b ≡ false) × (r ≡ Ok out)
 unless true f r out e = absurd cc
 unless false f r out e = (refl, e)
 
@@ -87,12 +91,15 @@ unfolding value_255
 value_255-below p w lt = below_shift w ((149 * p) % 255 + 1) lt (omega arith) (omega arith)
 
 -- one more value of Base 256
-push_value : (p : ℕ) (xs : List ℕ) (w : ℕ) → w < 256 → randomised p xs ++ w ∷ [] ≡ randomised p (xs ++ value_255 (p + length xs) w ∷ [])
-push_value p xs w lt = sym (randomised-append p xs (value_255 (p + length xs) w ∷ []) ∙ ap (λ (v : ℕ). randomised p xs ++ v ∷ []) (state_255-value_255 (p + length xs) w lt))
+push_value : (p : ℕ) (xs : List ℕ) (w : ℕ) → w < 256 →
+    randomised p xs ++ w ∷ [] ≡ randomised p (xs ++ value_255 (p + length xs) w ∷ [])
+push_value p xs w lt = sym (randomised-append p xs (value_255 (p + length xs) w ∷ []) ∙
+    ap (λ (v : ℕ). randomised p xs ++ v ∷ []) (state_255-value_255 (p + length xs) w lt))
 
 -- ---- runs
 
-pub values_below : (triples : List Triple) → AllByRecursion IsTriple triples → AllByRecursion (λ v. v < 40) (flat_map triple_values triples)
+pub values_below : (triples : List Triple) → AllByRecursion IsTriple triples →
+    AllByRecursion (λ v. v < 40) (flat_map triple_values triples)
 values_below [] fits = tt
 values_below (tr ∷ triples) fits = (fits.0.0, (fits.0.1, (fits.0.2, values_below triples fits.1)))
 
@@ -105,12 +112,14 @@ pub record TakesPair (t : Letters) (s : Pending) (w x : ℕ) (out : Mode × List
   pub taken : values_step t s (triple_values triple) ≡ Ok to
   pub out_is : (Run t to.0, to.1) ≡ out
 
-from_at_pair : (t : Letters) (p w : ℕ) (r : Valued) (out : Mode × List ℕ) → at_pair t p w r ≡ Ok out → (o : Pending × List ℕ) × (r ≡ Ok o) × ((Run t o.0, o.1) ≡ out)
+from_at_pair : (t : Letters) (p w : ℕ) (r : Valued) (out : Mode × List ℕ) → at_pair t p w r ≡ Ok out →
+    (o : Pending × List ℕ) × (r ≡ Ok o) × ((Run t o.0, o.1) ≡ out)
 from_at_pair t p w (Ok o) out e = (o, refl, cc)
 from_at_pair t p w (Err Fnc1) out e = absurd cc
 from_at_pair t p w (Err Missing) out e = absurd cc
 
-pub takes_pair : (t : Letters) (s : Pending) (p w x : ℕ) (out : Mode × List ℕ) → x < 256 → pair_step t s p w x ≡ Ok out → TakesPair t s w x out
+pub takes_pair : (t : Letters) (s : Pending) (p w x : ℕ) (out : Mode × List ℕ) → x < 256 →
+    pair_step t s p w x ≡ Ok out → TakesPair t s w x out
 unfolding pair_step
 takes_pair t s p w x out lt e =
     let v = 256 * w + x in
@@ -135,10 +144,17 @@ takes_pair t s p w x out lt e =
 -- ---- one more word
 
 from_ascii : {p w : ℕ} {out : Mode × List ℕ} (q : ℕ) → AsciiStep p w (Ok out) → Advanced q (w ∷ []) out.1 out.0
-from_ascii q (AsciiStep.character b lt e) = inr (refl, λ after. subst (λ (w : ℕ). Segment q (w ∷ []) after (b ∷ [])) (sym e) (Grammar.Segment.character lt))
-from_ascii q (AsciiStep.digits m n lm ln e) = inr (refl, λ after. subst (λ (w : ℕ). Segment q (w ∷ []) after ((48 + m) ∷ (48 + n) ∷ [])) (sym e) (Grammar.Segment.digits lm ln))
+from_ascii q (AsciiStep.character b lt e) =
+    inr (refl, λ after. subst (λ (w : ℕ). Segment q (w ∷ []) after (b ∷ [])) (sym e) (Grammar.Segment.character lt))
+from_ascii q (AsciiStep.digits m n lm ln e) =
+    inr (
+      refl,
+      λ after. subst (λ (w : ℕ). Segment q (w ∷ []) after ((48 + m) ∷ (48 + n) ∷ [])) (sym e)
+          (Grammar.Segment.digits lm ln),
+    )
 from_ascii q (AsciiStep.pad e) = inl (subst (λ (w : ℕ). InMode Padded q (w ∷ []) []) (sym e) (InMode.padded []))
-from_ascii q (AsciiStep.to_run t e) = inl (subst (λ (w : ℕ). InMode (Run t no_pending) q (w ∷ []) []) (sym e) (InMode.run [] tt refl))
+from_ascii q (AsciiStep.to_run t e) =
+    inl (subst (λ (w : ℕ). InMode (Run t no_pending) q (w ∷ []) []) (sym e) (InMode.run [] tt refl))
 from_ascii q (AsciiStep.to_bytes e) = inl (subst (λ (w : ℕ). InMode Length q (w ∷ []) []) (sym e) InMode.length_due)
 from_ascii q (AsciiStep.to_upper e) = inl (subst (λ (w : ℕ). InMode Upper q (w ∷ []) []) (sym e) InMode.upper)
 
@@ -154,7 +170,9 @@ from_upper p w out q e =
     let byte_given = w + 127 in
     let byte : w - 1 + 128 ≡ byte_given = omega arith in
     let segment : (after : List ℕ) → Segment q (235 ∷ w ∷ []) after ((w + 127) ∷ []) = λ after.
-    subst (λ (w : ℕ). Segment q (235 ∷ w ∷ []) after (byte_given ∷ [])) back (subst (λ (v : ℕ). Segment q (235 ∷ (w - 1 + 1) ∷ []) after (v ∷ [])) byte (Grammar.Segment.upper (omega arith))) in
+    subst (λ (w : ℕ). Segment q (235 ∷ w ∷ []) after (byte_given ∷ [])) back
+    (subst (λ (v : ℕ). Segment q (235 ∷ (w - 1 + 1) ∷ []) after (v ∷ [])) byte
+    (Grammar.Segment.upper (omega arith))) in
     subst (λ (o : Mode × List ℕ). Advanced q (235 ∷ w ∷ []) o.1 o.0) b.1 (inr (refl, segment))
 
 plus_none : (n : ℕ) → n ≡ 0 + n
@@ -163,10 +181,12 @@ plus_none n = omega arith
 -- Base 256: what is left of this many bytes
 left : (q n : ℕ) (len bs : List ℕ) → IsLength len (length bs + n) → AllByRecursion (λ b. b < 256) bs
     → Advanced q (231 ∷ randomised (q + 1) (len ++ bs)) bs (bytes_left n q)
-left q zero len bs is fits = let e : length bs + 0 ≡ length bs = omega arith in inr (refl, λ after. Grammar.Segment.bytes len (rw e at is) fits)
+left q zero len bs is fits = let e : length bs + 0 ≡ length bs = omega arith in
+    inr (refl, λ after. Grammar.Segment.bytes len (rw e at is) fits)
 left q (suc n) len bs is fits = inl (InMode.bytes len bs is fits)
 
-from_length : (p q w : ℕ) (out : Mode × List ℕ) → w < 256 → step Length (q + 1) w ≡ Ok out → Advanced q (231 ∷ w ∷ []) out.1 out.0
+from_length : (p q w : ℕ) (out : Mode × List ℕ) → w < 256 → step Length (q + 1) w ≡ Ok out →
+    Advanced q (231 ∷ w ∷ []) out.1 out.0
 unfolding step
 from_length p q w out lt e =
     let n = value_255 (q + 1) w in
@@ -176,7 +196,8 @@ from_length p q w out lt e =
       | inl is ↦
           let o = ok_is _ out (Ok out) (sym is.1) refl in
           let zero_word : state_255 (q + 1) 0 ≡ w = ap (state_255 (q + 1)) (sym (eqb-true n 0 is.0)) ∙ word in
-          subst (λ (o : Mode × List ℕ). Advanced q (231 ∷ w ∷ []) o.1 o.0) o (inl (subst (λ (w : ℕ). InMode Rest q (231 ∷ w ∷ []) []) zero_word (InMode.rest [] tt)))
+          subst (λ (o : Mode × List ℕ). Advanced q (231 ∷ w ∷ []) o.1 o.0) o
+          (inl (subst (λ (w : ℕ). InMode Rest q (231 ∷ w ∷ []) []) zero_word (InMode.rest [] tt)))
       | inr isnt ↦
           let n0 = eqb-false n 0 isnt.0 in
           let pos : 0 < n = elim (cases_lt 0 n) [ inl pos ↦ pos | inr le ↦ absurd (n0 (omega arith)) ] in
@@ -184,79 +205,111 @@ from_length p q w out lt e =
             | inl is ↦
                 let o = ok_is _ out (Ok out) (sym is.1) refl in
                 let back : q + 1 - 1 ≡ q = omega arith in
-                let whole : Advanced q (231 ∷ w ∷ []) [] (bytes_left n q) = subst (λ (w : ℕ). Advanced q (231 ∷ w ∷ []) [] (bytes_left n q)) word (left q n (n ∷ []) [] (subst (IsLength (n ∷ [])) (plus_none n) (Grammar.IsLength.one pos (ltb-true n 250 is.0))) tt) in
-                subst (λ (o : Mode × List ℕ). Advanced q (231 ∷ w ∷ []) o.1 o.0) o (subst (λ (k : ℕ). Advanced q (231 ∷ w ∷ []) [] (bytes_left n k)) (sym back) whole)
+                let whole : Advanced q (231 ∷ w ∷ []) [] (bytes_left n q) =
+                subst (λ (w : ℕ). Advanced q (231 ∷ w ∷ []) [] (bytes_left n q)) word
+                (left q n (n ∷ []) [] (subst (IsLength (n ∷ [])) (plus_none n)
+                (Grammar.IsLength.one pos (ltb-true n 250 is.0))) tt) in
+                subst (λ (o : Mode × List ℕ). Advanced q (231 ∷ w ∷ []) o.1 o.0) o
+                (subst (λ (k : ℕ). Advanced q (231 ∷ w ∷ []) [] (bytes_left n k)) (sym back) whole)
             | inr isnt2 ↦
                 let o = ok_is _ out (Ok out) (sym isnt2.1) refl in
-                subst (λ (o : Mode × List ℕ). Advanced q (231 ∷ w ∷ []) o.1 o.0) o (inl (subst (λ (w : ℕ). InMode (LongLength n) q (231 ∷ w ∷ []) []) word (InMode.long_length (ltb-false n 250 isnt2.0) below)))
+                subst (λ (o : Mode × List ℕ). Advanced q (231 ∷ w ∷ []) o.1 o.0) o
+                (inl (subst (λ (w : ℕ). InMode (LongLength n) q (231 ∷ w ∷ []) []) word
+                (InMode.long_length (ltb-false n 250 isnt2.0) below)))
           ]
     ]
 
-pub triples_pushed : (triples : List Triple) (tr : Triple) → AllByRecursion IsTriple triples → IsTriple tr → AllByRecursion IsTriple (triples ++ tr ∷ [])
+pub triples_pushed : (triples : List Triple) (tr : Triple) → AllByRecursion IsTriple triples → IsTriple tr →
+    AllByRecursion IsTriple (triples ++ tr ∷ [])
 triples_pushed [] tr fits f = (f, tt)
 triples_pushed (x ∷ xs) tr fits f = (fits.0, triples_pushed xs tr fits.1 f)
 
-fits_pushed : (bs : List ℕ) (b : ℕ) → AllByRecursion (λ b. b < 256) bs → b < 256 → AllByRecursion (λ b. b < 256) (bs ++ b ∷ [])
+fits_pushed : (bs : List ℕ) (b : ℕ) → AllByRecursion (λ b. b < 256) bs → b < 256 →
+    AllByRecursion (λ b. b < 256) (bs ++ b ∷ [])
 fits_pushed [] b fits f = (f, tt)
 fits_pushed (x ∷ xs) b fits f = (fits.0, fits_pushed xs b fits.1 f)
 
 pred_is : (n : ℕ) → suc n - 1 ≡ n
 pred_is n = omega arith
 
-pub advance : {m : Mode} {q : ℕ} {front given : List ℕ} (w : ℕ) (out : Mode × List ℕ) → InMode m q front given → w < 256 → step m (q + length front) w ≡ Ok out
+pub advance : {m : Mode} {q : ℕ} {front given : List ℕ} (w : ℕ) (out : Mode × List ℕ) → InMode m q front given →
+    w < 256 → step m (q + length front) w ≡ Ok out
     → Advanced q (front ++ w ∷ []) (given ++ out.1) out.0
 unfolding step
-advance {q = q} w out InMode.ascii lt e = from_ascii q (subst (λ (r : Stepped). AsciiStep (q + 0) w r) e (ascii_view (q + 0) w))
+advance {q = q} w out InMode.ascii lt e =
+    from_ascii q (subst (λ (r : Stepped). AsciiStep (q + 0) w r) e (ascii_view (q + 0) w))
 advance {q = q} w out InMode.upper lt e = from_upper (q + 1) w out q e
 advance {q = q} w out (InMode.run {t = t} {s = s} {given = given} triples fits taken) lt e =
     elim (chosen (eqb w 254) _ _ _ e) [
       | inl is ↦
           let o = ok_is _ out (Ok out) (sym is.1) refl in
           let chars = chars_from t (flat_map triple_values triples) given s (values_below triples fits) taken in
-          let segment : (after : List ℕ) → Segment q (latch t ∷ (flat_map pair triples ++ w ∷ [])) after (given ++ []) = λ after.
-          subst (λ (bs : List ℕ). Segment q (latch t ∷ (flat_map pair triples ++ w ∷ [])) after bs) (sym (append-nil given))
-          (subst (λ (x : ℕ). Segment q (latch t ∷ (flat_map pair triples ++ x ∷ [])) after given) (sym (eqb-true w 254 is.0)) (Grammar.Segment.run triples fits chars)) in
-          subst (λ (o : Mode × List ℕ). Advanced q (latch t ∷ (flat_map pair triples ++ w ∷ [])) (given ++ o.1) o.0) o (inr (refl, segment))
+          let segment : (after : List ℕ) → Segment q (latch t ∷ (flat_map pair triples ++ w ∷ [])) after (given ++ []) =
+          λ after.
+          subst (λ (bs : List ℕ). Segment q (latch t ∷ (flat_map pair triples ++ w ∷ [])) after bs)
+          (sym (append-nil given))
+          (subst (λ (x : ℕ). Segment q (latch t ∷ (flat_map pair triples ++ x ∷ [])) after given)
+          (sym (eqb-true w 254 is.0)) (Grammar.Segment.run triples fits chars)) in
+          subst (λ (o : Mode × List ℕ). Advanced q (latch t ∷ (flat_map pair triples ++ w ∷ [])) (given ++ o.1) o.0) o
+          (inr (refl, segment))
       | inr isnt ↦
           let o = ok_is _ out (Ok out) (sym isnt.1) refl in
           subst (λ (o : Mode × List ℕ). Advanced q (latch t ∷ (flat_map pair triples ++ w ∷ [])) (given ++ o.1) o.0) o
-          (inl (subst (λ (bs : List ℕ). InMode (Half t s w) q (latch t ∷ (flat_map pair triples ++ w ∷ [])) bs) (sym (append-nil given)) (InMode.half triples fits taken (eqb-false w 254 isnt.0) lt)))
+          (inl (subst (λ (bs : List ℕ). InMode (Half t s w) q (latch t ∷ (flat_map pair triples ++ w ∷ [])) bs)
+          (sym (append-nil given)) (InMode.half triples fits taken (eqb-false w 254 isnt.0) lt)))
     ]
 advance {q = q} w out (InMode.half {t = t} {s = s} {a = a} {given = given} triples fits taken ne la) lt e =
     let r = takes_pair t s _ a w out lt e in
     let one = r.triple ∷ [] in
-    let values : flat_map triple_values (triples ++ one) ≡ flat_map triple_values triples ++ triple_values r.triple = flat_map-append triple_values triples one in
+    let values : flat_map triple_values (triples ++ one) ≡ flat_map triple_values triples ++ triple_values r.triple =
+    flat_map-append triple_values triples one in
     let joined : values_step t no_pending (flat_map triple_values (triples ++ one)) ≡ Ok (r.to.0, given ++ r.to.1) =
-    ap (values_step t no_pending) values ∙ values_joined t no_pending (flat_map triple_values triples) (triple_values r.triple) (s, given) r.to taken r.taken in
+    ap (values_step t no_pending) values ∙ values_joined t no_pending (flat_map triple_values triples)
+    (triple_values r.triple) (s, given) r.to taken r.taken in
     let words : flat_map pair (triples ++ one) ≡ (flat_map pair triples ++ a ∷ []) ++ w ∷ [] =
-    flat_map-append pair triples one ∙ ap (λ (l : List ℕ). flat_map pair triples ++ l) (r.spelled) ∙ sym (append_assoc (flat_map pair triples) (a ∷ []) (w ∷ [])) in
-    subst (λ (o : Mode × List ℕ). Advanced q (latch t ∷ ((flat_map pair triples ++ a ∷ []) ++ w ∷ [])) (given ++ o.1) o.0) r.out_is
-    (inl (subst (λ (l : List ℕ). InMode (Run t r.to.0) q (latch t ∷ l) (given ++ r.to.1)) words (InMode.run (triples ++ one) (triples_pushed triples r.triple fits r.is_triple) joined)))
+    flat_map-append pair triples one ∙ ap (λ (l : List ℕ). flat_map pair triples ++ l) (r.spelled) ∙
+    sym (append_assoc (flat_map pair triples) (a ∷ []) (w ∷ [])) in
+    subst (λ (o : Mode × List ℕ). Advanced q (latch t ∷ ((flat_map pair triples ++ a ∷ []) ++ w ∷ [])) (given ++
+    o.1) o.0) r.out_is
+    (inl (subst (λ (l : List ℕ). InMode (Run t r.to.0) q (latch t ∷ l) (given ++ r.to.1)) words
+    (InMode.run (triples ++ one) (triples_pushed triples r.triple fits r.is_triple) joined)))
 advance {q = q} w out InMode.length_due lt e = from_length q q w out lt e
 advance {q = q} w out (InMode.long_length {v = v} low high) lt e =
     let k : q + 2 ≡ q + 1 + 1 = omega arith in
     let back : q + 2 - 2 ≡ q = omega arith in
     let x = value_255 (q + 1 + 1) w in
     let word = state_255-value_255 (q + 1 + 1) w lt in
-    let at : cond (ltb x 250) (Ok (bytes_left (250 * (v - 249) + x) (q + 2 - 2), [])) (Err (Reserved (q + 1 + 1) w)) ≡ Ok out = subst (λ (j : ℕ). cond (ltb (value_255 j w) 250) (Ok (bytes_left (250 * (v - 249) + value_255 j w) (q + 2 - 2), [])) (Err (Reserved j w)) ≡ Ok out) k e in
+    let at : cond (ltb x 250) (Ok (bytes_left (250 * (v - 249) + x) (q + 2 - 2), [])) (Err (Reserved (q + 1 + 1) w)) ≡
+    Ok out = subst (λ (j : ℕ). cond (ltb (value_255 j w) 250)
+    (Ok (bytes_left (250 * (v - 249) + value_255 j w) (q + 2 - 2), [])) (Err (Reserved j w)) ≡ Ok out) k e in
     let r = only_if (ltb x 250) _ _ out at in
-    let whole = left q (250 * (v - 249) + x) (v ∷ x ∷ []) [] (subst (IsLength (v ∷ x ∷ [])) (plus_none (250 * (v - 249) + x)) (Grammar.IsLength.two low high (ltb-true x 250 r.0))) tt in
-    let placed : Advanced q (231 ∷ state_255 (q + 1) v ∷ w ∷ []) [] (bytes_left (250 * (v - 249) + x) q) = subst (λ (w : ℕ). Advanced q (231 ∷ state_255 (q + 1) v ∷ w ∷ []) [] (bytes_left (250 * (v - 249) + x) q)) word whole in
+    let whole = left q (250 * (v - 249) + x) (v ∷ x ∷ []) []
+    (subst (IsLength (v ∷ x ∷ [])) (plus_none (250 * (v - 249) + x)) (Grammar.IsLength.two low high
+    (ltb-true x 250 r.0))) tt in
+    let placed : Advanced q (231 ∷ state_255 (q + 1) v ∷ w ∷ []) [] (bytes_left (250 * (v - 249) + x) q) =
+    subst (λ (w : ℕ). Advanced q (231 ∷ state_255 (q + 1) v ∷ w ∷ []) [] (bytes_left (250 * (v - 249) + x) q)) word
+    whole in
     subst (λ (o : Mode × List ℕ). Advanced q (231 ∷ state_255 (q + 1) v ∷ w ∷ []) o.1 o.0) r.1
-    (subst (λ (j : ℕ). Advanced q (231 ∷ state_255 (q + 1) v ∷ w ∷ []) [] (bytes_left (250 * (v - 249) + x) j)) (sym back) placed)
+    (subst (λ (j : ℕ). Advanced q (231 ∷ state_255 (q + 1) v ∷ w ∷ []) [] (bytes_left (250 * (v - 249) + x) j))
+    (sym back) placed)
 advance {q = q} w out (InMode.bytes {n = n} len bs is fits) lt e =
     let p = q + 1 + length (len ++ bs) in
-    let k : q + suc (length (randomised (q + 1) (len ++ bs))) ≡ p = omega (arith, length-randomised (q + 1) (len ++ bs)) in
+    let k : q + suc (length (randomised (q + 1) (len ++ bs))) ≡ p =
+    omega (arith, length-randomised (q + 1) (len ++ bs)) in
     let b = value_255 p w in
     let e2 : step (Bytes (suc n) q) p w ≡ Ok out = subst (λ (j : ℕ). step (Bytes (suc n) q) j w ≡ Ok out) k e in
     let e3 : goes_to (bytes_left (suc n - 1) q, b ∷ []) ≡ Ok out = e2 in
-    let e4 : goes_to (bytes_left n q, b ∷ []) ≡ Ok out = subst (λ (i : ℕ). goes_to (bytes_left i q, b ∷ []) ≡ Ok out) (pred_is n) e3 in
-    let o : (bytes_left n q, b ∷ []) ≡ out = ok_is (bytes_left n q, b ∷ []) out (goes_to (bytes_left n q, b ∷ [])) refl e4 in
+    let e4 : goes_to (bytes_left n q, b ∷ []) ≡ Ok out = subst (λ (i : ℕ). goes_to (bytes_left i q, b ∷ []) ≡ Ok out)
+    (pred_is n) e3 in
+    let o : (bytes_left n q, b ∷ []) ≡ out = ok_is (bytes_left n q, b ∷ []) out
+    (goes_to (bytes_left n q, b ∷ [])) refl e4 in
     let words : randomised (q + 1) (len ++ (bs ++ b ∷ [])) ≡ randomised (q + 1) (len ++ bs) ++ w ∷ [] =
     ap (randomised (q + 1)) (sym (append_assoc len bs (b ∷ []))) ∙ sym (push_value (q + 1) (len ++ bs) w lt) in
-    let is2 : IsLength len (length (bs ++ b ∷ []) + n) = subst (IsLength len) (omega (arith, length-append bs (b ∷ []))) is in
+    let is2 : IsLength len (length (bs ++ b ∷ []) + n) =
+    subst (IsLength len) (omega (arith, length-append bs (b ∷ []))) is in
     subst (λ (o : Mode × List ℕ). Advanced q (231 ∷ (randomised (q + 1) (len ++ bs) ++ w ∷ [])) (bs ++ o.1) o.0) o
-    (subst (λ (l : List ℕ). Advanced q (231 ∷ l) (bs ++ b ∷ []) (bytes_left n q)) words (left q n len (bs ++ b ∷ []) is2 (fits_pushed bs b fits (value_255-below p w lt))))
+    (subst (λ (l : List ℕ). Advanced q (231 ∷ l) (bs ++ b ∷ []) (bytes_left n q)) words
+    (left q n len (bs ++ b ∷ []) is2 (fits_pushed bs b fits (value_255-below p w lt))))
 advance {q = q} w out (InMode.rest bs fits) lt e =
     let p = q + 1 + length (0 ∷ bs) in
     let k : q + length (231 ∷ randomised (q + 1) (0 ∷ bs)) ≡ p = omega (arith, length-randomised (q + 1 + 1) bs) in
@@ -264,54 +317,72 @@ advance {q = q} w out (InMode.rest bs fits) lt e =
     let e2 : step Rest p w ≡ Ok out = subst (λ (j : ℕ). step Rest j w ≡ Ok out) k e in
     let o : (Rest, b ∷ []) ≡ out = ok_is (Rest, b ∷ []) out (goes_to (Rest, b ∷ [])) refl e2 in
     subst (λ (o : Mode × List ℕ). Advanced q (231 ∷ (randomised (q + 1) (0 ∷ bs) ++ w ∷ [])) (bs ++ o.1) o.0) o
-    (inl (subst (λ (l : List ℕ). InMode Rest q (231 ∷ l) (bs ++ b ∷ [])) (sym (push_value (q + 1) (0 ∷ bs) w lt)) (InMode.rest (bs ++ b ∷ []) (fits_pushed bs b fits (value_255-below p w lt)))))
+    (inl (subst (λ (l : List ℕ). InMode Rest q (231 ∷ l) (bs ++ b ∷ [])) (sym (push_value (q + 1) (0 ∷ bs) w lt))
+    (InMode.rest (bs ++ b ∷ []) (fits_pushed bs b fits (value_255-below p w lt)))))
 advance {q = q} w out (InMode.padded any) lt e =
     let o : (Padded, []) ≡ out = ok_is _ out (Ok out) (sym e) refl in
     subst (λ (o : Mode × List ℕ). Advanced q (129 ∷ (any ++ w ∷ [])) o.1 o.0) o (inl (InMode.padded (any ++ w ∷ [])))
 
 nothing_more : {q : ℕ} (front given : List ℕ) → Segment q front [] given → Reads q front given
 nothing_more {q = q} front given segment =
-    subst (λ (l : List ℕ). Reads q l given) (append-nil front) (subst (λ (l : List ℕ). Reads q (front ++ []) l) (append-nil given) (Grammar.Reads.joined front [] given [] segment Grammar.Reads.nothing))
+    subst (λ (l : List ℕ). Reads q l given) (append-nil front)
+    (subst (λ (l : List ℕ). Reads q (front ++ []) l) (append-nil given)
+    (Grammar.Reads.joined front [] given [] segment Grammar.Reads.nothing))
 
 -- a last word in ASCII
-single : {p a : ℕ} {r : Stepped} (q k : ℕ) (bs : List ℕ) → AsciiStep p a r → (r >>= λ n. prepend n.1 (ended n.0 k)) ≡ Ok bs → Reads q (a ∷ []) bs
+single : {p a : ℕ} {r : Stepped} (q k : ℕ) (bs : List ℕ) → AsciiStep p a r →
+    (r >>= λ n. prepend n.1 (ended n.0 k)) ≡ Ok bs → Reads q (a ∷ []) bs
 single q k bs (AsciiStep.nothing x) e = absurd cc
 single q k bs (AsciiStep.unsupported x) e = absurd cc
 single {a = a} q k bs (AsciiStep.character b lt is) e =
-    subst (λ (l : List ℕ). Reads q (a ∷ []) l) (ok_is (b ∷ []) bs (Ok (b ∷ [])) refl e) (subst (λ (w : ℕ). Reads q (w ∷ []) (b ∷ [])) (sym is) (nothing_more ((b + 1) ∷ []) (b ∷ []) (Grammar.Segment.character lt)))
+    subst (λ (l : List ℕ). Reads q (a ∷ []) l) (ok_is (b ∷ []) bs (Ok (b ∷ [])) refl e)
+    (subst (λ (w : ℕ). Reads q (w ∷ []) (b ∷ [])) (sym is)
+    (nothing_more ((b + 1) ∷ []) (b ∷ []) (Grammar.Segment.character lt)))
 single {a = a} q k bs (AsciiStep.digits m n lm ln is) e =
-    subst (λ (l : List ℕ). Reads q (a ∷ []) l) (ok_is ((48 + m) ∷ (48 + n) ∷ []) bs _ refl e) (subst (λ (w : ℕ). Reads q (w ∷ []) ((48 + m) ∷ (48 + n) ∷ [])) (sym is) (nothing_more ((130 + (10 * m + n)) ∷ []) ((48 + m) ∷ (48 + n) ∷ []) (Grammar.Segment.digits lm ln)))
-single {a = a} q k bs (AsciiStep.pad is) e = subst (λ (l : List ℕ). Reads q (a ∷ []) l) (ok_is [] bs _ refl e) (subst (λ (w : ℕ). Reads q (w ∷ []) []) (sym is) Grammar.Reads.padded)
+    subst (λ (l : List ℕ). Reads q (a ∷ []) l) (ok_is ((48 + m) ∷ (48 + n) ∷ []) bs _ refl e)
+    (subst (λ (w : ℕ). Reads q (w ∷ []) ((48 + m) ∷ (48 + n) ∷ [])) (sym is)
+    (nothing_more ((130 + (10 * m + n)) ∷ []) ((48 + m) ∷ (48 + n) ∷ []) (Grammar.Segment.digits lm ln)))
+single {a = a} q k bs (AsciiStep.pad is) e = subst (λ (l : List ℕ). Reads q (a ∷ []) l) (ok_is [] bs _ refl e)
+    (subst (λ (w : ℕ). Reads q (w ∷ []) []) (sym is) Grammar.Reads.padded)
 single {a = a} q k bs (AsciiStep.to_run t is) e =
-    subst (λ (l : List ℕ). Reads q (a ∷ []) l) (ok_is [] bs _ refl e) (subst (λ (w : ℕ). Reads q (w ∷ []) []) (sym is) (nothing_more (latch t ∷ []) [] (Grammar.Segment.open_run [] tt (chars_from t [] [] no_pending tt refl) tt)))
+    subst (λ (l : List ℕ). Reads q (a ∷ []) l) (ok_is [] bs _ refl e)
+    (subst (λ (w : ℕ). Reads q (w ∷ []) []) (sym is)
+    (nothing_more (latch t ∷ []) [] (Grammar.Segment.open_run [] tt (chars_from t [] [] no_pending tt refl) tt)))
 single q k bs (AsciiStep.to_bytes is) e = absurd cc
 single q k bs (AsciiStep.to_upper is) e = absurd cc
 
 -- the end of the words
-at_end : {m : Mode} {q : ℕ} {front given : List ℕ} (p : ℕ) (bs : List ℕ) → InMode m q front given → finish m p ≡ Ok bs → Reads q front (given ++ bs)
+at_end : {m : Mode} {q : ℕ} {front given : List ℕ} (p : ℕ) (bs : List ℕ) → InMode m q front given → finish m p ≡ Ok bs →
+    Reads q front (given ++ bs)
 unfolding finish
 at_end {q = q} p bs InMode.ascii e = subst (λ (l : List ℕ). Reads q [] l) (ok_is [] bs _ refl e) Grammar.Reads.nothing
 at_end p bs InMode.upper e = absurd cc
 at_end {q = q} p bs (InMode.run {t = t} {s = s} {given = given} triples fits taken) e =
     let chars = chars_from t (flat_map triple_values triples) given s (values_below triples fits) taken in
     subst (λ (l : List ℕ). Reads q (latch t ∷ flat_map pair triples) (given ++ l)) (ok_is [] bs _ refl e)
-    (subst (λ (l : List ℕ). Reads q (latch t ∷ flat_map pair triples) l) (sym (append-nil given)) (nothing_more (latch t ∷ flat_map pair triples) given (Grammar.Segment.open_run triples fits chars tt)))
+    (subst (λ (l : List ℕ). Reads q (latch t ∷ flat_map pair triples) l) (sym (append-nil given))
+    (nothing_more (latch t ∷ flat_map pair triples) given (Grammar.Segment.open_run triples fits chars tt)))
 at_end {q = q} p bs (InMode.half {t = t} {s = s} {a = a} {given = given} triples fits taken ne lt) e =
     let chars = chars_from t (flat_map triple_values triples) given s (values_below triples fits) taken in
-    Grammar.Reads.joined (latch t ∷ flat_map pair triples) (a ∷ []) given bs (Grammar.Segment.open_run triples fits chars ne)
+    Grammar.Reads.joined (latch t ∷ flat_map pair triples) (a ∷ []) given bs
+    (Grammar.Segment.open_run triples fits chars ne)
     (single (q + length (latch t ∷ flat_map pair triples)) p bs (ascii_view (p - 1) a) e)
 at_end p bs InMode.length_due e = absurd cc
 at_end p bs (InMode.long_length low high) e = absurd cc
 at_end p bs (InMode.bytes len xs is fits) e = absurd cc
 at_end {q = q} p bs (InMode.rest xs fits) e =
     subst (λ (l : List ℕ). Reads q (231 ∷ randomised (q + 1) (0 ∷ xs)) (xs ++ l)) (ok_is [] bs _ refl e)
-    (subst (λ (l : List ℕ). Reads q (231 ∷ randomised (q + 1) (0 ∷ xs)) l) (sym (append-nil xs)) (nothing_more (231 ∷ randomised (q + 1) (0 ∷ xs)) xs (Grammar.Segment.rest fits)))
-at_end {q = q} p bs (InMode.padded any) e = subst (λ (l : List ℕ). Reads q (129 ∷ any) l) (ok_is [] bs _ refl e) Grammar.Reads.padded
+    (subst (λ (l : List ℕ). Reads q (231 ∷ randomised (q + 1) (0 ∷ xs)) l) (sym (append-nil xs))
+    (nothing_more (231 ∷ randomised (q + 1) (0 ∷ xs)) xs (Grammar.Segment.rest fits)))
+at_end {q = q} p bs (InMode.padded any) e = subst (λ (l : List ℕ). Reads q (129 ∷ any) l)
+    (ok_is [] bs _ refl e) Grammar.Reads.padded
 
-pub sound : (words : List ℕ) {m : Mode} {q : ℕ} {front given : List ℕ} (bs : List ℕ) → AllByRecursion (λ w. w < 256) words → InMode m q front given
+pub sound : (words : List ℕ) {m : Mode} {q : ℕ} {front given : List ℕ} (bs : List ℕ) →
+    AllByRecursion (λ w. w < 256) words → InMode m q front given
     → reading m (q + length front) words ≡ Ok bs → Reads q (front ++ words) (given ++ bs)
 unfolding reading
-sound [] {m = m} {q = q} {front = front} {given = given} bs fits i e = subst (λ (l : List ℕ). Reads q l (given ++ bs)) (sym (append-nil front)) (at_end (q + length front) bs i e)
+sound [] {m = m} {q = q} {front = front} {given = given} bs fits i e =
+    subst (λ (l : List ℕ). Reads q l (given ++ bs)) (sym (append-nil front)) (at_end (q + length front) bs i e)
 sound (w ∷ words) {m = m} {q = q} {front = front} {given = given} bs fits i e =
     let p = q + length front in
     let a = bind_ok (step m p w) (λ n. prepend n.1 (reading n.0 (p + 1) words)) bs e in
@@ -325,12 +396,19 @@ sound (w ∷ words) {m = m} {q = q} {front = front} {given = given} bs fits i e 
       | inl inside ↦ sound words more fits.1 inside (subst (λ (j : ℕ). reading out.0 j words ≡ Ok more) k b.1)
       | inr ended ↦
           let k0 : p + 1 ≡ q + length longer + length {A = ℕ} [] = omega (arith, length-append front (w ∷ [])) in
-          let r : reading Ascii (q + length longer + length {A = ℕ} []) words ≡ Ok more = subst (λ (m : Mode). reading m (q + length longer + length {A = ℕ} []) words ≡ Ok more) ended.0 (subst (λ (j : ℕ). reading out.0 j words ≡ Ok more) k0 b.1) in
-          Grammar.Reads.joined longer words (given ++ out.1) more (ended.1 words) (sound words more fits.1 (InMode.ascii {p = q + length longer}) r)
+          let r : reading Ascii (q + length longer + length {A = ℕ} []) words ≡ Ok more =
+          subst (λ (m : Mode). reading m (q + length longer + length {A = ℕ} []) words ≡ Ok more) ended.0
+          (subst (λ (j : ℕ). reading out.0 j words ≡ Ok more) k0 b.1) in
+          Grammar.Reads.joined longer words (given ++ out.1) more (ended.1 words)
+          (sound words more fits.1 (InMode.ascii {p = q + length longer}) r)
     ] in
-    let bytes_are : (given ++ out.1) ++ more ≡ given ++ bs = append_assoc given out.1 more ∙ ap (λ (l : List ℕ). given ++ l) (ok_is (out.1 ++ more) bs _ refl b.2) in
-    subst (λ (l : List ℕ). Reads q l (given ++ bs)) (append_assoc front (w ∷ []) words) (subst (λ (l : List ℕ). Reads q (longer ++ words) l) bytes_are whole)
+    let bytes_are : (given ++ out.1) ++ more ≡ given ++ bs = append_assoc given out.1 more ∙
+    ap (λ (l : List ℕ). given ++ l) (ok_is (out.1 ++ more) bs _ refl b.2) in
+    subst (λ (l : List ℕ). Reads q l (given ++ bs)) (append_assoc front (w ∷ []) words)
+    (subst (λ (l : List ℕ). Reads q (longer ++ words) l) bytes_are whole)
 
 -- from ASCII on
-pub reads_from : (p : ℕ) (words bs : List ℕ) → AllByRecursion (λ w. w < 256) words → reading Ascii p words ≡ Ok bs → Reads p words bs
-reads_from p words bs fits e = let k : p + 0 ≡ p = omega arith in sound words bs fits (InMode.ascii {p = p}) (subst (λ (j : ℕ). reading Ascii j words ≡ Ok bs) (sym k) e)
+pub reads_from : (p : ℕ) (words bs : List ℕ) → AllByRecursion (λ w. w < 256) words → reading Ascii p words ≡ Ok bs →
+    Reads p words bs
+reads_from p words bs fits e = let k : p + 0 ≡ p = omega arith in
+    sound words bs fits (InMode.ascii {p = p}) (subst (λ (j : ℕ). reading Ascii j words ≡ Ok bs) (sym k) e)

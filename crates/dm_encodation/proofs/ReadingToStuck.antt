@@ -27,7 +27,8 @@ use Rattle.dm_encodation.proofs.StuckToReading.{fnc1_is, fnc1_from, values_fail,
 same_error : {B E : Type 0} (d f : E) (r : Result B E) → r ≡ Err d → r ≡ Err f → d ≡ f
 same_error d f r a b = cc
 
-bind_err : {A B E : Type 0} (r : Result A E) (g : A → Result B E) (f : E) → (r >>= g) ≡ Err f → (r ≡ Err f) ⊎ ((x : A) × (r ≡ Ok x) × (g x ≡ Err f))
+bind_err : {A B E : Type 0} (r : Result A E) (g : A → Result B E) (f : E) → (r >>= g) ≡ Err f →
+    (r ≡ Err f) ⊎ ((x : A) × (r ≡ Ok x) × (g x ≡ Err f))
 bind_err (Ok x) g f e = inr (x, refl, e)
 bind_err {E = E} (Err d) g f e = inl (ap (λ (x : E). Err x) (same_error d f (Err d >>= g) refl e))
 
@@ -51,7 +52,8 @@ record FirstFailure (t : Letters) (s : Pending) (vs : List ℕ) (e : ValueFault)
   taken : values_step t s (take place vs) ≡ Ok mid
   fails : value_step t mid.0 (get_or vs place 0) ≡ Err e
 
-first_failure : (t : Letters) (s : Pending) (vs : List ℕ) (e : ValueFault) → values_step t s vs ≡ Err e → FirstFailure t s vs e
+first_failure : (t : Letters) (s : Pending) (vs : List ℕ) (e : ValueFault) → values_step t s vs ≡ Err e →
+    FirstFailure t s vs e
 first_failure t s [] e h = absurd (ok_err _ _ h)
 first_failure t s (v ∷ vs) e h =
     elim (bind_err (value_step t s v) (λ a. values_step t a.0 vs >>= λ b. Ok (b.0, a.1 ++ b.1)) e h) [
@@ -62,7 +64,10 @@ first_failure t s (v ∷ vs) e h =
               place = suc r.place;
               below = omega (arith, r.below);
               mid = (r.mid.0, more.0.1 ++ r.mid.1);
-              taken = bind_is (value_step t s v) more.0 (λ a. values_step t a.0 (take r.place vs) >>= λ b. Ok (b.0, a.1 ++ b.1)) _ more.1 (bind_is (values_step t more.0.0 (take r.place vs)) r.mid (λ b. Ok (b.0, more.0.1 ++ b.1)) _ r.taken refl);
+              taken = bind_is (value_step t s v) more.0
+                  (λ a. values_step t a.0 (take r.place vs) >>= λ b. Ok (b.0, a.1 ++ b.1)) _ more.1
+                  (bind_is (values_step t more.0.0 (take r.place vs)) r.mid
+                  (λ b. Ok (b.0, more.0.1 ++ b.1)) _ r.taken refl);
               fails = r.fails;
             }
         | inr never ↦ absurd (ok_err _ _ never.2)
@@ -70,7 +75,8 @@ first_failure t s (v ∷ vs) e h =
     ]
 
 -- the value has no meaning after the others
-meaningless_at : (t : Letters) (s : Pending) (vs front : List ℕ) (v : ℕ) (given : List ℕ) (mid : Pending × List ℕ) (e : ValueFault) → AllByRecursion (λ v. v < 40) (vs ++ front)
+meaningless_at : (t : Letters) (s : Pending) (vs front : List ℕ) (v : ℕ) (given : List ℕ) (mid : Pending × List ℕ)
+    (e : ValueFault) → AllByRecursion (λ v. v < 40) (vs ++ front)
     → values_step t no_pending vs ≡ Ok (s, given) → values_step t s front ≡ Ok mid → value_step t mid.0 v ≡ Err e
     → (m : IsMeaningless t (vs ++ front) v) × (tail_of mid.0 ≡ m.before.tail)
 unfolding chars_from
@@ -80,7 +86,8 @@ meaningless_at t s vs front v given mid e fits taken ok err =
       record {
         bytes = given ++ mid.1;
         before = chars_from t (vs ++ front) (given ++ mid.1) mid.0 fits joined;
-        none = λ others chars. let r = chars_step t ((vs ++ front) ++ v ∷ []) others chars in ok_err _ _ (sym r.1 ∙ failing);
+        none = λ others chars. let r = chars_step t ((vs ++ front) ++ v ∷ []) others chars in
+            ok_err _ _ (sym r.1 ∙ failing);
       },
       refl,
     )
@@ -94,32 +101,59 @@ front_below tr (suc (suc (suc k))) lt f = absurd (omega arith)
 different : Missing ≡ Fnc1 → ⊥
 different e = cc
 
-by_kind : (t : Letters) (s : Pending) (p : ℕ) (triples : List Triple) (next : Triple) (a x k : ℕ) (f : DecodeFault) (e : ValueFault) (mid : Pending) → IsTriple next → pair next ≡ a ∷ x ∷ [] → k < 3
+by_kind : (t : Letters) (s : Pending) (p : ℕ) (triples : List Triple) (next : Triple) (a x k : ℕ) (f : DecodeFault)
+    (e : ValueFault) (mid : Pending) → IsTriple next → pair next ≡ a ∷ x ∷ [] → k < 3
     → value_step t mid (get_or (triple_values next) k 0) ≡ Err e
-    → (m : IsMeaningless t (flat_map triple_values triples ++ take k (triple_values next)) (get_or (triple_values next) k 0)) → tail_of mid ≡ m.before.tail
+    → (m : IsMeaningless t (flat_map triple_values triples ++ take k (triple_values next))
+    (get_or (triple_values next) k 0)) → tail_of mid ≡ m.before.tail
     → at_pair t p a (Err e) ≡ Err f → BadPair t p triples a x f
 by_kind t s p triples next a x k f Fnc1 mid is spelled lt h m tail at =
     let r = fnc1_is t mid.upper mid.set _ h in
-    subst (λ (f : DecodeFault). BadPair t p triples a x f) (fault_is _ f at) (Grammar.BadPair.fnc1 (record { next = next; place = k; is_triple = is; spelled = spelled; in_pair = lt; meaningless = m }) (r.1, moved_back mid m.before.tail tail (second_tail mid.upper mid.set r.0)))
+    subst (λ (f : DecodeFault). BadPair t p triples a x f) (fault_is _ f at)
+    (Grammar.BadPair.fnc1 (record {
+      next = next;
+      place = k;
+      is_triple = is;
+      spelled = spelled;
+      in_pair = lt;
+      meaningless = m;
+    }) (r.1, moved_back mid m.before.tail tail (second_tail mid.upper mid.set r.0)))
 by_kind t s p triples next a x k f Missing mid is spelled lt h m tail at =
     subst (λ (f : DecodeFault). BadPair t p triples a x f) (fault_is _ f at)
-    (Grammar.BadPair.meaningless (record { next = next; place = k; is_triple = is; spelled = spelled; in_pair = lt; meaningless = m }) (λ q. different (fnc1_from t mid _ Missing (second_set mid.upper mid.set (moved mid m.before.tail tail q.1)) q.0 h)))
+    (Grammar.BadPair.meaningless (record {
+      next = next;
+      place = k;
+      is_triple = is;
+      spelled = spelled;
+      in_pair = lt;
+      meaningless = m;
+    }) (λ q. different (fnc1_from t mid _ Missing
+    (second_set mid.upper mid.set (moved mid m.before.tail tail q.1)) q.0 h)))
 
-by_value : (t : Letters) (s : Pending) (p : ℕ) (triples : List Triple) (next : Triple) (a x : ℕ) (given : List ℕ) (f : DecodeFault) (e : ValueFault) → AllByRecursion IsTriple triples → IsTriple next
-    → pair next ≡ a ∷ x ∷ [] → values_step t no_pending (flat_map triple_values triples) ≡ Ok (s, given) → FirstFailure t s (triple_values next) e → at_pair t p a (Err e) ≡ Err f → BadPair t p triples a x f
+by_value : (t : Letters) (s : Pending) (p : ℕ) (triples : List Triple) (next : Triple) (a x : ℕ) (given : List ℕ)
+    (f : DecodeFault) (e : ValueFault) → AllByRecursion IsTriple triples → IsTriple next
+    → pair next ≡ a ∷ x ∷ [] → values_step t no_pending (flat_map triple_values triples) ≡ Ok (s, given) →
+    FirstFailure t s (triple_values next) e → at_pair t p a (Err e) ≡ Err f → BadPair t p triples a x f
 by_value t s p triples next a x given f e fits is spelled taken r at =
     let vs = flat_map triple_values triples in
     let k : r.place < 3 = omega (arith, r.below) in
-    let m = meaningless_at t s vs (take r.place (triple_values next)) (get_or (triple_values next) r.place 0) given r.mid e (append_below vs (take r.place (triple_values next)) (values_below triples fits) (front_below next r.place k is)) taken r.taken r.fails in
+    let m = meaningless_at t s vs (take r.place (triple_values next))
+    (get_or (triple_values next) r.place 0) given r.mid e
+    (append_below vs (take r.place (triple_values next)) (values_below triples fits)
+    (front_below next r.place k is)) taken r.taken r.fails in
     by_kind t s p triples next a x r.place f e r.mid.0 is spelled k r.fails m.0 m.1 at
 
-from_at_pair_err : (t : Letters) (p w : ℕ) (r : Valued) (f : DecodeFault) → at_pair t p w r ≡ Err f → (e : ValueFault) × (r ≡ Err e) × (at_pair t p w (Err e) ≡ Err f)
+from_at_pair_err : (t : Letters) (p w : ℕ) (r : Valued) (f : DecodeFault) → at_pair t p w r ≡ Err f →
+    (e : ValueFault) × (r ≡ Err e) × (at_pair t p w (Err e) ≡ Err f)
 from_at_pair_err t p w (Ok o) f h = absurd (ok_err _ _ h)
 from_at_pair_err t p w (Err e) f h = (e, refl, h)
 
-valued : (t : Letters) (s : Pending) (p : ℕ) (triples : List Triple) (a x : ℕ) (given : List ℕ) (f : DecodeFault) → x < 256 → AllByRecursion IsTriple triples
+valued : (t : Letters) (s : Pending) (p : ℕ) (triples : List Triple) (a x : ℕ) (given : List ℕ) (f : DecodeFault) →
+    x < 256 → AllByRecursion IsTriple triples
     → values_step t no_pending (flat_map triple_values triples) ≡ Ok (s, given) → 1 ≤ 256 * a + x → 256 * a + x ≤ 64000
-    → at_pair t p a (values_step t s (((256 * a + x - 1) / 1600) ∷ ((256 * a + x - 1) / 40 % 40) ∷ ((256 * a + x - 1) % 40) ∷ [])) ≡ Err f → BadPair t p triples a x f
+    → at_pair t p a (values_step t s
+    (((256 * a + x - 1) / 1600) ∷ ((256 * a + x - 1) / 40 % 40) ∷ ((256 * a + x - 1) % 40) ∷ [])) ≡ Err f →
+    BadPair t p triples a x f
 valued t s p triples a x given f lt fits taken low high e =
     let v = 256 * a + x in
     let next : Triple = record { first = (v - 1) / 1600; second = (v - 1) / 40 % 40; third = (v - 1) % 40 } in
@@ -131,29 +165,41 @@ valued t s p triples a x given f lt fits taken low high e =
     let q2 : (v - 1) / 40 % 40 < 40 = omega arith in
     let q3 : (v - 1) % 40 < 40 = omega arith in
     let r = from_at_pair_err t p a (values_step t s (triple_values next)) f e in
-    by_value t s p triples next a x given f r.0 fits (q1, q2, q3) spelled taken (first_failure t s (triple_values next) r.0 r.1) r.2
+    by_value t s p triples next a x given f r.0 fits (q1, q2, q3) spelled taken
+    (first_failure t s (triple_values next) r.0 r.1) r.2
 
-bad_pair_from : (t : Letters) (s : Pending) (p : ℕ) (triples : List Triple) (a x : ℕ) (given : List ℕ) (f : DecodeFault) → x < 256 → AllByRecursion IsTriple triples
-    → values_step t no_pending (flat_map triple_values triples) ≡ Ok (s, given) → pair_step t s p a x ≡ Err f → BadPair t p triples a x f
+bad_pair_from : (t : Letters) (s : Pending) (p : ℕ) (triples : List Triple) (a x : ℕ) (given : List ℕ)
+    (f : DecodeFault) → x < 256 → AllByRecursion IsTriple triples
+    → values_step t no_pending (flat_map triple_values triples) ≡ Ok (s, given) → pair_step t s p a x ≡ Err f →
+    BadPair t p triples a x f
 unfolding pair_step
 bad_pair_from t s p triples a x given f lt fits taken e =
     elim (chosen (eqb (256 * a + x) 0) _ _ _ e) [
-      | inl is ↦ subst (λ (f : DecodeFault). BadPair t p triples a x f) (fault_is _ f is.1) (Grammar.BadPair.no_value (inl (eqb-true _ 0 is.0)))
+      | inl is ↦ subst (λ (f : DecodeFault). BadPair t p triples a x f) (fault_is _ f is.1)
+          (Grammar.BadPair.no_value (inl (eqb-true _ 0 is.0)))
       | inr is ↦
           elim (chosen (ltb 64000 (256 * a + x)) _ _ _ is.1) [
-            | inl over ↦ subst (λ (f : DecodeFault). BadPair t p triples a x f) (fault_is _ f over.1) (Grammar.BadPair.no_value (inr (ltb-true 64000 _ over.0)))
+            | inl over ↦ subst (λ (f : DecodeFault). BadPair t p triples a x f) (fault_is _ f over.1)
+                (Grammar.BadPair.no_value (inr (ltb-true 64000 _ over.0)))
             | inr fine ↦
                 let n0 = eqb-false (256 * a + x) 0 is.0 in
-                let low : 1 ≤ 256 * a + x = elim (cases_lt 0 (256 * a + x)) [ inl pos ↦ pos | inr le ↦ absurd (n0 (omega arith)) ] in
+                let low : 1 ≤ 256 * a + x = elim (cases_lt 0 (256 * a + x)) [
+                  | inl pos ↦ pos
+                  | inr le ↦
+                      absurd (n0 (omega arith))
+                ] in
                 valued t s p triples a x given f lt fits taken low (ltb-false 64000 _ fine.0) fine.1
           ]
     ]
 
 -- ---- one word that fails
 
-here_nothing : {p w : ℕ} {r : Stepped} (q : ℕ) (after : List ℕ) (f : DecodeFault) → p ≡ q → AsciiStep p w r → r ≡ Err f → StuckHere q (w ∷ after) f
-here_nothing {w = w} q after f at (AsciiStep.nothing u) e = subst (λ (f : DecodeFault). StuckHere q (w ∷ after) f) (ap (λ (p : ℕ). Reserved p w) (sym at) ∙ fault_is _ f e) (Grammar.StuckHere.reserved u)
-here_nothing {w = w} q after f at (AsciiStep.unsupported u) e = subst (λ (f : DecodeFault). StuckHere q (w ∷ after) f) (ap (λ (p : ℕ). Unsupported p w) (sym at) ∙ fault_is _ f e) (Grammar.StuckHere.unsupported u)
+here_nothing : {p w : ℕ} {r : Stepped} (q : ℕ) (after : List ℕ) (f : DecodeFault) → p ≡ q → AsciiStep p w r →
+    r ≡ Err f → StuckHere q (w ∷ after) f
+here_nothing {w = w} q after f at (AsciiStep.nothing u) e = subst (λ (f : DecodeFault). StuckHere q (w ∷ after) f)
+    (ap (λ (p : ℕ). Reserved p w) (sym at) ∙ fault_is _ f e) (Grammar.StuckHere.reserved u)
+here_nothing {w = w} q after f at (AsciiStep.unsupported u) e = subst (λ (f : DecodeFault). StuckHere q (w ∷ after) f)
+    (ap (λ (p : ℕ). Unsupported p w) (sym at) ∙ fault_is _ f e) (Grammar.StuckHere.unsupported u)
 here_nothing q after f at (AsciiStep.character b lt is) e = absurd (ok_err _ _ e)
 here_nothing q after f at (AsciiStep.digits m n lm ln is) e = absurd (ok_err _ _ e)
 here_nothing q after f at (AsciiStep.pad is) e = absurd (ok_err _ _ e)
@@ -161,16 +207,24 @@ here_nothing q after f at (AsciiStep.to_run t is) e = absurd (ok_err _ _ e)
 here_nothing q after f at (AsciiStep.to_bytes is) e = absurd (ok_err _ _ e)
 here_nothing q after f at (AsciiStep.to_upper is) e = absurd (ok_err _ _ e)
 
-upper_fails : (q w : ℕ) (after : List ℕ) (f : DecodeFault) → upper_step (q + 1) w ≡ Err f → StuckHere q (235 ∷ w ∷ after) f
+upper_fails : (q w : ℕ) (after : List ℕ) (f : DecodeFault) → upper_step (q + 1) w ≡ Err f →
+    StuckHere q (235 ∷ w ∷ after) f
 unfolding upper_step
 upper_fails q w after f e =
     elim (chosen (eqb w 0) _ _ _ e) [
-      | inl is ↦ subst (λ (f : DecodeFault). StuckHere q (235 ∷ w ∷ after) f) (fault_is _ f is.1) (Grammar.StuckHere.bad_upper (inl (eqb-true w 0 is.0)))
+      | inl is ↦ subst (λ (f : DecodeFault). StuckHere q (235 ∷ w ∷ after) f) (fault_is _ f is.1)
+          (Grammar.StuckHere.bad_upper (inl (eqb-true w 0 is.0)))
       | inr is ↦
-          elim (chosen (leb w 128) _ _ _ is.1) [ inl ok ↦ absurd (ok_err _ _ ok.1) | inr big ↦ subst (λ (f : DecodeFault). StuckHere q (235 ∷ w ∷ after) f) (fault_is _ f big.1) (Grammar.StuckHere.bad_upper (inr (leb-false w 128 big.0))) ]
+          elim (chosen (leb w 128) _ _ _ is.1) [
+            | inl ok ↦ absurd (ok_err _ _ ok.1)
+            | inr big ↦
+                subst (λ (f : DecodeFault). StuckHere q (235 ∷ w ∷ after) f) (fault_is _ f big.1)
+                (Grammar.StuckHere.bad_upper (inr (leb-false w 128 big.0)))
+          ]
     ]
 
-long_stuck : (q v w : ℕ) (after : List ℕ) (f : DecodeFault) → 250 ≤ v → v < 256 → w < 256 → step (LongLength v) (q + 1 + 1) w ≡ Err f → StuckHere q (231 ∷ state_255 (q + 1) v ∷ w ∷ after) f
+long_stuck : (q v w : ℕ) (after : List ℕ) (f : DecodeFault) → 250 ≤ v → v < 256 → w < 256 →
+    step (LongLength v) (q + 1 + 1) w ≡ Err f → StuckHere q (231 ∷ state_255 (q + 1) v ∷ w ∷ after) f
 unfolding step
 long_stuck q v w after f low high lt e =
     let x = value_255 (q + 1 + 1) w in
@@ -179,7 +233,8 @@ long_stuck q v w after f low high lt e =
       | inl ok ↦ absurd (ok_err _ _ ok.1)
       | inr big ↦
           subst (λ (f : DecodeFault). StuckHere q (231 ∷ state_255 (q + 1) v ∷ w ∷ after) f) (fault_is _ f big.1)
-          (subst (λ (w : ℕ). StuckHere q (231 ∷ state_255 (q + 1) v ∷ w ∷ after) (Reserved (q + 1 + 1) w)) word (Grammar.StuckHere.bad_length low high (ltb-false x 250 big.0) (value_255-below (q + 1 + 1) w lt)))
+          (subst (λ (w : ℕ). StuckHere q (231 ∷ state_255 (q + 1) v ∷ w ∷ after) (Reserved (q + 1 + 1) w)) word
+          (Grammar.StuckHere.bad_length low high (ltb-false x 250 big.0) (value_255-below (q + 1 + 1) w lt)))
     ]
 
 length_never : (p w : ℕ) (f : DecodeFault) → step Length p w ≡ Err f → ⊥
@@ -195,17 +250,23 @@ run_never : (t : Letters) (s : Pending) (p w : ℕ) (f : DecodeFault) → step (
 unfolding step
 run_never t s p w f e = elim (chosen (eqb w 254) _ _ _ e) [ inl ok ↦ ok_err _ _ ok.1 | inr ok ↦ ok_err _ _ ok.1 ]
 
-step_fails : {m : Mode} {q : ℕ} {front given : List ℕ} (w : ℕ) (after : List ℕ) (f : DecodeFault) → InMode m q front given → w < 256 → step m (q + length front) w ≡ Err f → StuckHere q (front ++ w ∷ after) f
+step_fails : {m : Mode} {q : ℕ} {front given : List ℕ} (w : ℕ) (after : List ℕ) (f : DecodeFault) →
+    InMode m q front given → w < 256 → step m (q + length front) w ≡ Err f → StuckHere q (front ++ w ∷ after) f
 unfolding step
 step_fails {q = q} w after f InMode.ascii lt e = here_nothing q after f (omega arith) (ascii_view (q + 0) w) e
 step_fails {q = q} w after f InMode.upper lt e = upper_fails q w after f e
-step_fails {q = q} w after f (InMode.run {t = t} {s = s} triples fits taken) lt e = absurd (run_never t s (q + length (latch t ∷ flat_map pair triples)) w f e)
+step_fails {q = q} w after f (InMode.run {t = t} {s = s} triples fits taken) lt e =
+    absurd (run_never t s (q + length (latch t ∷ flat_map pair triples)) w f e)
 step_fails {q = q} w after f (InMode.half {t = t} {s = s} {a = a} {given = given} triples fits taken ne la) lt e =
     let p = q + 1 + length (flat_map pair triples) in
-    let k : q + length (latch t ∷ (flat_map pair triples ++ a ∷ [])) - 1 ≡ p = omega (arith, length-append (flat_map pair triples) (a ∷ [])) in
-    let bad = bad_pair_from t s p triples a w given f lt fits taken (subst (λ (j : ℕ). pair_step t s j a w ≡ Err f) k e) in
+    let k : q + length (latch t ∷ (flat_map pair triples ++ a ∷ [])) - 1 ≡ p =
+    omega (arith, length-append (flat_map pair triples) (a ∷ [])) in
+    let bad = bad_pair_from t s p triples a w given f lt fits taken
+    (subst (λ (j : ℕ). pair_step t s j a w ≡ Err f) k e) in
     let chars = chars_from t (flat_map triple_values triples) given s (values_below triples fits) taken in
-    subst (λ (l : List ℕ). StuckHere q (latch t ∷ l) f) (sym (append_assoc (flat_map pair triples) (a ∷ []) (w ∷ after))) (Grammar.StuckHere.bad_pair triples after fits chars ne bad)
+    subst (λ (l : List ℕ). StuckHere q (latch t ∷ l) f)
+    (sym (append_assoc (flat_map pair triples) (a ∷ []) (w ∷ after))) (Grammar.StuckHere.bad_pair triples after fits
+    chars ne bad)
 step_fails {q = q} w after f InMode.length_due lt e = absurd (length_never (q + 1) w f e)
 step_fails {q = q} w after f (InMode.long_length {v = v} low high) lt e =
     let k : q + 2 ≡ q + 1 + 1 = omega arith in
@@ -222,26 +283,33 @@ ended_as f = Err f
 end_fault : (x y : DecodeFault) → ended_as x ≡ ended_as y → x ≡ y
 end_fault x y e = cc
 
-single_fails : {j a : ℕ} {r : Stepped} (q : ℕ) (f : DecodeFault) → j ≡ q → AsciiStep j a r → (r >>= λ n. prepend n.1 (ended n.0 (j + 1))) ≡ Err f → StuckHere q (a ∷ []) f
-single_fails {j = j} {a = a} q f at (AsciiStep.nothing u) e = subst (λ (f : DecodeFault). StuckHere q (a ∷ []) f) (ap (λ (p : ℕ). Reserved p a) (sym at) ∙ end_fault _ f e) (Grammar.StuckHere.reserved u)
-single_fails {j = j} {a = a} q f at (AsciiStep.unsupported u) e = subst (λ (f : DecodeFault). StuckHere q (a ∷ []) f) (ap (λ (p : ℕ). Unsupported p a) (sym at) ∙ end_fault _ f e) (Grammar.StuckHere.unsupported u)
+single_fails : {j a : ℕ} {r : Stepped} (q : ℕ) (f : DecodeFault) → j ≡ q → AsciiStep j a r →
+    (r >>= λ n. prepend n.1 (ended n.0 (j + 1))) ≡ Err f → StuckHere q (a ∷ []) f
+single_fails {j = j} {a = a} q f at (AsciiStep.nothing u) e = subst (λ (f : DecodeFault). StuckHere q (a ∷ []) f)
+    (ap (λ (p : ℕ). Reserved p a) (sym at) ∙ end_fault _ f e) (Grammar.StuckHere.reserved u)
+single_fails {j = j} {a = a} q f at (AsciiStep.unsupported u) e = subst (λ (f : DecodeFault). StuckHere q (a ∷ []) f)
+    (ap (λ (p : ℕ). Unsupported p a) (sym at) ∙ end_fault _ f e) (Grammar.StuckHere.unsupported u)
 single_fails q f at (AsciiStep.character b lt is) e = absurd (ok_err _ _ e)
 single_fails q f at (AsciiStep.digits m n lm ln is) e = absurd (ok_err _ _ e)
 single_fails q f at (AsciiStep.pad is) e = absurd (ok_err _ _ e)
 single_fails q f at (AsciiStep.to_run t is) e = absurd (ok_err _ _ e)
 single_fails {j = j} {a = a} q f at (AsciiStep.to_bytes is) e =
     let back : q ≡ j + 1 - 1 = omega arith in
-    subst (λ (f : DecodeFault). StuckHere q (a ∷ []) f) (ap (λ (p : ℕ). Cut p) back ∙ end_fault _ f e) (subst (λ (w : ℕ). StuckHere q (w ∷ []) (Cut q)) (sym is) Grammar.StuckHere.no_length)
+    subst (λ (f : DecodeFault). StuckHere q (a ∷ []) f) (ap (λ (p : ℕ). Cut p) back ∙ end_fault _ f e)
+    (subst (λ (w : ℕ). StuckHere q (w ∷ []) (Cut q)) (sym is) Grammar.StuckHere.no_length)
 single_fails {j = j} {a = a} q f at (AsciiStep.to_upper is) e =
     let back : q ≡ j + 1 - 1 = omega arith in
-    subst (λ (f : DecodeFault). StuckHere q (a ∷ []) f) (ap (λ (p : ℕ). Cut p) back ∙ end_fault _ f e) (subst (λ (w : ℕ). StuckHere q (w ∷ []) (Cut q)) (sym is) Grammar.StuckHere.cut_upper)
+    subst (λ (f : DecodeFault). StuckHere q (a ∷ []) f) (ap (λ (p : ℕ). Cut p) back ∙ end_fault _ f e)
+    (subst (λ (w : ℕ). StuckHere q (w ∷ []) (Cut q)) (sym is) Grammar.StuckHere.cut_upper)
 
-end_fails : {m : Mode} {q : ℕ} {front given : List ℕ} (f : DecodeFault) → InMode m q front given → finish m (q + length front) ≡ Err f → Stuck q front f
+end_fails : {m : Mode} {q : ℕ} {front given : List ℕ} (f : DecodeFault) → InMode m q front given →
+    finish m (q + length front) ≡ Err f → Stuck q front f
 unfolding finish
 end_fails f InMode.ascii e = absurd (ok_err _ _ e)
 end_fails {q = q} f InMode.upper e =
     let back : q ≡ q + 1 - 1 = omega arith in
-    subst (λ (f : DecodeFault). Stuck q (235 ∷ []) f) (ap (λ (p : ℕ). Cut p) back ∙ end_fault _ f e) (Grammar.Stuck.here Grammar.StuckHere.cut_upper)
+    subst (λ (f : DecodeFault). Stuck q (235 ∷ []) f) (ap (λ (p : ℕ). Cut p) back ∙ end_fault _ f e)
+    (Grammar.Stuck.here Grammar.StuckHere.cut_upper)
 end_fails f (InMode.run triples fits taken) e = absurd (ok_err _ _ e)
 end_fails {q = q} f (InMode.half {t = t} {s = s} {a = a} {given = given} triples fits taken ne la) e =
     let chars = chars_from t (flat_map triple_values triples) given s (values_below triples fits) taken in
@@ -250,25 +318,31 @@ end_fails {q = q} f (InMode.half {t = t} {s = s} {a = a} {given = given} triples
     let k : p - 1 ≡ q + length front = omega (arith, length-append (flat_map pair triples) (a ∷ [])) in
     let k2 : p ≡ p - 1 + 1 = omega (arith, length-append (flat_map pair triples) (a ∷ [])) in
     let e2 = subst (λ (j : ℕ). (ascii_step (p - 1) a >>= λ n. prepend n.1 (ended n.0 j)) ≡ Err f) k2 e in
-    Grammar.Stuck.later front (a ∷ []) given (Grammar.Segment.open_run triples fits chars ne) (Grammar.Stuck.here (single_fails (q + length front) f k (ascii_view (p - 1) a) e2))
+    Grammar.Stuck.later front (a ∷ []) given (Grammar.Segment.open_run triples fits chars ne)
+    (Grammar.Stuck.here (single_fails (q + length front) f k (ascii_view (p - 1) a) e2))
 end_fails {q = q} f InMode.length_due e =
     let back : q ≡ q + 1 - 1 = omega arith in
-    subst (λ (f : DecodeFault). Stuck q (231 ∷ []) f) (ap (λ (p : ℕ). Cut p) back ∙ end_fault _ f e) (Grammar.Stuck.here Grammar.StuckHere.no_length)
+    subst (λ (f : DecodeFault). Stuck q (231 ∷ []) f) (ap (λ (p : ℕ). Cut p) back ∙ end_fault _ f e)
+    (Grammar.Stuck.here Grammar.StuckHere.no_length)
 end_fails {q = q} f (InMode.long_length {v = v} low high) e =
     let back : q ≡ q + 2 - 2 = omega arith in
-    subst (λ (f : DecodeFault). Stuck q (231 ∷ state_255 (q + 1) v ∷ []) f) (ap (λ (p : ℕ). Cut p) back ∙ end_fault _ f e) (Grammar.Stuck.here (Grammar.StuckHere.half_length low high))
+    subst (λ (f : DecodeFault). Stuck q (231 ∷ state_255 (q + 1) v ∷ []) f) (ap (λ (p : ℕ). Cut p) back ∙
+    end_fault _ f e) (Grammar.Stuck.here (Grammar.StuckHere.half_length low high))
 end_fails {q = q} f (InMode.bytes {n = n} len bs is fits) e =
     let after = randomised (q + 1 + length len) bs in
     let short : length after < length bs + suc n = omega (arith, length-randomised (q + 1 + length len) bs) in
     subst (λ (f : DecodeFault). Stuck q (231 ∷ randomised (q + 1) (len ++ bs)) f) (end_fault _ f e)
-    (subst (λ (l : List ℕ). Stuck q (231 ∷ l) (Cut q)) (sym (randomised-append (q + 1) len bs)) (Grammar.Stuck.here (Grammar.StuckHere.too_few len after is short)))
+    (subst (λ (l : List ℕ). Stuck q (231 ∷ l) (Cut q)) (sym (randomised-append (q + 1) len bs))
+    (Grammar.Stuck.here (Grammar.StuckHere.too_few len after is short)))
 end_fails f (InMode.rest bs fits) e = absurd (ok_err _ _ e)
 end_fails f (InMode.padded any) e = absurd (ok_err _ _ e)
 
-pub sound_fault : (words : List ℕ) {m : Mode} {q : ℕ} {front given : List ℕ} (f : DecodeFault) → AllByRecursion (λ w. w < 256) words → InMode m q front given
+pub sound_fault : (words : List ℕ) {m : Mode} {q : ℕ} {front given : List ℕ} (f : DecodeFault) →
+    AllByRecursion (λ w. w < 256) words → InMode m q front given
     → reading m (q + length front) words ≡ Err f → Stuck q (front ++ words) f
 unfolding reading
-sound_fault [] {m = m} {q = q} {front = front} f fits i e = subst (λ (l : List ℕ). Stuck q l f) (sym (append-nil front)) (end_fails f i e)
+sound_fault [] {m = m} {q = q} {front = front} f fits i e = subst (λ (l : List ℕ). Stuck q l f) (sym (append-nil front))
+    (end_fails f i e)
 sound_fault (w ∷ words) {m = m} {q = q} {front = front} {given = given} f fits i e =
     let p = q + length front in
     let longer = front ++ w ∷ [] in
@@ -283,11 +357,16 @@ sound_fault (w ∷ words) {m = m} {q = q} {front = front} {given = given} f fits
             | inl inside ↦ sound_fault words f fits.1 inside (subst (λ (j : ℕ). reading out.0 j words ≡ Err f) k more)
             | inr end ↦
                 let k0 : p + 1 ≡ q + length longer + length {A = ℕ} [] = omega (arith, length-append front (w ∷ [])) in
-                let r : reading Ascii (q + length longer + length {A = ℕ} []) words ≡ Err f = subst (λ (m : Mode). reading m (q + length longer + length {A = ℕ} []) words ≡ Err f) end.0 (subst (λ (j : ℕ). reading out.0 j words ≡ Err f) k0 more) in
-                Grammar.Stuck.later longer words (given ++ out.1) (end.1 words) (sound_fault words f fits.1 (InMode.ascii {p = q + length longer}) r)
+                let r : reading Ascii (q + length longer + length {A = ℕ} []) words ≡ Err f =
+                subst (λ (m : Mode). reading m (q + length longer + length {A = ℕ} []) words ≡ Err f) end.0
+                (subst (λ (j : ℕ). reading out.0 j words ≡ Err f) k0 more) in
+                Grammar.Stuck.later longer words (given ++ out.1) (end.1 words)
+                (sound_fault words f fits.1 (InMode.ascii {p = q + length longer}) r)
           ] in
           subst (λ (l : List ℕ). Stuck q l f) (append_assoc front (w ∷ []) words) whole
     ]
 
-pub stuck_from : (p : ℕ) (words : List ℕ) (f : DecodeFault) → AllByRecursion (λ w. w < 256) words → reading Ascii p words ≡ Err f → Stuck p words f
-stuck_from p words f fits e = let k : p + 0 ≡ p = omega arith in sound_fault words f fits (InMode.ascii {p = p}) (subst (λ (j : ℕ). reading Ascii j words ≡ Err f) (sym k) e)
+pub stuck_from : (p : ℕ) (words : List ℕ) (f : DecodeFault) → AllByRecursion (λ w. w < 256) words →
+    reading Ascii p words ≡ Err f → Stuck p words f
+stuck_from p words f fits e = let k : p + 0 ≡ p = omega arith in
+    sound_fault words f fits (InMode.ascii {p = p}) (subst (λ (j : ℕ). reading Ascii j words ≡ Err f) (sym k) e)

@@ -48,7 +48,8 @@ step_upper p b lt =
     rw (t0, t1, v) refl
 
 -- one word, then the rest
-pub reading_step : (m : Mode) (p w : ℕ) (ws : List ℕ) (n : Mode) (bs : List ℕ) → step m p w ≡ Ok (n, bs) → reading m p (w ∷ ws) ≡ prepend bs (reading n (p + 1) ws)
+pub reading_step : (m : Mode) (p w : ℕ) (ws : List ℕ) (n : Mode) (bs : List ℕ) → step m p w ≡ Ok (n, bs) →
+    reading m p (w ∷ ws) ≡ prepend bs (reading n (p + 1) ws)
 unfolding reading
 reading_step m p w ws n bs e = rw e refl
 
@@ -56,12 +57,14 @@ pub prepend-nil : (r : Result (List ℕ) DecodeFault) → prepend [] r ≡ r
 prepend-nil (Ok x) = refl
 prepend-nil (Err f) = refl
 
-pub prepend-prepend : (xs ys : List ℕ) (r : Result (List ℕ) DecodeFault) → prepend xs (prepend ys r) ≡ prepend (xs ++ ys) r
+pub prepend-prepend : (xs ys : List ℕ) (r : Result (List ℕ) DecodeFault) →
+    prepend xs (prepend ys r) ≡ prepend (xs ++ ys) r
 prepend-prepend xs ys (Ok x) = ap (λ (l : List ℕ). Ok l) (sym (append_assoc xs ys x))
 prepend-prepend xs ys (Err f) = refl
 
 -- a word that gives no bytes
-pub reading_silent : (m : Mode) (p w : ℕ) (ws : List ℕ) (n : Mode) → step m p w ≡ Ok (n, []) → reading m p (w ∷ ws) ≡ reading n (p + 1) ws
+pub reading_silent : (m : Mode) (p w : ℕ) (ws : List ℕ) (n : Mode) → step m p w ≡ Ok (n, []) →
+    reading m p (w ∷ ws) ≡ reading n (p + 1) ws
 reading_silent m p w ws n e = reading_step m p w ws n [] e ∙ prepend-nil (reading n (p + 1) ws)
 
 -- ---- Base 256
@@ -89,14 +92,17 @@ length-randomised p [] = refl
 length-randomised p (b ∷ bs) = ap suc (length-randomised (p + 1) bs)
 
 pub bytes_read : (bs : List ℕ) (q at : ℕ) (after : List ℕ) → AllByRecursion (λ b. b < 256) bs
-    → reading (bytes_left (length bs) at) q (randomised q bs ++ after) ≡ prepend bs (reading Ascii (q + length bs) after)
+    → reading (bytes_left (length bs) at) q (randomised q bs ++ after) ≡ prepend bs
+    (reading Ascii (q + length bs) after)
 unfolding step
 bytes_read [] q at after fits = let e : q + 0 ≡ q = omega arith in rw e (sym (prepend-nil (reading Ascii q after)))
 bytes_read (b ∷ bs) q at after fits =
     let e : q + 1 + length bs ≡ q + suc (length bs) = omega arith in
     let n : suc (length bs) - 1 ≡ length bs = omega arith in
-    let s : step (Bytes (suc (length bs)) at) q (state_255 q b) ≡ Ok (bytes_left (length bs) at, b ∷ []) = rw (n, value_255-state_255 q b fits.0) refl in
-    reading_step (Bytes (suc (length bs)) at) q (state_255 q b) (randomised (q + 1) bs ++ after) (bytes_left (length bs) at) (b ∷ []) s
+    let s : step (Bytes (suc (length bs)) at) q (state_255 q b) ≡ Ok (bytes_left (length bs) at, b ∷ []) =
+    rw (n, value_255-state_255 q b fits.0) refl in
+    reading_step (Bytes (suc (length bs)) at) q (state_255 q b)
+    (randomised (q + 1) bs ++ after) (bytes_left (length bs) at) (b ∷ []) s
     ∙ ap (prepend (b ∷ [])) (bytes_read bs (q + 1) at after fits.1)
     ∙ prepend-prepend (b ∷ []) bs (reading Ascii (q + 1 + length bs) after)
     ∙ ap (λ (k : ℕ). prepend (b ∷ bs) (reading Ascii k after)) e
@@ -106,7 +112,8 @@ unfolding reading step finish
 rest_read [] q fits = refl
 rest_read (b ∷ bs) q fits = rw (value_255-state_255 q b fits.0, rest_read bs (q + 1) fits.1) refl
 
-pub length_read : (p n : ℕ) (len after : List ℕ) → IsLength len n → reading Length (p + 1) (randomised (p + 1) len ++ after) ≡ reading (bytes_left n p) (p + 1 + length len) after
+pub length_read : (p n : ℕ) (len after : List ℕ) → IsLength len n →
+    reading Length (p + 1) (randomised (p + 1) len ++ after) ≡ reading (bytes_left n p) (p + 1 + length len) after
 unfolding step
 length_read p n len after (Grammar.IsLength.one {n = m} pos lt) =
     let v = value_255-state_255 (p + 1) m (omega arith) in
@@ -122,15 +129,19 @@ length_read p n len after (Grammar.IsLength.two {v = v} {w = w} low high lt) =
     let t2 : ltb w 250 ≡ true = lt-ltb _ _ lt in
     let back : p + 1 + 1 - 2 ≡ p = omega arith in
     let e : p + 1 + 1 + 1 ≡ p + 1 + 2 = omega arith in
-    reading_silent Length (p + 1) (state_255 (p + 1) v) (state_255 (p + 1 + 1) w ∷ after) (LongLength v) (rw (a, t0, t1) refl)
-    ∙ reading_silent (LongLength v) (p + 1 + 1) (state_255 (p + 1 + 1) w) after (bytes_left (250 * (v - 249) + w) p) (rw (b, t2, back) refl)
+    reading_silent Length (p + 1) (state_255 (p + 1) v) (state_255 (p + 1 + 1) w ∷ after) (LongLength v)
+    (rw (a, t0, t1) refl)
+    ∙ reading_silent (LongLength v) (p + 1 + 1) (state_255 (p + 1 + 1) w) after (bytes_left (250 * (v - 249) + w) p)
+    (rw (b, t2, back) refl)
     ∙ ap (λ (k : ℕ). reading (bytes_left (250 * (v - 249) + w) p) k after) e
 
-pub randomised-append : (q : ℕ) (xs ys : List ℕ) → randomised q (xs ++ ys) ≡ randomised q xs ++ randomised (q + length xs) ys
+pub randomised-append : (q : ℕ) (xs ys : List ℕ) → randomised q (xs ++ ys) ≡ randomised q xs ++
+    randomised (q + length xs) ys
 randomised-append q [] ys = let e : q + 0 ≡ q = omega arith in rw e refl
 randomised-append q (x ∷ xs) ys =
     let e : q + 1 + length xs ≡ q + suc (length xs) = omega arith in
-    ap (λ (l : List ℕ). state_255 q x ∷ l) (randomised-append (q + 1) xs ys ∙ ap (λ (k : ℕ). randomised (q + 1) xs ++ randomised k ys) e)
+    ap (λ (l : List ℕ). state_255 q x ∷ l) (randomised-append (q + 1) xs ys ∙
+    ap (λ (k : ℕ). randomised (q + 1) xs ++ randomised k ys) e)
 
 -- ---- runs
 
@@ -142,17 +153,20 @@ pub record Splits (t : Letters) (s : Pending) (xs ys : List ℕ) (out : Pending 
   pub second_is : values_step t middle.0 ys ≡ Ok last
   pub out_is : out ≡ (last.0, middle.1 ++ last.1)
 
-pub bind_ok : {A B E : Type 0} (r : Result A E) (f : A → Result B E) (y : B) → (r >>= f) ≡ Ok y → (x : A) × (r ≡ Ok x) × (f x ≡ Ok y)
+pub bind_ok : {A B E : Type 0} (r : Result A E) (f : A → Result B E) (y : B) → (r >>= f) ≡ Ok y →
+    (x : A) × (r ≡ Ok x) × (f x ≡ Ok y)
 bind_ok (Ok x) f y e = (x, refl, e)
 bind_ok (Err d) f y e = absurd cc
 
 pub ok_is : {A E : Type 0} (x y : A) (r : Result A E) → r ≡ Ok x → r ≡ Ok y → x ≡ y
 ok_is x y r e f = cc
 
-pub bind_is : {A B E : Type 0} (r : Result A E) (x : A) (f : A → Result B E) (y : Result B E) → r ≡ Ok x → f x ≡ y → (r >>= f) ≡ y
+pub bind_is : {A B E : Type 0} (r : Result A E) (x : A) (f : A → Result B E) (y : Result B E) → r ≡ Ok x → f x ≡ y →
+    (r >>= f) ≡ y
 bind_is {A = A} {E = E} r x f y e g = ap (λ (r : Result A E). r >>= f) e ∙ g
 
-pub splits : (t : Letters) (s : Pending) (xs ys : List ℕ) (out : Pending × List ℕ) → values_step t s (xs ++ ys) ≡ Ok out → Splits t s xs ys out
+pub splits : (t : Letters) (s : Pending) (xs ys : List ℕ) (out : Pending × List ℕ) →
+    values_step t s (xs ++ ys) ≡ Ok out → Splits t s xs ys out
 splits t s [] ys out e = record { middle = (s, []); last = out; first_is = refl; second_is = e; out_is = refl }
 splits t s (x ∷ xs) ys out e =
     let a = bind_ok (value_step t s x) (λ a. values_step t a.0 (xs ++ ys) >>= λ b. Ok (b.0, a.1 ++ b.1)) out e in
@@ -162,12 +176,15 @@ splits t s (x ∷ xs) ys out e =
     record {
       middle = (r.middle.0, a.0.1 ++ r.middle.1);
       last = r.last;
-      first_is = bind_is (value_step t s x) a.0 (λ a. values_step t a.0 xs >>= λ b. Ok (b.0, a.1 ++ b.1)) _ a.1 (bind_is (values_step t a.0.0 xs) r.middle (λ b. Ok (b.0, a.0.1 ++ b.1)) _ r.first_is refl);
+      first_is = bind_is (value_step t s x) a.0 (λ a. values_step t a.0 xs >>= λ b. Ok (b.0, a.1 ++ b.1)) _ a.1
+          (bind_is (values_step t a.0.0 xs) r.middle (λ b. Ok (b.0, a.0.1 ++ b.1)) _ r.first_is refl);
       second_is = r.second_is;
-      out_is = o ∙ ap (λ (b : Pending × List ℕ). (b.0, a.0.1 ++ b.1)) r.out_is ∙ ap (λ (l : List ℕ). (r.last.0, l)) (sym (append_assoc a.0.1 r.middle.1 r.last.1));
+      out_is = o ∙ ap (λ (b : Pending × List ℕ). (b.0, a.0.1 ++ b.1)) r.out_is ∙
+          ap (λ (l : List ℕ). (r.last.0, l)) (sym (append_assoc a.0.1 r.middle.1 r.last.1));
     }
 
-pub pair_is : (t : Letters) (s : Pending) (p : ℕ) (tr : Triple) (w x : ℕ) → IsTriple tr → pair tr ≡ w ∷ x ∷ [] → pair_step t s p w x ≡ at_pair t p w (values_step t s (triple_values tr))
+pub pair_is : (t : Letters) (s : Pending) (p : ℕ) (tr : Triple) (w x : ℕ) → IsTriple tr → pair tr ≡ w ∷ x ∷ [] →
+    pair_step t s p w x ≡ at_pair t p w (values_step t s (triple_values tr))
 unfolding pair_step
 pair_is t s p tr w x fits e =
     let v = 1600 * tr.first + 40 * tr.second + tr.third + 1 in
@@ -181,41 +198,54 @@ pair_is t s p tr w x fits e =
     let c : (v - 1) % 40 ≡ tr.third = omega (arith, fits) in
     rw (whole, t0, t1, a, b, c) refl
 
-pub values_joined : (t : Letters) (s : Pending) (xs ys : List ℕ) (middle last : Pending × List ℕ) → values_step t s xs ≡ Ok middle → values_step t middle.0 ys ≡ Ok last
+pub values_joined : (t : Letters) (s : Pending) (xs ys : List ℕ) (middle last : Pending × List ℕ) →
+    values_step t s xs ≡ Ok middle → values_step t middle.0 ys ≡ Ok last
     → values_step t s (xs ++ ys) ≡ Ok (last.0, middle.1 ++ last.1)
 values_joined t s [] ys middle last e f =
     let m : middle ≡ (s, []) = ok_is _ _ _ e refl in
-    subst (λ (m : Pending × List ℕ). values_step t s ys ≡ Ok (last.0, m.1 ++ last.1)) (sym m) (subst (λ (m : Pending × List ℕ). values_step t m.0 ys ≡ Ok last) m f)
+    subst (λ (m : Pending × List ℕ). values_step t s ys ≡ Ok (last.0, m.1 ++ last.1)) (sym m)
+    (subst (λ (m : Pending × List ℕ). values_step t m.0 ys ≡ Ok last) m f)
 values_joined t s (x ∷ xs) ys middle last e f =
     let a = bind_ok (value_step t s x) (λ a. values_step t a.0 xs >>= λ b. Ok (b.0, a.1 ++ b.1)) middle e in
     let b = bind_ok (values_step t a.0.0 xs) (λ b. Ok (b.0, a.0.1 ++ b.1)) middle a.2 in
     let o : middle ≡ (b.0.0, a.0.1 ++ b.0.1) = ok_is middle _ _ b.2 refl in
     let g : values_step t b.0.0 ys ≡ Ok last = subst (λ (m : Pending × List ℕ). values_step t m.0 ys ≡ Ok last) o f in
     let r = values_joined t a.0.0 xs ys b.0 last b.1 g in
-    let joined : values_step t s (x ∷ (xs ++ ys)) ≡ Ok (last.0, a.0.1 ++ (b.0.1 ++ last.1)) = bind_is (value_step t s x) a.0 (λ a. values_step t a.0 (xs ++ ys) >>= λ b. Ok (b.0, a.1 ++ b.1)) _ a.1 (bind_is (values_step t a.0.0 (xs ++ ys)) _ (λ b. Ok (b.0, a.0.1 ++ b.1)) _ r refl) in
-    joined ∙ ap (λ (l : List ℕ). Ok (last.0, l)) (sym (append_assoc a.0.1 b.0.1 last.1) ∙ ap (λ (m : Pending × List ℕ). m.1 ++ last.1) (sym o))
+    let joined : values_step t s (x ∷ (xs ++ ys)) ≡ Ok (last.0, a.0.1 ++ (b.0.1 ++ last.1)) =
+    bind_is (value_step t s x) a.0 (λ a. values_step t a.0 (xs ++ ys) >>= λ b. Ok (b.0, a.1 ++ b.1)) _ a.1
+    (bind_is (values_step t a.0.0 (xs ++ ys)) _ (λ b. Ok (b.0, a.0.1 ++ b.1)) _ r refl) in
+    joined ∙ ap (λ (l : List ℕ). Ok (last.0, l)) (sym (append_assoc a.0.1 b.0.1 last.1) ∙
+    ap (λ (m : Pending × List ℕ). m.1 ++ last.1) (sym o))
 
-pub run_read : (t : Letters) (s : Pending) (q : ℕ) (triples : List Triple) (after : List ℕ) (out : Pending × List ℕ) → AllByRecursion IsTriple triples
+pub run_read : (t : Letters) (s : Pending) (q : ℕ) (triples : List Triple) (after : List ℕ) (out : Pending × List ℕ) →
+    AllByRecursion IsTriple triples
     → values_step t s (flat_map triple_values triples) ≡ Ok out
-    → reading (Run t s) q (flat_map pair triples ++ after) ≡ prepend out.1 (reading (Run t out.0) (q + length (flat_map pair triples)) after)
+    → reading (Run t s) q (flat_map pair triples ++ after) ≡ prepend out.1
+    (reading (Run t out.0) (q + length (flat_map pair triples)) after)
 unfolding step
 run_read t s q [] after out fits e =
     let o : (s, []) ≡ out = ok_is _ _ (values_step t s []) refl e in
     let k : q + 0 ≡ q = omega arith in
-    rw k (sym (prepend-nil (reading (Run t s) q after)) ∙ ap (λ (o : Pending × List ℕ). prepend o.1 (reading (Run t o.0) q after)) o)
+    rw k (sym (prepend-nil (reading (Run t s) q after)) ∙
+    ap (λ (o : Pending × List ℕ). prepend o.1 (reading (Run t o.0) q after)) o)
 run_read t s q (tr ∷ triples) after out fits e =
     let v = 1600 * tr.first + 40 * tr.second + tr.third + 1 in
     let r = splits t s (triple_values tr) (flat_map triple_values triples) out e in
     let ne : eqb (v / 256) 254 ≡ false = ne_eqb _ _ (λ e. omega (arith, fits.0)) in
     let back : q + 1 - 1 ≡ q = omega arith in
-    let one : step (Half t s (v / 256)) (q + 1) (v % 256) ≡ Ok (Run t r.middle.0, r.middle.1) = ap (λ (j : ℕ). pair_step t s j (v / 256) (v % 256)) back ∙ pair_is t s q tr (v / 256) (v % 256) fits.0 refl ∙ ap (at_pair t q (v / 256)) r.first_is in
+    let one : step (Half t s (v / 256)) (q + 1) (v % 256) ≡ Ok (Run t r.middle.0, r.middle.1) =
+    ap (λ (j : ℕ). pair_step t s j (v / 256) (v % 256)) back ∙ pair_is t s q tr (v / 256) (v % 256) fits.0 refl ∙
+    ap (at_pair t q (v / 256)) r.first_is in
     let k : q + 1 + 1 + length (flat_map pair triples) ≡ q + suc (suc (length (flat_map pair triples))) = omega arith in
-    reading_silent (Run t s) q (v / 256) ((v % 256) ∷ (flat_map pair triples ++ after)) (Half t s (v / 256)) (rw ne refl)
-    ∙ reading_step (Half t s (v / 256)) (q + 1) (v % 256) (flat_map pair triples ++ after) (Run t r.middle.0) r.middle.1 one
+    reading_silent (Run t s) q (v / 256) ((v % 256) ∷ (flat_map pair triples ++ after)) (Half t s (v / 256))
+    (rw ne refl)
+    ∙ reading_step (Half t s (v / 256)) (q + 1) (v % 256)
+    (flat_map pair triples ++ after) (Run t r.middle.0) r.middle.1 one
     ∙ ap (prepend r.middle.1) (run_read t r.middle.0 (q + 1 + 1) triples after r.last fits.1 r.second_is)
     ∙ prepend-prepend r.middle.1 r.last.1 (reading (Run t r.last.0) (q + 1 + 1 + length (flat_map pair triples)) after)
     ∙ ap (λ (j : ℕ). prepend (r.middle.1 ++ r.last.1) (reading (Run t r.last.0) j after)) k
-    ∙ ap (λ (o : Pending × List ℕ). prepend o.1 (reading (Run t o.0) (q + suc (suc (length (flat_map pair triples)))) after)) (sym r.out_is)
+    ∙ ap (λ (o : Pending × List ℕ). prepend o.1
+    (reading (Run t o.0) (q + suc (suc (length (flat_map pair triples)))) after)) (sym r.out_is)
 
 -- ---- characters
 
@@ -253,15 +283,18 @@ reads_as_true (Ok (s, c ∷ [])) b e =
     let second : c ≡ b = eqb-true _ _ both.0 in
     ap (λ (s : Pending). Ok (s, c ∷ [])) first ∙ ap (λ (c : ℕ). Ok (no_pending, c ∷ [])) second
 
-all_read : (t : Letters) → agree_below (λ b. reads_as (values_step t no_pending (values_of t b)) b) (λ _. true) 256 ≡ true
+all_read : (t : Letters) → agree_below (λ b. reads_as (values_step t no_pending (values_of t b)) b)
+    (λ _. true) 256 ≡ true
 unfolding values_of values_below_128 value_step byte_in reads_as is_plain
 all_read Capital = refl
 all_read Small = refl
 
 character_read : (t : Letters) (b : ℕ) → b < 256 → values_step t no_pending (values_of t b) ≡ Ok (no_pending, b ∷ [])
-character_read t b lt = reads_as_true _ b (agree_below_at (λ b. reads_as (values_step t no_pending (values_of t b)) b) (λ _. true) 256 b (all_read t) lt)
+character_read t b lt = reads_as_true _ b (agree_below_at (λ b. reads_as (values_step t no_pending (values_of t b)) b)
+    (λ _. true) 256 b (all_read t) lt)
 
-pub tail_read : (t : Letters) (tail : List ℕ) → Unfinished tail → (s : Pending) × (values_step t no_pending tail ≡ Ok (s, []))
+pub tail_read : (t : Letters) (tail : List ℕ) → Unfinished tail →
+    (s : Pending) × (values_step t no_pending tail ≡ Ok (s, []))
 unfolding value_step
 tail_read t tail Characters.Unfinished.nothing = (no_pending, refl)
 tail_read t tail (Characters.Unfinished.shift {s = zero} lt) = (_, refl)
@@ -274,14 +307,19 @@ tail_read t tail (Characters.Unfinished.upper_shift {s = suc zero} lt) = (_, ref
 tail_read t tail (Characters.Unfinished.upper_shift {s = suc (suc zero)} lt) = (_, refl)
 tail_read t tail (Characters.Unfinished.upper_shift {s = suc (suc (suc k))} lt) = absurd (omega arith)
 
-pub characters_read : (t : Letters) (bytes tail : List ℕ) (s : Pending) → AllByRecursion (λ b. b < 256) bytes → values_step t no_pending tail ≡ Ok (s, [])
+pub characters_read : (t : Letters) (bytes tail : List ℕ) (s : Pending) → AllByRecursion (λ b. b < 256) bytes →
+    values_step t no_pending tail ≡ Ok (s, [])
     → values_step t no_pending (flat_map (values_of t) bytes ++ tail) ≡ Ok (s, bytes)
 characters_read t [] tail s fits e = e
 characters_read t (b ∷ bs) tail s fits e =
     ap (values_step t no_pending) (append_assoc (values_of t b) (flat_map (values_of t) bs) tail)
-    ∙ values_joined t no_pending (values_of t b) (flat_map (values_of t) bs ++ tail) (no_pending, b ∷ []) (s, bs) (character_read t b fits.0) (characters_read t bs tail s fits.1 e)
+    ∙ values_joined t no_pending (values_of t b) (flat_map (values_of t) bs ++ tail) (no_pending, b ∷ []) (
+      s,
+      bs,
+    ) (character_read t b fits.0) (characters_read t bs tail s fits.1 e)
 
-pub chars_step : (t : Letters) (values bytes : List ℕ) → Chars t values bytes → (s : Pending) × (values_step t no_pending values ≡ Ok (s, bytes))
+pub chars_step : (t : Letters) (values bytes : List ℕ) → Chars t values bytes →
+    (s : Pending) × (values_step t no_pending values ≡ Ok (s, bytes))
 chars_step t values bytes chars =
     let end = tail_read t chars.tail chars.unfinished in
     (end.0, ap (values_step t no_pending) chars.spelled ∙ characters_read t bytes chars.tail end.0 chars.fits end.1)
@@ -301,7 +339,8 @@ step_latch Capital p = refl
 step_latch Small p = refl
 
 -- a word read in ASCII leaves no half pair
-never_half : (p k w : ℕ) (r : Stepped) → AsciiStep p w r → (r >>= λ n. prepend n.1 (ended n.0 k)) ≡ (r >>= λ n. prepend n.1 (finish n.0 k))
+never_half : (p k w : ℕ) (r : Stepped) → AsciiStep p w r →
+    (r >>= λ n. prepend n.1 (ended n.0 k)) ≡ (r >>= λ n. prepend n.1 (finish n.0 k))
 unfolding finish
 never_half p k w r (AsciiStep.nothing e) = refl
 never_half p k w r (AsciiStep.unsupported e) = refl
@@ -312,20 +351,26 @@ never_half p k w r (AsciiStep.to_run t e) = refl
 never_half p k w r (AsciiStep.to_bytes e) = refl
 never_half p k w r (AsciiStep.to_upper e) = refl
 
-open_read : (t : Letters) (s : Pending) (q : ℕ) (after : List ℕ) → EndsOpen after → reading (Run t s) q after ≡ reading Ascii q after
+open_read : (t : Letters) (s : Pending) (q : ℕ) (after : List ℕ) → EndsOpen after →
+    reading (Run t s) q after ≡ reading Ascii q after
 unfolding reading finish step
 open_read t s q [] stops = refl
 open_read t s q (w ∷ []) stops =
     let ne : eqb w 254 ≡ false = ne_eqb _ _ stops in
     let back : q + 1 - 1 ≡ q = omega arith in
     let k : step (Run t s) q w ≡ Ok (Half t s w, []) = rw ne refl in
-    reading_silent (Run t s) q w [] (Half t s w) k ∙ ap (λ (j : ℕ). ascii_step j w >>= λ n. prepend n.1 (ended n.0 (q + 1))) back ∙ never_half q (q + 1) w (ascii_step q w) (ascii_view q w)
+    reading_silent (Run t s) q w [] (Half t s w) k ∙
+    ap (λ (j : ℕ). ascii_step j w >>= λ n. prepend n.1 (ended n.0 (q + 1))) back ∙
+    never_half q (q + 1) w (ascii_step q w) (ascii_view q w)
 open_read t s q (w ∷ x ∷ ws) stops = absurd stops
 
-pub complete_segment : {p : ℕ} {words after bytes : List ℕ} → Segment p words after bytes → reading Ascii p (words ++ after) ≡ prepend bytes (reading Ascii (p + length words) after)
+pub complete_segment : {p : ℕ} {words after bytes : List ℕ} → Segment p words after bytes →
+    reading Ascii p (words ++ after) ≡ prepend bytes (reading Ascii (p + length words) after)
 unfolding step ascii_step
-complete_segment {p = p} {after = after} (Grammar.Segment.character {b = b} lt) = reading_step Ascii p (b + 1) after Ascii (b ∷ []) (step_character p b lt)
-complete_segment {p = p} {after = after} (Grammar.Segment.digits {m = m} {n = n} lm ln) = reading_step Ascii p (130 + (10 * m + n)) after Ascii ((48 + m) ∷ (48 + n) ∷ []) (step_digits p m n lm ln)
+complete_segment {p = p} {after = after} (Grammar.Segment.character {b = b} lt) =
+    reading_step Ascii p (b + 1) after Ascii (b ∷ []) (step_character p b lt)
+complete_segment {p = p} {after = after} (Grammar.Segment.digits {m = m} {n = n} lm ln) =
+    reading_step Ascii p (130 + (10 * m + n)) after Ascii ((48 + m) ∷ (48 + n) ∷ []) (step_digits p m n lm ln)
 complete_segment {p = p} {after = after} (Grammar.Segment.upper {b = b} lt) =
     let e : p + 1 + 1 ≡ p + 2 = omega arith in
     reading_silent Ascii p 235 ((b + 1) ∷ after) Upper refl
@@ -334,7 +379,8 @@ complete_segment {p = p} {after = after} (Grammar.Segment.upper {b = b} lt) =
 complete_segment {p = p} {after = after} (Grammar.Segment.run {t = t} {bytes = bytes} triples fits chars) =
     let s = chars_step t (flat_map triple_values triples) bytes chars in
     let q = p + 1 + length (flat_map pair triples) in
-    let e : q + 1 ≡ p + suc (length (flat_map pair triples ++ 254 ∷ [])) = omega (arith, length-append (flat_map pair triples) (254 ∷ [])) in
+    let e : q + 1 ≡ p + suc (length (flat_map pair triples ++ 254 ∷ [])) =
+    omega (arith, length-append (flat_map pair triples) (254 ∷ [])) in
     reading_silent Ascii p (latch t) ((flat_map pair triples ++ 254 ∷ []) ++ after) (Run t no_pending) (step_latch t p)
     ∙ ap (reading (Run t no_pending) (p + 1)) (append_assoc (flat_map pair triples) (254 ∷ []) after)
     ∙ run_read t no_pending (p + 1) triples (254 ∷ after) (s.0, bytes) fits s.1
@@ -351,8 +397,10 @@ complete_segment {p = p} {after = after} (Grammar.Segment.open_run {t = t} {byte
 complete_segment {p = p} {after = after} (Grammar.Segment.bytes {bs = bs} len is_len fits) =
     let q = p + 1 + length len in
     let whole : randomised (p + 1) (len ++ bs) ++ after ≡ randomised (p + 1) len ++ (randomised q bs ++ after) =
-    ap (λ (l : List ℕ). l ++ after) (randomised-append (p + 1) len bs) ∙ append_assoc (randomised (p + 1) len) (randomised q bs) after in
-    let e : q + length bs ≡ p + suc (length (randomised (p + 1) (len ++ bs))) = omega (arith, length-randomised (p + 1) (len ++ bs), length-append len bs) in
+    ap (λ (l : List ℕ). l ++ after) (randomised-append (p + 1) len bs) ∙
+    append_assoc (randomised (p + 1) len) (randomised q bs) after in
+    let e : q + length bs ≡ p + suc (length (randomised (p + 1) (len ++ bs))) =
+    omega (arith, length-randomised (p + 1) (len ++ bs), length-append len bs) in
     reading_silent Ascii p 231 (randomised (p + 1) (len ++ bs) ++ after) Length refl
     ∙ ap (reading Length (p + 1)) whole
     ∙ length_read p (length bs) len (randomised q bs ++ after) is_len
@@ -361,12 +409,16 @@ complete_segment {p = p} {after = after} (Grammar.Segment.bytes {bs = bs} len is
 complete_segment {p = p} (Grammar.Segment.rest {bs = bs} fits) =
     reading_silent Ascii p 231 (randomised (p + 1) (0 ∷ bs) ++ []) Length refl
     ∙ ap (reading Length (p + 1)) (append-nil (randomised (p + 1) (0 ∷ bs)))
-    ∙ reading_silent Length (p + 1) (state_255 (p + 1) 0) (randomised (p + 1 + 1) bs) Rest (rw (value_255-state_255 (p + 1) 0 (omega arith)) refl)
+    ∙ reading_silent Length (p + 1) (state_255 (p + 1) 0) (randomised (p + 1 + 1) bs) Rest
+    (rw (value_255-state_255 (p + 1) 0 (omega arith)) refl)
     ∙ rest_read bs (p + 1 + 1) fits
-    ∙ rw (ended_ascii (p + length (231 ∷ randomised (p + 1) (0 ∷ bs)))) (ap (λ (l : List ℕ). Ok l) (sym (append-nil bs)))
+    ∙ rw (ended_ascii (p + length (231 ∷ randomised (p + 1) (0 ∷ bs)))) (ap (λ (l : List ℕ). Ok l)
+    (sym (append-nil bs)))
 
 pub complete : {p : ℕ} {words bytes : List ℕ} → Reads p words bytes → reading Ascii p words ≡ Ok bytes
 unfolding reading step ascii_step finish
 complete Grammar.Reads.nothing = refl
-complete (Grammar.Reads.padded {p = p} {any = any}) = reading_silent Ascii p 129 any Padded refl ∙ padded_read (p + 1) any
-complete {p = p} (Grammar.Reads.joined words after bytes more segment rest) = complete_segment segment ∙ ap (prepend bytes) (complete rest)
+complete (Grammar.Reads.padded {p = p} {any = any}) = reading_silent Ascii p 129 any Padded refl ∙
+    padded_read (p + 1) any
+complete {p = p} (Grammar.Reads.joined words after bytes more segment rest) = complete_segment segment ∙
+    ap (prepend bytes) (complete rest)

@@ -64,19 +64,23 @@ no_memory (Grammar.Stuck.later words after bytes segment rest) = no_memory rest
 
 -- ---- what decode answers
 
-pub decided : (p : ℕ) (words bytes : List ℕ) → ((i : ℕ) → get_or words i 0 < 256) → reading Ascii p words ≡ Ok bytes → ReadsOnly p words bytes
+pub decided : (p : ℕ) (words bytes : List ℕ) → ((i : ℕ) → get_or words i 0 < 256) → reading Ascii p words ≡ Ok bytes →
+    ReadsOnly p words bytes
 decided p words bytes fits e = reads_only (reads_from p words bytes (below_256 words fits) e)
 
-pub decided_fault : (p : ℕ) (words : List ℕ) (f : DecodeFault) → ((i : ℕ) → get_or words i 0 < 256) → reading Ascii p words ≡ Err f → StuckOnly p words f
+pub decided_fault : (p : ℕ) (words : List ℕ) (f : DecodeFault) → ((i : ℕ) → get_or words i 0 < 256) →
+    reading Ascii p words ≡ Err f → StuckOnly p words f
 decided_fault p words f fits e = stuck_only (stuck_from p words f (below_256 words fits) e)
 
-pub collected_fault : (p : ℕ) (words : List ℕ) (f : DecodeFault) → ((i : ℕ) → get_or words i 0 < 256) → Fails f (reading Ascii p words) → f ≢ Memory → StuckOnly p words f
+pub collected_fault : (p : ℕ) (words : List ℕ) (f : DecodeFault) → ((i : ℕ) → get_or words i 0 < 256) →
+    Fails f (reading Ascii p words) → f ≢ Memory → StuckOnly p words f
 collected_fault p words Memory fits g = λ ne. absurd (ne refl)
 collected_fault p words (Unsupported at w) fits g = λ ne. decided_fault p words (Unsupported at w) fits g
 collected_fault p words (Reserved at w) fits g = λ ne. decided_fault p words (Reserved at w) fits g
 collected_fault p words (Cut at) fits g = λ ne. decided_fault p words (Cut at) fits g
 
-pub bytes_from : (n : ℕ) (words : List ℕ) → ((i : ℕ) → get_or words i 0 < 256) → (i : ℕ) → get_or (drop n words) i 0 < 256
+pub bytes_from : (n : ℕ) (words : List ℕ) → ((i : ℕ) → get_or words i 0 < 256) → (i : ℕ) →
+    get_or (drop n words) i 0 < 256
 bytes_from n words fits i = rw get_or-drop (fits (n + i))
 
 pub pads_read : (n q p : ℕ) → Reads p (pads q n) []
@@ -91,10 +95,13 @@ byte_segment p b after lt =
           let word : b - 128 + 1 ≡ b - 127 = omega arith in
           let byte : b - 128 + 128 ≡ b = omega arith in
           let below : b - 128 < 128 = omega arith in
-          rw (le-ltb b 128 high) (subst (λ (w : ℕ). Segment p (235 ∷ w ∷ []) after (b ∷ [])) word (subst (λ (v : ℕ). Segment p (235 ∷ (b - 128 + 1) ∷ []) after (v ∷ [])) byte (Grammar.Segment.upper below)))
+          rw (le-ltb b 128 high) (subst (λ (w : ℕ). Segment p (235 ∷ w ∷ []) after (b ∷ [])) word
+          (subst (λ (v : ℕ). Segment p (235 ∷ (b - 128 + 1) ∷ []) after (v ∷ [])) byte
+          (Grammar.Segment.upper below)))
     ]
 
-digit_segment : (p b c : ℕ) (after : List ℕ) → (is_ascii_digit b && is_ascii_digit c) ≡ true → Segment p ((130 + (10 * (b - 48) + (c - 48))) ∷ []) after (b ∷ c ∷ [])
+digit_segment : (p b c : ℕ) (after : List ℕ) → (is_ascii_digit b && is_ascii_digit c) ≡ true →
+    Segment p ((130 + (10 * (b - 48) + (c - 48))) ∷ []) after (b ∷ c ∷ [])
 digit_segment p b c after e =
     let both = and_parts _ _ e in
     let tens = and_parts _ _ both.0 in
@@ -106,35 +113,46 @@ digit_segment p b c after e =
     let first : 48 + (b - 48) ≡ b = omega arith in
     let second : 48 + (c - 48) ≡ c = omega arith in
     subst (λ (v : ℕ). Segment p ((130 + (10 * (b - 48) + (c - 48))) ∷ []) after (v ∷ c ∷ [])) first
-    (subst (λ (v : ℕ). Segment p ((130 + (10 * (b - 48) + (c - 48))) ∷ []) after ((48 + (b - 48)) ∷ v ∷ [])) second (Grammar.Segment.digits (omega arith) (omega arith)))
+    (subst (λ (v : ℕ). Segment p ((130 + (10 * (b - 48) + (c - 48))) ∷ []) after ((48 + (b - 48)) ∷ v ∷ [])) second
+    (Grammar.Segment.digits (omega arith) (omega arith)))
 
-pub ascii_read : (bytes rest : List ℕ) → AllByRecursion (λ b. b < 256) bytes → ((q : ℕ) → Reads q rest []) → (p : ℕ) → Reads p (ascii bytes ++ rest) bytes
+pub ascii_read : (bytes rest : List ℕ) → AllByRecursion (λ b. b < 256) bytes → ((q : ℕ) → Reads q rest []) → (p : ℕ) →
+    Reads p (ascii bytes ++ rest) bytes
 unfolding ascii
 ascii_read [] rest fits more p = more p
-ascii_read (b ∷ []) rest fits more p = Grammar.Reads.joined (ascii_byte b) rest (b ∷ []) [] (byte_segment p b rest fits.0) (more (p + length (ascii_byte b)))
+ascii_read (b ∷ []) rest fits more p = Grammar.Reads.joined (ascii_byte b) rest (b ∷ []) []
+    (byte_segment p b rest fits.0) (more (p + length (ascii_byte b)))
 ascii_read (b ∷ c ∷ bs) rest fits more p =
     let P : List ℕ → Type 0 = λ ws. Reads p (ws ++ rest) (b ∷ c ∷ bs) in
     cond_both (is_ascii_digit b && is_ascii_digit c) _ _ P
-    (λ e. Grammar.Reads.joined ((130 + (10 * (b - 48) + (c - 48))) ∷ []) (ascii bs ++ rest) (b ∷ c ∷ []) bs (digit_segment p b c (ascii bs ++ rest) e) (ascii_read bs rest fits.1.1 more (p + 1)))
+    (λ e. Grammar.Reads.joined ((130 + (10 * (b - 48) + (c - 48))) ∷ []) (ascii bs ++ rest) (b ∷ c ∷ []) bs
+    (digit_segment p b c (ascii bs ++ rest) e) (ascii_read bs rest fits.1.1 more (p + 1)))
     (λ e. subst (λ (l : List ℕ). Reads p l (b ∷ c ∷ bs)) (sym (append_assoc (ascii_byte b) (ascii (c ∷ bs)) rest))
-    (Grammar.Reads.joined (ascii_byte b) (ascii (c ∷ bs) ++ rest) (b ∷ []) (c ∷ bs) (byte_segment p b (ascii (c ∷ bs) ++ rest) fits.0) (ascii_read (c ∷ bs) rest fits.1 more (p + length (ascii_byte b)))))
+    (Grammar.Reads.joined (ascii_byte b)
+    (ascii (c ∷ bs) ++ rest) (b ∷ []) (c ∷ bs) (byte_segment p b (ascii (c ∷ bs) ++ rest) fits.0)
+    (ascii_read (c ∷ bs) rest fits.1 more (p + length (ascii_byte b)))))
 
 -- ---- the loop over pads
 
-pub pads_more : (out : List ℕ) (p last : ℕ) (new : List ℕ) → p < last → new ≡ out ++ state_253 p ∷ [] → new ++ later_pads (p + 1) (last - (p + 1)) ≡ out ++ later_pads p (last - p)
+pub pads_more : (out : List ℕ) (p last : ℕ) (new : List ℕ) → p < last → new ≡ out ++ state_253 p ∷ [] →
+    new ++ later_pads (p + 1) (last - (p + 1)) ≡ out ++ later_pads p (last - p)
 pads_more out p last new lt e =
     let k : last - p ≡ suc (last - (p + 1)) = omega arith in
     rw (e, k) (append_assoc out (state_253 p ∷ []) (later_pads (p + 1) (last - (p + 1))))
 
-pub pads_done : (out first before : List ℕ) (p q b n : ℕ) → n + 1 ≤ p → b < n → q ≡ b + 1 → first ≡ before ++ 129 ∷ [] → out ++ later_pads p (n + 1 - p) ≡ first ++ later_pads (q + 1) (n + 1 - (q + 1))
+pub pads_done : (out first before : List ℕ) (p q b n : ℕ) → n + 1 ≤ p → b < n → q ≡ b + 1 → first ≡ before ++ 129 ∷ [] →
+    out ++ later_pads p (n + 1 - p) ≡ first ++ later_pads (q + 1) (n + 1 - (q + 1))
     → out ≡ before ++ pads (b + 1) (n - b)
 pads_done out first before p q b n le lt q-is e h =
     let limit = n in
     let none : n + 1 - p ≡ 0 = omega arith in
     let k : n - b ≡ suc (n + 1 - (b + 1 + 1)) = omega arith in
     let tail = later_pads (b + 1 + 1) (n + 1 - (b + 1 + 1)) in
-    let g : out ++ [] ≡ first ++ later_pads (q + 1) (n + 1 - (q + 1)) = subst (λ (n : ℕ). out ++ later_pads p n ≡ first ++ later_pads (q + 1) (limit + 1 - (q + 1))) none h in
-    let whole : out ≡ before ++ 129 ∷ tail = sym (append-nil out) ∙ g ∙ ap (λ (q : ℕ). first ++ later_pads (q + 1) (limit + 1 - (q + 1))) q-is ∙ ap (λ (l : List ℕ). l ++ tail) e ∙ append_assoc before (129 ∷ []) tail in
+    let g : out ++ [] ≡ first ++ later_pads (q + 1) (n + 1 - (q + 1)) =
+    subst (λ (n : ℕ). out ++ later_pads p n ≡ first ++ later_pads (q + 1) (limit + 1 - (q + 1))) none h in
+    let whole : out ≡ before ++ 129 ∷ tail = sym (append-nil out) ∙ g ∙
+    ap (λ (q : ℕ). first ++ later_pads (q + 1) (limit + 1 - (q + 1))) q-is ∙ ap (λ (l : List ℕ). l ++ tail) e ∙
+    append_assoc before (129 ∷ []) tail in
     rw k whole
 
 length-later_pads : (p n : ℕ) → length (later_pads p n) ≡ n
@@ -145,5 +163,7 @@ pub length-pads : (p n : ℕ) → length (pads p n) ≡ n
 length-pads p zero = refl
 length-pads p (suc n) = ap suc (length-later_pads (p + 1) n)
 
-pub never_memory : (p : ℕ) (words : List ℕ) (f : DecodeFault) → ((i : ℕ) → get_or words i 0 < 256) → reading Ascii p words ≡ Err f → f ≡ Memory → ⊥
-never_memory p words f fits e is = no_memory (subst (λ (f : DecodeFault). Stuck p words f) is (stuck_from p words f (below_256 words fits) e))
+pub never_memory : (p : ℕ) (words : List ℕ) (f : DecodeFault) → ((i : ℕ) → get_or words i 0 < 256) →
+    reading Ascii p words ≡ Err f → f ≡ Memory → ⊥
+never_memory p words f fits e is =
+    no_memory (subst (λ (f : DecodeFault). Stuck p words f) is (stuck_from p words f (below_256 words fits) e))

@@ -17,7 +17,9 @@ pairs_held (Two a b) = refl
 
 -- after the last byte of a run nothing waits, and its pairs are written
 pub run_done : (t : Letters) (h : Held) (out old bytes : List ℕ) (i : ℕ) → length bytes ≤ i
-    → ((rest : List ℕ) → out ++ pairs (held_values h ++ rest) ≡ old ++ pairs (flat_map (values_of t) (take i bytes) ++ rest)) → out ≡ old ++ pairs (flat_map (values_of t) bytes)
+    → ((rest : List ℕ) → out ++ pairs (held_values h ++ rest) ≡ old ++
+    pairs (flat_map (values_of t) (take i bytes) ++ rest)) → out ≡ old ++ pairs (flat_map (values_of t) bytes)
 run_done t h out old bytes i le done =
     sym (append-nil out) ∙ ap (λ (l : List ℕ). out ++ l) (sym (pairs_held h)) ∙ done []
-    ∙ ap (λ (l : List ℕ). old ++ pairs l) (append-nil (flat_map (values_of t) (take i bytes)) ∙ ap (flat_map (values_of t)) (take_all i bytes le))
+    ∙ ap (λ (l : List ℕ). old ++ pairs l) (append-nil (flat_map (values_of t) (take i bytes)) ∙
+    ap (flat_map (values_of t)) (take_all i bytes le))

@@ -23,13 +23,17 @@ below_40 : (vs : List ℕ) → list_all (λ v. ltb v 40) vs ≡ true → AllByRe
 below_40 [] e = tt
 below_40 (v ∷ vs) e = let both = and_parts _ _ e in (ltb-true _ _ both.0, below_40 vs both.1)
 
-append_below : (xs ys : List ℕ) → AllByRecursion (λ v. v < 40) xs → AllByRecursion (λ v. v < 40) ys → AllByRecursion (λ v. v < 40) (xs ++ ys)
+append_below : (xs ys : List ℕ) → AllByRecursion (λ v. v < 40) xs → AllByRecursion (λ v. v < 40) ys →
+    AllByRecursion (λ v. v < 40) (xs ++ ys)
 append_below [] ys f g = g
 append_below (x ∷ xs) ys f g = (f.0, append_below xs ys f.1 g)
 
-values_fit : (t : Letters) (bytes : List ℕ) → AllByRecursion (λ b. b < 256) bytes → AllByRecursion (λ v. v < 40) (flat_map (values_of t) bytes)
+values_fit : (t : Letters) (bytes : List ℕ) → AllByRecursion (λ b. b < 256) bytes →
+    AllByRecursion (λ v. v < 40) (flat_map (values_of t) bytes)
 values_fit t [] fits = tt
-values_fit t (b ∷ bs) fits = append_below (values_of t b) (flat_map (values_of t) bs) (below_40 (values_of t b) (agree_below_at (λ b. list_all (λ v. ltb v 40) (values_of t b)) (λ _. true) 256 b (all_below t) fits.0)) (values_fit t bs fits.1)
+values_fit t (b ∷ bs) fits = append_below (values_of t b) (flat_map (values_of t) bs)
+    (below_40 (values_of t b) (agree_below_at (λ b. list_all (λ v. ltb v 40) (values_of t b)) (λ _. true) 256 b
+    (all_below t) fits.0)) (values_fit t bs fits.1)
 
 -- values in threes
 record Threes (vs : List ℕ) : Type 0 where
@@ -52,19 +56,30 @@ threes (a ∷ b ∷ c ∷ vs) n e fits =
       words = ap (λ (l : List ℕ). pair tr ++ l) r.words;
     }
 
-whole_chars : (t : Letters) (bytes : List ℕ) → AllByRecursion (λ b. b < 256) bytes → Chars t (flat_map (values_of t) bytes) bytes
-whole_chars t bytes fits = record { tail = []; unfinished = Characters.Unfinished.nothing; spelled = sym (append-nil (flat_map (values_of t) bytes)); fits = fits }
+whole_chars : (t : Letters) (bytes : List ℕ) → AllByRecursion (λ b. b < 256) bytes →
+    Chars t (flat_map (values_of t) bytes) bytes
+whole_chars t bytes fits = record {
+  tail = [];
+  unfinished = Characters.Unfinished.nothing;
+  spelled = sym (append-nil (flat_map (values_of t) bytes));
+  fits = fits;
+}
 
 -- a run that 254 ends, and then anything that is read
-pub closed_run_read : (t : Letters) (p : ℕ) (bytes more after : List ℕ) → AllByRecursion (λ b. b < 256) bytes → length (flat_map (values_of t) bytes) % 3 ≡ 0
-    → ((q : ℕ) → Reads q after more) → Reads p (latch t ∷ (pairs (flat_map (values_of t) bytes) ++ 254 ∷ after)) (bytes ++ more)
+pub closed_run_read : (t : Letters) (p : ℕ) (bytes more after : List ℕ) → AllByRecursion (λ b. b < 256) bytes →
+    length (flat_map (values_of t) bytes) % 3 ≡ 0
+    → ((q : ℕ) → Reads q after more) →
+    Reads p (latch t ∷ (pairs (flat_map (values_of t) bytes) ++ 254 ∷ after)) (bytes ++ more)
 closed_run_read t p bytes more after fits threes_of reads =
     let vs = flat_map (values_of t) bytes in
     let r = threes vs (length vs / 3) (omega arith) (values_fit t bytes fits) in
-    let chars : Chars t (flat_map triple_values r.triples) bytes = subst (λ (l : List ℕ). Chars t l bytes) (sym r.values) (whole_chars t bytes fits) in
+    let chars : Chars t (flat_map triple_values r.triples) bytes = subst (λ (l : List ℕ). Chars t l bytes)
+    (sym r.values) (whole_chars t bytes fits) in
     let words = latch t ∷ (flat_map pair r.triples ++ 254 ∷ []) in
-    let read : Reads p (words ++ after) (bytes ++ more) = Grammar.Reads.joined words after bytes more (Grammar.Segment.run r.triples r.fit chars) (reads (p + length words)) in
-    subst (λ (l : List ℕ). Reads p (latch t ∷ l) (bytes ++ more)) (append_assoc (flat_map pair r.triples) (254 ∷ []) after ∙ ap (λ (l : List ℕ). l ++ 254 ∷ after) r.words) read
+    let read : Reads p (words ++ after) (bytes ++ more) = Grammar.Reads.joined words after bytes more
+    (Grammar.Segment.run r.triples r.fit chars) (reads (p + length words)) in
+    subst (λ (l : List ℕ). Reads p (latch t ∷ l) (bytes ++ more)) (append_assoc (flat_map pair r.triples)
+    (254 ∷ []) after ∙ ap (λ (l : List ℕ). l ++ 254 ∷ after) r.words) read
 
 -- a run with at most one word after it, a pad
 ends_open : (q n : ℕ) → n < 2 → EndsOpen (pads q n)
@@ -72,53 +87,72 @@ ends_open q zero lt = tt
 ends_open q (suc zero) lt = λ e. absurd (omega (arith, e))
 ends_open q (suc (suc n)) lt = absurd (omega arith)
 
-pub open_run_read : (t : Letters) (p q n : ℕ) (bytes : List ℕ) → AllByRecursion (λ b. b < 256) bytes → length (flat_map (values_of t) bytes) % 3 ≡ 0 → n < 2
+pub open_run_read : (t : Letters) (p q n : ℕ) (bytes : List ℕ) → AllByRecursion (λ b. b < 256) bytes →
+    length (flat_map (values_of t) bytes) % 3 ≡ 0 → n < 2
     → Reads p (latch t ∷ (pairs (flat_map (values_of t) bytes) ++ pads q n)) bytes
 open_run_read t p q n bytes fits threes_of lt =
     let vs = flat_map (values_of t) bytes in
     let r = threes vs (length vs / 3) (omega arith) (values_fit t bytes fits) in
-    let chars : Chars t (flat_map triple_values r.triples) bytes = subst (λ (l : List ℕ). Chars t l bytes) (sym r.values) (whole_chars t bytes fits) in
+    let chars : Chars t (flat_map triple_values r.triples) bytes = subst (λ (l : List ℕ). Chars t l bytes)
+    (sym r.values) (whole_chars t bytes fits) in
     let words = latch t ∷ flat_map pair r.triples in
-    let read : Reads p (words ++ pads q n) (bytes ++ []) = Grammar.Reads.joined words (pads q n) bytes [] (Grammar.Segment.open_run r.triples r.fit chars (ends_open q n lt)) (pads_read n q (p + length words)) in
-    subst (λ (l : List ℕ). Reads p (latch t ∷ (l ++ pads q n)) bytes) r.words (subst (λ (l : List ℕ). Reads p (words ++ pads q n) l) (append-nil bytes) read)
+    let read : Reads p (words ++ pads q n) (bytes ++ []) = Grammar.Reads.joined words (pads q n) bytes []
+    (Grammar.Segment.open_run r.triples r.fit chars (ends_open q n lt)) (pads_read n q (p + length words)) in
+    subst (λ (l : List ℕ). Reads p (latch t ∷ (l ++ pads q n)) bytes) r.words
+    (subst (λ (l : List ℕ). Reads p (words ++ pads q n) l) (append-nil bytes) read)
 
-fits_take : (k : ℕ) (bytes : List ℕ) → AllByRecursion (λ b. b < 256) bytes → AllByRecursion (λ b. b < 256) (take k bytes)
+fits_take : (k : ℕ) (bytes : List ℕ) → AllByRecursion (λ b. b < 256) bytes →
+    AllByRecursion (λ b. b < 256) (take k bytes)
 fits_take zero bytes f = tt
 fits_take (suc k) [] f = tt
 fits_take (suc k) (b ∷ bs) f = (f.0, fits_take k bs f.1)
 
-fits_drop : (k : ℕ) (bytes : List ℕ) → AllByRecursion (λ b. b < 256) bytes → AllByRecursion (λ b. b < 256) (drop k bytes)
+fits_drop : (k : ℕ) (bytes : List ℕ) → AllByRecursion (λ b. b < 256) bytes →
+    AllByRecursion (λ b. b < 256) (drop k bytes)
 fits_drop zero bytes f = f
 fits_drop (suc k) [] f = tt
 fits_drop (suc k) (b ∷ bs) f = fits_drop k bs f.1
 
 -- a run, what it leaves, and what fills the room
-rest_read : (t : Letters) (k : ℕ) (bytes : List ℕ) (p q n : ℕ) (rest : List ℕ) → drop k bytes ≡ rest → AllByRecursion (λ b. b < 256) bytes → k ≤ length bytes
+rest_read : (t : Letters) (k : ℕ) (bytes : List ℕ) (p q n : ℕ) (rest : List ℕ) → drop k bytes ≡ rest →
+    AllByRecursion (λ b. b < 256) bytes → k ≤ length bytes
     → length (flat_map (values_of t) (take k bytes)) % 3 ≡ 0
-    → Reads p ((latch t ∷ (pairs (flat_map (values_of t) (take k bytes)) ++ words_after_run (drop k bytes))) ++ words_after_text (eqb k (length bytes)) q n) bytes
+    → Reads p ((latch t ∷ (pairs (flat_map (values_of t) (take k bytes)) ++ words_after_run (drop k bytes))) ++
+    words_after_text (eqb k (length bytes)) q n) bytes
 rest_read t k bytes p q n [] e fits within passes =
     let whole : k ≡ length bytes = omega (arith, length-drop k bytes, ap length e) in
     let t0 : eqb k (length bytes) ≡ true = eq-eqb k (length bytes) whole in
     let all : take k bytes ≡ bytes = take_all k bytes (omega arith) in
-    let passes_all : length (flat_map (values_of t) bytes) % 3 ≡ 0 = subst (λ (l : List ℕ). length (flat_map (values_of t) l) % 3 ≡ 0) all passes in
+    let passes_all : length (flat_map (values_of t) bytes) % 3 ≡ 0 =
+    subst (λ (l : List ℕ). length (flat_map (values_of t) l) % 3 ≡ 0) all passes in
     let G : List ℕ → Type 0 = λ tail. Reads p (latch t ∷ (pairs (flat_map (values_of t) bytes) ++ tail)) bytes in
-    let closed : G (254 ∷ pads (q + 1) (n - 1)) = subst (λ (l : List ℕ). Reads p (latch t ∷ (pairs (flat_map (values_of t) bytes) ++ 254 ∷ pads (q + 1) (n - 1))) l) (append-nil bytes)
+    let closed : G (254 ∷ pads (q + 1) (n - 1)) =
+    subst (λ (l : List ℕ). Reads p
+    (latch t ∷ (pairs (flat_map (values_of t) bytes) ++ 254 ∷ pads (q + 1) (n - 1))) l) (append-nil bytes)
     (closed_run_read t p bytes [] (pads (q + 1) (n - 1)) fits passes_all (pads_read (n - 1) (q + 1))) in
-    let either : G (words_after_text true q n) = cond_both (leb 2 n) (254 ∷ pads (q + 1) (n - 1)) (pads q n) G (λ e. closed) (λ e. let few = leb-false 2 n e in open_run_read t p q n bytes fits passes_all few) in
-    let nothing : (pairs (flat_map (values_of t) bytes) ++ []) ++ words_after_text true q n ≡ pairs (flat_map (values_of t) bytes) ++ words_after_text true q n =
+    let either : G (words_after_text true q n) = cond_both (leb 2 n) (254 ∷ pads (q + 1) (n - 1)) (pads q n) G
+    (λ e. closed) (λ e. let few = leb-false 2 n e in open_run_read t p q n bytes fits passes_all few) in
+    let nothing : (pairs (flat_map (values_of t) bytes) ++ []) ++
+    words_after_text true q n ≡ pairs (flat_map (values_of t) bytes) ++ words_after_text true q n =
     ap (λ (l : List ℕ). l ++ words_after_text true q n) (append-nil (pairs (flat_map (values_of t) bytes))) in
     rw (t0, e, all) (subst (λ (l : List ℕ). Reads p (latch t ∷ l) bytes) (sym nothing) either)
 rest_read t k bytes p q n (b ∷ bs) e fits within passes =
-    let f0 : eqb k (length bytes) ≡ false = ne_eqb k (length bytes) (λ same. omega (arith, length-drop k bytes, ap length e)) in
-    let fits_rest : AllByRecursion (λ b. b < 256) (b ∷ bs) = subst (AllByRecursion (λ b. b < 256)) e (fits_drop k bytes fits) in
-    let read = closed_run_read t p (take k bytes) (b ∷ bs) (ascii (b ∷ bs) ++ pads q n) (fits_take k bytes fits) passes (ascii_read (b ∷ bs) (pads q n) fits_rest (pads_read n q)) in
-    let joined : take k bytes ++ b ∷ bs ≡ bytes = ap (λ (l : List ℕ). take k bytes ++ l) (sym e) ∙ take-append-drop k bytes in
+    let f0 : eqb k (length bytes) ≡ false =
+    ne_eqb k (length bytes) (λ same. omega (arith, length-drop k bytes, ap length e)) in
+    let fits_rest : AllByRecursion (λ b. b < 256) (b ∷ bs) = subst (AllByRecursion (λ b. b < 256)) e
+    (fits_drop k bytes fits) in
+    let read = closed_run_read t p (take k bytes) (b ∷ bs) (ascii (b ∷ bs) ++ pads q n) (fits_take k bytes fits) passes
+    (ascii_read (b ∷ bs) (pads q n) fits_rest (pads_read n q)) in
+    let joined : take k bytes ++ b ∷ bs ≡ bytes = ap (λ (l : List ℕ). take k bytes ++ l) (sym e) ∙
+    take-append-drop k bytes in
     let vs = flat_map (values_of t) (take k bytes) in
-    rw (f0, e) (subst (λ (l : List ℕ). Reads p (latch t ∷ l) bytes) (sym (append_assoc (pairs vs) (254 ∷ ascii (b ∷ bs)) (pads q n)))
+    rw (f0, e) (subst (λ (l : List ℕ). Reads p (latch t ∷ l) bytes)
+    (sym (append_assoc (pairs vs) (254 ∷ ascii (b ∷ bs)) (pads q n)))
     (subst (λ (l : List ℕ). Reads p (latch t ∷ (pairs vs ++ 254 ∷ (ascii (b ∷ bs) ++ pads q n))) l) joined read))
 
 -- A text in C40 or Text, and the words that fill the room after it.
-run_text_read : (t : Letters) (k : ℕ) (bytes : List ℕ) (p q n : ℕ) → AllByRecursion (λ b. b < 256) bytes → k ≤ length bytes → (0 < k → length (flat_map (values_of t) (take k bytes)) % 3 ≡ 0)
+run_text_read : (t : Letters) (k : ℕ) (bytes : List ℕ) (p q n : ℕ) → AllByRecursion (λ b. b < 256) bytes →
+    k ≤ length bytes → (0 < k → length (flat_map (values_of t) (take k bytes)) % 3 ≡ 0)
     → Reads p (run_and_rest t k bytes ++ words_after_text (ltb 0 k && eqb k (length bytes)) q n) bytes
 unfolding run_and_rest
 run_text_read t zero bytes p q n fits within passes = ascii_read bytes (pads q n) fits (pads_read n q) p
@@ -128,4 +162,5 @@ run_text_read t (suc k) bytes p q n fits within passes =
 
 pub run_read_back : (t : Letters) (bytes : List ℕ) (p q n : ℕ) → AllByRecursion (λ b. b < 256) bytes
     → Reads p (run_and_rest t (run_length t bytes) bytes ++ words_after_text (is_whole_run t bytes) q n) bytes
-run_read_back t bytes p q n fits = run_text_read t (run_length t bytes) bytes p q n fits (run_within t bytes) (run_passes t bytes)
+run_read_back t bytes p q n fits = run_text_read t (run_length t bytes) bytes p q n fits (run_within t bytes)
+    (run_passes t bytes)

@@ -45,7 +45,8 @@ is_unsupported (AsciiStep.unsupported a) u = refl
 is_unsupported {w = w} (AsciiStep.character c lt e) u = let b = bounds w u in absurd (omega arith)
 is_unsupported {w = w} (AsciiStep.digits m n lm ln e) u = let b = bounds w u in absurd (omega arith)
 is_unsupported {w = w} (AsciiStep.pad e) u = let b = bounds w u in absurd (omega arith)
-is_unsupported {w = w} (AsciiStep.to_run t e) u = let b = bounds w u in elim (latch_is t) [ inl is ↦ absurd (omega arith) | inr is ↦ absurd (b.3 (e ∙ is)) ]
+is_unsupported {w = w} (AsciiStep.to_run t e) u = let b = bounds w u in
+    elim (latch_is t) [ inl is ↦ absurd (omega arith) | inr is ↦ absurd (b.3 (e ∙ is)) ]
 is_unsupported {w = w} (AsciiStep.to_bytes e) u = let b = bounds w u in absurd (omega arith)
 is_unsupported {w = w} (AsciiStep.to_upper e) u = let b = bounds w u in absurd (b.2 e)
 
@@ -59,8 +60,16 @@ is_reserved (AsciiStep.digits m n lm ln e) (inl u) = absurd (omega arith)
 is_reserved (AsciiStep.digits m n lm ln e) (inr u) = absurd (omega arith)
 is_reserved (AsciiStep.pad e) (inl u) = absurd (omega arith)
 is_reserved (AsciiStep.pad e) (inr u) = absurd (omega arith)
-is_reserved (AsciiStep.to_run t e) (inl u) = elim (latch_is t) [ inl is ↦ absurd (omega arith) | inr is ↦ absurd (omega arith) ]
-is_reserved (AsciiStep.to_run t e) (inr u) = elim (latch_is t) [ inl is ↦ absurd (omega arith) | inr is ↦ absurd (omega arith) ]
+is_reserved (AsciiStep.to_run t e) (inl u) = elim (latch_is t) [
+  | inl is ↦ absurd (omega arith)
+  | inr is ↦
+      absurd (omega arith)
+]
+is_reserved (AsciiStep.to_run t e) (inr u) = elim (latch_is t) [
+  | inl is ↦ absurd (omega arith)
+  | inr is ↦
+      absurd (omega arith)
+]
 is_reserved (AsciiStep.to_bytes e) (inl u) = absurd (omega arith)
 is_reserved (AsciiStep.to_bytes e) (inr u) = absurd (omega arith)
 is_reserved (AsciiStep.to_upper e) (inl u) = absurd (omega arith)
@@ -81,7 +90,8 @@ bytes_short [] (suc n) q at lt = refl
 bytes_short (w ∷ ws) zero q at lt = absurd (omega arith)
 bytes_short (w ∷ ws) (suc n) q at lt =
     let e : suc n - 1 ≡ n = omega arith in
-    ap (λ (k : ℕ). prepend (value_255 q w ∷ []) (reading (bytes_left k at) (q + 1) ws)) e ∙ ap (prepend (value_255 q w ∷ [])) (bytes_short ws n (q + 1) at (omega arith))
+    ap (λ (k : ℕ). prepend (value_255 q w ∷ []) (reading (bytes_left k at) (q + 1) ws)) e ∙
+    ap (prepend (value_255 q w ∷ [])) (bytes_short ws n (q + 1) at (omega arith))
 
 -- ---- pairs
 
@@ -97,7 +107,8 @@ never_fnc1 up (Some b) e = cc
 pub ok_err : {A E : Type 0} (x : A) (f : E) → Ok x ≡ Err f → ⊥
 ok_err x f e = cc
 
-pub fnc1_is : (t : Letters) (up : Bool) (set : Set) (v : ℕ) → value_step t (record { upper = up; set = set }) v ≡ Err Fnc1 → (set ≡ Second) × (v ≡ 27)
+pub fnc1_is : (t : Letters) (up : Bool) (set : Set) (v : ℕ) →
+    value_step t (record { upper = up; set = set }) v ≡ Err Fnc1 → (set ≡ Second) × (v ≡ 27)
 unfolding value_step
 fnc1_is t up Basic v e =
     elim (chosen (eqb v 0) _ _ _ e) [
@@ -106,7 +117,11 @@ fnc1_is t up Basic v e =
           elim (chosen (eqb v 1) _ _ _ is.1) [
             | inl is ↦ absurd (ok_err _ _ is.1)
             | inr is ↦
-                elim (chosen (eqb v 2) _ _ _ is.1) [ inl is ↦ absurd (ok_err _ _ is.1) | inr is ↦ absurd (never_fnc1 up _ is.1) ]
+                elim (chosen (eqb v 2) _ _ _ is.1) [
+                  | inl is ↦ absurd (ok_err _ _ is.1)
+                  | inr is ↦
+                      absurd (never_fnc1 up _ is.1)
+                ]
           ]
     ]
 fnc1_is t up First v e = absurd (never_fnc1 up _ e)
@@ -114,18 +129,24 @@ fnc1_is t up Second v e =
     elim (chosen (eqb v 27) _ _ _ e) [
       | inl is ↦ (refl, eqb-true v 27 is.0)
       | inr is ↦
-          elim (chosen (eqb v 30 && not up) _ _ _ is.1) [ inl is ↦ absurd (ok_err _ _ is.1) | inr is ↦ absurd (never_fnc1 up _ is.1) ]
+          elim (chosen (eqb v 30 && not up) _ _ _ is.1) [
+            | inl is ↦ absurd (ok_err _ _ is.1)
+            | inr is ↦
+                absurd (never_fnc1 up _ is.1)
+          ]
     ]
 fnc1_is t up Third v e = absurd (never_fnc1 up _ e)
 
 -- the values of a triple, cut at one of them
-triple_cut : (tr : Triple) (k : ℕ) → k < 3 → (rest : List ℕ) × (triple_values tr ≡ take k (triple_values tr) ++ get_or (triple_values tr) k 0 ∷ rest)
+triple_cut : (tr : Triple) (k : ℕ) → k < 3 →
+    (rest : List ℕ) × (triple_values tr ≡ take k (triple_values tr) ++ get_or (triple_values tr) k 0 ∷ rest)
 triple_cut tr zero lt = (tr.second ∷ tr.third ∷ [], refl)
 triple_cut tr (suc zero) lt = (tr.third ∷ [], refl)
 triple_cut tr (suc (suc zero)) lt = ([], refl)
 triple_cut tr (suc (suc (suc k))) lt = absurd (omega arith)
 
-pub values_fail : (t : Letters) (s : Pending) (front : List ℕ) (v : ℕ) (rest : List ℕ) (mid : Pending × List ℕ) (e : ValueFault) → values_step t s front ≡ Ok mid → value_step t mid.0 v ≡ Err e
+pub values_fail : (t : Letters) (s : Pending) (front : List ℕ) (v : ℕ) (rest : List ℕ) (mid : Pending × List ℕ)
+    (e : ValueFault) → values_step t s front ≡ Ok mid → value_step t mid.0 v ≡ Err e
     → values_step t s (front ++ v ∷ rest) ≡ Err e
 values_fail t s [] v rest mid e ok err =
     let m : (s, []) ≡ mid = ok_is _ _ (values_step t s []) refl ok in
@@ -135,21 +156,26 @@ values_fail t s (x ∷ xs) v rest mid e ok err =
     let a = bind_ok (value_step t s x) (λ a. values_step t a.0 xs >>= λ b. Ok (b.0, a.1 ++ b.1)) mid ok in
     let b = bind_ok (values_step t a.0.0 xs) (λ b. Ok (b.0, a.0.1 ++ b.1)) mid a.2 in
     let o : mid ≡ (b.0.0, a.0.1 ++ b.0.1) = ok_is mid _ _ b.2 refl in
-    let next = values_fail t a.0.0 xs v rest b.0 e b.1 (subst (λ (m : Pending × List ℕ). value_step t m.0 v ≡ Err e) o err) in
+    let next = values_fail t a.0.0 xs v rest b.0 e b.1
+    (subst (λ (m : Pending × List ℕ). value_step t m.0 v ≡ Err e) o err) in
     ap (λ (r : Valued). r >>= λ a. values_step t a.0 (xs ++ v ∷ rest) >>= λ b. Ok (b.0, a.1 ++ b.1)) a.1
     ∙ ap (λ (r : Valued). r >>= λ b. Ok (b.0, a.0.1 ++ b.1)) next
 
-tail_state : (t : Letters) (tail : List ℕ) → Unfinished tail → (s : Pending) × (values_step t no_pending tail ≡ Ok (s, [])) × (tail_of s ≡ tail)
+tail_state : (t : Letters) (tail : List ℕ) → Unfinished tail →
+    (s : Pending) × (values_step t no_pending tail ≡ Ok (s, [])) × (tail_of s ≡ tail)
 unfolding value_step
 tail_state t tail Characters.Unfinished.nothing = (no_pending, refl, refl)
 tail_state t tail (Characters.Unfinished.shift {s = zero} lt) = (record { upper = false; set = First }, refl, refl)
 tail_state t tail (Characters.Unfinished.shift {s = suc zero} lt) = (record { upper = false; set = Second }, refl, refl)
-tail_state t tail (Characters.Unfinished.shift {s = suc (suc zero)} lt) = (record { upper = false; set = Third }, refl, refl)
+tail_state t tail (Characters.Unfinished.shift {s = suc (suc zero)} lt) =
+    (record { upper = false; set = Third }, refl, refl)
 tail_state t tail (Characters.Unfinished.shift {s = suc (suc (suc k))} lt) = absurd (omega arith)
 tail_state t tail Characters.Unfinished.upper = (record { upper = true; set = Basic }, refl, refl)
 tail_state t tail (Characters.Unfinished.upper_shift {s = zero} lt) = (record { upper = true; set = First }, refl, refl)
-tail_state t tail (Characters.Unfinished.upper_shift {s = suc zero} lt) = (record { upper = true; set = Second }, refl, refl)
-tail_state t tail (Characters.Unfinished.upper_shift {s = suc (suc zero)} lt) = (record { upper = true; set = Third }, refl, refl)
+tail_state t tail (Characters.Unfinished.upper_shift {s = suc zero} lt) =
+    (record { upper = true; set = Second }, refl, refl)
+tail_state t tail (Characters.Unfinished.upper_shift {s = suc (suc zero)} lt) =
+    (record { upper = true; set = Third }, refl, refl)
 tail_state t tail (Characters.Unfinished.upper_shift {s = suc (suc (suc k))} lt) = absurd (omega arith)
 
 -- what a value without a meaning does
@@ -160,33 +186,48 @@ record Refused (t : Letters) (s : Pending) (front : List ℕ) (v : ℕ) (tail : 
   refused : value_step t mid.0 v ≡ Err fault
   pending : tail_of mid.0 ≡ tail
 
-refuses : (t : Letters) (s : Pending) (vs front : List ℕ) (v : ℕ) (bytes : List ℕ) → AllByRecursion (λ v. v < 40) ((vs ++ front) ++ v ∷ []) → values_step t no_pending vs ≡ Ok (s, bytes)
+refuses : (t : Letters) (s : Pending) (vs front : List ℕ) (v : ℕ) (bytes : List ℕ) →
+    AllByRecursion (λ v. v < 40) ((vs ++ front) ++ v ∷ []) → values_step t no_pending vs ≡ Ok (s, bytes)
     → (m : IsMeaningless t (vs ++ front) v) → Refused t s front v m.before.tail
 refuses t s vs front v bytes fits taken m =
     let end = tail_state t m.before.tail m.before.unfinished in
     let all : values_step t no_pending (vs ++ front) ≡ Ok (end.0, m.bytes) =
-    ap (values_step t no_pending) m.before.spelled ∙ characters_read t m.bytes m.before.tail end.0 m.before.fits end.1 in
+    ap (values_step t no_pending) m.before.spelled ∙
+    characters_read t m.bytes m.before.tail end.0 m.before.fits end.1 in
     let parts = splits t no_pending vs front (end.0, m.bytes) all in
     let middle : parts.middle ≡ (s, bytes) = ok_is parts.middle (s, bytes) _ parts.first_is taken in
-    let second : values_step t s front ≡ Ok parts.last = subst (λ (x : Pending × List ℕ). values_step t x.0 front ≡ Ok parts.last) middle parts.second_is in
+    let second : values_step t s front ≡ Ok parts.last =
+    subst (λ (x : Pending × List ℕ). values_step t x.0 front ≡ Ok parts.last) middle parts.second_is in
     let state : end.0 ≡ parts.last.0 = ap (λ (x : Pending × List ℕ). x.0) parts.out_is in
     let tail_is : tail_of parts.last.0 ≡ m.before.tail = sym (ap tail_of state) ∙ end.2 in
     go (value_step t parts.last.0 v) parts.last refl second tail_is (end.0, all, state)
   where
-    go : (r : Valued) (last : Pending × List ℕ) → value_step t last.0 v ≡ r → values_step t s front ≡ Ok last → tail_of last.0 ≡ m.before.tail
-        → (all : (x : Pending) × (values_step t no_pending (vs ++ front) ≡ Ok (x, m.bytes)) × (x ≡ last.0)) → Refused t s front v m.before.tail
-    go (Err e) last is second tail_is all = record { mid = last; taken = second; fault = e; refused = is; pending = tail_is }
+    go : (r : Valued) (last : Pending × List ℕ) → value_step t last.0 v ≡ r → values_step t s front ≡ Ok last →
+        tail_of last.0 ≡ m.before.tail
+        → (all : (x : Pending) × (values_step t no_pending (vs ++ front) ≡ Ok (x, m.bytes)) × (x ≡ last.0)) →
+        Refused t s front v m.before.tail
+    go (Err e) last is second tail_is all = record {
+      mid = last;
+      taken = second;
+      fault = e;
+      refused = is;
+      pending = tail_is;
+    }
     go (Ok out) last is second tail_is all =
         let at : value_step t all.0 v ≡ Ok out = subst (λ (x : Pending). value_step t x v ≡ Ok out) (sym all.2) is in
-        let one : values_step t all.0 (v ∷ []) ≡ Ok (out.0, out.1 ++ []) = ap (λ (r : Valued). r >>= λ a. values_step t a.0 [] >>= λ b. Ok (b.0, a.1 ++ b.1)) at in
+        let one : values_step t all.0 (v ∷ []) ≡ Ok (out.0, out.1 ++ []) =
+        ap (λ (r : Valued). r >>= λ a. values_step t a.0 [] >>= λ b. Ok (b.0, a.1 ++ b.1)) at in
         let whole = values_joined t no_pending (vs ++ front) (v ∷ []) (all.0, m.bytes) (out.0, out.1 ++ []) all.1 one in
-        absurd (m.none (m.bytes ++ (out.1 ++ [])) (chars_from t ((vs ++ front) ++ v ∷ []) (m.bytes ++ (out.1 ++ [])) out.0 fits whole))
+        absurd (m.none (m.bytes ++ (out.1 ++ [])) (chars_from t ((vs ++ front) ++ v ∷ []) (m.bytes ++
+        (out.1 ++ [])) out.0 fits whole))
 
-pub append_below : (xs ys : List ℕ) → AllByRecursion (λ v. v < 40) xs → AllByRecursion (λ v. v < 40) ys → AllByRecursion (λ v. v < 40) (xs ++ ys)
+pub append_below : (xs ys : List ℕ) → AllByRecursion (λ v. v < 40) xs → AllByRecursion (λ v. v < 40) ys →
+    AllByRecursion (λ v. v < 40) (xs ++ ys)
 append_below [] ys f g = g
 append_below (x ∷ xs) ys f g = (f.0, append_below xs ys f.1 g)
 
-pub cut_below : (tr : Triple) (k : ℕ) → k < 3 → IsTriple tr → AllByRecursion (λ v. v < 40) (take k (triple_values tr) ++ get_or (triple_values tr) k 0 ∷ [])
+pub cut_below : (tr : Triple) (k : ℕ) → k < 3 → IsTriple tr →
+    AllByRecursion (λ v. v < 40) (take k (triple_values tr) ++ get_or (triple_values tr) k 0 ∷ [])
 cut_below tr zero lt f = (f.0, tt)
 cut_below tr (suc zero) lt f = (f.0, (f.1, tt))
 cut_below tr (suc (suc zero)) lt f = (f.0, (f.1, (f.2, tt)))
@@ -208,51 +249,67 @@ second_set true First (inr e) = absurd cc
 second_set true Third (inl e) = absurd cc
 second_set true Third (inr e) = absurd cc
 
-pub second_tail : (up : Bool) (set : Set) → set ≡ Second → (tail_at up set ≡ 1 ∷ []) ⊎ (tail_at up set ≡ 1 ∷ 30 ∷ 1 ∷ [])
+pub second_tail : (up : Bool) (set : Set) → set ≡ Second →
+    (tail_at up set ≡ 1 ∷ []) ⊎ (tail_at up set ≡ 1 ∷ 30 ∷ 1 ∷ [])
 second_tail false set e = inl (ap (tail_at false) e)
 second_tail true set e = inr (ap (tail_at true) e)
 
 -- FNC1 exactly where the set is 2 and the value 27
-pub fnc1_from : (t : Letters) (s : Pending) (v : ℕ) (fault : ValueFault) → s.set ≡ Second → v ≡ 27 → value_step t s v ≡ Err fault → fault ≡ Fnc1
+pub fnc1_from : (t : Letters) (s : Pending) (v : ℕ) (fault : ValueFault) → s.set ≡ Second → v ≡ 27 →
+    value_step t s v ≡ Err fault → fault ≡ Fnc1
 fnc1_from t s v fault set-is v-is e =
     let a : value_step t (record { upper = s.upper; set = Second }) 27 ≡ Err fault =
-    subst (λ (x : Set). value_step t (record { upper = s.upper; set = x }) 27 ≡ Err fault) set-is (subst (λ (v : ℕ). value_step t s v ≡ Err fault) v-is e) in
+    subst (λ (x : Set). value_step t (record { upper = s.upper; set = x }) 27 ≡ Err fault) set-is
+    (subst (λ (v : ℕ). value_step t s v ≡ Err fault) v-is e) in
     err_is _ _ _ a (fnc1_at t s.upper)
   where
     err_is : (x y : ValueFault) (r : Valued) → r ≡ Err x → r ≡ Err y → x ≡ y
     err_is x y r e f = cc
 
-missing_from : (t : Letters) (s : Pending) (v : ℕ) (fault : ValueFault) → ((s.set ≡ Second) × (v ≡ 27) → ⊥) → value_step t s v ≡ Err fault → fault ≡ Missing
+missing_from : (t : Letters) (s : Pending) (v : ℕ) (fault : ValueFault) → ((s.set ≡ Second) × (v ≡ 27) → ⊥) →
+    value_step t s v ≡ Err fault → fault ≡ Missing
 missing_from t s v Missing deny e = refl
 missing_from t s v Fnc1 deny e = absurd (deny (fnc1_is t s.upper s.set v e))
 
-pub moved : (s : Pending) (tail : List ℕ) → tail_of s ≡ tail → (tail ≡ 1 ∷ []) ⊎ (tail ≡ 1 ∷ 30 ∷ 1 ∷ []) → (tail_of s ≡ 1 ∷ []) ⊎ (tail_of s ≡ 1 ∷ 30 ∷ 1 ∷ [])
+pub moved : (s : Pending) (tail : List ℕ) → tail_of s ≡ tail → (tail ≡ 1 ∷ []) ⊎ (tail ≡ 1 ∷ 30 ∷ 1 ∷ []) →
+    (tail_of s ≡ 1 ∷ []) ⊎ (tail_of s ≡ 1 ∷ 30 ∷ 1 ∷ [])
 moved s tail e (inl a) = inl (e ∙ a)
 moved s tail e (inr a) = inr (e ∙ a)
 
-pub moved_back : (s : Pending) (tail : List ℕ) → tail_of s ≡ tail → (tail_of s ≡ 1 ∷ []) ⊎ (tail_of s ≡ 1 ∷ 30 ∷ 1 ∷ []) → (tail ≡ 1 ∷ []) ⊎ (tail ≡ 1 ∷ 30 ∷ 1 ∷ [])
+pub moved_back : (s : Pending) (tail : List ℕ) → tail_of s ≡ tail →
+    (tail_of s ≡ 1 ∷ []) ⊎ (tail_of s ≡ 1 ∷ 30 ∷ 1 ∷ []) → (tail ≡ 1 ∷ []) ⊎ (tail ≡ 1 ∷ 30 ∷ 1 ∷ [])
 moved_back s tail e (inl a) = inl (sym e ∙ a)
 moved_back s tail e (inr a) = inr (sym e ∙ a)
 
-fails_by : (t : Letters) (s : Pending) (p : ℕ) (triples : List Triple) (w x : ℕ) (bytes : List ℕ) → AllByRecursion IsTriple triples
-    → values_step t no_pending (flat_map triple_values triples) ≡ Ok (s, bytes) → (next : Triple) (k : ℕ) → IsTriple next → pair next ≡ w ∷ x ∷ [] → k < 3
-    → (m : IsMeaningless t (flat_map triple_values triples ++ take k (triple_values next)) (get_or (triple_values next) k 0)) (fault : ValueFault)
-    → ((r : Refused t s (take k (triple_values next)) (get_or (triple_values next) k 0) m.before.tail) → r.fault ≡ fault) → pair_step t s p w x ≡ at_pair t p w (Err fault)
+fails_by : (t : Letters) (s : Pending) (p : ℕ) (triples : List Triple) (w x : ℕ) (bytes : List ℕ) →
+    AllByRecursion IsTriple triples
+    → values_step t no_pending (flat_map triple_values triples) ≡ Ok (s, bytes) → (next : Triple) (k : ℕ) →
+    IsTriple next → pair next ≡ w ∷ x ∷ [] → k < 3
+    → (m : IsMeaningless t (flat_map triple_values triples ++ take k (triple_values next))
+    (get_or (triple_values next) k 0)) (fault : ValueFault)
+    → ((r : Refused t s (take k (triple_values next)) (get_or (triple_values next) k 0) m.before.tail) →
+    r.fault ≡ fault) → pair_step t s p w x ≡ at_pair t p w (Err fault)
 fails_by t s p triples w x bytes fits taken next k is spelled lt m fault known =
     let vs = flat_map triple_values triples in
     let front = take k (triple_values next) in
     let v = get_or (triple_values next) k 0 in
     let below : AllByRecursion (λ v. v < 40) ((vs ++ front) ++ v ∷ []) =
-    subst (λ (l : List ℕ). AllByRecursion (λ v. v < 40) l) (sym (append_assoc vs front (v ∷ []))) (append_below vs (front ++ v ∷ []) (values_below triples fits) (cut_below next k lt is)) in
+    subst (λ (l : List ℕ). AllByRecursion (λ v. v < 40) l)
+    (sym (append_assoc vs front (v ∷ []))) (append_below vs (front ++ v ∷ []) (values_below triples fits)
+    (cut_below next k lt is)) in
     let r = refuses t s vs front v bytes below taken m in
     let cut = triple_cut next k lt in
-    let e : values_step t s (triple_values next) ≡ Err r.fault = ap (values_step t s) cut.1 ∙ values_fail t s front v cut.0 r.mid r.fault r.taken r.refused in
+    let e : values_step t s (triple_values next) ≡ Err r.fault = ap (values_step t s) cut.1 ∙
+    values_fail t s front v cut.0 r.mid r.fault r.taken r.refused in
     pair_is t s p next w x is spelled ∙ ap (at_pair t p w) (e ∙ ap (λ (f : ValueFault). Err f) (known r))
 
-bad_pair_fails : (t : Letters) (s : Pending) (p : ℕ) (triples : List Triple) (w x : ℕ) (f : DecodeFault) (bytes : List ℕ) → AllByRecursion IsTriple triples
-    → values_step t no_pending (flat_map triple_values triples) ≡ Ok (s, bytes) → BadPair t p triples w x f → pair_step t s p w x ≡ Err f
+bad_pair_fails : (t : Letters) (s : Pending) (p : ℕ) (triples : List Triple) (w x : ℕ) (f : DecodeFault)
+    (bytes : List ℕ) → AllByRecursion IsTriple triples
+    → values_step t no_pending (flat_map triple_values triples) ≡ Ok (s, bytes) → BadPair t p triples w x f →
+    pair_step t s p w x ≡ Err f
 unfolding pair_step
-bad_pair_fails t s p triples w x f bytes fits taken (Grammar.BadPair.no_value (inl none)) = let e : eqb (256 * w + x) 0 ≡ true = eq-eqb _ 0 none in rw e refl
+bad_pair_fails t s p triples w x f bytes fits taken (Grammar.BadPair.no_value (inl none)) =
+    let e : eqb (256 * w + x) 0 ≡ true = eq-eqb _ 0 none in rw e refl
 bad_pair_fails t s p triples w x f bytes fits taken (Grammar.BadPair.no_value (inr above)) =
     let e : eqb (256 * w + x) 0 ≡ false = ne_eqb _ 0 (λ e. omega arith) in
     let g : ltb 64000 (256 * w + x) ≡ true = lt-ltb 64000 _ above in
@@ -260,11 +317,14 @@ bad_pair_fails t s p triples w x f bytes fits taken (Grammar.BadPair.no_value (i
 bad_pair_fails t s p triples w x f bytes fits taken (Grammar.BadPair.fnc1 n is_fnc1) =
     let m = n.meaningless in
     fails_by t s p triples w x bytes fits taken n.next n.place n.is_triple n.spelled n.in_pair m Fnc1
-    (λ r. fnc1_from t r.mid.0 _ r.fault (second_set r.mid.0.upper r.mid.0.set (moved r.mid.0 m.before.tail r.pending is_fnc1.1)) is_fnc1.0 r.refused)
+    (λ r. fnc1_from t r.mid.0 _ r.fault
+    (second_set r.mid.0.upper r.mid.0.set (moved r.mid.0 m.before.tail r.pending is_fnc1.1)) is_fnc1.0 r.refused)
 bad_pair_fails t s p triples w x f bytes fits taken (Grammar.BadPair.meaningless n isnt) =
     let m = n.meaningless in
     fails_by t s p triples w x bytes fits taken n.next n.place n.is_triple n.spelled n.in_pair m Missing
-    (λ r. missing_from t r.mid.0 _ r.fault (λ q. isnt (q.1, moved_back r.mid.0 m.before.tail r.pending (second_tail r.mid.0.upper r.mid.0.set q.0))) r.refused)
+    (λ r. missing_from t r.mid.0 _ r.fault
+    (λ q. isnt (q.1, moved_back r.mid.0 m.before.tail r.pending (second_tail r.mid.0.upper r.mid.0.set q.0)))
+    r.refused)
 
 to_long : (p v : ℕ) → 250 ≤ v → v < 256 → step Length p (state_255 p v) ≡ Ok (LongLength v, [])
 unfolding step
@@ -295,24 +355,35 @@ half_read p v low high =
     ∙ reading_silent Length (p + 1) (state_255 (p + 1) v) [] (LongLength v) (to_long (p + 1) v low high) ∙ half_end p v
 
 long_read : (p v x : ℕ) (after : List ℕ) → 250 ≤ v → v < 256 → 250 ≤ x → x < 256
-    → reading Ascii p (231 ∷ state_255 (p + 1) v ∷ state_255 (p + 1 + 1) x ∷ after) ≡ Err (Reserved (p + 1 + 1) (state_255 (p + 1 + 1) x))
+    → reading Ascii p (231 ∷ state_255 (p + 1) v ∷ state_255 (p + 1 + 1) x ∷ after) ≡
+    Err (Reserved (p + 1 + 1) (state_255 (p + 1 + 1) x))
 long_read p v x after low high low2 high2 =
     reading_silent Ascii p 231 (state_255 (p + 1) v ∷ state_255 (p + 1 + 1) x ∷ after) Length (to_length p)
-    ∙ reading_silent Length (p + 1) (state_255 (p + 1) v) (state_255 (p + 1 + 1) x ∷ after) (LongLength v) (to_long (p + 1) v low high)
+    ∙ reading_silent Length (p + 1) (state_255 (p + 1) v) (state_255 (p + 1 + 1) x ∷ after) (LongLength v)
+    (to_long (p + 1) v low high)
     ∙ reading_fault (LongLength v) (p + 1 + 1) (state_255 (p + 1 + 1) x) after _ (long_fails (p + 1 + 1) v x low2 high2)
 
 pub complete_here : {p : ℕ} {words : List ℕ} {f : DecodeFault} → StuckHere p words f → reading Ascii p words ≡ Err f
 unfolding step ascii_step finish reading
-complete_here {p = p} (Grammar.StuckHere.unsupported {w = w} {after = after} u) = reading_fault Ascii p w after (Unsupported p w) (is_unsupported (ascii_view p w) u)
-complete_here {p = p} (Grammar.StuckHere.reserved {w = w} {after = after} u) = reading_fault Ascii p w after (Reserved p w) (is_reserved (ascii_view p w) u)
-complete_here {p = p} Grammar.StuckHere.cut_upper = let e : p + 1 - 1 ≡ p = omega arith in reading_silent Ascii p 235 [] Upper refl ∙ ap (λ (k : ℕ). Err (Cut k)) e
-complete_here {p = p} (Grammar.StuckHere.bad_upper {x = x} {after = after} bad) = reading_silent Ascii p 235 (x ∷ after) Upper refl ∙ reading_fault Upper (p + 1) x after (Reserved (p + 1) x) (bad_upper (p + 1) x bad)
-complete_here {p = p} Grammar.StuckHere.no_length = let e : p + 1 - 1 ≡ p = omega arith in reading_silent Ascii p 231 [] Length refl ∙ ap (λ (k : ℕ). Err (Cut k)) e
+complete_here {p = p} (Grammar.StuckHere.unsupported {w = w} {after = after} u) =
+    reading_fault Ascii p w after (Unsupported p w) (is_unsupported (ascii_view p w) u)
+complete_here {p = p} (Grammar.StuckHere.reserved {w = w} {after = after} u) =
+    reading_fault Ascii p w after (Reserved p w) (is_reserved (ascii_view p w) u)
+complete_here {p = p} Grammar.StuckHere.cut_upper = let e : p + 1 - 1 ≡ p = omega arith in
+    reading_silent Ascii p 235 [] Upper refl ∙ ap (λ (k : ℕ). Err (Cut k)) e
+complete_here {p = p} (Grammar.StuckHere.bad_upper {x = x} {after = after} bad) =
+    reading_silent Ascii p 235 (x ∷ after) Upper refl ∙ reading_fault Upper (p + 1) x after (Reserved (p + 1) x)
+    (bad_upper (p + 1) x bad)
+complete_here {p = p} Grammar.StuckHere.no_length = let e : p + 1 - 1 ≡ p = omega arith in
+    reading_silent Ascii p 231 [] Length refl ∙ ap (λ (k : ℕ). Err (Cut k)) e
 complete_here {p = p} (Grammar.StuckHere.half_length {v = v} low high) = half_read p v low high
-complete_here {p = p} (Grammar.StuckHere.bad_length {v = v} {x = x} {after = after} low high low2 high2) = long_read p v x after low high low2 high2
+complete_here {p = p} (Grammar.StuckHere.bad_length {v = v} {x = x} {after = after} low high low2 high2) =
+    long_read p v x after low high low2 high2
 complete_here {p = p} (Grammar.StuckHere.too_few {n = n} len after is short) =
-    reading_silent Ascii p 231 (randomised (p + 1) len ++ after) Length refl ∙ length_read p n len after is ∙ bytes_short after n (p + 1 + length len) p short
-complete_here {p = p} (Grammar.StuckHere.bad_pair {w = w} {x = x} {t = t} {bytes = bytes} {fault = f} triples after fits chars ne bad) =
+    reading_silent Ascii p 231 (randomised (p + 1) len ++ after) Length refl ∙ length_read p n len after is ∙
+    bytes_short after n (p + 1 + length len) p short
+complete_here {p = p} (Grammar.StuckHere.bad_pair {w = w} {x = x} {t = t} {bytes = bytes} {fault =
+    f} triples after fits chars ne bad) =
     let s = chars_step t (flat_map triple_values triples) bytes chars in
     let q = p + 1 + length (flat_map pair triples) in
     let t0 : eqb w 254 ≡ false = ne_eqb _ _ ne in
@@ -320,8 +391,10 @@ complete_here {p = p} (Grammar.StuckHere.bad_pair {w = w} {x = x} {t = t} {bytes
     reading_silent Ascii p (latch t) (flat_map pair triples ++ w ∷ x ∷ after) (Run t no_pending) (step_latch t p)
     ∙ run_read t no_pending (p + 1) triples (w ∷ x ∷ after) (s.0, bytes) fits s.1
     ∙ ap (prepend bytes) (reading_silent (Run t s.0) q w (x ∷ after) (Half t s.0 w) (rw t0 refl)
-    ∙ reading_fault (Half t s.0 w) (q + 1) x after f (ap (λ (j : ℕ). pair_step t s.0 j w x) back ∙ bad_pair_fails t s.0 q triples w x f bytes fits s.1 bad))
+    ∙ reading_fault (Half t s.0 w) (q + 1) x after f (ap (λ (j : ℕ). pair_step t s.0 j w x) back ∙
+    bad_pair_fails t s.0 q triples w x f bytes fits s.1 bad))
 
 pub complete_stuck : {p : ℕ} {words : List ℕ} {f : DecodeFault} → Stuck p words f → reading Ascii p words ≡ Err f
 complete_stuck (Grammar.Stuck.here h) = complete_here h
-complete_stuck {f = f} (Grammar.Stuck.later words after bytes segment rest) = complete_segment segment ∙ ap (prepend bytes) (complete_stuck rest)
+complete_stuck {f = f} (Grammar.Stuck.later words after bytes segment rest) = complete_segment segment ∙
+    ap (prepend bytes) (complete_stuck rest)

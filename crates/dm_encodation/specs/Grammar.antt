@@ -82,7 +82,8 @@ pub data StuckHere : ℕ → List ℕ → DecodeFault → Type 0 where
   no_length : {p : ℕ} → StuckHere p (231 ∷ []) (Cut p)
   half_length : {p v : ℕ} → 250 ≤ v → v < 256 → StuckHere p (231 ∷ state_255 (p + 1) v ∷ []) (Cut p)
   bad_length : {p v x : ℕ} {after : List ℕ} → 250 ≤ v → v < 256 → 250 ≤ x → x < 256
-      → StuckHere p (231 ∷ state_255 (p + 1) v ∷ state_255 (p + 1 + 1) x ∷ after) (Reserved (p + 1 + 1) (state_255 (p + 1 + 1) x))
+      → StuckHere p (231 ∷ state_255 (p + 1) v ∷ state_255 (p + 1 + 1) x ∷ after)
+      (Reserved (p + 1 + 1) (state_255 (p + 1 + 1) x))
   too_few : {p n : ℕ} (len after : List ℕ) → IsLength len n → length after < n
       → StuckHere p (231 ∷ (randomised (p + 1) len ++ after)) (Cut p)
   bad_pair : {p w x : ℕ} {t : Letters} {bytes : List ℕ} {fault : DecodeFault} (triples : List Triple) (after : List ℕ)

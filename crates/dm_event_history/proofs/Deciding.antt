@@ -68,7 +68,11 @@ pub same_number : (m n : ℕ) → (m == n) ≡ true → m ≡ n
 same_number m n e = grind (arith, nat_tests, e)
 
 pub other_number : (m n : ℕ) → m ≢ n → (m == n) ≡ false
-other_number m n other = elim (decided (m == n)) [ inl same ↦ absurd (other (same_number m n same)) | inr unset ↦ unset ]
+other_number m n other = elim (decided (m == n)) [
+  | inl same ↦
+      absurd (other (same_number m n same))
+  | inr unset ↦ unset
+]
 
 pub if_same : {X : Type 0} (b : Bool) (x : X) → (if b then x else x) ≡ x
 if_same true x = refl

@@ -1,4 +1,5 @@
--- A legal and safe history is faithful: what its replies tell of documents and pages is so, by its events and replies alone.
+-- A legal and safe history is faithful: what its replies tell of documents and pages is so, by its events and replies
+-- alone.
 use Rattle.std.proofs.Common.{◌≡◌, ◌<◌, inl, inr, ℕ, Option, Some, List, [], ◌∷◌, ◌++◌, length, slice_get, zero, suc, ◌≤◌, take, refl, ap, sym, ◌∙◌, subst, arith}
 use Rattle.dm_finder_frame.specs.Grids.{GridView}
 use Rattle.dm_print_ledger.specs.declared.range.Range.{Range}
@@ -25,13 +26,15 @@ use Rattle.dm_event_history.proofs.Printed.{prints_as_means}
 -- ---- what was scanned and printed, one event more
 
 -- what stands at a place of the first part of a list stands there
-get_taken : {X : Type 0} (k : ℕ) (xs : List X) (i : ℕ) (x : X) → slice_get (take k xs) i ≡ Some x → slice_get xs i ≡ Some x
+get_taken : {X : Type 0} (k : ℕ) (xs : List X) (i : ℕ) (x : X) → slice_get (take k xs) i ≡ Some x →
+    slice_get xs i ≡ Some x
 get_taken zero xs i x is = cc
 get_taken (suc k) [] i x is = cc
 get_taken (suc k) (y ∷ ys) zero x is = is
 get_taken (suc k) (y ∷ ys) (suc i) x is = get_taken k ys i x is
 
-scan_more : {A : Type 0} (batches : List (Option Batch)) (more : Option Batch) (events : List (Event A)) (event : Event A) (i : ℕ) (name : LabelName) →
+scan_more : {A : Type 0} (batches : List (Option Batch)) (more : Option Batch) (events : List (Event A))
+    (event : Event A) (i : ℕ) (name : LabelName) →
     i ≤ length batches → IsScanOf batches events i name → IsScanOf (batches ++ more ∷ []) (events ++ event ∷ []) i name
 scan_more batches more events event i name within scan = record {
   desk = scan.desk;
@@ -39,10 +42,12 @@ scan_more batches more events event i name within scan = record {
   flips = scan.flips;
   stop = scan.stop;
   event = get_more events (event ∷ []) i (Scan scan.desk scan.label scan.flips scan.stop) scan.event;
-  had_left = ap (λ (l : List (Option Batch)). slice_get (labels_of l) scan.label) (take_keeps batches (more ∷ []) i within) ∙ scan.had_left;
+  had_left = ap (λ (l : List (Option Batch)). slice_get (labels_of l) scan.label)
+      (take_keeps batches (more ∷ []) i within) ∙ scan.had_left;
 }
 
-saved_more : {A : Type 0} (events : List (Event A)) (replies : List (Reply A)) (event : Event A) (reply : Reply A) (k : ℕ) →
+saved_more : {A : Type 0} (events : List (Event A)) (replies : List (Reply A)) (event : Event A) (reply : Reply A)
+    (k : ℕ) →
     MayHaveSaved events replies k → MayHaveSaved (events ++ event ∷ []) (replies ++ reply ∷ []) k
 saved_more events replies event reply k was = record {
   event = was.event;
@@ -52,18 +57,21 @@ saved_more events replies event reply k was = record {
   saves = was.saves;
 }
 
-scanned_more : {A : Type 0} (batches : List (Option Batch)) (more : Option Batch) (events : List (Event A)) (replies : List (Reply A)) (event : Event A)
+scanned_more : {A : Type 0} (batches : List (Option Batch)) (more : Option Batch) (events : List (Event A))
+    (replies : List (Reply A)) (event : Event A)
     (reply : Reply A) (i id m n : ℕ) → i ≤ length batches → WasScanned batches events replies i id m n →
     WasScanned (batches ++ more ∷ []) (events ++ event ∷ []) (replies ++ reply ∷ []) i id m n
 scanned_more batches more events replies event reply i id m n within was =
     let before : was.k < i = was.before in record {
       k = was.k;
       before = was.before;
-      scan = scan_more batches more events event was.k (record { id = id; number = m; count = n }) (omega arith) was.scan;
+      scan = scan_more batches more events event was.k (record { id = id; number = m; count = n })
+          (omega arith) was.scan;
       saved = saved_more events replies event reply was.k was.saved;
     }
 
-before_more : (batches : List (Option Batch)) (more : Option Batch) (i id : ℕ) (batch : Batch) → LeftBefore batches i id batch →
+before_more : (batches : List (Option Batch)) (more : Option Batch) (i id : ℕ) (batch : Batch) →
+    LeftBefore batches i id batch →
     LeftBefore (batches ++ more ∷ []) i id batch
 before_more batches more i id batch was = record {
   j = was.j;
@@ -72,7 +80,8 @@ before_more batches more i id batch was = record {
   id_is = was.id_is;
 }
 
-printed_more : {A : Type 0} (batches : List (Option Batch)) (more : Option Batch) (events : List (Event A)) (replies : List (Reply A)) (event : Event A)
+printed_more : {A : Type 0} (batches : List (Option Batch)) (more : Option Batch) (events : List (Event A))
+    (replies : List (Reply A)) (event : Event A)
     (reply : Reply A) (i id : ℕ) (bytes : List ℕ) → i ≤ length batches → WasPrinted batches events replies i id bytes →
     WasPrinted (batches ++ more ∷ []) (events ++ event ∷ []) (replies ++ reply ∷ []) i id bytes
 printed_more batches more events replies event reply i id bytes within was = record {
@@ -80,10 +89,12 @@ printed_more batches more events replies event reply i id bytes within was = rec
   printed = before_more batches more i id was.batch was.printed;
   bytes_are = was.bytes_are;
   scanned = λ m first last.
-      scanned_more batches more events replies event reply i id m (count_of was.batch) within (was.scanned m first last);
+      scanned_more batches more events replies event reply i id m (count_of was.batch) within
+      (was.scanned m first last);
 }
 
-begun_more : {A : Type 0} (batches : List (Option Batch)) (more : Option Batch) (events : List (Event A)) (replies : List (Reply A)) (event : Event A)
+begun_more : {A : Type 0} (batches : List (Option Batch)) (more : Option Batch) (events : List (Event A))
+    (replies : List (Reply A)) (event : Event A)
     (reply : Reply A) (i id missing : ℕ) → i ≤ length batches → WasBegun batches events replies i id missing →
     WasBegun (batches ++ more ∷ []) (events ++ event ∷ []) (replies ++ reply ∷ []) i id missing
 begun_more batches more events replies event reply i id missing within was = record {
@@ -93,11 +104,13 @@ begun_more batches more events replies event reply i id missing within was = rec
   not_all = was.not_all;
   nothing_else = was.nothing_else;
   scanned = λ m first last held.
-      scanned_more batches more events replies event reply i id m (count_of was.batch) within (was.scanned m first last held);
+      scanned_more batches more events replies event reply i id m (count_of was.batch) within
+      (was.scanned m first last held);
 }
 
 -- a scan of what had left, as the last event
-last_scan : {A : Type 0} (h : History A) (e : Entry A) (desk label : ℕ) (flips : List (ℕ × ℕ)) (stop : Stop) (name : LabelName) →
+last_scan : {A : Type 0} (h : History A) (e : Entry A) (desk label : ℕ) (flips : List (ℕ × ℕ)) (stop : Stop)
+    (name : LabelName) →
     e.event ≡ Scan desk label flips stop → slice_get (out h) label ≡ Some name →
     IsScanOf (batches_of (e ∷ h)) (events_of (e ∷ h)) (length h) name
 last_scan {A} h e desk label flips stop name is there = record {
@@ -138,7 +151,8 @@ scans_more h e id m scans =
 -- each page that a desk may hold, and each that was exported, was scanned
 record HeldWasScanned {A : Type 0} (h : History A) : Type 0 where
   pub held : (desk id m : ℕ) → IsPossiblyHeld h desk id m → Scans h id m
-  pub exported : (export : ℕ) (name : ExportName) (m : ℕ) → slice_get (exports h) export ≡ Some name → HasPage name.mask m → Scans h name.id m
+  pub exported : (export : ℕ) (name : ExportName) (m : ℕ) → slice_get (exports h) export ≡ Some name →
+      HasPage name.mask m → Scans h name.id m
 
 held_first : {A : Type 0} → (let none : History A = [] in HeldWasScanned none)
 held_first = record {
@@ -146,7 +160,8 @@ held_first = record {
   exported = λ export name m there page. absurd (cc (there));
 }
 
-held_next : {A : Type 0} (ranges : List Range) (h : History A) (e : Entry A) → IsReply ranges h e.id e.left e.event e.reply →
+held_next : {A : Type 0} (ranges : List Range) (h : History A) (e : Entry A) →
+    IsReply ranges h e.id e.left e.event e.reply →
     IsReplySafe h e.event e.reply → HeldWasScanned h → HeldWasScanned (e ∷ h)
 held_next {A} ranges h e fine safe was = record {
   held = λ desk id m may. elim may [
@@ -163,7 +178,8 @@ held_next {A} ranges h e fine safe was = record {
     only x y zero is = (let a : Some x ≡ Some y = is in cc)
     only x y (suc i) is = absurd (cc (is))
 
-    takes : (event : Event A) → e.event ≡ event → (desk id m : ℕ) → MayTake h event e.reply desk id m → Scans (e ∷ h) id m
+    takes : (event : Event A) → e.event ≡ event → (desk id m : ℕ) → MayTake h event e.reply desk id m →
+        Scans (e ∷ h) id m
     takes (Scan d label flips stop) is desk id m may = record {
       name = may.2.0;
       id_is = may.2.2;
@@ -180,21 +196,28 @@ held_next {A} ranges h e fine safe was = record {
       };
     }
     takes (Import d export stop) is desk id m may =
-        subst (λ (i : ℕ). Scans (e ∷ h) i m) may.2.2 (scans_more h e may.2.0.id m (was.exported export may.2.0 m may.2.1 may.2.3))
+        subst (λ (i : ℕ). Scans (e ∷ h) i m) may.2.2
+        (scans_more h e may.2.0.id m (was.exported export may.2.0 m may.2.1 may.2.3))
     takes event is desk id m may = absurd may
 
-    leaves : (event : Event A) (reply : Reply A) → IsReply ranges h e.id e.left event reply → IsReplySafe h event reply →
-        (i : ℕ) (name : ExportName) → slice_get (exported reply) i ≡ Some name → (m : ℕ) → HasPage name.mask m → Scans h name.id m
+    leaves : (event : Event A) (reply : Reply A) → IsReply ranges h e.id e.left event reply →
+        IsReplySafe h event reply →
+        (i : ℕ) (name : ExportName) → slice_get (exported reply) i ≡ Some name → (m : ℕ) → HasPage name.mask m →
+        Scans h name.id m
     leaves (Export d asked) (Exported index id n mask) fine safe i name there m page =
-        let same : record { id = id; count = n; mask = mask } ≡ name = only (record { id = id; count = n; mask = mask }) name i there in
+        let same : record { id = id; count = n; mask = mask } ≡ name =
+        only (record { id = id; count = n; mask = mask }) name i there in
         subst (λ (k : ℕ). Scans h k m) (sym fine.id_is ∙ ap (λ (x : ExportName). x.id) same)
-        (was.held d asked m (safe.possibly m (subst (λ (k : ℕ). HasPage k m) (sym (ap (λ (x : ExportName). x.mask) same)) page)))
+        (was.held d asked m (safe.possibly m
+        (subst (λ (k : ℕ). HasPage k m) (sym (ap (λ (x : ExportName). x.mask) same)) page)))
     leaves event (Exported index id n mask) fine safe i name there m page = absurd fine
     leaves event reply fine safe i name there m page = absurd (cc (there))
 
-held_scanned : {A : Type 0} (ranges : List Range) (desks : ℕ) (h : History A) → IsLegal ranges desks h → IsSafe h → HeldWasScanned h
+held_scanned : {A : Type 0} (ranges : List Range) (desks : ℕ) (h : History A) → IsLegal ranges desks h → IsSafe h →
+    HeldWasScanned h
 held_scanned ranges desks [] legal safe = held_first
-held_scanned ranges desks (e ∷ h) legal safe = held_next ranges h e legal.0.reply safe.0 (held_scanned ranges desks h legal.1 safe.1)
+held_scanned ranges desks (e ∷ h) legal safe = held_next ranges h e legal.0.reply safe.0
+    (held_scanned ranges desks h legal.1 safe.1)
 
 -- ---- documents
 
@@ -204,20 +227,23 @@ pub record IsPrintedBy {A : Type 0} (h : History A) (id : ℕ) (cut : CutDocumen
   pub printed : LeftBefore (batches_of h) (length h) id batch
   pub document_is : batch.document ≡ cut
 
-pub printed_at : {A : Type 0} (ranges : List Range) (desks : ℕ) (h : History A) (id : ℕ) (cut : CutDocument) → IsLegal ranges desks h → docs h id ≡ Some cut →
+pub printed_at : {A : Type 0} (ranges : List Range) (desks : ℕ) (h : History A) (id : ℕ) (cut : CutDocument) →
+    IsLegal ranges desks h → docs h id ≡ Some cut →
     IsPrintedBy h id cut
 printed_at ranges desks [] id cut legal had = cc
 printed_at {A} ranges desks (e ∷ h) id cut legal had = elim (decided (prints_as e id)) [
   | inl is ↦
       (let t = prints_as_means e id is in
-      let own : printed_by e.event e.parts ≡ Some cut = sym (if_so (prints_as e id) (printed_by e.event e.parts) (docs h id) is) ∙ had in record {
+      let own : printed_by e.event e.parts ≡ Some cut =
+      sym (if_so (prints_as e id) (printed_by e.event e.parts) (docs h id) is) ∙ had in record {
         batch = all_of e;
         printed = record { j = length h; before = omega arith; there = last_batch h e t.0; id_is = t.1 };
         document_is = cut_is e.event e.parts cut own;
       })
   | inr not_so ↦
       (let was = printed_at ranges desks h id cut legal.1
-      (sym (if_not (prints_as e id) (printed_by e.event e.parts) (docs h id) (λ so. true_false (prints_as e id) so not_so)) ∙ had) in
+      (sym (if_not (prints_as e id) (printed_by e.event e.parts) (docs h id)
+      (λ so. true_false (prints_as e id) so not_so)) ∙ had) in
       let below : was.printed.j < length h = was.printed.before in record {
         batch = was.batch;
         printed = record {
@@ -231,8 +257,10 @@ printed_at {A} ranges desks (e ∷ h) id cut legal had = elim (decided (prints_a
 ]
 
 -- the page of a label that was scanned is one of the batch under its identification
-scan_of : {A : Type 0} (h : History A) (id m n : ℕ) (batch : Batch) → PrintsOnceBy (batches_of h) (events_of h) (replies_of h) →
-    LeftBefore (batches_of h) (length h) id batch → n ≡ count_of batch → Scans h id m → WasScanned (batches_of h) (events_of h) (replies_of h) (length h) id m n
+scan_of : {A : Type 0} (h : History A) (id m n : ℕ) (batch : Batch) →
+    PrintsOnceBy (batches_of h) (events_of h) (replies_of h) →
+    LeftBefore (batches_of h) (length h) id batch → n ≡ count_of batch → Scans h id m →
+    WasScanned (batches_of h) (events_of h) (replies_of h) (length h) id m n
 scan_of {A} h id m n batch once left n_is t = record {
   k = t.k;
   before = t.before;
@@ -246,17 +274,22 @@ scan_of {A} h id m n batch once left n_is t = record {
     counted : t.name.count ≡ count_of batch
     counted =
         let own = label_in (take t.k (batches_of h)) t.scan.label t.name t.scan.had_left in
-        let at : slice_get (batches_of h) own.0 ≡ Some (Some own.1) = get_taken t.k (batches_of h) own.0 (Some own.1) own.2 in
-        let place : own.0 ≡ left.j = once.once own.0 left.j own.1 batch at left.there (sym own.3 ∙ t.id_is ∙ sym left.id_is) in
-        let e : Some (Some own.1) ≡ Some (Some batch) = sym at ∙ ap (λ (k : ℕ). slice_get (batches_of h) k) place ∙ left.there in
+        let at : slice_get (batches_of h) own.0 ≡ Some (Some own.1) = get_taken t.k (batches_of h) own.0
+        (Some own.1) own.2 in
+        let place : own.0 ≡ left.j = once.once own.0 left.j own.1 batch at left.there (sym own.3 ∙ t.id_is ∙
+        sym left.id_is) in
+        let e : Some (Some own.1) ≡ Some (Some batch) = sym at ∙ ap (λ (k : ℕ). slice_get (batches_of h) k) place ∙
+        left.there in
         let same : own.1 ≡ batch = cc (e) in
         own.4 ∙ ap count_of same
 
-count_is : {A : Type 0} (h : History A) (id : ℕ) (cut : CutDocument) → (p : IsPrintedBy h id cut) → count_of p.batch ≡ length cut.parts
+count_is : {A : Type 0} (h : History A) (id : ℕ) (cut : CutDocument) → (p : IsPrintedBy h id cut) →
+    count_of p.batch ≡ length cut.parts
 count_is h id cut p = ap (λ (c : CutDocument). length c.parts) p.document_is
 
 -- a document that may be held whole was printed, and all its labels were scanned
-true_document : {A : Type 0} (ranges : List Range) (desks : ℕ) (h : History A) (desk id : ℕ) (bytes : List ℕ) → IsLegal ranges desks h → IsSafe h →
+true_document : {A : Type 0} (ranges : List Range) (desks : ℕ) (h : History A) (desk id : ℕ) (bytes : List ℕ) →
+    IsLegal ranges desks h → IsSafe h →
     PrintsOnceBy (batches_of h) (events_of h) (replies_of h) → IsTrueDocument h desk id bytes →
     WasPrinted (batches_of h) (events_of h) (replies_of h) (length h) id bytes
 true_document {A} ranges desks h desk id bytes legal safe once s =
@@ -270,7 +303,8 @@ true_document {A} ranges desks h desk id bytes legal safe once s =
     }
 
 -- a document that lacks pages was printed, and the labels of the other pages were scanned
-truly_missing : {A : Type 0} (ranges : List Range) (desks : ℕ) (h : History A) (desk id missing : ℕ) → IsLegal ranges desks h → IsSafe h →
+truly_missing : {A : Type 0} (ranges : List Range) (desks : ℕ) (h : History A) (desk id missing : ℕ) →
+    IsLegal ranges desks h → IsSafe h →
     PrintsOnceBy (batches_of h) (events_of h) (replies_of h) → IsTrulyMissing h desk id missing →
     WasBegun (batches_of h) (events_of h) (replies_of h) (length h) id missing
 truly_missing {A} ranges desks h desk id missing legal safe once s =
@@ -279,14 +313,21 @@ truly_missing {A} ranges desks h desk id missing legal safe once s =
       batch = p.batch;
       printed = p.printed;
       some_missing = s.some_named;
-      not_all = (s.not_all.0, s.not_all.1, (let last : s.not_all.0 ≤ length s.document.parts = s.not_all.2 in omega arith), s.not_all.3);
+      not_all = (
+        s.not_all.0,
+        s.not_all.1,
+        (let last : s.not_all.0 ≤ length s.document.parts = s.not_all.2 in
+            omega arith),
+        s.not_all.3,
+      );
       nothing_else = λ m named. (let t = s.nothing_else m named in let last = t.1 in (t.0, omega arith));
       scanned = λ m first last held. scan_of h id m (count_of p.batch) p.batch once p.printed refl
           ((held_scanned ranges desks h legal safe).held desk id m (s.possibly m first (omega arith) held));
     }
 
 -- the pages of an export are of a document that was printed, and their labels were scanned
-pages_scanned : {A : Type 0} (ranges : List Range) (desks : ℕ) (h : History A) (desk id n mask : ℕ) → IsLegal ranges desks h → IsSafe h →
+pages_scanned : {A : Type 0} (ranges : List Range) (desks : ℕ) (h : History A) (desk id n mask : ℕ) →
+    IsLegal ranges desks h → IsSafe h →
     PrintsOnceBy (batches_of h) (events_of h) (replies_of h) → IsExportSafe h desk id n mask →
     (m : ℕ) → HasPage mask m → WasScanned (batches_of h) (events_of h) (replies_of h) (length h) id m n
 pages_scanned {A} ranges desks h desk id n mask legal safe once s m named =
@@ -295,7 +336,8 @@ pages_scanned {A} ranges desks h desk id n mask legal safe once s m named =
     ((held_scanned ranges desks h legal safe).held desk id m (s.possibly m named))
 
 -- what is forgotten was begun
-page_scanned : {A : Type 0} (h : History A) (id m : ℕ) → (t : Scans h id m) → WasScanned (batches_of h) (events_of h) (replies_of h) (length h) id m t.name.count
+page_scanned : {A : Type 0} (h : History A) (id m : ℕ) → (t : Scans h id m) →
+    WasScanned (batches_of h) (events_of h) (replies_of h) (length h) id m t.name.count
 page_scanned {A} h id m t = record {
   k = t.k;
   before = t.before;
@@ -316,21 +358,33 @@ Tells batches events replies i (Document bytes) =
 Tells batches events replies i (AskRefused (Incomplete missing)) =
     (desk id : ℕ) × (slice_get events i ≡ Some (Ask desk id)) × WasBegun batches events replies i id missing
 Tells batches events replies i Forgotten =
-    (desk id : ℕ) × (stop : Stop) × (slice_get events i ≡ Some (Forget desk id stop)) × (m n : ℕ) × WasScanned batches events replies i id m n
+    (desk id : ℕ) × (stop : Stop) × (slice_get events i ≡ Some (Forget desk id stop)) × (m n : ℕ) ×
+    WasScanned batches events replies i id m n
 Tells batches events replies i (Exported index id n mask) =
-    (desk : ℕ) × (slice_get events i ≡ Some (Export desk id)) × ((m : ℕ) → HasPage mask m → WasScanned batches events replies i id m n)
+    (desk : ℕ) × (slice_get events i ≡ Some (Export desk id)) ×
+    ((m : ℕ) → HasPage mask m → WasScanned batches events replies i id m n)
 Tells batches events replies i (ScanRefused Conflict) = ⊥
 Tells batches events replies i reply = Unit {0}
 
-tells_more : {A : Type 0} (batches : List (Option Batch)) (more : Option Batch) (events : List (Event A)) (replies : List (Reply A)) (event : Event A)
+tells_more : {A : Type 0} (batches : List (Option Batch)) (more : Option Batch) (events : List (Event A))
+    (replies : List (Reply A)) (event : Event A)
     (answer : Reply A) (i : ℕ) (reply : Reply A) → i ≤ length batches → Tells batches events replies i reply →
     Tells (batches ++ more ∷ []) (events ++ event ∷ []) (replies ++ answer ∷ []) i reply
 tells_more batches more events replies event answer i (Scanned accepted) within t =
-    scan_more batches more events event i (record { id = accepted.id; number = accepted.m; count = accepted.n }) within t
-tells_more batches more events replies event answer i (Document bytes) within t =
-    (t.0, t.1, get_more events (event ∷ []) i (Ask t.0 t.1) t.2, printed_more batches more events replies event answer i t.1 bytes within t.3)
-tells_more batches more events replies event answer i (AskRefused (Incomplete missing)) within t =
-    (t.0, t.1, get_more events (event ∷ []) i (Ask t.0 t.1) t.2, begun_more batches more events replies event answer i t.1 missing within t.3)
+    scan_more batches more events event i (record { id = accepted.id; number = accepted.m; count = accepted.n })
+    within t
+tells_more batches more events replies event answer i (Document bytes) within t = (
+  t.0,
+  t.1,
+  get_more events (event ∷ []) i (Ask t.0 t.1) t.2,
+  printed_more batches more events replies event answer i t.1 bytes within t.3,
+)
+tells_more batches more events replies event answer i (AskRefused (Incomplete missing)) within t = (
+  t.0,
+  t.1,
+  get_more events (event ∷ []) i (Ask t.0 t.1) t.2,
+  begun_more batches more events replies event answer i t.1 missing within t.3,
+)
 tells_more batches more events replies event answer i Forgotten within t = (
   t.0,
   t.1,
@@ -349,10 +403,13 @@ tells_more batches more events replies event answer i (ScanRefused Conflict) wit
 tells_more batches more events replies event answer i reply within t = tt
 
 -- so it is of the last reply
-tells_last : {A : Type 0} (ranges : List Range) (desks : ℕ) (h : History A) (e : Entry A) (grids : List GridView) (capacities : List ℕ) →
+tells_last : {A : Type 0} (ranges : List Range) (desks : ℕ) (h : History A) (e : Entry A) (grids : List GridView)
+    (capacities : List ℕ) →
     IsLegal ranges desks (e ∷ h) → IsSafe (e ∷ h) → IsHonestReply grids capacities h e.event e.reply →
-    PrintsOnceBy (batches_of h) (events_of h) (replies_of h) → Tells (batches_of (e ∷ h)) (events_of (e ∷ h)) (replies_of (e ∷ h)) (length h) e.reply
-tells_last {A} ranges desks h e grids capacities legal safe honest once = by_reply e.event e.reply refl legal.0.reply safe.0 honest
+    PrintsOnceBy (batches_of h) (events_of h) (replies_of h) →
+    Tells (batches_of (e ∷ h)) (events_of (e ∷ h)) (replies_of (e ∷ h)) (length h) e.reply
+tells_last {A} ranges desks h e grids capacities legal safe honest once =
+    by_reply e.event e.reply refl legal.0.reply safe.0 honest
   where
     within : length h ≤ length (batches_of h)
     within = (let all = batches_count h in omega arith)
@@ -360,8 +417,10 @@ tells_last {A} ranges desks h e grids capacities legal safe honest once = by_rep
     asked : (event : Event A) → e.event ≡ event → slice_get (events_of (e ∷ h)) (length h) ≡ Some event
     asked event is = at_last (events_of h) e.event (length h) (events_count h) ∙ ap (λ (v : Event A). Some v) is
 
-    by_reply : (event : Event A) (reply : Reply A) → e.event ≡ event → IsReply ranges h e.id e.left event reply → IsReplySafe h event reply →
-        IsHonestReply grids capacities h event reply → Tells (batches_of (e ∷ h)) (events_of (e ∷ h)) (replies_of (e ∷ h)) (length h) reply
+    by_reply : (event : Event A) (reply : Reply A) → e.event ≡ event → IsReply ranges h e.id e.left event reply →
+        IsReplySafe h event reply →
+        IsHonestReply grids capacities h event reply →
+        Tells (batches_of (e ∷ h)) (events_of (e ∷ h)) (replies_of (e ∷ h)) (length h) reply
     by_reply (Scan desk label flips stop) (Scanned accepted) is fine s honest =
         subst (λ (name : LabelName). IsScanOf (batches_of (e ∷ h)) (events_of (e ∷ h)) (length h) name)
         (ap (λ (k : ℕ). record { id = k; number = s.name.number; count = s.name.count }) (sym s.id_is) ∙
@@ -390,13 +449,15 @@ tells_last {A} ranges desks h e grids capacities legal safe honest once = by_rep
           asked (Forget desk id stop) is,
           s.0,
           t.name.count,
-          scanned_more (batches_of h) (batch_of e) (events_of h) (replies_of h) e.event e.reply (length h) id s.0 t.name.count within (page_scanned h id s.0 t),
+          scanned_more (batches_of h) (batch_of e) (events_of h) (replies_of h) e.event e.reply
+              (length h) id s.0 t.name.count within (page_scanned h id s.0 t),
         ))
     by_reply (Export desk name) (Exported index id n mask) is fine s honest =
         (let same : id ≡ name = fine.id_is in (
           desk,
           asked (Export desk id) (is ∙ ap (λ (k : ℕ). Export desk k) (sym same)),
-          λ m named. scanned_more (batches_of h) (batch_of e) (events_of h) (replies_of h) e.event e.reply (length h) id m n within
+          λ m named. scanned_more (batches_of h) (batch_of e) (events_of h) (replies_of h) e.event e.reply
+              (length h) id m n within
               (subst (λ (k : ℕ). WasScanned (batches_of h) (events_of h) (replies_of h) (length h) k m n) (sym same)
               (pages_scanned ranges desks h desk name n mask legal.1 safe.1 once s m named)),
         ))
@@ -410,8 +471,10 @@ tells_last {A} ranges desks h e grids capacities legal safe honest once = by_rep
     by_reply event reply is fine s honest = tt
 
 -- and of each
-each_tells : {A : Type 0} (ranges : List Range) (desks : ℕ) (h : History A) (grids : List GridView) (capacities : List ℕ) → IsLegal ranges desks h →
-    NeverTwice h → IsSafe h → AreHonestReplies grids capacities h → (i : ℕ) (reply : Reply A) → slice_get (replies_of h) i ≡ Some reply →
+each_tells : {A : Type 0} (ranges : List Range) (desks : ℕ) (h : History A) (grids : List GridView)
+    (capacities : List ℕ) → IsLegal ranges desks h →
+    NeverTwice h → IsSafe h → AreHonestReplies grids capacities h → (i : ℕ) (reply : Reply A) →
+    slice_get (replies_of h) i ≡ Some reply →
     Tells (batches_of h) (events_of h) (replies_of h) i reply
 each_tells ranges desks [] grids capacities legal never safe honest i reply answered = absurd (cc (answered))
 each_tells {A} ranges desks (e ∷ h) grids capacities legal never safe honest i reply answered =
@@ -422,34 +485,44 @@ each_tells {A} ranges desks (e ∷ h) grids capacities legal never safe honest i
           let all = batches_count h in
           tells_more (batches_of h) (batch_of e) (events_of h) (replies_of h) e.event e.reply i reply (omega arith)
           (each_tells ranges desks h grids capacities legal.1 never.1 safe.1 honest.1 i reply before))
-      | inr last ↦ subst (λ (k : ℕ). Tells (batches_of (e ∷ h)) (events_of (e ∷ h)) (replies_of (e ∷ h)) k reply) (sym last.0)
-          (subst (λ (r : Reply A). Tells (batches_of (e ∷ h)) (events_of (e ∷ h)) (replies_of (e ∷ h)) (length h) r) last.1
-          (tells_last ranges desks h e grids capacities legal safe honest.0 (prints_once ranges desks h legal.1 never.1)))
+      | inr last ↦ subst (λ (k : ℕ). Tells (batches_of (e ∷ h)) (events_of (e ∷ h)) (replies_of (e ∷ h)) k reply)
+          (sym last.0)
+          (subst (λ (r : Reply A). Tells (batches_of (e ∷ h)) (events_of (e ∷ h)) (replies_of (e ∷ h)) (length h)
+          r) last.1
+          (tells_last ranges desks h e grids capacities legal safe honest.0
+          (prints_once ranges desks h legal.1 never.1)))
     ]
 
 -- two documents of one identification are the same
-one_document : {A : Type 0} (batches : List (Option Batch)) (events : List (Event A)) (replies : List (Reply A)) (i j id : ℕ) (one other : List ℕ) →
-    PrintsOnceBy batches events replies → WasPrinted batches events replies i id one → WasPrinted batches events replies j id other → one ≡ other
+one_document : {A : Type 0} (batches : List (Option Batch)) (events : List (Event A)) (replies : List (Reply A))
+    (i j id : ℕ) (one other : List ℕ) →
+    PrintsOnceBy batches events replies → WasPrinted batches events replies i id one →
+    WasPrinted batches events replies j id other → one ≡ other
 one_document {A} batches events replies i j id one other f a b =
     let p = a.printed in
     let q = b.printed in
     let place : p.j ≡ q.j = f.once p.j q.j a.batch b.batch p.there q.there (p.id_is ∙ sym q.id_is) in
-    let e : Some (Some a.batch) ≡ Some (Some b.batch) = sym p.there ∙ ap (λ (k : ℕ). slice_get batches k) place ∙ q.there in
+    let e : Some (Some a.batch) ≡ Some (Some b.batch) = sym p.there ∙ ap (λ (k : ℕ). slice_get batches k) place ∙
+    q.there in
     let same : a.batch ≡ b.batch = cc (e) in
     sym a.bytes_are ∙ ap (λ (c : Batch). c.document.bytes) same ∙ b.bytes_are
 
-pub is_faithful : {A : Type 0} (ranges : List Range) (desks : ℕ) (h : History A) (grids : List GridView) (capacities : List ℕ) → IsLegal ranges desks h →
-    NeverTwice h → IsSafe h → AreHonestReplies grids capacities h → IsFaithfulBy (batches_of h) (events_of h) (replies_of h)
+pub is_faithful : {A : Type 0} (ranges : List Range) (desks : ℕ) (h : History A) (grids : List GridView)
+    (capacities : List ℕ) → IsLegal ranges desks h →
+    NeverTwice h → IsSafe h → AreHonestReplies grids capacities h →
+    IsFaithfulBy (batches_of h) (events_of h) (replies_of h)
 is_faithful {A} ranges desks h grids capacities legal never safe honest = record {
   prints = once;
   scanned = λ i accepted answered. tells i (Scanned accepted) answered;
   given = λ i bytes answered. tells i (Document bytes) answered;
   same = λ i j desk at id one other asked answered asked_too answered_too.
-      one_document (batches_of h) (events_of h) (replies_of h) i j id one other once (printed i desk id one asked answered)
+      one_document (batches_of h) (events_of h) (replies_of h) i j id one other once
+      (printed i desk id one asked answered)
       (printed j at id other asked_too answered_too);
   begun = λ i desk id missing asked answered.
       (let t = tells i (AskRefused (Incomplete missing)) answered in
-      subst (λ (k : ℕ). WasBegun (batches_of h) (events_of h) (replies_of h) i k missing) (asked_is i desk id t.0 t.1 asked t.2) t.3);
+      subst (λ (k : ℕ). WasBegun (batches_of h) (events_of h) (replies_of h) i k missing)
+      (asked_is i desk id t.0 t.1 asked t.2) t.3);
   forgotten = λ i desk id stop asked answered.
       (let t = tells i Forgotten answered in
       let e : Some (Forget t.0 t.1 t.2) ≡ Some (Forget desk id stop) = sym t.3 ∙ asked in
@@ -462,16 +535,20 @@ is_faithful {A} ranges desks h grids capacities legal never safe honest = record
     once : PrintsOnceBy (batches_of h) (events_of h) (replies_of h)
     once = prints_once ranges desks h legal never
 
-    tells : (i : ℕ) (reply : Reply A) → slice_get (replies_of h) i ≡ Some reply → Tells (batches_of h) (events_of h) (replies_of h) i reply
+    tells : (i : ℕ) (reply : Reply A) → slice_get (replies_of h) i ≡ Some reply →
+        Tells (batches_of h) (events_of h) (replies_of h) i reply
     tells = each_tells ranges desks h grids capacities legal never safe honest
 
-    asked_is : (i desk id at name : ℕ) → slice_get (events_of h) i ≡ Some (Ask desk id) → slice_get (events_of h) i ≡ Some (Ask at name) → name ≡ id
+    asked_is : (i desk id at name : ℕ) → slice_get (events_of h) i ≡ Some (Ask desk id) →
+        slice_get (events_of h) i ≡ Some (Ask at name) → name ≡ id
     asked_is i desk id at name one other =
         let e : Some (Ask desk id) ≡ Some (Ask at name) = sym one ∙ other in
         let same : id ≡ name = cc (e) in sym same
 
     printed : (i desk id : ℕ) (bytes : List ℕ) → slice_get (events_of h) i ≡ Some (Ask desk id) →
-        slice_get (replies_of h) i ≡ Some (Document bytes) → WasPrinted (batches_of h) (events_of h) (replies_of h) i id bytes
+        slice_get (replies_of h) i ≡ Some (Document bytes) →
+        WasPrinted (batches_of h) (events_of h) (replies_of h) i id bytes
     printed i desk id bytes asked answered =
         let t = tells i (Document bytes) answered in
-        subst (λ (k : ℕ). WasPrinted (batches_of h) (events_of h) (replies_of h) i k bytes) (asked_is i desk id t.0 t.1 asked t.2) t.3
+        subst (λ (k : ℕ). WasPrinted (batches_of h) (events_of h) (replies_of h) i k bytes)
+        (asked_is i desk id t.0 t.1 asked t.2) t.3

@@ -8,12 +8,15 @@ use Rattle.dm_event_history.proofs.Deciding.{if_not, if_so, both, and_so, true_f
 use Rattle.dm_event_history.proofs.WhoActs.{same_means, same_so}
 
 -- an entry that saved at a printer, or didn't
-pub saved_there : {A : Type 0} (e : Entry A) (p : ℕ) → e.saved ≡ true → actor_of e.event ≡ PrinterAt p → saved_at e p ≡ true
-saved_there e p saved named = and_so e.saved (is_same (actor_of e.event) (PrinterAt p)) saved (same_so (actor_of e.event) (PrinterAt p) named)
+pub saved_there : {A : Type 0} (e : Entry A) (p : ℕ) → e.saved ≡ true → actor_of e.event ≡ PrinterAt p →
+    saved_at e p ≡ true
+saved_there e p saved named = and_so e.saved (is_same (actor_of e.event) (PrinterAt p)) saved
+    (same_so (actor_of e.event) (PrinterAt p) named)
 
 pub saved_elsewhere : {A : Type 0} (e : Entry A) (p : ℕ) → actor_of e.event ≢ PrinterAt p → saved_at e p ≡ false
 saved_elsewhere e p away = elim (decided (saved_at e p)) [
-  | inl is ↦ absurd (away (same_means (actor_of e.event) (PrinterAt p) (both e.saved (is_same (actor_of e.event) (PrinterAt p)) is).1))
+  | inl is ↦ absurd (away (same_means (actor_of e.event) (PrinterAt p)
+      (both e.saved (is_same (actor_of e.event) (PrinterAt p)) is).1))
   | inr unset ↦ unset
 ]
 
@@ -27,7 +30,8 @@ not_saved e p unset = elim (decided (saved_at e p)) [
 pub free_stays : {A : Type 0} (ranges : List Range) (e : Entry A) (h : History A) (p n : ℕ) → saved_at e p ≡ false →
     free_at ranges (e ∷ h) p n ≡ free_at ranges h p n
 free_stays ranges e h p n unset =
-    if_not (saved_at e p) (free_after (tickets h) e.event e.id n (free_at ranges h p n)) (free_at ranges h p n) (λ is. true_false (saved_at e p) is unset)
+    if_not (saved_at e p) (free_after (tickets h) e.event e.id n (free_at ranges h p n)) (free_at ranges h p n)
+    (λ is. true_false (saved_at e p) is unset)
 
 pub free_goes : {A : Type 0} (ranges : List Range) (e : Entry A) (h : History A) (p n : ℕ) → saved_at e p ≡ true →
     free_at ranges (e ∷ h) p n ≡ free_after (tickets h) e.event e.id n (free_at ranges h p n)

@@ -17,15 +17,18 @@ use Rattle.dm_event_history.proofs.Gotten.{get_more}
 -- ---- numbers of exports
 
 -- an export has the next number
-next_number : {A : Type 0} (ranges : List Range) (h : History A) (e : Entry A) (k id n mask : ℕ) → IsReply ranges h e.id e.left e.event e.reply →
+next_number : {A : Type 0} (ranges : List Range) (h : History A) (e : Entry A) (k id n mask : ℕ) →
+    IsReply ranges h e.id e.left e.event e.reply →
     e.reply ≡ Exported k id n mask → k ≡ length (exports h)
-next_number {A} ranges h e k id n mask fine is = by_event e.event (subst (λ (r : Reply A). IsReply ranges h e.id e.left e.event r) is fine)
+next_number {A} ranges h e k id n mask fine is =
+    by_event e.event (subst (λ (r : Reply A). IsReply ranges h e.id e.left e.event r) is fine)
   where
     by_event : (event : Event A) → IsReply ranges h e.id e.left event (Exported k id n mask) → k ≡ length (exports h)
     by_event (Export desk asked) fine = fine.index_is
     by_event event fine = absurd fine
 
-number_within : {A : Type 0} (ranges : List Range) (desks : ℕ) (h : History A) (i k id n mask : ℕ) → IsLegal ranges desks h →
+number_within : {A : Type 0} (ranges : List Range) (desks : ℕ) (h : History A) (i k id n mask : ℕ) →
+    IsLegal ranges desks h →
     slice_get (replies_of h) i ≡ Some (Exported k id n mask) → k < length (exports h)
 number_within ranges desks [] i k id n mask legal is = absurd (cc (is))
 number_within {A} ranges desks (e ∷ h) i k id n mask legal is =
@@ -45,16 +48,19 @@ numbered ranges desks [] legal i j k id n mask other_id other_n other_mask a b =
 numbered {A} ranges desks (e ∷ h) legal i j k id n mask other_id other_n other_mask a b =
     let count = replies_count h in
     elim (before_or_last (replies_of h) e.reply (Exported k id n mask) (length h) i count a) [
-      | inl first ↦ elim (before_or_last (replies_of h) e.reply (Exported k other_id other_n other_mask) (length h) j count b) [
-        | inl second ↦ numbered ranges desks h legal.1 i j k id n mask other_id other_n other_mask first second
-        | inr last ↦ absurd (let t = number_within ranges desks h i k id n mask legal.1 first in
-            let next = next_number ranges h e k other_id other_n other_mask legal.0.reply last.1 in omega arith)
-      ]
-      | inr here ↦ elim (before_or_last (replies_of h) e.reply (Exported k other_id other_n other_mask) (length h) j count b) [
-        | inl second ↦ absurd (let t = number_within ranges desks h j k other_id other_n other_mask legal.1 second in
-            let next = next_number ranges h e k id n mask legal.0.reply here.1 in omega arith)
-        | inr last ↦ here.0 ∙ sym last.0
-      ]
+      | inl first ↦ elim (before_or_last (replies_of h) e.reply (Exported k other_id other_n other_mask)
+          (length h) j count b) [
+            | inl second ↦ numbered ranges desks h legal.1 i j k id n mask other_id other_n other_mask first second
+            | inr last ↦ absurd (let t = number_within ranges desks h i k id n mask legal.1 first in
+                let next = next_number ranges h e k other_id other_n other_mask legal.0.reply last.1 in omega arith)
+          ]
+      | inr here ↦ elim (before_or_last (replies_of h) e.reply (Exported k other_id other_n other_mask)
+          (length h) j count b) [
+            | inl second ↦ absurd (
+                let t = number_within ranges desks h j k other_id other_n other_mask legal.1 second in
+                let next = next_number ranges h e k id n mask legal.0.reply here.1 in omega arith)
+            | inr last ↦ here.0 ∙ sym last.0
+          ]
     ]
 
 -- ---- what is imported
@@ -65,7 +71,8 @@ record WasAnswered {A : Type 0} (h : History A) (k : ℕ) (name : ExportName) : 
   pub before : j < length h
   pub reply : slice_get (replies_of h) j ≡ Some (Exported k name.id name.count name.mask)
 
-answered_at : {A : Type 0} (ranges : List Range) (desks : ℕ) (h : History A) (k : ℕ) (name : ExportName) → IsLegal ranges desks h →
+answered_at : {A : Type 0} (ranges : List Range) (desks : ℕ) (h : History A) (k : ℕ) (name : ExportName) →
+    IsLegal ranges desks h →
     slice_get (exports h) k ≡ Some name → WasAnswered h k name
 answered_at ranges desks [] k name legal there = cc
 answered_at {A} ranges desks (e ∷ h) k name legal there = elim (in_either (exports h) (exported e.reply) k name there) [
@@ -83,7 +90,8 @@ answered_at {A} ranges desks (e ∷ h) k name legal there = elim (in_either (exp
     only x y zero is = (refl, (let a : Some x ≡ Some y = is in cc))
     only x y (suc i) is = absurd (cc (is))
 
-    by_reply : (event : Event A) (reply : Reply A) → e.reply ≡ reply → IsReply ranges h e.id e.left event reply → (i : ℕ) →
+    by_reply : (event : Event A) (reply : Reply A) → e.reply ≡ reply → IsReply ranges h e.id e.left event reply →
+        (i : ℕ) →
         k ≡ length (exports h) + i → slice_get (exported reply) i ≡ Some name → WasAnswered (e ∷ h) k name
     by_reply (Export desk asked) (Exported index id n mask) reply_is fine i place is =
         let t = only (record { id = id; count = n; mask = mask }) name i is in
@@ -93,7 +101,8 @@ answered_at {A} ranges desks (e ∷ h) k name legal there = elim (in_either (exp
           j = length h;
           before = omega arith;
           reply = at_last (replies_of h) e.reply (length h) (replies_count h) ∙ ap (λ (r : Reply A). Some r) reply_is ∙
-              ap (λ (i : ℕ). Some (Exported i id n mask)) at ∙ ap (λ (x : ExportName). Some (Exported k x.id x.count x.mask)) t.1;
+              ap (λ (i : ℕ). Some (Exported i id n mask)) at ∙
+              ap (λ (x : ExportName). Some (Exported k x.id x.count x.mask)) t.1;
         }
     by_reply event (Exported index id n mask) reply_is fine i place is = absurd fine
     by_reply event reply reply_is fine i place is = absurd (cc (is))
@@ -101,9 +110,11 @@ answered_at {A} ranges desks (e ∷ h) k name legal there = elim (in_either (exp
 -- event number i is an import, and what its reply tells was exported before it
 abbrev Brings : {A : Type 0} → List (Event A) → List (Reply A) → ℕ → imported_type.Imported → Type 0
 Brings events replies i imported =
-    (desk export : ℕ) × (stop : Stop) × (slice_get events i ≡ Some (Import desk export stop)) × WasExported replies i export imported
+    (desk export : ℕ) × (stop : Stop) × (slice_get events i ≡ Some (Import desk export stop)) ×
+    WasExported replies i export imported
 
-exported_before : {A : Type 0} (ranges : List Range) (desks : ℕ) (h : History A) → IsLegal ranges desks h → (i : ℕ) (imported : imported_type.Imported) →
+exported_before : {A : Type 0} (ranges : List Range) (desks : ℕ) (h : History A) → IsLegal ranges desks h →
+    (i : ℕ) (imported : imported_type.Imported) →
     slice_get (replies_of h) i ≡ Some (Imported imported) → Brings (events_of h) (replies_of h) i imported
 exported_before ranges desks [] legal i imported answered = absurd (cc (answered))
 exported_before {A} ranges desks (e ∷ h) legal i imported answered =
@@ -119,7 +130,8 @@ exported_before {A} ranges desks (e ∷ h) legal i imported answered =
               j = was.j;
               before = was.before;
               mask = was.mask;
-              reply = get_more (replies_of h) (e.reply ∷ []) was.j (Exported t.1 imported.id imported.n was.mask) was.reply;
+              reply = get_more (replies_of h) (e.reply ∷ []) was.j
+                  (Exported t.1 imported.id imported.n was.mask) was.reply;
               added = was.added;
             },
           ))
@@ -139,7 +151,8 @@ exported_before {A} ranges desks (e ∷ h) legal i imported answered =
             j = t.j;
             before = t.before;
             mask = fine.name.mask;
-            reply = get_more (replies_of h) (e.reply ∷ []) t.j (Exported export fine.name.id fine.name.count fine.name.mask) t.reply ∙
+            reply = get_more (replies_of h) (e.reply ∷ []) t.j
+                (Exported export fine.name.id fine.name.count fine.name.mask) t.reply ∙
                 ap (λ (k : ℕ). Some (Exported export k fine.name.count fine.name.mask)) (sym fine.id_is) ∙
                 ap (λ (k : ℕ). Some (Exported export imported.id k fine.name.mask)) (sym fine.n_is);
             added = fine.added;

@@ -34,7 +34,8 @@ names_get id count number (suc left) (suc k) a is =
     (t.0, (let e = t.1 in omega arith), omega arith)
 
 -- under an identification that is unused no label left
-none_unused : {A : Type 0} (h : History A) (i id : ℕ) (a : LabelName) → IsUnused id h → slice_get (out h) i ≡ Some a → a.id ≡ id → ⊥
+none_unused : {A : Type 0} (h : History A) (i id : ℕ) (a : LabelName) → IsUnused id h → slice_get (out h) i ≡ Some a →
+    a.id ≡ id → ⊥
 none_unused [] i id a unused is same = cc (is)
 none_unused (e ∷ h) i id a unused is same =
     elim (get_either_list (out h) (names_from e.id (length e.parts) 1 e.left) i a is) [
@@ -64,21 +65,25 @@ labels_once {A} (e ∷ h) never i j a b is_a is_b same_id same_number =
     ]
 
 -- a print of which labels left took a number that a printer began with
-last_opened : {A : Type 0} (ranges : List Range) (desks : ℕ) (h : History A) (e : Entry A) → ArePlaced ranges h → Fits ranges desks h e → 0 < e.left →
+last_opened : {A : Type 0} (ranges : List Range) (desks : ℕ) (h : History A) (e : Entry A) → ArePlaced ranges h →
+    Fits ranges desks h e → 0 < e.left →
     IsOpened ranges e.id
 last_opened {A} ranges desks h e placed fits some =
     by_event e.event (is_cut e.event e.reply e.parts e.left fits.lets_out some) (fits.moves (fits.left_saved some))
   where
-    by_event : (event : Event A) → ((c : CutDocument) × (printed_by event e.parts ≡ Some c)) → MayMove ranges h e.id event → IsOpened ranges e.id
+    by_event : (event : Event A) → ((c : CutDocument) × (printed_by event e.parts ≡ Some c)) →
+        MayMove ranges h e.id event → IsOpened ranges e.id
     by_event (Print p document size scheme stop) c free = (placed e.id).opened (FreeAt p) free
     by_event event c moves = absurd (let x = c.1 in cc (x))
 
-pub labels_opened : {A : Type 0} (ranges : List Range) (desks : ℕ) (h : History A) → AreDisjoint ranges → IsLegal ranges desks h → AreOpened ranges (out h)
+pub labels_opened : {A : Type 0} (ranges : List Range) (desks : ℕ) (h : History A) → AreDisjoint ranges →
+    IsLegal ranges desks h → AreOpened ranges (out h)
 labels_opened ranges desks [] apart legal i name is = absurd (cc (is))
 labels_opened {A} ranges desks (e ∷ h) apart legal i name is =
     elim (get_either_list (out h) (names_from e.id (length e.parts) 1 e.left) i name is) [
       | inl before ↦ labels_opened ranges desks h apart legal.1 i name before
       | inr now ↦
           (let t = names_get e.id (length e.parts) 1 e.left now.0 name now.2 in
-          subst (IsOpened ranges) (sym t.0) (last_opened ranges desks h e (all_placed ranges desks h apart legal.1) legal.0 t.2))
+          subst (IsOpened ranges) (sym t.0)
+          (last_opened ranges desks h e (all_placed ranges desks h apart legal.1) legal.0 t.2))
     ]

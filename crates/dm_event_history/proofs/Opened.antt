@@ -14,8 +14,10 @@ apart_of ranges apart p q r s other here there =
     let u : p < length ranges = slice_get_within ranges p r here in
     let v : q < length ranges = slice_get_within ranges q s there in
     elim (order p q other) [
-      | inl below ↦ subst (λ (x : Range). IsApart x s) r_is (subst (λ (x : Range). IsApart (slice_index_or ranges p r) x) s_is (apart p q r below v))
-      | inr above ↦ swap_apart s r (subst (λ (x : Range). IsApart x r) s_is (subst (λ (x : Range). IsApart (slice_index_or ranges q r) x) r_is (apart q p r above u)))
+      | inl below ↦ subst (λ (x : Range). IsApart x s) r_is
+          (subst (λ (x : Range). IsApart (slice_index_or ranges p r) x) s_is (apart p q r below v))
+      | inr above ↦ swap_apart s r (subst (λ (x : Range). IsApart x r) s_is
+          (subst (λ (x : Range). IsApart (slice_index_or ranges q r) x) r_is (apart q p r above u)))
     ]
   where
     swap_apart : (r s : Range) → IsApart r s → IsApart s r

@@ -31,12 +31,14 @@ given_none (Given index ticket) unset = absurd (unset refl)
 given_none reply unset = refl
 
 -- only a give is answered by a ticket
-pub given_by_print : {A : Type 0} (ranges : List Range) (h : History A) (id : ℕ) (parts : List (List ℕ)) (left : ℕ) (reply : Reply A) (p : ℕ) (document : List ℕ) (size : Size) (scheme : Scheme) (stop : Stop) →
+pub given_by_print : {A : Type 0} (ranges : List Range) (h : History A) (id : ℕ) (parts : List (List ℕ)) (left : ℕ)
+    (reply : Reply A) (p : ℕ) (document : List ℕ) (size : Size) (scheme : Scheme) (stop : Stop) →
     IsReply ranges h id left (Print p document size scheme stop) reply → given reply ≡ []
 given_by_print ranges h id parts left (Given index ticket) p document size scheme stop is = absurd is
 given_by_print ranges h id parts left reply p document size scheme stop is = refl
 
-pub given_by_take : {A : Type 0} (ranges : List Range) (h : History A) (id : ℕ) (parts : List (List ℕ)) (left : ℕ) (reply : Reply A) (p number : ℕ) (stop : Stop) →
+pub given_by_take : {A : Type 0} (ranges : List Range) (h : History A) (id : ℕ) (parts : List (List ℕ)) (left : ℕ)
+    (reply : Reply A) (p number : ℕ) (stop : Stop) →
     IsReply ranges h id left (Take p number stop) reply → given reply ≡ []
 given_by_take ranges h id parts left (Given index ticket) p number stop is = absurd is
 given_by_take ranges h id parts left reply p number stop is = refl
@@ -62,11 +64,22 @@ goes ranges e h n from to was now else_same p = record {
 }
   where
     at_to : (x : Place) → is_at ranges (e ∷ h) n x ≡ true → x ≡ to
-    at_to x is = elim (else_same x is) [ inl same ↦ same | inr before ↦ absurd (before.1 (p.nowhere_else x from before.0 was)) ]
+    at_to x is = elim (else_same x is) [
+      | inl same ↦ same
+      | inr before ↦
+          absurd (before.1 (p.nowhere_else x from before.0 was))
+    ]
 
 -- the history with one more entry of these parts
 abbrev with : {A : Type 0} → Event A → Reply A → ℕ → List (List ℕ) → ℕ → Bool → History A → History A
-with event reply id parts left saved h = record { event = event; reply = reply; id = id; parts = parts; left = left; saved = saved } ∷ h
+with event reply id parts left saved h = record {
+  event = event;
+  reply = reply;
+  id = id;
+  parts = parts;
+  left = left;
+  saved = saved;
+} ∷ h
 
 -- a ticket waits as before, if no ticket was given and none taken
 pub waits : {A : Type 0} (h : History A) (reply : Reply A) (k n : ℕ) (b : Bool) → given reply ≡ [] →
@@ -76,10 +89,12 @@ waits h reply k n b none =
     ap (λ (l : List TicketView). is_on (slice_get l k) n && not b) (append-nil (tickets h))
 
 -- an entry that saved nothing
-pub placed_quiet : {A : Type 0} (ranges : List Range) (h : History A) (event : Event A) (reply : Reply A) (id : ℕ) (parts : List (List ℕ)) (left n : ℕ) → given reply ≡ [] →
+pub placed_quiet : {A : Type 0} (ranges : List Range) (h : History A) (event : Event A) (reply : Reply A) (id : ℕ)
+    (parts : List (List ℕ)) (left n : ℕ) → given reply ≡ [] →
     IsPlaced ranges h n → IsPlaced ranges (with event reply id parts left false h) n
 placed_quiet {A} ranges h event reply id parts left n none p =
-    stays ranges (record { event = event; reply = reply; id = id; parts = parts; left = left; saved = false }) h n same p
+    stays ranges (record { event = event; reply = reply; id = id; parts = parts; left = left; saved = false }) h
+    n same p
   where
     same : (x : Place) → is_at ranges (with event reply id parts left false h) n x ≡ is_at ranges h n x
     same (FreeAt q) = refl
@@ -88,36 +103,51 @@ placed_quiet {A} ranges h event reply id parts left n none p =
     same Lost = refl
 
 -- free at another printer, after a printer saved
-pub free_other : {A : Type 0} (ranges : List Range) (h : History A) (event : Event A) (reply : Reply A) (id : ℕ) (parts : List (List ℕ)) (left p q n : ℕ) →
-    actor_of event ≡ PrinterAt p → p ≢ q → free_at ranges (with event reply id parts left true h) q n ≡ free_at ranges h q n
+pub free_other : {A : Type 0} (ranges : List Range) (h : History A) (event : Event A) (reply : Reply A) (id : ℕ)
+    (parts : List (List ℕ)) (left p q n : ℕ) →
+    actor_of event ≡ PrinterAt p → p ≢ q →
+    free_at ranges (with event reply id parts left true h) q n ≡ free_at ranges h q n
 free_other {A} ranges h event reply id parts left p q n named other =
     let e : Entry A = record { event = event; reply = reply; id = id; parts = parts; left = left; saved = true } in
-    free_stays ranges e h q n (saved_elsewhere e q (λ is. other (let x : PrinterAt p ≡ PrinterAt q = sym named ∙ is in cc)))
+    free_stays ranges e h q n (saved_elsewhere e q
+    (λ is. other (let x : PrinterAt p ≡ PrinterAt q = sym named ∙ is in cc)))
 
-pub free_own : {A : Type 0} (ranges : List Range) (h : History A) (event : Event A) (reply : Reply A) (id : ℕ) (parts : List (List ℕ)) (left p n : ℕ) →
+pub free_own : {A : Type 0} (ranges : List Range) (h : History A) (event : Event A) (reply : Reply A) (id : ℕ)
+    (parts : List (List ℕ)) (left p n : ℕ) →
     actor_of event ≡ PrinterAt p →
-    free_at ranges (with event reply id parts left true h) p n ≡ free_after (tickets h) event id n (free_at ranges h p n)
+    free_at ranges (with event reply id parts left true h) p n ≡ free_after (tickets h) event id n
+    (free_at ranges h p n)
 free_own {A} ranges h event reply id parts left p n named =
     let e : Entry A = record { event = event; reply = reply; id = id; parts = parts; left = left; saved = true } in
     free_goes ranges e h p n (saved_there e p refl named)
 
 -- a saved print
-pub placed_print : {A : Type 0} (ranges : List Range) (h : History A) (p : ℕ) (document : List ℕ) (size : Size) (scheme : Scheme) (stop : Stop)
+pub placed_print : {A : Type 0} (ranges : List Range) (h : History A) (p : ℕ) (document : List ℕ) (size : Size)
+    (scheme : Scheme) (stop : Stop)
     (reply : Reply A) (id : ℕ) (parts : List (List ℕ)) (left n : ℕ) → given reply ≡ [] → free_at ranges h p id ≡ true →
     IsPlaced ranges h n → IsPlaced ranges (with (Print p document size scheme stop) reply id parts left true h) n
-placed_print {A} ranges h p document size scheme stop reply id parts left n none free placed = elim (same_or_other id n) [
-  | inl same ↦ goes ranges e h n (FreeAt p) Used (subst (λ (i : ℕ). free_at ranges h p i ≡ true) same free)
-      (or_left (id == n) (is_used h n) (eq-eqb id n same)) (now same) placed
-  | inr other ↦ stays ranges e h n (still other) placed
-]
+placed_print {A} ranges h p document size scheme stop reply id parts left n none free placed =
+    elim (same_or_other id n) [
+      | inl same ↦ goes ranges e h n (FreeAt p) Used (subst (λ (i : ℕ). free_at ranges h p i ≡ true) same free)
+          (or_left (id == n) (is_used h n) (eq-eqb id n same)) (now same) placed
+      | inr other ↦ stays ranges e h n (still other) placed
+    ]
   where
     e : Entry A
-    e = record { event = Print p document size scheme stop; reply = reply; id = id; parts = parts; left = left; saved = true }
+    e = record {
+      event = Print p document size scheme stop;
+      reply = reply;
+      id = id;
+      parts = parts;
+      left = left;
+      saved = true;
+    }
 
     own : free_at ranges (e ∷ h) p n ≡ (free_at ranges h p n && not (id == n))
     own = free_own ranges h (Print p document size scheme stop) reply id parts left p n refl
 
-    now : id ≡ n → (x : Place) → is_at ranges (e ∷ h) n x ≡ true → (x ≡ Used) ⊎ ((is_at ranges h n x ≡ true) × (x ≢ FreeAt p))
+    now : id ≡ n → (x : Place) → is_at ranges (e ∷ h) n x ≡ true →
+        (x ≡ Used) ⊎ ((is_at ranges h n x ≡ true) × (x ≢ FreeAt p))
     now same (FreeAt q) is = elim (same_or_other p q) [
       | inl at ↦ absurd (true_false (free_at ranges (e ∷ h) p n) (ap (λ (i : ℕ). free_at ranges (e ∷ h) i n) at ∙ is)
           (own ∙ and_no (free_at ranges h p n) (id == n) (eq-eqb id n same)))
@@ -142,14 +172,17 @@ placed_print {A} ranges h p document size scheme stop reply id parts left n none
 
 -- a saved give whose numbers are lost, since its ticket isn't given
 pub placed_lost : {A : Type 0} (ranges : List Range) (h : History A) (p receiver : ℕ) (range : Range) (stop : Stop)
-    (reply : Reply A) (id : ℕ) (parts : List (List ℕ)) (left n : ℕ) → given reply ≡ [] → ((m : ℕ) → loses (Give p receiver range stop) reply m ≡ is_in range m) →
+    (reply : Reply A) (id : ℕ) (parts : List (List ℕ)) (left n : ℕ) → given reply ≡ [] →
+    ((m : ℕ) → loses (Give p receiver range stop) reply m ≡ is_in range m) →
     ((m : ℕ) → is_in range m ≡ true → free_at ranges h p m ≡ true) →
     IsPlaced ranges h n → IsPlaced ranges (with (Give p receiver range stop) reply id parts left true h) n
-placed_lost {A} ranges h p receiver range stop reply id parts left n none loses_them free placed = elim (decided (is_in range n)) [
-  | inl within ↦ goes ranges e h n (FreeAt p) Lost (free n within)
-      (or_left (loses (Give p receiver range stop) reply n) (is_lost h n) (loses_them n ∙ within)) (now within) placed
-  | inr out ↦ stays ranges e h n (still out) placed
-]
+placed_lost {A} ranges h p receiver range stop reply id parts left n none loses_them free placed =
+    elim (decided (is_in range n)) [
+      | inl within ↦ goes ranges e h n (FreeAt p) Lost (free n within)
+          (or_left (loses (Give p receiver range stop) reply n) (is_lost h n) (loses_them n ∙ within))
+          (now within) placed
+      | inr out ↦ stays ranges e h n (still out) placed
+    ]
   where
     e : Entry A
     e = record { event = Give p receiver range stop; reply = reply; id = id; parts = parts; left = left; saved = true }
@@ -157,7 +190,8 @@ placed_lost {A} ranges h p receiver range stop reply id parts left n none loses_
     own : free_at ranges (e ∷ h) p n ≡ (free_at ranges h p n && not (is_in range n))
     own = free_own ranges h (Give p receiver range stop) reply id parts left p n refl
 
-    now : is_in range n ≡ true → (x : Place) → is_at ranges (e ∷ h) n x ≡ true → (x ≡ Lost) ⊎ ((is_at ranges h n x ≡ true) × (x ≢ FreeAt p))
+    now : is_in range n ≡ true → (x : Place) → is_at ranges (e ∷ h) n x ≡ true →
+        (x ≡ Lost) ⊎ ((is_at ranges h n x ≡ true) × (x ≢ FreeAt p))
     now within (FreeAt q) is = elim (same_or_other p q) [
       | inl at ↦ absurd (true_false (free_at ranges (e ∷ h) p n) (ap (λ (i : ℕ). free_at ranges (e ∷ h) i n) at ∙ is)
           (own ∙ and_no (free_at ranges h p n) (is_in range n) within))
@@ -182,23 +216,37 @@ placed_lost {A} ranges h p receiver range stop reply id parts left n none loses_
 
 -- a give that is answered by its ticket
 pub placed_given : {A : Type 0} (ranges : List Range) (h : History A) (p receiver : ℕ) (range : Range) (stop : Stop)
-    (index : ℕ) (ticket : TicketView) (id : ℕ) (parts : List (List ℕ)) (left n : ℕ) → ticket.range ≡ range → is_taken h (length (tickets h)) ≡ false →
+    (index : ℕ) (ticket : TicketView) (id : ℕ) (parts : List (List ℕ)) (left n : ℕ) → ticket.range ≡ range →
+    is_taken h (length (tickets h)) ≡ false →
     ((m : ℕ) → is_in range m ≡ true → free_at ranges h p m ≡ true) →
-    IsPlaced ranges h n → IsPlaced ranges (with (Give p receiver range stop) (Given index ticket) id parts left true h) n
-placed_given {A} ranges h p receiver range stop index ticket id parts left n range_is fresh free placed = elim (decided (is_in range n)) [
-  | inl within ↦ goes ranges e h n (FreeAt p) (OnTicket (length (tickets h))) (free n within) (waiting within) (now within) placed
-  | inr out ↦ stays ranges e h n (still out) placed
-]
+    IsPlaced ranges h n → IsPlaced ranges
+    (with (Give p receiver range stop) (Given index ticket) id parts left true h) n
+placed_given {A} ranges h p receiver range stop index ticket id parts left n range_is fresh free placed =
+    elim (decided (is_in range n)) [
+      | inl within ↦ goes ranges e h n (FreeAt p) (OnTicket (length (tickets h))) (free n within) (waiting within)
+          (now within) placed
+      | inr out ↦ stays ranges e h n (still out) placed
+    ]
   where
     e : Entry A
-    e = record { event = Give p receiver range stop; reply = Given index ticket; id = id; parts = parts; left = left; saved = true }
+    e = record {
+      event = Give p receiver range stop;
+      reply = Given index ticket;
+      id = id;
+      parts = parts;
+      left = left;
+      saved = true;
+    }
 
     own : free_at ranges (e ∷ h) p n ≡ (free_at ranges h p n && not (is_in range n))
     own = free_own ranges h (Give p receiver range stop) (Given index ticket) id parts left p n refl
 
-    waiting : is_in range n ≡ true → (is_on (slice_get (tickets h ++ ticket ∷ []) (length (tickets h))) n && not (is_taken h (length (tickets h)))) ≡ true
+    waiting : is_in range n ≡ true →
+        (is_on (slice_get (tickets h ++ ticket ∷ []) (length (tickets h))) n && not (is_taken h
+        (length (tickets h)))) ≡ true
     waiting within =
-        ap (λ (o : Option TicketView). is_on o n && not (is_taken h (length (tickets h)))) (get_last (tickets h) ticket) ∙
+        ap (λ (o : Option TicketView). is_on o n && not (is_taken h (length (tickets h))))
+        (get_last (tickets h) ticket) ∙
         and_yes (is_in ticket.range n) (is_taken h (length (tickets h))) fresh ∙
         ap (λ (r : Range). is_in r n) range_is ∙ within
 
@@ -231,7 +279,8 @@ placed_given {A} ranges h p receiver range stop index ticket id parts left n ran
           (let here : is_on (slice_get (tickets h ++ ticket ∷ []) k) n ≡ false =
           ap (λ (o : Option TicketView). is_on o n) last.1 ∙ ap (λ (r : Range). is_in r n) range_is ∙ out in
           let before : is_on (slice_get (tickets h) k) n ≡ false =
-          ap (λ (i : ℕ). is_on (slice_get (tickets h) i) n) last.0 ∙ ap (λ (o : Option TicketView). is_on o n) (none_at (tickets h)) in
+          ap (λ (i : ℕ). is_on (slice_get (tickets h) i) n) last.0 ∙
+          ap (λ (o : Option TicketView). is_on o n) (none_at (tickets h)) in
           ap (λ (b : Bool). b && not (is_taken h k)) (here ∙ sym before))
     ]
       where
@@ -242,14 +291,17 @@ placed_given {A} ranges h p receiver range stop index ticket id parts left n ran
     still out Lost = refl
 
 -- a saved take
-pub placed_take : {A : Type 0} (ranges : List Range) (h : History A) (p number : ℕ) (stop : Stop) (reply : Reply A) (id : ℕ) (parts : List (List ℕ)) (left n : ℕ)
+pub placed_take : {A : Type 0} (ranges : List Range) (h : History A) (p number : ℕ) (stop : Stop) (reply : Reply A)
+    (id : ℕ) (parts : List (List ℕ)) (left n : ℕ)
     (ticket : TicketView) → given reply ≡ [] → slice_get (tickets h) number ≡ Some ticket → is_taken h number ≡ false →
     IsPlaced ranges h n → IsPlaced ranges (with (Take p number stop) reply id parts left true h) n
-placed_take {A} ranges h p number stop reply id parts left n ticket none there fresh placed = elim (decided (is_in ticket.range n)) [
-  | inl within ↦ goes ranges e h n (OnTicket number) (FreeAt p) (waiting within)
-      (own ∙ or_left (is_on (slice_get (tickets h) number) n) (free_at ranges h p n) (on within)) (now within) placed
-  | inr out ↦ stays ranges e h n (still out) placed
-]
+placed_take {A} ranges h p number stop reply id parts left n ticket none there fresh placed =
+    elim (decided (is_in ticket.range n)) [
+      | inl within ↦ goes ranges e h n (OnTicket number) (FreeAt p) (waiting within)
+          (own ∙ or_left (is_on (slice_get (tickets h) number) n) (free_at ranges h p n) (on within))
+          (now within) placed
+      | inr out ↦ stays ranges e h n (still out) placed
+    ]
   where
     e : Entry A
     e = record { event = Take p number stop; reply = reply; id = id; parts = parts; left = left; saved = true }
@@ -266,21 +318,27 @@ placed_take {A} ranges h p number stop reply id parts left n ticket none there f
     waiting : is_in ticket.range n ≡ true → is_waiting h number n ≡ true
     waiting within = and_yes (is_on (slice_get (tickets h) number) n) (is_taken h number) fresh ∙ on within
 
-    tickets_same : (k : ℕ) → is_waiting (e ∷ h) k n ≡ (is_on (slice_get (tickets h) k) n && not ((number == k) || is_taken h k))
+    tickets_same : (k : ℕ) → is_waiting (e ∷ h) k
+        n ≡ (is_on (slice_get (tickets h) k) n && not ((number == k) || is_taken h k))
     tickets_same k = waits h reply k n ((number == k) || is_taken h k) none
 
     now : is_in ticket.range n ≡ true → (x : Place) → is_at ranges (e ∷ h) n x ≡ true →
         (x ≡ FreeAt p) ⊎ ((is_at ranges h n x ≡ true) × (x ≢ OnTicket number))
     now within (FreeAt q) is = elim (same_or_other p q) [
       | inl at ↦ inl (ap FreeAt (sym at))
-      | inr away ↦ inr (sym (free_other ranges h (Take p number stop) reply id parts left p q n refl away) ∙ is, (λ x. cc))
+      | inr away ↦ inr (
+        sym (free_other ranges h (Take p number stop) reply id parts left p q n refl away) ∙
+            is,
+        (λ x. cc),
+      )
     ]
     now within (OnTicket k) is = elim (same_or_other number k) [
       | inl at ↦ absurd (true_false (is_waiting (e ∷ h) k n) is
           (tickets_same k ∙ and_no (is_on (slice_get (tickets h) k) n) ((number == k) || is_taken h k)
           (or_left (number == k) (is_taken h k) (eq-eqb number k at))))
       | inr away ↦ inr (
-        ap (λ (b : Bool). is_on (slice_get (tickets h) k) n && not b) (sym (or_no (number == k) (is_taken h k) (other_number number k away))) ∙
+        ap (λ (b : Bool). is_on (slice_get (tickets h) k) n && not b)
+            (sym (or_no (number == k) (is_taken h k) (other_number number k away))) ∙
             sym (tickets_same k) ∙ is,
         (λ x. away (let y : OnTicket k ≡ OnTicket number = x in cc)),
       )
@@ -296,11 +354,13 @@ placed_take {A} ranges h p number stop reply id parts left n ticket none there f
     ]
     still out (OnTicket k) = elim (same_or_other number k) [
       | inl at ↦
-          (let gone : is_on (slice_get (tickets h) k) n ≡ false = subst (λ (i : ℕ). is_on (slice_get (tickets h) i) n ≡ false) at (off out) in
+          (let gone : is_on (slice_get (tickets h) k) n ≡ false =
+          subst (λ (i : ℕ). is_on (slice_get (tickets h) i) n ≡ false) at (off out) in
           tickets_same k ∙ and_first (is_on (slice_get (tickets h) k) n) (not ((number == k) || is_taken h k)) gone ∙
           sym (and_first (is_on (slice_get (tickets h) k) n) (not (is_taken h k)) gone))
       | inr away ↦ tickets_same k ∙
-          ap (λ (b : Bool). is_on (slice_get (tickets h) k) n && not b) (or_no (number == k) (is_taken h k) (other_number number k away))
+          ap (λ (b : Bool). is_on (slice_get (tickets h) k) n && not b)
+          (or_no (number == k) (is_taken h k) (other_number number k away))
     ]
       where
         and_first : (b c : Bool) → b ≡ false → (b && c) ≡ false
@@ -310,25 +370,31 @@ placed_take {A} ranges h p number stop reply id parts left n ticket none there f
     still out Lost = refl
 
 -- each number is in one place still, by one more entry
-pub placed_goes : {A : Type 0} (ranges : List Range) (desks : ℕ) (h : History A) (e : Entry A) → IsLegal ranges desks h → Fits ranges desks h e →
+pub placed_goes : {A : Type 0} (ranges : List Range) (desks : ℕ) (h : History A) (e : Entry A) →
+    IsLegal ranges desks h → Fits ranges desks h e →
     ArePlaced ranges h → ArePlaced ranges (e ∷ h)
 placed_goes {A} ranges desks h e legal fits placed n =
     by_entry e.event e.reply e.id e.parts e.left e.saved fits.reply fits.told fits.moves
   where
-    by_entry : (event : Event A) (reply : Reply A) (id : ℕ) (parts : List (List ℕ)) (left : ℕ) (saved : Bool) → IsReply ranges h id left event reply →
+    by_entry : (event : Event A) (reply : Reply A) (id : ℕ) (parts : List (List ℕ)) (left : ℕ) (saved : Bool) →
+        IsReply ranges h id left event reply →
         (tells_of_save reply ≡ true → saved ≡ true) → (saved ≡ true → MayMove ranges h id event) →
         IsPlaced ranges (with event reply id parts left saved h) n
     by_entry event reply id parts left false is told moves =
-        placed_quiet ranges h event reply id parts left n (given_none reply (λ x. let y : false ≡ true = told x in cc)) (placed n)
+        placed_quiet ranges h event reply id parts left n
+        (given_none reply (λ x. let y : false ≡ true = told x in cc)) (placed n)
     by_entry (Print p document size scheme stop) reply id parts left true is told moves =
-        placed_print ranges h p document size scheme stop reply id parts left n (given_by_print ranges h id parts left reply p document size scheme stop is) (moves refl) (placed n)
+        placed_print ranges h p document size scheme stop reply id parts left n
+        (given_by_print ranges h id parts left reply p document size scheme stop is) (moves refl) (placed n)
     by_entry (Give p receiver range stop) (Given index ticket) id parts left true is told moves =
-        placed_given ranges h p receiver range stop index ticket id parts left n (ap (λ (t : TicketView). t.range) is.ticket_is)
+        placed_given ranges h p receiver range stop index ticket id parts left n
+        (ap (λ (t : TicketView). t.range) is.ticket_is)
         (taken_within ranges desks h (length (tickets h)) legal (omega arith)) (moves refl) (placed n)
     by_entry (Give p receiver range stop) reply id parts left true is told moves =
         placed_lost ranges h p receiver range stop reply id parts left n refl (λ m. refl) (moves refl) (placed n)
     by_entry (Take p number stop) reply id parts left true is told moves =
-        placed_take ranges h p number stop reply id parts left n (moves refl).ticket (given_by_take ranges h id parts left reply p number stop is) (moves refl).there
+        placed_take ranges h p number stop reply id parts left n (moves refl).ticket
+        (given_by_take ranges h id parts left reply p number stop is) (moves refl).there
         (not_taken ranges desks h p number legal (moves refl)) (placed n)
     by_entry (Scan d label flips stop) reply id parts left true is told moves = absurd (moves refl)
     by_entry (RestartPrinter p) reply id parts left true is told moves = absurd (moves refl)
@@ -339,19 +405,22 @@ placed_goes {A} ranges desks h e legal fits placed n =
     by_entry (Import d export stop) reply id parts left true is told moves = absurd (moves refl)
 
 -- no ticket is taken twice
-pub never_taken_goes : {A : Type 0} (ranges : List Range) (desks : ℕ) (h : History A) (e : Entry A) → IsLegal ranges desks h → Fits ranges desks h e →
+pub never_taken_goes : {A : Type 0} (ranges : List Range) (desks : ℕ) (h : History A) (e : Entry A) →
+    IsLegal ranges desks h → Fits ranges desks h e →
     IsNoTicketTakenTwice h → IsNoTicketTakenTwice (e ∷ h)
 never_taken_goes {A} ranges desks h e legal fits never = (by_entry e.event e.saved e.id fits.moves, never)
   where
     by_entry : (event : Event A) (saved : Bool) (id : ℕ) → (saved ≡ true → MayMove ranges h id event) →
         (k : ℕ) → (saved && takes_ticket event k) ≡ true → is_taken h k ≡ false
     by_entry (Take p number stop) true id moves k is =
-        subst (λ (i : ℕ). is_taken h i ≡ false) (same_number number k is) (not_taken ranges desks h p number legal (moves refl))
+        subst (λ (i : ℕ). is_taken h i ≡ false) (same_number number k is)
+        (not_taken ranges desks h p number legal (moves refl))
     by_entry event false id moves k is = cc
     by_entry event true id moves k is = cc
 
 -- at first the ranges hold all
-pub placed_first : {A : Type 0} (ranges : List Range) → AreDisjoint ranges → (let none : History A = [] in ArePlaced ranges none)
+pub placed_first : {A : Type 0} (ranges : List Range) → AreDisjoint ranges →
+    (let none : History A = [] in ArePlaced ranges none)
 placed_first {A} ranges apart n = record {
   somewhere = λ o. (FreeAt o.0, o.1);
   nowhere_else = one_place;

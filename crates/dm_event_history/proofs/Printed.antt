@@ -34,13 +34,15 @@ docs_keep e h id cut fresh had =
     if_not (prints_as e id) (printed_by e.event e.parts) (docs h id) (λ so. is_had e h id cut fresh had so) ∙ had
 
 -- the document under the identification of an entry of which labels left
-pub docs_own : {A : Type 0} (e : Entry A) (h : History A) (cut : CutDocument) → 0 < e.left → printed_by e.event e.parts ≡ Some cut →
+pub docs_own : {A : Type 0} (e : Entry A) (h : History A) (cut : CutDocument) → 0 < e.left →
+    printed_by e.event e.parts ≡ Some cut →
     docs (e ∷ h) e.id ≡ Some cut
 docs_own e h cut some is =
     if_so (prints_as e e.id) (printed_by e.event e.parts) (docs h e.id) (prints_as_so e e.id some refl) ∙ is
 
 -- only what a print prints leaves
-pub is_cut : {A : Type 0} (event : Event A) (reply : Reply A) (parts : List (List ℕ)) (left : ℕ) → LetsOut event reply parts left → 0 < left →
+pub is_cut : {A : Type 0} (event : Event A) (reply : Reply A) (parts : List (List ℕ)) (left : ℕ) →
+    LetsOut event reply parts left → 0 < left →
     (cut : CutDocument) × (printed_by event parts ≡ Some cut)
 is_cut (Print p document size scheme stop) reply parts left is some =
     (record { bytes = document; size = size; scheme = scheme; parts = parts }, refl)
@@ -50,13 +52,18 @@ is_cut event reply parts left is some = absurd (omega arith)
 pub is_unused : {A : Type 0} (ranges : List Range) (desks : ℕ) (h : History A) (id : ℕ) → IsLegal ranges desks h →
     docs h id ≡ None → IsUnused id h
 is_unused ranges desks [] id legal none = tt
-is_unused {A} ranges desks (e ∷ h) id legal none =
-    ((λ some same. twice some (prints_as_so e id some same)), is_unused ranges desks h id legal.1 (before (prints_as e id) refl))
+is_unused {A} ranges desks (e ∷ h) id legal none = (
+  (λ some same. twice some (prints_as_so e id some same)),
+  is_unused ranges desks h id legal.1
+      (before (prints_as e id) refl),
+)
   where
     twice : 0 < e.left → prints_as e id ≡ true → ⊥
     twice some is =
-        let t : (cut : CutDocument) × (printed_by e.event e.parts ≡ Some cut) = is_cut e.event e.reply e.parts e.left legal.0.lets_out some in
-        let taken : (if prints_as e id then printed_by e.event e.parts else docs h id) ≡ printed_by e.event e.parts = if_so (prints_as e id) (printed_by e.event e.parts) (docs h id) is in
+        let t : (cut : CutDocument) × (printed_by e.event e.parts ≡ Some cut) =
+        is_cut e.event e.reply e.parts e.left legal.0.lets_out some in
+        let taken : (if prints_as e id then printed_by e.event e.parts else docs h id) ≡ printed_by e.event e.parts =
+        if_so (prints_as e id) (printed_by e.event e.parts) (docs h id) is in
         let gone : printed_by e.event e.parts ≡ None = sym taken ∙ none in
         let same : printed_by e.event e.parts ≡ Some t.0 = t.1 in
         cc (gone, same)
@@ -66,14 +73,18 @@ is_unused {A} ranges desks (e ∷ h) id legal none =
     before false is = sym (if_not (prints_as e id) (printed_by e.event e.parts) (docs h id) (λ so. cc (so, is))) ∙ none
 
 -- what was printed was cut into its parts
-pub printed_cut : {A : Type 0} (ranges : List Range) (desks : ℕ) (h : History A) (id : ℕ) (cut : CutDocument) → IsLegal ranges desks h →
+pub printed_cut : {A : Type 0} (ranges : List Range) (desks : ℕ) (h : History A) (id : ℕ) (cut : CutDocument) →
+    IsLegal ranges desks h →
     docs h id ≡ Some cut → AreParts cut.size cut.scheme cut.bytes cut.parts
 printed_cut ranges desks [] id cut legal had = cc
 printed_cut {A} ranges desks (e ∷ h) id cut legal had = elim (decided (prints_as e id)) [
   | inl is ↦
-      (let own : printed_by e.event e.parts ≡ Some cut = sym (if_so (prints_as e id) (printed_by e.event e.parts) (docs h id) is) ∙ had in
-      subst (λ (o : Option CutDocument). IfSome o (λ c. AreParts c.size c.scheme c.bytes c.parts)) own (legal.0.parts (prints_as_means e id is).0))
+      (let own : printed_by e.event e.parts ≡ Some cut =
+      sym (if_so (prints_as e id) (printed_by e.event e.parts) (docs h id) is) ∙ had in
+      subst (λ (o : Option CutDocument). IfSome o (λ c. AreParts c.size c.scheme c.bytes c.parts)) own
+      (legal.0.parts (prints_as_means e id is).0))
   | inr not_so ↦
       printed_cut ranges desks h id cut legal.1
-      (sym (if_not (prints_as e id) (printed_by e.event e.parts) (docs h id) (λ so. true_false (prints_as e id) so not_so)) ∙ had)
+      (sym (if_not (prints_as e id) (printed_by e.event e.parts) (docs h id)
+      (λ so. true_false (prints_as e id) so not_so)) ∙ had)
 ]

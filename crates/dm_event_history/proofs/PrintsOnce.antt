@@ -9,7 +9,8 @@ use Rattle.dm_event_history.proofs.Batches.{all_of, count_all, batch_of, batches
 use Rattle.dm_event_history.proofs.ScannedLabels.{there_had_left, desk_within, not_there_had_not}
 use Rattle.dm_event_history.proofs.Gotten.{get_more, get_beyond}
 
-once_first : {A : Type 0} → (let none : History A = [] in PrintsOnceBy (batches_of none) (events_of none) (replies_of none))
+once_first : {A : Type 0} → (let none : History A = [] in
+    PrintsOnceBy (batches_of none) (events_of none) (replies_of none))
 once_first {A} = record {
   each_reply = refl;
   each_batch = refl;
@@ -20,8 +21,10 @@ once_first {A} = record {
   not_there = λ i desk label flips stop a b desk_there small. absurd (cc (a));
 }
 
-once_next : {A : Type 0} (ranges : List Range) (desks : ℕ) (h : History A) (e : Entry A) → IsLegal ranges desks (e ∷ h) → NeverTwice (e ∷ h) →
-    PrintsOnceBy (batches_of h) (events_of h) (replies_of h) → PrintsOnceBy (batches_of (e ∷ h)) (events_of (e ∷ h)) (replies_of (e ∷ h))
+once_next : {A : Type 0} (ranges : List Range) (desks : ℕ) (h : History A) (e : Entry A) →
+    IsLegal ranges desks (e ∷ h) → NeverTwice (e ∷ h) →
+    PrintsOnceBy (batches_of h) (events_of h) (replies_of h) →
+    PrintsOnceBy (batches_of (e ∷ h)) (events_of (e ∷ h)) (replies_of (e ∷ h))
 once_next {A} ranges desks h e legal never f = record {
   each_reply = replies_count (e ∷ h) ∙ sym (events_count (e ∷ h));
   each_batch = batches_count (e ∷ h) ∙ sym (events_count (e ∷ h));
@@ -30,7 +33,8 @@ once_next {A} ranges desks h e legal never f = record {
   once = one;
   there = λ i desk label flips stop reply. there_had_left ranges desks (e ∷ h) i desk label flips stop reply legal;
   not_there = λ i desk label flips stop asked answered there small.
-      not_there_had_not ranges desks (e ∷ h) i desk label flips stop legal (desk_within ranges desks (e ∷ h) desk legal there) small asked answered;
+      not_there_had_not ranges desks (e ∷ h) i desk label flips stop legal
+      (desk_within ranges desks (e ∷ h) desk legal there) small asked answered;
 }
   where
     fits : Fits ranges desks h e
@@ -38,58 +42,67 @@ once_next {A} ranges desks h e legal never f = record {
 
     tells : (i id first count : ℕ) → slice_get (replies_of (e ∷ h)) i ≡ Some (Printed id first count) →
         AllLeft (batches_of (e ∷ h)) i id first count
-    tells i id first count is = elim (before_or_last (replies_of h) e.reply (Printed id first count) (length h) i (replies_count h) is) [
-      | inl before ↦
-          (let t = f.told i id first count before in
-          let below = get_beyond (batches_of h) i (Some t.batch) t.there in record {
-            batch = t.batch;
-            there = get_more (batches_of h) (batch_of e ∷ []) i (Some t.batch) t.there;
-            id_is = t.id_is;
-            count_is = t.count_is;
-            all = t.all;
-            first_is = t.first_is ∙
-                ap (λ (l : List (Option Batch)). length (labels_of l)) (sym (take_keeps (batches_of h) (batch_of e ∷ []) i (omega arith)));
-          })
-      | inr last ↦
-          (let t = told_is ranges h e id first count fits.reply fits.lets_out last.1 in
-          subst (λ (k : ℕ). AllLeft (batches_of (e ∷ h)) k id first count) (sym last.0) (record {
-            batch = all_of e;
-            there = last_batch h e t.0;
-            id_is = sym t.1;
-            count_is = count_all e ∙ sym t.4;
-            all = sym t.3;
-            first_is = t.2 ∙ ap length (sym (out_is h)) ∙ ap (λ (l : List (Option Batch)). length (labels_of l)) (sym (whole_before h e));
-          }))
-    ]
+    tells i id first count is = elim (before_or_last (replies_of h) e.reply (Printed id first count) (length h) i
+        (replies_count h) is) [
+          | inl before ↦
+              (let t = f.told i id first count before in
+              let below = get_beyond (batches_of h) i (Some t.batch) t.there in record {
+                batch = t.batch;
+                there = get_more (batches_of h) (batch_of e ∷ []) i (Some t.batch) t.there;
+                id_is = t.id_is;
+                count_is = t.count_is;
+                all = t.all;
+                first_is = t.first_is ∙
+                    ap (λ (l : List (Option Batch)). length (labels_of l))
+                    (sym (take_keeps (batches_of h) (batch_of e ∷ []) i (omega arith)));
+              })
+          | inr last ↦
+              (let t = told_is ranges h e id first count fits.reply fits.lets_out last.1 in
+              subst (λ (k : ℕ). AllLeft (batches_of (e ∷ h)) k id first count) (sym last.0) (record {
+                batch = all_of e;
+                there = last_batch h e t.0;
+                id_is = sym t.1;
+                count_is = count_all e ∙ sym t.4;
+                all = sym t.3;
+                first_is = t.2 ∙ ap length (sym (out_is h)) ∙ ap (λ (l : List (Option Batch)). length (labels_of l))
+                    (sym (whole_before h e));
+              }))
+        ]
 
     prints : (i : ℕ) (batch : Batch) → slice_get (batches_of (e ∷ h)) i ≡ Some (Some batch) →
         LeftBy (events_of (e ∷ h)) (replies_of (e ∷ h)) i batch
-    prints i batch is = elim (before_or_last (batches_of h) (batch_of e) (Some batch) (length h) i (batches_count h) is) [
-      | inl before ↦ left_more (events_of h) (replies_of h) e.event e.reply i batch (f.printed i batch before)
-      | inr last ↦
-          (let t = batch_means e batch last.1 in
-          subst (λ (k : ℕ). LeftBy (events_of (e ∷ h)) (replies_of (e ∷ h)) k batch) (sym last.0)
-          (subst (λ (b : Batch). LeftBy (events_of (e ∷ h)) (replies_of (e ∷ h)) (length h) b) t.1 (last_prints ranges desks h e fits t.0)))
-    ]
+    prints i batch is = elim (before_or_last (batches_of h) (batch_of e) (Some batch) (length h) i
+        (batches_count h) is) [
+          | inl before ↦ left_more (events_of h) (replies_of h) e.event e.reply i batch (f.printed i batch before)
+          | inr last ↦
+              (let t = batch_means e batch last.1 in
+              subst (λ (k : ℕ). LeftBy (events_of (e ∷ h)) (replies_of (e ∷ h)) k batch) (sym last.0)
+              (subst (λ (b : Batch). LeftBy (events_of (e ∷ h)) (replies_of (e ∷ h)) (length h) b) t.1
+              (last_prints ranges desks h e fits t.0)))
+        ]
 
-    new : (i : ℕ) (was now : Batch) → slice_get (batches_of h) i ≡ Some (Some was) → batch_of e ≡ Some now → was.id ≡ now.id → ⊥
+    new : (i : ℕ) (was now : Batch) → slice_get (batches_of h) i ≡ Some (Some was) → batch_of e ≡ Some now →
+        was.id ≡ now.id → ⊥
     new i was now before last same = (let t = batch_means e now last in
         unused_is_none h i e.id was (never.0 t.0) before (same ∙ sym (ap (λ (b : Batch). b.id) t.1)))
 
-    one : (i j : ℕ) (a b : Batch) → slice_get (batches_of (e ∷ h)) i ≡ Some (Some a) → slice_get (batches_of (e ∷ h)) j ≡ Some (Some b) →
+    one : (i j : ℕ) (a b : Batch) → slice_get (batches_of (e ∷ h)) i ≡ Some (Some a) →
+        slice_get (batches_of (e ∷ h)) j ≡ Some (Some b) →
         a.id ≡ b.id → i ≡ j
-    one i j a b is_a is_b same = elim (before_or_last (batches_of h) (batch_of e) (Some a) (length h) i (batches_count h) is_a) [
-      | inl first ↦ elim (before_or_last (batches_of h) (batch_of e) (Some b) (length h) j (batches_count h) is_b) [
-        | inl second ↦ f.once i j a b first second same
-        | inr last ↦ absurd (new i a b first last.1 same)
-      ]
-      | inr here ↦ elim (before_or_last (batches_of h) (batch_of e) (Some b) (length h) j (batches_count h) is_b) [
-        | inl second ↦ absurd (new j b a second here.1 (sym same))
-        | inr last ↦ here.0 ∙ sym last.0
-      ]
-    ]
+    one i j a b is_a is_b same = elim (before_or_last (batches_of h) (batch_of e) (Some a) (length h) i
+        (batches_count h) is_a) [
+          | inl first ↦ elim (before_or_last (batches_of h) (batch_of e) (Some b) (length h) j (batches_count h) is_b) [
+            | inl second ↦ f.once i j a b first second same
+            | inr last ↦ absurd (new i a b first last.1 same)
+          ]
+          | inr here ↦ elim (before_or_last (batches_of h) (batch_of e) (Some b) (length h) j (batches_count h) is_b) [
+            | inl second ↦ absurd (new j b a second here.1 (sym same))
+            | inr last ↦ here.0 ∙ sym last.0
+          ]
+        ]
 
-pub prints_once : {A : Type 0} (ranges : List Range) (desks : ℕ) (h : History A) → IsLegal ranges desks h → NeverTwice h →
+pub prints_once : {A : Type 0} (ranges : List Range) (desks : ℕ) (h : History A) → IsLegal ranges desks h →
+    NeverTwice h →
     PrintsOnceBy (batches_of h) (events_of h) (replies_of h)
 prints_once ranges desks [] legal never = once_first
 prints_once ranges desks (e ∷ h) legal never =

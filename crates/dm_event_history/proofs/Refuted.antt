@@ -28,12 +28,15 @@ record StoppedPrint (batch : Batch) (printed : List ℕ) (most : ℕ) : Type 0 w
   pub some : 1 ≤ batch.left
   pub left_is : batch.left ≡ min most (count_of batch)
 
-stopped_print : {A : Type 0} (events : List (Event A)) (replies : List (Reply A)) (i printer most : ℕ) (batch : Batch) (printed : List ℕ) →
-    slice_get events i ≡ Some (print printer printed (stops.AfterLabels most)) → LeftBy events replies i batch → StoppedPrint batch printed most
+stopped_print : {A : Type 0} (events : List (Event A)) (replies : List (Reply A)) (i printer most : ℕ) (batch : Batch)
+    (printed : List ℕ) →
+    slice_get events i ≡ Some (print printer printed (stops.AfterLabels most)) → LeftBy events replies i batch →
+    StoppedPrint batch printed most
 stopped_print {A} events replies i printer most batch printed is left =
     let p = left.is_print in
     let d = batch.document in
-    let e : Some (Print p.printer d.bytes d.size d.scheme left.stop) ≡ Some (Print printer printed Side12 Ascii (stops.AfterLabels most)) =
+    let e : Some (Print p.printer d.bytes d.size d.scheme left.stop) ≡ Some (Print printer printed Side12 Ascii
+    (stops.AfterLabels most)) =
     sym p.event ∙ is in
     let stop_is : left.stop ≡ stops.AfterLabels most = cc (e) in record {
       document_is = cc (e);
@@ -48,28 +51,36 @@ stopped_print {A} events replies i printer most batch printed is left =
     }
 
 -- no label leaves by a print that is stopped before the first
-none_left : {A : Type 0} (events : List (Event A)) (replies : List (Reply A)) (i printer : ℕ) (batch : Batch) (printed : List ℕ) →
+none_left : {A : Type 0} (events : List (Event A)) (replies : List (Reply A)) (i printer : ℕ) (batch : Batch)
+    (printed : List ℕ) →
     slice_get events i ≡ Some (print printer printed (stops.AfterLabels 0)) → LeftBy events replies i batch → ⊥
 none_left events replies i printer batch printed is left =
     let p = stopped_print events replies i printer 0 batch printed is left in
     let some = p.some in let few : batch.left ≡ min 0 (count_of batch) = p.left_is in omega arith
 
 -- at most that many labels leave by a print that is stopped
-most_left : {A : Type 0} (events : List (Event A)) (replies : List (Reply A)) (i printer most : ℕ) (batch : Batch) (printed : List ℕ) →
-    slice_get events i ≡ Some (print printer printed (stops.AfterLabels most)) → LeftBy events replies i batch → batch.left ≤ most
+most_left : {A : Type 0} (events : List (Event A)) (replies : List (Reply A)) (i printer most : ℕ) (batch : Batch)
+    (printed : List ℕ) →
+    slice_get events i ≡ Some (print printer printed (stops.AfterLabels most)) → LeftBy events replies i batch →
+    batch.left ≤ most
 most_left events replies i printer most batch printed is left =
-    let few : batch.left ≡ min most (count_of batch) = (stopped_print events replies i printer most batch printed is left).left_is in omega arith
+    let few : batch.left ≡ min most (count_of batch) =
+    (stopped_print events replies i printer most batch printed is left).left_is in omega arith
 
 -- a print is of the document that it prints
-document_is : {A : Type 0} (events : List (Event A)) (replies : List (Reply A)) (i printer : ℕ) (batch : Batch) (printed : List ℕ) (stop : Stop) →
-    slice_get events i ≡ Some (print printer printed stop) → LeftBy events replies i batch → batch.document.bytes ≡ printed
+document_is : {A : Type 0} (events : List (Event A)) (replies : List (Reply A)) (i printer : ℕ) (batch : Batch)
+    (printed : List ℕ) (stop : Stop) →
+    slice_get events i ≡ Some (print printer printed stop) → LeftBy events replies i batch →
+    batch.document.bytes ≡ printed
 document_is {A} events replies i printer batch printed stop is left =
     let p = left.is_print in
     let d = batch.document in
-    let e : Some (Print p.printer d.bytes d.size d.scheme left.stop) ≡ Some (Print printer printed Side12 Ascii stop) = sym p.event ∙ is in cc (e)
+    let e : Some (Print p.printer d.bytes d.size d.scheme left.stop) ≡ Some (Print printer printed Side12 Ascii stop) =
+    sym p.event ∙ is in cc (e)
 
 -- what left before an event is a batch of one of the events before it
-printed_before : {A : Type 0} (batches : List (Option Batch)) (events : List (Event A)) (replies : List (Reply A)) (i id : ℕ) (bytes : List ℕ) →
+printed_before : {A : Type 0} (batches : List (Option Batch)) (events : List (Event A)) (replies : List (Reply A))
+    (i id : ℕ) (bytes : List ℕ) →
     PrintsOnceBy batches events replies → WasPrinted batches events replies i id bytes →
     (j : ℕ) × (batch : Batch) × (j < i) × LeftBy events replies j batch × (batch.document.bytes ≡ bytes)
 printed_before batches events replies i id bytes f w =
@@ -83,7 +94,8 @@ digits_differ same = (let a : ◌≡◌ {A = ℕ} 49 52 = cc (same) in omega ari
 
 never_printed_is : (A : Type 0) → ¬ IsFaithfulRun (never_printed A)
 never_printed_is A (batches, f) =
-    let t = printed_before batches events replies 1 (f.given 1 digits refl).1 digits f.prints (f.given 1 digits refl).3 in by_print t.0 t.1 t.2 t.3
+    let t = printed_before batches events replies 1 (f.given 1 digits refl).1 digits f.prints
+    (f.given 1 digits refl).3 in by_print t.0 t.1 t.2 t.3
   where
     events : List (Event A)
     events = map (λ one. one.0) (never_printed A)
@@ -97,7 +109,8 @@ never_printed_is A (batches, f) =
 
 wrong_document_is : (A : Type 0) → ¬ IsFaithfulRun (wrong_document A)
 wrong_document_is A (batches, f) =
-    let t = printed_before batches events replies 4 (f.given 4 digits refl).1 digits f.prints (f.given 4 digits refl).3 in by_print t.0 t.1 t.2 t.3 t.4
+    let t = printed_before batches events replies 4 (f.given 4 digits refl).1 digits f.prints
+    (f.given 4 digits refl).3 in by_print t.0 t.1 t.2 t.3 t.4
   where
     events : List (Event A)
     events = map (λ one. one.0) (wrong_document A)
@@ -115,7 +128,8 @@ wrong_document_is A (batches, f) =
 
 another_document_is : (A : Type 0) → ¬ IsFaithfulRun (another_document A)
 another_document_is A (batches, f) =
-    let t = printed_before batches events replies 3 (f.given 3 other_digits refl).1 other_digits f.prints (f.given 3 other_digits refl).3 in
+    let t = printed_before batches events replies 3 (f.given 3 other_digits refl).1 other_digits f.prints
+    (f.given 3 other_digits refl).3 in
     by_print t.0 t.1 t.2 t.3 t.4
   where
     events : List (Event A)
@@ -125,13 +139,15 @@ another_document_is A (batches, f) =
     replies = map (λ one. one.1) (another_document A)
 
     by_print : (j : ℕ) (batch : Batch) → j < 3 → LeftBy events replies j batch → batch.document.bytes ≡ other_digits → ⊥
-    by_print zero batch before left bytes = digits_differ (sym (document_is events replies 0 0 batch digits stops.None refl left) ∙ bytes)
+    by_print zero batch before left bytes =
+        digits_differ (sym (document_is events replies 0 0 batch digits stops.None refl left) ∙ bytes)
     by_print (suc zero) batch before left bytes = (let x = left.is_print.event in cc (x))
     by_print (suc (suc zero)) batch before left bytes = (let x = left.is_print.event in cc (x))
     by_print (suc (suc (suc j))) batch before left bytes = omega arith
 
 -- a batch has a label, as one left
-some_count : {A : Type 0} (events : List (Event A)) (replies : List (Reply A)) (i : ℕ) (batch : Batch) → LeftBy events replies i batch → 1 ≤ count_of batch
+some_count : {A : Type 0} (events : List (Event A)) (replies : List (Reply A)) (i : ℕ) (batch : Batch) →
+    LeftBy events replies i batch → 1 ≤ count_of batch
 some_count events replies i batch left =
     let not_none : 1 ≤ batch.left = left.not_none in
     elim left.ends [
@@ -140,22 +156,26 @@ some_count events replies i batch left =
     ]
 
 -- the first of two events is a print, so no label was scanned before the second
-none_scanned : {A : Type 0} (batches : List (Option Batch)) (first second : Event A) (replies : List (Reply A)) (id m n : ℕ) (document : List ℕ) →
+none_scanned : {A : Type 0} (batches : List (Option Batch)) (first second : Event A) (replies : List (Reply A))
+    (id m n : ℕ) (document : List ℕ) →
     first ≡ print 0 document stops.None → WasScanned batches (first ∷ second ∷ []) replies 1 id m n → ⊥
 none_scanned {A} batches first second replies id m n document is w = by_place w.k w.before w.scan
   where
-    by_place : (k : ℕ) → k < 1 → IsScanOf batches (first ∷ second ∷ []) k (record { id = id; number = m; count = n }) → ⊥
+    by_place : (k : ℕ) → k < 1 → IsScanOf batches (first ∷ second ∷ []) k
+        (record { id = id; number = m; count = n }) → ⊥
     by_place zero before scan =
         let e : Some first ≡ Some (Scan scan.desk scan.label scan.flips scan.stop) = scan.event in
         let x : first ≡ Scan scan.desk scan.label scan.flips scan.stop = cc (e) in
-        let y : Print 0 document Side12 Ascii stops.None ≡ Scan scan.desk scan.label scan.flips scan.stop = sym is ∙ x in cc (y)
+        let y : Print 0 document Side12 Ascii stops.None ≡ Scan scan.desk scan.label scan.flips scan.stop = sym is ∙
+        x in cc (y)
     by_place (suc k) before scan = omega arith
 
 never_scanned_is : (A : Type 0) → ¬ IsFaithfulRun (never_scanned A)
 never_scanned_is A (batches, f) =
     let w = (f.given 1 digits refl).3 in
     let left = f.prints.printed w.printed.j w.batch w.printed.there in
-    none_scanned batches (print 0 digits stops.None) (Ask 0 0) (map (λ one. one.1) (never_scanned A)) (f.given 1 digits refl).1 1 (count_of w.batch) digits refl
+    none_scanned batches (print 0 digits stops.None) (Ask 0 0) (map (λ one. one.1) (never_scanned A))
+    (f.given 1 digits refl).1 1 (count_of w.batch) digits refl
     (w.scanned 1 (omega arith)
     (some_count (map (λ one. one.0) (never_scanned A)) (map (λ one. one.1) (never_scanned A)) w.printed.j w.batch left))
 
@@ -163,11 +183,13 @@ begun_unscanned_is : (A : Type 0) → ¬ IsFaithfulRun (begun_unscanned A)
 begun_unscanned_is A (batches, f) =
     let w = f.begun 1 0 0 2 refl refl in
     let t = w.not_all in
-    none_scanned batches (print 0 digits stops.None) (Ask 0 0) (map (λ one. one.1) (begun_unscanned A)) 0 t.0 (count_of w.batch) digits refl (w.scanned t.0 t.1 t.2 t.3)
+    none_scanned batches (print 0 digits stops.None) (Ask 0 0) (map (λ one. one.1) (begun_unscanned A)) 0 t.0
+    (count_of w.batch) digits refl (w.scanned t.0 t.1 t.2 t.3)
 
 exported_unscanned_is : (A : Type 0) → ¬ IsFaithfulRun (exported_unscanned A)
 exported_unscanned_is A (batches, f) =
-    none_scanned batches (print 0 digits stops.None) (Export 0 0) (map (λ one. one.1) (exported_unscanned A)) 0 1 2 digits refl ((f.exported 1 0 0 2 1 refl).2 1 refl)
+    none_scanned batches (print 0 digits stops.None) (Export 0 0)
+    (map (λ one. one.1) (exported_unscanned A)) 0 1 2 digits refl ((f.exported 1 0 0 2 1 refl).2 1 refl)
 
 -- a document is cut into two parts at least
 parts_count : (document : List ℕ) (from : ℕ) (ends : List ℕ) → length (parts_from document from ends) ≡ length ends
@@ -193,11 +215,17 @@ half_printed_is A (batches, f) = by_batches batches f
 
     -- of one label or none there is none with number 2
     no_second : (batch : Batch) (left label id n : ℕ) → left ≤ 1 →
-        slice_get (names_from batch.id (count_of batch) 1 left ++ []) label ≡ Some (record { id = id; number = 2; count = n }) → ⊥
+        slice_get (names_from batch.id (count_of batch) 1 left ++ []) label ≡ Some (record {
+          id = id;
+          number = 2;
+          count = n;
+        }) → ⊥
     no_second batch zero label id n few is = cc (is)
     no_second batch (suc zero) zero id n few is =
-        let e : ◌≡◌ {A = Option LabelName} (Some (record { id = batch.id; number = 1; count = count_of batch })) (Some (record { id = id; number = 2; count = n })) = is in
-        let same : ◌≡◌ {A = LabelName} (record { id = batch.id; number = 1; count = count_of batch }) (record { id = id; number = 2; count = n }) = cc (e) in
+        let e : ◌≡◌ {A = Option LabelName} (Some (record { id = batch.id; number = 1; count = count_of batch }))
+        (Some (record { id = id; number = 2; count = n })) = is in
+        let same : ◌≡◌ {A = LabelName} (record { id = batch.id; number = 1; count = count_of batch })
+        (record { id = id; number = 2; count = n }) = cc (e) in
         let numbers : ◌≡◌ {A = ℕ} 1 2 = ap {A = LabelName} {B = ℕ} (λ (l : LabelName). l.number) same in omega arith
     no_second batch (suc zero) (suc label) id n few is = cc (is)
     no_second batch (suc (suc left)) label id n few is = omega arith
@@ -208,7 +236,8 @@ half_printed_is A (batches, f) = by_batches batches f
     by_scan batch rest (suc zero) id n few before scan = no_second batch batch.left scan.label id n few scan.had_left
     by_scan batch rest (suc (suc k)) id n few before scan = omega arith
 
-    by_print : (batches : List (Option Batch)) (j id : ℕ) (batch : Batch) → j < 2 → slice_get batches j ≡ Some (Some batch) →
+    by_print : (batches : List (Option Batch)) (j id : ℕ) (batch : Batch) → j < 2 →
+        slice_get batches j ≡ Some (Some batch) →
         LeftBy events replies j batch → WasScanned batches events replies 2 id 2 (count_of batch) → ⊥
     by_print [] j id batch before there left w = cc (there)
     by_print (None ∷ rest) zero id batch before there left w = cc (there)
@@ -230,16 +259,19 @@ half_printed_is A (batches, f) = by_batches batches f
         (w.scanned 2 (omega arith) (two_parts events replies w.printed.j w.batch left))
 
 -- a scan that is answered as memory was refused saves nothing
-unsaved : {A : Type 0} (label : ℕ) (event : Event A) (reply : Reply A) → scan label ≡ event → Memory ≡ reply → may_save event reply ≡ true → ⊥
+unsaved : {A : Type 0} (label : ℕ) (event : Event A) (reply : Reply A) → scan label ≡ event → Memory ≡ reply →
+    may_save event reply ≡ true → ⊥
 unsaved {A} label event reply asked answered saves =
     let x : may_save {A = A} (scan label) Memory ≡ true =
-    subst (λ (v : Event A). may_save v Memory ≡ true) (sym asked) (subst (λ (r : Reply A). may_save event r ≡ true) (sym answered) saves) in cc (x)
+    subst (λ (v : Event A). may_save v Memory ≡ true) (sym asked)
+    (subst (λ (r : Reply A). may_save event r ≡ true) (sym answered) saves) in cc (x)
 
 never_saved_is : (A : Type 0) → ¬ IsFaithfulRun (never_saved A)
 never_saved_is A (batches, f) =
     let w = (f.given 3 digits refl).3 in
     let left = f.prints.printed w.printed.j w.batch w.printed.there in
-    let t = w.scanned 1 (omega arith) (some_count events replies w.printed.j w.batch left) in by_scan t.k t.before t.scan.event t.saved
+    let t = w.scanned 1 (omega arith) (some_count events replies w.printed.j w.batch left) in
+    by_scan t.k t.before t.scan.event t.saved
   where
     events : List (Event A)
     events = map (λ one. one.0) (never_saved A)
@@ -247,7 +279,8 @@ never_saved_is A (batches, f) =
     replies : List (Reply A)
     replies = map (λ one. one.1) (never_saved A)
 
-    by_scan : (k : ℕ) → k < 3 → {desk label : ℕ} {flips : List (ℕ × ℕ)} {stop : Stop} → slice_get events k ≡ Some (Scan desk label flips stop) →
+    by_scan : (k : ℕ) → k < 3 → {desk label : ℕ} {flips : List (ℕ × ℕ)} {stop : Stop} →
+        slice_get events k ≡ Some (Scan desk label flips stop) →
         MayHaveSaved events replies k → ⊥
     by_scan zero before is saved = cc (is)
     by_scan (suc zero) before is saved =
@@ -273,11 +306,13 @@ first_label : (batch : Batch) (batches : List (Option Batch)) (name : LabelName)
     slice_get (labels_of (Some batch ∷ batches)) 0 ≡ Some name → batch.id ≡ name.id
 first_label batch batches name some is = by_count batch.left some is
   where
-    by_count : (left : ℕ) → 1 ≤ left → slice_get (names_from batch.id (count_of batch) 1 left ++ labels_of batches) 0 ≡ Some name → batch.id ≡ name.id
+    by_count : (left : ℕ) → 1 ≤ left →
+        slice_get (names_from batch.id (count_of batch) 1 left ++ labels_of batches) 0 ≡ Some name → batch.id ≡ name.id
     by_count zero some is = absurd (omega arith)
     by_count (suc left) some is =
         let e : Some (record { id = batch.id; number = 1; count = count_of batch }) ≡ Some name = is in
-        let same : record { id = batch.id; number = 1; count = count_of batch } ≡ name = cc (e) in ap (λ (l : LabelName). l.id) same
+        let same : record { id = batch.id; number = 1; count = count_of batch } ≡ name = cc (e) in
+        ap (λ (l : LabelName). l.id) same
 
 printed_twice_is : (A : Type 0) → ¬ IsFaithfulRun (printed_twice A)
 printed_twice_is A (batches, f) = by_batches batches f
@@ -301,8 +336,13 @@ printed_twice_is A (batches, f) = by_batches batches f
         let e : Some (Scan 0 0 [] stops.None) ≡ Some (Scan s.desk s.label s.flips s.stop) = s.event in
         let label_is : 0 ≡ s.label = cc (e) in
         let had : slice_get (labels_of (Some batch ∷ take 2 rest)) 0 ≡ Some (record { id = 0; number = 1; count = 2 }) =
-        subst (λ (i : ℕ). slice_get (labels_of (Some batch ∷ take 2 rest)) i ≡ Some (record { id = 0; number = 1; count = 2 })) (sym label_is) s.had_left in
-        let same : batch.id ≡ 0 = first_label batch (take 2 rest) (record { id = 0; number = 1; count = 2 }) p.not_none had in
+        subst (λ (i : ℕ). slice_get (labels_of (Some batch ∷ take 2 rest)) i ≡ Some (record {
+          id = 0;
+          number = 1;
+          count = 2;
+        })) (sym label_is) s.had_left in
+        let same : batch.id ≡ 0 = first_label batch (take 2 rest)
+        (record { id = 0; number = 1; count = 2 }) p.not_none had in
         let place : ◌≡◌ {A = ℕ} 0 2 = f.prints.once 0 2 batch t.batch refl t.there (same ∙ sym t.id_is) in omega arith
 
 printed_unseen_is : (A : Type 0) → ¬ PrintsOnceRun unseen_labels (printed_unseen A)
@@ -314,7 +354,8 @@ printed_unseen_is A (batches, labels_are, p) = by_batches batches labels_are p
     replies : List (Reply A)
     replies = map (λ one. one.1) (printed_unseen A)
 
-    by_batches : (batches : List (Option Batch)) → labels_of batches ≡ unseen_labels → PrintsOnceBy batches events replies → ⊥
+    by_batches : (batches : List (Option Batch)) → labels_of batches ≡ unseen_labels →
+        PrintsOnceBy batches events replies → ⊥
     by_batches [] are p = (let t = (p.told 2 0 1 2 refl).there in cc (t))
     by_batches (None ∷ []) are p = (let t = (p.told 2 0 1 2 refl).there in cc (t))
     by_batches (None ∷ None ∷ rest) are p = (let t : ◌≡◌ {A = ℕ} 1 0 = (p.told 2 0 1 2 refl).first_is in omega arith)
@@ -347,7 +388,8 @@ none_first batch some few = by_count batch.left some few
 shown_not_left_is : (A : Type 0) → ¬ IsFaithfulRun (shown_not_left A)
 shown_not_left_is A (batches, f) =
     let w = (f.given 5 digits refl).3 in
-    by_print w.printed.j w.batch w.printed.before w.printed.there (f.prints.printed w.printed.j w.batch w.printed.there) w.bytes_are
+    by_print w.printed.j w.batch w.printed.before w.printed.there
+    (f.prints.printed w.printed.j w.batch w.printed.there) w.bytes_are
   where
     events : List (Event A)
     events = map (λ one. one.0) (shown_not_left A)
@@ -384,7 +426,8 @@ shown_not_left_is A (batches, f) =
         let counts : own.left ≡ batch.left = ap (λ (b : Batch). b.left) same in
         none_first own (omega arith) few
 
-    by_print : (j : ℕ) (batch : Batch) → j < 5 → slice_get batches j ≡ Some (Some batch) → LeftBy events replies j batch →
+    by_print : (j : ℕ) (batch : Batch) → j < 5 → slice_get batches j ≡ Some (Some batch) →
+        LeftBy events replies j batch →
         batch.document.bytes ≡ digits → ⊥
     by_print zero batch before there left bytes = first batches batch there left.not_none few
     by_print (suc zero) batch before there left bytes = (let x = left.is_print.event in cc (x))
@@ -414,14 +457,24 @@ shown_left_is A (batches, f) = by_batches batches f
         f.scanned 3 (record { id = 10; m = 1; n = 2; kind = New }) refl in
         let e : Some (Scan 0 0 [] stops.None) ≡ Some (Scan s.desk s.label s.flips s.stop) = s.event in
         let label_is : 0 ≡ s.label = cc (e) in
-        let had : slice_get (labels_of (Some batch ∷ take 2 rest)) 0 ≡ Some (record { id = 10; number = 1; count = 2 }) =
-        subst (λ (i : ℕ). slice_get (labels_of (Some batch ∷ take 2 rest)) i ≡ Some (record { id = 10; number = 1; count = 2 })) (sym label_is) s.had_left in
-        let own : batch.id ≡ 10 = first_label batch (take 2 rest) (record { id = 10; number = 1; count = 2 }) p.not_none had in
+        let had : slice_get (labels_of (Some batch ∷ take 2 rest)) 0 ≡ Some (record {
+          id = 10;
+          number = 1;
+          count = 2;
+        }) =
+        subst (λ (i : ℕ). slice_get (labels_of (Some batch ∷ take 2 rest)) i ≡ Some (record {
+          id = 10;
+          number = 1;
+          count = 2;
+        })) (sym label_is) s.had_left in
+        let own : batch.id ≡ 10 = first_label batch (take 2 rest)
+        (record { id = 10; number = 1; count = 2 }) p.not_none had in
         let g = f.given 5 other_digits refl in
         let w = g.3 in
         let asked : Some (Ask 0 10) ≡ Some (Ask g.0 g.1) = g.2 in
         let id_is : 10 ≡ g.1 = cc (asked) in
-        let place : 0 ≡ w.printed.j = f.prints.once 0 w.printed.j batch w.batch refl w.printed.there (own ∙ id_is ∙ sym w.printed.id_is) in
+        let place : 0 ≡ w.printed.j = f.prints.once 0 w.printed.j batch w.batch refl w.printed.there
+        (own ∙ id_is ∙ sym w.printed.id_is) in
         let x : Some (Some batch) ≡ Some (Some w.batch) =
         subst (λ (j : ℕ). slice_get (Some batch ∷ rest) j ≡ Some (Some w.batch)) (sym place) w.printed.there in
         let same : batch ≡ w.batch = cc (x) in
@@ -444,7 +497,8 @@ printed_after_forgotten_is A (batches, f) = by_batches batches f
         let e : Some (Scan 0 0 [] (stops.AfterLabels 0)) ≡ Some (Scan s.desk s.label s.flips s.stop) = s.event in
         let label_is : 0 ≡ s.label = cc (e) in
         first_label batch [] (record { id = 0; number = m; count = n }) some
-        (subst (λ (i : ℕ). slice_get (labels_of (Some batch ∷ [])) i ≡ Some (record { id = 0; number = m; count = n })) (sym label_is) s.had_left)
+        (subst (λ (i : ℕ). slice_get (labels_of (Some batch ∷ [])) i ≡ Some (record { id = 0; number = m; count = n }))
+        (sym label_is) s.had_left)
     by_scan batch rest m n (suc (suc k)) some before s = absurd (omega arith)
 
     by_batches : (batches : List (Option Batch)) → IsFaithfulBy batches events replies → ⊥
@@ -461,7 +515,8 @@ printed_after_forgotten_is A (batches, f) = by_batches batches f
 -- ---- tickets
 
 numbered_twice_is : (A : Type 0) → ¬ TakesOnceRun (numbered_twice A)
-numbered_twice_is A t = (let place : ◌≡◌ {A = ℕ} 0 1 = t.numbered 0 1 0 first_ticket first_ticket refl refl in omega arith)
+numbered_twice_is A t = (let place : ◌≡◌ {A = ℕ} 0 1 = t.numbered 0 1 0 first_ticket first_ticket refl refl in
+    omega arith)
 
 taken_twice_is : (A : Type 0) → ¬ TakesOnceRun (taken_twice A)
 taken_twice_is A t =
@@ -472,11 +527,13 @@ overlaps_is : (A : Type 0) → ¬ TakesOnceRun (overlaps A)
 overlaps_is A t = t.no_overlap 1 refl
 
 one_serial_is : (A : Type 0) → ¬ TakesOnceRun (one_serial A)
-one_serial_is A t = (let place : ◌≡◌ {A = ℕ} 0 1 = t.serials 0 1 0 1 first_ticket first_ticket refl refl refl refl in omega arith)
+one_serial_is A t = (let place : ◌≡◌ {A = ℕ} 0 1 = t.serials 0 1 0 1 first_ticket first_ticket refl refl refl refl in
+    omega arith)
 
 taken_though_old_is : (A : Type 0) → ¬ TakesOnceRun (taken_though_old A)
 taken_though_old_is A t =
-    let before : 4 < 3 = t.old 3 4 1 0 stops.None refl refl (record { stop = stops.None; event = refl; reply = refl }) in omega arith
+    let before : 4 < 3 = t.old 3 4 1 0 stops.None refl refl
+    (record { stop = stops.None; event = refl; reply = refl }) in omega arith
 
 taken_elsewhere_is : (A : Type 0) → ¬ TakesOnceRun (taken_elsewhere A)
 taken_elsewhere_is A t = by_give (t.given 1 2 0 (record { stop = stops.None; event = refl; reply = refl }))
@@ -487,7 +544,8 @@ taken_elsewhere_is A t = by_give (t.given 1 2 0 (record { stop = stops.None; eve
     replies : List (Reply A)
     replies = map (λ one. one.1) (taken_elsewhere A)
 
-    by_place : (j : ℕ) → j < 1 → (giver : ℕ) (range : Range) (stop : Stop) → slice_get events j ≡ Some (Give giver 2 range stop) → ⊥
+    by_place : (j : ℕ) → j < 1 → (giver : ℕ) (range : Range) (stop : Stop) →
+        slice_get events j ≡ Some (Give giver 2 range stop) → ⊥
     by_place zero before giver range stop is =
         let e : Some (Give 0 1 first_ticket.range stops.None) ≡ Some (Give giver 2 range stop) = is in
         let same : ◌≡◌ {A = ℕ} 1 2 = cc (e) in omega arith
@@ -506,7 +564,8 @@ never_left_is A (batches, f) = by_batches batches f
     replies = map (λ one. one.1) (never_left A)
 
     -- of one label or none there is no second
-    no_second : (batch : Batch) (left : ℕ) (name : LabelName) → left ≤ 1 → slice_get (names_from batch.id (count_of batch) 1 left ++ []) 1 ≡ Some name → ⊥
+    no_second : (batch : Batch) (left : ℕ) (name : LabelName) → left ≤ 1 →
+        slice_get (names_from batch.id (count_of batch) 1 left ++ []) 1 ≡ Some name → ⊥
     no_second batch zero name few is = cc (is)
     no_second batch (suc zero) name few is = cc (is)
     no_second batch (suc (suc left)) name few is = omega arith
@@ -514,10 +573,12 @@ never_left_is A (batches, f) = by_batches batches f
     told : (batches : List (Option Batch)) → IsFaithfulBy batches events replies →
         slice_get (labels_of (take 1 batches)) 1 ≡ Some (record { id = 0; number = 2; count = 2 })
     told batches f =
-        let s : IsScanOf batches events 1 (record { id = 0; number = 2; count = 2 }) = f.scanned 1 (record { id = 0; m = 2; n = 2; kind = New }) refl in
+        let s : IsScanOf batches events 1 (record { id = 0; number = 2; count = 2 }) =
+        f.scanned 1 (record { id = 0; m = 2; n = 2; kind = New }) refl in
         let e : Some (Scan 0 1 [] stops.None) ≡ Some (Scan s.desk s.label s.flips s.stop) = s.event in
         let label_is : 1 ≡ s.label = cc (e) in
-        subst (λ (i : ℕ). slice_get (labels_of (take 1 batches)) i ≡ Some (record { id = 0; number = 2; count = 2 })) (sym label_is) s.had_left
+        subst (λ (i : ℕ). slice_get (labels_of (take 1 batches)) i ≡ Some (record { id = 0; number = 2; count = 2 }))
+        (sym label_is) s.had_left
 
     by_batches : (batches : List (Option Batch)) → IsFaithfulBy batches events replies → ⊥
     by_batches [] f = (let t = told [] f in cc (t))
@@ -531,14 +592,17 @@ never_left_is A (batches, f) = by_batches batches f
 
 never_exported_is : (A : Type 0) → ¬ ImportsExportsRun (never_exported A)
 never_exported_is A t =
-    (let w = (t.exported 0 (record { id = 0; n = 2; added = 1; kind = New }) refl).4 in let before : w.j < 0 = w.before in omega arith)
+    (let w = (t.exported 0 (record { id = 0; n = 2; added = 1; kind = New }) refl).4 in
+    let before : w.j < 0 = w.before in omega arith)
 
 imported_another_page_is : (A : Type 0) → ¬ ImportsExportsRun (imported_another_page A)
 imported_another_page_is A t =
-    (let w = (t.exported 1 (record { id = 0; n = 2; added = 2; kind = New }) refl).4 in by_place w.j w.before w.mask w.reply (w.added 2 refl))
+    (let w = (t.exported 1 (record { id = 0; n = 2; added = 2; kind = New }) refl).4 in
+    by_place w.j w.before w.mask w.reply (w.added 2 refl))
   where
     by_place : (j : ℕ) → j < 1 → {export : ℕ} (mask : ℕ) →
-        slice_get (map (λ one. one.1) (imported_another_page A)) j ≡ Some (Exported export 0 2 mask) → HasPage mask 2 → ⊥
+        slice_get (map (λ one. one.1) (imported_another_page A)) j ≡ Some (Exported export 0 2 mask) →
+        HasPage mask 2 → ⊥
     by_place zero before {export} mask is page =
         let e : ◌≡◌ {A = Option (Reply A)} (Some (Exported 0 0 2 1)) (Some (Exported export 0 2 mask)) = is in
         let same : 1 ≡ mask = cc (e) in

@@ -67,7 +67,8 @@ right_document_is A = (
     };
     scanned = two_scanned;
     given = one_given;
-    same = λ i j desk at id first second asked answered asked_too answered_too. sym (only_given i first answered) ∙ only_given j second answered_too;
+    same = λ i j desk at id first second asked answered asked_too answered_too. sym (only_given i first answered) ∙
+        only_given j second answered_too;
     begun = λ i desk id missing asked answered. absurd (none_begun i missing answered);
     forgotten = λ i desk id stop asked answered. absurd (none_forgotten i answered);
     exported = λ i index id n mask answered. absurd (none_exported i index id n mask answered);
@@ -82,7 +83,12 @@ right_document_is A = (
     replies = map (λ one. one.1) (right_document A)
 
     document : CutDocument
-    document = record { bytes = other_digits; size = Side12; scheme = Ascii; parts = (52 ∷ 51 ∷ []) ∷ (50 ∷ 49 ∷ []) ∷ [] }
+    document = record {
+      bytes = other_digits;
+      size = Side12;
+      scheme = Ascii;
+      parts = (52 ∷ 51 ∷ []) ∷ (50 ∷ 49 ∷ []) ∷ [];
+    }
 
     batch : Batch
     batch = record { id = 10; document = document; left = 2 }
@@ -98,7 +104,8 @@ right_document_is A = (
       not_none = omega arith;
     }
 
-    none_told : (i id first count : ℕ) → slice_get replies i ≡ Some (Printed id first count) → AllLeft batches i id first count
+    none_told : (i id first count : ℕ) → slice_get replies i ≡ Some (Printed id first count) →
+        AllLeft batches i id first count
     none_told zero id first count is = absurd (cc (is))
     none_told (suc zero) id first count is = absurd (cc (is))
     none_told (suc (suc zero)) id first count is = absurd (cc (is))
@@ -147,7 +154,8 @@ right_document_is A = (
     none_conflicts (suc (suc (suc (suc (suc i))))) is = cc (is)
 
     -- the two scans are of the two labels that had left
-    are_there : (i desk label : ℕ) (flips : List (ℕ × ℕ)) (stop : Stop) (reply : Reply A) → slice_get events i ≡ Some (Scan desk label flips stop) →
+    are_there : (i desk label : ℕ) (flips : List (ℕ × ℕ)) (stop : Stop) (reply : Reply A) →
+        slice_get events i ≡ Some (Scan desk label flips stop) →
         slice_get replies i ≡ Some reply → reply ≢ NoSuch → label < length (labels_of (take i batches))
     are_there zero desk label flips stop reply is answered such = absurd (cc (is))
     are_there (suc zero) desk label flips stop reply is answered such = absurd (cc (is))
@@ -171,9 +179,11 @@ right_document_is A = (
     one_printed : (i : ℕ) (other : Batch) → slice_get batches i ≡ Some (Some other) → LeftBy events replies i other
     one_printed i other is =
         let t = only_batch i other is in
-        subst (λ (k : ℕ). LeftBy events replies k other) (sym t.0) (subst (λ (b : Batch). LeftBy events replies 1 b) t.1 left)
+        subst (λ (k : ℕ). LeftBy events replies k other) (sym t.0)
+        (subst (λ (b : Batch). LeftBy events replies 1 b) t.1 left)
 
-    one : (i j : ℕ) (first second : Batch) → slice_get batches i ≡ Some (Some first) → slice_get batches j ≡ Some (Some second) →
+    one : (i j : ℕ) (first second : Batch) → slice_get batches i ≡ Some (Some first) →
+        slice_get batches j ≡ Some (Some second) →
         first.id ≡ second.id → i ≡ j
     one i j first second a b same = (only_batch i first a).0 ∙ sym (only_batch j second b).0
 
@@ -184,10 +194,22 @@ right_document_is A = (
     second_scan = record { desk = 0; label = 1; flips = []; stop = stops.None; event = refl; had_left = refl }
 
     first_saved : MayHaveSaved events replies 2
-    first_saved = record { event = scan 0; asked = refl; reply = Scanned (page 10 1 New); answered = refl; saves = refl }
+    first_saved = record {
+      event = scan 0;
+      asked = refl;
+      reply = Scanned (page 10 1 New);
+      answered = refl;
+      saves = refl;
+    }
 
     second_saved : MayHaveSaved events replies 3
-    second_saved = record { event = scan 1; asked = refl; reply = Scanned (page 10 2 Complete); answered = refl; saves = refl }
+    second_saved = record {
+      event = scan 1;
+      asked = refl;
+      reply = Scanned (page 10 2 Complete);
+      answered = refl;
+      saves = refl;
+    }
 
     two_scanned : (i : ℕ) (accepted : Accepted) → slice_get replies i ≡ Some (Scanned accepted) →
         IsScanOf batches events i (record { id = accepted.id; number = accepted.m; count = accepted.n })
@@ -196,11 +218,13 @@ right_document_is A = (
     two_scanned (suc (suc zero)) accepted is =
         let e : ◌≡◌ {A = Option (Reply A)} (Some (Scanned (page 10 1 New))) (Some (Scanned accepted)) = is in
         let same : page 10 1 New ≡ accepted = cc (e) in
-        subst (λ (a : Accepted). IsScanOf batches events 2 (record { id = a.id; number = a.m; count = a.n })) same first_scan
+        subst (λ (a : Accepted). IsScanOf batches events 2 (record { id = a.id; number = a.m; count = a.n })) same
+        first_scan
     two_scanned (suc (suc (suc zero))) accepted is =
         let e : ◌≡◌ {A = Option (Reply A)} (Some (Scanned (page 10 2 Complete))) (Some (Scanned accepted)) = is in
         let same : page 10 2 Complete ≡ accepted = cc (e) in
-        subst (λ (a : Accepted). IsScanOf batches events 3 (record { id = a.id; number = a.m; count = a.n })) same second_scan
+        subst (λ (a : Accepted). IsScanOf batches events 3 (record { id = a.id; number = a.m; count = a.n })) same
+        second_scan
     two_scanned (suc (suc (suc (suc zero)))) accepted is = absurd (cc (is))
     two_scanned (suc (suc (suc (suc (suc i))))) accepted is = absurd (cc (is))
 
@@ -215,16 +239,25 @@ right_document_is A = (
         scans : (m : ℕ) → 1 ≤ m → m ≤ 2 → WasScanned batches events replies 4 10 m 2
         scans zero first last = absurd (omega arith)
         scans (suc zero) first last = record { k = 2; before = omega arith; scan = first_scan; saved = first_saved }
-        scans (suc (suc zero)) first last = record { k = 3; before = omega arith; scan = second_scan; saved = second_saved }
+        scans (suc (suc zero)) first last = record {
+          k = 3;
+          before = omega arith;
+          scan = second_scan;
+          saved = second_saved;
+        }
         scans (suc (suc (suc m))) first last = absurd (omega arith)
 
-    only_document : (i : ℕ) (document : List ℕ) → slice_get replies i ≡ Some (Document document) → (i ≡ 4) × (other_digits ≡ document)
+    only_document : (i : ℕ) (document : List ℕ) → slice_get replies i ≡ Some (Document document) →
+        (i ≡ 4) × (other_digits ≡ document)
     only_document zero document is = absurd (cc (is))
     only_document (suc zero) document is = absurd (cc (is))
     only_document (suc (suc zero)) document is = absurd (cc (is))
     only_document (suc (suc (suc zero))) document is = absurd (cc (is))
-    only_document (suc (suc (suc (suc zero)))) document is =
-        (refl, (let e : ◌≡◌ {A = Option (Reply A)} (Some (Document other_digits)) (Some (Document document)) = is in cc (e)))
+    only_document (suc (suc (suc (suc zero)))) document is = (
+      refl,
+      (let e : ◌≡◌ {A = Option (Reply A)} (Some (Document other_digits)) (Some (Document document)) = is in
+          cc (e)),
+    )
     only_document (suc (suc (suc (suc (suc i))))) document is = absurd (cc (is))
 
     only_given : (i : ℕ) (document : List ℕ) → slice_get replies i ≡ Some (Document document) → other_digits ≡ document

@@ -47,13 +47,15 @@ left_before {A} h e i below =
     let all = batches_count h in
     ap (λ (l : List (Option Batch)). length (labels_of l)) (take_keeps (batches_of h) (batch_of e ∷ []) i (omega arith))
 
-left_at_last : {A : Type 0} (h : History A) (e : Entry A) → length (labels_of (take (length h) (batches_of (e ∷ h)))) ≡ length (out h)
+left_at_last : {A : Type 0} (h : History A) (e : Entry A) →
+    length (labels_of (take (length h) (batches_of (e ∷ h)))) ≡ length (out h)
 left_at_last h e = ap (λ (l : List (Option Batch)). length (labels_of l)) (whole_before h e) ∙ ap length (out_is h)
 
 -- ---- labels that are there
 
 -- a label that is scanned, and is there, had left
-pub there_had_left : {A : Type 0} (ranges : List Range) (desks : ℕ) (h : History A) (i desk label : ℕ) (flips : List (ℕ × ℕ)) (stop : Stop)
+pub there_had_left : {A : Type 0} (ranges : List Range) (desks : ℕ) (h : History A) (i desk label : ℕ)
+    (flips : List (ℕ × ℕ)) (stop : Stop)
     (reply : Reply A) → IsLegal ranges desks h → slice_get (events_of h) i ≡ Some (Scan desk label flips stop) →
     slice_get (replies_of h) i ≡ Some reply → reply ≢ NoSuch → label < length (labels_of (take i (batches_of h)))
 there_had_left ranges desks [] i desk label flips stop reply legal asked answered is_such = absurd (cc (asked))
@@ -65,7 +67,8 @@ there_had_left {A} ranges desks (e ∷ h) i desk label flips stop reply legal as
       | inr last ↦
           (let fits : Fits ranges desks h e = legal.0 in
           let there : IsThere (length ranges) desks h (Scan desk label flips stop) =
-          subst (λ (v : Event A). IsThere (length ranges) desks h v) last.1 (fits.there (λ none. is_such (sym last.2 ∙ none))) in
+          subst (λ (v : Event A). IsThere (length ranges) desks h v) last.1
+          (fits.there (λ none. is_such (sym last.2 ∙ none))) in
           let below = get_beyond (out h) label there.1.name there.1.has_left in
           let same = left_at_last h e in
           subst (λ (k : ℕ). label < length (labels_of (take k (batches_of (e ∷ h))))) (sym last.0) (omega arith))
@@ -74,7 +77,8 @@ there_had_left {A} ranges desks (e ∷ h) i desk label flips stop reply legal as
 -- ---- labels that are not there
 
 -- what is there of an event at a desk is the desk, with all else
-desk_of : {A : Type 0} (printers desks : ℕ) (h : History A) (event : Event A) (desk : ℕ) → IsThere printers desks h event →
+desk_of : {A : Type 0} (printers desks : ℕ) (h : History A) (event : Event A) (desk : ℕ) →
+    IsThere printers desks h event →
     actor_of event ≡ DeskAt desk → desk < desks
 desk_of printers desks h (Print p document size scheme stop) desk there named = absurd (cc (named))
 desk_of printers desks h (Scan d label flips stop) desk there named =
@@ -93,23 +97,25 @@ desk_of printers desks h (Import d export stop) desk there named =
 pub desk_within : {A : Type 0} (ranges : List Range) (desks : ℕ) (h : History A) (desk : ℕ) → IsLegal ranges desks h →
     IsDeskThere (events_of h) (replies_of h) desk → desk < desks
 desk_within ranges desks [] desk legal t = absurd (let x = t.asked in cc (x))
-desk_within {A} ranges desks (e ∷ h) desk legal t = elim (asked_before_or_last h e t.i t.event t.reply t.asked t.answered) [
-  | inl before ↦ desk_within ranges desks h desk legal.1 (record {
-    i = t.i;
-    event = t.event;
-    asked = before.1;
-    at = t.at;
-    of_desk = t.of_desk;
-    not_above = t.not_above;
-    reply = t.reply;
-    answered = before.2;
-    is_such = t.is_such;
-  })
-  | inr last ↦
-      (let fits : Fits ranges desks h e = legal.0 in
-      let below = desk_of (length ranges) desks h e.event t.at (fits.there (λ none. t.is_such (sym last.2 ∙ none))) (ap actor_of last.1 ∙ t.of_desk) in
-      let least : desk ≤ t.at = t.not_above in omega arith)
-]
+desk_within {A} ranges desks (e ∷ h) desk legal t =
+    elim (asked_before_or_last h e t.i t.event t.reply t.asked t.answered) [
+      | inl before ↦ desk_within ranges desks h desk legal.1 (record {
+        i = t.i;
+        event = t.event;
+        asked = before.1;
+        at = t.at;
+        of_desk = t.of_desk;
+        not_above = t.not_above;
+        reply = t.reply;
+        answered = before.2;
+        is_such = t.is_such;
+      })
+      | inr last ↦
+          (let fits : Fits ranges desks h e = legal.0 in
+          let below = desk_of (length ranges) desks h e.event t.at
+          (fits.there (λ none. t.is_such (sym last.2 ∙ none))) (ap actor_of last.1 ∙ t.of_desk) in
+          let least : desk ≤ t.at = t.not_above in omega arith)
+    ]
 
 -- each symbol has ten modules along a side at least
 least_side : (size : Size) → 10 ≤ side size
@@ -144,25 +150,31 @@ get_below (y ∷ ys) zero below = (y, refl)
 get_below (y ∷ ys) (suc i) below = get_below ys i (omega arith)
 
 -- a label that left is of a document that was printed
-had_document : {A : Type 0} (ranges : List Range) (desks : ℕ) (h : History A) (label : ℕ) (name : LabelName) → IsLegal ranges desks h →
+had_document : {A : Type 0} (ranges : List Range) (desks : ℕ) (h : History A) (label : ℕ) (name : LabelName) →
+    IsLegal ranges desks h →
     slice_get (out h) label ≡ Some name → (document : CutDocument) × (docs h name.id ≡ Some document)
 had_document {A} ranges desks h label name legal left = by_docs (docs h name.id) refl
   where
-    by_docs : (o : Option CutDocument) → docs h name.id ≡ o → (document : CutDocument) × (docs h name.id ≡ Some document)
+    by_docs : (o : Option CutDocument) → docs h name.id ≡ o →
+        (document : CutDocument) × (docs h name.id ≡ Some document)
     by_docs (Some document) is = (document, is)
     by_docs None is =
-        absurd (let own = label_in (batches_of h) label name (ap (λ (l : List LabelName). slice_get l label) (out_is h) ∙ left) in
+        absurd (let own = label_in (batches_of h) label name
+        (ap (λ (l : List LabelName). slice_get l label) (out_is h) ∙ left) in
         unused_is_none h own.0 name.id own.1 (is_unused ranges desks h name.id legal is) own.2 (sym own.3))
 
 -- a label that is not there, although the desk is, had not left
-pub not_there_had_not : {A : Type 0} (ranges : List Range) (desks : ℕ) (h : History A) (i desk label : ℕ) (flips : List (ℕ × ℕ)) (stop : Stop) →
-    IsLegal ranges desks h → desk < desks → All (λ flip. (flip.0 < 10) × (flip.1 < 10)) flips → slice_get (events_of h) i ≡ Some (Scan desk label flips stop) → slice_get (replies_of h) i ≡ Some NoSuch →
+pub not_there_had_not : {A : Type 0} (ranges : List Range) (desks : ℕ) (h : History A) (i desk label : ℕ)
+    (flips : List (ℕ × ℕ)) (stop : Stop) →
+    IsLegal ranges desks h → desk < desks → All (λ flip. (flip.0 < 10) × (flip.1 < 10)) flips →
+    slice_get (events_of h) i ≡ Some (Scan desk label flips stop) → slice_get (replies_of h) i ≡ Some NoSuch →
     length (labels_of (take i (batches_of h))) ≤ label
 not_there_had_not ranges desks [] i desk label flips stop legal is_desk small asked answered = absurd (cc (asked))
 not_there_had_not {A} ranges desks (e ∷ h) i desk label flips stop legal is_desk small asked answered =
     elim (asked_before_or_last h e i (Scan desk label flips stop) NoSuch asked answered) [
       | inl before ↦
-          (let least = not_there_had_not ranges desks h i desk label flips stop legal.1 is_desk small before.1 before.2 in
+          (let least = not_there_had_not ranges desks h i desk label flips stop legal.1 is_desk small before.1
+          before.2 in
           let same = left_before h e i before.0 in omega arith)
       | inr last ↦
           (let fits : Fits ranges desks h e = legal.0 in
@@ -174,14 +186,21 @@ not_there_had_not {A} ranges desks (e ∷ h) i desk label flips stop legal is_de
     ]
   where
     -- the least side is 10
-    inside : {x y : ℕ} → (x < 10) × (y < 10) → (document : CutDocument) → (x < side document.size) × (y < side document.size)
+    inside : {x y : ℕ} → (x < 10) × (y < 10) → (document : CutDocument) →
+        (x < side document.size) × (y < side document.size)
     inside within document = (let least = least_side document.size in (omega arith, omega arith))
 
     is_left : label < length (out h) → HasModules h label flips
     is_left below =
         let name = get_below (out h) label below in
         let cut = had_document ranges desks h label name.0 legal.1 name.1 in
-        record { name = name.0; has_left = name.1; document = cut.0; printed = cut.1; within = λ k flip there. inside (small k flip there) cut.0 }
+        record {
+          name = name.0;
+          has_left = name.1;
+          document = cut.0;
+          printed = cut.1;
+          within = λ k flip there. inside (small k flip there) cut.0;
+        }
 
     had_not : ¬ IsThere (length ranges) desks h (Scan desk label flips stop) → length (out h) ≤ label
     had_not none = elim (decided (nat_lt label (length (out h)))) [

@@ -25,41 +25,50 @@ use Rattle.dm_event_history.proofs.TakenTickets.{WasTaken, taken_more, taken_onc
 use Rattle.dm_event_history.proofs.Batches.{events_count, replies_count, at_last, before_or_last, in_either}
 
 -- an event took the ticket before the last one, or it is the last one
-taken_either : {A : Type 0} (h : History A) (e : Entry A) (i printer ticket : ℕ) → TakesTicket (events_of (e ∷ h)) (replies_of (e ∷ h)) i printer ticket →
+taken_either : {A : Type 0} (h : History A) (e : Entry A) (i printer ticket : ℕ) →
+    TakesTicket (events_of (e ∷ h)) (replies_of (e ∷ h)) i printer ticket →
     TakesTicket (events_of h) (replies_of h) i printer ticket ⊎
     ((i ≡ length h) × (stop : Stop) × (e.event ≡ Take printer ticket stop) × (e.reply ≡ Taken))
 taken_either {A} h e i printer ticket t =
     elim (before_or_last (events_of h) e.event (Take printer ticket t.stop) (length h) i (events_count h) t.event) [
       | inl asked ↦ elim (before_or_last (replies_of h) e.reply Taken (length h) i (replies_count h) t.reply) [
         | inl answered ↦ inl (record { stop = t.stop; event = asked; reply = answered })
-        | inr last ↦ absurd (let a = get_beyond (events_of h) i (Take printer ticket t.stop) asked in let b = events_count h in let c = last.0 in omega arith)
+        | inr last ↦ absurd (let a = get_beyond (events_of h) i (Take printer ticket t.stop) asked in
+            let b = events_count h in let c = last.0 in omega arith)
       ]
       | inr asks ↦ elim (before_or_last (replies_of h) e.reply Taken (length h) i (replies_count h) t.reply) [
-        | inl answered ↦ absurd (let a = get_beyond (replies_of h) i Taken answered in let b = replies_count h in let c = asks.0 in omega arith)
+        | inl answered ↦ absurd (let a = get_beyond (replies_of h) i Taken answered in let b = replies_count h in
+            let c = asks.0 in omega arith)
         | inr last ↦ inr (asks.0, t.stop, asks.1, last.1)
       ]
     ]
 
 -- a take that was answered `Taken` saved, of a ticket that was the printer's to take
-last_takes : {A : Type 0} (ranges : List Range) (desks : ℕ) (h : History A) (e : Entry A) (printer ticket : ℕ) (stop : Stop) → Fits ranges desks h e →
+last_takes : {A : Type 0} (ranges : List Range) (desks : ℕ) (h : History A) (e : Entry A) (printer ticket : ℕ)
+    (stop : Stop) → Fits ranges desks h e →
     e.event ≡ Take printer ticket stop → e.reply ≡ Taken → (e.saved ≡ true) × MayBeTaken h printer ticket
 last_takes {A} ranges desks h e printer ticket stop fits event_is reply_is =
     let saved : e.saved ≡ true = fits.told (ap (λ (r : Reply A). tells_of_save r) reply_is) in
     (saved, subst (λ (v : Event A). MayMove ranges h e.id v) event_is (fits.moves saved))
 
 -- a ticket that an event took is taken
-was_taken : {A : Type 0} (ranges : List Range) (desks : ℕ) (h : History A) (i printer ticket : ℕ) → IsLegal ranges desks h →
+was_taken : {A : Type 0} (ranges : List Range) (desks : ℕ) (h : History A) (i printer ticket : ℕ) →
+    IsLegal ranges desks h →
     TakesTicket (events_of h) (replies_of h) i printer ticket → is_taken h ticket ≡ true
 was_taken ranges desks [] i printer ticket legal t = absurd (let x = t.reply in cc (x))
 was_taken {A} ranges desks (e ∷ h) i printer ticket legal t = elim (taken_either h e i printer ticket t) [
-  | inl before ↦ or_right (e.saved && takes_ticket e.event ticket) (is_taken h ticket) (was_taken ranges desks h i printer ticket legal.1 before)
+  | inl before ↦ or_right (e.saved && takes_ticket e.event ticket) (is_taken h ticket)
+      (was_taken ranges desks h i printer ticket legal.1 before)
   | inr last ↦ or_left (e.saved && takes_ticket e.event ticket) (is_taken h ticket)
-      (and_so e.saved (takes_ticket e.event ticket) (last_takes ranges desks h e printer ticket last.1 legal.0 last.2 last.3).0
+      (and_so e.saved (takes_ticket e.event ticket)
+      (last_takes ranges desks h e printer ticket last.1 legal.0 last.2 last.3).0
       (ap (λ (v : Event A). takes_ticket v ticket) last.2 ∙ eq-eqb ticket ticket refl))
 ]
 
-given_more : {A : Type 0} (events : List (Event A)) (replies : List (Reply A)) (event : Event A) (reply : Reply A) (i later printer ticket : ℕ) →
-    i < suc later → WasGiven events replies i printer ticket → WasGiven (events ++ event ∷ []) (replies ++ reply ∷ []) later printer ticket
+given_more : {A : Type 0} (events : List (Event A)) (replies : List (Reply A)) (event : Event A) (reply : Reply A)
+    (i later printer ticket : ℕ) →
+    i < suc later → WasGiven events replies i printer ticket →
+    WasGiven (events ++ event ∷ []) (replies ++ reply ∷ []) later printer ticket
 given_more events replies event reply i later printer ticket after w =
     let before : w.j < i = w.before in record {
       j = w.j;
@@ -74,11 +83,13 @@ given_more events replies event reply i later printer ticket after w =
     }
 
 -- each ticket was given, to its receiver
-given_at : {A : Type 0} (ranges : List Range) (desks : ℕ) (h : History A) (k : ℕ) (ticket : TicketView) → IsLegal ranges desks h →
+given_at : {A : Type 0} (ranges : List Range) (desks : ℕ) (h : History A) (k : ℕ) (ticket : TicketView) →
+    IsLegal ranges desks h →
     slice_get (tickets h) k ≡ Some ticket → WasGiven (events_of h) (replies_of h) (length h) ticket.receiver k
 given_at ranges desks [] k ticket legal there = cc
 given_at {A} ranges desks (e ∷ h) k ticket legal there = elim (in_either (tickets h) (given e.reply) k ticket there) [
-  | inl before ↦ given_more (events_of h) (replies_of h) e.event e.reply (length h) (suc (length h)) ticket.receiver k (omega arith)
+  | inl before ↦ given_more (events_of h) (replies_of h) e.event e.reply (length h) (suc (length h)) ticket.receiver k
+      (omega arith)
       (given_at ranges desks h k ticket legal.1 before)
   | inr last ↦ gives e.event e.reply legal.0.reply last.0 last.1 last.2
 ]
@@ -87,7 +98,8 @@ given_at {A} ranges desks (e ∷ h) k ticket legal there = elim (in_either (tick
     only x y zero is = (refl, (let a : Some x ≡ Some y = is in cc))
     only x y (suc i) is = absurd (cc (is))
 
-    gives : (event : Event A) (reply : Reply A) → IsReply ranges h e.id e.left event reply → (i : ℕ) → k ≡ length (tickets h) + i →
+    gives : (event : Event A) (reply : Reply A) → IsReply ranges h e.id e.left event reply → (i : ℕ) →
+        k ≡ length (tickets h) + i →
         slice_get (given reply) i ≡ Some ticket →
         WasGiven (events_of h ++ event ∷ []) (replies_of h ++ reply ∷ []) (suc (length h)) ticket.receiver k
     gives (Give giver receiver range stop) (Given index view) fine i place is =
@@ -96,8 +108,10 @@ given_at {A} ranges desks (e ∷ h) k ticket legal there = elim (in_either (tick
         let index_is : index ≡ length (tickets h) = fine.index_is in
         let at : index ≡ k = omega arith in
         let to : receiver ≡ ticket.receiver = ap (λ (v : TicketView). v.receiver) (sym fine.ticket_is ∙ t.1) in
-        subst (λ (r : ℕ). WasGiven (events_of h ++ Give giver receiver range stop ∷ []) (replies_of h ++ Given index view ∷ []) (suc (length h)) r k) to
-        (subst (λ (n : ℕ). WasGiven (events_of h ++ Give giver receiver range stop ∷ []) (replies_of h ++ Given index view ∷ []) (suc (length h)) receiver n) at
+        subst (λ (r : ℕ). WasGiven (events_of h ++ Give giver receiver range stop ∷ []) (replies_of h ++
+        Given index view ∷ []) (suc (length h)) r k) to
+        (subst (λ (n : ℕ). WasGiven (events_of h ++ Give giver receiver range stop ∷ []) (replies_of h ++
+        Given index view ∷ []) (suc (length h)) receiver n) at
         (record {
           j = length h;
           before = omega arith;
@@ -117,13 +131,15 @@ given_at {A} ranges desks (e ∷ h) k ticket legal there = elim (in_either (tick
 -- a ticket that is given has the next number
 next_number : {A : Type 0} (ranges : List Range) (h : History A) (e : Entry A) (k : ℕ) (ticket : TicketView) →
     IsReply ranges h e.id e.left e.event e.reply → e.reply ≡ Given k ticket → k ≡ length (tickets h)
-next_number {A} ranges h e k ticket fine is = by_event e.event (subst (λ (r : Reply A). IsReply ranges h e.id e.left e.event r) is fine)
+next_number {A} ranges h e k ticket fine is =
+    by_event e.event (subst (λ (r : Reply A). IsReply ranges h e.id e.left e.event r) is fine)
   where
     by_event : (event : Event A) → IsReply ranges h e.id e.left event (Given k ticket) → k ≡ length (tickets h)
     by_event (Give giver receiver range stop) fine = fine.index_is
     by_event event fine = absurd fine
 
-number_within : {A : Type 0} (ranges : List Range) (desks : ℕ) (h : History A) (i k : ℕ) (ticket : TicketView) → IsLegal ranges desks h →
+number_within : {A : Type 0} (ranges : List Range) (desks : ℕ) (h : History A) (i k : ℕ) (ticket : TicketView) →
+    IsLegal ranges desks h →
     slice_get (replies_of h) i ≡ Some (Given k ticket) → k < length (tickets h)
 number_within ranges desks [] i k ticket legal is = absurd (cc (is))
 number_within {A} ranges desks (e ∷ h) i k ticket legal is =
@@ -138,8 +154,10 @@ number_within {A} ranges desks (e ∷ h) i k ticket legal is =
 -- ---- serials of tickets
 
 -- a ticket that is given has its giver's next serial, and the give saved
-next_serial : {A : Type 0} (ranges : List Range) (desks : ℕ) (h : History A) (e : Entry A) (k : ℕ) (ticket : TicketView) → Fits ranges desks h e →
-    e.reply ≡ Given k ticket → (ticket.serial ≡ numbers.gives h ticket.giver) × (numbers.gives (e ∷ h) ticket.giver ≡ 1 + numbers.gives h ticket.giver)
+next_serial : {A : Type 0} (ranges : List Range) (desks : ℕ) (h : History A) (e : Entry A) (k : ℕ)
+    (ticket : TicketView) → Fits ranges desks h e →
+    e.reply ≡ Given k ticket → (ticket.serial ≡ numbers.gives h ticket.giver) ×
+    (numbers.gives (e ∷ h) ticket.giver ≡ 1 + numbers.gives h ticket.giver)
 next_serial {A} ranges desks h e k ticket fits is =
     by_event e.event refl (subst (λ (r : Reply A). IsReply ranges h e.id e.left e.event r) is fits.reply)
   where
@@ -147,7 +165,8 @@ next_serial {A} ranges desks h e k ticket fits is =
     saved = fits.told (ap (λ (r : Reply A). tells_of_save r) is)
 
     by_event : (event : Event A) → e.event ≡ event → IsReply ranges h e.id e.left event (Given k ticket) →
-        (ticket.serial ≡ numbers.gives h ticket.giver) × (numbers.gives (e ∷ h) ticket.giver ≡ 1 + numbers.gives h ticket.giver)
+        (ticket.serial ≡ numbers.gives h ticket.giver) ×
+        (numbers.gives (e ∷ h) ticket.giver ≡ 1 + numbers.gives h ticket.giver)
     by_event (Give p receiver range stop) event_is fine =
         let at : (numbers.saved_at e p && numbers.is_give e.event) ≡ true =
         and_so (numbers.saved_at e p) (numbers.is_give e.event)
@@ -161,7 +180,8 @@ next_serial {A} ranges desks h e k ticket fits is =
     by_event event event_is fine = absurd fine
 
 -- the serial of a ticket that was given is below its giver's next
-serial_below : {A : Type 0} (ranges : List Range) (desks : ℕ) (h : History A) (i k : ℕ) (ticket : TicketView) → IsLegal ranges desks h →
+serial_below : {A : Type 0} (ranges : List Range) (desks : ℕ) (h : History A) (i k : ℕ) (ticket : TicketView) →
+    IsLegal ranges desks h →
     slice_get (replies_of h) i ≡ Some (Given k ticket) → ticket.serial < numbers.gives h ticket.giver
 serial_below ranges desks [] i k ticket legal is = absurd (cc (is))
 serial_below {A} ranges desks (e ∷ h) i k ticket legal is =
@@ -169,16 +189,21 @@ serial_below {A} ranges desks (e ∷ h) i k ticket legal is =
       | inl before ↦
           (let t = serial_below ranges desks h i k ticket legal.1 before in
           let more : numbers.gives (e ∷ h) ticket.giver ≡
-          (if numbers.saved_at e ticket.giver && numbers.is_give e.event then 1 else 0) + numbers.gives h ticket.giver = refl in omega arith)
-      | inr last ↦ (let t = next_serial ranges desks h e k ticket legal.0 last.1 in let a = t.0 in let b = t.1 in omega arith)
+          (if numbers.saved_at e ticket.giver && numbers.is_give e.event then 1 else 0) + numbers.gives h ticket.giver =
+          refl in omega arith)
+      | inr last ↦ (let t = next_serial ranges desks h e k ticket legal.0 last.1 in let a = t.0 in let b = t.1 in
+          omega arith)
     ]
 
 -- a ticket that a printer refused as old was taken
-old_was_taken : {A : Type 0} (ranges : List Range) (desks : ℕ) (h : History A) (i printer ticket : ℕ) (stop : Stop) → IsLegal ranges desks h →
-    slice_get (events_of h) i ≡ Some (Take printer ticket stop) → slice_get (replies_of h) i ≡ Some (TakeRefused Old) → WasTaken h ticket
+old_was_taken : {A : Type 0} (ranges : List Range) (desks : ℕ) (h : History A) (i printer ticket : ℕ) (stop : Stop) →
+    IsLegal ranges desks h →
+    slice_get (events_of h) i ≡ Some (Take printer ticket stop) → slice_get (replies_of h) i ≡ Some (TakeRefused Old) →
+    WasTaken h ticket
 old_was_taken ranges desks [] i printer ticket stop legal asked answered = absurd (cc (asked))
 old_was_taken {A} ranges desks (e ∷ h) i printer ticket stop legal asked answered =
-    taken_more ranges desks h e ticket legal.0 (elim (asked_before_or_last h e i (Take printer ticket stop) (TakeRefused Old) asked answered) [
+    taken_more ranges desks h e ticket legal.0
+    (elim (asked_before_or_last h e i (Take printer ticket stop) (TakeRefused Old) asked answered) [
       | inl before ↦ old_was_taken ranges desks h i printer ticket stop legal.1 before.1 before.2
       | inr last ↦
           (let fits : Fits ranges desks h e = legal.0 in
@@ -205,7 +230,8 @@ takes_first {A} = record {
   no_overlap = λ i is. cc (is);
 }
 
-takes_next : {A : Type 0} (ranges : List Range) (desks : ℕ) (h : History A) (e : Entry A) → Fits ranges desks h e → IsLegal ranges desks h →
+takes_next : {A : Type 0} (ranges : List Range) (desks : ℕ) (h : History A) (e : Entry A) → Fits ranges desks h e →
+    IsLegal ranges desks h →
     TakesOnce (events_of h) (replies_of h) → TakesOnce (events_of (e ∷ h)) (replies_of (e ∷ h))
 takes_next {A} ranges desks h e fits legal f = record {
   numbered = number;
@@ -215,18 +241,22 @@ takes_next {A} ranges desks h e fits legal f = record {
   given = λ i printer ticket t. elim (taken_either h e i printer ticket t) [
     | inl before ↦
         (let below = get_beyond (events_of h) i (Take printer ticket before.stop) before.event in
-        given_more (events_of h) (replies_of h) e.event e.reply i i printer ticket (omega arith) (f.given i printer ticket before))
+        given_more (events_of h) (replies_of h) e.event e.reply i i printer ticket (omega arith)
+        (f.given i printer ticket before))
     | inr last ↦
-        (let m : MayBeTaken h printer ticket = (last_takes ranges desks h e printer ticket last.1 fits last.2 last.3).1 in
+        (let m : MayBeTaken h printer ticket =
+        (last_takes ranges desks h e printer ticket last.1 fits last.2 last.3).1 in
         subst (λ (k : ℕ). WasGiven (events_of (e ∷ h)) (replies_of (e ∷ h)) k printer ticket) (sym last.0)
         (subst (λ (r : ℕ). WasGiven (events_of (e ∷ h)) (replies_of (e ∷ h)) (length h) r ticket) m.receiver
-        (given_more (events_of h) (replies_of h) e.event e.reply (length h) (length h) m.ticket.receiver ticket (omega arith)
+        (given_more (events_of h) (replies_of h) e.event e.reply (length h) (length h) m.ticket.receiver ticket
+        (omega arith)
         (given_at ranges desks h ticket m.ticket legal m.there))))
   ];
-  no_overlap = λ i is. elim (before_or_last (replies_of h) e.reply (TakeRefused Overlap) (length h) i (replies_count h) is) [
-    | inl before ↦ f.no_overlap i before
-    | inr last ↦ refused e.event (subst (λ (r : Reply A). IsReply ranges h e.id e.left e.event r) last.1 fits.reply)
-  ];
+  no_overlap = λ i is. elim (before_or_last (replies_of h) e.reply (TakeRefused Overlap) (length h) i
+      (replies_count h) is) [
+        | inl before ↦ f.no_overlap i before
+        | inr last ↦ refused e.event (subst (λ (r : Reply A). IsReply ranges h e.id e.left e.event r) last.1 fits.reply)
+      ];
 }
   where
     refused : (event : Event A) → IsReply ranges h e.id e.left event (TakeRefused Overlap) → ⊥
@@ -235,43 +265,52 @@ takes_next {A} ranges desks h e fits legal f = record {
 
     number : (i j ticket : ℕ) (one other : TicketView) → slice_get (replies_of (e ∷ h)) i ≡ Some (Given ticket one) →
         slice_get (replies_of (e ∷ h)) j ≡ Some (Given ticket other) → i ≡ j
-    number i j ticket one other a b = elim (before_or_last (replies_of h) e.reply (Given ticket one) (length h) i (replies_count h) a) [
-      | inl first ↦ elim (before_or_last (replies_of h) e.reply (Given ticket other) (length h) j (replies_count h) b) [
-        | inl second ↦ f.numbered i j ticket one other first second
-        | inr last ↦ absurd (let t = number_within ranges desks h i ticket one legal first in
-            let n = next_number ranges h e ticket other fits.reply last.1 in omega arith)
-      ]
-      | inr here ↦ elim (before_or_last (replies_of h) e.reply (Given ticket other) (length h) j (replies_count h) b) [
-        | inl second ↦ absurd (let t = number_within ranges desks h j ticket other legal second in
-            let n = next_number ranges h e ticket one fits.reply here.1 in omega arith)
-        | inr last ↦ here.0 ∙ sym last.0
-      ]
-    ]
+    number i j ticket one other a b =
+        elim (before_or_last (replies_of h) e.reply (Given ticket one) (length h) i (replies_count h) a) [
+          | inl first ↦ elim (before_or_last (replies_of h) e.reply (Given ticket other)
+              (length h) j (replies_count h) b) [
+                | inl second ↦ f.numbered i j ticket one other first second
+                | inr last ↦ absurd (let t = number_within ranges desks h i ticket one legal first in
+                    let n = next_number ranges h e ticket other fits.reply last.1 in omega arith)
+              ]
+          | inr here ↦ elim (before_or_last (replies_of h) e.reply (Given ticket other)
+              (length h) j (replies_count h) b) [
+                | inl second ↦ absurd (let t = number_within ranges desks h j ticket other legal second in
+                    let n = next_number ranges h e ticket one fits.reply here.1 in omega arith)
+                | inr last ↦ here.0 ∙ sym last.0
+              ]
+        ]
 
-    serial : (i j ticket number : ℕ) (one other : TicketView) → slice_get (replies_of (e ∷ h)) i ≡ Some (Given ticket one) →
-        slice_get (replies_of (e ∷ h)) j ≡ Some (Given number other) → one.giver ≡ other.giver → one.serial ≡ other.serial → i ≡ j
+    serial : (i j ticket number : ℕ) (one other : TicketView) →
+        slice_get (replies_of (e ∷ h)) i ≡ Some (Given ticket one) →
+        slice_get (replies_of (e ∷ h)) j ≡ Some (Given number other) → one.giver ≡ other.giver →
+        one.serial ≡ other.serial → i ≡ j
     serial i j ticket number one other a b giver same =
         let gives : numbers.gives h one.giver ≡ numbers.gives h other.giver = ap (numbers.gives h) giver in
         elim (before_or_last (replies_of h) e.reply (Given ticket one) (length h) i (replies_count h) a) [
-          | inl first ↦ elim (before_or_last (replies_of h) e.reply (Given number other) (length h) j (replies_count h) b) [
-            | inl second ↦ f.serials i j ticket number one other first second giver same
-            | inr last ↦ absurd (let below = serial_below ranges desks h i ticket one legal first in
-                let next = (next_serial ranges desks h e number other fits last.1).0 in omega arith)
-          ]
-          | inr here ↦ elim (before_or_last (replies_of h) e.reply (Given number other) (length h) j (replies_count h) b) [
-            | inl second ↦ absurd (let below = serial_below ranges desks h j number other legal second in
-                let next = (next_serial ranges desks h e ticket one fits here.1).0 in omega arith)
-            | inr last ↦ here.0 ∙ sym last.0
-          ]
+          | inl first ↦ elim (before_or_last (replies_of h) e.reply (Given number other) (length h) j
+              (replies_count h) b) [
+                | inl second ↦ f.serials i j ticket number one other first second giver same
+                | inr last ↦ absurd (let below = serial_below ranges desks h i ticket one legal first in
+                    let next = (next_serial ranges desks h e number other fits last.1).0 in omega arith)
+              ]
+          | inr here ↦ elim (before_or_last (replies_of h) e.reply (Given number other) (length h) j
+              (replies_count h) b) [
+                | inl second ↦ absurd (let below = serial_below ranges desks h j number other legal second in
+                    let next = (next_serial ranges desks h e ticket one fits here.1).0 in omega arith)
+                | inr last ↦ here.0 ∙ sym last.0
+              ]
         ]
 
     old : (i j printer ticket : ℕ) (stop : Stop) → slice_get (events_of (e ∷ h)) i ≡ Some (Take printer ticket stop) →
-        slice_get (replies_of (e ∷ h)) i ≡ Some (TakeRefused Old) → TakesTicket (events_of (e ∷ h)) (replies_of (e ∷ h)) j printer ticket → j < i
+        slice_get (replies_of (e ∷ h)) i ≡ Some (TakeRefused Old) →
+        TakesTicket (events_of (e ∷ h)) (replies_of (e ∷ h)) j printer ticket → j < i
     old i j printer ticket stop asked answered t =
         elim (asked_before_or_last h e i (Take printer ticket stop) (TakeRefused Old) asked answered) [
           | inl before ↦ elim (taken_either h e j printer ticket t) [
             | inl taken ↦ f.old i j printer ticket stop before.1 before.2 taken
-            | inr last ↦ absurd (taken_once h printer ticket (old_was_taken ranges desks h i printer ticket stop legal before.1 before.2)
+            | inr last ↦ absurd (taken_once h printer ticket
+                (old_was_taken ranges desks h i printer ticket stop legal before.1 before.2)
                 (last_takes ranges desks h e printer ticket last.1 fits last.2 last.3).1)
           ]
           | inr now ↦ elim (taken_either h e j printer ticket t) [
@@ -286,7 +325,8 @@ takes_next {A} ranges desks h e fits legal f = record {
         e.event ≡ Take other ticket stop → e.reply ≡ Taken → ⊥
     again i printer other ticket stop before event_is reply_is =
         true_false (is_taken h ticket) (was_taken ranges desks h i printer ticket legal before)
-        (not_taken ranges desks h other ticket legal (last_takes ranges desks h e other ticket stop fits event_is reply_is).1)
+        (not_taken ranges desks h other ticket legal
+        (last_takes ranges desks h e other ticket stop fits event_is reply_is).1)
 
     one : (i j printer other ticket : ℕ) → TakesTicket (events_of (e ∷ h)) (replies_of (e ∷ h)) i printer ticket →
         TakesTicket (events_of (e ∷ h)) (replies_of (e ∷ h)) j other ticket → i ≡ j
@@ -301,6 +341,7 @@ takes_next {A} ranges desks h e fits legal f = record {
       ]
     ]
 
-pub takes_once : {A : Type 0} (ranges : List Range) (desks : ℕ) (h : History A) → IsLegal ranges desks h → TakesOnce (events_of h) (replies_of h)
+pub takes_once : {A : Type 0} (ranges : List Range) (desks : ℕ) (h : History A) → IsLegal ranges desks h →
+    TakesOnce (events_of h) (replies_of h)
 takes_once ranges desks [] legal = takes_first
 takes_once ranges desks (e ∷ h) legal = takes_next ranges desks h e legal.0 legal.1 (takes_once ranges desks h legal.1)

@@ -37,7 +37,8 @@ actor_or_other a b = decided (is_same a b) refl
 pub is_down_same : {A : Type 0} (e : Entry A) (h : History A) (a : Actor) → actor_of e.event ≡ a →
     is_down (e ∷ h) a ≡ down_after e.reply (is_down h a)
 is_down_same e h a same =
-    if_so (is_same (actor_of e.event) a) (down_after e.reply (is_down h a)) (is_down h a) (same_so (actor_of e.event) a same)
+    if_so (is_same (actor_of e.event) a) (down_after e.reply (is_down h a)) (is_down h a)
+    (same_so (actor_of e.event) a same)
 
 pub is_down_other : {A : Type 0} (e : Entry A) (h : History A) (a : Actor) → actor_of e.event ≢ a →
     is_down (e ∷ h) a ≡ is_down h a
@@ -48,7 +49,8 @@ is_down_other e h a other =
 pub is_failed_same : {A : Type 0} (e : Entry A) (h : History A) (a : Actor) → actor_of e.event ≡ a →
     is_failed (e ∷ h) a ≡ failed_after e.reply (is_failed h a)
 is_failed_same e h a same =
-    if_so (is_same (actor_of e.event) a) (failed_after e.reply (is_failed h a)) (is_failed h a) (same_so (actor_of e.event) a same)
+    if_so (is_same (actor_of e.event) a) (failed_after e.reply (is_failed h a)) (is_failed h a)
+    (same_so (actor_of e.event) a same)
 
 pub is_failed_other : {A : Type 0} (e : Entry A) (h : History A) (a : Actor) → actor_of e.event ≢ a →
     is_failed (e ∷ h) a ≡ is_failed h a

@@ -37,7 +37,8 @@ third same = omega arith
 
 -- label 1 is the second page
 second : (name : LabelName) → Some (record { id = 0; number = 2; count = 2 }) ≡ Some name → name.number ≡ 1 → ⊥
-second name is one = (let two : ◌≡◌ {A = ℕ} 2 name.number = (let e : ◌≡◌ {A = LabelName} (record { id = 0; number = 2; count = 2 }) name = cc in
+second name is one = (let two : ◌≡◌ {A = ℕ} 2 name.number =
+    (let e : ◌≡◌ {A = LabelName} (record { id = 0; number = 2; count = 2 }) name = cc in
     ap (λ (n : LabelName). n.number) e) in
     omega arith)
 

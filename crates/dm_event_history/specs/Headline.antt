@@ -85,7 +85,8 @@ pub record IsDeskThere {A : Type 0} (events : List (Event A)) (replies : List (R
   pub is_such : reply ≢ NoSuch
 
 -- Each event has a reply, and its batch in `batches`, if labels left by it. No identification comes twice.
-pub record PrintsOnceBy {A : Type 0} (batches : List (Option Batch)) (events : List (Event A)) (replies : List (Reply A))
+pub record PrintsOnceBy {A : Type 0} (batches : List (Option Batch)) (events : List (Event A))
+    (replies : List (Reply A))
     : Type 0 where
   pub each_reply : length replies ≡ length events
   pub each_batch : length batches ≡ length events
@@ -131,7 +132,8 @@ pub record MayHaveSaved {A : Type 0} (events : List (Event A)) (replies : List (
   pub answered : slice_get replies k ≡ Some reply
   pub saves : may_save event reply ≡ true
 
--- label m of n under an identification was scanned before event number i, at whichever desk, which may have saved its page
+-- label m of n under an identification was scanned before event number i, at whichever desk, which may have saved its
+-- page
 pub record WasScanned {A : Type 0} (batches : List (Option Batch)) (events : List (Event A)) (replies : List (Reply A))
     (i id m n : ℕ) : Type 0 where
   pub k : ℕ
@@ -166,7 +168,8 @@ pub record WasBegun {A : Type 0} (batches : List (Option Batch)) (events : List 
       WasScanned batches events replies i id m (count_of batch)
 
 -- what desks tell of labels, documents and pages is as they were printed and scanned
-pub record IsFaithfulBy {A : Type 0} (batches : List (Option Batch)) (events : List (Event A)) (replies : List (Reply A))
+pub record IsFaithfulBy {A : Type 0} (batches : List (Option Batch)) (events : List (Event A))
+    (replies : List (Reply A))
     : Type 0 where
   pub prints : PrintsOnceBy batches events replies
   -- the page that a desk tells of a scanned label is that of the label, which had left

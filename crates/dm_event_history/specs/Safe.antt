@@ -75,7 +75,8 @@ pub record IsAcceptedSafe {A : Type 0} (before : History A) (desk label : ℕ) (
 
 -- ---- exports and imports
 
--- what is exported, of a document of n pages that was printed, is possibly held, and all that is surely held is exported
+-- what is exported, of a document of n pages that was printed, is possibly held, and all that is surely held is
+-- exported
 pub record IsExportSafe {A : Type 0} (before : History A) (desk id n mask : ℕ) : Type 0 where
   pub document : CutDocument
   pub printed : docs before id ≡ Some document

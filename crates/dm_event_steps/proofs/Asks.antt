@@ -47,17 +47,21 @@ some_none None x y = cc
 some_none (Some b) x y = cc
 
 -- of a document of which no page is held none is surely held
-pub not_surely : {A : Type 0} (h : History A) (d id : ℕ) (held : Documents) → IsGathered h d held → finite.get held id ≡ None → IsNotSurelyHeld h d id
+pub not_surely : {A : Type 0} (h : History A) (d id : ℕ) (held : Documents) → IsGathered h d held →
+    finite.get held id ≡ None → IsNotSurelyHeld h d id
 not_surely h d id held g none m surely =
-    some_none (page_at held id m) (g.surely id m surely) (ap (λ (o : Option Pages). page (unwrap_or o []) m) none ∙ no_page m)
+    some_none (page_at held id m) (g.surely id m surely) (ap (λ (o : Option Pages). page (unwrap_or o []) m) none ∙
+    no_page m)
 
 -- its pages are as many as its parts
-pub counted_is : {A : Type 0} (h : History A) (d id : ℕ) (held : Documents) (pages : Pages) → IsGathered h d held → finite.get held id ≡ Some pages →
+pub counted_is : {A : Type 0} (h : History A) (d id : ℕ) (held : Documents) (pages : Pages) → IsGathered h d held →
+    finite.get held id ≡ Some pages →
     (cut : CutDocument) × (docs h id ≡ Some cut) × (length pages ≡ length cut.parts)
 counted_is h d id held pages g is = g.counts id (length pages) (ap (option_map length) is)
 
 -- page m of it
-pub page_is : (held : Documents) (id m : ℕ) (pages : Pages) → finite.get held id ≡ Some pages → page_at held id m ≡ page pages m
+pub page_is : (held : Documents) (id m : ℕ) (pages : Pages) → finite.get held id ≡ Some pages →
+    page_at held id m ≡ page pages m
 page_is held id m pages is = ap (λ (o : Option Pages). page (unwrap_or o []) m) is
 
 -- ---- a document that is given
@@ -81,14 +85,17 @@ in_range [] i bytes is = cc
 in_range (p ∷ ps) zero bytes is = omega arith
 in_range (p ∷ ps) (suc i) bytes is = (let t = in_range ps i bytes is in omega arith)
 
-true_document : {A : Type 0} (ranges : List Range) (desks : ℕ) (h : History A) (d id : ℕ) (held : Documents) (pages : Pages) (bytes : List ℕ) →
-    IsLegal ranges desks h → IsGathered h d held → finite.get held id ≡ Some pages → list_all is_some pages ≡ true → bytes ≡ document_of pages →
+true_document : {A : Type 0} (ranges : List Range) (desks : ℕ) (h : History A) (d id : ℕ) (held : Documents)
+    (pages : Pages) (bytes : List ℕ) →
+    IsLegal ranges desks h → IsGathered h d held → finite.get held id ≡ Some pages → list_all is_some pages ≡ true →
+    bytes ≡ document_of pages →
     IsTrueDocument h d id bytes
 true_document ranges desks h d id held pages bytes legal g is all same =
     let t = counted_is h d id held pages g is in
     let cut : CutDocument = t.0 in
     let whole = whole_pages pages all in
-    let parts : map page_bytes pages ≡ cut.parts = same_lists (map page_bytes pages) cut.parts (length-map pages page_bytes ∙ t.2)
+    let parts : map page_bytes pages ≡ cut.parts = same_lists (map page_bytes pages) cut.parts
+    (length-map pages page_bytes ∙ t.2)
     (λ i x y here there.
     let p = g.pages id (suc i) x (page_is held id (suc i) pages is ∙ whole.1 i x here) in
     let one : docs h id ≡ Some cut = t.1 in
@@ -104,7 +111,8 @@ true_document ranges desks h d id held pages bytes legal g is all same =
       printed = t.1;
       same = same ∙ whole.0 ∙ ap concat parts ∙ joined cut (printed_cut ranges desks h id cut legal t.1);
       possibly = λ m least most. g.possibly id m
-          (subst (λ (o : Option (List ℕ)). IsSome o) (sym (page_is held id m pages is)) (held_each m least (let l = t.2 in omega arith)));
+          (subst (λ (o : Option (List ℕ)). IsSome o) (sym (page_is held id m pages is))
+          (held_each m least (let l = t.2 in omega arith)));
     }
   where
     held_each : (m : ℕ) → 1 ≤ m → m ≤ length pages → IsSome (page pages m)
@@ -131,7 +139,8 @@ one_missing (Some x ∷ ps) none = (let t = one_missing ps none in later t.0 t.1
     later zero l = cc
     later (suc m) l = (suc (suc m), l)
 
-truly_missing : {A : Type 0} (h : History A) (d id missing : ℕ) (held : Documents) (pages : Pages) → IsGathered h d held → AreEntries held →
+truly_missing : {A : Type 0} (h : History A) (d id missing : ℕ) (held : Documents) (pages : Pages) →
+    IsGathered h d held → AreEntries held →
     finite.get held id ≡ Some pages → list_all is_some pages ≡ false → ((m : ℕ) → names missing m ≡ lacks pages m) →
     IsTrulyMissing h d id missing
 truly_missing h d id missing held pages g entries is some same =
@@ -142,11 +151,18 @@ truly_missing h d id missing held pages g entries is some same =
       document = t.0;
       printed = t.1;
       some_named = (first.0, same first.0 ∙ first.1);
-      not_all = (suc one.0, omega arith, (let r = there one.0 one.1 in let l = t.2 in omega arith), (λ named. missing_held (suc one.0) named one.1));
-      nothing_else = λ m named. let u = (lacks_means pages m).0 (sym (same m) ∙ named) in (u.0, (let a = u.1 in let l = t.2 in omega arith));
+      not_all = (
+        suc one.0,
+        omega arith,
+        (let r = there one.0 one.1 in let l = t.2 in omega arith),
+        (λ named. missing_held (suc one.0) named one.1),
+      );
+      nothing_else = λ m named. let u = (lacks_means pages m).0 (sym (same m) ∙ named) in
+          (u.0, (let a = u.1 in let l = t.2 in omega arith));
       not_surely = λ m named surely. some_none (page_at held id m) (g.surely id m surely)
           (page_is held id m pages is ∙ ((lacks_means pages m).0 (sym (same m) ∙ named)).2);
-      possibly = λ m least most unnamed. g.possibly id m (subst (λ (o : Option (List ℕ)). IsSome o) (sym (page_is held id m pages is))
+      possibly = λ m least most unnamed. g.possibly id m
+          (subst (λ (o : Option (List ℕ)). IsSome o) (sym (page_is held id m pages is))
           (elim (decided (lacks pages m)) [
             | inl lack ↦ absurd (unnamed (same m ∙ lack))
             | inr has ↦ (lacks_means pages m).1 has least (let l = t.2 in omega arith)
@@ -161,21 +177,27 @@ truly_missing h d id missing held pages g entries is some same =
         by_page (Some bytes) at s = in_range pages i bytes at
 
     missing_held : (m : ℕ) → names missing m ≡ true → IsSome (page pages m) → ⊥
-    missing_held m named held_there = some_none (page pages m) held_there ((lacks_means pages m).0 (sym (same m) ∙ named)).2
+    missing_held m named held_there = some_none (page pages m) held_there
+        ((lacks_means pages m).0 (sym (same m) ∙ named)).2
 
 -- ---- an ask
 
-ask_safe : {A : Type 0} (ranges : List Range) (desks : ℕ) (h : History A) (d id : ℕ) (held : Documents) (o : Option Pages) (given : Result (List ℕ) AskFault) →
-    IsLegal ranges desks h → IsGathered h d held → AreEntries held → finite.get held id ≡ o → Asks (λ bytes. bytes) o given → NamesMissing o given →
+ask_safe : {A : Type 0} (ranges : List Range) (desks : ℕ) (h : History A) (d id : ℕ) (held : Documents)
+    (o : Option Pages) (given : Result (List ℕ) AskFault) →
+    IsLegal ranges desks h → IsGathered h d held → AreEntries held → finite.get held id ≡ o →
+    Asks (λ bytes. bytes) o given → NamesMissing o given →
     IsReplySafe h (Ask d id) (ask_reply given)
 ask_safe ranges desks h d id held None (Ok bytes) legal g entries is asks missing = cc
-ask_safe ranges desks h d id held None (Err ask_fault.NotHeld) legal g entries is asks missing = not_surely h d id held g is
+ask_safe ranges desks h d id held None (Err ask_fault.NotHeld) legal g entries is asks missing =
+    not_surely h d id held g is
 ask_safe ranges desks h d id held None (Err (ask_fault.Incomplete m)) legal g entries is asks missing = absurd missing
 ask_safe ranges desks h d id held None (Err ask_fault.Memory) legal g entries is asks missing = tt
-ask_safe {A} ranges desks h d id held (Some pages) given legal g entries is asks missing = by_all (list_all is_some pages) refl given asks missing
+ask_safe {A} ranges desks h d id held (Some pages) given legal g entries is asks missing =
+    by_all (list_all is_some pages) refl given asks missing
   where
     by_all : (b : Bool) → list_all is_some pages ≡ b → (r : Result (List ℕ) AskFault) →
-        MatchBool b (AsksWhole (λ bytes. bytes) pages r) (r ≡ Err (ask_fault.Incomplete (missing_mask pages))) → NamesMissing (Some pages) r →
+        MatchBool b (AsksWhole (λ bytes. bytes) pages r) (r ≡ Err (ask_fault.Incomplete (missing_mask pages))) →
+        NamesMissing (Some pages) r →
         IsReplySafe h (Ask d id) (ask_reply r)
     by_all true all (Ok bytes) x names_are = true_document ranges desks h d id held pages bytes legal g is all x
     by_all true all (Err ask_fault.Memory) x names_are = tt
@@ -184,28 +206,36 @@ ask_safe {A} ranges desks h d id held (Some pages) given legal g entries is asks
     by_all false all (Ok bytes) x names_are = cc
     by_all false all (Err ask_fault.Memory) x names_are = tt
     by_all false all (Err ask_fault.NotHeld) x names_are = absurd names_are
-    by_all false all (Err (ask_fault.Incomplete m)) x names_are = truly_missing h d id m held pages g entries is all names_are
+    by_all false all (Err (ask_fault.Incomplete m)) x names_are =
+        truly_missing h d id m held pages g entries is all names_are
 
-pub ask_goes : {A : Type 0} (ranges : List Range) (capacities : List ℕ) (grids : List GridView) (h : History A) (d id capacity : ℕ)
-    (view : DeskView) (reply : Reply A) (state : DeskState A) → IsLegal ranges (length capacities) h → d < length capacities → IsCapacity capacity →
+pub ask_goes : {A : Type 0} (ranges : List Range) (capacities : List ℕ) (grids : List GridView) (h : History A)
+    (d id capacity : ℕ)
+    (view : DeskView) (reply : Reply A) (state : DeskState A) → IsLegal ranges (length capacities) h →
+    d < length capacities → IsCapacity capacity →
     DeskRuns grids h d capacity view → state ≡ desks.Running view → AskActs view id reply →
     DeskGoes ranges capacities grids h (Ask d id) reply d capacity state
 ask_goes {A} ranges capacities grids h d id capacity view reply state legal there room s at acts =
     subst (λ (x : DeskState A). DeskGoes ranges capacities grids h (Ask d id) reply d capacity x) (sym at)
-    (subst (λ (r : Reply A). DeskGoes ranges capacities grids h (Ask d id) r d capacity (desks.Running view)) (sym acts.reply_is)
+    (subst (λ (r : Reply A). DeskGoes ranges capacities grids h (Ask d id) r d capacity (desks.Running view))
+    (sym acts.reply_is)
     (by_answer acts.answer acts.asks acts.missing))
   where
     goes : (given : Result (List ℕ) AskFault) →
-        IsTold ranges (length capacities) h (Ask d id) (ask_reply given) d → down_after (ask_reply {A = A} given) false ≡ false →
+        IsTold ranges (length capacities) h (Ask d id) (ask_reply given) d →
+        down_after (ask_reply {A = A} given) false ≡ false →
         failed_after (ask_reply {A = A} given) (is_failed h (DeskAt d)) ≡ is_failed h (DeskAt d) →
         Asks (λ bytes. bytes) (finite.get view.held id) given → NamesMissing (finite.get view.held id) given →
         DeskGoes ranges capacities grids h (Ask d id) (ask_reply given) d capacity (desks.Running view)
     goes given told up failed asks missing =
-        desk_kept ranges capacities grids h (Ask d id) (ask_reply given) d capacity view view room s refl told up failed (λ i m t. absurd t) (λ i x. x)
-        (λ honest. ask_safe ranges (length capacities) h d id view.held (finite.get view.held id) given legal (s.gathered honest.1) acts.order.entries refl asks missing)
+        desk_kept ranges capacities grids h (Ask d id) (ask_reply given) d capacity view view room s refl told up failed
+        (λ i m t. absurd t) (λ i x. x)
+        (λ honest. ask_safe ranges (length capacities) h d id view.held (finite.get view.held id) given legal
+        (s.gathered honest.1) acts.order.entries refl asks missing)
         (λ honest. tt)
 
-    by_answer : (given : Result (List ℕ) AskFault) → Asks (λ bytes. bytes) (finite.get view.held id) given → NamesMissing (finite.get view.held id) given →
+    by_answer : (given : Result (List ℕ) AskFault) → Asks (λ bytes. bytes) (finite.get view.held id) given →
+        NamesMissing (finite.get view.held id) given →
         DeskGoes ranges capacities grids h (Ask d id) (ask_reply given) d capacity (desks.Running view)
     by_answer (Ok bytes) asks missing = goes (Ok bytes) (record {
       named = refl;
@@ -233,24 +263,30 @@ ask_goes {A} ranges capacities grids h d id capacity view reply state legal ther
 -- ---- a restart
 
 -- what a desk's set stands for
-set_of : {A : Type 0} (grids : List GridView) (h : History A) (d capacity : ℕ) (state : DeskState A) → DeskStands grids h d capacity state →
+set_of : {A : Type 0} (grids : List GridView) (h : History A) (d capacity : ℕ) (state : DeskState A) →
+    DeskStands grids h d capacity state →
     (stored : Documents) × SetStands grids h d capacity (desk_saved state) stored
 set_of grids h d capacity (desks.Running view) s = (s.1.stored, s.1.store)
 set_of grids h d capacity (desks.Down saved) s = (s.1.stored, s.1.store)
 
-room_of : {A : Type 0} (grids : List GridView) (h : History A) (d capacity : ℕ) (state : DeskState A) → DeskStands grids h d capacity state → IsCapacity capacity
+room_of : {A : Type 0} (grids : List GridView) (h : History A) (d capacity : ℕ) (state : DeskState A) →
+    DeskStands grids h d capacity state → IsCapacity capacity
 room_of grids h d capacity (desks.Running view) s = s.0
 room_of grids h d capacity (desks.Down saved) s = s.0
 
-pub restart_desk_goes : {A : Type 0} (ranges : List Range) (capacities : List ℕ) (grids : List GridView) (h : History A) (d capacity : ℕ)
+pub restart_desk_goes : {A : Type 0} (ranges : List Range) (capacities : List ℕ) (grids : List GridView) (h : History A)
+    (d capacity : ℕ)
     (reply : Reply A) (was state : DeskState A) → d < length capacities → DeskStands grids h d capacity was →
-    RestartDeskActs capacity (desk_saved was) reply state → DeskGoes ranges capacities grids h (RestartDesk d) reply d capacity state
+    RestartDeskActs capacity (desk_saved was) reply state →
+    DeskGoes ranges capacities grids h (RestartDesk d) reply d capacity state
 restart_desk_goes {A} ranges capacities grids h d capacity Restarted was state there s acts =
     let event : Event A = RestartDesk d in
     let e : Entry A = quiet event Restarted in
-    let t : (stored : Documents) × SetStands grids h d capacity (desk_saved was) stored = set_of grids h d capacity was s in
+    let t : (stored : Documents) × SetStands grids h d capacity (desk_saved was) stored =
+    set_of grids h d capacity was s in
     let store : SetStands grids (e ∷ h) d capacity (desk_saved was) t.0 =
-    set_keeps e h grids grids d capacity (desk_saved was) t.0 (λ honest. honest.1) (λ x. none_leaves event Restarted _ x) (λ id m x. absurd x) (λ id x. x) t.1 in
+    set_keeps e h grids grids d capacity (desk_saved was) t.0
+    (λ honest. honest.1) (λ x. none_leaves event Restarted _ x) (λ id m x. absurd x) (λ id x. x) t.1 in
     let held : acts.0.held ≡ t.0 = acts.2.shows t.0 t.1.holds t.1.few in
     subst (λ (x : DeskState A). DeskGoes ranges capacities grids h event Restarted d capacity x) (sym acts.1) (record {
       fits = desk_fits ranges (length capacities) h event Restarted d (record {
@@ -283,7 +319,8 @@ restart_desk_goes {A} ranges capacities grids h d capacity (DeskRefused fault) w
     let event : Event A = RestartDesk d in
     let reply : Reply A = DeskRefused fault in
     let e : Entry A = quiet event reply in
-    let t : (stored : Documents) × SetStands grids h d capacity (desk_saved was) stored = set_of grids h d capacity was s in
+    let t : (stored : Documents) × SetStands grids h d capacity (desk_saved was) stored =
+    set_of grids h d capacity was s in
     subst (λ (x : DeskState A). DeskGoes ranges capacities grids h event reply d capacity x) (sym acts.0) (record {
       fits = desk_fits ranges (length capacities) h event reply d (record {
         named = refl;
@@ -301,7 +338,8 @@ restart_desk_goes {A} ranges capacities grids h d capacity (DeskRefused fault) w
         record {
           down = is_down_same e h (DeskAt d) refl;
           stored = t.0;
-          store = set_keeps e h grids grids d capacity (desk_saved was) t.0 (λ honest. honest.1) (λ x. none_leaves event reply _ x) (λ id m x. absurd x) (λ id x. x) t.1;
+          store = set_keeps e h grids grids d capacity (desk_saved was) t.0
+              (λ honest. honest.1) (λ x. none_leaves event reply _ x) (λ id m x. absurd x) (λ id x. x) t.1;
         },
       );
       safe = λ _. tt;

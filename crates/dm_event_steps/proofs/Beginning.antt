@@ -39,7 +39,8 @@ first_ledger {A} ranges p range at = record {
   bounded = let a : opening_count ranges p ≡ size_of range = ap size_in at in omega arith;
 }
 
-first_printer : {A : Type 0} (ranges : List Range) (p : ℕ) (range : Range) (actor : PrinterActor A) → slice_get ranges p ≡ Some range →
+first_printer : {A : Type 0} (ranges : List Range) (p : ℕ) (range : Range) (actor : PrinterActor A) →
+    slice_get ranges p ≡ Some range →
     IsFresh p range actor → (let none : History A = [] in PrinterStands ranges none p actor)
 first_printer ranges p range (printer_actors.Running view) at f = record {
   up = refl;
@@ -71,9 +72,16 @@ first_desk {A} d capacity (desk_states.Running view) room f = (
 )
 first_desk d capacity (desk_states.Down saved) room f = absurd f
 
-pub begins : {A : Type 0} (ranges : List Range) (capacities : List ℕ) (printers : List (PrinterActor A)) (desks : List (DeskActor A)) →
+pub begins : {A : Type 0} (ranges : List Range) (capacities : List ℕ) (printers : List (PrinterActor A))
+    (desks : List (DeskActor A)) →
     AreDisjoint ranges → AreFresh ranges printers → AreEmpty capacities desks →
-    StandsFor ranges capacities (record { printers = printers; desks = desks; labels = []; tickets = []; exports = [] }) []
+    StandsFor ranges capacities (record {
+      printers = printers;
+      desks = desks;
+      labels = [];
+      tickets = [];
+      exports = [];
+    }) []
 begins {A} ranges capacities printers desks apart fresh empty = record {
   disjoint = apart;
   legal = tt;

@@ -42,8 +42,10 @@ same_key a b e =
     ] refl e
 
 -- what is held of another document is as it was
-pub get_other : (held : Documents) (id other : ℕ) (pages : Pages) → other ≢ id → map.get (map.insert held id pages) other ≡ map.get held other
-get_other held id other pages away = get-insert nat_cmp_total held id pages other ∙ chosen (eq_by_cmp nat_cmp other id) refl
+pub get_other : (held : Documents) (id other : ℕ) (pages : Pages) → other ≢ id →
+    map.get (map.insert held id pages) other ≡ map.get held other
+get_other held id other pages away = get-insert nat_cmp_total held id pages other ∙
+    chosen (eq_by_cmp nat_cmp other id) refl
   where
     chosen : (b : Bool) → eq_by_cmp nat_cmp other id ≡ b → cond b (Some pages) (map.get held other) ≡ map.get held other
     chosen true is = absurd (away (same_key other id is))
@@ -55,12 +57,14 @@ page_none zero = refl
 page_none (suc i) = refl
 
 -- a page that is put in its place
-set_same : (pages : Pages) (i : ℕ) (x : Option (List ℕ)) → i < length pages → slice_index_or (slice_set pages i x) i None ≡ x
+set_same : (pages : Pages) (i : ℕ) (x : Option (List ℕ)) → i < length pages →
+    slice_index_or (slice_set pages i x) i None ≡ x
 set_same [] i x there = absurd (omega arith)
 set_same (p ∷ ps) zero x there = refl
 set_same (p ∷ ps) (suc i) x there = set_same ps i x (omega arith)
 
-set_other : (pages : Pages) (i j : ℕ) (x : Option (List ℕ)) → i ≢ j → slice_index_or (slice_set pages i x) j None ≡ slice_index_or pages j None
+set_other : (pages : Pages) (i j : ℕ) (x : Option (List ℕ)) → i ≢ j →
+    slice_index_or (slice_set pages i x) j None ≡ slice_index_or pages j None
 set_other [] i j x other = refl
 set_other (p ∷ ps) zero zero x other = absurd (other refl)
 set_other (p ∷ ps) zero (suc j) x other = refl
@@ -77,7 +81,8 @@ pub record IsFree (held : Documents) (p : PageView) : Type 0 where
   pub was_missing : page_at held p.id p.m ≡ None
   pub count : (pages : Pages) → map.get held p.id ≡ Some pages → length pages ≡ p.n
 
-free_at : (capacity count : ℕ) (p : PageView) (found : Option Pages) (kind : Kind) → kind ≢ Again → answer_at capacity count p found ≡ Ok kind →
+free_at : (capacity count : ℕ) (p : PageView) (found : Option Pages) (kind : Kind) → kind ≢ Again →
+    answer_at capacity count p found ≡ Ok kind →
     (page (unwrap_or found []) p.m ≡ None) × ((pages : Pages) → found ≡ Some pages → length pages ≡ p.n)
 free_at capacity count p None kind other is = (page_none p.m, (λ pages same. cc))
 free_at capacity count p (Some pages) kind other is = by_count (length pages == p.n) refl is
@@ -101,7 +106,8 @@ free_at capacity count p (Some pages) kind other is = by_count (length pages == 
     by_count false same given = cc
 
 -- a page that is new was not held
-pub is_free : (capacity : ℕ) (held : Documents) (p : PageView) (kind : Kind) → kind ≢ Again → answer capacity held p ≡ Ok kind → IsFree held p
+pub is_free : (capacity : ℕ) (held : Documents) (p : PageView) (kind : Kind) → kind ≢ Again →
+    answer capacity held p ≡ Ok kind → IsFree held p
 is_free capacity held p kind other is =
     let t = free_at capacity (map.len held) p (map.get held p.id) kind other is in
     record { was_missing = t.0; count = t.1 }
@@ -118,8 +124,10 @@ pub record HoldsAlso (held : Documents) (p : PageView) (new : Documents) : Type 
   pub other_counts : (id : ℕ) → id ≢ p.id → counted new id ≡ counted held id
 
 -- the pages of a page's document once it is held too: as many as it says, it at its place, and the others as they were
-placed : (n i : ℕ) (bytes : List ℕ) (found : Option Pages) → i < n → ((pages : Pages) → found ≡ Some pages → length pages ≡ n) →
-    (let none : Option (List ℕ) = None in let all : Pages = slice_set (unwrap_or found (replicate n none)) i (Some bytes) in
+placed : (n i : ℕ) (bytes : List ℕ) (found : Option Pages) → i < n →
+    ((pages : Pages) → found ≡ Some pages → length pages ≡ n) →
+    (let none : Option (List ℕ) = None in let all : Pages = slice_set (unwrap_or found (replicate n none)) i
+    (Some bytes) in
     (length all ≡ n) × (page all (suc i) ≡ Some bytes) ×
     ((m : ℕ) → m ≢ suc i → page all m ≡ page (unwrap_or found []) m))
 placed n i bytes None there count =
@@ -129,9 +137,11 @@ placed n i bytes None there count =
       others,
     )
   where
-    others : (m : ℕ) → m ≢ suc i → (let none : Option (List ℕ) = None in page (slice_set (replicate n none) i (Some bytes)) m ≡ page [] m)
+    others : (m : ℕ) → m ≢ suc i →
+        (let none : Option (List ℕ) = None in page (slice_set (replicate n none) i (Some bytes)) m ≡ page [] m)
     others zero other = refl
-    others (suc j) other = (let none : Option (List ℕ) = None in set_other (replicate n none) i j (Some bytes) (λ same. other (ap suc (sym same))) ∙ none_at n j)
+    others (suc j) other = (let none : Option (List ℕ) = None in
+        set_other (replicate n none) i j (Some bytes) (λ same. other (ap suc (sym same))) ∙ none_at n j)
 placed n i bytes (Some pages) there count = (
   length-set pages i (Some bytes) ∙ count pages refl,
   set_same pages i (Some bytes) (let l = count pages refl in omega arith),
@@ -150,7 +160,8 @@ get_same held id pages = get-insert nat_cmp_total held id pages id ∙ chosen (e
     chosen false is = cc (is, own_key id)
 
 -- with the page held too, all else is as it was
-pub holds_also : (held : Documents) (p : PageView) → 1 ≤ p.m → p.m ≤ p.n → IsFree held p → HoldsAlso held p (with_page held p)
+pub holds_also : (held : Documents) (p : PageView) → 1 ≤ p.m → p.m ≤ p.n → IsFree held p →
+    HoldsAlso held p (with_page held p)
 holds_also held p least most free =
     let i : ℕ = p.m - 1 in
     let m_is : p.m ≡ suc i = omega arith in
@@ -158,14 +169,17 @@ holds_also held p least most free =
     let now : map.get (with_page held p) p.id ≡ Some (pages_with held p) = get_same held p.id (pages_with held p) in
     record {
       holds = record {
-        bytes = ap (λ (o : Option Pages). page (unwrap_or o []) p.m) now ∙ ap (λ (m : ℕ). page (pages_with held p) m) m_is ∙ t.1;
+        bytes = ap (λ (o : Option Pages). page (unwrap_or o []) p.m) now ∙
+            ap (λ (m : ℕ). page (pages_with held p) m) m_is ∙ t.1;
         count = ap (option_map length) now ∙ ap Some t.0;
       };
       other_pages = λ id m away. elim (same_or_other id p.id) [
         | inl same ↦
-            ap (λ (k : ℕ). page_at (with_page held p) k m) same ∙ ap (λ (o : Option Pages). page (unwrap_or o []) m) now ∙
+            ap (λ (k : ℕ). page_at (with_page held p) k m) same ∙
+            ap (λ (o : Option Pages). page (unwrap_or o []) m) now ∙
             t.2 m (λ is. other_place id m same away (is ∙ sym m_is)) ∙ sym (ap (λ (k : ℕ). page_at held k m) same)
-        | inr other ↦ ap (λ (o : Option Pages). page (unwrap_or o []) m) (get_other held p.id id (pages_with held p) other)
+        | inr other ↦ ap (λ (o : Option Pages). page (unwrap_or o []) m)
+            (get_other held p.id id (pages_with held p) other)
       ];
       other_counts = λ id other. ap (option_map length) (get_other held p.id id (pages_with held p) other);
     }
@@ -182,13 +196,15 @@ HoldsAllOthers held p = (m : ℕ) → 1 ≤ m → m ≤ p.n → m ≢ p.m → Is
 abbrev pub LacksAnother : Documents → PageView → Type 0
 LacksAnother held p = (m : ℕ) × (1 ≤ m) × (m ≤ p.n) × (m ≢ p.m) × (page_at held p.id m ≡ None)
 
-all_some : (pages : Pages) → list_all is_some pages ≡ true → (i : ℕ) → i < length pages → IsSome (slice_index_or pages i None)
+all_some : (pages : Pages) → list_all is_some pages ≡ true → (i : ℕ) → i < length pages →
+    IsSome (slice_index_or pages i None)
 all_some [] all i there = absurd (omega arith)
 all_some (None ∷ ps) all i there = cc
 all_some (Some x ∷ ps) all zero there = refl
 all_some (Some x ∷ ps) all (suc i) there = all_some ps all i (omega arith)
 
-not_all : (pages : Pages) → list_all is_some pages ≡ false → (i : ℕ) × (i < length pages) × (slice_index_or pages i None ≡ None)
+not_all : (pages : Pages) → list_all is_some pages ≡ false → (i : ℕ) × (i < length pages) ×
+    (slice_index_or pages i None ≡ None)
 not_all [] none = cc
 not_all (None ∷ ps) none = (0, (omega arith), refl)
 not_all (Some x ∷ ps) none = (let t = not_all ps none in (suc t.0, (let l = t.1 in omega arith), t.2))
@@ -230,26 +246,33 @@ kinds capacity count p (Some pages) kind least most many is = by_count (length p
         (kind ≡ New → (m : ℕ) × (1 ≤ m) × (m ≤ p.n) × (m ≢ p.m) × (page pages m ≡ None))
     by_all len free given =
         let t = kind_at (list_all is_some (slice_set pages (p.m - 1) (Some p.bytes))) kind given in
-        let len_set : length (slice_set pages (p.m - 1) (Some p.bytes)) ≡ length pages = length-set pages (p.m - 1) (Some p.bytes) in
+        let len_set : length (slice_set pages (p.m - 1) (Some p.bytes)) ≡ length pages =
+        length-set pages (p.m - 1) (Some p.bytes) in
         ((λ complete m low high other. complete_at (t.0 complete) m low high other), (λ new. missing_at (t.1 new)))
       where
-        complete_at : list_all is_some (slice_set pages (p.m - 1) (Some p.bytes)) ≡ true → (m : ℕ) → 1 ≤ m → m ≤ p.n → m ≢ p.m → IsSome (page pages m)
+        complete_at : list_all is_some (slice_set pages (p.m - 1) (Some p.bytes)) ≡ true → (m : ℕ) → 1 ≤ m → m ≤ p.n →
+            m ≢ p.m → IsSome (page pages m)
         complete_at all zero low high other = absurd (omega arith)
         complete_at all (suc j) low high other =
-            let len_set : length (slice_set pages (p.m - 1) (Some p.bytes)) ≡ length pages = length-set pages (p.m - 1) (Some p.bytes) in
-            subst (λ (o : Option (List ℕ)). IsSome o) (set_other pages (p.m - 1) j (Some p.bytes) (λ same. other (omega arith)))
+            let len_set : length (slice_set pages (p.m - 1) (Some p.bytes)) ≡ length pages =
+            length-set pages (p.m - 1) (Some p.bytes) in
+            subst (λ (o : Option (List ℕ)). IsSome o)
+            (set_other pages (p.m - 1) j (Some p.bytes) (λ same. other (omega arith)))
             (all_some (slice_set pages (p.m - 1) (Some p.bytes)) all j (omega arith))
 
         missing_at : list_all is_some (slice_set pages (p.m - 1) (Some p.bytes)) ≡ false →
             (m : ℕ) × (1 ≤ m) × (m ≤ p.n) × (m ≢ p.m) × (page pages m ≡ None)
         missing_at none =
             let u = not_all (slice_set pages (p.m - 1) (Some p.bytes)) none in
-            let len_set : length (slice_set pages (p.m - 1) (Some p.bytes)) ≡ length pages = length-set pages (p.m - 1) (Some p.bytes) in
+            let len_set : length (slice_set pages (p.m - 1) (Some p.bytes)) ≡ length pages =
+            length-set pages (p.m - 1) (Some p.bytes) in
             let away : p.m - 1 ≢ u.0 = (λ same.
             let there : p.m - 1 < length pages = omega arith in
-            let some : slice_index_or (slice_set pages (p.m - 1) (Some p.bytes)) (p.m - 1) None ≡ Some p.bytes = set_same pages (p.m - 1) (Some p.bytes) there in
+            let some : slice_index_or (slice_set pages (p.m - 1) (Some p.bytes)) (p.m - 1) None ≡ Some p.bytes =
+            set_same pages (p.m - 1) (Some p.bytes) there in
             let none_there : slice_index_or (slice_set pages (p.m - 1) (Some p.bytes)) (p.m - 1) None ≡ None =
-            ap (λ (k : ℕ). slice_index_or (slice_set pages (p.m - 1) (Some p.bytes)) k None) same ∙ u.2 in cc (some, none_there)) in (
+            ap (λ (k : ℕ). slice_index_or (slice_set pages (p.m - 1) (Some p.bytes)) k None) same ∙ u.2 in
+            cc (some, none_there)) in (
               suc u.0,
               (omega arith),
               (let l = u.1 in omega arith),
@@ -276,13 +299,17 @@ kinds capacity count p (Some pages) kind least most many is = by_count (length p
     by_count true same given = by_place (page pages p.m) (grind (arith, nat_tests, same)) refl given
     by_count false same given = cc
 
-pub holds_all_others : (capacity : ℕ) (held : Documents) (p : PageView) → 1 ≤ p.m → p.m ≤ p.n → 2 ≤ p.n → answer capacity held p ≡ Ok Complete →
+pub holds_all_others : (capacity : ℕ) (held : Documents) (p : PageView) → 1 ≤ p.m → p.m ≤ p.n → 2 ≤ p.n →
+    answer capacity held p ≡ Ok Complete →
     HoldsAllOthers held p
-holds_all_others capacity held p least most many is = (kinds capacity (map.len held) p (map.get held p.id) Complete least most many is).0 refl
+holds_all_others capacity held p least most many is =
+    (kinds capacity (map.len held) p (map.get held p.id) Complete least most many is).0 refl
 
-pub lacks_another : (capacity : ℕ) (held : Documents) (p : PageView) → 1 ≤ p.m → p.m ≤ p.n → 2 ≤ p.n → answer capacity held p ≡ Ok New →
+pub lacks_another : (capacity : ℕ) (held : Documents) (p : PageView) → 1 ≤ p.m → p.m ≤ p.n → 2 ≤ p.n →
+    answer capacity held p ≡ Ok New →
     LacksAnother held p
-lacks_another capacity held p least most many is = (kinds capacity (map.len held) p (map.get held p.id) New least most many is).1 refl
+lacks_another capacity held p least most many is =
+    (kinds capacity (map.len held) p (map.get held p.id) New least most many is).1 refl
 
 -- the document is held with another number of pages, or the page with other bytes
 abbrev pub Disagrees : Documents → PageView → Type 0
@@ -292,14 +319,16 @@ Disagrees held p =
 
 -- what `Again` and `Conflict` find
 told : (capacity count : ℕ) (p : PageView) (found : Option Pages) (o : Option Pages) → found ≡ o →
-    (answer_at capacity count p o ≡ Ok Again → (page (unwrap_or found []) p.m ≡ Some p.bytes) × (option_map length found ≡ Some p.n)) ×
+    (answer_at capacity count p o ≡ Ok Again → (page (unwrap_or found []) p.m ≡ Some p.bytes) ×
+    (option_map length found ≡ Some p.n)) ×
     (answer_at capacity count p o ≡ Err faults.Conflict →
     ((n : ℕ) × (option_map length found ≡ Some n) × (n ≢ p.n)) ⊎
     ((bytes : List ℕ) × (page (unwrap_or found []) p.m ≡ Some bytes) × (bytes ≢ p.bytes)))
 told capacity count p found None is = by_room (nat_lt count capacity)
   where
     by_room : (b : Bool) →
-        ((if b then Ok New else Err faults.Full) ≡ Ok Again → (page (unwrap_or found []) p.m ≡ Some p.bytes) × (option_map length found ≡ Some p.n)) ×
+        ((if b then Ok New else Err faults.Full) ≡ Ok Again → (page (unwrap_or found []) p.m ≡ Some p.bytes) ×
+        (option_map length found ≡ Some p.n)) ×
         ((if b then Ok New else Err faults.Full) ≡ Err faults.Conflict →
         ((n : ℕ) × (option_map length found ≡ Some n) × (n ≢ p.n)) ⊎
         ((bytes : List ℕ) × (page (unwrap_or found []) p.m ≡ Some bytes) × (bytes ≢ p.bytes)))
@@ -308,14 +337,16 @@ told capacity count p found None is = by_room (nat_lt count capacity)
 told capacity count p found (Some pages) is = by_count (length pages == p.n) refl
   where
     by_place : (o : Option (List ℕ)) → length pages ≡ p.n → page pages p.m ≡ o →
-        (answer_at_page pages p o ≡ Ok Again → (page (unwrap_or found []) p.m ≡ Some p.bytes) × (option_map length found ≡ Some p.n)) ×
+        (answer_at_page pages p o ≡ Ok Again → (page (unwrap_or found []) p.m ≡ Some p.bytes) ×
+        (option_map length found ≡ Some p.n)) ×
         (answer_at_page pages p o ≡ Err faults.Conflict →
         ((n : ℕ) × (option_map length found ≡ Some n) × (n ≢ p.n)) ⊎
         ((bytes : List ℕ) × (page (unwrap_or found []) p.m ≡ Some bytes) × (bytes ≢ p.bytes)))
     by_place None len at = by_all (list_all is_some (slice_set pages (p.m - 1) (Some p.bytes)))
       where
         by_all : (b : Bool) →
-            (told_kind b ≡ Ok Again → (page (unwrap_or found []) p.m ≡ Some p.bytes) × (option_map length found ≡ Some p.n)) ×
+            (told_kind b ≡ Ok Again → (page (unwrap_or found []) p.m ≡ Some p.bytes) ×
+            (option_map length found ≡ Some p.n)) ×
             (told_kind b ≡ Err faults.Conflict →
             ((n : ℕ) × (option_map length found ≡ Some n) × (n ≢ p.n)) ⊎
             ((bytes : List ℕ) × (page (unwrap_or found []) p.m ≡ Some bytes) × (bytes ≢ p.bytes)))
@@ -327,7 +358,8 @@ told capacity count p found (Some pages) is = by_count (length pages == p.n) ref
         shown = ap (λ (o : Option Pages). page (unwrap_or o []) p.m) is ∙ at
 
         by_bytes : (b : Bool) → Decides b (bytes ≡ p.bytes) →
-            ((if b then Ok Again else Err faults.Conflict) ≡ Ok Again → (page (unwrap_or found []) p.m ≡ Some p.bytes) × (option_map length found ≡ Some p.n)) ×
+            ((if b then Ok Again else Err faults.Conflict) ≡ Ok Again → (page (unwrap_or found []) p.m ≡ Some p.bytes) ×
+            (option_map length found ≡ Some p.n)) ×
             ((if b then Ok Again else Err faults.Conflict) ≡ Err faults.Conflict →
             ((n : ℕ) × (option_map length found ≡ Some n) × (n ≢ p.n)) ⊎
             ((bytes : List ℕ) × (page (unwrap_or found []) p.m ≡ Some bytes) × (bytes ≢ p.bytes)))
@@ -341,16 +373,27 @@ told capacity count p found (Some pages) is = by_count (length pages == p.n) ref
         ((n : ℕ) × (option_map length found ≡ Some n) × (n ≢ p.n)) ⊎
         ((bytes : List ℕ) × (page (unwrap_or found []) p.m ≡ Some bytes) × (bytes ≢ p.bytes)))
     by_count true same = by_place (page pages p.m) (grind (arith, nat_tests, same)) refl
-    by_count false same = ((λ e. cc), (λ e. inl (length pages, ap (option_map length) is, (λ len. let t : (length pages == p.n) ≡ true = eq-eqb (length pages) p.n len in cc (t, same)))))
+    by_count false same = (
+      (λ e. cc),
+      (λ e. inl (
+        length pages,
+        ap (option_map length) is,
+        (λ len. let t : (length pages == p.n) ≡ true = eq-eqb (length pages) p.n len in cc (t, same)),
+      )),
+    )
 
-pub holds_again : (capacity : ℕ) (held : Documents) (p : PageView) → answer capacity held p ≡ Ok Again → HoldsPage held p
+pub holds_again : (capacity : ℕ) (held : Documents) (p : PageView) → answer capacity held p ≡ Ok Again →
+    HoldsPage held p
 holds_again capacity held p is =
-    let t = (told capacity (map.len held) p (map.get held p.id) (map.get held p.id) refl).0 is in record { bytes = t.0; count = t.1 }
+    let t = (told capacity (map.len held) p (map.get held p.id) (map.get held p.id) refl).0 is in
+    record { bytes = t.0; count = t.1 }
 
-pub disagrees : (capacity : ℕ) (held : Documents) (p : PageView) → answer capacity held p ≡ Err faults.Conflict → Disagrees held p
+pub disagrees : (capacity : ℕ) (held : Documents) (p : PageView) → answer capacity held p ≡ Err faults.Conflict →
+    Disagrees held p
 disagrees capacity held p is = (told capacity (map.len held) p (map.get held p.id) (map.get held p.id) refl).1 is
 
-full_at : (capacity count : ℕ) (p : PageView) (found : Option Pages) → answer_at capacity count p found ≡ Err faults.Full → (found ≡ None) × (capacity ≤ count)
+full_at : (capacity count : ℕ) (p : PageView) (found : Option Pages) →
+    answer_at capacity count p found ≡ Err faults.Full → (found ≡ None) × (capacity ≤ count)
 full_at capacity count p None is = by_room (nat_lt count capacity) refl is
   where
     by_room : (b : Bool) → nat_lt count capacity ≡ b → (if b then Ok New else Err faults.Full) ≡ Err faults.Full →
@@ -359,7 +402,8 @@ full_at capacity count p None is = by_room (nat_lt count capacity) refl is
     by_room false e given = (refl, grind (arith, nat_tests, e))
 full_at capacity count p (Some pages) is = by_count (length pages == p.n) is
   where
-    by_place : (o : Option (List ℕ)) → answer_at_page pages p o ≡ Err faults.Full → (Some pages ≡ None) × (capacity ≤ count)
+    by_place : (o : Option (List ℕ)) → answer_at_page pages p o ≡ Err faults.Full →
+        (Some pages ≡ None) × (capacity ≤ count)
     by_place None given = by_all (list_all is_some (slice_set pages (p.m - 1) (Some p.bytes))) given
       where
         by_all : (b : Bool) → told_kind b ≡ Err faults.Full → (Some pages ≡ None) × (capacity ≤ count)
@@ -367,11 +411,13 @@ full_at capacity count p (Some pages) is = by_count (length pages == p.n) is
         by_all false e = cc
     by_place (Some bytes) given = by_bytes (bytes_eq bytes p.bytes) given
       where
-        by_bytes : (b : Bool) → (if b then Ok Again else Err faults.Conflict) ≡ Err faults.Full → (Some pages ≡ None) × (capacity ≤ count)
+        by_bytes : (b : Bool) → (if b then Ok Again else Err faults.Conflict) ≡ Err faults.Full →
+            (Some pages ≡ None) × (capacity ≤ count)
         by_bytes true e = cc
         by_bytes false e = cc
 
-    by_count : (b : Bool) → (if b then answer_at_page pages p (page pages p.m) else Err faults.Conflict) ≡ Err faults.Full →
+    by_count : (b : Bool) → (if b then answer_at_page pages p
+        (page pages p.m) else Err faults.Conflict) ≡ Err faults.Full →
         (Some pages ≡ None) × (capacity ≤ count)
     by_count true given = by_place (page pages p.m) given
     by_count false given = cc
@@ -411,5 +457,7 @@ lacks_means [] (suc m) = ((λ e. cc), (λ e low high. absurd (omega arith)))
 lacks_means (None ∷ ps) (suc zero) = ((λ e. ((omega arith), (omega arith), refl)), (λ e low high. cc))
 lacks_means (Some x ∷ ps) (suc zero) = ((λ e. cc), (λ e low high. refl))
 lacks_means (p ∷ ps) (suc (suc m)) =
-    let t = lacks_means ps (suc m) in
-    ((λ e. let u = t.0 e in ((omega arith), (let v = u.1 in omega arith), u.2)), (λ e low high. t.1 e (omega arith) (omega arith)))
+    let t = lacks_means ps (suc m) in (
+      (λ e. let u = t.0 e in ((omega arith), (let v = u.1 in omega arith), u.2)),
+      (λ e low high. t.1 e (omega arith) (omega arith)),
+    )

@@ -43,7 +43,8 @@ pub none_leaves : {A : Type 0} (event : Event A) (reply : Reply A) (P : Type 0) 
 none_leaves event reply P some = absurd (omega arith)
 
 -- why the entry of an event at a desk is one that comes after this history
-pub record IsTold {A : Type 0} (ranges : List Range) (desks : ℕ) (h : History A) (event : Event A) (reply : Reply A) (d : ℕ) : Type 0 where
+pub record IsTold {A : Type 0} (ranges : List Range) (desks : ℕ) (h : History A) (event : Event A) (reply : Reply A)
+    (d : ℕ) : Type 0 where
   pub named : actor_of event ≡ DeskAt d
   pub there : IsThere (length ranges) desks h event
   pub some_such : reply ≢ NoSuch
@@ -54,7 +55,8 @@ pub record IsTold {A : Type 0} (ranges : List Range) (desks : ℕ) (h : History 
   pub is_reply : IsFine ranges h 0 event reply
   pub untold : ¬ (tells_of_save reply ≡ true)
 
-pub desk_fits : {A : Type 0} (ranges : List Range) (desks : ℕ) (h : History A) (event : Event A) (reply : Reply A) (d : ℕ) →
+pub desk_fits : {A : Type 0} (ranges : List Range) (desks : ℕ) (h : History A) (event : Event A) (reply : Reply A)
+    (d : ℕ) →
     IsTold ranges desks h event reply d → Fits ranges desks h (quiet event reply)
 desk_fits ranges desks h event reply d c = record {
   reply = c.is_reply.1;
@@ -77,7 +79,8 @@ desk_fits ranges desks h event reply d c = record {
 -- ---- what is held
 
 -- a set stands on, if it is as it was and what the entry takes is held already
-pub set_keeps : {A : Type 0} (e : Entry A) (h : History A) (grids all : List GridView) (d capacity : ℕ) (saved : SavedSet) (held : Documents) →
+pub set_keeps : {A : Type 0} (e : Entry A) (h : History A) (grids all : List GridView) (d capacity : ℕ)
+    (saved : SavedSet) (held : Documents) →
     (IsHonest all (e ∷ h) → IsHonest grids h) → (0 < e.left → docs h e.id ≡ None) →
     ((id m : ℕ) → Takes h e.event e.reply d id m → IsSome (page_at held id m)) →
     ((id : ℕ) → ¬ Forgets e.event e.reply d id) →
@@ -90,7 +93,8 @@ set_keeps e h grids all d capacity saved held back fresh takes stays s = record 
 }
 
 -- a running desk stands on, if it is as it was and what the entry takes is held already
-pub running_keeps : {A : Type 0} (e : Entry A) (h : History A) (grids all : List GridView) (d capacity : ℕ) (view : DeskView) →
+pub running_keeps : {A : Type 0} (e : Entry A) (h : History A) (grids all : List GridView) (d capacity : ℕ)
+    (view : DeskView) →
     (IsHonest all (e ∷ h) → IsHonest grids h) → (0 < e.left → docs h e.id ≡ None) →
     is_down (e ∷ h) (DeskAt d) ≡ false → is_failed (e ∷ h) (DeskAt d) ≡ is_failed h (DeskAt d) →
     (s : DeskRuns grids h d capacity view) →
@@ -103,18 +107,21 @@ running_keeps e h grids all d capacity view back fresh up failed s takes stays =
   stored = s.stored;
   store = set_keeps e h grids all d capacity view.saved s.stored back fresh (λ id m t. (takes id m t).1) stays s.store;
   shows = s.shows;
-  gathered = λ honest. gathered_keeps e h d view.held fresh (λ id m t. (takes id m t).0) stays (s.gathered (back honest));
+  gathered = λ honest. gathered_keeps e h d view.held fresh (λ id m t. (takes id m t).0) stays
+      (s.gathered (back honest));
 }
 
 -- ---- plans
 
 -- a plan that was set and is fine again leaves a ready desk as it was
-pub fine_desk : (view : DeskView) (next : NextSave) → IsReadySet view.saved → desk_planned (desk_planned view next) next_save.Fine ≡ view
+pub fine_desk : (view : DeskView) (next : NextSave) → IsReadySet view.saved →
+    desk_planned (desk_planned view next) next_save.Fine ≡ view
 fine_desk view next ready =
     ap (λ (p : SavePlan). record view { saved = record view.saved { save_plan = p } }) (sym ready.saves_fine)
 
 -- a set is ready after a save, however it ended
-pub ready_set : (view mid : DeskView) (plan : NextSave) (content : Contents) (outcome : Outcome) → IsReadySet view.saved →
+pub ready_set : (view mid : DeskView) (plan : NextSave) (content : Contents) (outcome : Outcome) →
+    IsReadySet view.saved →
     Saves (desk_planned view plan).saved content outcome mid.saved → IsReadySet (desk_planned mid next_save.Fine).saved
 ready_set view mid plan content outcome ready saves = record {
   honest = saves.same_honesty ∙ ready.honest;
@@ -144,8 +151,10 @@ faulted_with (AfterLabels k) view mid content called saves = absurd called
 -- ---- how a desk goes on
 
 -- a running desk that is left as it was, whatever the reply
-pub desk_kept : {A : Type 0} (ranges : List Range) (capacities : List ℕ) (grids : List GridView) (h : History A) (event : Event A) (reply : Reply A)
-    (d capacity : ℕ) (view after : DeskView) → IsCapacity capacity → (s : DeskRuns grids h d capacity view) → after ≡ view →
+pub desk_kept : {A : Type 0} (ranges : List Range) (capacities : List ℕ) (grids : List GridView) (h : History A)
+    (event : Event A) (reply : Reply A)
+    (d capacity : ℕ) (view after : DeskView) → IsCapacity capacity → (s : DeskRuns grids h d capacity view) →
+    after ≡ view →
     IsTold ranges (length capacities) h event reply d → down_after reply false ≡ false →
     failed_after reply (is_failed h (DeskAt d)) ≡ is_failed h (DeskAt d) →
     ((id m : ℕ) → Takes h event reply d id m → IsSome (page_at view.held id m) × IsSome (page_at s.stored id m)) →
@@ -153,7 +162,8 @@ pub desk_kept : {A : Type 0} (ranges : List Range) (capacities : List ℕ) (grid
     (IsHonest grids (quiet event reply ∷ h) → IsReplySafe h event reply) →
     (IsHonest grids (quiet event reply ∷ h) → IsHonestReply grids capacities h event reply) →
     DeskGoes ranges capacities grids h event reply d capacity (desks.Running after)
-desk_kept {A} ranges capacities grids h event reply d capacity view after room s same told up failed takes stays safe answers =
+desk_kept {A} ranges capacities grids h event reply d capacity view after room s same told up failed takes stays safe
+    answers =
     let e : Entry A = quiet event reply in
     record {
       fits = desk_fits ranges (length capacities) h event reply d told;
@@ -169,9 +179,12 @@ desk_kept {A} ranges capacities grids h event reply d capacity view after room s
     }
 
 -- the set of a desk that saved
-pub set_saved : {A : Type 0} (grids : List GridView) (e : Entry A) (h : History A) (d capacity : ℕ) (view mid : DeskView) (plan : NextSave)
-    (content : Contents) (held : Documents) → IsReadySet view.saved → Saves (desk_planned view plan).saved content Done mid.saved →
-    Holds held (desk_planned view plan) mid → finite.len held ≤ capacity → (IsHonest grids (e ∷ h) → IsGathered (e ∷ h) d held) →
+pub set_saved : {A : Type 0} (grids : List GridView) (e : Entry A) (h : History A) (d capacity : ℕ)
+    (view mid : DeskView) (plan : NextSave)
+    (content : Contents) (held : Documents) → IsReadySet view.saved →
+    Saves (desk_planned view plan).saved content Done mid.saved →
+    Holds held (desk_planned view plan) mid → finite.len held ≤ capacity →
+    (IsHonest grids (e ∷ h) → IsGathered (e ∷ h) d held) →
     SetStands grids (e ∷ h) d capacity (desk_planned mid next_save.Fine).saved held
 set_saved grids e h d capacity view mid plan content held ready saves holding few gathered = record {
   ready = ready_set view mid plan content Done ready saves;
@@ -181,16 +194,20 @@ set_saved grids e h d capacity view mid plan content held ready saves holding fe
 }
 
 -- a running desk that saved
-pub desk_saves : {A : Type 0} (ranges : List Range) (capacities : List ℕ) (grids : List GridView) (h : History A) (event : Event A) (reply : Reply A)
-    (d capacity : ℕ) (view mid : DeskView) (plan : NextSave) (content : Contents) (held : Documents) → IsCapacity capacity →
-    DeskRuns grids h d capacity view → Saves (desk_planned view plan).saved content Done mid.saved → Holds held (desk_planned view plan) mid →
+pub desk_saves : {A : Type 0} (ranges : List Range) (capacities : List ℕ) (grids : List GridView) (h : History A)
+    (event : Event A) (reply : Reply A)
+    (d capacity : ℕ) (view mid : DeskView) (plan : NextSave) (content : Contents) (held : Documents) →
+    IsCapacity capacity →
+    DeskRuns grids h d capacity view → Saves (desk_planned view plan).saved content Done mid.saved →
+    Holds held (desk_planned view plan) mid →
     finite.len held ≤ capacity → IsTold ranges (length capacities) h event reply d → down_after reply false ≡ false →
     failed_after reply (is_failed h (DeskAt d)) ≡ is_failed h (DeskAt d) →
     (IsHonest grids (quiet event reply ∷ h) → IsGathered (quiet event reply ∷ h) d held) →
     (IsHonest grids (quiet event reply ∷ h) → IsReplySafe h event reply) →
     (IsHonest grids (quiet event reply ∷ h) → IsHonestReply grids capacities h event reply) →
     DeskGoes ranges capacities grids h event reply d capacity (desks.Running (desk_planned mid next_save.Fine))
-desk_saves {A} ranges capacities grids h event reply d capacity view mid plan content held room s saves holding few told up failed gathered safe answers =
+desk_saves {A} ranges capacities grids h event reply d capacity view mid plan content held room s saves holding few told
+    up failed gathered safe answers =
     let e : Entry A = quiet event reply in
     record {
       fits = desk_fits ranges (length capacities) h event reply d told;
@@ -198,7 +215,8 @@ desk_saves {A} ranges capacities grids h event reply d capacity view mid plan co
         room,
         record {
           up = is_down_same e h (DeskAt d) told.named ∙ ap (down_after reply) s.up ∙ up;
-          failed = holding.running ∙ sym (is_failed_same e h (DeskAt d) told.named ∙ failed ∙ sym s.failed ∙ holding.was_running);
+          failed = holding.running ∙ sym (is_failed_same e h (DeskAt d) told.named ∙ failed ∙ sym s.failed ∙
+              holding.was_running);
           capacity_is = holding.capacity ∙ s.capacity_is;
           stored = held;
           store = set_saved grids e h d capacity view mid plan content held s.store.ready saves holding few gathered;
@@ -215,24 +233,29 @@ abbrev pub kept_held : Kept → Documents → Documents → Documents
 kept_held Old shown unsaved = shown
 kept_held New shown unsaved = unsaved
 
-kept_is : (k : Kept) (shown unsaved kept : Documents) → HeldAfterFault (save_plan_of (next_save_of (SaveFault k))) shown unsaved kept →
+kept_is : (k : Kept) (shown unsaved kept : Documents) →
+    HeldAfterFault (save_plan_of (next_save_of (SaveFault k))) shown unsaved kept →
     kept ≡ kept_held k shown unsaved
 kept_is Old shown unsaved kept is = is
 kept_is New shown unsaved kept is = is
 
 -- a running desk whose save failed
-pub desk_fails : {A : Type 0} (ranges : List Range) (capacities : List ℕ) (grids : List GridView) (h : History A) (event : Event A) (reply : Reply A)
+pub desk_fails : {A : Type 0} (ranges : List Range) (capacities : List ℕ) (grids : List GridView) (h : History A)
+    (event : Event A) (reply : Reply A)
     (d capacity : ℕ) (view mid : DeskView) (k : Kept) (content : Contents) (held : Documents) → IsCapacity capacity →
-    DeskRuns grids h d capacity view → Saves (desk_planned view (next_save_of (SaveFault k))).saved content Faulted mid.saved →
+    DeskRuns grids h d capacity view →
+    Saves (desk_planned view (next_save_of (SaveFault k))).saved content Faulted mid.saved →
     FailsToHold held (desk_planned view (next_save_of (SaveFault k))) mid →
-    finite.len (kept_held k view.held held) ≤ capacity → IsTold ranges (length capacities) h event reply d → down_after reply false ≡ false →
+    finite.len (kept_held k view.held held) ≤ capacity → IsTold ranges (length capacities) h event reply d →
+    down_after reply false ≡ false →
     failed_after reply (is_failed h (DeskAt d)) ≡ true →
     (IsHonest grids (quiet event reply ∷ h) → IsGathered (quiet event reply ∷ h) d (kept_held k view.held held)) →
     (IsHonest grids (quiet event reply ∷ h) → IsGathered (quiet event reply ∷ h) d view.held) →
     (IsHonest grids (quiet event reply ∷ h) → IsReplySafe h event reply) →
     (IsHonest grids (quiet event reply ∷ h) → IsHonestReply grids capacities h event reply) →
     DeskGoes ranges capacities grids h event reply d capacity (desks.Running (desk_planned mid next_save.Fine))
-desk_fails {A} ranges capacities grids h event reply d capacity view mid k content held room s saves fails few told up failed stored shown safe answers =
+desk_fails {A} ranges capacities grids h event reply d capacity view mid k content held room s saves fails few told up
+    failed stored shown safe answers =
     let e : Entry A = quiet event reply in
     let kept = fails.kept s.store.ready.honest in
     record {
@@ -246,7 +269,8 @@ desk_fails {A} ranges capacities grids h event reply d capacity view mid k conte
           stored = kept_held k view.held held;
           store = record {
             ready = ready_set view mid (next_save_of (SaveFault k)) content Faulted s.store.ready saves;
-            holds = subst (λ (x : Documents). HoldsFiles mid.saved.content x) (kept_is k view.held held kept.0 kept.1) kept.2;
+            holds = subst (λ (x : Documents). HoldsFiles mid.saved.content x)
+                (kept_is k view.held held kept.0 kept.1) kept.2;
             few = few;
             gathered = stored;
           };
@@ -259,11 +283,13 @@ desk_fails {A} ranges capacities grids h event reply d capacity view mid k conte
     }
 
 -- a call that was stopped leaves the desk down
-pub desk_stopped : {A : Type 0} (ranges : List Range) (capacities : List ℕ) (grids : List GridView) (h : History A) (event : Event A)
+pub desk_stopped : {A : Type 0} (ranges : List Range) (capacities : List ℕ) (grids : List GridView) (h : History A)
+    (event : Event A)
     (d capacity : ℕ) (saved : SavedSet) (stored : Documents) (state : DeskState A) → IsCapacity capacity →
     (let reply : Reply A = Stopped in IsTold ranges (length capacities) h event reply d) →
     (let reply : Reply A = Stopped in SetStands grids (quiet event reply ∷ h) d capacity saved stored) →
-    (let reply : Reply A = Stopped in IsReplySafe h event reply) → (let reply : Reply A = Stopped in IsHonestReply grids capacities h event reply) →
+    (let reply : Reply A = Stopped in IsReplySafe h event reply) →
+    (let reply : Reply A = Stopped in IsHonestReply grids capacities h event reply) →
     state ≡ desks.Down saved → DeskGoes ranges capacities grids h event Stopped d capacity state
 desk_stopped {A} ranges capacities grids h event d capacity saved stored state room told store safe answers is =
     let e : Entry A = quiet event Stopped in
@@ -275,14 +301,19 @@ desk_stopped {A} ranges capacities grids h event d capacity saved stored state r
     })
 
 -- a desk that answers `Down`
-pub desk_down : {A : Type 0} (ranges : List Range) (capacities : List ℕ) (grids : List GridView) (h : History A) (event : Event A)
-    (reply : Reply A) (d capacity : ℕ) (saved : SavedSet) (state : DeskState A) → IsCapacity capacity → actor_of event ≡ DeskAt d →
-    IsThere (length ranges) (length capacities) h event → NeedsRunning event → (let none : Reply A = Down in IsFine ranges h 0 event none) →
+pub desk_down : {A : Type 0} (ranges : List Range) (capacities : List ℕ) (grids : List GridView) (h : History A)
+    (event : Event A)
+    (reply : Reply A) (d capacity : ℕ) (saved : SavedSet) (state : DeskState A) → IsCapacity capacity →
+    actor_of event ≡ DeskAt d →
+    IsThere (length ranges) (length capacities) h event → NeedsRunning event →
+    (let none : Reply A = Down in IsFine ranges h 0 event none) →
     DeskLiesDown grids h d capacity saved → ((id m : ℕ) → (let none : Reply A = Down in ¬ Takes h event none d id m)) →
     ((id : ℕ) → (let none : Reply A = Down in ¬ Forgets event none d id)) →
-    (let none : Reply A = Down in IsReplySafe h event none) → (let none : Reply A = Down in IsHonestReply grids capacities h event none) →
+    (let none : Reply A = Down in IsReplySafe h event none) →
+    (let none : Reply A = Down in IsHonestReply grids capacities h event none) →
     reply ≡ Down → state ≡ desks.Down saved → DeskGoes ranges capacities grids h event reply d capacity state
-desk_down {A} ranges capacities grids h event reply d capacity saved state room named there needs is_reply s takes stays safe answers is at =
+desk_down {A} ranges capacities grids h event reply d capacity saved state room named there needs is_reply s takes stays
+    safe answers is at =
     let e : Entry A = quiet event Down in
     subst (λ (y : Reply A). DeskGoes ranges capacities grids h event y d capacity state) (sym is)
     (subst (λ (x : DeskState A). DeskGoes ranges capacities grids h event Down d capacity x) (sym at) (record {
@@ -302,7 +333,8 @@ desk_down {A} ranges capacities grids h event reply d capacity saved state room 
         record {
           down = is_down_same e h (DeskAt d) named ∙ s.down;
           stored = s.stored;
-          store = set_keeps e h grids grids d capacity saved s.stored (λ honest. honest.1) (λ x. none_leaves {A = A} event Down _ x)
+          store = set_keeps e h grids grids d capacity saved s.stored
+              (λ honest. honest.1) (λ x. none_leaves {A = A} event Down _ x)
               (λ id m t. absurd (takes id m t)) stays s.store;
         },
       );
@@ -311,13 +343,19 @@ desk_down {A} ranges capacities grids h event reply d capacity saved state room 
     }))
 
 -- a running desk that answers `Memory` is as it was
-pub memory_goes : {A : Type 0} (ranges : List Range) (capacities : List ℕ) (grids : List GridView) (h : History A) (event : Event A)
-    (d capacity : ℕ) (view : DeskView) (reply : Reply A) (state : DeskState A) → IsCapacity capacity → DeskRuns grids h d capacity view →
-    actor_of event ≡ DeskAt d → IsThere (length ranges) (length capacities) h event → (let none : Reply A = Memory in IsFine ranges h 0 event none) →
-    ((id m : ℕ) → (let none : Reply A = Memory in ¬ Takes h event none d id m)) → ((id : ℕ) → (let none : Reply A = Memory in ¬ Forgets event none d id)) →
-    (let none : Reply A = Memory in IsReplySafe h event none) → (let none : Reply A = Memory in IsHonestReply grids capacities h event none) →
+pub memory_goes : {A : Type 0} (ranges : List Range) (capacities : List ℕ) (grids : List GridView) (h : History A)
+    (event : Event A)
+    (d capacity : ℕ) (view : DeskView) (reply : Reply A) (state : DeskState A) → IsCapacity capacity →
+    DeskRuns grids h d capacity view →
+    actor_of event ≡ DeskAt d → IsThere (length ranges) (length capacities) h event →
+    (let none : Reply A = Memory in IsFine ranges h 0 event none) →
+    ((id m : ℕ) → (let none : Reply A = Memory in ¬ Takes h event none d id m)) →
+    ((id : ℕ) → (let none : Reply A = Memory in ¬ Forgets event none d id)) →
+    (let none : Reply A = Memory in IsReplySafe h event none) →
+    (let none : Reply A = Memory in IsHonestReply grids capacities h event none) →
     reply ≡ Memory → state ≡ desks.Running view → DeskGoes ranges capacities grids h event reply d capacity state
-memory_goes {A} ranges capacities grids h event d capacity view reply state room s named there fine takes stays safe answers is at =
+memory_goes {A} ranges capacities grids h event d capacity view reply state room s named there fine takes stays safe
+    answers is at =
     subst (λ (y : Reply A). DeskGoes ranges capacities grids h event y d capacity state) (sym is)
     (subst (λ (x : DeskState A). DeskGoes ranges capacities grids h event Memory d capacity x) (sym at)
     (desk_kept ranges capacities grids h event Memory d capacity view view room s refl (record {
@@ -333,16 +371,21 @@ memory_goes {A} ranges capacities grids h event d capacity view reply state room
     }) refl refl (λ id m t. absurd (takes id m t)) stays (λ honest. safe) (λ honest. answers)))
 
 -- a call that lacked memory changed nothing, so the desk is as it was
-pub lacks_same : {A : Type 0} (stop : Stop) (Call : DeskView → Type 0) (view : DeskView) (state : DeskState A) → IsReadySet view.saved →
-    ((mid : DeskView) → Call mid → mid ≡ desk_planned view next_save.Fine) → DeskLacksMemory stop Call state → state ≡ desks.Running view
+pub lacks_same : {A : Type 0} (stop : Stop) (Call : DeskView → Type 0) (view : DeskView) (state : DeskState A) →
+    IsReadySet view.saved →
+    ((mid : DeskView) → Call mid → mid ≡ desk_planned view next_save.Fine) → DeskLacksMemory stop Call state →
+    state ≡ desks.Running view
 lacks_same stop Call view state ready same lacks =
     lacks.state_is ∙ ap desks.Running
-    (ap (λ (v : DeskView). desk_planned v next_save.Fine) (same lacks.mid lacks.call) ∙ fine_desk view next_save.Fine ready)
+    (ap (λ (v : DeskView). desk_planned v next_save.Fine) (same lacks.mid lacks.call) ∙
+    fine_desk view next_save.Fine ready)
 
 -- a call that is made and told so
-pub call_told : {A : Type 0} (ranges : List Range) (desks : ℕ) (h : History A) (event : Event A) (reply : Reply A) (d : ℕ) (stop : Stop) →
+pub call_told : {A : Type 0} (ranges : List Range) (desks : ℕ) (h : History A) (event : Event A) (reply : Reply A)
+    (d : ℕ) (stop : Stop) →
     actor_of event ≡ DeskAt d → IsThere (length ranges) desks h event → is_down h (DeskAt d) ≡ false → IsCalled stop →
-    (IsStopped event → IsStopping stop) → reply ≢ NoSuch → reply ≢ Down → reply ≢ Stopped → IsFine ranges h 0 event reply →
+    (IsStopped event → IsStopping stop) → reply ≢ NoSuch → reply ≢ Down → reply ≢ Stopped →
+    IsFine ranges h 0 event reply →
     ¬ (tells_of_save reply ≡ true) → IsTold ranges desks h event reply d
 call_told ranges desks h event reply d stop named there up called at some down unstopped fine untold = record {
   named = named;
@@ -359,7 +402,8 @@ call_told ranges desks h event reply d stop named there up called at some down u
 -- a call that is stopped
 pub stop_told : {A : Type 0} (ranges : List Range) (desks : ℕ) (h : History A) (event : Event A) (d : ℕ) →
     actor_of event ≡ DeskAt d → IsThere (length ranges) desks h event → is_down h (DeskAt d) ≡ false → IsStopped event →
-    (let reply : Reply A = Stopped in IsFine ranges h 0 event reply) → (let reply : Reply A = Stopped in IsTold ranges desks h event reply d)
+    (let reply : Reply A = Stopped in IsFine ranges h 0 event reply) →
+    (let reply : Reply A = Stopped in IsTold ranges desks h event reply d)
 stop_told ranges desks h event d named there up stopping fine = record {
   named = named;
   there = there;

@@ -58,7 +58,8 @@ there_named pages m some = names_mask pages m ∙ is_so (page pages m) some
 -- ---- parts
 
 -- what a desk holds of a document are parts of it
-parts_held : {A : Type 0} (h : History A) (d id : ℕ) (held : Documents) (pages : Pages) → IsGathered h d held → finite.get held id ≡ Some pages →
+parts_held : {A : Type 0} (h : History A) (d id : ℕ) (held : Documents) (pages : Pages) → IsGathered h d held →
+    finite.get held id ≡ Some pages →
     AreParts h id pages
 parts_held h d id held pages g is = record {
   cut = (counted_is h d id held pages g is).0;
@@ -74,7 +75,8 @@ parts_held h d id held pages g is = record {
 }
 
 -- parts stay parts
-pub parts_keep : {A : Type 0} (e : Entry A) (h : History A) (id : ℕ) (pages : Pages) → (0 < e.left → docs h e.id ≡ None) →
+pub parts_keep : {A : Type 0} (e : Entry A) (h : History A) (id : ℕ) (pages : Pages) →
+    (0 < e.left → docs h e.id ≡ None) →
     AreParts h id pages → AreParts (e ∷ h) id pages
 parts_keep e h id pages fresh p = record {
   cut = p.cut;
@@ -85,7 +87,8 @@ parts_keep e h id pages fresh p = record {
 
 -- ---- exports that are kept
 
-pub no_export : {A : Type 0} (grids : List GridView) (h : History A) (event : Event A) (reply : Reply A) (old new : List (LeftExport A)) →
+pub no_export : {A : Type 0} (grids : List GridView) (h : History A) (event : Event A) (reply : Reply A)
+    (old new : List (LeftExport A)) →
     new ≡ old → exported reply ≡ [] → ExportsGo grids h event reply old new
 no_export grids h event reply old new same none = record {
   more = [];
@@ -95,16 +98,22 @@ no_export grids h event reply old new same none = record {
 }
 
 -- an export at a running desk
-pub export_goes : {A : Type 0} (ranges : List Range) (capacities : List ℕ) (grids : List GridView) (h : History A) (d id capacity : ℕ)
-    (reply : Reply A) (view : DeskView) (state : DeskState A) (old new : List (LeftExport A)) → d < length capacities → IsCapacity capacity →
+pub export_goes : {A : Type 0} (ranges : List Range) (capacities : List ℕ) (grids : List GridView) (h : History A)
+    (d id capacity : ℕ)
+    (reply : Reply A) (view : DeskView) (state : DeskState A) (old new : List (LeftExport A)) → d < length capacities →
+    IsCapacity capacity →
     DeskRuns grids h d capacity view → map export_name_of old ≡ exports h → state ≡ desks.Running view →
     ExportActs view id old reply new →
-    DeskGoes ranges capacities grids h (Export d id) reply d capacity state × ExportsGo grids h (Export d id) reply old new
-export_goes {A} ranges capacities grids h d id capacity reply view state old new there room s had same acts = by_reply reply acts
+    DeskGoes ranges capacities grids h (Export d id) reply d capacity state ×
+    ExportsGo grids h (Export d id) reply old new
+export_goes {A} ranges capacities grids h d id capacity reply view state old new there room s had same acts =
+    by_reply reply acts
   where
-    goes : (r : Reply A) → IsFine ranges h 0 (Export d id) r → r ≢ NoSuch → r ≢ replies.Down → r ≢ Stopped → ¬ (tells_of_save r ≡ true) →
+    goes : (r : Reply A) → IsFine ranges h 0 (Export d id) r → r ≢ NoSuch → r ≢ replies.Down → r ≢ Stopped →
+        ¬ (tells_of_save r ≡ true) →
         ((i : ℕ) → ¬ Forgets (Export d id) r d i) → down_after r false ≡ false → ((b : Bool) → failed_after r b ≡ b) →
-        (IsGathered h d view.held → IsReplySafe h (Export d id) r) → DeskGoes ranges capacities grids h (Export d id) r d capacity state
+        (IsGathered h d view.held → IsReplySafe h (Export d id) r) →
+        DeskGoes ranges capacities grids h (Export d id) r d capacity state
     goes r fine some down unstopped untold stays up failed safe =
         subst (λ (x : DeskState A). DeskGoes ranges capacities grids h (Export d id) r d capacity x) (sym same)
         (desk_kept ranges capacities grids h (Export d id) r d capacity view view room s refl (record {
@@ -117,12 +126,15 @@ export_goes {A} ranges capacities grids h d id capacity reply view state old new
           stops = λ _ x. absurd x;
           is_reply = fine;
           untold = untold;
-        }) up (failed (is_failed h (DeskAt d))) (λ i m t. absurd t) stays (λ honest. safe (s.gathered honest.1)) (λ honest. tt))
+        }) up (failed (is_failed h (DeskAt d))) (λ i m t. absurd t) stays (λ honest. safe (s.gathered honest.1))
+        (λ honest. tt))
 
-    shown : (tells : Reply A) (r : Reply A) → (x : ExportsPages view id old r new) → ShowsPages grids (quiet (Export d id) tells ∷ h) x.export
+    shown : (tells : Reply A) (r : Reply A) → (x : ExportsPages view id old r new) →
+        ShowsPages grids (quiet (Export d id) tells ∷ h) x.export
     shown tells r x = record {
       pages = x.pages;
-      spells = subst (λ (i : ℕ). Spells i x.export.bytes x.pages) (sym x.id_is) (record { sound = x.order.entries id x.pages x.are_held; spelled = x.bytes_are });
+      spells = subst (λ (i : ℕ). Spells i x.export.bytes x.pages) (sym x.id_is)
+          (record { sound = x.order.entries id x.pages x.are_held; spelled = x.bytes_are });
       count_is = x.count_is;
       mask_is = x.mask_is;
       parts = λ honest. subst (λ (i : ℕ). AreParts (quiet (Export d id) tells ∷ h) i x.pages) (sym x.id_is)
@@ -130,10 +142,12 @@ export_goes {A} ranges capacities grids h d id capacity reply view state old new
           (parts_held h d id view.held x.pages (s.gathered honest.1) x.are_held));
     }
 
-    one_shows : (tells : Reply A) (r : Reply A) → (x : ExportsPages view id old r new) → (i : ℕ) (y : LeftExport A) → slice_get (x.export ∷ []) i ≡ Some y →
+    one_shows : (tells : Reply A) (r : Reply A) → (x : ExportsPages view id old r new) → (i : ℕ) (y : LeftExport A) →
+        slice_get (x.export ∷ []) i ≡ Some y →
         ShowsPages grids (quiet (Export d id) tells ∷ h) y
     one_shows tells r x zero y here =
-        (let is : x.export ≡ y = cc in subst (λ (z : LeftExport A). ShowsPages grids (quiet (Export d id) tells ∷ h) z) is (shown tells r x))
+        (let is : x.export ≡ y = cc in
+        subst (λ (z : LeftExport A). ShowsPages grids (quiet (Export d id) tells ∷ h) z) is (shown tells r x))
     one_shows tells r x (suc i) y here = cc
 
     told : (r : Reply A) → ExportsPages view id old r new →
@@ -143,16 +157,21 @@ export_goes {A} ranges capacities grids h d id capacity reply view state old new
         let index : length old ≡ length (exports h) = sym (length-map old export_name_of) ∙ ap length had in
         let named : (m : ℕ) → HasPage x.export.mask m → IsSome (page x.pages m) =
         (λ m bit. named_there x.pages m (subst (λ (k : ℕ). HasPage k m) x.mask_is bit)) in
-        subst (λ (y : Reply A). DeskGoes ranges capacities grids h (Export d id) y d capacity state × ExportsGo grids h (Export d id) y old new)
+        subst (λ (y : Reply A). DeskGoes ranges capacities grids h (Export d id) y d capacity state ×
+        ExportsGo grids h (Export d id) y old new)
         (sym x.reply_is) (
-          goes tells (refl, record { index_is = index; id_is = x.id_is }) (λ y. cc) (λ y. cc) (λ y. cc) (λ y. cc) (λ i y. y) refl (λ b. refl)
+          goes tells (refl, record { index_is = index; id_is = x.id_is })
+              (λ y. cc) (λ y. cc) (λ y. cc) (λ y. cc) (λ i y. y) refl (λ b. refl)
               (λ g. record {
                 document = (parts_held h d id view.held x.pages g x.are_held).cut;
                 printed = (parts_held h d id view.held x.pages g x.are_held).printed;
                 n_is = x.count_is ∙ (parts_held h d id view.held x.pages g x.are_held).count;
-                possibly = λ m bit. g.possibly id m (subst (λ (o : Option (List ℕ)). IsSome o) (sym (page_is view.held id m x.pages x.are_held)) (named m bit));
+                possibly = λ m bit. g.possibly id m
+                    (subst (λ (o : Option (List ℕ)). IsSome o) (sym (page_is view.held id m x.pages x.are_held))
+                    (named m bit));
                 surely = λ m is. subst (λ (k : ℕ). HasPage k m) (sym x.mask_is) (there_named x.pages m
-                    (subst (λ (o : Option (List ℕ)). IsSome o) (page_is view.held id m x.pages x.are_held) (g.surely id m is)));
+                    (subst (λ (o : Option (List ℕ)). IsSome o) (page_is view.held id m x.pages x.are_held)
+                    (g.surely id m is)));
               }),
           record {
             more = x.export ∷ [];
@@ -162,7 +181,8 @@ export_goes {A} ranges capacities grids h d id capacity reply view state old new
           },
         )
 
-    not_held : (o : Option Pages) → finite.get view.held id ≡ o → exporting.Exports {X = List ℕ} (λ bytes. bytes) id o (Err export_fault.NotHeld) →
+    not_held : (o : Option Pages) → finite.get view.held id ≡ o →
+        exporting.Exports {X = List ℕ} (λ bytes. bytes) id o (Err export_fault.NotHeld) →
         finite.get view.held id ≡ None
     not_held None at x = at
     not_held (Some pages) at x = absurd x
@@ -171,12 +191,14 @@ export_goes {A} ranges capacities grids h d id capacity reply view state old new
         DeskGoes ranges capacities grids h (Export d id) r d capacity state × ExportsGo grids h (Export d id) r old new
     by_reply (Exported index name n bits) x = told (Exported index name n bits) x
     by_reply (ExportRefused export_fault.NotHeld) x = (
-      goes (ExportRefused export_fault.NotHeld) (refl, tt) (λ y. cc) (λ y. cc) (λ y. cc) (λ y. cc) (λ i y. y) refl (λ b. refl)
+      goes (ExportRefused export_fault.NotHeld) (refl, tt) (λ y. cc) (λ y. cc) (λ y. cc) (λ y. cc) (λ i y. y) refl
+          (λ b. refl)
           (λ g. not_surely h d id view.held g (not_held (finite.get view.held id) refl x.1)),
       no_export grids h (Export d id) (ExportRefused export_fault.NotHeld) old new x.0 refl,
     )
     by_reply (ExportRefused export_fault.Memory) x = (
-      goes (ExportRefused export_fault.Memory) (refl, tt) (λ y. cc) (λ y. cc) (λ y. cc) (λ y. cc) (λ i y. y) refl (λ b. refl) (λ g. tt),
+      goes (ExportRefused export_fault.Memory) (refl, tt) (λ y. cc) (λ y. cc) (λ y. cc) (λ y. cc) (λ i y. y) refl
+          (λ b. refl) (λ g. tt),
       no_export grids h (Export d id) (ExportRefused export_fault.Memory) old new x.0 refl,
     )
     by_reply Memory x = (

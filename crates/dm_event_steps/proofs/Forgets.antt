@@ -51,8 +51,10 @@ use Rattle.dm_event_steps.proofs.DeskGoing.{none_leaves, memory_goes, lacks_same
 get_same : (held : Documents) (id : ℕ) → finite.get (finite.remove held id) id ≡ None
 get_same held id = get-remove nat_cmp_total held id id ∙ ap (λ (b : Bool). cond b None (finite.get held id)) (itself id)
 
-get_other : (held : Documents) (id other : ℕ) → other ≢ id → finite.get (finite.remove held id) other ≡ finite.get held other
-get_other held id other away = get-remove nat_cmp_total held id other ∙ ap (λ (b : Bool). cond b None (finite.get held other)) (apart other id away)
+get_other : (held : Documents) (id other : ℕ) → other ≢ id →
+    finite.get (finite.remove held id) other ≡ finite.get held other
+get_other held id other away = get-remove nat_cmp_total held id other ∙
+    ap (λ (b : Bool). cond b None (finite.get held other)) (apart other id away)
 
 no_page : (m : ℕ) → page [] m ≡ None
 no_page zero = refl
@@ -68,7 +70,8 @@ holds_without held id = record {
 
 -- ---- the file of a document that is held
 
-kept_file : {A : Type 0} (grids : List GridView) (h : History A) (d id capacity : ℕ) (view : DeskView) → DeskRuns grids h d capacity view →
+kept_file : {A : Type 0} (grids : List GridView) (h : History A) (d id capacity : ℕ) (view : DeskView) →
+    DeskRuns grids h d capacity view →
     view.is_failed ≡ false → IsSome (finite.get view.held id) → IsSome (finite.get view.saved.content id)
 kept_file grids h d id capacity view s was some =
     subst (λ (o : Option (List ℕ)). IsSome o) (sym (s.store.holds.files id))
@@ -81,73 +84,104 @@ kept_file grids h d id capacity view s was some =
 -- ---- a forget
 
 -- some page of a document that is held is possibly held
-some_possibly : {A : Type 0} (h : History A) (d id : ℕ) (held : Documents) → IsGathered h d held → AreEntries held → IsSome (finite.get held id) →
+some_possibly : {A : Type 0} (h : History A) (d id : ℕ) (held : Documents) → IsGathered h d held → AreEntries held →
+    IsSome (finite.get held id) →
     (m : ℕ) × IsPossiblyHeld h d id m
 some_possibly {A} h d id held g entries some = by_pages (finite.get held id) refl some
   where
     by_pages : (o : Option Pages) → finite.get held id ≡ o → IsSome o → (m : ℕ) × IsPossiblyHeld h d id m
     by_pages None at x = cc
     by_pages (Some pages) at x =
-        (let p = some_page pages (entries id pages at).some_held in
-        (suc p.0, g.possibly id (suc p.0) (subst (λ (o : Option (List ℕ)). IsSome o) (sym (page_is held id (suc p.0) pages at)) p.1)))
+        (let p = some_page pages (entries id pages at).some_held in (
+          suc p.0,
+          g.possibly id (suc p.0)
+              (subst (λ (o : Option (List ℕ)). IsSome o) (sym (page_is held id (suc p.0) pages at)) p.1),
+        ))
 
 -- what is gathered without the document, which the event may have forgotten
-gathered_less : {A : Type 0} (grids : List GridView) (h : History A) (d id capacity : ℕ) (stop : Stop) (reply : Reply A) (view : DeskView) →
+gathered_less : {A : Type 0} (grids : List GridView) (h : History A) (d id capacity : ℕ) (stop : Stop) (reply : Reply A)
+    (view : DeskView) →
     DeskRuns grids h d capacity view → may_save (Forget d id stop) reply ≡ true →
     ((other : ℕ) → other ≢ id → ¬ Forgets (Forget d id stop) reply d other) →
-    IsHonest grids (quiet (Forget d id stop) reply ∷ h) → IsGathered (quiet (Forget d id stop) reply ∷ h) d (finite.remove view.held id)
+    IsHonest grids (quiet (Forget d id stop) reply ∷ h) →
+    IsGathered (quiet (Forget d id stop) reply ∷ h) d (finite.remove view.held id)
 gathered_less {A} grids h d id capacity stop reply view s may stays honest =
-    gathered_without (quiet (Forget d id stop) reply) h d view.held (finite.remove view.held id) id (λ x. none_leaves (Forget d id stop) reply _ x)
+    gathered_without (quiet (Forget d id stop) reply) h d view.held (finite.remove view.held id) id
+    (λ x. none_leaves (Forget d id stop) reply _ x)
     (λ i m t. absurd t) (refl, refl, may) stays (holds_without view.held id) (s.gathered honest.1)
 
 -- a forget that is refused, and leaves the desk as it was
-refused_goes : {A : Type 0} (ranges : List Range) (capacities : List ℕ) (grids : List GridView) (h : History A) (d id capacity : ℕ) (stop : Stop)
-    (view mid : DeskView) (fault : ForgetFault) → d < length capacities → IsCapacity capacity → DeskRuns grids h d capacity view → IsCalled stop →
-    mid ≡ desk_planned view (next_save_of stop) → ((b : Bool) → (let reply : Reply A = ForgetRefused fault in failed_after reply b ≡ b)) →
-    IsForgetRefused h d stop fault → (IsHonest grids (quiet (Forget d id stop) (ForgetRefused fault) ∷ h) → IsForgetSafe h d id fault) →
-    DeskGoes ranges capacities grids h (Forget d id stop) (ForgetRefused fault) d capacity (desks.Running (desk_planned mid next_save.Fine))
+refused_goes : {A : Type 0} (ranges : List Range) (capacities : List ℕ) (grids : List GridView) (h : History A)
+    (d id capacity : ℕ) (stop : Stop)
+    (view mid : DeskView) (fault : ForgetFault) → d < length capacities → IsCapacity capacity →
+    DeskRuns grids h d capacity view → IsCalled stop →
+    mid ≡ desk_planned view (next_save_of stop) →
+    ((b : Bool) → (let reply : Reply A = ForgetRefused fault in failed_after reply b ≡ b)) →
+    IsForgetRefused h d stop fault → (IsHonest grids (quiet (Forget d id stop) (ForgetRefused fault) ∷ h) →
+    IsForgetSafe h d id fault) →
+    DeskGoes ranges capacities grids h (Forget d id stop) (ForgetRefused fault) d capacity
+    (desks.Running (desk_planned mid next_save.Fine))
 refused_goes {A} ranges capacities grids h d id capacity stop view mid fault there room s called same failed why safe =
-    desk_kept ranges capacities grids h (Forget d id stop) (ForgetRefused fault) d capacity view (desk_planned mid next_save.Fine) room s
+    desk_kept ranges capacities grids h (Forget d id stop) (ForgetRefused fault) d capacity view
+    (desk_planned mid next_save.Fine) room s
     (ap (λ (v : DeskView). desk_planned v next_save.Fine) same ∙ fine_desk view (next_save_of stop) s.store.ready)
-    (call_told ranges (length capacities) h (Forget d id stop) (ForgetRefused fault) d stop refl there s.up called (λ x. x) (λ x. cc) (λ x. cc) (λ x. cc)
+    (call_told ranges (length capacities) h (Forget d id stop) (ForgetRefused fault) d stop refl there s.up called
+    (λ x. x) (λ x. cc) (λ x. cc) (λ x. cc)
     (refl, why) (λ x. cc))
     refl (failed (is_failed h (DeskAt d))) (λ i m t. absurd t) (λ i x. x) safe (λ honest. tt)
 
-few_kept : (k : Kept) (view : DeskView) (id : ℕ) → finite.len view.held ≤ view.capacity → finite.len (kept_held k view.held (finite.remove view.held id)) ≤ view.capacity
+few_kept : (k : Kept) (view : DeskView) (id : ℕ) → finite.len view.held ≤ view.capacity →
+    finite.len (kept_held k view.held (finite.remove view.held id)) ≤ view.capacity
 few_kept kept.Old view id few = few
 few_kept kept.New view id few = few_remove view.held id view.capacity few
 
-gathered_kept : {A : Type 0} (grids : List GridView) (h : History A) (d id capacity : ℕ) (k : Kept) (view : DeskView) → DeskRuns grids h d capacity view →
+gathered_kept : {A : Type 0} (grids : List GridView) (h : History A) (d id capacity : ℕ) (k : Kept) (view : DeskView) →
+    DeskRuns grids h d capacity view →
     IsHonest grids (quiet (Forget d id (SaveFault k)) (ForgetRefused forget_fault.Save) ∷ h) →
-    IsGathered (quiet (Forget d id (SaveFault k)) (ForgetRefused forget_fault.Save) ∷ h) d (kept_held k view.held (finite.remove view.held id))
+    IsGathered (quiet (Forget d id (SaveFault k)) (ForgetRefused forget_fault.Save) ∷ h) d
+    (kept_held k view.held (finite.remove view.held id))
 gathered_kept {A} grids h d id capacity kept.Old view s honest =
     gathered_keeps (quiet (Forget d id (SaveFault kept.Old)) (ForgetRefused forget_fault.Save)) h d view.held
-    (λ x. none_leaves {A = A} (Forget d id (SaveFault kept.Old)) (ForgetRefused forget_fault.Save) _ x) (λ i m t. absurd t) (λ i x. x) (s.gathered honest.1)
+    (λ x. none_leaves {A = A} (Forget d id (SaveFault kept.Old)) (ForgetRefused forget_fault.Save) _ x)
+    (λ i m t. absurd t) (λ i x. x) (s.gathered honest.1)
 gathered_kept {A} grids h d id capacity kept.New view s honest =
-    gathered_less grids h d id capacity (SaveFault kept.New) (ForgetRefused forget_fault.Save) view s refl (λ other away x. x) honest
+    gathered_less grids h d id capacity (SaveFault kept.New) (ForgetRefused forget_fault.Save) view s refl
+    (λ other away x. x) honest
 
 -- what is answered to a forget at a desk that has not failed
-running_goes : {A : Type 0} (ranges : List Range) (capacities : List ℕ) (grids : List GridView) (h : History A) (d id capacity : ℕ) (stop : Stop)
-    (view mid : DeskView) (given : Result (Unit {0}) ForgetFault) → d < length capacities → IsCapacity capacity → DeskRuns grids h d capacity view →
-    IsCalled stop → IsInOrder view → view.is_failed ≡ false → forgetting.Forgets id (desk_planned view (next_save_of stop)) given mid →
-    DeskGoes ranges capacities grids h (Forget d id stop) (forget_reply given) d capacity (desks.Running (desk_planned mid next_save.Fine))
+running_goes : {A : Type 0} (ranges : List Range) (capacities : List ℕ) (grids : List GridView) (h : History A)
+    (d id capacity : ℕ) (stop : Stop)
+    (view mid : DeskView) (given : Result (Unit {0}) ForgetFault) → d < length capacities → IsCapacity capacity →
+    DeskRuns grids h d capacity view →
+    IsCalled stop → IsInOrder view → view.is_failed ≡ false →
+    forgetting.Forgets id (desk_planned view (next_save_of stop)) given mid →
+    DeskGoes ranges capacities grids h (Forget d id stop) (forget_reply given) d capacity
+    (desks.Running (desk_planned mid next_save.Fine))
 running_goes {A} ranges capacities grids h d id capacity stop view mid (Ok done) there room s called order was acts =
     let event : Event A = Forget d id stop in
     let saves = acts.removed.there (kept_file grids h d id capacity view s was acts.was_held) in
     let none : stop ≡ stops.None = done_with_none stop view mid _ called saves in
-    desk_saves ranges capacities grids h event Forgotten d capacity view mid (next_save_of stop) _ (finite.remove view.held id) room s saves acts.holding
-    (subst (λ (c : ℕ). finite.len (finite.remove view.held id) ≤ c) s.capacity_is (few_remove view.held id view.capacity order.few))
-    (call_told ranges (length capacities) h event Forgotten d stop refl there s.up called (λ x. x) (λ x. cc) (λ x. cc) (λ x. cc) (refl, none) (λ x. cc))
+    desk_saves ranges capacities grids h event Forgotten d capacity view mid (next_save_of stop) _
+    (finite.remove view.held id) room s saves acts.holding
+    (subst (λ (c : ℕ). finite.len (finite.remove view.held id) ≤ c) s.capacity_is
+    (few_remove view.held id view.capacity order.few))
+    (call_told ranges (length capacities) h event Forgotten d stop refl there s.up called
+    (λ x. x) (λ x. cc) (λ x. cc) (λ x. cc) (refl, none) (λ x. cc))
     refl refl
     (gathered_less grids h d id capacity stop Forgotten view s refl (λ other away x. away (sym x.1)))
     (λ honest. some_possibly h d id view.held (s.gathered honest.1) order.entries acts.was_held)
     (λ honest. tt)
-running_goes ranges capacities grids h d id capacity stop view mid (Err forget_fault.NotHeld) there room s called order was acts =
-    refused_goes ranges capacities grids h d id capacity stop view mid forget_fault.NotHeld there room s called acts.1 (λ b. refl) tt
+running_goes ranges capacities grids h d id capacity stop view mid
+    (Err forget_fault.NotHeld) there room s called order was acts =
+    refused_goes ranges capacities grids h d id capacity stop view mid forget_fault.NotHeld there room s called acts.1
+    (λ b. refl) tt
     (λ honest. not_surely h d id view.held (s.gathered honest.1) acts.0)
-running_goes ranges capacities grids h d id capacity stop view mid (Err forget_fault.Memory) there room s called order was acts =
-    refused_goes ranges capacities grids h d id capacity stop view mid forget_fault.Memory there room s called acts.1 (λ b. refl) tt (λ honest. tt)
-running_goes {A} ranges capacities grids h d id capacity stop view mid (Err forget_fault.Save) there room s called order was acts =
+running_goes ranges capacities grids h d id capacity stop view mid
+    (Err forget_fault.Memory) there room s called order was acts =
+    refused_goes ranges capacities grids h d id capacity stop view mid forget_fault.Memory there room s called acts.1
+    (λ b. refl) tt (λ honest. tt)
+running_goes {A} ranges capacities grids h d id capacity stop view mid
+    (Err forget_fault.Save) there room s called order was acts =
     let saves = acts.removed.there (kept_file grids h d id capacity view s was acts.was_held) in
     let k : (k : Kept) × (stop ≡ SaveFault k) = faulted_with stop view mid _ called saves in
     subst (λ (t : Stop). DeskGoes ranges capacities grids h (Forget d id t) (ForgetRefused forget_fault.Save) d capacity
@@ -155,50 +189,73 @@ running_goes {A} ranges capacities grids h d id capacity stop view mid (Err forg
     (by_kept k.0 (subst (λ (t : Stop). forgetting.FailsToLetGo id (desk_planned view (next_save_of t)) mid) k.1 acts))
   where
     by_kept : (k : Kept) → forgetting.FailsToLetGo id (desk_planned view (next_save_of (SaveFault k))) mid →
-        DeskGoes ranges capacities grids h (Forget d id (SaveFault k)) (ForgetRefused forget_fault.Save) d capacity (desks.Running (desk_planned mid next_save.Fine))
+        DeskGoes ranges capacities grids h (Forget d id (SaveFault k)) (ForgetRefused forget_fault.Save) d capacity
+        (desks.Running (desk_planned mid next_save.Fine))
     by_kept k f =
         let event : Event A = Forget d id (SaveFault k) in
         let reply : Reply A = ForgetRefused forget_fault.Save in
         desk_fails ranges capacities grids h event reply d capacity view mid k _ (finite.remove view.held id) room s
         (f.removed.there (kept_file grids h d id capacity view s was f.was_held)) f.failing
-        (subst (λ (c : ℕ). finite.len (kept_held k view.held (finite.remove view.held id)) ≤ c) s.capacity_is (few_kept k view id order.few))
-        (call_told ranges (length capacities) h event reply d (SaveFault k) refl there s.up tt (λ x. x) (λ x. cc) (λ x. cc) (λ x. cc) (refl, (k, refl)) (λ x. cc))
+        (subst (λ (c : ℕ). finite.len (kept_held k view.held (finite.remove view.held id)) ≤ c) s.capacity_is
+        (few_kept k view id order.few))
+        (call_told ranges (length capacities) h event reply d (SaveFault k) refl there s.up tt
+        (λ x. x) (λ x. cc) (λ x. cc) (λ x. cc) (refl, (k, refl)) (λ x. cc))
         refl refl (gathered_kept grids h d id capacity k view s)
-        (λ honest. gathered_keeps (quiet event reply) h d view.held (λ x. none_leaves event reply _ x) (λ i m t. absurd t) (λ i x. x) (s.gathered honest.1))
+        (λ honest. gathered_keeps (quiet event reply) h d view.held (λ x. none_leaves event reply _ x)
+        (λ i m t. absurd t) (λ i x. x) (s.gathered honest.1))
         (λ honest. tt) (λ honest. tt)
-running_goes ranges capacities grids h d id capacity stop view mid (Err forget_fault.Failed) there room s called order was acts = absurd acts
+running_goes ranges capacities grids h d id capacity stop view mid
+    (Err forget_fault.Failed) there room s called order was acts = absurd acts
 
-order_of : (id : ℕ) (view mid : DeskView) (plan : NextSave) (given : Result (Unit {0}) ForgetFault) → ForgetsOne id (desk_planned view plan) given mid → IsInOrder view
-order_of id view mid plan given f = record { room = f.before.room; few = f.before.few; entries = f.before.entries; saved = f.before.saved }
+order_of : (id : ℕ) (view mid : DeskView) (plan : NextSave) (given : Result (Unit {0}) ForgetFault) →
+    ForgetsOne id (desk_planned view plan) given mid → IsInOrder view
+order_of id view mid plan given f = record {
+  room = f.before.room;
+  few = f.before.few;
+  entries = f.before.entries;
+  saved = f.before.saved;
+}
 
-called_goes : {A : Type 0} (ranges : List Range) (capacities : List ℕ) (grids : List GridView) (h : History A) (d id capacity : ℕ) (stop : Stop)
-    (view mid : DeskView) (given : Result (Unit {0}) ForgetFault) → d < length capacities → IsCapacity capacity → DeskRuns grids h d capacity view →
+called_goes : {A : Type 0} (ranges : List Range) (capacities : List ℕ) (grids : List GridView) (h : History A)
+    (d id capacity : ℕ) (stop : Stop)
+    (view mid : DeskView) (given : Result (Unit {0}) ForgetFault) → d < length capacities → IsCapacity capacity →
+    DeskRuns grids h d capacity view →
     IsCalled stop → ForgetsOne id (desk_planned view (next_save_of stop)) given mid →
-    DeskGoes ranges capacities grids h (Forget d id stop) (forget_reply given) d capacity (desks.Running (desk_planned mid next_save.Fine))
-called_goes {A} ranges capacities grids h d id capacity stop view mid given there room s called f = by_failed view.is_failed refl
+    DeskGoes ranges capacities grids h (Forget d id stop) (forget_reply given) d capacity
+    (desks.Running (desk_planned mid next_save.Fine))
+called_goes {A} ranges capacities grids h d id capacity stop view mid given there room s called f =
+    by_failed view.is_failed refl
   where
     by_failed : (b : Bool) → view.is_failed ≡ b →
-        DeskGoes ranges capacities grids h (Forget d id stop) (forget_reply given) d capacity (desks.Running (desk_planned mid next_save.Fine))
+        DeskGoes ranges capacities grids h (Forget d id stop) (forget_reply given) d capacity
+        (desks.Running (desk_planned mid next_save.Fine))
     by_failed true was =
         (let x = f.failed was in
-        subst (λ (r : Result (Unit {0}) ForgetFault). DeskGoes ranges capacities grids h (Forget d id stop) (forget_reply r) d capacity
+        subst (λ (r : Result (Unit {0}) ForgetFault). DeskGoes ranges capacities grids h (Forget d id stop)
+        (forget_reply r) d capacity
         (desks.Running (desk_planned mid next_save.Fine))) (sym x.0)
-        (refused_goes ranges capacities grids h d id capacity stop view mid forget_fault.Failed there room s called x.1 (λ b. refl)
+        (refused_goes ranges capacities grids h d id capacity stop view mid forget_fault.Failed there room s called x.1
+        (λ b. refl)
         (sym s.failed ∙ was) (λ honest. tt)))
     by_failed false was =
-        running_goes ranges capacities grids h d id capacity stop view mid given there room s called (order_of id view mid (next_save_of stop) given f) was
+        running_goes ranges capacities grids h d id capacity stop view mid given there room s called
+        (order_of id view mid (next_save_of stop) given f) was
         (f.forgotten was)
 
 -- ---- a forget that is stopped
 
-stored_stopped : {A : Type 0} (grids : List GridView) (h : History A) (d id capacity : ℕ) (stop : Stop) (view mid : DeskView)
+stored_stopped : {A : Type 0} (grids : List GridView) (h : History A) (d id capacity : ℕ) (stop : Stop)
+    (view mid : DeskView)
     (given : Result (Unit {0}) ForgetFault) → DeskRuns grids h d capacity view →
-    (let reply : Reply A = Stopped in may_save (Forget d id stop) reply ≡ true) → ForgetsOne id (desk_planned view next_save.Fine) given mid →
-    (stored : Documents) × SetStands grids (quiet (Forget d id stop) Stopped ∷ h) d capacity (desk_planned mid next_save.Fine).saved stored
+    (let reply : Reply A = Stopped in may_save (Forget d id stop) reply ≡ true) →
+    ForgetsOne id (desk_planned view next_save.Fine) given mid →
+    (stored : Documents) × SetStands grids (quiet (Forget d id stop) Stopped ∷ h) d capacity
+    (desk_planned mid next_save.Fine).saved stored
 stored_stopped {A} grids h d id capacity stop view mid given s may f = by_failed view.is_failed refl
   where
     same : mid ≡ desk_planned view next_save.Fine →
-        (stored : Documents) × SetStands grids (quiet (Forget d id stop) Stopped ∷ h) d capacity (desk_planned mid next_save.Fine).saved stored
+        (stored : Documents) × SetStands grids (quiet (Forget d id stop) Stopped ∷ h) d capacity
+        (desk_planned mid next_save.Fine).saved stored
     same is =
         let e : Entry A = quiet (Forget d id stop) Stopped in
         let after : desk_planned mid next_save.Fine ≡ view =
@@ -209,52 +266,70 @@ stored_stopped {A} grids h d id capacity stop view mid given s may f = by_failed
               (λ x. none_leaves {A = A} (Forget d id stop) Stopped _ x) (λ i m t. absurd t) (λ i x. x) s.store),
         )
 
-    by_given : (r : Result (Unit {0}) ForgetFault) → view.is_failed ≡ false → forgetting.Forgets id (desk_planned view next_save.Fine) r mid →
-        (stored : Documents) × SetStands grids (quiet (Forget d id stop) Stopped ∷ h) d capacity (desk_planned mid next_save.Fine).saved stored
+    by_given : (r : Result (Unit {0}) ForgetFault) → view.is_failed ≡ false →
+        forgetting.Forgets id (desk_planned view next_save.Fine) r mid →
+        (stored : Documents) × SetStands grids (quiet (Forget d id stop) Stopped ∷ h) d capacity
+        (desk_planned mid next_save.Fine).saved stored
     by_given (Ok done) was x =
         let saves = x.removed.there (kept_file grids h d id capacity view s was x.was_held) in (
           finite.remove view.held id,
-          set_saved grids (quiet (Forget d id stop) Stopped) h d capacity view mid next_save.Fine _ (finite.remove view.held id) s.store.ready saves x.holding
-              (subst (λ (c : ℕ). finite.len (finite.remove view.held id) ≤ c) s.capacity_is (few_remove view.held id view.capacity f.before.few))
+          set_saved grids (quiet (Forget d id stop) Stopped) h d capacity view mid next_save.Fine _
+              (finite.remove view.held id) s.store.ready saves x.holding
+              (subst (λ (c : ℕ). finite.len (finite.remove view.held id) ≤ c) s.capacity_is
+              (few_remove view.held id view.capacity f.before.few))
               (gathered_less grids h d id capacity stop Stopped view s may (λ other away x. x)),
         )
     by_given (Err forget_fault.NotHeld) was x = same x.1
     by_given (Err forget_fault.Memory) was x = same x.1
-    by_given (Err forget_fault.Save) was x = absurd (x.removed.there (kept_file grids h d id capacity view s was x.was_held)).follows
+    by_given (Err forget_fault.Save) was x =
+        absurd (x.removed.there (kept_file grids h d id capacity view s was x.was_held)).follows
     by_given (Err forget_fault.Failed) was x = absurd x
 
     by_failed : (b : Bool) → view.is_failed ≡ b →
-        (stored : Documents) × SetStands grids (quiet (Forget d id stop) Stopped ∷ h) d capacity (desk_planned mid next_save.Fine).saved stored
+        (stored : Documents) × SetStands grids (quiet (Forget d id stop) Stopped ∷ h) d capacity
+        (desk_planned mid next_save.Fine).saved stored
     by_failed true was = same (f.failed was).1
     by_failed false was = by_given given was (f.forgotten was)
 
-stopped_goes : {A : Type 0} (ranges : List Range) (capacities : List ℕ) (grids : List GridView) (h : History A) (d id capacity : ℕ) (stop : Stop)
-    (view : DeskView) (state : DeskState A) → d < length capacities → IsCapacity capacity → DeskRuns grids h d capacity view →
+stopped_goes : {A : Type 0} (ranges : List Range) (capacities : List ℕ) (grids : List GridView) (h : History A)
+    (d id capacity : ℕ) (stop : Stop)
+    (view : DeskView) (state : DeskState A) → d < length capacities → IsCapacity capacity →
+    DeskRuns grids h d capacity view →
     StopsDesk stop view (λ mid. (given : Result (Unit {0}) ForgetFault) × (given ≢ Err forget_fault.Memory)
     × ForgetsOne id (desk_planned view next_save.Fine) given mid) state →
     DeskGoes ranges capacities grids h (Forget d id stop) Stopped d capacity state
 stopped_goes {A} ranges capacities grids h d id capacity stop view state there room s acts = by_stop stop acts
   where
-    before : (t : Stop) → (let reply : Reply A = Stopped in SetStands grids (quiet (Forget d id t) reply ∷ h) d capacity view.saved s.stored)
-    before t = set_keeps (quiet (Forget d id t) Stopped) h grids grids d capacity view.saved s.stored (λ honest. honest.1)
+    before : (t : Stop) → (let reply : Reply A = Stopped in
+        SetStands grids (quiet (Forget d id t) reply ∷ h) d capacity view.saved s.stored)
+    before t = set_keeps (quiet (Forget d id t) Stopped) h grids grids d capacity view.saved s.stored
+        (λ honest. honest.1)
         (λ x. none_leaves {A = A} (Forget d id t) Stopped _ x) (λ i m x. absurd x) (λ i x. x) s.store
 
     by_stop : (t : Stop) →
         StopsDesk t view (λ mid. (given : Result (Unit {0}) ForgetFault) × (given ≢ Err forget_fault.Memory)
         × ForgetsOne id (desk_planned view next_save.Fine) given mid) state →
         DeskGoes ranges capacities grids h (Forget d id t) Stopped d capacity state
-    by_stop BeforeSave x = desk_stopped ranges capacities grids h (Forget d id BeforeSave) d capacity view.saved s.stored state room
-        (stop_told ranges (length capacities) h (Forget d id BeforeSave) d refl there s.up tt (refl, tt)) (before BeforeSave) tt tt x
-    by_stop (InSave kept.Old) x = desk_stopped ranges capacities grids h (Forget d id (InSave kept.Old)) d capacity view.saved s.stored state room
-        (stop_told ranges (length capacities) h (Forget d id (InSave kept.Old)) d refl there s.up tt (refl, tt)) (before (InSave kept.Old)) tt tt x
+    by_stop BeforeSave x = desk_stopped ranges capacities grids h
+        (Forget d id BeforeSave) d capacity view.saved s.stored state room
+        (stop_told ranges (length capacities) h (Forget d id BeforeSave) d refl there s.up tt
+        (refl, tt)) (before BeforeSave) tt tt x
+    by_stop (InSave kept.Old) x = desk_stopped ranges capacities grids h
+        (Forget d id (InSave kept.Old)) d capacity view.saved s.stored state room
+        (stop_told ranges (length capacities) h (Forget d id (InSave kept.Old)) d refl there s.up tt
+        (refl, tt)) (before (InSave kept.Old)) tt tt x
     by_stop (InSave kept.New) x =
         (let stored = stored_stopped grids h d id capacity (InSave kept.New) view x.0 x.1.0 s refl x.1.2 in
-        desk_stopped ranges capacities grids h (Forget d id (InSave kept.New)) d capacity (desk_planned x.0 next_save.Fine).saved stored.0 state room
-        (stop_told ranges (length capacities) h (Forget d id (InSave kept.New)) d refl there s.up tt (refl, tt)) stored.1 tt tt x.2)
+        desk_stopped ranges capacities grids h (Forget d id (InSave kept.New)) d capacity
+        (desk_planned x.0 next_save.Fine).saved stored.0 state room
+        (stop_told ranges (length capacities) h (Forget d id (InSave kept.New)) d refl there s.up tt
+        (refl, tt)) stored.1 tt tt x.2)
     by_stop (AfterLabels most) x =
         (let stored = stored_stopped grids h d id capacity (AfterLabels most) view x.0 x.1.0 s refl x.1.2 in
-        desk_stopped ranges capacities grids h (Forget d id (AfterLabels most)) d capacity (desk_planned x.0 next_save.Fine).saved stored.0 state room
-        (stop_told ranges (length capacities) h (Forget d id (AfterLabels most)) d refl there s.up tt (refl, tt)) stored.1 tt tt x.2)
+        desk_stopped ranges capacities grids h (Forget d id (AfterLabels most)) d capacity
+        (desk_planned x.0 next_save.Fine).saved stored.0 state room
+        (stop_told ranges (length capacities) h (Forget d id (AfterLabels most)) d refl there s.up tt
+        (refl, tt)) stored.1 tt tt x.2)
     by_stop stops.None x = absurd x
     by_stop (SaveFault k) x = absurd x
 
@@ -266,17 +341,23 @@ none_forgotten id old new f = by_failed old.is_failed refl
     by_failed true was = (f.failed was).1
     by_failed false was = (f.forgotten was).1
 
-pub forget_goes : {A : Type 0} (ranges : List Range) (capacities : List ℕ) (grids : List GridView) (h : History A) (d id capacity : ℕ) (stop : Stop)
-    (view : DeskView) (reply : Reply A) (state : DeskState A) → d < length capacities → IsCapacity capacity → DeskRuns grids h d capacity view →
+pub forget_goes : {A : Type 0} (ranges : List Range) (capacities : List ℕ) (grids : List GridView) (h : History A)
+    (d id capacity : ℕ) (stop : Stop)
+    (view : DeskView) (reply : Reply A) (state : DeskState A) → d < length capacities → IsCapacity capacity →
+    DeskRuns grids h d capacity view →
     CallActs (ForgetsOne id) forget_reply (Err forget_fault.Memory) view stop reply state →
     DeskGoes ranges capacities grids h (Forget d id stop) reply d capacity state
 forget_goes {A} ranges capacities grids h d id capacity stop view reply state there room s (inl made) =
-    subst (λ (r : Reply A). DeskGoes ranges capacities grids h (Forget d id stop) r d capacity state) (sym made.reply_is)
-    (subst (λ (x : DeskState A). DeskGoes ranges capacities grids h (Forget d id stop) (forget_reply made.answer) d capacity x) (sym made.state_is)
-    (called_goes ranges capacities grids h d id capacity stop view made.mid made.answer there room s made.called made.makes))
+    subst (λ (r : Reply A). DeskGoes ranges capacities grids h (Forget d id stop) r d capacity state)
+    (sym made.reply_is)
+    (subst (λ (x : DeskState A). DeskGoes ranges capacities grids h (Forget d id stop)
+    (forget_reply made.answer) d capacity x) (sym made.state_is)
+    (called_goes ranges capacities grids h d id capacity stop view made.mid made.answer there room s made.called
+    made.makes))
 forget_goes {A} ranges capacities grids h d id capacity stop view reply state there room s (inr (inl stopped)) =
     subst (λ (r : Reply A). DeskGoes ranges capacities grids h (Forget d id stop) r d capacity state) (sym stopped.0)
     (stopped_goes ranges capacities grids h d id capacity stop view state there room s stopped.1)
 forget_goes ranges capacities grids h d id capacity stop view reply state there room s (inr (inr lacks)) =
-    memory_goes ranges capacities grids h (Forget d id stop) d capacity view reply state room s refl there (refl, tt) (λ i m t. t) (λ i x. x) tt tt lacks.0
+    memory_goes ranges capacities grids h (Forget d id stop) d capacity view reply state room s refl there
+    (refl, tt) (λ i m t. t) (λ i x. x) tt tt lacks.0
     (lacks_same stop _ view state s.store.ready (none_forgotten id (desk_planned view next_save.Fine)) lacks.1)

@@ -65,7 +65,8 @@ gathered_keeps e h desk held fresh takes stays g = record {
 }
 
 -- one page more, which is a part of its document, and which the entry may have taken
-pub gathered_with : {A : Type 0} (e : Entry A) (h : History A) (desk : ℕ) (held new : Documents) (page : PageView) (cut : CutDocument) →
+pub gathered_with : {A : Type 0} (e : Entry A) (h : History A) (desk : ℕ) (held new : Documents) (page : PageView)
+    (cut : CutDocument) →
     (0 < e.left → docs h e.id ≡ None) →
     docs h page.id ≡ Some cut → page.n ≡ length cut.parts → IsPart cut page.m page.bytes →
     MayTake h e.event e.reply desk page.id page.m →
@@ -89,15 +90,21 @@ gathered_with {A} e h desk held new page cut fresh printed n_is part may takes s
         let same_bytes : page.bytes ≡ bytes = cc (own, bytes_is) in (
           cut,
           docs_keep e h id cut fresh (subst (λ (i : ℕ). docs h i ≡ Some cut) (sym same.0) printed),
-          subst (λ (b : List ℕ). IsPart cut m b) same_bytes (subst (λ (k : ℕ). IsPart cut k page.bytes) (sym same.1) part),
+          subst (λ (b : List ℕ). IsPart cut m b) same_bytes
+              (subst (λ (k : ℕ). IsPart cut k page.bytes) (sym same.1) part),
         ))
     | inr other ↦
-        (let t = g.pages id m bytes (sym (also.other_pages id m other) ∙ is) in (t.0, docs_keep e h id t.0 fresh t.1, t.2))
+        (let t = g.pages id m bytes (sym (also.other_pages id m other) ∙ is) in
+        (t.0, docs_keep e h id t.0 fresh t.1, t.2))
   ];
   possibly = λ id m some. elim (this_or_other id m) [
     | inl same ↦ inl (subst (λ (i : ℕ). MayTake h e.event e.reply desk i m) (sym same.0)
         (subst (λ (k : ℕ). MayTake h e.event e.reply desk page.id k) (sym same.1) may))
-    | inr other ↦ inr (stays id, g.possibly id m (subst (λ (o : Option (List ℕ)). IsSome o) (also.other_pages id m other) some))
+    | inr other ↦ inr (
+      stays id,
+      g.possibly id m
+          (subst (λ (o : Option (List ℕ)). IsSome o) (also.other_pages id m other) some),
+    )
   ];
   surely = λ id m is. elim (this_or_other id m) [
     | inl same ↦ held_now id m same.0 same.1
@@ -114,7 +121,8 @@ gathered_with {A} e h desk held new page cut fresh printed n_is part may takes s
       | inr a ↦ inr (inl a)
     ]
 
-    at_page : (id m : ℕ) (o : Option (List ℕ)) → id ≡ page.id → m ≡ page.m → page_at new id m ≡ o → page_at new page.id page.m ≡ o
+    at_page : (id m : ℕ) (o : Option (List ℕ)) → id ≡ page.id → m ≡ page.m → page_at new id m ≡ o →
+        page_at new page.id page.m ≡ o
     at_page id m o a b is =
         subst (λ (k : ℕ). page_at new page.id k ≡ o) b (subst (λ (i : ℕ). page_at new i m ≡ o) a is)
 
@@ -137,19 +145,25 @@ gathered_without {A} e h desk held new gone fresh takes forgets stays without g 
         (let t = g.counts id n (sym (without.other_counts id other) ∙ is) in (t.0, docs_keep e h id t.0 fresh t.1, t.2))
   ];
   pages = λ id m bytes is. elim (same_or_other id gone) [
-    | inl same ↦ (let none : page_at new id m ≡ None = ap (λ (i : ℕ). page_at new i m) same ∙ without.gone m in cc (none, is))
+    | inl same ↦ (let none : page_at new id m ≡ None = ap (λ (i : ℕ). page_at new i m) same ∙ without.gone m in
+        cc (none, is))
     | inr other ↦
-        (let t = g.pages id m bytes (sym (without.other_pages id m other) ∙ is) in (t.0, docs_keep e h id t.0 fresh t.1, t.2))
+        (let t = g.pages id m bytes (sym (without.other_pages id m other) ∙ is) in
+        (t.0, docs_keep e h id t.0 fresh t.1, t.2))
   ];
   possibly = λ id m some. elim (same_or_other id gone) [
     | inl same ↦ absurd (not_some (page_at new id m) some (ap (λ (i : ℕ). page_at new i m) same ∙ without.gone m))
-    | inr other ↦ inr (stays id other, g.possibly id m (subst (λ (o : Option (List ℕ)). IsSome o) (without.other_pages id m other) some))
+    | inr other ↦ inr (
+      stays id other,
+      g.possibly id m (subst (λ (o : Option (List ℕ)). IsSome o) (without.other_pages id m other) some),
+    )
   ];
   surely = λ id m is. elim is [
     | inl took ↦ absurd (takes id m took)
     | inr kept ↦ (elim (same_or_other id gone) [
       | inl same ↦ absurd (kept.0 (subst (λ (i : ℕ). MayForget e.event e.reply desk i) (sym same) forgets))
-      | inr other ↦ subst (λ (o : Option (List ℕ)). IsSome o) (sym (without.other_pages id m other)) (g.surely id m kept.1)
+      | inr other ↦ subst (λ (o : Option (List ℕ)). IsSome o) (sym (without.other_pages id m other))
+          (g.surely id m kept.1)
     ])
   ];
 }
@@ -159,7 +173,8 @@ gathered_without {A} e h desk held new gone fresh takes forgets stays without g 
     not_some (Some b) x y = cc
 
 -- the pages of a file too, which are parts of their document, and which the entry may have taken
-pub gathered_with_file : {A : Type 0} (e : Entry A) (h : History A) (desk : ℕ) (held new : Documents) (id : ℕ) (pages : Pages) →
+pub gathered_with_file : {A : Type 0} (e : Entry A) (h : History A) (desk : ℕ) (held new : Documents) (id : ℕ)
+    (pages : Pages) →
     (0 < e.left → docs h e.id ≡ None) → AreParts h id pages →
     ((m : ℕ) → IsSome (page pages m) → MayTake h e.event e.reply desk id m) →
     ((other m : ℕ) → Takes h e.event e.reply desk other m → (other ≡ id) × IsSome (page pages m)) →
@@ -170,25 +185,37 @@ gathered_with_file {A} e h desk held new id pages fresh parts may takes stays to
     | inl same ↦
         (let own : counted new id ≡ Some n = subst (λ (j : ℕ). counted new j ≡ Some n) same is in
         let count : counted new id ≡ Some (length pages) = too.count in
-        let n_same : n ≡ length pages = cc (own, count) in
-        (parts.cut, docs_keep e h i parts.cut fresh (subst (λ (j : ℕ). docs h j ≡ Some parts.cut) (sym same) parts.printed), n_same ∙ parts.count))
+        let n_same : n ≡ length pages = cc (own, count) in (
+          parts.cut,
+          docs_keep e h i parts.cut fresh
+              (subst (λ (j : ℕ). docs h j ≡ Some parts.cut) (sym same) parts.printed),
+          n_same ∙ parts.count,
+        ))
     | inr other ↦
         (let t = g.counts i n (sym (too.other_counts i other) ∙ is) in (t.0, docs_keep e h i t.0 fresh t.1, t.2))
   ];
   pages = λ i m bytes is. elim (same_or_other i id) [
-    | inl same ↦ (let t = by_page m bytes (page_at held id m) refl (sym (too.each m) ∙ subst (λ (j : ℕ). page_at new j m ≡ Some bytes) same is) in
+    | inl same ↦ (let t = by_page m bytes (page_at held id m) refl (sym (too.each m) ∙
+        subst (λ (j : ℕ). page_at new j m ≡ Some bytes) same is) in
         (t.0, subst (λ (j : ℕ). docs (e ∷ h) j ≡ Some t.0) (sym same) (docs_keep e h id t.0 fresh t.1), t.2))
     | inr other ↦
         (let t = g.pages i m bytes (sym (too.other_pages i m other) ∙ is) in (t.0, docs_keep e h i t.0 fresh t.1, t.2))
   ];
   possibly = λ i m some. elim (same_or_other i id) [
     | inl same ↦ subst (λ (j : ℕ). IsPossiblyHeld (e ∷ h) desk j m) (sym same)
-        (held_or_new m (page_at held id m) refl (subst (λ (o : Option (List ℕ)). IsSome o) (too.each m) (subst (λ (j : ℕ). IsSome (page_at new j m)) same some)))
-    | inr other ↦ inr (stays i, g.possibly i m (subst (λ (o : Option (List ℕ)). IsSome o) (too.other_pages i m other) some))
+        (held_or_new m (page_at held id m) refl
+        (subst (λ (o : Option (List ℕ)). IsSome o) (too.each m)
+        (subst (λ (j : ℕ). IsSome (page_at new j m)) same some)))
+    | inr other ↦ inr (
+      stays i,
+      g.possibly i m
+          (subst (λ (o : Option (List ℕ)). IsSome o) (too.other_pages i m other) some),
+    )
   ];
   surely = λ i m is. elim (same_or_other i id) [
     | inl same ↦ subst (λ (j : ℕ). IsSome (page_at new j m)) (sym same)
-        (subst (λ (o : Option (List ℕ)). IsSome o) (sym (too.each m)) (there m (subst (λ (j : ℕ). IsSurelyHeld (e ∷ h) desk j m) same is)))
+        (subst (λ (o : Option (List ℕ)). IsSome o) (sym (too.each m))
+        (there m (subst (λ (j : ℕ). IsSurelyHeld (e ∷ h) desk j m) same is)))
     | inr other ↦ (elim is [
       | inl took ↦ absurd (other (takes i m took).0)
       | inr kept ↦ subst (λ (o : Option (List ℕ)). IsSome o) (sym (too.other_pages i m other)) (g.surely i m kept.1)
@@ -196,18 +223,26 @@ gathered_with_file {A} e h desk held new id pages fresh parts may takes stays to
   ];
 }
   where
-    by_page : (m : ℕ) (bytes : List ℕ) (o : Option (List ℕ)) → page_at held id m ≡ o → option_or (page_at held id m) (page pages m) ≡ Some bytes →
+    by_page : (m : ℕ) (bytes : List ℕ) (o : Option (List ℕ)) → page_at held id m ≡ o →
+        option_or (page_at held id m) (page pages m) ≡ Some bytes →
         (cut : CutDocument) × (docs h id ≡ Some cut) × IsPart cut m bytes
-    by_page m bytes None at is =
-        (parts.cut, parts.printed, parts.each m bytes (sym (ap (λ (o : Option (List ℕ)). option_or o (page pages m)) at) ∙ is))
+    by_page m bytes None at is = (
+      parts.cut,
+      parts.printed,
+      parts.each m bytes
+          (sym (ap (λ (o : Option (List ℕ)). option_or o (page pages m)) at) ∙ is),
+    )
     by_page m bytes (Some b) at is =
-        g.pages id m bytes (let x : Some b ≡ Some bytes = sym (ap (λ (o : Option (List ℕ)). option_or o (page pages m)) at) ∙ is in at ∙ x)
+        g.pages id m bytes (let x : Some b ≡ Some bytes =
+        sym (ap (λ (o : Option (List ℕ)). option_or o (page pages m)) at) ∙ is in at ∙ x)
 
-    held_or_new : (m : ℕ) (o : Option (List ℕ)) → page_at held id m ≡ o → IsSome (option_or (page_at held id m) (page pages m)) →
+    held_or_new : (m : ℕ) (o : Option (List ℕ)) → page_at held id m ≡ o →
+        IsSome (option_or (page_at held id m) (page pages m)) →
         IsPossiblyHeld (e ∷ h) desk id m
     held_or_new m None at some =
         inl (may m (subst (λ (o : Option (List ℕ)). IsSome (option_or o (page pages m))) at some))
-    held_or_new m (Some b) at some = inr (stays id, g.possibly id m (subst (λ (o : Option (List ℕ)). IsSome o) (sym at) refl))
+    held_or_new m (Some b) at some =
+        inr (stays id, g.possibly id m (subst (λ (o : Option (List ℕ)). IsSome o) (sym at) refl))
 
     some_of : (m : ℕ) (o : Option (List ℕ)) → IsSome o → IsSome (option_or o (page pages m))
     some_of m None is = cc

@@ -72,18 +72,21 @@ pub record IsBrought {A : Type 0} (capacities : List ℕ) (grids : List GridView
 
 -- ---- what is held with the file
 
-holds_too : (capacity : ℕ) (held : Documents) (id : ℕ) (pages : Pages) (kind : Kind) → import_answer capacity held id pages ≡ Ok kind →
+holds_too : (capacity : ℕ) (held : Documents) (id : ℕ) (pages : Pages) (kind : Kind) →
+    import_answer capacity held id pages ≡ Ok kind →
     HoldsFileToo held id pages (with_file held id pages)
 holds_too capacity held id pages kind is = record {
   count = ap (option_map length) (get_here held id (pages_with_file held id pages)) ∙
       ap Some (length_both (unwrap_or (finite.get held id) []) pages (no_longer capacity held id pages kind is));
   each = page_given held id pages;
-  other_pages = λ other m away. ap (λ (o : Option Pages). page (unwrap_or o []) m) (get_other held id other (pages_with_file held id pages) away);
+  other_pages = λ other m away. ap (λ (o : Option Pages). page (unwrap_or o []) m)
+      (get_other held id other (pages_with_file held id pages) away);
   other_counts = λ other away. ap (option_map length) (get_other held id other (pages_with_file held id pages) away);
 }
 
 -- the kind of an answer that needs a save
-kind_of_need : (capacity : ℕ) (held : Documents) (id : ℕ) (pages : Pages) → NeedsSave (import_answer capacity held id pages) →
+kind_of_need : (capacity : ℕ) (held : Documents) (id : ℕ) (pages : Pages) →
+    NeedsSave (import_answer capacity held id pages) →
     (kind : Kind) × (import_answer capacity held id pages ≡ Ok kind)
 kind_of_need capacity held id pages (inl new) = (New, new)
 kind_of_need capacity held id pages (inr complete) = (Complete, complete)
@@ -95,18 +98,23 @@ few_with capacity held id pages kind few is =
     (more_at (finite.get held id) (finite.len held) capacity few (taken capacity held id pages kind is).room)
 
 -- the pages that the export has
-has_page : {A : Type 0} (grids : List GridView) (h : History A) (export : LeftExport A) (s : ShowsPages grids h export) (m : ℕ) →
+has_page : {A : Type 0} (grids : List GridView) (h : History A) (export : LeftExport A) (s : ShowsPages grids h export)
+    (m : ℕ) →
     IsSome (page s.pages m) → HasPage export.mask m
 has_page grids h export s m some = subst (λ (k : ℕ). HasPage k m) (sym s.mask_is) (there_named s.pages m some)
 
-page_has : {A : Type 0} (grids : List GridView) (h : History A) (export : LeftExport A) (s : ShowsPages grids h export) (m : ℕ) →
+page_has : {A : Type 0} (grids : List GridView) (h : History A) (export : LeftExport A) (s : ShowsPages grids h export)
+    (m : ℕ) →
     HasPage export.mask m → IsSome (page s.pages m)
 page_has grids h export s m named = named_there s.pages m (subst (λ (k : ℕ). HasPage k m) s.mask_is named)
 
 -- what an import takes are pages of its export
-takes_pages : {A : Type 0} (capacities : List ℕ) (grids : List GridView) (h : History A) (d number capacity : ℕ) (stop : Stop) (i : imported_type.Imported)
-    (view : DeskView) (export : LeftExport A) → (s : IsBrought capacities grids h d number capacity view export) → (other m : ℕ) →
-    (let reply : Reply A = Imported i in Takes h (Import d number stop) reply d other m) → (other ≡ export.id) × IsSome (page s.shows.pages m)
+takes_pages : {A : Type 0} (capacities : List ℕ) (grids : List GridView) (h : History A) (d number capacity : ℕ)
+    (stop : Stop) (i : imported_type.Imported)
+    (view : DeskView) (export : LeftExport A) → (s : IsBrought capacities grids h d number capacity view export) →
+    (other m : ℕ) →
+    (let reply : Reply A = Imported i in Takes h (Import d number stop) reply d other m) →
+    (other ≡ export.id) × IsSome (page s.shows.pages m)
 takes_pages capacities grids h d number capacity stop i view export s other m t =
     let name : slice_get (exports h) number ≡ Some t.1.0 = t.1.1 in
     let named : slice_get (exports h) number ≡ Some (export_name_of export) = s.named in
@@ -116,15 +124,20 @@ takes_pages capacities grids h d number capacity stop i view export s other m t 
     )
 
 -- what is gathered with the pages of the export
-gathered_file : {A : Type 0} (capacities : List ℕ) (grids : List GridView) (h : History A) (d number capacity : ℕ) (stop : Stop) (reply : Reply A)
-    (view : DeskView) (export : LeftExport A) (kind : Kind) → (s : IsBrought capacities grids h d number capacity view export) →
-    import_answer view.capacity view.held export.id s.shows.pages ≡ Ok kind → may_save (Import d number stop) reply ≡ true →
-    ((other m : ℕ) → Takes h (Import d number stop) reply d other m → (other ≡ export.id) × IsSome (page s.shows.pages m)) →
+gathered_file : {A : Type 0} (capacities : List ℕ) (grids : List GridView) (h : History A) (d number capacity : ℕ)
+    (stop : Stop) (reply : Reply A)
+    (view : DeskView) (export : LeftExport A) (kind : Kind) →
+    (s : IsBrought capacities grids h d number capacity view export) →
+    import_answer view.capacity view.held export.id s.shows.pages ≡ Ok kind →
+    may_save (Import d number stop) reply ≡ true →
+    ((other m : ℕ) → Takes h (Import d number stop) reply d other m →
+    (other ≡ export.id) × IsSome (page s.shows.pages m)) →
     ((id : ℕ) → ¬ Forgets (Import d number stop) reply d id) →
     IsHonest grids (quiet (Import d number stop) reply ∷ h) →
     IsGathered (quiet (Import d number stop) reply ∷ h) d (with_file view.held export.id s.shows.pages)
 gathered_file {A} capacities grids h d number capacity stop reply view export kind s is may takes stays honest =
-    gathered_with_file (quiet (Import d number stop) reply) h d view.held (with_file view.held export.id s.shows.pages) export.id s.shows.pages
+    gathered_with_file (quiet (Import d number stop) reply) h d view.held
+    (with_file view.held export.id s.shows.pages) export.id s.shows.pages
     (λ x. none_leaves (Import d number stop) reply _ x) (s.shows.parts honest.1)
     (λ m some. (refl, may, (export_name_of export, s.named, refl, has_page grids h export s.shows m some)))
     takes stays (holds_too view.capacity view.held export.id s.shows.pages kind is) (s.runs.gathered honest.1)
@@ -133,7 +146,8 @@ gathered_file {A} capacities grids h d number capacity stop reply view export ki
 
 -- a page of the file that was added was not held, and one that was not added was
 not_added : (held : Documents) (id : ℕ) (pages : Pages) (added m : ℕ) →
-    names added m ≡ (is_none (page_at held id m) && is_some (page pages m)) → IsSome (page pages m) → ¬ HasPage added m → IsSome (page_at held id m)
+    names added m ≡ (is_none (page_at held id m) && is_some (page pages m)) → IsSome (page pages m) →
+    ¬ HasPage added m → IsSome (page_at held id m)
 not_added held id pages added m are some none = by_page (page_at held id m) (page pages m) some (λ x. none (are ∙ x))
   where
     by_page : (o p : Option (List ℕ)) → IsSome p → ¬ ((is_none o && is_some p) ≡ true) → IsSome o
@@ -142,7 +156,8 @@ not_added held id pages added m are some none = by_page (page_at held id m) (pag
     by_page None None x y = cc
 
 added_means : (held : Documents) (id : ℕ) (pages : Pages) (added m : ℕ) →
-    names added m ≡ (is_none (page_at held id m) && is_some (page pages m)) → HasPage added m → (page_at held id m ≡ None) × IsSome (page pages m)
+    names added m ≡ (is_none (page_at held id m) && is_some (page pages m)) → HasPage added m →
+    (page_at held id m ≡ None) × IsSome (page pages m)
 added_means held id pages added m are named = by_page (page_at held id m) (page pages m) (sym are ∙ named)
   where
     by_page : (o p : Option (List ℕ)) → (is_none o && is_some p) ≡ true → (o ≡ None) × IsSome p
@@ -160,21 +175,26 @@ either None None x y = cc
 either None (Some c) x y = absurd (y refl)
 either (Some b) p x y = refl
 
-kind_safe : {A : Type 0} (h : History A) (d : ℕ) (held : Documents) (export : LeftExport A) (grids : List GridView) (s : ShowsPages grids h export)
-    (added : ℕ) (kind : Kind) → IsGathered h d held → length (unwrap_or (finite.get held export.id) []) ≤ length s.pages →
+kind_safe : {A : Type 0} (h : History A) (d : ℕ) (held : Documents) (export : LeftExport A) (grids : List GridView)
+    (s : ShowsPages grids h export)
+    (added : ℕ) (kind : Kind) → IsGathered h d held →
+    length (unwrap_or (finite.get held export.id) []) ≤ length s.pages →
     ((m : ℕ) → names added m ≡ (is_none (page_at held export.id m) && is_some (page s.pages m))) →
-    KindSays kind (unwrap_or (finite.get held export.id) []) s.pages → IsImportKindSafe h d (export_name_of export) added kind
+    KindSays kind (unwrap_or (finite.get held export.id) []) s.pages →
+    IsImportKindSafe h d (export_name_of export) added kind
 kind_safe h d held export grids s added Again g short are says = tt
 kind_safe h d held export grids s added New g short are says =
     let own : Pages = unwrap_or (finite.get held export.id) [] in
     let lack = one_lacks (union_of own s.pages) says.1 in
     let both = neither (page own lack.0) (page s.pages lack.0) (sym (page_merged own s.pages lack.0) ∙ lack.3) in
     let l = length_both own s.pages short in
-    let least : 1 ≤ lack.0 = lack.1 in let most : lack.0 ≤ length (union_of own s.pages) = lack.2 in let c = s.count_is in (
+    let least : 1 ≤ lack.0 = lack.1 in let most : lack.0 ≤ length (union_of own s.pages) = lack.2 in
+    let c = s.count_is in (
       lack.0,
       least,
       omega arith,
-      (λ named. some_none (page s.pages lack.0) (named_there s.pages lack.0 (subst (λ (k : ℕ). HasPage k lack.0) s.mask_is named)) both.1),
+      (λ named. some_none (page s.pages lack.0)
+          (named_there s.pages lack.0 (subst (λ (k : ℕ). HasPage k lack.0) s.mask_is named)) both.1),
       (λ surely. some_none (page_at held export.id lack.0) (g.surely export.id lack.0 surely) both.0),
     )
 kind_safe h d held export grids s added Complete g short are says =
@@ -182,12 +202,15 @@ kind_safe h d held export grids s added Complete g short are says =
     (let own : Pages = unwrap_or (finite.get held export.id) [] in
     let l = length_both own s.pages short in let c = s.count_is in
     let some : IsSome (option_or (page own m) (page s.pages m)) =
-    subst (λ (o : Option (List ℕ)). IsSome o) (page_merged own s.pages m) (all_held (union_of own s.pages) says.1 m least (omega arith)) in
+    subst (λ (o : Option (List ℕ)). IsSome o) (page_merged own s.pages m)
+    (all_held (union_of own s.pages) says.1 m least (omega arith)) in
     g.possibly export.id m (either (page own m) (page s.pages m) some (λ x. none (are m ∙ x))))
 
 -- what the reply tells is of the export
-imported_is : {A : Type 0} (capacities : List ℕ) (grids : List GridView) (h : History A) (d number capacity : ℕ) (stop : Stop) (view : DeskView)
-    (export : LeftExport A) (i : imported_type.Imported) → (s : IsBrought capacities grids h d number capacity view export) →
+imported_is : {A : Type 0} (capacities : List ℕ) (grids : List GridView) (h : History A) (d number capacity : ℕ)
+    (stop : Stop) (view : DeskView)
+    (export : LeftExport A) (i : imported_type.Imported) →
+    (s : IsBrought capacities grids h d number capacity view export) →
     NamesFile view.held export.id s.shows.pages i → (i.kind ≢ Again → stop ≡ stops.None) → IsImported h number stop i
 imported_is capacities grids h d number capacity stop view export i s names_are none = record {
   no_stop = none;
@@ -195,35 +218,45 @@ imported_is capacities grids h d number capacity stop view export i s names_are 
   there = s.named;
   id_is = names_are.id_is;
   n_is = names_are.n_is ∙ sym s.shows.count_is;
-  added = λ m named. has_page grids h export s.shows m (added_means view.held export.id s.shows.pages i.added m (names_are.names_are m) named).1;
+  added = λ m named. has_page grids h export s.shows m
+      (added_means view.held export.id s.shows.pages i.added m (names_are.names_are m) named).1;
 }
 
-imported_safe : {A : Type 0} (capacities : List ℕ) (grids : List GridView) (h : History A) (d number capacity : ℕ) (view : DeskView) (export : LeftExport A)
-    (i : imported_type.Imported) → (s : IsBrought capacities grids h d number capacity view export) → IsGathered h d view.held →
-    NamesFile view.held export.id s.shows.pages i → import_answer view.capacity view.held export.id s.shows.pages ≡ Ok i.kind → IsImportedSafe h d number i
+imported_safe : {A : Type 0} (capacities : List ℕ) (grids : List GridView) (h : History A) (d number capacity : ℕ)
+    (view : DeskView) (export : LeftExport A)
+    (i : imported_type.Imported) → (s : IsBrought capacities grids h d number capacity view export) →
+    IsGathered h d view.held →
+    NamesFile view.held export.id s.shows.pages i →
+    import_answer view.capacity view.held export.id s.shows.pages ≡ Ok i.kind → IsImportedSafe h d number i
 imported_safe capacities grids h d number capacity view export i s g names_are is = record {
   name = export_name_of export;
   there = s.named;
   not_surely = λ m named surely. some_none (page_at view.held export.id m) (g.surely export.id m surely)
       (added_means view.held export.id s.shows.pages i.added m (names_are.names_are m) named).0;
   possibly = λ m named none. g.possibly export.id m
-      (not_added view.held export.id s.shows.pages i.added m (names_are.names_are m) (page_has grids h export s.shows m named) none);
+      (not_added view.held export.id s.shows.pages i.added m (names_are.names_are m)
+      (page_has grids h export s.shows m named) none);
   again = names_are.again;
-  kind = kind_safe h d view.held export grids s.shows i.added i.kind g (no_longer view.capacity view.held export.id s.shows.pages i.kind is)
-      names_are.names_are (answered view.capacity (finite.len view.held) export.id s.shows.pages (finite.get view.held export.id) i.kind s.shows.spells.sound is).says;
+  kind = kind_safe h d view.held export grids s.shows i.added i.kind g
+      (no_longer view.capacity view.held export.id s.shows.pages i.kind is)
+      names_are.names_are (answered view.capacity (finite.len view.held) export.id s.shows.pages
+      (finite.get view.held export.id) i.kind s.shows.spells.sound is).says;
 }
 
 -- what is gathered agrees with the pages of a printed document
-no_conflict : {A : Type 0} (h : History A) (d id : ℕ) (held : Documents) (own pages : Pages) → IsGathered h d held → AreParts h id pages →
+no_conflict : {A : Type 0} (h : History A) (d id : ℕ) (held : Documents) (own pages : Pages) → IsGathered h d held →
+    AreParts h id pages →
     finite.get held id ≡ Some own → ¬ ((length own ≢ length pages) ⊎ Differs own pages)
 no_conflict h d id held own pages g parts is (inl other) =
     let c = counted_is h d id held own g is in
-    let same : c.0 ≡ parts.cut = (let a : docs h id ≡ Some c.0 = c.1 in let b : docs h id ≡ Some parts.cut = parts.printed in cc (a, b)) in
+    let same : c.0 ≡ parts.cut = (let a : docs h id ≡ Some c.0 = c.1 in let b : docs h id ≡ Some parts.cut =
+    parts.printed in cc (a, b)) in
     other (c.2 ∙ ap (λ (x : CutDocument). length x.parts) same ∙ sym parts.count)
 no_conflict h d id held own pages g parts is (inr differs) =
     let t = g.pages id differs.m differs.one (page_is held id differs.m own is ∙ differs.held) in
     let p = parts.each differs.m differs.other differs.filed in
-    let same : t.0 ≡ parts.cut = (let a : docs h id ≡ Some t.0 = t.1 in let b : docs h id ≡ Some parts.cut = parts.printed in cc (a, b)) in
+    let same : t.0 ≡ parts.cut = (let a : docs h id ≡ Some t.0 = t.1 in let b : docs h id ≡ Some parts.cut =
+    parts.printed in cc (a, b)) in
     let i : t.2.0 ≡ p.0 = (let a : differs.m ≡ t.2.0 + 1 = t.2.1 in let b : differs.m ≡ p.0 + 1 = p.1 in omega arith) in
     let x : slice_get parts.cut.parts p.0 ≡ Some differs.one =
     subst (λ (j : ℕ). slice_get parts.cut.parts j ≡ Some differs.one) i
@@ -233,67 +266,93 @@ no_conflict h d id held own pages g parts is (inr differs) =
 
 -- ---- each answer
 
-refused_goes : {A : Type 0} (ranges : List Range) (capacities : List ℕ) (grids : List GridView) (h : History A) (d number capacity : ℕ) (stop : Stop)
-    (view mid : DeskView) (export : LeftExport A) (fault : ImportFault) → IsBrought capacities grids h d number capacity view export → IsCalled stop →
-    mid ≡ desk_planned view (next_save_of stop) → ((b : Bool) → (let reply : Reply A = ImportRefused fault in failed_after reply b ≡ b)) →
+refused_goes : {A : Type 0} (ranges : List Range) (capacities : List ℕ) (grids : List GridView) (h : History A)
+    (d number capacity : ℕ) (stop : Stop)
+    (view mid : DeskView) (export : LeftExport A) (fault : ImportFault) →
+    IsBrought capacities grids h d number capacity view export → IsCalled stop →
+    mid ≡ desk_planned view (next_save_of stop) →
+    ((b : Bool) → (let reply : Reply A = ImportRefused fault in failed_after reply b ≡ b)) →
     IsImportRefused h d stop fault →
-    (IsHonest grids (quiet (Import d number stop) (ImportRefused fault) ∷ h) → IsHonestlyNotImported capacities h d number fault) →
-    DeskGoes ranges capacities grids h (Import d number stop) (ImportRefused fault) d capacity (desks.Running (desk_planned mid next_save.Fine))
-refused_goes {A} ranges capacities grids h d number capacity stop view mid export fault s called same failed why answers =
-    desk_kept ranges capacities grids h (Import d number stop) (ImportRefused fault) d capacity view (desk_planned mid next_save.Fine) s.room s.runs
+    (IsHonest grids (quiet (Import d number stop) (ImportRefused fault) ∷ h) →
+    IsHonestlyNotImported capacities h d number fault) →
+    DeskGoes ranges capacities grids h (Import d number stop) (ImportRefused fault) d capacity
+    (desks.Running (desk_planned mid next_save.Fine))
+refused_goes {A} ranges capacities grids h d number capacity stop view mid export fault s called same failed why
+    answers =
+    desk_kept ranges capacities grids h (Import d number stop) (ImportRefused fault) d capacity view
+    (desk_planned mid next_save.Fine) s.room s.runs
     (ap (λ (v : DeskView). desk_planned v next_save.Fine) same ∙ fine_desk view (next_save_of stop) s.runs.store.ready)
-    (call_told ranges (length capacities) h (Import d number stop) (ImportRefused fault) d stop refl s.there s.runs.up called (λ x. x) (λ x. cc) (λ x. cc)
+    (call_told ranges (length capacities) h (Import d number stop)
+    (ImportRefused fault) d stop refl s.there s.runs.up called (λ x. x) (λ x. cc) (λ x. cc)
     (λ x. cc) (refl, why) (λ x. cc))
     refl (failed (is_failed h (DeskAt d))) (λ i m t. absurd t) (λ i x. x) (λ honest. tt) answers
 
 -- all pages of the export are held already
-again_goes : {A : Type 0} (ranges : List Range) (capacities : List ℕ) (grids : List GridView) (h : History A) (d number capacity : ℕ) (stop : Stop)
-    (view mid : DeskView) (export : LeftExport A) (i : imported_type.Imported) → (s : IsBrought capacities grids h d number capacity view export) →
+again_goes : {A : Type 0} (ranges : List Range) (capacities : List ℕ) (grids : List GridView) (h : History A)
+    (d number capacity : ℕ) (stop : Stop)
+    (view mid : DeskView) (export : LeftExport A) (i : imported_type.Imported) →
+    (s : IsBrought capacities grids h d number capacity view export) →
     IsCalled stop → view.is_failed ≡ false → NamesFile view.held export.id s.shows.pages i →
-    import_answer view.capacity view.held export.id s.shows.pages ≡ Ok i.kind → i.kind ≡ Again → mid ≡ desk_planned view (next_save_of stop) →
-    DeskGoes ranges capacities grids h (Import d number stop) (Imported i) d capacity (desks.Running (desk_planned mid next_save.Fine))
+    import_answer view.capacity view.held export.id s.shows.pages ≡ Ok i.kind → i.kind ≡ Again →
+    mid ≡ desk_planned view (next_save_of stop) →
+    DeskGoes ranges capacities grids h (Import d number stop) (Imported i) d capacity
+    (desks.Running (desk_planned mid next_save.Fine))
 again_goes {A} ranges capacities grids h d number capacity stop view mid export i s called was names_are is again same =
     let event : Event A = Import d number stop in
     let none : i.added ≡ 0 = names_are.again.0 again in
     let held : (m : ℕ) → IsSome (page s.shows.pages m) → IsSome (page_at view.held export.id m) = λ m some.
     not_added view.held export.id s.shows.pages i.added m (names_are.names_are m) some
     (λ named. let a : names i.added m ≡ false = ap (λ (k : ℕ). names k m) none ∙ none_named m in cc (a, named)) in
-    let at : (id m : ℕ) → (let reply : Reply A = Imported i in Takes h event reply d id m) → IsSome (page_at view.held id m) = λ id m t.
+    let at : (id m : ℕ) → (let reply : Reply A = Imported i in Takes h event reply d id m) →
+    IsSome (page_at view.held id m) = λ id m t.
     (let p = takes_pages capacities grids h d number capacity stop i view export s id m t in
     subst (λ (k : ℕ). IsSome (page_at view.held k m)) (sym p.0) (held m p.1)) in
-    desk_kept ranges capacities grids h event (Imported i) d capacity view (desk_planned mid next_save.Fine) s.room s.runs
+    desk_kept ranges capacities grids h event (Imported i) d capacity view
+    (desk_planned mid next_save.Fine) s.room s.runs
     (ap (λ (v : DeskView). desk_planned v next_save.Fine) same ∙ fine_desk view (next_save_of stop) s.runs.store.ready)
-    (call_told ranges (length capacities) h event (Imported i) d stop refl s.there s.runs.up called (λ x. x) (λ x. cc) (λ x. cc) (λ x. cc)
-    (refl, imported_is capacities grids h d number capacity stop view export i s names_are (λ other. absurd (other again))) (λ x. cc))
+    (call_told ranges (length capacities) h event (Imported i) d stop refl s.there s.runs.up called
+    (λ x. x) (λ x. cc) (λ x. cc) (λ x. cc) (
+      refl,
+      imported_is capacities grids h d number capacity stop view export i s names_are
+          (λ other. absurd (other again)),
+    ) (λ x. cc))
     refl refl
     (λ id m t. (at id m t, subst (λ (x : Documents). IsSome (page_at x id m)) (s.runs.shows was) (at id m t)))
     (λ id x. x)
-    (λ honest. imported_safe capacities grids h d number capacity view export i s (s.runs.gathered honest.1) names_are is)
+    (λ honest. imported_safe capacities grids h d number capacity view export i s
+    (s.runs.gathered honest.1) names_are is)
     (λ honest. tt)
 
 -- pages that were not held
-took_goes : {A : Type 0} (ranges : List Range) (capacities : List ℕ) (grids : List GridView) (h : History A) (d number capacity : ℕ) (stop : Stop)
-    (view mid : DeskView) (export : LeftExport A) (i : imported_type.Imported) → (s : IsBrought capacities grids h d number capacity view export) →
+took_goes : {A : Type 0} (ranges : List Range) (capacities : List ℕ) (grids : List GridView) (h : History A)
+    (d number capacity : ℕ) (stop : Stop)
+    (view mid : DeskView) (export : LeftExport A) (i : imported_type.Imported) →
+    (s : IsBrought capacities grids h d number capacity view export) →
     IsCalled stop → IsInOrder view → NamesFile view.held export.id s.shows.pages i →
     import_answer view.capacity view.held export.id s.shows.pages ≡ Ok i.kind →
     KeepsFile export.id s.shows.pages (desk_planned view (next_save_of stop)) mid →
-    DeskGoes ranges capacities grids h (Import d number stop) (Imported i) d capacity (desks.Running (desk_planned mid next_save.Fine))
+    DeskGoes ranges capacities grids h (Import d number stop) (Imported i) d capacity
+    (desks.Running (desk_planned mid next_save.Fine))
 took_goes {A} ranges capacities grids h d number capacity stop view mid export i s called order names_are is keeps =
     let event : Event A = Import d number stop in
     let none : stop ≡ stops.None = done_with_none stop view mid _ called keeps.replaced in
-    desk_saves ranges capacities grids h event (Imported i) d capacity view mid (next_save_of stop) _ (with_file view.held export.id s.shows.pages) s.room s.runs
+    desk_saves ranges capacities grids h event (Imported i) d capacity view mid (next_save_of stop) _
+    (with_file view.held export.id s.shows.pages) s.room s.runs
     keeps.replaced keeps.holding
     (subst (λ (c : ℕ). finite.len (with_file view.held export.id s.shows.pages) ≤ c) s.runs.capacity_is
     (few_with view.capacity view.held export.id s.shows.pages i.kind order.few is))
-    (call_told ranges (length capacities) h event (Imported i) d stop refl s.there s.runs.up called (λ x. x) (λ x. cc) (λ x. cc) (λ x. cc)
+    (call_told ranges (length capacities) h event (Imported i) d stop refl s.there s.runs.up called
+    (λ x. x) (λ x. cc) (λ x. cc) (λ x. cc)
     (refl, imported_is capacities grids h d number capacity stop view export i s names_are (λ _. none)) (λ x. cc))
     refl refl
     (gathered_file capacities grids h d number capacity stop (Imported i) view export i.kind s is refl
     (takes_pages capacities grids h d number capacity stop i view export s) (λ id x. x))
-    (λ honest. imported_safe capacities grids h d number capacity view export i s (s.runs.gathered honest.1) names_are is)
+    (λ honest. imported_safe capacities grids h d number capacity view export i s
+    (s.runs.gathered honest.1) names_are is)
     (λ honest. tt)
 
-gathered_kept : {A : Type 0} (capacities : List ℕ) (grids : List GridView) (h : History A) (d number capacity : ℕ) (k : Kept) (view : DeskView)
+gathered_kept : {A : Type 0} (capacities : List ℕ) (grids : List GridView) (h : History A) (d number capacity : ℕ)
+    (k : Kept) (view : DeskView)
     (export : LeftExport A) → (s : IsBrought capacities grids h d number capacity view export) →
     NeedsSave (import_answer view.capacity view.held export.id s.shows.pages) →
     IsHonest grids (quiet (Import d number (SaveFault k)) (ImportRefused import_fault.Save) ∷ h) →
@@ -301,21 +360,27 @@ gathered_kept : {A : Type 0} (capacities : List ℕ) (grids : List GridView) (h 
     (kept_held k view.held (with_file view.held export.id s.shows.pages))
 gathered_kept {A} capacities grids h d number capacity kept.Old view export s needs honest =
     gathered_keeps (quiet (Import d number (SaveFault kept.Old)) (ImportRefused import_fault.Save)) h d view.held
-    (λ x. none_leaves {A = A} (Import d number (SaveFault kept.Old)) (ImportRefused import_fault.Save) _ x) (λ i m t. absurd t) (λ i x. x)
+    (λ x. none_leaves {A = A} (Import d number (SaveFault kept.Old)) (ImportRefused import_fault.Save) _ x)
+    (λ i m t. absurd t) (λ i x. x)
     (s.runs.gathered honest.1)
 gathered_kept {A} capacities grids h d number capacity kept.New view export s needs honest =
     (let kind = kind_of_need view.capacity view.held export.id s.shows.pages needs in
-    gathered_file capacities grids h d number capacity (SaveFault kept.New) (ImportRefused import_fault.Save) view export kind.0 s kind.1 refl
+    gathered_file capacities grids h d number capacity (SaveFault kept.New)
+    (ImportRefused import_fault.Save) view export kind.0 s kind.1 refl
     (λ other m t. absurd t) (λ i x. x) honest)
 
 few_kept : (k : Kept) (view : DeskView) (id : ℕ) (pages : Pages) → finite.len view.held ≤ view.capacity →
-    NeedsSave (import_answer view.capacity view.held id pages) → finite.len (kept_held k view.held (with_file view.held id pages)) ≤ view.capacity
+    NeedsSave (import_answer view.capacity view.held id pages) →
+    finite.len (kept_held k view.held (with_file view.held id pages)) ≤ view.capacity
 few_kept kept.Old view id pages few needs = few
 few_kept kept.New view id pages few needs =
-    (let kind = kind_of_need view.capacity view.held id pages needs in few_with view.capacity view.held id pages kind.0 few kind.1)
+    (let kind = kind_of_need view.capacity view.held id pages needs in
+    few_with view.capacity view.held id pages kind.0 few kind.1)
 
-failed_goes : {A : Type 0} (ranges : List Range) (capacities : List ℕ) (grids : List GridView) (h : History A) (d number capacity : ℕ) (k : Kept)
-    (view mid : DeskView) (export : LeftExport A) → (s : IsBrought capacities grids h d number capacity view export) → IsInOrder view →
+failed_goes : {A : Type 0} (ranges : List Range) (capacities : List ℕ) (grids : List GridView) (h : History A)
+    (d number capacity : ℕ) (k : Kept)
+    (view mid : DeskView) (export : LeftExport A) → (s : IsBrought capacities grids h d number capacity view export) →
+    IsInOrder view →
     NeedsSave (import_answer view.capacity view.held export.id s.shows.pages) →
     FailsToKeepFile export.id s.shows.pages (desk_planned view (next_save_of (SaveFault k))) mid →
     DeskGoes ranges capacities grids h (Import d number (SaveFault k)) (ImportRefused import_fault.Save) d capacity
@@ -323,38 +388,55 @@ failed_goes : {A : Type 0} (ranges : List Range) (capacities : List ℕ) (grids 
 failed_goes {A} ranges capacities grids h d number capacity k view mid export s order needs fails =
     let event : Event A = Import d number (SaveFault k) in
     let reply : Reply A = ImportRefused import_fault.Save in
-    desk_fails ranges capacities grids h event reply d capacity view mid k _ (with_file view.held export.id s.shows.pages) s.room s.runs
+    desk_fails ranges capacities grids h event reply d capacity view mid k _
+    (with_file view.held export.id s.shows.pages) s.room s.runs
     fails.replaced fails.failing
-    (subst (λ (c : ℕ). finite.len (kept_held k view.held (with_file view.held export.id s.shows.pages)) ≤ c) s.runs.capacity_is
+    (subst (λ (c : ℕ). finite.len (kept_held k view.held (with_file view.held export.id s.shows.pages)) ≤ c)
+    s.runs.capacity_is
     (few_kept k view export.id s.shows.pages order.few needs))
-    (call_told ranges (length capacities) h event reply d (SaveFault k) refl s.there s.runs.up tt (λ x. x) (λ x. cc) (λ x. cc) (λ x. cc)
+    (call_told ranges (length capacities) h event reply d (SaveFault k) refl s.there s.runs.up tt
+    (λ x. x) (λ x. cc) (λ x. cc) (λ x. cc)
     (refl, (k, refl)) (λ x. cc))
     refl refl (gathered_kept capacities grids h d number capacity k view export s needs)
-    (λ honest. gathered_keeps (quiet event reply) h d view.held (λ x. none_leaves event reply _ x) (λ i m t. absurd t) (λ i x. x)
+    (λ honest. gathered_keeps (quiet event reply) h d view.held (λ x. none_leaves event reply _ x) (λ i m t. absurd t)
+    (λ i x. x)
     (s.runs.gathered honest.1))
     (λ honest. tt) (λ honest. tt)
 
 -- ---- an import that is made
 
-file_goes : {A : Type 0} (ranges : List Range) (capacities : List ℕ) (grids : List GridView) (h : History A) (d number capacity : ℕ) (stop : Stop)
+file_goes : {A : Type 0} (ranges : List Range) (capacities : List ℕ) (grids : List GridView) (h : History A)
+    (d number capacity : ℕ) (stop : Stop)
     (view mid : DeskView) (export : LeftExport A) (given : Result imported_type.Imported ImportFault) →
-    (s : IsBrought capacities grids h d number capacity view export) → IsCalled stop → IsInOrder view → view.is_failed ≡ false →
+    (s : IsBrought capacities grids h d number capacity view export) → IsCalled stop → IsInOrder view →
+    view.is_failed ≡ false →
     ImportsFile export.id s.shows.pages (desk_planned view (next_save_of stop)) given mid →
-    DeskGoes ranges capacities grids h (Import d number stop) (import_reply given) d capacity (desks.Running (desk_planned mid next_save.Fine))
-file_goes {A} ranges capacities grids h d number capacity stop view mid export (Ok i) s called order was acts = by_kind i.kind refl acts.2
+    DeskGoes ranges capacities grids h (Import d number stop) (import_reply given) d capacity
+    (desks.Running (desk_planned mid next_save.Fine))
+file_goes {A} ranges capacities grids h d number capacity stop view mid export (Ok i) s called order was acts =
+    by_kind i.kind refl acts.2
   where
-    by_kind : (kind : Kind) → i.kind ≡ kind → ChangesByFile kind export.id s.shows.pages (desk_planned view (next_save_of stop)) mid →
-        DeskGoes ranges capacities grids h (Import d number stop) (Imported i) d capacity (desks.Running (desk_planned mid next_save.Fine))
-    by_kind Again is changes = again_goes ranges capacities grids h d number capacity stop view mid export i s called was acts.0 acts.1 is changes
-    by_kind New is changes = took_goes ranges capacities grids h d number capacity stop view mid export i s called order acts.0 acts.1 changes
-    by_kind Complete is changes = took_goes ranges capacities grids h d number capacity stop view mid export i s called order acts.0 acts.1 changes
-file_goes ranges capacities grids h d number capacity stop view mid export (Err import_fault.Conflict) s called order was acts =
-    refused_goes ranges capacities grids h d number capacity stop view mid export import_fault.Conflict s called acts.1 (λ b. refl) tt
+    by_kind : (kind : Kind) → i.kind ≡ kind →
+        ChangesByFile kind export.id s.shows.pages (desk_planned view (next_save_of stop)) mid →
+        DeskGoes ranges capacities grids h (Import d number stop) (Imported i) d capacity
+        (desks.Running (desk_planned mid next_save.Fine))
+    by_kind Again is changes = again_goes ranges capacities grids h d number capacity stop view mid export i s called
+        was acts.0 acts.1 is changes
+    by_kind New is changes = took_goes ranges capacities grids h d number capacity stop view mid export i s called order
+        acts.0 acts.1 changes
+    by_kind Complete is changes = took_goes ranges capacities grids h d number capacity stop view mid export i s called
+        order acts.0 acts.1 changes
+file_goes ranges capacities grids h d number capacity stop view mid export
+    (Err import_fault.Conflict) s called order was acts =
+    refused_goes ranges capacities grids h d number capacity stop view mid export import_fault.Conflict s called acts.1
+    (λ b. refl) tt
     (λ honest. let c = import_conflict view.capacity view.held export.id s.shows.pages acts.0 in
     no_conflict h d export.id view.held c.0 s.shows.pages (s.runs.gathered honest.1) (s.shows.parts honest.1) c.1 c.2)
-file_goes ranges capacities grids h d number capacity stop view mid export (Err import_fault.Full) s called order was acts =
+file_goes ranges capacities grids h d number capacity stop view mid export
+    (Err import_fault.Full) s called order was acts =
     let full = import_full view.capacity view.held export.id s.shows.pages acts.0 in
-    refused_goes ranges capacities grids h d number capacity stop view mid export import_fault.Full s called acts.1 (λ b. refl) tt
+    refused_goes ranges capacities grids h d number capacity stop view mid export import_fault.Full s called acts.1
+    (λ b. refl) tt
     (λ honest. record {
       name = export_name_of export;
       has_left = s.named;
@@ -362,35 +444,50 @@ file_goes ranges capacities grids h d number capacity stop view mid export (Err 
           (subst (λ (c : ℕ). MayHoldOthers h d export.id c) s.runs.capacity_is
           (other_held h d export.id view order (s.runs.gathered honest.1) full.0 full.1));
     })
-file_goes ranges capacities grids h d number capacity stop view mid export (Err import_fault.Memory) s called order was acts =
-    refused_goes ranges capacities grids h d number capacity stop view mid export import_fault.Memory s called acts.1 (λ b. refl) tt (λ honest. tt)
-file_goes {A} ranges capacities grids h d number capacity stop view mid export (Err import_fault.Save) s called order was acts =
+file_goes ranges capacities grids h d number capacity stop view mid export
+    (Err import_fault.Memory) s called order was acts =
+    refused_goes ranges capacities grids h d number capacity stop view mid export import_fault.Memory s called acts.1
+    (λ b. refl) tt (λ honest. tt)
+file_goes {A} ranges capacities grids h d number capacity stop view mid export
+    (Err import_fault.Save) s called order was acts =
     let k : (k : Kept) × (stop ≡ SaveFault k) = faulted_with stop view mid _ called acts.1.replaced in
-    subst (λ (t : Stop). DeskGoes ranges capacities grids h (Import d number t) (ImportRefused import_fault.Save) d capacity
+    subst (λ (t : Stop). DeskGoes ranges capacities grids h (Import d number t)
+    (ImportRefused import_fault.Save) d capacity
     (desks.Running (desk_planned mid next_save.Fine))) (sym k.1)
     (failed_goes ranges capacities grids h d number capacity k.0 view mid export s order acts.0
     (subst (λ (t : Stop). FailsToKeepFile export.id s.shows.pages (desk_planned view (next_save_of t)) mid) k.1 acts.1))
-file_goes ranges capacities grids h d number capacity stop view mid export (Err import_fault.Failed) s called order was acts = absurd acts
-file_goes ranges capacities grids h d number capacity stop view mid export (Err import_fault.NotPages) s called order was acts = absurd acts
-file_goes ranges capacities grids h d number capacity stop view mid export (Err import_fault.Version) s called order was acts = absurd acts
-file_goes ranges capacities grids h d number capacity stop view mid export (Err import_fault.Damaged) s called order was acts = absurd acts
+file_goes ranges capacities grids h d number capacity stop view mid export
+    (Err import_fault.Failed) s called order was acts = absurd acts
+file_goes ranges capacities grids h d number capacity stop view mid export
+    (Err import_fault.NotPages) s called order was acts = absurd acts
+file_goes ranges capacities grids h d number capacity stop view mid export
+    (Err import_fault.Version) s called order was acts = absurd acts
+file_goes ranges capacities grids h d number capacity stop view mid export
+    (Err import_fault.Damaged) s called order was acts = absurd acts
 
-called_goes : {A : Type 0} (ranges : List Range) (capacities : List ℕ) (grids : List GridView) (h : History A) (d number capacity : ℕ) (stop : Stop)
+called_goes : {A : Type 0} (ranges : List Range) (capacities : List ℕ) (grids : List GridView) (h : History A)
+    (d number capacity : ℕ) (stop : Stop)
     (view mid : DeskView) (export : LeftExport A) (given : Result imported_type.Imported ImportFault) →
-    IsBrought capacities grids h d number capacity view export → IsCalled stop → ImportsIn export.bytes (desk_planned view (next_save_of stop)) given mid →
-    DeskGoes ranges capacities grids h (Import d number stop) (import_reply given) d capacity (desks.Running (desk_planned mid next_save.Fine))
-called_goes {A} ranges capacities grids h d number capacity stop view mid export given s called f = by_failed view.is_failed refl
+    IsBrought capacities grids h d number capacity view export → IsCalled stop →
+    ImportsIn export.bytes (desk_planned view (next_save_of stop)) given mid →
+    DeskGoes ranges capacities grids h (Import d number stop) (import_reply given) d capacity
+    (desks.Running (desk_planned mid next_save.Fine))
+called_goes {A} ranges capacities grids h d number capacity stop view mid export given s called f =
+    by_failed view.is_failed refl
   where
     order : IsInOrder view
     order = record { room = f.before.room; few = f.before.few; entries = f.before.entries; saved = f.before.saved }
 
     by_failed : (b : Bool) → view.is_failed ≡ b →
-        DeskGoes ranges capacities grids h (Import d number stop) (import_reply given) d capacity (desks.Running (desk_planned mid next_save.Fine))
+        DeskGoes ranges capacities grids h (Import d number stop) (import_reply given) d capacity
+        (desks.Running (desk_planned mid next_save.Fine))
     by_failed true was =
         (let x = f.failed was in
-        subst (λ (r : Result imported_type.Imported ImportFault). DeskGoes ranges capacities grids h (Import d number stop) (import_reply r) d capacity
+        subst (λ (r : Result imported_type.Imported ImportFault). DeskGoes ranges capacities grids h
+        (Import d number stop) (import_reply r) d capacity
         (desks.Running (desk_planned mid next_save.Fine))) (sym x.0)
-        (refused_goes ranges capacities grids h d number capacity stop view mid export import_fault.Failed s called x.1 (λ b. refl)
+        (refused_goes ranges capacities grids h d number capacity stop view mid export import_fault.Failed s called x.1
+        (λ b. refl)
         (sym s.runs.failed ∙ was) (λ honest. tt)))
     by_failed false was =
         file_goes ranges capacities grids h d number capacity stop view mid export given s called order was
@@ -398,14 +495,20 @@ called_goes {A} ranges capacities grids h d number capacity stop view mid export
 
 -- ---- an import that is stopped
 
-stored_stopped : {A : Type 0} (capacities : List ℕ) (grids : List GridView) (h : History A) (d number capacity : ℕ) (stop : Stop) (view mid : DeskView)
-    (export : LeftExport A) (given : Result imported_type.Imported ImportFault) → IsBrought capacities grids h d number capacity view export →
-    (let reply : Reply A = Stopped in may_save (Import d number stop) reply ≡ true) → ImportsIn export.bytes (desk_planned view next_save.Fine) given mid →
-    (stored : Documents) × SetStands grids (quiet (Import d number stop) Stopped ∷ h) d capacity (desk_planned mid next_save.Fine).saved stored
-stored_stopped {A} capacities grids h d number capacity stop view mid export given s may f = by_failed view.is_failed refl
+stored_stopped : {A : Type 0} (capacities : List ℕ) (grids : List GridView) (h : History A) (d number capacity : ℕ)
+    (stop : Stop) (view mid : DeskView)
+    (export : LeftExport A) (given : Result imported_type.Imported ImportFault) →
+    IsBrought capacities grids h d number capacity view export →
+    (let reply : Reply A = Stopped in may_save (Import d number stop) reply ≡ true) →
+    ImportsIn export.bytes (desk_planned view next_save.Fine) given mid →
+    (stored : Documents) × SetStands grids (quiet (Import d number stop) Stopped ∷ h) d capacity
+    (desk_planned mid next_save.Fine).saved stored
+stored_stopped {A} capacities grids h d number capacity stop view mid export given s may f =
+    by_failed view.is_failed refl
   where
     same : mid ≡ desk_planned view next_save.Fine →
-        (stored : Documents) × SetStands grids (quiet (Import d number stop) Stopped ∷ h) d capacity (desk_planned mid next_save.Fine).saved stored
+        (stored : Documents) × SetStands grids (quiet (Import d number stop) Stopped ∷ h) d capacity
+        (desk_planned mid next_save.Fine).saved stored
     same is =
         let e : Entry A = quiet (Import d number stop) Stopped in
         let after : desk_planned mid next_save.Fine ≡ view =
@@ -413,30 +516,37 @@ stored_stopped {A} capacities grids h d number capacity stop view mid export giv
           s.runs.stored,
           subst (λ (v : DeskView). SetStands grids (e ∷ h) d capacity v.saved s.runs.stored) (sym after)
               (set_keeps e h grids grids d capacity view.saved s.runs.stored (λ honest. honest.1)
-              (λ x. none_leaves {A = A} (Import d number stop) Stopped _ x) (λ i m t. absurd t) (λ i x. x) s.runs.store),
+              (λ x. none_leaves {A = A} (Import d number stop) Stopped _ x) (λ i m t. absurd t)
+              (λ i x. x) s.runs.store),
         )
 
     took : (kind : Kind) → import_answer view.capacity view.held export.id s.shows.pages ≡ Ok kind →
         KeepsFile export.id s.shows.pages (desk_planned view next_save.Fine) mid →
-        (stored : Documents) × SetStands grids (quiet (Import d number stop) Stopped ∷ h) d capacity (desk_planned mid next_save.Fine).saved stored
+        (stored : Documents) × SetStands grids (quiet (Import d number stop) Stopped ∷ h) d capacity
+        (desk_planned mid next_save.Fine).saved stored
     took kind is keeps = (
       with_file view.held export.id s.shows.pages,
-      set_saved grids (quiet (Import d number stop) Stopped) h d capacity view mid next_save.Fine _ (with_file view.held export.id s.shows.pages)
+      set_saved grids (quiet (Import d number stop) Stopped) h d capacity view mid next_save.Fine _
+          (with_file view.held export.id s.shows.pages)
           s.runs.store.ready keeps.replaced keeps.holding
           (subst (λ (c : ℕ). finite.len (with_file view.held export.id s.shows.pages) ≤ c) s.runs.capacity_is
           (few_with view.capacity view.held export.id s.shows.pages kind f.before.few is))
-          (gathered_file capacities grids h d number capacity stop Stopped view export kind s is may (λ other m t. absurd t) (λ i x. x)),
+          (gathered_file capacities grids h d number capacity stop Stopped view export kind s is may
+          (λ other m t. absurd t) (λ i x. x)),
     )
 
     by_kind : (kind : Kind) → import_answer view.capacity view.held export.id s.shows.pages ≡ Ok kind →
         ChangesByFile kind export.id s.shows.pages (desk_planned view next_save.Fine) mid →
-        (stored : Documents) × SetStands grids (quiet (Import d number stop) Stopped ∷ h) d capacity (desk_planned mid next_save.Fine).saved stored
+        (stored : Documents) × SetStands grids (quiet (Import d number stop) Stopped ∷ h) d capacity
+        (desk_planned mid next_save.Fine).saved stored
     by_kind Again is changes = same changes
     by_kind New is changes = took New is changes
     by_kind Complete is changes = took Complete is changes
 
-    by_given : (r : Result imported_type.Imported ImportFault) → ImportsFile export.id s.shows.pages (desk_planned view next_save.Fine) r mid →
-        (stored : Documents) × SetStands grids (quiet (Import d number stop) Stopped ∷ h) d capacity (desk_planned mid next_save.Fine).saved stored
+    by_given : (r : Result imported_type.Imported ImportFault) →
+        ImportsFile export.id s.shows.pages (desk_planned view next_save.Fine) r mid →
+        (stored : Documents) × SetStands grids (quiet (Import d number stop) Stopped ∷ h) d capacity
+        (desk_planned mid next_save.Fine).saved stored
     by_given (Ok i) x = by_kind i.kind x.1 x.2
     by_given (Err import_fault.Conflict) x = same x.1
     by_given (Err import_fault.Full) x = same x.1
@@ -448,42 +558,58 @@ stored_stopped {A} capacities grids h d number capacity stop view mid export giv
     by_given (Err import_fault.Damaged) x = absurd x
 
     by_failed : (b : Bool) → view.is_failed ≡ b →
-        (stored : Documents) × SetStands grids (quiet (Import d number stop) Stopped ∷ h) d capacity (desk_planned mid next_save.Fine).saved stored
+        (stored : Documents) × SetStands grids (quiet (Import d number stop) Stopped ∷ h) d capacity
+        (desk_planned mid next_save.Fine).saved stored
     by_failed true was = same (f.failed was).1
     by_failed false was = by_given given ((f.imported was).spelled export.id s.shows.pages s.shows.spells)
 
-stopped_goes : {A : Type 0} (ranges : List Range) (capacities : List ℕ) (grids : List GridView) (h : History A) (d number capacity : ℕ) (stop : Stop)
-    (view : DeskView) (export : LeftExport A) (state : DeskState A) → IsBrought capacities grids h d number capacity view export →
+stopped_goes : {A : Type 0} (ranges : List Range) (capacities : List ℕ) (grids : List GridView) (h : History A)
+    (d number capacity : ℕ) (stop : Stop)
+    (view : DeskView) (export : LeftExport A) (state : DeskState A) →
+    IsBrought capacities grids h d number capacity view export →
     StopsDesk stop view (λ mid. (given : Result imported_type.Imported ImportFault) × (given ≢ Err import_fault.Memory)
     × ImportsIn export.bytes (desk_planned view next_save.Fine) given mid) state →
     DeskGoes ranges capacities grids h (Import d number stop) Stopped d capacity state
 stopped_goes {A} ranges capacities grids h d number capacity stop view export state s acts = by_stop stop acts
   where
-    before : (t : Stop) → (let reply : Reply A = Stopped in SetStands grids (quiet (Import d number t) reply ∷ h) d capacity view.saved s.runs.stored)
-    before t = set_keeps (quiet (Import d number t) Stopped) h grids grids d capacity view.saved s.runs.stored (λ honest. honest.1)
+    before : (t : Stop) → (let reply : Reply A = Stopped in
+        SetStands grids (quiet (Import d number t) reply ∷ h) d capacity view.saved s.runs.stored)
+    before t = set_keeps (quiet (Import d number t) Stopped) h grids grids d capacity view.saved s.runs.stored
+        (λ honest. honest.1)
         (λ x. none_leaves {A = A} (Import d number t) Stopped _ x) (λ i m x. absurd x) (λ i x. x) s.runs.store
 
     by_stop : (t : Stop) →
         StopsDesk t view (λ mid. (given : Result imported_type.Imported ImportFault) × (given ≢ Err import_fault.Memory)
         × ImportsIn export.bytes (desk_planned view next_save.Fine) given mid) state →
         DeskGoes ranges capacities grids h (Import d number t) Stopped d capacity state
-    by_stop BeforeSave x = desk_stopped ranges capacities grids h (Import d number BeforeSave) d capacity view.saved s.runs.stored state s.room
-        (stop_told ranges (length capacities) h (Import d number BeforeSave) d refl s.there s.runs.up tt (refl, tt)) (before BeforeSave) tt tt x
-    by_stop (InSave kept.Old) x = desk_stopped ranges capacities grids h (Import d number (InSave kept.Old)) d capacity view.saved s.runs.stored state s.room
-        (stop_told ranges (length capacities) h (Import d number (InSave kept.Old)) d refl s.there s.runs.up tt (refl, tt)) (before (InSave kept.Old)) tt tt x
+    by_stop BeforeSave x = desk_stopped ranges capacities grids h
+        (Import d number BeforeSave) d capacity view.saved s.runs.stored state s.room
+        (stop_told ranges (length capacities) h (Import d number BeforeSave) d refl s.there s.runs.up tt
+        (refl, tt)) (before BeforeSave) tt tt x
+    by_stop (InSave kept.Old) x = desk_stopped ranges capacities grids h
+        (Import d number (InSave kept.Old)) d capacity view.saved s.runs.stored state s.room
+        (stop_told ranges (length capacities) h (Import d number (InSave kept.Old)) d refl s.there s.runs.up tt
+        (refl, tt)) (before (InSave kept.Old)) tt tt x
     by_stop (InSave kept.New) x =
-        (let stored = stored_stopped capacities grids h d number capacity (InSave kept.New) view x.0 export x.1.0 s refl x.1.2 in
-        desk_stopped ranges capacities grids h (Import d number (InSave kept.New)) d capacity (desk_planned x.0 next_save.Fine).saved stored.0 state s.room
-        (stop_told ranges (length capacities) h (Import d number (InSave kept.New)) d refl s.there s.runs.up tt (refl, tt)) stored.1 tt tt x.2)
+        (let stored = stored_stopped capacities grids h d number capacity
+        (InSave kept.New) view x.0 export x.1.0 s refl x.1.2 in
+        desk_stopped ranges capacities grids h (Import d number (InSave kept.New)) d capacity
+        (desk_planned x.0 next_save.Fine).saved stored.0 state s.room
+        (stop_told ranges (length capacities) h (Import d number (InSave kept.New)) d refl s.there s.runs.up tt
+        (refl, tt)) stored.1 tt tt x.2)
     by_stop (AfterLabels most) x =
-        (let stored = stored_stopped capacities grids h d number capacity (AfterLabels most) view x.0 export x.1.0 s refl x.1.2 in
-        desk_stopped ranges capacities grids h (Import d number (AfterLabels most)) d capacity (desk_planned x.0 next_save.Fine).saved stored.0 state s.room
-        (stop_told ranges (length capacities) h (Import d number (AfterLabels most)) d refl s.there s.runs.up tt (refl, tt)) stored.1 tt tt x.2)
+        (let stored = stored_stopped capacities grids h d number capacity
+        (AfterLabels most) view x.0 export x.1.0 s refl x.1.2 in
+        desk_stopped ranges capacities grids h (Import d number (AfterLabels most)) d capacity
+        (desk_planned x.0 next_save.Fine).saved stored.0 state s.room
+        (stop_told ranges (length capacities) h (Import d number (AfterLabels most)) d refl s.there s.runs.up tt
+        (refl, tt)) stored.1 tt tt x.2)
     by_stop stops.None x = absurd x
     by_stop (SaveFault k) x = absurd x
 
 -- an import whose memory was refused
-none_imported : {A : Type 0} (capacities : List ℕ) (grids : List GridView) (h : History A) (d number capacity : ℕ) (view old new : DeskView)
+none_imported : {A : Type 0} (capacities : List ℕ) (grids : List GridView) (h : History A) (d number capacity : ℕ)
+    (view old new : DeskView)
     (export : LeftExport A) → IsBrought capacities grids h d number capacity view export →
     ImportsIn export.bytes old (Err import_fault.Memory) new → new ≡ old
 none_imported capacities grids h d number capacity view old new export s f = by_failed old.is_failed refl
@@ -492,19 +618,27 @@ none_imported capacities grids h d number capacity view old new export s f = by_
     by_failed true was = (f.failed was).1
     by_failed false was = ((f.imported was).spelled export.id s.shows.pages s.shows.spells).1
 
-pub import_goes : {A : Type 0} (ranges : List Range) (capacities : List ℕ) (grids : List GridView) (h : History A) (d number capacity : ℕ) (stop : Stop)
-    (view : DeskView) (export : LeftExport A) (reply : Reply A) (state : DeskState A) → IsBrought capacities grids h d number capacity view export →
+pub import_goes : {A : Type 0} (ranges : List Range) (capacities : List ℕ) (grids : List GridView) (h : History A)
+    (d number capacity : ℕ) (stop : Stop)
+    (view : DeskView) (export : LeftExport A) (reply : Reply A) (state : DeskState A) →
+    IsBrought capacities grids h d number capacity view export →
     CallActs (ImportsIn export.bytes) import_reply (Err import_fault.Memory) view stop reply state →
     DeskGoes ranges capacities grids h (Import d number stop) reply d capacity state
 import_goes {A} ranges capacities grids h d number capacity stop view export reply state s (inl made) =
-    subst (λ (r : Reply A). DeskGoes ranges capacities grids h (Import d number stop) r d capacity state) (sym made.reply_is)
-    (subst (λ (x : DeskState A). DeskGoes ranges capacities grids h (Import d number stop) (import_reply made.answer) d capacity x) (sym made.state_is)
-    (called_goes ranges capacities grids h d number capacity stop view made.mid export made.answer s made.called made.makes))
+    subst (λ (r : Reply A). DeskGoes ranges capacities grids h (Import d number stop) r d capacity state)
+    (sym made.reply_is)
+    (subst (λ (x : DeskState A). DeskGoes ranges capacities grids h (Import d number stop)
+    (import_reply made.answer) d capacity x) (sym made.state_is)
+    (called_goes ranges capacities grids h d number capacity stop view made.mid export made.answer s made.called
+    made.makes))
 import_goes {A} ranges capacities grids h d number capacity stop view export reply state s (inr (inl stopped)) =
-    subst (λ (r : Reply A). DeskGoes ranges capacities grids h (Import d number stop) r d capacity state) (sym stopped.0)
+    subst (λ (r : Reply A). DeskGoes ranges capacities grids h (Import d number stop) r d capacity state)
+    (sym stopped.0)
     (stopped_goes ranges capacities grids h d number capacity stop view export state s stopped.1)
 import_goes ranges capacities grids h d number capacity stop view export reply state s (inr (inr lacks)) =
-    memory_goes ranges capacities grids h (Import d number stop) d capacity view reply state s.room s.runs refl s.there (refl, tt) (λ i m t. t) (λ i x. x)
+    memory_goes ranges capacities grids h (Import d number stop) d capacity view reply state s.room s.runs refl s.there
+    (refl, tt) (λ i m t. t) (λ i x. x)
     tt tt lacks.0
     (lacks_same stop _ view state s.runs.store.ready
-    (λ mid call. none_imported capacities grids h d number capacity view (desk_planned view next_save.Fine) mid export s call) lacks.1)
+    (λ mid call. none_imported capacities grids h d number capacity view
+    (desk_planned view next_save.Fine) mid export s call) lacks.1)

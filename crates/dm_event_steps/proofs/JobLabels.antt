@@ -20,7 +20,8 @@ names_left A id count number (g ∷ gs) =
     ap (λ l. first ∷ l) (names_left A id count (number + 1) gs)
 
 -- a job has as many labels as parts
-pub length-AreLabels : (size : Size) (scheme : Scheme) (id count number : ℕ) (parts : List (List ℕ)) (grids : List GridView) →
+pub length-AreLabels : (size : Size) (scheme : Scheme) (id count number : ℕ) (parts : List (List ℕ))
+    (grids : List GridView) →
     AreLabels size scheme id count number parts grids → length grids ≡ length parts
 length-AreLabels size scheme id count number [] [] made = refl
 length-AreLabels size scheme id count number (t ∷ ts) (g ∷ gs) made =
@@ -37,9 +38,11 @@ record IsLeft {A : Type 0} (size : Size) (id count : ℕ) (whole : List (List �
   pub part : (i : ℕ) × (label.number ≡ i + 1) × (slice_get whole i ≡ Some bytes)
   pub carries : Carries (record { id = label.id; m = label.number; n = label.count; bytes = bytes }) label.grid
 
-each_left : {A : Type 0} (size : Size) (scheme : Scheme) (id count k : ℕ) (whole parts : List (List ℕ)) (grids : List GridView) →
+each_left : {A : Type 0} (size : Size) (scheme : Scheme) (id count k : ℕ) (whole parts : List (List ℕ))
+    (grids : List GridView) →
     ((i : ℕ) → slice_get parts i ≡ slice_get whole (k + i)) → AreLabels size scheme id count (k + 1) parts grids →
-    (i : ℕ) (label : LeftLabel A) → slice_get (left_labels id count (k + 1) grids) i ≡ Some label → IsLeft size id count whole label
+    (i : ℕ) (label : LeftLabel A) → slice_get (left_labels id count (k + 1) grids) i ≡ Some label →
+    IsLeft size id count whole label
 each_left size scheme id count k whole [] [] within made i label here = cc
 each_left size scheme id count k whole [] (g ∷ gs) within made i label here = absurd made
 each_left size scheme id count k whole (t ∷ ts) [] within made i label here = absurd made
@@ -59,19 +62,23 @@ each_left {A} size scheme id count k whole (t ∷ ts) (g ∷ gs) within made zer
     subst (λ (l : LeftLabel A). IsLeft size id count whole l) is got
 each_left size scheme id count k whole (t ∷ ts) (g ∷ gs) within made (suc i) label here =
     each_left size scheme id count (k + 1) whole ts gs
-    (λ j. within (suc j) ∙ ap (λ n. slice_get whole n) (let z : k + suc j ≡ (k + 1) + j = omega arith in z)) made.1 i label here
+    (λ j. within (suc j) ∙ ap (λ n. slice_get whole n) (let z : k + suc j ≡ (k + 1) + j = omega arith in z)) made.1 i
+    label here
 
 -- the labels of a job that left, each of its document
 pub left_goes : {A : Type 0} (e : Entry A) (h : History A) (cut : CutDocument) (job : JobView) (grids : List GridView) →
-    IsJobOf cut.size cut.scheme job.id cut.parts job → e.id ≡ job.id → 0 < e.left → printed_by e.event e.parts ≡ Some cut →
+    IsJobOf cut.size cut.scheme job.id cut.parts job → e.id ≡ job.id → 0 < e.left →
+    printed_by e.event e.parts ≡ Some cut →
     ((i : ℕ) (label : LeftLabel A) → slice_get (left_labels {A = A} job.id job.count 1 grids) i ≡ Some label →
     slice_get (left_labels {A = A} job.id job.count 1 job.labels) i ≡ Some label) →
-    (i : ℕ) (label : LeftLabel A) → slice_get (left_labels {A = A} job.id job.count 1 grids) i ≡ Some label → ShowsDocument (e ∷ h) label
+    (i : ℕ) (label : LeftLabel A) → slice_get (left_labels {A = A} job.id job.count 1 grids) i ≡ Some label →
+    ShowsDocument (e ∷ h) label
 left_goes {A} e h cut job grids made id_is some told whole i label here =
     let l : IsLeft cut.size job.id (length cut.parts) cut.parts label =
     each_left cut.size cut.scheme job.id (length cut.parts) 0 cut.parts cut.parts job.labels
     (λ j. ap (λ n. slice_get cut.parts n) (let z : j ≡ 0 + j = omega arith in z)) made.labels i label
-    (subst (λ (n : ℕ). slice_get (left_labels {A = A} job.id n 1 job.labels) i ≡ Some label) made.count_is (whole i label here)) in
+    (subst (λ (n : ℕ). slice_get (left_labels {A = A} job.id n 1 job.labels) i ≡ Some label) made.count_is
+    (whole i label here)) in
     record {
       document = cut;
       printed = subst (λ (n : ℕ). docs (e ∷ h) n ≡ Some cut) (id_is ∙ sym l.id_is) (docs_own e h cut some told);
@@ -90,7 +97,8 @@ length_take (suc k) (x ∷ xs) = (let e = length_take k xs in omega arith)
 
 -- labels of a job that left, of those that are taken
 pub take_left : {A : Type 0} (id count number k : ℕ) (grids : List GridView) (i : ℕ) (label : LeftLabel A) →
-    slice_get (left_labels id count number (take k grids)) i ≡ Some label → slice_get (left_labels {A = A} id count number grids) i ≡ Some label
+    slice_get (left_labels id count number (take k grids)) i ≡ Some label →
+    slice_get (left_labels {A = A} id count number grids) i ≡ Some label
 take_left id count number zero grids i label here = cc
 take_left id count number (suc k) [] i label here = cc
 take_left id count number (suc k) (g ∷ gs) zero label here = here

@@ -40,22 +40,28 @@ zero_more : (b : Bool) (m n : ℕ) → m ≡ 0 → (if b then m else 0) + n ≡ 
 zero_more true m n x = omega arith
 zero_more false m n x = omega arith
 
-pub numbers_other : {A : Type 0} (e : Entry A) (h : History A) (p : ℕ) → actor_of e.event ≢ PrinterAt p → KeepsNumbers e h p
+pub numbers_other : {A : Type 0} (e : Entry A) (h : History A) (p : ℕ) → actor_of e.event ≢ PrinterAt p →
+    KeepsNumbers e h p
 numbers_other e h p away = record {
   saved = saved_elsewhere e p away;
   came = ap (λ (n : ℕ). n + came h p)
-      (if_not (is_same (actor_of e.event) (PrinterAt p)) (comes_by (tickets h) e.event e.reply) 0 (λ is. away (same_means (actor_of e.event) (PrinterAt p) is))) ∙ zero_and (came h p);
+      (if_not (is_same (actor_of e.event) (PrinterAt p)) (comes_by (tickets h) e.event e.reply) 0
+      (λ is. away (same_means (actor_of e.event) (PrinterAt p) is))) ∙ zero_and (came h p);
 }
 
 -- nothing comes but by a take that is answered `Taken`
-comes_none : {A : Type 0} (tickets : List TicketView) (event : Event A) (reply : Reply A) → ¬ (tells_of_save reply ≡ true) → comes_by tickets event reply ≡ 0
+comes_none : {A : Type 0} (tickets : List TicketView) (event : Event A) (reply : Reply A) →
+    ¬ (tells_of_save reply ≡ true) → comes_by tickets event reply ≡ 0
 comes_none tickets event Taken untold = absurd (untold refl)
 comes_none tickets event reply untold = refl
 
-pub came_stays : {A : Type 0} (e : Entry A) (h : History A) (p : ℕ) → comes_by (tickets h) e.event e.reply ≡ 0 → came (e ∷ h) p ≡ came h p
-came_stays e h p none = zero_more (is_same (actor_of e.event) (PrinterAt p)) (comes_by (tickets h) e.event e.reply) (came h p) none
+pub came_stays : {A : Type 0} (e : Entry A) (h : History A) (p : ℕ) → comes_by (tickets h) e.event e.reply ≡ 0 →
+    came (e ∷ h) p ≡ came h p
+came_stays e h p none = zero_more (is_same (actor_of e.event) (PrinterAt p)) (comes_by (tickets h) e.event e.reply)
+    (came h p) none
 
-pub numbers_quiet : {A : Type 0} (e : Entry A) (h : History A) (p : ℕ) → e.saved ≡ false → ¬ (tells_of_save e.reply ≡ true) → KeepsNumbers e h p
+pub numbers_quiet : {A : Type 0} (e : Entry A) (h : History A) (p : ℕ) → e.saved ≡ false →
+    ¬ (tells_of_save e.reply ≡ true) → KeepsNumbers e h p
 numbers_quiet e h p unsaved untold = record {
   saved = and_first e.saved (is_same (actor_of e.event) (PrinterAt p)) unsaved;
   came = came_stays e h p (comes_none (tickets h) e.event e.reply untold);
@@ -75,35 +81,48 @@ and_yes true true x y = refl
 and_yes true false x y = cc
 and_yes false c x y = cc
 
-gives_stay : {A : Type 0} (e : Entry A) (h : History A) (p : ℕ) → (saved_at e p && is_give e.event) ≡ false → gives (e ∷ h) p ≡ gives h p
-gives_stay e h p none = ap (λ (n : ℕ). n + gives h p) (if_not (saved_at e p && is_give e.event) 1 0 (not_true (saved_at e p && is_give e.event) none)) ∙ zero_and (gives h p)
+gives_stay : {A : Type 0} (e : Entry A) (h : History A) (p : ℕ) → (saved_at e p && is_give e.event) ≡ false →
+    gives (e ∷ h) p ≡ gives h p
+gives_stay e h p none = ap (λ (n : ℕ). n + gives h p)
+    (if_not (saved_at e p && is_give e.event) 1 0 (not_true (saved_at e p && is_give e.event) none)) ∙
+    zero_and (gives h p)
 
-gives_more : {A : Type 0} (e : Entry A) (h : History A) (p : ℕ) → saved_at e p ≡ true → is_give e.event ≡ true → gives (e ∷ h) p ≡ 1 + gives h p
+gives_more : {A : Type 0} (e : Entry A) (h : History A) (p : ℕ) → saved_at e p ≡ true → is_give e.event ≡ true →
+    gives (e ∷ h) p ≡ 1 + gives h p
 gives_more e h p at give =
-    ap (λ (n : ℕ). n + gives h p) (if_so (saved_at e p && is_give e.event) 1 0 (and_yes (saved_at e p) (is_give e.event) at give))
+    ap (λ (n : ℕ). n + gives h p) (if_so (saved_at e p && is_give e.event) 1 0
+    (and_yes (saved_at e p) (is_give e.event) at give))
 
 pub gone_grows : {A : Type 0} (e : Entry A) (h : History A) (p : ℕ) → gone h p ≤ gone (e ∷ h) p
-gone_grows e h p = grown (if is_same (actor_of e.event) (PrinterAt p) && may_save e.event e.reply then takes_away e.event else 0) (gone h p)
+gone_grows e h p = grown (if is_same (actor_of e.event)
+    (PrinterAt p) && may_save e.event e.reply then takes_away e.event else 0) (gone h p)
   where
     grown : (m n : ℕ) → n ≤ m + n
     grown m n = omega arith
 
-pub gone_more : {A : Type 0} (e : Entry A) (h : History A) (p : ℕ) → actor_of e.event ≡ PrinterAt p → may_save e.event e.reply ≡ true →
+pub gone_more : {A : Type 0} (e : Entry A) (h : History A) (p : ℕ) → actor_of e.event ≡ PrinterAt p →
+    may_save e.event e.reply ≡ true →
     gone (e ∷ h) p ≡ takes_away e.event + gone h p
 gone_more e h p named may =
-    ap (λ (n : ℕ). n + gone h p) (if_so (is_same (actor_of e.event) (PrinterAt p) && may_save e.event e.reply) (takes_away e.event) 0
-    (and_yes (is_same (actor_of e.event) (PrinterAt p)) (may_save e.event e.reply) (same_so (actor_of e.event) (PrinterAt p) named) may))
+    ap (λ (n : ℕ). n + gone h p) (if_so (is_same (actor_of e.event) (PrinterAt p) && may_save e.event e.reply)
+    (takes_away e.event) 0
+    (and_yes (is_same (actor_of e.event) (PrinterAt p)) (may_save e.event e.reply)
+    (same_so (actor_of e.event) (PrinterAt p) named) may))
 
-last_stays : {A : Type 0} (e : Entry A) (h : History A) (p giver : ℕ) → saved_at e p ≡ false → last_serial (e ∷ h) p giver ≡ last_serial h p giver
+last_stays : {A : Type 0} (e : Entry A) (h : History A) (p giver : ℕ) → saved_at e p ≡ false →
+    last_serial (e ∷ h) p giver ≡ last_serial h p giver
 last_stays e h p giver unset =
-    if_not (saved_at e p) (serial_after (taken_by (tickets h) e.event) giver (last_serial h p giver)) (last_serial h p giver) (not_true (saved_at e p) unset)
+    if_not (saved_at e p) (serial_after (taken_by (tickets h) e.event) giver (last_serial h p giver))
+    (last_serial h p giver) (not_true (saved_at e p) unset)
 
 last_goes : {A : Type 0} (e : Entry A) (h : History A) (p giver : ℕ) → saved_at e p ≡ true →
     last_serial (e ∷ h) p giver ≡ serial_after (taken_by (tickets h) e.event) giver (last_serial h p giver)
-last_goes e h p giver at = if_so (saved_at e p) (serial_after (taken_by (tickets h) e.event) giver (last_serial h p giver)) (last_serial h p giver) at
+last_goes e h p giver at = if_so (saved_at e p)
+    (serial_after (taken_by (tickets h) e.event) giver (last_serial h p giver)) (last_serial h p giver) at
 
 -- the ledger is as it was
-pub numbers_keep : {A : Type 0} (ranges : List Range) (e : Entry A) (h : History A) (p : ℕ) (l : LedgerView) → KeepsNumbers e h p →
+pub numbers_keep : {A : Type 0} (ranges : List Range) (e : Entry A) (h : History A) (p : ℕ) (l : LedgerView) →
+    KeepsNumbers e h p →
     IsLedgerOf ranges h p l → IsLedgerOf ranges (e ∷ h) p l
 numbers_keep ranges e h p l keeps s = record {
   number = s.number;
@@ -126,7 +145,8 @@ pub record SavedAt {A : Type 0} (e : Entry A) (h : History A) (p : ℕ) : Type 0
 -- the number alone is in its range
 single_is : (id n : ℕ) → is_in (single id) n ≡ (id == n)
 single_is id n = elim (decided (id == n)) [
-  | inl same ↦ (let s : id ≡ n = same_number id n same in let t : is_in (single id) n ≡ true = grind (arith, nat_tests, s) in t ∙ sym same)
+  | inl same ↦ (let s : id ≡ n = same_number id n same in let t : is_in (single id) n ≡ true =
+      grind (arith, nat_tests, s) in t ∙ sym same)
   | inr other ↦ elim (decided (is_in (single id) n)) [
     | inl within ↦ absurd (let t = both (nat_le id n) (nat_le n id) within in
         let a : id ≤ n = grind (arith, nat_tests, t.0) in let b : n ≤ id = grind (arith, nat_tests, t.1) in
@@ -136,14 +156,36 @@ single_is id n = elim (decided (id == n)) [
 ]
 
 -- an identification was used
-pub ledger_used : {A : Type 0} (ranges : List Range) (h : History A) (p : ℕ) (document : List ℕ) (size : Size) (scheme : Scheme) (stop : Stop)
+pub ledger_used : {A : Type 0} (ranges : List Range) (h : History A) (p : ℕ) (document : List ℕ) (size : Size)
+    (scheme : Scheme) (stop : Stop)
     (reply : Reply A) (id : ℕ) (parts : List (List ℕ)) (left : ℕ) (l next : LedgerView) →
-    SavedAt (record { event = Print p document size scheme stop; reply = reply; id = id; parts = parts; left = left; saved = true }) h p →
+    SavedAt (record {
+      event = Print p document size scheme stop;
+      reply = reply;
+      id = id;
+      parts = parts;
+      left = left;
+      saved = true;
+    }) h p →
     comes_by (tickets h) (Print p document size scheme stop) reply ≡ 0 →
     Uses l id next → IsLedgerOf ranges h p l →
-    IsLedgerOf ranges (record { event = Print p document size scheme stop; reply = reply; id = id; parts = parts; left = left; saved = true } ∷ h) p next
+    IsLedgerOf ranges (record {
+      event = Print p document size scheme stop;
+      reply = reply;
+      id = id;
+      parts = parts;
+      left = left;
+      saved = true;
+    } ∷ h) p next
 ledger_used {A} ranges h p document size scheme stop reply id parts left l next at none uses s =
-    let e : Entry A = record { event = Print p document size scheme stop; reply = reply; id = id; parts = parts; left = left; saved = true } in
+    let e : Entry A = record {
+      event = Print p document size scheme stop;
+      reply = reply;
+      id = id;
+      parts = parts;
+      left = left;
+      saved = true;
+    } in
     let there : saved_at e p ≡ true = saved_there e p refl refl in
     record {
       number = uses.number ∙ s.number;
@@ -152,7 +194,8 @@ ledger_used {A} ranges h p document size scheme stop reply id parts left l next 
       next_serial = uses.next_serial ∙ s.next_serial ∙ sym (gives_stay e h p (and_no (saved_at e p) false refl));
       givers = λ giver. ap (λ g. last_taken g giver) uses.givers ∙ s.givers giver ∙ sym (last_goes e h p giver there);
       bounded =
-          let a = s.bounded in let b = gone_more e h p refl at.may in let c = came_stays e h p none in let d = uses.free.count in
+          let a = s.bounded in let b = gone_more e h p refl at.may in let c = came_stays e h p none in
+          let d = uses.free.count in
           let one : size_of (single id) ≡ 1 = omega arith in omega arith;
     }
 
@@ -161,45 +204,81 @@ pub ledger_gave : {A : Type 0} (ranges : List Range) (h : History A) (p receiver
     (reply : Reply A) (id : ℕ) (parts : List (List ℕ)) (left : ℕ) (l next : LedgerView) →
     may_save (Give p receiver range stop) reply ≡ true → comes_by (tickets h) (Give p receiver range stop) reply ≡ 0 →
     GivesAway l range next → IsLedgerOf ranges h p l →
-    IsLedgerOf ranges (record { event = Give p receiver range stop; reply = reply; id = id; parts = parts; left = left; saved = true } ∷ h) p next
+    IsLedgerOf ranges (record {
+      event = Give p receiver range stop;
+      reply = reply;
+      id = id;
+      parts = parts;
+      left = left;
+      saved = true;
+    } ∷ h) p next
 ledger_gave {A} ranges h p receiver range stop reply id parts left l next may none gave s =
-    let e : Entry A = record { event = Give p receiver range stop; reply = reply; id = id; parts = parts; left = left; saved = true } in
+    let e : Entry A = record {
+      event = Give p receiver range stop;
+      reply = reply;
+      id = id;
+      parts = parts;
+      left = left;
+      saved = true;
+    } in
     let there : saved_at e p ≡ true = saved_there e p refl refl in
     record {
       number = gave.number ∙ s.number;
-      free = λ n. gave.free.free n ∙ ap (λ (b : Bool). b && not (is_in range n)) (s.free n) ∙ sym (free_goes ranges e h p n there);
-      next_serial = let a = gave.next_serial in let b = s.next_serial in let c = gives_more e h p there refl in omega arith;
+      free = λ n. gave.free.free n ∙ ap (λ (b : Bool). b && not (is_in range n)) (s.free n) ∙
+          sym (free_goes ranges e h p n there);
+      next_serial = let a = gave.next_serial in let b = s.next_serial in let c = gives_more e h p there refl in
+          omega arith;
       givers = λ giver. ap (λ g. last_taken g giver) gave.givers ∙ s.givers giver ∙ sym (last_goes e h p giver there);
       bounded =
-          let a = s.bounded in let b = gone_more e h p refl may in let c = came_stays e h p none in let d = gave.free.count in omega arith;
+          let a = s.bounded in let b = gone_more e h p refl may in let c = came_stays e h p none in
+          let d = gave.free.count in omega arith;
     }
 
 -- a ticket was taken
 pub ledger_took : {A : Type 0} (ranges : List Range) (h : History A) (p number : ℕ) (stop : Stop)
     (reply : Reply A) (id : ℕ) (parts : List (List ℕ)) (left : ℕ) (ticket : TicketView) (l next : LedgerView) →
-    slice_get (tickets h) number ≡ Some ticket → comes_by (tickets h) (Take p number stop) reply ≤ size_of ticket.range →
+    slice_get (tickets h) number ≡ Some ticket →
+    comes_by (tickets h) (Take p number stop) reply ≤ size_of ticket.range →
     TakesIn l ticket next → IsLedgerOf ranges h p l →
-    IsLedgerOf ranges (record { event = Take p number stop; reply = reply; id = id; parts = parts; left = left; saved = true } ∷ h) p next
+    IsLedgerOf ranges (record {
+      event = Take p number stop;
+      reply = reply;
+      id = id;
+      parts = parts;
+      left = left;
+      saved = true;
+    } ∷ h) p next
 ledger_took {A} ranges h p number stop reply id parts left ticket l next is comes took s =
-    let e : Entry A = record { event = Take p number stop; reply = reply; id = id; parts = parts; left = left; saved = true } in
+    let e : Entry A = record {
+      event = Take p number stop;
+      reply = reply;
+      id = id;
+      parts = parts;
+      left = left;
+      saved = true;
+    } in
     let there : saved_at e p ≡ true = saved_there e p refl refl in
     record {
       number = took.number ∙ s.number;
       free = λ n. took.free.free n ∙ ap (λ (b : Bool). is_in ticket.range n || b) (s.free n) ∙
-          ap (λ (o : Option TicketView). is_on o n || free_at ranges h p n) (sym is) ∙ sym (free_goes ranges e h p n there);
+          ap (λ (o : Option TicketView). is_on o n || free_at ranges h p n) (sym is) ∙
+          sym (free_goes ranges e h p n there);
       next_serial = took.next_serial ∙ s.next_serial ∙ sym (gives_stay e h p (and_no (saved_at e p) false refl));
       givers = λ giver. took.givers.last giver ∙
           ap (λ (o : Option ℕ). if ticket.giver == giver then Some ticket.serial else o) (s.givers giver) ∙
-          ap (λ (o : Option TicketView). serial_after o giver (last_serial h p giver)) (sym is) ∙ sym (last_goes e h p giver there);
+          ap (λ (o : Option TicketView). serial_after o giver (last_serial h p giver)) (sym is) ∙
+          sym (last_goes e h p giver there);
       bounded =
           let a = s.bounded in let b = gone_grows e h p in let d = took.free.count in
           let c : came (e ∷ h) p ≡ comes_by (tickets h) (Take p number stop) reply + came h p =
-          ap (λ (n : ℕ). n + came h p) (if_so (p == p) (comes_by (tickets h) (Take p number stop) reply) 0 (eq-eqb p p refl)) in
+          ap (λ (n : ℕ). n + came h p) (if_so (p == p) (comes_by (tickets h) (Take p number stop) reply) 0
+          (eq-eqb p p refl)) in
           omega arith;
     }
 
 -- what came by a take is at most its ticket
-pub comes_at_most : {A : Type 0} (tickets : List TicketView) (p number : ℕ) (stop : Stop) (reply : Reply A) (ticket : TicketView) →
+pub comes_at_most : {A : Type 0} (tickets : List TicketView) (p number : ℕ) (stop : Stop) (reply : Reply A)
+    (ticket : TicketView) →
     slice_get tickets number ≡ Some ticket → comes_by tickets (Take p number stop) reply ≤ size_of ticket.range
 comes_at_most tickets p number stop Taken ticket is =
     (let a : size_on (slice_get tickets number) ≡ size_of ticket.range = ap size_on is in omega arith)

@@ -59,16 +59,26 @@ differs (p ∷ ps) (q ∷ qs) is = by_head (agrees_at p q) refl is (differs ps q
       other = b;
       held = refl;
       filed = refl;
-      differ = λ same. let d : Decides (bytes_eq a b) (a ≡ b) = bytes_eq-Decides a b in let t : bytes_eq a b ≡ true = d.1 same in cc (t, e);
+      differ = λ same. let d : Decides (bytes_eq a b) (a ≡ b) = bytes_eq-Decides a b in
+          let t : bytes_eq a b ≡ true = d.1 same in cc (t, e);
     }
 
     after : Differs ps qs → Differs (p ∷ ps) (q ∷ qs)
     after d = shifted d.m d.one d.other d.held d.filed d.differ
       where
-        shifted : (m : ℕ) (one other : List ℕ) → page ps m ≡ Some one → page qs m ≡ Some other → one ≢ other → Differs (p ∷ ps) (q ∷ qs)
+        shifted : (m : ℕ) (one other : List ℕ) → page ps m ≡ Some one → page qs m ≡ Some other → one ≢ other →
+            Differs (p ∷ ps) (q ∷ qs)
         shifted zero one other a b c = cc
-        shifted (suc m) one other a b c = record { m = suc (suc m); one = one; other = other; held = a; filed = b; differ = c }
+        shifted (suc m) one other a b c = record {
+          m = suc (suc m);
+          one = one;
+          other = other;
+          held = a;
+          filed = b;
+          differ = c;
+        }
 
-    by_head : (b : Bool) → agrees_at p q ≡ b → (b && agree ps qs) ≡ false → (agree ps qs ≡ false → Differs ps qs) → Differs (p ∷ ps) (q ∷ qs)
+    by_head : (b : Bool) → agrees_at p q ≡ b → (b && agree ps qs) ≡ false → (agree ps qs ≡ false → Differs ps qs) →
+        Differs (p ∷ ps) (q ∷ qs)
     by_head true x e again = after (again e)
     by_head false x e again = here p q x

@@ -39,25 +39,32 @@ use Rattle.dm_event_steps.proofs.WorldGoing.{get_map, other_has, IsQuietFor, qui
 use Rattle.dm_event_steps.proofs.Stepping.{named_at, export_named_at, there_of, named_of, printer_steps, desk_steps}
 
 -- an event that leaves no export
-no_exports : {A : Type 0} (ranges : List Range) (capacities : List ℕ) (grids : List GridView) (h : History A) (event : Event A) (reply : Reply A)
+no_exports : {A : Type 0} (ranges : List Range) (capacities : List ℕ) (grids : List GridView) (h : History A)
+    (event : Event A) (reply : Reply A)
     (d capacity : ℕ) (state : DeskState A) (old new : List (LeftExport A)) → new ≡ old → exported reply ≡ [] →
     DeskGoes ranges capacities grids h event reply d capacity state →
     DeskGoes ranges capacities grids h event reply d capacity state × ExportsGo grids h event reply old new
-no_exports ranges capacities grids h event reply d capacity state old new same none g = (g, no_export grids h event reply old new same none)
+no_exports ranges capacities grids h event reply d capacity state old new same none g =
+    (g, no_export grids h event reply old new same none)
 
 -- only an export is answered so
-exports_none : {A : Type 0} (ranges : List Range) (capacities : List ℕ) (grids : List GridView) (h : History A) (event : Event A) (reply : Reply A)
+exports_none : {A : Type 0} (ranges : List Range) (capacities : List ℕ) (grids : List GridView) (h : History A)
+    (event : Event A) (reply : Reply A)
     (d capacity : ℕ) (state : DeskState A) → ((desk id : ℕ) → event ≢ Export desk id) →
     DeskGoes ranges capacities grids h event reply d capacity state → exported reply ≡ []
-exports_none {A} ranges capacities grids h event reply d capacity state other g = by_entry event reply other g.fits.reply
+exports_none {A} ranges capacities grids h event reply d capacity state other g =
+    by_entry event reply other g.fits.reply
   where
-    by_entry : (v : Event A) (r : Reply A) → ((desk id : ℕ) → v ≢ Export desk id) → IsReply ranges h 0 0 v r → exported r ≡ []
+    by_entry : (v : Event A) (r : Reply A) → ((desk id : ℕ) → v ≢ Export desk id) → IsReply ranges h 0 0 v r →
+        exported r ≡ []
     by_entry (Export desk id) r away is = absurd (away desk id refl)
     by_entry v (replies.Exported index told n mask) away is = absurd is
     by_entry v r away is = refl
 
-silent : {A : Type 0} (ranges : List Range) (capacities : List ℕ) (grids : List GridView) (h : History A) (event : Event A) (reply : Reply A)
-    (d capacity : ℕ) (state : DeskState A) (old new : List (LeftExport A)) → ((desk id : ℕ) → event ≢ Export desk id) → new ≡ old →
+silent : {A : Type 0} (ranges : List Range) (capacities : List ℕ) (grids : List GridView) (h : History A)
+    (event : Event A) (reply : Reply A)
+    (d capacity : ℕ) (state : DeskState A) (old new : List (LeftExport A)) → ((desk id : ℕ) → event ≢ Export desk id) →
+    new ≡ old →
     DeskGoes ranges capacities grids h event reply d capacity state →
     DeskGoes ranges capacities grids h event reply d capacity state × ExportsGo grids h event reply old new
 silent ranges capacities grids h event reply d capacity state old new other same g =
@@ -66,15 +73,22 @@ silent ranges capacities grids h event reply d capacity state old new other same
 
 -- ---- any event at a desk that is there
 
-desk_goes : {A : Type 0} (ranges : List Range) (capacities : List ℕ) (world : WorldView A) (h : History A) (event : Event A) (reply : Reply A)
-    (d capacity : ℕ) (was state : DeskState A) (new : List (LeftExport A)) → StandsFor ranges capacities world h → actor_of event ≡ DeskAt d →
-    IsThere (length ranges) (length capacities) h event → slice_get capacities d ≡ Some capacity → DeskStands (grids_of world) h d capacity was →
+desk_goes : {A : Type 0} (ranges : List Range) (capacities : List ℕ) (world : WorldView A) (h : History A)
+    (event : Event A) (reply : Reply A)
+    (d capacity : ℕ) (was state : DeskState A) (new : List (LeftExport A)) → StandsFor ranges capacities world h →
+    actor_of event ≡ DeskAt d →
+    IsThere (length ranges) (length capacities) h event → slice_get capacities d ≡ Some capacity →
+    DeskStands (grids_of world) h d capacity was →
     DeskActs world.labels event capacity was world.exports reply state new →
-    DeskGoes ranges capacities (grids_of world) h event reply d capacity state × ExportsGo (grids_of world) h event reply world.exports new
-desk_goes {A} ranges capacities world h (Scan c number flips stop) reply d capacity (desks.Running view) state new s named there at stands acts =
+    DeskGoes ranges capacities (grids_of world) h event reply d capacity state ×
+    ExportsGo (grids_of world) h event reply world.exports new
+desk_goes {A} ranges capacities world h (Scan c number flips stop) reply d capacity
+    (desks.Running view) state new s named there at stands acts =
     let same : c ≡ d = cc in
-    silent ranges capacities (grids_of world) h (Scan c number flips stop) reply d capacity state world.exports new (λ e i x. cc) acts.0
-    (subst (λ (i : ℕ). DeskGoes ranges capacities (grids_of world) h (Scan i number flips stop) reply d capacity state) (sym same)
+    silent ranges capacities (grids_of world) h (Scan c number flips stop) reply d capacity state world.exports new
+    (λ e i x. cc) acts.0
+    (subst (λ (i : ℕ). DeskGoes ranges capacities (grids_of world) h (Scan i number flips stop) reply d capacity state)
+    (sym same)
     (scan_goes ranges capacities (grids_of world) h d number capacity flips stop view acts.1 reply state (record {
       at = at;
       room = stands.0;
@@ -84,16 +98,22 @@ desk_goes {A} ranges capacities world h (Scan c number flips stop) reply d capac
       shows = s.labels number acts.1 acts.2;
       there = (subst (λ (i : ℕ). i < length capacities) same there.0, there.1);
     }) acts.3))
-desk_goes {A} ranges capacities world h (Forget c id stop) reply d capacity (desks.Running view) state new s named there at stands acts =
+desk_goes {A} ranges capacities world h (Forget c id stop) reply d capacity
+    (desks.Running view) state new s named there at stands acts =
     let same : c ≡ d = cc in
-    silent ranges capacities (grids_of world) h (Forget c id stop) reply d capacity state world.exports new (λ e i x. cc) acts.0
-    (subst (λ (i : ℕ). DeskGoes ranges capacities (grids_of world) h (Forget i id stop) reply d capacity state) (sym same)
+    silent ranges capacities (grids_of world) h (Forget c id stop) reply d capacity state world.exports new
+    (λ e i x. cc) acts.0
+    (subst (λ (i : ℕ). DeskGoes ranges capacities (grids_of world) h (Forget i id stop) reply d capacity state)
+    (sym same)
     (forget_goes ranges capacities (grids_of world) h d id capacity stop view reply state
     (subst (λ (i : ℕ). i < length capacities) same there) stands.0 stands.1 acts.1))
-desk_goes {A} ranges capacities world h (Import c number stop) reply d capacity (desks.Running view) state new s named there at stands acts =
+desk_goes {A} ranges capacities world h (Import c number stop) reply d capacity
+    (desks.Running view) state new s named there at stands acts =
     let same : c ≡ d = cc in
-    silent ranges capacities (grids_of world) h (Import c number stop) reply d capacity state world.exports new (λ e i x. cc) acts.0
-    (subst (λ (i : ℕ). DeskGoes ranges capacities (grids_of world) h (Import i number stop) reply d capacity state) (sym same)
+    silent ranges capacities (grids_of world) h (Import c number stop) reply d capacity state world.exports new
+    (λ e i x. cc) acts.0
+    (subst (λ (i : ℕ). DeskGoes ranges capacities (grids_of world) h (Import i number stop) reply d capacity state)
+    (sym same)
     (import_goes ranges capacities (grids_of world) h d number capacity stop view acts.1 reply state (record {
       at = at;
       room = stands.0;
@@ -102,13 +122,15 @@ desk_goes {A} ranges capacities world h (Import c number stop) reply d capacity 
       shows = s.exports number acts.1 acts.2;
       there = (subst (λ (i : ℕ). i < length capacities) same there.0, there.1);
     }) acts.3))
-desk_goes {A} ranges capacities world h (Ask c id) reply d capacity (desks.Running view) state new s named there at stands acts =
+desk_goes {A} ranges capacities world h (Ask c id) reply d capacity
+    (desks.Running view) state new s named there at stands acts =
     let same : c ≡ d = cc in
     silent ranges capacities (grids_of world) h (Ask c id) reply d capacity state world.exports new (λ e i x. cc) acts.0
     (subst (λ (i : ℕ). DeskGoes ranges capacities (grids_of world) h (Ask i id) reply d capacity state) (sym same)
     (ask_goes ranges capacities (grids_of world) h d id capacity view reply state s.legal
     (subst (λ (i : ℕ). i < length capacities) same there) stands.0 stands.1 acts.1 acts.2))
-desk_goes {A} ranges capacities world h (Export c id) reply d capacity (desks.Running view) state new s named there at stands acts =
+desk_goes {A} ranges capacities world h (Export c id) reply d capacity
+    (desks.Running view) state new s named there at stands acts =
     let same : c ≡ d = cc in
     subst (λ (i : ℕ). DeskGoes ranges capacities (grids_of world) h (Export i id) reply d capacity state ×
     ExportsGo (grids_of world) h (Export i id) reply world.exports new) (sym same)
@@ -116,29 +138,44 @@ desk_goes {A} ranges capacities world h (Export c id) reply d capacity (desks.Ru
     (subst (λ (i : ℕ). i < length capacities) same there) stands.0 stands.1 s.export_names acts.0 acts.1)
 desk_goes {A} ranges capacities world h (RestartDesk c) reply d capacity was state new s named there at stands acts =
     let same : c ≡ d = cc in
-    silent ranges capacities (grids_of world) h (RestartDesk c) reply d capacity state world.exports new (λ e i x. cc) acts.0
+    silent ranges capacities (grids_of world) h (RestartDesk c) reply d capacity state world.exports new
+    (λ e i x. cc) acts.0
     (subst (λ (i : ℕ). DeskGoes ranges capacities (grids_of world) h (RestartDesk i) reply d capacity state) (sym same)
     (restart_desk_goes ranges capacities (grids_of world) h d capacity reply was state
     (subst (λ (i : ℕ). i < length capacities) same there) stands acts.1))
-desk_goes {A} ranges capacities world h (Scan c number flips stop) reply d capacity (desks.Down saved) state new s named there at stands acts =
-    silent ranges capacities (grids_of world) h (Scan c number flips stop) reply d capacity state world.exports new (λ e i x. cc) acts.0
-    (desk_down ranges capacities (grids_of world) h (Scan c number flips stop) reply d capacity saved state stands.0 named there tt (refl, tt) stands.1
+desk_goes {A} ranges capacities world h (Scan c number flips stop) reply d capacity
+    (desks.Down saved) state new s named there at stands acts =
+    silent ranges capacities (grids_of world) h (Scan c number flips stop) reply d capacity state world.exports new
+    (λ e i x. cc) acts.0
+    (desk_down ranges capacities (grids_of world) h (Scan c number flips stop) reply d capacity saved state stands.0
+    named there tt (refl, tt) stands.1
     (λ i m x. x) (λ i x. x) tt tt acts.1 acts.2)
-desk_goes {A} ranges capacities world h (Forget c id stop) reply d capacity (desks.Down saved) state new s named there at stands acts =
-    silent ranges capacities (grids_of world) h (Forget c id stop) reply d capacity state world.exports new (λ e i x. cc) acts.0
-    (desk_down ranges capacities (grids_of world) h (Forget c id stop) reply d capacity saved state stands.0 named there tt (refl, tt) stands.1
+desk_goes {A} ranges capacities world h (Forget c id stop) reply d capacity
+    (desks.Down saved) state new s named there at stands acts =
+    silent ranges capacities (grids_of world) h (Forget c id stop) reply d capacity state world.exports new
+    (λ e i x. cc) acts.0
+    (desk_down ranges capacities (grids_of world) h (Forget c id stop) reply d capacity saved state stands.0 named there
+    tt (refl, tt) stands.1
     (λ i m x. x) (λ i x. x) tt tt acts.1 acts.2)
-desk_goes {A} ranges capacities world h (Import c number stop) reply d capacity (desks.Down saved) state new s named there at stands acts =
-    silent ranges capacities (grids_of world) h (Import c number stop) reply d capacity state world.exports new (λ e i x. cc) acts.0
-    (desk_down ranges capacities (grids_of world) h (Import c number stop) reply d capacity saved state stands.0 named there tt (refl, tt) stands.1
+desk_goes {A} ranges capacities world h (Import c number stop) reply d capacity
+    (desks.Down saved) state new s named there at stands acts =
+    silent ranges capacities (grids_of world) h (Import c number stop) reply d capacity state world.exports new
+    (λ e i x. cc) acts.0
+    (desk_down ranges capacities (grids_of world) h (Import c number stop) reply d capacity saved state stands.0 named
+    there tt (refl, tt) stands.1
     (λ i m x. x) (λ i x. x) tt tt acts.1 acts.2)
-desk_goes {A} ranges capacities world h (Ask c id) reply d capacity (desks.Down saved) state new s named there at stands acts =
+desk_goes {A} ranges capacities world h (Ask c id) reply d capacity
+    (desks.Down saved) state new s named there at stands acts =
     silent ranges capacities (grids_of world) h (Ask c id) reply d capacity state world.exports new (λ e i x. cc) acts.0
-    (desk_down ranges capacities (grids_of world) h (Ask c id) reply d capacity saved state stands.0 named there tt (refl, tt) stands.1
+    (desk_down ranges capacities (grids_of world) h (Ask c id) reply d capacity saved state stands.0 named there tt
+    (refl, tt) stands.1
     (λ i m x. x) (λ i x. x) tt tt acts.1 acts.2)
-desk_goes {A} ranges capacities world h (Export c id) reply d capacity (desks.Down saved) state new s named there at stands acts =
-    no_exports ranges capacities (grids_of world) h (Export c id) reply d capacity state world.exports new acts.0 (ap exported acts.1)
-    (desk_down ranges capacities (grids_of world) h (Export c id) reply d capacity saved state stands.0 named there tt (refl, tt) stands.1
+desk_goes {A} ranges capacities world h (Export c id) reply d capacity
+    (desks.Down saved) state new s named there at stands acts =
+    no_exports ranges capacities (grids_of world) h (Export c id) reply d capacity state world.exports new acts.0
+    (ap exported acts.1)
+    (desk_down ranges capacities (grids_of world) h (Export c id) reply d capacity saved state stands.0 named there tt
+    (refl, tt) stands.1
     (λ i m x. x) (λ i x. x) tt tt acts.1 acts.2)
 desk_goes ranges capacities world h event reply d capacity was state new s named there at stands acts = absurd acts
 
@@ -192,7 +229,8 @@ no_such_safe h (Take p ticket stop) = tt
 no_such_safe h (Export c i) = tt
 no_such_safe h (Import c export stop) = tt
 
-no_such_answers : {A : Type 0} (grids : List GridView) (capacities : List ℕ) (h : History A) (event : Event A) → IsHonestReply grids capacities h event NoSuch
+no_such_answers : {A : Type 0} (grids : List GridView) (capacities : List ℕ) (h : History A) (event : Event A) →
+    IsHonestReply grids capacities h event NoSuch
 no_such_answers grids capacities h (Print p document size scheme stop) = tt
 no_such_answers grids capacities h (Scan c l flips stop) = tt
 no_such_answers grids capacities h (RestartPrinter p) = tt
@@ -207,15 +245,21 @@ no_such_answers grids capacities h (Import c export stop) = tt
 -- `NoSuch` says nothing new of who acts
 quiet_none : {A : Type 0} (event : Event A) (h : History A) (a : Actor) → IsQuietFor (quiet event NoSuch) h a
 quiet_none {A} event h a = elim (actor_or_other (actor_of event) a) [
-  | inl same ↦ record { down = is_down_same (quiet event NoSuch) h a same; failed = is_failed_same (quiet event NoSuch) h a same }
+  | inl same ↦ record {
+    down = is_down_same (quiet event NoSuch) h a same;
+    failed = is_failed_same (quiet event NoSuch) h a same;
+  }
   | inr other ↦ quiet_other (quiet event NoSuch) h a other
 ]
 
-none_goes : {A : Type 0} (ranges : List Range) (capacities : List ℕ) (world : WorldView A) (h : History A) (event : Event A) →
-    StandsFor ranges capacities world h → ¬ IsNamed world event → StandsFor ranges capacities world (quiet event NoSuch ∷ h)
+none_goes : {A : Type 0} (ranges : List Range) (capacities : List ℕ) (world : WorldView A) (h : History A)
+    (event : Event A) →
+    StandsFor ranges capacities world h → ¬ IsNamed world event →
+    StandsFor ranges capacities world (quiet event NoSuch ∷ h)
 none_goes {A} ranges capacities world h event s away =
     let e : Entry A = quiet event NoSuch in
-    let absent : ¬ IsThere (length ranges) (length capacities) h event = (λ there. away (named_of ranges capacities world h event s there)) in
+    let absent : ¬ IsThere (length ranges) (length capacities) h event =
+    (λ there. away (named_of ranges capacities world h event s there)) in
     goes_on ranges capacities world world h e s (record {
       fits = record {
         reply = (no_such_fine ranges h event).1;
@@ -243,19 +287,22 @@ none_goes {A} ranges capacities world h event s away =
       export_names = refl;
       exports_show = λ i export here. cc;
       count = s.count;
-      printers = λ q b there. printer_keeps ranges e h q b (quiet_none event h (PrinterAt q)) (numbers_quiet e h q refl (λ x. cc)) (s.printers q b there);
+      printers = λ q b there. printer_keeps ranges e h q b (quiet_none event h (PrinterAt q))
+          (numbers_quiet e h q refl (λ x. cc)) (s.printers q b there);
       desk_count = s.desk_count;
       desks = λ c room desk here there.
           let old = s.desks c room desk here there in (
             old.0,
-            desk_keeps e h (grids_of world) (grids_of world) c room desk.state (λ honest. honest.1) (λ some. none_leaves {A = A} event NoSuch _ some)
+            desk_keeps e h (grids_of world) (grids_of world) c room desk.state
+                (λ honest. honest.1) (λ some. none_leaves {A = A} event NoSuch _ some)
                 (quiet_none event h (DeskAt c)) (no_take h event c) (no_forget event c) old.1,
           );
     })
 
 -- ---- the law, without honesty
 
-pub steps_on : {A : Type 0} (ranges : List Range) (capacities : List ℕ) (h : History A) (old new : WorldView A) (event : Event A) (reply : Reply A) →
+pub steps_on : {A : Type 0} (ranges : List Range) (capacities : List ℕ) (h : History A) (old new : WorldView A)
+    (event : Event A) (reply : Reply A) →
     StandsFor ranges capacities old h → Steps old event reply new →
     (entry : Entry A) × (entry.event ≡ event) × (entry.reply ≡ reply) × StandsFor ranges capacities new (entry ∷ h)
 steps_on {A} ranges capacities h old new event reply s (inl none) = (
@@ -268,22 +315,28 @@ steps_on {A} ranges capacities h old new event reply s (inl none) = (
 steps_on {A} ranges capacities h old new event reply s (inr (inl at)) =
     let within : at.printer < length ranges =
     (let x = slice_get_within old.printers at.printer at.actor at.was in let c = s.count in omega arith) in
-    let g = printer_goes ranges (length capacities) h event reply at.printer at.actor at.after (left_of old) (left_of new) s.legal
-    (all_placed ranges (length capacities) h s.disjoint s.legal) at.named (there_of ranges capacities old h event s at.there) within s.left
+    let g = printer_goes ranges (length capacities) h event reply at.printer at.actor at.after (left_of old)
+    (left_of new) s.legal
+    (all_placed ranges (length capacities) h s.disjoint s.legal) at.named
+    (there_of ranges capacities old h event s at.there) within s.left
     (s.printers at.printer at.actor at.was) at.acts in (
       g.entry,
       g.event_is,
       g.reply_is,
-      printer_steps ranges capacities old new h event reply at.printer at.actor at.after s at.named at.was at.printers at.desks at.exports g,
+      printer_steps ranges capacities old new h event reply at.printer at.actor at.after s at.named at.was at.printers
+          at.desks at.exports g,
     )
 steps_on {A} ranges capacities h old new event reply s (inr (inr at)) =
-    let own : (c : ℕ) × (slice_get capacities at.desk ≡ Some c) = other_has capacities old.desks at.desk at.actor s.desk_count at.was in
+    let own : (c : ℕ) × (slice_get capacities at.desk ≡ Some c) =
+    other_has capacities old.desks at.desk at.actor s.desk_count at.was in
     let stands = s.desks at.desk own.0 at.actor own.1 at.was in
     let g = desk_goes ranges capacities old h event reply at.desk own.0 at.actor.state at.after new.exports s at.named
     (there_of ranges capacities old h event s at.there) own.1 stands.1
-    (subst (λ (c : ℕ). DeskActs old.labels event c at.actor.state old.exports reply at.after new.exports) stands.0 at.acts) in (
+    (subst (λ (c : ℕ). DeskActs old.labels event c at.actor.state old.exports reply at.after new.exports) stands.0
+    at.acts) in (
       quiet event reply,
       refl,
       refl,
-      desk_steps ranges capacities old new h event reply at.desk own.0 at.actor at.after s at.named own.1 at.was at.desks at.printers at.labels at.tickets g.0 g.1,
+      desk_steps ranges capacities old new h event reply at.desk own.0 at.actor at.after s at.named own.1 at.was
+          at.desks at.printers at.labels at.tickets g.0 g.1,
     )

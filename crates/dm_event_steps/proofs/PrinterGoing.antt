@@ -43,7 +43,8 @@ abbrev pub IsFine : {A : Type 0} → List Range → History A → ℕ → Event 
 IsFine ranges h id event reply = LetsOut event reply [] 0 × IsReply ranges h id 0 event reply
 
 -- why the entry of an event is one that comes after this history, if no label left
-pub record IsPlain {A : Type 0} (ranges : List Range) (desks : ℕ) (h : History A) (event : Event A) (reply : Reply A) (p id : ℕ) (saved : Bool) : Type 0 where
+pub record IsPlain {A : Type 0} (ranges : List Range) (desks : ℕ) (h : History A) (event : Event A) (reply : Reply A)
+    (p id : ℕ) (saved : Bool) : Type 0 where
   pub named : actor_of event ≡ PrinterAt p
   pub there : IsThere (length ranges) desks h event
   pub some_such : reply ≢ NoSuch
@@ -59,9 +60,11 @@ pub record IsPlain {A : Type 0} (ranges : List Range) (desks : ℕ) (h : History
 abbrev pub plain : {A : Type 0} → Event A → Reply A → ℕ → Bool → Entry A
 plain event reply id saved = record { event = event; reply = reply; id = id; parts = []; left = 0; saved = saved }
 
-pub plain_goes : {A : Type 0} (ranges : List Range) (desks : ℕ) (h : History A) (event : Event A) (reply : Reply A) (p id : ℕ) (saved : Bool)
+pub plain_goes : {A : Type 0} (ranges : List Range) (desks : ℕ) (h : History A) (event : Event A) (reply : Reply A)
+    (p id : ℕ) (saved : Bool)
     (actor : PrinterActor A) (old new : Left A) → IsPlain ranges desks h event reply p id saved →
-    PrinterStands ranges (plain event reply id saved ∷ h) p actor → new.labels ≡ old.labels → new.tickets ≡ old.tickets ++ given reply →
+    PrinterStands ranges (plain event reply id saved ∷ h) p actor → new.labels ≡ old.labels →
+    new.tickets ≡ old.tickets ++ given reply →
     PrinterGoes ranges desks h event reply p actor old new
 plain_goes {A} ranges desks h event reply p id saved actor old new c stands same tickets = record {
   entry = plain event reply id saved;
@@ -97,15 +100,18 @@ pub no_ticket : {A : Type 0} (old new : Left A) → new ≡ old → new.tickets 
 no_ticket {A} old new same = ap (λ (l : Left A). l.tickets) same ∙ sym (append-nil old.tickets)
 
 -- a running printer's ledger, unless its save failed
-pub ledger_now : {A : Type 0} (ranges : List Range) (h : History A) (p : ℕ) (view : PrinterView) → Runs ranges h p view → view.is_failed ≡ false →
+pub ledger_now : {A : Type 0} (ranges : List Range) (h : History A) (p : ℕ) (view : PrinterView) →
+    Runs ranges h p view → view.is_failed ≡ false →
     IsLedgerOf ranges h p view.ledger
 ledger_now ranges h p view s was = subst (λ (l : LedgerView). IsLedgerOf ranges h p l) (sym (s.shows was)) s.store.is
 
-pub fine_printer : (view : PrinterView) (next : NextSave) → IsReady view.saved → planned (planned view next) next_save.Fine ≡ view
+pub fine_printer : (view : PrinterView) (next : NextSave) → IsReady view.saved →
+    planned (planned view next) next_save.Fine ≡ view
 fine_printer view next ready =
     ap (λ (p : SavePlan). record view { saved = record view.saved { save_plan = p } }) (sym ready.saves_fine)
 
-pub ready_after : (view mid : PrinterView) (plan : NextSave) (bytes : List ℕ) (answer : Result (Unit {0}) ReplaceFault) → IsReady view.saved →
+pub ready_after : (view mid : PrinterView) (plan : NextSave) (bytes : List ℕ)
+    (answer : Result (Unit {0}) ReplaceFault) → IsReady view.saved →
     Replaces (planned view plan).saved bytes answer mid.saved → IsReady (planned mid next_save.Fine).saved
 ready_after view mid plan bytes answer ready replaced = record {
   honest = replaced.same_honesty ∙ ready.honest;
@@ -133,7 +139,8 @@ failed_with_fault (InSave k) view mid next called fails = absurd called
 failed_with_fault (AfterLabels k) view mid next called fails = absurd called
 
 -- the store of a printer that saved
-pub store_saved : {A : Type 0} (ranges : List Range) (e : Entry A) (h : History A) (p : ℕ) (view mid : PrinterView) (plan : NextSave) (next : LedgerView) →
+pub store_saved : {A : Type 0} (ranges : List Range) (e : Entry A) (h : History A) (p : ℕ) (view mid : PrinterView)
+    (plan : NextSave) (next : LedgerView) →
     IsReady view.saved → Saves (planned view plan) next mid → IsLedgerOf ranges (e ∷ h) p next →
     StoreStands ranges (e ∷ h) p (planned mid next_save.Fine).saved next
 store_saved ranges e h p view mid plan next ready saves is = record {
@@ -143,9 +150,12 @@ store_saved ranges e h p view mid plan next ready saves is = record {
 }
 
 -- a running printer that saved
-pub runs_saved : {A : Type 0} (ranges : List Range) (e : Entry A) (h : History A) (p : ℕ) (view mid : PrinterView) (plan : NextSave) (next : LedgerView) →
-    Runs ranges h p view → is_down (e ∷ h) (PrinterAt p) ≡ false → is_failed (e ∷ h) (PrinterAt p) ≡ is_failed h (PrinterAt p) →
-    Saves (planned view plan) next mid → IsLedgerOf ranges (e ∷ h) p next → Runs ranges (e ∷ h) p (planned mid next_save.Fine)
+pub runs_saved : {A : Type 0} (ranges : List Range) (e : Entry A) (h : History A) (p : ℕ) (view mid : PrinterView)
+    (plan : NextSave) (next : LedgerView) →
+    Runs ranges h p view → is_down (e ∷ h) (PrinterAt p) ≡ false →
+    is_failed (e ∷ h) (PrinterAt p) ≡ is_failed h (PrinterAt p) →
+    Saves (planned view plan) next mid → IsLedgerOf ranges (e ∷ h) p next →
+    Runs ranges (e ∷ h) p (planned mid next_save.Fine)
 runs_saved ranges e h p view mid plan next s up failed saves is = record {
   up = up;
   failed = saves.running ∙ sym (failed ∙ sym s.failed ∙ saves.was_running);
@@ -156,23 +166,31 @@ runs_saved ranges e h p view mid plan next s up failed saves is = record {
 
 -- a running printer that is as it was
 pub runs_same : {A : Type 0} (ranges : List Range) (e : Entry A) (h : History A) (p : ℕ) (view after : PrinterView) →
-    Runs ranges h p view → after ≡ view → is_down (e ∷ h) (PrinterAt p) ≡ false → is_failed (e ∷ h) (PrinterAt p) ≡ is_failed h (PrinterAt p) →
+    Runs ranges h p view → after ≡ view → is_down (e ∷ h) (PrinterAt p) ≡ false →
+    is_failed (e ∷ h) (PrinterAt p) ≡ is_failed h (PrinterAt p) →
     KeepsNumbers e h p → Runs ranges (e ∷ h) p after
-runs_same ranges e h p view after s same up failed numbers = subst (λ (v : PrinterView). Runs ranges (e ∷ h) p v) (sym same) (record {
-  up = up;
-  failed = s.failed ∙ sym failed;
-  stored = s.stored;
-  store = record { ready = s.store.ready; holds = s.store.holds; is = numbers_keep ranges e h p s.stored numbers s.store.is };
-  shows = s.shows;
-})
+runs_same ranges e h p view after s same up failed numbers = subst (λ (v : PrinterView). Runs ranges (e ∷ h) p v)
+    (sym same) (record {
+      up = up;
+      failed = s.failed ∙ sym failed;
+      stored = s.stored;
+      store = record {
+        ready = s.store.ready;
+        holds = s.store.holds;
+        is = numbers_keep ranges e h p s.stored numbers s.store.is;
+      };
+      shows = s.shows;
+    })
 
 -- what a failed save leaves in the store
 abbrev pub kept_ledger : Kept → LedgerView → LedgerView → LedgerView
 kept_ledger Old stored unsaved = stored
 kept_ledger New stored unsaved = unsaved
 
-held_by_fault : (k : Kept) (view mid : PrinterView) (stored unsaved : LedgerView) → IsReady view.saved → HoldsLedger view.saved stored →
-    FailsToSave (planned view (next_save_of (SaveFault k))) unsaved mid → HoldsLedger mid.saved (kept_ledger k stored unsaved)
+held_by_fault : (k : Kept) (view mid : PrinterView) (stored unsaved : LedgerView) → IsReady view.saved →
+    HoldsLedger view.saved stored →
+    FailsToSave (planned view (next_save_of (SaveFault k))) unsaved mid →
+    HoldsLedger mid.saved (kept_ledger k stored unsaved)
 held_by_fault Old view mid stored unsaved ready holds fails =
     let content : mid.saved.content ≡ view.saved.content = fails.replaced.faulted refl ready.honest in
     subst (λ (c : Option (List ℕ)). IsSomeAnd c (λ bytes. Spells bytes stored)) (sym content) holds
@@ -182,9 +200,11 @@ held_by_fault New view mid stored unsaved ready holds fails =
     subst (λ (c : Option (List ℕ)). IsSomeAnd c (λ bytes. Spells bytes unsaved)) (sym content) spells
 
 -- a running printer whose save failed
-pub runs_failed : {A : Type 0} (ranges : List Range) (e : Entry A) (h : History A) (p : ℕ) (k : Kept) (view mid : PrinterView) (unsaved : LedgerView) →
+pub runs_failed : {A : Type 0} (ranges : List Range) (e : Entry A) (h : History A) (p : ℕ) (k : Kept)
+    (view mid : PrinterView) (unsaved : LedgerView) →
     (s : Runs ranges h p view) → is_down (e ∷ h) (PrinterAt p) ≡ false → is_failed (e ∷ h) (PrinterAt p) ≡ true →
-    FailsToSave (planned view (next_save_of (SaveFault k))) unsaved mid → IsLedgerOf ranges (e ∷ h) p (kept_ledger k s.stored unsaved) →
+    FailsToSave (planned view (next_save_of (SaveFault k))) unsaved mid →
+    IsLedgerOf ranges (e ∷ h) p (kept_ledger k s.stored unsaved) →
     Runs ranges (e ∷ h) p (planned mid next_save.Fine)
 runs_failed ranges e h p k view mid unsaved s up failed fails is = record {
   up = up;
@@ -199,7 +219,8 @@ runs_failed ranges e h p k view mid unsaved s up failed fails is = record {
 }
 
 -- what the store of a stopped printer stands for: what it was, or what the call saved
-pub record IsOutcome {A : Type 0} (ranges : List Range) (h : History A) (event : Event A) (p : ℕ) (saved : Saved) : Type 0 where
+pub record IsOutcome {A : Type 0} (ranges : List Range) (h : History A) (event : Event A) (p : ℕ)
+    (saved : Saved) : Type 0 where
   pub id : ℕ
   pub did : Bool
   pub stored : LedgerView
@@ -208,7 +229,8 @@ pub record IsOutcome {A : Type 0} (ranges : List Range) (h : History A) (event :
   pub moves : did ≡ true → MayMove ranges h id event
 
 -- nothing was saved
-pub none_saved : {A : Type 0} (ranges : List Range) (h : History A) (event : Event A) (p : ℕ) (view : PrinterView) (saved : Saved) →
+pub none_saved : {A : Type 0} (ranges : List Range) (h : History A) (event : Event A) (p : ℕ) (view : PrinterView)
+    (saved : Saved) →
     Runs ranges h p view → saved ≡ view.saved → IsOutcome ranges h event p saved
 none_saved {A} ranges h event p view saved s same = record {
   id = 0;
@@ -217,25 +239,32 @@ none_saved {A} ranges h event p view saved s same = record {
   store = subst (λ (v : Saved). StoreStands ranges (plain event Stopped 0 false ∷ h) p v s.stored) (sym same) (record {
     ready = s.store.ready;
     holds = s.store.holds;
-    is = numbers_keep ranges (plain event Stopped 0 false) h p s.stored (numbers_quiet (plain event Stopped 0 false) h p refl (λ x. cc)) s.store.is;
+    is = numbers_keep ranges (plain event Stopped 0 false) h p s.stored
+        (numbers_quiet (plain event Stopped 0 false) h p refl (λ x. cc)) s.store.is;
   });
   may = λ x. cc;
   moves = λ x. cc;
 }
 
 -- a call that changed nothing leaves the store as it was
-pub none_changed : {A : Type 0} (ranges : List Range) (h : History A) (event : Event A) (p : ℕ) (view mid : PrinterView) →
-    Runs ranges h p view → mid ≡ planned view next_save.Fine → IsOutcome ranges h event p (planned mid next_save.Fine).saved
+pub none_changed : {A : Type 0} (ranges : List Range) (h : History A) (event : Event A) (p : ℕ)
+    (view mid : PrinterView) →
+    Runs ranges h p view → mid ≡ planned view next_save.Fine →
+    IsOutcome ranges h event p (planned mid next_save.Fine).saved
 none_changed ranges h event p view mid s same =
     none_saved ranges h event p view (planned mid next_save.Fine).saved s
     (ap (λ (v : PrinterView). v.saved)
     (ap (λ (v : PrinterView). planned v next_save.Fine) same ∙ fine_printer view next_save.Fine s.store.ready))
 
 -- an event that is stopped before any label left
-pub outcome_goes : {A : Type 0} (ranges : List Range) (desks : ℕ) (h : History A) (event : Event A) (p : ℕ) (view : PrinterView) (saved : Saved)
-    (actor : PrinterActor A) (old new : Left A) → actor_of event ≡ PrinterAt p → IsThere (length ranges) desks h event → Runs ranges h p view →
-    IsStopped event → ((id : ℕ) → (let reply : Reply A = Stopped in IsFine ranges h id event reply)) → actor ≡ actors.Down saved →
-    new.labels ≡ old.labels → new.tickets ≡ old.tickets → IsOutcome ranges h event p saved → PrinterGoes ranges desks h event Stopped p actor old new
+pub outcome_goes : {A : Type 0} (ranges : List Range) (desks : ℕ) (h : History A) (event : Event A) (p : ℕ)
+    (view : PrinterView) (saved : Saved)
+    (actor : PrinterActor A) (old new : Left A) → actor_of event ≡ PrinterAt p → IsThere (length ranges) desks h event →
+    Runs ranges h p view →
+    IsStopped event → ((id : ℕ) → (let reply : Reply A = Stopped in IsFine ranges h id event reply)) →
+    actor ≡ actors.Down saved →
+    new.labels ≡ old.labels → new.tickets ≡ old.tickets → IsOutcome ranges h event p saved →
+    PrinterGoes ranges desks h event Stopped p actor old new
 outcome_goes {A} ranges desks h event p view saved actor old new named there s stopping is_reply is labels tickets o =
     subst (λ (a : PrinterActor A). PrinterGoes ranges desks h event Stopped p a old new) (sym is)
     (plain_goes ranges desks h event Stopped p o.id o.did (actors.Down saved) old new (record {
@@ -258,7 +287,8 @@ outcome_goes {A} ranges desks h event p view saved actor old new named there s s
 
 -- a printer that answers `Down`
 pub down_goes : {A : Type 0} (ranges : List Range) (desks : ℕ) (h : History A) (event : Event A) (p : ℕ) (saved : Saved)
-    (reply : Reply A) (actor : PrinterActor A) (old new : Left A) → actor_of event ≡ PrinterAt p → IsThere (length ranges) desks h event →
+    (reply : Reply A) (actor : PrinterActor A) (old new : Left A) → actor_of event ≡ PrinterAt p →
+    IsThere (length ranges) desks h event →
     NeedsRunning event → (let none : Reply A = Down in IsFine ranges h 0 event none) → LiesDown ranges h p saved →
     new ≡ old → reply ≡ Down → actor ≡ actors.Down saved → PrinterGoes ranges desks h event reply p actor old new
 down_goes {A} ranges desks h event p saved reply actor old new named there needs is_reply s same is at =
@@ -280,16 +310,26 @@ down_goes {A} ranges desks h event p saved reply actor old new named there needs
     }) (record {
       down = is_down_same e h (PrinterAt p) named ∙ s.down;
       stored = s.stored;
-      store = record { ready = s.store.ready; holds = s.store.holds; is = numbers_keep ranges e h p s.stored (numbers_quiet e h p refl (λ x. cc)) s.store.is };
+      store = record {
+        ready = s.store.ready;
+        holds = s.store.holds;
+        is = numbers_keep ranges e h p s.stored (numbers_quiet e h p refl (λ x. cc)) s.store.is;
+      };
     }) (ap (λ (l : Left A). l.labels) same) (no_ticket old new same)))
 
 -- a running printer that is left as it was, whatever the reply
-pub kept_goes : {A : Type 0} (ranges : List Range) (desks : ℕ) (h : History A) (event : Event A) (reply : Reply A) (p : ℕ) (view after : PrinterView)
-    (old new : Left A) → actor_of event ≡ PrinterAt p → IsThere (length ranges) desks h event → Runs ranges h p view → after ≡ view →
-    reply ≢ NoSuch → reply ≢ Down → reply ≢ Stopped → (IsStopped event → reply ≡ Memory) → down_after reply false ≡ false →
-    failed_after reply (is_failed h (PrinterAt p)) ≡ is_failed h (PrinterAt p) → ¬ (tells_of_save reply ≡ true) → given reply ≡ [] →
-    IsFine ranges h 0 event reply → new.labels ≡ old.labels → new.tickets ≡ old.tickets → PrinterGoes ranges desks h event reply p (actors.Running after) old new
-kept_goes {A} ranges desks h event reply p view after old new named there s same some up unstopped stops_so down failed untold none is_reply labels tickets =
+pub kept_goes : {A : Type 0} (ranges : List Range) (desks : ℕ) (h : History A) (event : Event A) (reply : Reply A)
+    (p : ℕ) (view after : PrinterView)
+    (old new : Left A) → actor_of event ≡ PrinterAt p → IsThere (length ranges) desks h event → Runs ranges h p view →
+    after ≡ view →
+    reply ≢ NoSuch → reply ≢ Down → reply ≢ Stopped → (IsStopped event → reply ≡ Memory) →
+    down_after reply false ≡ false →
+    failed_after reply (is_failed h (PrinterAt p)) ≡ is_failed h (PrinterAt p) → ¬ (tells_of_save reply ≡ true) →
+    given reply ≡ [] →
+    IsFine ranges h 0 event reply → new.labels ≡ old.labels → new.tickets ≡ old.tickets →
+    PrinterGoes ranges desks h event reply p (actors.Running after) old new
+kept_goes {A} ranges desks h event reply p view after old new named there s same some up unstopped stops_so down failed
+    untold none is_reply labels tickets =
     let e : Entry A = plain event reply 0 false in
     plain_goes ranges desks h event reply p 0 false (actors.Running after) old new (record {
       named = named;
@@ -309,14 +349,18 @@ kept_goes {A} ranges desks h event reply p view after old new named there s same
     labels (tickets ∙ sym (append-nil old.tickets) ∙ ap (λ (l : List TicketView). old.tickets ++ l) (sym none))
 
 -- a call that is refused, and leaves the printer as it was
-pub refused_goes : {A : Type 0} (ranges : List Range) (desks : ℕ) (h : History A) (event : Event A) (reply : Reply A) (p : ℕ) (stop : Stop)
-    (view mid : PrinterView) (old new : Left A) → actor_of event ≡ PrinterAt p → IsThere (length ranges) desks h event → Runs ranges h p view →
+pub refused_goes : {A : Type 0} (ranges : List Range) (desks : ℕ) (h : History A) (event : Event A) (reply : Reply A)
+    (p : ℕ) (stop : Stop)
+    (view mid : PrinterView) (old new : Left A) → actor_of event ≡ PrinterAt p → IsThere (length ranges) desks h event →
+    Runs ranges h p view →
     mid ≡ planned view (next_save_of stop) → IsCalled stop → (IsStopped event → IsStopping stop) →
     reply ≢ NoSuch → reply ≢ Down → reply ≢ Stopped → down_after reply false ≡ false →
-    failed_after reply (is_failed h (PrinterAt p)) ≡ is_failed h (PrinterAt p) → ¬ (tells_of_save reply ≡ true) → given reply ≡ [] →
+    failed_after reply (is_failed h (PrinterAt p)) ≡ is_failed h (PrinterAt p) → ¬ (tells_of_save reply ≡ true) →
+    given reply ≡ [] →
     IsFine ranges h 0 event reply → new.labels ≡ old.labels → new.tickets ≡ old.tickets →
     PrinterGoes ranges desks h event reply p (actors.Running (planned mid next_save.Fine)) old new
-refused_goes ranges desks h event reply p stop view mid old new named there s same called at some up unstopped down failed untold none is_reply labels tickets =
+refused_goes ranges desks h event reply p stop view mid old new named there s same called at some up unstopped down
+    failed untold none is_reply labels tickets =
     kept_goes ranges desks h event reply p view (planned mid next_save.Fine) old new named there s
     (ap (λ (v : PrinterView). planned v next_save.Fine) same ∙ fine_printer view (next_save_of stop) s.store.ready)
     some up unstopped (λ is. absurd (not_both stop called (at is))) down failed untold none is_reply labels tickets

@@ -37,19 +37,25 @@ use Rattle.dm_event_steps.proofs.PrinterGoing.{plain, plain_goes, no_ticket, led
 use Rattle.dm_event_steps.proofs.JobLabels.{names_left, length-AreLabels, left_goes, length_take, take_left, some_there}
 
 -- the identification of a print is free
-id_is_free : {A : Type 0} (ranges : List Range) (h : History A) (p : ℕ) (view : PrinterView) (id : ℕ) (next : LedgerView) →
+id_is_free : {A : Type 0} (ranges : List Range) (h : History A) (p : ℕ) (view : PrinterView) (id : ℕ)
+    (next : LedgerView) →
     Runs ranges h p view → view.is_failed ≡ false → Uses view.ledger id next → free_at ranges h p id ≡ true
 id_is_free ranges h p view id next s was uses = sym ((ledger_now ranges h p view s was).free id) ∙ uses.least.free
 
 -- a document that was printed
-printed_goes : {A : Type 0} (ranges : List Range) (desks : ℕ) (h : History A) (p : ℕ) (document : List ℕ) (size : Size) (scheme : Scheme)
+printed_goes : {A : Type 0} (ranges : List Range) (desks : ℕ) (h : History A) (p : ℕ) (document : List ℕ) (size : Size)
+    (scheme : Scheme)
     (stop : Stop) (view mid : PrinterView) (job : JobView) (reply : Reply A) (old new : Left A) →
     p < length ranges → Runs ranges h p view → map name_of old.labels ≡ out h → IsCalled stop →
-    Prints (planned view (next_save_of stop)) size scheme document (Ok job) mid → TellsPrint old.labels (Ok job) reply new.labels →
+    Prints (planned view (next_save_of stop)) size scheme document (Ok job) mid →
+    TellsPrint old.labels (Ok job) reply new.labels →
     new.tickets ≡ old.tickets →
-    PrinterGoes ranges desks h (Print p document size scheme stop) reply p (actors.Running (planned mid next_save.Fine)) old new
-printed_goes {A} ranges desks h p document size scheme stop view mid job reply old new there s outs called prints tells tickets =
-    subst (λ (r : Reply A). PrinterGoes ranges desks h (Print p document size scheme stop) r p (actors.Running (planned mid next_save.Fine)) old new)
+    PrinterGoes ranges desks h (Print p document size scheme stop) reply p
+    (actors.Running (planned mid next_save.Fine)) old new
+printed_goes {A} ranges desks h p document size scheme stop view mid job reply old new there s outs called prints tells
+    tickets =
+    subst (λ (r : Reply A). PrinterGoes ranges desks h (Print p document size scheme stop) r p
+    (actors.Running (planned mid next_save.Fine)) old new)
     (sym tells.0) (record {
       entry = e;
       event_is = refl;
@@ -73,9 +79,11 @@ printed_goes {A} ranges desks h p document size scheme stop view mid job reply o
         saved = λ _. refl;
         moves = λ _. free;
       };
-      stands = runs_saved ranges e h p view mid (next_save_of stop) mid.ledger s (is_down_same e h (PrinterAt p) refl) (is_failed_same e h (PrinterAt p) refl)
+      stands = runs_saved ranges e h p view mid (next_save_of stop) mid.ledger s (is_down_same e h (PrinterAt p) refl)
+          (is_failed_same e h (PrinterAt p) refl)
           job_prints.saved
-          (ledger_used ranges h p document size scheme stop reply' job.id prints.1 job.count view.ledger mid.ledger (record { named = refl; saved = refl; may = refl })
+          (ledger_used ranges h p document size scheme stop reply' job.id prints.1 job.count view.ledger mid.ledger
+          (record { named = refl; saved = refl; may = refl })
           refl job_prints.used (ledger_now ranges h p view s was));
       more = left_labels job.id job.count 1 job.labels;
       labels_are = tells.1;
@@ -92,7 +100,14 @@ printed_goes {A} ranges desks h p document size scheme stop view mid job reply o
     reply' = Printed job.id (length old.labels) job.count
 
     e : Entry A
-    e = record { event = Print p document size scheme stop; reply = reply'; id = job.id; parts = prints.1; left = job.count; saved = true }
+    e = record {
+      event = Print p document size scheme stop;
+      reply = reply';
+      id = job.id;
+      parts = prints.1;
+      left = job.count;
+      saved = true;
+    }
 
     job_prints : PrintsJob (planned view (next_save_of stop)) size scheme prints.1 job mid
     job_prints = prints.3
@@ -116,7 +131,8 @@ printed_goes {A} ranges desks h p document size scheme stop view mid job reply o
     many = length-AreLabels _ _ _ _ _ prints.1 job.labels made.labels ∙ sym made.count_is
 
 -- a print whose save failed
-failed_goes : {A : Type 0} (ranges : List Range) (desks : ℕ) (h : History A) (p : ℕ) (document : List ℕ) (size : Size) (scheme : Scheme)
+failed_goes : {A : Type 0} (ranges : List Range) (desks : ℕ) (h : History A) (p : ℕ) (document : List ℕ) (size : Size)
+    (scheme : Scheme)
     (k : Kept) (view mid : PrinterView) (old new : Left A) → p < length ranges → (s : Runs ranges h p view) →
     FailsToPrint (planned view (next_save_of (SaveFault k))) mid → new ≡ old →
     PrinterGoes ranges desks h (Print p document size scheme (SaveFault k)) (PrintRefused print_fault.Save) p
@@ -124,7 +140,8 @@ failed_goes : {A : Type 0} (ranges : List Range) (desks : ℕ) (h : History A) (
 failed_goes {A} ranges desks h p document size scheme k view mid old new there s fails same = by_kept k fails
   where
     by_kept : (k : Kept) → FailsToPrint (planned view (next_save_of (SaveFault k))) mid →
-        PrinterGoes ranges desks h (Print p document size scheme (SaveFault k)) (PrintRefused print_fault.Save) p (actors.Running (planned mid next_save.Fine)) old new
+        PrinterGoes ranges desks h (Print p document size scheme (SaveFault k)) (PrintRefused print_fault.Save) p
+        (actors.Running (planned mid next_save.Fine)) old new
     by_kept Old f =
         let event : Event A = Print p document size scheme (SaveFault Old) in
         let reply : Reply A = PrintRefused print_fault.Save in
@@ -141,14 +158,16 @@ failed_goes {A} ranges desks h p document size scheme k view mid old new there s
           told = λ x. cc;
           may = λ x. cc;
           moves = λ x. cc;
-        }) (runs_failed ranges e h p Old view mid f.unsaved s (is_down_same e h (PrinterAt p) refl) (is_failed_same e h (PrinterAt p) refl) f.failed
+        }) (runs_failed ranges e h p Old view mid f.unsaved s (is_down_same e h (PrinterAt p) refl)
+        (is_failed_same e h (PrinterAt p) refl) f.failed
         (numbers_keep ranges e h p s.stored (numbers_quiet e h p refl (λ x. cc)) s.store.is))
         (ap (λ (l : Left A). l.labels) same) (no_ticket old new same)
     by_kept New f =
         let event : Event A = Print p document size scheme (SaveFault New) in
         let reply : Reply A = PrintRefused print_fault.Save in
         let e : Entry A = plain event reply f.id true in
-        plain_goes ranges desks h event reply p f.id true (actors.Running (planned mid next_save.Fine)) old new (record {
+        plain_goes ranges desks h event reply p f.id true (actors.Running (planned mid next_save.Fine)) old new
+        (record {
           named = refl;
           there = there;
           some_such = λ x. cc;
@@ -160,8 +179,10 @@ failed_goes {A} ranges desks h p document size scheme k view mid old new there s
           told = λ x. cc;
           may = λ _. refl;
           moves = λ _. sym ((ledger_now ranges h p view s f.failed.was_running).free f.id) ∙ f.used.least.free;
-        }) (runs_failed ranges e h p New view mid f.unsaved s (is_down_same e h (PrinterAt p) refl) (is_failed_same e h (PrinterAt p) refl) f.failed
-        (ledger_used ranges h p document size scheme (SaveFault New) reply f.id [] 0 view.ledger f.unsaved (record { named = refl; saved = refl; may = refl })
+        }) (runs_failed ranges e h p New view mid f.unsaved s (is_down_same e h (PrinterAt p) refl)
+        (is_failed_same e h (PrinterAt p) refl) f.failed
+        (ledger_used ranges h p document size scheme (SaveFault New) reply f.id [] 0 view.ledger f.unsaved
+        (record { named = refl; saved = refl; may = refl })
         refl f.used (ledger_now ranges h p view s f.failed.was_running)))
         (ap (λ (l : Left A). l.labels) same) (no_ticket old new same)
 
@@ -170,27 +191,38 @@ same_left {A} old new labels tickets =
     ap (λ (l : List (LeftLabel A)). record new { labels = l }) labels ∙ ap (λ t. record old { tickets = t }) tickets
 
 -- a print at a running printer that isn't stopped
-called_goes : {A : Type 0} (ranges : List Range) (desks : ℕ) (h : History A) (p : ℕ) (document : List ℕ) (size : Size) (scheme : Scheme)
-    (stop : Stop) (view mid : PrinterView) (answer : Result JobView PrintFault) (reply : Reply A) (old new : Left A) → p < length ranges → Runs ranges h p view → map name_of old.labels ≡ out h → IsCalled stop →
-    Prints (planned view (next_save_of stop)) size scheme document answer mid → TellsPrint old.labels answer reply new.labels →
+called_goes : {A : Type 0} (ranges : List Range) (desks : ℕ) (h : History A) (p : ℕ) (document : List ℕ) (size : Size)
+    (scheme : Scheme)
+    (stop : Stop) (view mid : PrinterView) (answer : Result JobView PrintFault) (reply : Reply A) (old new : Left A) →
+    p < length ranges → Runs ranges h p view → map name_of old.labels ≡ out h → IsCalled stop →
+    Prints (planned view (next_save_of stop)) size scheme document answer mid →
+    TellsPrint old.labels answer reply new.labels →
     new.tickets ≡ old.tickets →
-    PrinterGoes ranges desks h (Print p document size scheme stop) reply p (actors.Running (planned mid next_save.Fine)) old new
-called_goes {A} ranges desks h p document size scheme stop view mid (Ok job) reply old new there s outs called prints tells tickets =
-    printed_goes ranges desks h p document size scheme stop view mid job reply old new there s outs called prints tells tickets
-called_goes {A} ranges desks h p document size scheme stop view mid (Err fault) reply old new there s outs called prints tells tickets =
-    subst (λ (r : Reply A). PrinterGoes ranges desks h (Print p document size scheme stop) r p (actors.Running (planned mid next_save.Fine)) old new)
+    PrinterGoes ranges desks h (Print p document size scheme stop) reply p
+    (actors.Running (planned mid next_save.Fine)) old new
+called_goes {A} ranges desks h p document size scheme stop view mid
+    (Ok job) reply old new there s outs called prints tells tickets =
+    printed_goes ranges desks h p document size scheme stop view mid job reply old new there s outs called prints
+    tells tickets
+called_goes {A} ranges desks h p document size scheme stop view mid
+    (Err fault) reply old new there s outs called prints tells tickets =
+    subst (λ (r : Reply A). PrinterGoes ranges desks h (Print p document size scheme stop) r p
+    (actors.Running (planned mid next_save.Fine)) old new)
     (sym tells.0) (by_fault fault prints)
   where
     none_printed : (f : PrintFault) → mid ≡ planned view (next_save_of stop) →
         (let r : Reply A = PrintRefused f in failed_after r (is_failed h (PrinterAt p)) ≡ is_failed h (PrinterAt p)) →
         IsPrintRefused ranges h p (record { bytes = document; size = size; scheme = scheme; parts = [] }) stop f →
-        PrinterGoes ranges desks h (Print p document size scheme stop) (PrintRefused f) p (actors.Running (planned mid next_save.Fine)) old new
+        PrinterGoes ranges desks h (Print p document size scheme stop) (PrintRefused f) p
+        (actors.Running (planned mid next_save.Fine)) old new
     none_printed f same failed why =
-        refused_goes ranges desks h (Print p document size scheme stop) (PrintRefused f) p stop view mid old new refl there s same called (λ x. x)
+        refused_goes ranges desks h (Print p document size scheme stop)
+        (PrintRefused f) p stop view mid old new refl there s same called (λ x. x)
         (λ x. cc) (λ x. cc) (λ x. cc) refl failed (λ x. cc) refl (refl, why) tells.1 tickets
 
     by_fault : (f : PrintFault) → Prints (planned view (next_save_of stop)) size scheme document (Err f) mid →
-        PrinterGoes ranges desks h (Print p document size scheme stop) (PrintRefused f) p (actors.Running (planned mid next_save.Fine)) old new
+        PrinterGoes ranges desks h (Print p document size scheme stop) (PrintRefused f) p
+        (actors.Running (planned mid next_save.Fine)) old new
     by_fault print_fault.Failed x = none_printed print_fault.Failed x.1 refl (sym s.failed ∙ x.0)
     by_fault print_fault.TooLong x = none_printed print_fault.TooLong x.1 refl x.0.1
     by_fault print_fault.Exhausted x = none_printed print_fault.Exhausted x.1 refl
@@ -198,17 +230,22 @@ called_goes {A} ranges desks h p document size scheme stop view mid (Err fault) 
     by_fault print_fault.Memory x = none_printed print_fault.Memory x.1 refl tt
     by_fault print_fault.Save x =
         let k : (k : Kept) × (stop ≡ SaveFault k) = failed_with_fault stop view mid x.1.unsaved called x.1.failed in
-        subst (λ (t : Stop). PrinterGoes ranges desks h (Print p document size scheme t) (PrintRefused print_fault.Save) p (actors.Running (planned mid next_save.Fine)) old new)
+        subst (λ (t : Stop). PrinterGoes ranges desks h (Print p document size scheme t)
+        (PrintRefused print_fault.Save) p (actors.Running (planned mid next_save.Fine)) old new)
         (sym k.1)
         (failed_goes ranges desks h p document size scheme k.0 view mid old new there s
-        (subst (λ (t : Stop). FailsToPrint (planned view (next_save_of t)) mid) k.1 x.1) (same_left old new tells.1 tickets))
+        (subst (λ (t : Stop). FailsToPrint (planned view (next_save_of t)) mid) k.1 x.1)
+        (same_left old new tells.1 tickets))
 
 -- what a print that was stopped before any label left has done
-stopped_outcome : {A : Type 0} (ranges : List Range) (desks : ℕ) (h : History A) (p : ℕ) (document : List ℕ) (size : Size) (scheme : Scheme)
+stopped_outcome : {A : Type 0} (ranges : List Range) (desks : ℕ) (h : History A) (p : ℕ) (document : List ℕ)
+    (size : Size) (scheme : Scheme)
     (stop : Stop) (view mid : PrinterView) (answer : Result JobView PrintFault) → Runs ranges h p view →
-    (let event : Event A = Print p document size scheme stop in let reply : Reply A = Stopped in may_save event reply ≡ true) →
+    (let event : Event A = Print p document size scheme stop in let reply : Reply A = Stopped in
+    may_save event reply ≡ true) →
     Prints (planned view next_save.Fine) size scheme document answer mid →
-    (let event : Event A = Print p document size scheme stop in IsOutcome ranges h event p (planned mid next_save.Fine).saved)
+    (let event : Event A = Print p document size scheme stop in
+    IsOutcome ranges h event p (planned mid next_save.Fine).saved)
 stopped_outcome {A} ranges desks h p document size scheme stop view mid (Ok job) s may prints =
     let event : Event A = Print p document size scheme stop in
     let e : Entry A = plain event Stopped job.id true in
@@ -219,7 +256,8 @@ stopped_outcome {A} ranges desks h p document size scheme stop view mid (Ok job)
       did = true;
       stored = mid.ledger;
       store = store_saved ranges e h p view mid next_save.Fine mid.ledger s.store.ready saved
-          (ledger_used ranges h p document size scheme stop Stopped job.id [] 0 view.ledger mid.ledger (record { named = refl; saved = refl; may = may })
+          (ledger_used ranges h p document size scheme stop Stopped job.id [] 0 view.ledger mid.ledger
+          (record { named = refl; saved = refl; may = may })
           refl prints.3.used (ledger_now ranges h p view s was));
       may = λ _. may;
       moves = λ _. sym ((ledger_now ranges h p view s was).free job.id) ∙ prints.3.used.least.free;
@@ -236,46 +274,52 @@ stopped_outcome {A} ranges desks h p document size scheme stop view mid (Err pri
     absurd prints.1.failed.replaced.follows
 
 -- a print that was stopped once that many labels had left
-some_goes : {A : Type 0} (ranges : List Range) (desks : ℕ) (h : History A) (p : ℕ) (document : List ℕ) (size : Size) (scheme : Scheme)
+some_goes : {A : Type 0} (ranges : List Range) (desks : ℕ) (h : History A) (p : ℕ) (document : List ℕ) (size : Size)
+    (scheme : Scheme)
     (most : ℕ) (view mid : PrinterView) (job : JobView) (actor : PrinterActor A) (old new : Left A) →
     p < length ranges → Runs ranges h p view →
     Prints (planned view next_save.Fine) size scheme document (Ok job) mid →
-    actor ≡ actors.Down (planned mid next_save.Fine).saved → new.labels ≡ old.labels ++ left_labels job.id job.count 1 (take most job.labels) →
+    actor ≡ actors.Down (planned mid next_save.Fine).saved →
+    new.labels ≡ old.labels ++ left_labels job.id job.count 1 (take most job.labels) →
     new.tickets ≡ old.tickets →
     PrinterGoes ranges desks h (Print p document size scheme (AfterLabels most)) Stopped p actor old new
-some_goes {A} ranges desks h p document size scheme most view mid job actor old new there s prints is labels tickets = record {
-  entry = e;
-  event_is = refl;
-  reply_is = refl;
-  fits = record {
-    reply = tt;
-    lets_out = inr (most, refl, left_is);
-    parts = λ _. prints.2;
-    no_such = λ x. cc;
-    there = λ _. there;
-    down = ((λ x. cc), (λ d. let u = s.up in let v = d.2 in cc));
-    stopped = λ _. tt;
-    stops = λ _ _ _. inl refl;
-    told = λ x. cc;
-    left_saved = λ _. refl;
-    saved = λ _. refl;
-    moves = λ _. free;
-  };
-  stands = subst (λ (a : PrinterActor A). PrinterStands ranges (e ∷ h) p a) (sym is) (record {
-    down = is_down_same e h (PrinterAt p) refl;
-    stored = mid.ledger;
-    store = store_saved ranges e h p view mid next_save.Fine mid.ledger s.store.ready job_prints.saved
-        (ledger_used ranges h p document size scheme (AfterLabels most) Stopped job.id prints.1 left view.ledger mid.ledger
-        (record { named = refl; saved = refl; may = refl }) refl job_prints.used (ledger_now ranges h p view s was));
-  });
-  more = left_labels job.id job.count 1 (take most job.labels);
-  labels_are = labels;
-  names = names_left A job.id job.count 1 (take most job.labels) ∙
-      ap (λ n. names_from job.id n 1 left) made.count_is;
-  shows = λ i label here. left_goes e h cut job (take most job.labels) made refl (some_there job.id job.count (take most job.labels) i label here) refl
-      (take_left job.id job.count 1 most job.labels) i label here;
-  tickets_are = tickets ∙ sym (append-nil old.tickets);
-}
+some_goes {A} ranges desks h p document size scheme most view mid job actor old new there s prints is labels tickets =
+    record {
+      entry = e;
+      event_is = refl;
+      reply_is = refl;
+      fits = record {
+        reply = tt;
+        lets_out = inr (most, refl, left_is);
+        parts = λ _. prints.2;
+        no_such = λ x. cc;
+        there = λ _. there;
+        down = ((λ x. cc), (λ d. let u = s.up in let v = d.2 in cc));
+        stopped = λ _. tt;
+        stops = λ _ _ _. inl refl;
+        told = λ x. cc;
+        left_saved = λ _. refl;
+        saved = λ _. refl;
+        moves = λ _. free;
+      };
+      stands = subst (λ (a : PrinterActor A). PrinterStands ranges (e ∷ h) p a) (sym is) (record {
+        down = is_down_same e h (PrinterAt p) refl;
+        stored = mid.ledger;
+        store = store_saved ranges e h p view mid next_save.Fine mid.ledger s.store.ready job_prints.saved
+            (ledger_used ranges h p document size scheme
+            (AfterLabels most) Stopped job.id prints.1 left view.ledger mid.ledger
+            (record { named = refl; saved = refl; may = refl }) refl job_prints.used
+            (ledger_now ranges h p view s was));
+      });
+      more = left_labels job.id job.count 1 (take most job.labels);
+      labels_are = labels;
+      names = names_left A job.id job.count 1 (take most job.labels) ∙
+          ap (λ n. names_from job.id n 1 left) made.count_is;
+      shows = λ i label here. left_goes e h cut job (take most job.labels) made refl
+          (some_there job.id job.count (take most job.labels) i label here) refl
+          (take_left job.id job.count 1 most job.labels) i label here;
+      tickets_are = tickets ∙ sym (append-nil old.tickets);
+    }
   where
     cut : CutDocument
     cut = record { bytes = document; size = size; scheme = scheme; parts = prints.1 }
@@ -284,7 +328,14 @@ some_goes {A} ranges desks h p document size scheme most view mid job actor old 
     left = length (take most job.labels)
 
     e : Entry A
-    e = record { event = Print p document size scheme (AfterLabels most); reply = Stopped; id = job.id; parts = prints.1; left = length (take most job.labels); saved = true }
+    e = record {
+      event = Print p document size scheme (AfterLabels most);
+      reply = Stopped;
+      id = job.id;
+      parts = prints.1;
+      left = length (take most job.labels);
+      saved = true;
+    }
 
     job_prints : PrintsJob (planned view next_save.Fine) size scheme prints.1 job mid
     job_prints = prints.3
@@ -302,47 +353,70 @@ some_goes {A} ranges desks h p document size scheme most view mid job actor old 
     left_is = length_take most job.labels ∙ ap (min most) (length-AreLabels _ _ _ _ _ prints.1 job.labels made.labels)
 
 -- a print that is stopped
-stop_goes : {A : Type 0} (ranges : List Range) (desks : ℕ) (h : History A) (p : ℕ) (document : List ℕ) (size : Size) (scheme : Scheme)
-    (stop : Stop) (view : PrinterView) (answer : Result JobView PrintFault) (actor : PrinterActor A) (old new : Left A) →
+stop_goes : {A : Type 0} (ranges : List Range) (desks : ℕ) (h : History A) (p : ℕ) (document : List ℕ) (size : Size)
+    (scheme : Scheme)
+    (stop : Stop) (view : PrinterView) (answer : Result JobView PrintFault) (actor : PrinterActor A)
+    (old new : Left A) →
     p < length ranges → Runs ranges h p view →
     new.labels ≡ old.labels ++ stopped_labels stop answer → new.tickets ≡ old.tickets →
-    StopsPrinter stop view (λ mid. (answer ≢ Err print_fault.Memory) × Prints (planned view next_save.Fine) size scheme document answer mid) actor →
+    StopsPrinter stop view (λ mid. (answer ≢ Err print_fault.Memory) ×
+    Prints (planned view next_save.Fine) size scheme document answer mid) actor →
     PrinterGoes ranges desks h (Print p document size scheme stop) Stopped p actor old new
 stop_goes {A} ranges desks h p document size scheme BeforeSave view answer actor old new there s labels tickets acts =
-    outcome_goes ranges desks h (Print p document size scheme BeforeSave) p view view.saved actor old new refl there s tt (λ id. (inl refl, tt)) acts
-    (labels ∙ append-nil old.labels) tickets (none_saved ranges h (Print p document size scheme BeforeSave) p view view.saved s refl)
+    outcome_goes ranges desks h (Print p document size scheme BeforeSave) p view view.saved actor old new refl there s
+    tt (λ id. (inl refl, tt)) acts
+    (labels ∙ append-nil old.labels) tickets
+    (none_saved ranges h (Print p document size scheme BeforeSave) p view view.saved s refl)
 stop_goes {A} ranges desks h p document size scheme (InSave Old) view answer actor old new there s labels tickets acts =
-    outcome_goes ranges desks h (Print p document size scheme (InSave Old)) p view view.saved actor old new refl there s tt (λ id. (inl refl, tt)) acts
-    (labels ∙ append-nil old.labels) tickets (none_saved ranges h (Print p document size scheme (InSave Old)) p view view.saved s refl)
+    outcome_goes ranges desks h (Print p document size scheme (InSave Old)) p view view.saved actor old new refl there s
+    tt (λ id. (inl refl, tt)) acts
+    (labels ∙ append-nil old.labels) tickets
+    (none_saved ranges h (Print p document size scheme (InSave Old)) p view view.saved s refl)
 stop_goes {A} ranges desks h p document size scheme (InSave New) view answer actor old new there s labels tickets acts =
-    outcome_goes ranges desks h (Print p document size scheme (InSave New)) p view (planned acts.0 next_save.Fine).saved actor old new refl there s tt
+    outcome_goes ranges desks h (Print p document size scheme (InSave New)) p view
+    (planned acts.0 next_save.Fine).saved actor old new refl there s tt
     (λ id. (inl refl, tt)) acts.2 (labels ∙ append-nil old.labels) tickets
     (stopped_outcome ranges desks h p document size scheme (InSave New) view acts.0 answer s refl acts.1.1)
-stop_goes {A} ranges desks h p document size scheme (AfterLabels most) view (Ok job) actor old new there s labels tickets acts =
-    some_goes ranges desks h p document size scheme most view acts.0 job actor old new there s acts.1.1 acts.2 labels tickets
-stop_goes {A} ranges desks h p document size scheme (AfterLabels most) view (Err fault) actor old new there s labels tickets acts =
-    outcome_goes ranges desks h (Print p document size scheme (AfterLabels most)) p view (planned acts.0 next_save.Fine).saved actor old new refl there s tt
+stop_goes {A} ranges desks h p document size scheme (AfterLabels most) view
+    (Ok job) actor old new there s labels tickets acts =
+    some_goes ranges desks h p document size scheme most view acts.0 job actor old new there s acts.1.1 acts.2
+    labels tickets
+stop_goes {A} ranges desks h p document size scheme (AfterLabels most) view
+    (Err fault) actor old new there s labels tickets acts =
+    outcome_goes ranges desks h (Print p document size scheme (AfterLabels most)) p view
+    (planned acts.0 next_save.Fine).saved actor old new refl there s tt
     (λ id. (inl refl, tt)) acts.2 (labels ∙ append-nil old.labels) tickets
     (stopped_outcome ranges desks h p document size scheme (AfterLabels most) view acts.0 (Err fault) s refl acts.1.1)
-stop_goes ranges desks h p document size scheme stops.None view answer actor old new there s labels tickets acts = absurd acts
-stop_goes ranges desks h p document size scheme (SaveFault k) view answer actor old new there s labels tickets acts = absurd acts
+stop_goes ranges desks h p document size scheme stops.None view answer actor old new there s labels tickets acts =
+    absurd acts
+stop_goes ranges desks h p document size scheme (SaveFault k) view answer actor old new there s labels tickets acts =
+    absurd acts
 
 -- a print at a running printer
-pub print_goes : {A : Type 0} (ranges : List Range) (desks : ℕ) (h : History A) (p : ℕ) (document : List ℕ) (size : Size) (scheme : Scheme)
+pub print_goes : {A : Type 0} (ranges : List Range) (desks : ℕ) (h : History A) (p : ℕ) (document : List ℕ)
+    (size : Size) (scheme : Scheme)
     (stop : Stop) (reply : Reply A) (view : PrinterView) (actor : PrinterActor A) (old new : Left A) →
     p < length ranges → Runs ranges h p view → map name_of old.labels ≡ out h →
     new.tickets ≡ old.tickets →
     PrintActs view document size scheme stop old.labels reply actor new.labels →
     PrinterGoes ranges desks h (Print p document size scheme stop) reply p actor old new
 print_goes {A} ranges desks h p document size scheme stop reply view actor old new there s outs tickets (inl none) =
-    subst (λ (r : Reply A). PrinterGoes ranges desks h (Print p document size scheme stop) r p actor old new) (sym none.0)
-    (subst (λ (a : PrinterActor A). PrinterGoes ranges desks h (Print p document size scheme stop) Memory p a old new) (sym none.1)
+    subst (λ (r : Reply A). PrinterGoes ranges desks h (Print p document size scheme stop) r p actor old new)
+    (sym none.0)
+    (subst (λ (a : PrinterActor A). PrinterGoes ranges desks h (Print p document size scheme stop) Memory p a old new)
+    (sym none.1)
     (kept_goes ranges desks h (Print p document size scheme stop) Memory p view view old new refl there s refl
     (λ x. cc) (λ x. cc) (λ x. cc) (λ _. refl) refl refl (λ x. cc) refl (refl, tt) none.2 tickets))
-print_goes {A} ranges desks h p document size scheme stop reply view actor old new there s outs tickets (inr (inl called)) =
-    subst (λ (a : PrinterActor A). PrinterGoes ranges desks h (Print p document size scheme stop) reply p a old new) (sym (called.1 ∙ ap actors.Running called.3.after_is))
-    (called_goes ranges desks h p document size scheme stop view called.3.mid called.3.answer reply old new there s outs called.2
+print_goes {A} ranges desks h p document size scheme stop reply view actor old new there s outs tickets
+    (inr (inl called)) =
+    subst (λ (a : PrinterActor A). PrinterGoes ranges desks h (Print p document size scheme stop) reply p a old new)
+    (sym (called.1 ∙ ap actors.Running called.3.after_is))
+    (called_goes ranges desks h p document size scheme stop view called.3.mid called.3.answer reply old new there s outs
+    called.2
     called.3.prints called.3.tells tickets)
-print_goes {A} ranges desks h p document size scheme stop reply view actor old new there s outs tickets (inr (inr stopped)) =
-    subst (λ (r : Reply A). PrinterGoes ranges desks h (Print p document size scheme stop) r p actor old new) (sym stopped.0)
-    (stop_goes ranges desks h p document size scheme stop view stopped.1 actor old new there s stopped.2 tickets stopped.3)
+print_goes {A} ranges desks h p document size scheme stop reply view actor old new there s outs tickets
+    (inr (inr stopped)) =
+    subst (λ (r : Reply A). PrinterGoes ranges desks h (Print p document size scheme stop) r p actor old new)
+    (sym stopped.0)
+    (stop_goes ranges desks h p document size scheme stop view stopped.1 actor old new there s stopped.2 tickets
+    stopped.3)

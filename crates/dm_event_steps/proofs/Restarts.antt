@@ -19,12 +19,14 @@ use Rattle.dm_event_steps.proofs.Ledgers.{numbers_quiet, numbers_keep}
 use Rattle.dm_event_steps.proofs.PrinterGoing.{plain, plain_goes, no_ticket}
 
 -- what a store of a printer stands for
-store_of : {A : Type 0} (ranges : List Range) (h : History A) (p : ℕ) (actor : PrinterActor A) → PrinterStands ranges h p actor →
+store_of : {A : Type 0} (ranges : List Range) (h : History A) (p : ℕ) (actor : PrinterActor A) →
+    PrinterStands ranges h p actor →
     (stored : LedgerView) × StoreStands ranges h p (saved_of actor) stored
 store_of ranges h p (actors.Running view) s = (s.stored, s.store)
 store_of ranges h p (actors.Down saved) s = (s.stored, s.store)
 
-pub restart_goes : {A : Type 0} (ranges : List Range) (desks : ℕ) (h : History A) (p : ℕ) (reply : Reply A) (was actor : PrinterActor A) (old new : Left A) →
+pub restart_goes : {A : Type 0} (ranges : List Range) (desks : ℕ) (h : History A) (p : ℕ) (reply : Reply A)
+    (was actor : PrinterActor A) (old new : Left A) →
     p < length ranges → PrinterStands ranges h p was → new ≡ old → RestartActs p (saved_of was) reply actor →
     PrinterGoes ranges desks h (RestartPrinter p) reply p actor old new
 restart_goes {A} ranges desks h p Restarted was actor old new there s same acts =
@@ -36,7 +38,11 @@ restart_goes {A} ranges desks h p Restarted was actor old new there s same acts 
       failed = acts.2.running ∙ sym (is_failed_same e h (PrinterAt p) refl);
       stored = t.0;
       store = subst (λ (v : Saved). StoreStands ranges (e ∷ h) p v t.0) (sym acts.2.same)
-          (record { ready = t.1.ready; holds = t.1.holds; is = numbers_keep ranges e h p t.0 (numbers_quiet e h p refl (λ x. cc)) t.1.is });
+          (record {
+            ready = t.1.ready;
+            holds = t.1.holds;
+            is = numbers_keep ranges e h p t.0 (numbers_quiet e h p refl (λ x. cc)) t.1.is;
+          });
       shows = λ _. acts.2.shows t.0 t.1.holds t.1.is.number;
     } in
     plain_goes ranges desks h event Restarted p 0 false actor old new (record {
@@ -51,7 +57,8 @@ restart_goes {A} ranges desks h p Restarted was actor old new there s same acts 
       told = λ x. cc;
       may = λ x. cc;
       moves = λ x. cc;
-    }) (subst (λ (a : PrinterActor A). PrinterStands ranges (e ∷ h) p a) (sym acts.1) runs) (ap (λ (l : Left A). l.labels) same) (no_ticket old new same)
+    }) (subst (λ (a : PrinterActor A). PrinterStands ranges (e ∷ h) p a) (sym acts.1) runs)
+    (ap (λ (l : Left A). l.labels) same) (no_ticket old new same)
 restart_goes {A} ranges desks h p (PrinterRefused fault) was actor old new there s same acts =
     let event : Event A = RestartPrinter p in
     let e : Entry A = plain event (PrinterRefused fault) 0 false in
@@ -59,7 +66,11 @@ restart_goes {A} ranges desks h p (PrinterRefused fault) was actor old new there
     let lies : LiesDown ranges (e ∷ h) p (saved_of was) = record {
       down = is_down_same e h (PrinterAt p) refl;
       stored = t.0;
-      store = record { ready = t.1.ready; holds = t.1.holds; is = numbers_keep ranges e h p t.0 (numbers_quiet e h p refl (λ x. cc)) t.1.is };
+      store = record {
+        ready = t.1.ready;
+        holds = t.1.holds;
+        is = numbers_keep ranges e h p t.0 (numbers_quiet e h p refl (λ x. cc)) t.1.is;
+      };
     } in
     plain_goes ranges desks h event (PrinterRefused fault) p 0 false actor old new (record {
       named = refl;
@@ -73,5 +84,6 @@ restart_goes {A} ranges desks h p (PrinterRefused fault) was actor old new there
       told = λ x. cc;
       may = λ x. cc;
       moves = λ x. cc;
-    }) (subst (λ (a : PrinterActor A). PrinterStands ranges (e ∷ h) p a) (sym acts.0) lies) (ap (λ (l : Left A). l.labels) same) (no_ticket old new same)
+    }) (subst (λ (a : PrinterActor A). PrinterStands ranges (e ∷ h) p a) (sym acts.0) lies)
+    (ap (λ (l : Left A). l.labels) same) (no_ticket old new same)
 restart_goes ranges desks h p reply was actor old new there s same acts = absurd acts

@@ -38,10 +38,13 @@ get_within (x ∷ xs) ys zero below = refl
 get_within (x ∷ xs) ys (suc i) below = get_within xs ys i (omega arith)
 
 -- an event that names what is there is fair over more labels too
-fair_more : {A : Type 0} (ranges : List Range) (desks : ℕ) (h : History A) (event : Event A) (grids more : List GridView) →
-    length (out h) ≤ length grids → IsThere (length ranges) desks h event → IsFair grids event → IsFair (grids ++ more) event
+fair_more : {A : Type 0} (ranges : List Range) (desks : ℕ) (h : History A) (event : Event A)
+    (grids more : List GridView) →
+    length (out h) ≤ length grids → IsThere (length ranges) desks h event → IsFair grids event →
+    IsFair (grids ++ more) event
 fair_more ranges desks h (Scan d number flips stop) grids more few there fair = λ grid at.
-    fair grid (sym (get_within grids more number (let b = get_beyond (out h) number there.1.name there.1.has_left in omega arith)) ∙ at)
+    fair grid (sym (get_within grids more number (let b = get_beyond (out h) number there.1.name there.1.has_left in
+    omega arith)) ∙ at)
 fair_more ranges desks h (Print p document size scheme stop) grids more few there fair = tt
 fair_more ranges desks h (RestartPrinter p) grids more few there fair = tt
 fair_more ranges desks h (RestartDesk d) grids more few there fair = tt
@@ -56,7 +59,8 @@ out_grows : {A : Type 0} (e : Entry A) (h : History A) → length (out h) ≤ le
 out_grows e h = (let l = length-append (out h) (names_from e.id (length e.parts) 1 e.left) in omega arith)
 
 -- a legal history that is honest stays so over more labels than had left
-honest_more : {A : Type 0} (ranges : List Range) (desks : ℕ) (h : History A) (grids more : List GridView) → IsLegal ranges desks h →
+honest_more : {A : Type 0} (ranges : List Range) (desks : ℕ) (h : History A) (grids more : List GridView) →
+    IsLegal ranges desks h →
     length (out h) ≤ length grids → IsHonest grids h → IsHonest (grids ++ more) h
 honest_more ranges desks [] grids more legal few honest = tt
 honest_more ranges desks (e ∷ h) grids more legal few honest =
@@ -66,28 +70,34 @@ honest_more ranges desks (e ∷ h) grids more legal few honest =
     )
 
 -- as many labels left as there are grids
-grids_count : {A : Type 0} (ranges : List Range) (capacities : List ℕ) (world : WorldView A) (h : History A) → StandsFor ranges capacities world h →
+grids_count : {A : Type 0} (ranges : List Range) (capacities : List ℕ) (world : WorldView A) (h : History A) →
+    StandsFor ranges capacities world h →
     length (out h) ≡ length (grids_of world)
 grids_count ranges capacities world h s =
     sym (ap length s.left.names) ∙ length-map world.labels name_of ∙ sym (length-map world.labels grid_of)
 
 -- the labels that left by a step come after those that had left
-more_of : {A : Type 0} (ranges : List Range) (capacities : List ℕ) (h : History A) (old new : WorldView A) (event : Event A) (reply : Reply A) →
-    StandsFor ranges capacities old h → Steps old event reply new → (more : List GridView) × (grids_of new ≡ grids_of old ++ more)
+more_of : {A : Type 0} (ranges : List Range) (capacities : List ℕ) (h : History A) (old new : WorldView A)
+    (event : Event A) (reply : Reply A) →
+    StandsFor ranges capacities old h → Steps old event reply new →
+    (more : List GridView) × (grids_of new ≡ grids_of old ++ more)
 more_of {A} ranges capacities h old new event reply s (inl none) =
     ([], ap (λ (w : WorldView A). grids_of w) none.1 ∙ sym (append-nil (grids_of old)))
 more_of {A} ranges capacities h old new event reply s (inr (inl at)) =
     let within : at.printer < length ranges =
     (let x = slice_get_within old.printers at.printer at.actor at.was in let c = s.count in omega arith) in
-    let g = printer_goes ranges (length capacities) h event reply at.printer at.actor at.after (left_of old) (left_of new) s.legal
-    (all_placed ranges (length capacities) h s.disjoint s.legal) at.named (there_of ranges capacities old h event s at.there) within s.left
+    let g = printer_goes ranges (length capacities) h event reply at.printer at.actor at.after (left_of old)
+    (left_of new) s.legal
+    (all_placed ranges (length capacities) h s.disjoint s.legal) at.named
+    (there_of ranges capacities old h event s at.there) within s.left
     (s.printers at.printer at.actor at.was) at.acts in
     (map grid_of g.more, grids_more old new g.more g.labels_are)
 more_of {A} ranges capacities h old new event reply s (inr (inr at)) =
     ([], ap (map grid_of) at.labels ∙ sym (append-nil (grids_of old)))
 
 -- the law of one step
-pub step_stands : {A : Type 0} (ranges : List Range) (capacities : List ℕ) (h : History A) (old new : WorldView A) (event : Event A) (reply : Reply A) →
+pub step_stands : {A : Type 0} (ranges : List Range) (capacities : List ℕ) (h : History A) (old new : WorldView A)
+    (event : Event A) (reply : Reply A) →
     StandsFor ranges capacities old h → Steps old event reply new →
     (entry : Entry A) × (entry.event ≡ event) × (entry.reply ≡ reply) × StandsFor ranges capacities new (entry ∷ h)
     × (IsFairIn old event → IsHonest (grids_of old) h → IsHonest (grids_of new) (entry ∷ h))
@@ -96,10 +106,12 @@ step_stands {A} ranges capacities h old new event reply s steps =
     (t.0, t.1, t.2, t.3, honest t.0 t.1 t.3 (more_of ranges capacities h old new event reply s steps))
   where
     honest : (entry : Entry A) → entry.event ≡ event → StandsFor ranges capacities new (entry ∷ h) →
-        ((more : List GridView) × (grids_of new ≡ grids_of old ++ more)) → IsFairIn old event → IsHonest (grids_of old) h →
+        ((more : List GridView) × (grids_of new ≡ grids_of old ++ more)) → IsFairIn old event →
+        IsHonest (grids_of old) h →
         IsHonest (grids_of new) (entry ∷ h)
     honest entry event_is stands more fair was =
-        let few : length (out h) ≤ length (grids_of old) = (let c = grids_count ranges capacities old h s in omega arith) in
+        let few : length (out h) ≤ length (grids_of old) = (let c = grids_count ranges capacities old h s in
+        omega arith) in
         subst (λ (l : List GridView). IsHonest l (entry ∷ h)) (sym more.1) (
           (λ other.
               let there : IsThere (length ranges) (length capacities) h entry.event = stands.legal.0.there other in
@@ -113,14 +125,16 @@ step_stands {A} ranges capacities h old new event reply s steps =
 -- ---- runs
 
 -- what a run leaves: a longer history, of these events and replies, for which the world stands
-record HasRun {A : Type 0} (ranges : List Range) (capacities : List ℕ) (h : History A) (events : List (Event A)) (replies : List (Reply A))
+record HasRun {A : Type 0} (ranges : List Range) (capacities : List ℕ) (h : History A) (events : List (Event A))
+    (replies : List (Reply A))
     (new : WorldView A) : Type 0 where
   pub after : History A
   pub stands : StandsFor ranges capacities new after
   pub events_are : events_of after ≡ events_of h ++ events
   pub replies_are : replies_of after ≡ replies_of h ++ replies
 
-abbrev no_run : {A : Type 0} (ranges : List Range) (capacities : List ℕ) (h : History A) (old new : WorldView A) → StandsFor ranges capacities old h →
+abbrev no_run : {A : Type 0} (ranges : List Range) (capacities : List ℕ) (h : History A) (old new : WorldView A) →
+    StandsFor ranges capacities old h →
     new ≡ old → HasRun ranges capacities h [] [] new
 no_run {A} ranges capacities h old new s same = record {
   after = h;
@@ -130,18 +144,24 @@ no_run {A} ranges capacities h old new s same = record {
 }
 
 -- a run that begins with this entry
-abbrev run_with : {A : Type 0} (ranges : List Range) (capacities : List ℕ) (h : History A) (new : WorldView A) (entry : Entry A) (event : Event A)
+abbrev run_with : {A : Type 0} (ranges : List Range) (capacities : List ℕ) (h : History A) (new : WorldView A)
+    (entry : Entry A) (event : Event A)
     (reply : Reply A) (events : List (Event A)) (replies : List (Reply A)) → entry.event ≡ event → entry.reply ≡ reply →
-    HasRun ranges capacities (entry ∷ h) events replies new → HasRun ranges capacities h (event ∷ events) (reply ∷ replies) new
+    HasRun ranges capacities (entry ∷ h) events replies new →
+    HasRun ranges capacities h (event ∷ events) (reply ∷ replies) new
 run_with {A} ranges capacities h new entry event reply events replies event_is reply_is rest = record {
   after = rest.after;
   stands = rest.stands;
-  events_are = rest.events_are ∙ ap (λ (v : Event A). (events_of h ++ v ∷ []) ++ events) event_is ∙ append_assoc (events_of h) (event ∷ []) events;
-  replies_are = rest.replies_are ∙ ap (λ (r : Reply A). (replies_of h ++ r ∷ []) ++ replies) reply_is ∙ append_assoc (replies_of h) (reply ∷ []) replies;
+  events_are = rest.events_are ∙ ap (λ (v : Event A). (events_of h ++ v ∷ []) ++ events) event_is ∙
+      append_assoc (events_of h) (event ∷ []) events;
+  replies_are = rest.replies_are ∙ ap (λ (r : Reply A). (replies_of h ++ r ∷ []) ++ replies) reply_is ∙
+      append_assoc (replies_of h) (reply ∷ []) replies;
 }
 
-runs_on : {A : Type 0} (ranges : List Range) (capacities : List ℕ) (h : History A) (old new : WorldView A) (events : List (Event A))
-    (replies : List (Reply A)) → StandsFor ranges capacities old h → Runs old events replies new → HasRun ranges capacities h events replies new
+runs_on : {A : Type 0} (ranges : List Range) (capacities : List ℕ) (h : History A) (old new : WorldView A)
+    (events : List (Event A))
+    (replies : List (Reply A)) → StandsFor ranges capacities old h → Runs old events replies new →
+    HasRun ranges capacities h events replies new
 runs_on ranges capacities h old new [] [] s runs = no_run ranges capacities h old new s runs
 runs_on {A} ranges capacities h old new (event ∷ events) (reply ∷ replies) s runs =
     let t = step_stands ranges capacities h old runs.0 event reply s runs.1 in
@@ -151,8 +171,10 @@ runs_on ranges capacities h old new [] (reply ∷ replies) s runs = absurd runs
 runs_on ranges capacities h old new (event ∷ events) [] s runs = absurd runs
 
 -- what a fair run leaves is honest
-fairly_on : {A : Type 0} (ranges : List Range) (capacities : List ℕ) (h : History A) (old new : WorldView A) (events : List (Event A))
-    (replies : List (Reply A)) → StandsFor ranges capacities old h → IsHonest (grids_of old) h → RunsFairly old events replies new →
+fairly_on : {A : Type 0} (ranges : List Range) (capacities : List ℕ) (h : History A) (old new : WorldView A)
+    (events : List (Event A))
+    (replies : List (Reply A)) → StandsFor ranges capacities old h → IsHonest (grids_of old) h →
+    RunsFairly old events replies new →
     (run : HasRun ranges capacities h events replies new) × IsHonest (grids_of new) run.after
 fairly_on {A} ranges capacities h old new [] [] s honest runs =
     (no_run ranges capacities h old new s runs, subst (λ (w : WorldView A). IsHonest (grids_of w) h) (sym runs) honest)
@@ -164,13 +186,15 @@ fairly_on ranges capacities h old new [] (reply ∷ replies) s honest runs = abs
 fairly_on ranges capacities h old new (event ∷ events) [] s honest runs = absurd runs
 
 -- the labels that left by a run are those of its batches, and show their documents
-its_batches : {A : Type 0} (ranges : List Range) (capacities : List ℕ) (world : WorldView A) (h : History A) → StandsFor ranges capacities world h →
+its_batches : {A : Type 0} (ranges : List Range) (capacities : List ℕ) (world : WorldView A) (h : History A) →
+    StandsFor ranges capacities world h →
     AreItsBatches world (batches_of h)
 its_batches {A} ranges capacities world h s = record {
   labels = out_is h ∙ sym s.left.names;
   shown = λ i label there.
       (let d : ShowsDocument h label = s.labels i label there in
-      let p : IsPrintedBy h label.id d.document = printed_at ranges (length capacities) h label.id d.document s.legal d.printed in record {
+      let p : IsPrintedBy h label.id d.document =
+      printed_at ranges (length capacities) h label.id d.document s.legal d.printed in record {
         j = p.printed.j;
         batch = p.batch;
         there = p.printed.there;
@@ -181,11 +205,14 @@ its_batches {A} ranges capacities world h s = record {
       });
 }
 
-pub run_once : {A : Type 0} (ranges : List Range) (capacities : List ℕ) (old new : WorldView A) (events : List (Event A)) (replies : List (Reply A)) →
-    StandsFor ranges capacities old [] → Runs old events replies new → HasPrintedOnce new events replies × AreItsLabels ranges new
+pub run_once : {A : Type 0} (ranges : List Range) (capacities : List ℕ) (old new : WorldView A)
+    (events : List (Event A)) (replies : List (Reply A)) →
+    StandsFor ranges capacities old [] → Runs old events replies new → HasPrintedOnce new events replies ×
+    AreItsLabels ranges new
 run_once {A} ranges capacities old new events replies s runs =
     let none : History A = [] in
-    let r : HasRun ranges capacities none events replies new = runs_on ranges capacities none old new events replies s runs in
+    let r : HasRun ranges capacities none events replies new =
+    runs_on ranges capacities none old new events replies s runs in
     let legal = r.stands.legal in
     let never : NeverTwice r.after = never_twice ranges (length capacities) r.after r.stands.disjoint legal in (
       (
@@ -197,28 +224,35 @@ run_once {A} ranges capacities old new events replies s runs =
       ),
       (
         subst IsNoLabelTwice (sym r.stands.left.names) (labels_once r.after never),
-        subst (AreOpened ranges) (sym r.stands.left.names) (labels_opened ranges (length capacities) r.after r.stands.disjoint legal),
+        subst (AreOpened ranges) (sym r.stands.left.names)
+            (labels_opened ranges (length capacities) r.after r.stands.disjoint legal),
       ),
     )
 
-pub run_takes : {A : Type 0} (ranges : List Range) (capacities : List ℕ) (old new : WorldView A) (events : List (Event A)) (replies : List (Reply A)) →
+pub run_takes : {A : Type 0} (ranges : List Range) (capacities : List ℕ) (old new : WorldView A)
+    (events : List (Event A)) (replies : List (Reply A)) →
     StandsFor ranges capacities old [] → Runs old events replies new → TakesOnce events replies
 run_takes {A} ranges capacities old new events replies s runs =
     let none : History A = [] in
-    let r : HasRun ranges capacities none events replies new = runs_on ranges capacities none old new events replies s runs in
+    let r : HasRun ranges capacities none events replies new =
+    runs_on ranges capacities none old new events replies s runs in
     subst (λ (l : List (Event A)). TakesOnce l replies) r.events_are
-    (subst (λ (l : List (Reply A)). TakesOnce (events_of r.after) l) r.replies_are (takes_once ranges (length capacities) r.after r.stands.legal))
+    (subst (λ (l : List (Reply A)). TakesOnce (events_of r.after) l) r.replies_are
+    (takes_once ranges (length capacities) r.after r.stands.legal))
 
-pub run_imports : {A : Type 0} (ranges : List Range) (capacities : List ℕ) (old new : WorldView A) (events : List (Event A)) (replies : List (Reply A)) →
+pub run_imports : {A : Type 0} (ranges : List Range) (capacities : List ℕ) (old new : WorldView A)
+    (events : List (Event A)) (replies : List (Reply A)) →
     StandsFor ranges capacities old [] → Runs old events replies new → ImportsExports events replies
 run_imports {A} ranges capacities old new events replies s runs =
     let none : History A = [] in
-    let r : HasRun ranges capacities none events replies new = runs_on ranges capacities none old new events replies s runs in
+    let r : HasRun ranges capacities none events replies new =
+    runs_on ranges capacities none old new events replies s runs in
     subst (λ (l : List (Event A)). ImportsExports l replies) r.events_are
     (subst (λ (l : List (Reply A)). ImportsExports (events_of r.after) l) r.replies_are
     (imports_exports ranges (length capacities) r.after r.stands.legal))
 
-pub fair_run : {A : Type 0} (ranges : List Range) (capacities : List ℕ) (old new : WorldView A) (events : List (Event A)) (replies : List (Reply A)) →
+pub fair_run : {A : Type 0} (ranges : List Range) (capacities : List ℕ) (old new : WorldView A)
+    (events : List (Event A)) (replies : List (Reply A)) →
     StandsFor ranges capacities old [] → RunsFairly old events replies new → HasBeenFaithful new events replies
 fair_run {A} ranges capacities old new events replies s runs =
     let none : History A = [] in
@@ -230,5 +264,6 @@ fair_run {A} ranges capacities old new events replies s runs =
       subst (λ (l : List (Event A)). IsFaithfulBy (batches_of r.after) l replies) r.events_are
           (subst (λ (l : List (Reply A)). IsFaithfulBy (batches_of r.after) (events_of r.after) l) r.replies_are
           (is_faithful ranges (length capacities) r.after (grids_of new) capacities legal
-          (never_twice ranges (length capacities) r.after r.stands.disjoint legal) (r.stands.safe f.1) (r.stands.answers f.1))),
+          (never_twice ranges (length capacities) r.after r.stands.disjoint legal) (r.stands.safe f.1)
+          (r.stands.answers f.1))),
     )

@@ -92,7 +92,8 @@ is_labels {A} h label p s is =
     (record { name_is = refl; printed = s.printed; n_is = s.count_is; part = s.part; head = s.carries.is_head })
 
 honest_page : {A : Type 0} (grids : List GridView) (h : History A) (d number : ℕ) (flips : List (ℕ × ℕ)) (stop : Stop)
-    (reply : Reply A) (label : LeftLabel A) (opened : Opened A) → reply ≢ NoSuch → slice_get grids number ≡ Some label.grid →
+    (reply : Reply A) (label : LeftLabel A) (opened : Opened A) → reply ≢ NoSuch →
+    slice_get grids number ≡ Some label.grid →
     (s : ShowsDocument h label) → LabelOpens (flipped label.grid flips) (Ok opened) →
     IsHonest grids (quiet (Scan d number flips stop) reply ∷ h) → IsLabels h label opened.page s.document
 honest_page grids h d number flips stop reply label opened some left s opens honest =
@@ -101,7 +102,8 @@ honest_page grids h d number flips stop reply label opened some left s opens hon
     (honest.0 some label.grid left))
 
 -- the scanned copy has such finder patterns
-framed : (grids : List GridView) (number : ℕ) (flips : List (ℕ × ℕ)) (grid : GridView) → slice_get grids number ≡ Some grid →
+framed : (grids : List GridView) (number : ℕ) (flips : List (ℕ × ℕ)) (grid : GridView) →
+    slice_get grids number ≡ Some grid →
     HasGoodFrame (flipped grid flips) → IsFramed grids number flips
 framed grids number flips grid left frame = record { grid = grid; has_left = left; frame = frame }
 
@@ -111,7 +113,8 @@ some_none : (o : Option (List ℕ)) → IsSome o → o ≡ None → ⊥
 some_none None x y = cc
 some_none (Some b) x y = cc
 
-kind_safe : {A : Type 0} (h : History A) (d capacity : ℕ) (held : Documents) (p : PageView) (kind : Kind) → IsHead (head_of p) →
+kind_safe : {A : Type 0} (h : History A) (d capacity : ℕ) (held : Documents) (p : PageView) (kind : Kind) →
+    IsHead (head_of p) →
     IsGathered h d held → answer capacity held p ≡ Ok kind → IsKindSafe h d (page_name p) kind
 kind_safe h d capacity held p Again head g is =
     g.possibly p.id p.m (subst (λ (o : Option (List ℕ)). IsSome o) (sym (holds_again capacity held p is).bytes) refl)
@@ -132,8 +135,10 @@ kind_safe h d capacity held p Complete head g is =
       (λ m least most other. g.possibly p.id m (others m least most other)),
     )
 
-accepted_safe : {A : Type 0} (h : History A) (d number capacity : ℕ) (label : LeftLabel A) (held : Documents) (p : PageView) (cut : CutDocument)
-    (a : Accepted) → slice_get (out h) number ≡ Some (name_of label) → IsLabels h label p cut → NamesPage p a → IsGathered h d held →
+accepted_safe : {A : Type 0} (h : History A) (d number capacity : ℕ) (label : LeftLabel A) (held : Documents)
+    (p : PageView) (cut : CutDocument)
+    (a : Accepted) → slice_get (out h) number ≡ Some (name_of label) → IsLabels h label p cut → NamesPage p a →
+    IsGathered h d held →
     answer capacity held p ≡ Ok a.kind → IsAcceptedSafe h d number a
 accepted_safe h d number capacity label held p cut a named is names g answered = record {
   name = page_name p;
@@ -171,10 +176,12 @@ key_held held i key is = by_get (finite.get held key) refl (contains_key-keys he
     among [] i at = cc
     among (k ∷ ks) zero at =
         (let same : k ≡ key = cc in
-        or_left (eq_by_cmp nat_cmp key k) (list_any (eq_by_cmp nat_cmp key) ks) (ap (eq_by_cmp nat_cmp key) same ∙ itself key))
+        or_left (eq_by_cmp nat_cmp key k) (list_any (eq_by_cmp nat_cmp key) ks) (ap (eq_by_cmp nat_cmp key) same ∙
+        itself key))
     among (k ∷ ks) (suc i) at = or_right (eq_by_cmp nat_cmp key k) (list_any (eq_by_cmp nat_cmp key) ks) (among ks i at)
 
-    by_get : (o : Option Pages) → finite.get held key ≡ o → is_some (finite.get held key) ≡ true → IsSome (finite.get held key)
+    by_get : (o : Option Pages) → finite.get held key ≡ o → is_some (finite.get held key) ≡ true →
+        IsSome (finite.get held key)
     by_get None at some = (let x : is_some (finite.get held key) ≡ false = ap is_some at in cc (x, some))
     by_get (Some pages) at some = subst (λ (o : Option Pages). IsSome o) (sym at) refl
 
@@ -188,10 +195,12 @@ other_held {A} h d id view order g none full = record {
   each = λ i other at. each i other (key_held view.held i other at) refl;
 }
   where
-    held_page : (other : ℕ) (pages : Pages) → finite.get view.held other ≡ Some pages → (i : ℕ) → IsSome (slice_index_or pages i None) →
+    held_page : (other : ℕ) (pages : Pages) → finite.get view.held other ≡ Some pages → (i : ℕ) →
+        IsSome (slice_index_or pages i None) →
         IsSome (page_at view.held other (suc i))
     held_page other pages at i some =
-        subst (λ (o : Option (List ℕ)). IsSome o) (sym (ap (λ (o : Option Pages). page (unwrap_or o []) (suc i)) at)) some
+        subst (λ (o : Option (List ℕ)). IsSome o)
+        (sym (ap (λ (o : Option Pages). page (unwrap_or o []) (suc i)) at)) some
 
     by_pages : (other : ℕ) (o : Option Pages) → finite.get view.held other ≡ o → IsSome o →
         (other ≢ id) × ((m : ℕ) × IsSome (page_at view.held other m))
@@ -201,14 +210,18 @@ other_held {A} h d id view order g none full = record {
       (let p = some_page pages (order.entries other pages at).some_held in (suc p.0, held_page other pages at p.0 p.1)),
     )
 
-    each : (i other : ℕ) → IsSome (finite.get view.held other) → view ≡ view → (other ≢ id) × (m : ℕ) × IsPossiblyHeld h d other m
-    each i other some _ = (let t = by_pages other (finite.get view.held other) refl some in (t.0, t.1.0, g.possibly other t.1.0 t.1.1))
+    each : (i other : ℕ) → IsSome (finite.get view.held other) → view ≡ view →
+        (other ≢ id) × (m : ℕ) × IsPossiblyHeld h d other m
+    each i other some _ = (let t = by_pages other (finite.get view.held other) refl some in
+        (t.0, t.1.0, g.possibly other t.1.0 t.1.1))
 
 -- ---- the entry of a scan
 
 -- a call that is made and told so
-made_told : {A : Type 0} (ranges : List Range) (capacities : List ℕ) (h : History A) (d number : ℕ) (flips : List (ℕ × ℕ)) (stop : Stop)
-    (reply : Reply A) → (d < length capacities) × HasModules h number flips → is_down h (DeskAt d) ≡ false → IsCalled stop →
+made_told : {A : Type 0} (ranges : List Range) (capacities : List ℕ) (h : History A) (d number : ℕ)
+    (flips : List (ℕ × ℕ)) (stop : Stop)
+    (reply : Reply A) → (d < length capacities) × HasModules h number flips → is_down h (DeskAt d) ≡ false →
+    IsCalled stop →
     reply ≢ NoSuch → reply ≢ replies.Down → reply ≢ Stopped → IsFine ranges h 0 (Scan d number flips stop) reply →
     ¬ (tells_of_save reply ≡ true) → IsTold ranges (length capacities) h (Scan d number flips stop) reply d
 made_told ranges capacities h d number flips stop reply there up called some down unstopped fine untold = record {
@@ -224,65 +237,89 @@ made_told ranges capacities h d number flips stop reply there up called some dow
 }
 
 -- no more documents are held once a page is that needs a save
-few_with : (capacity : ℕ) (held : Documents) (p : PageView) → finite.len held ≤ capacity → NeedsSave (answer capacity held p) →
+few_with : (capacity : ℕ) (held : Documents) (p : PageView) → finite.len held ≤ capacity →
+    NeedsSave (answer capacity held p) →
     finite.len (with_page held p) ≤ capacity
 few_with capacity held p few needs =
     subst (λ (n : ℕ). n ≤ capacity) (sym (len-insert nat_cmp_total held p.id _))
     (more_at (finite.get held p.id) (finite.len held) capacity few (room_for capacity held p needs))
 
 -- the page that an entry may take
-may_take : {A : Type 0} (h : History A) (d number : ℕ) (flips : List (ℕ × ℕ)) (stop : Stop) (reply : Reply A) (label : LeftLabel A)
+may_take : {A : Type 0} (h : History A) (d number : ℕ) (flips : List (ℕ × ℕ)) (stop : Stop) (reply : Reply A)
+    (label : LeftLabel A)
     (p : PageView) (cut : CutDocument) → slice_get (out h) number ≡ Some (name_of label) → IsLabels h label p cut →
     may_save (Scan d number flips stop) reply ≡ true → MayTake h (Scan d number flips stop) reply d p.id p.m
 may_take h d number flips stop reply label p cut named is may =
     (refl, may, (page_name p, named ∙ ap Some (sym is.name_is), refl, refl))
 
 -- what is gathered with the page of an honest scan
-gathered_page : {A : Type 0} (capacities : List ℕ) (grids : List GridView) (h : History A) (d number capacity : ℕ) (flips : List (ℕ × ℕ)) (stop : Stop)
+gathered_page : {A : Type 0} (capacities : List ℕ) (grids : List GridView) (h : History A) (d number capacity : ℕ)
+    (flips : List (ℕ × ℕ)) (stop : Stop)
     (reply : Reply A) (view : DeskView) (label : LeftLabel A) (opened : Opened A) (kind : Kind) →
-    IsScanned capacities grids h d number capacity flips view label → reply ≢ NoSuch → LabelOpens (flipped label.grid flips) (Ok opened) →
-    kind ≢ Again → answer view.capacity view.held opened.page ≡ Ok kind → may_save (Scan d number flips stop) reply ≡ true →
+    IsScanned capacities grids h d number capacity flips view label → reply ≢ NoSuch →
+    LabelOpens (flipped label.grid flips) (Ok opened) →
+    kind ≢ Again → answer view.capacity view.held opened.page ≡ Ok kind →
+    may_save (Scan d number flips stop) reply ≡ true →
     ((id m : ℕ) → Takes h (Scan d number flips stop) reply d id m → (id ≡ opened.page.id) × (m ≡ opened.page.m)) →
     ((id : ℕ) → ¬ Forgets (Scan d number flips stop) reply d id) →
-    IsHonest grids (quiet (Scan d number flips stop) reply ∷ h) → IsGathered (quiet (Scan d number flips stop) reply ∷ h) d (with_page view.held opened.page)
-gathered_page {A} capacities grids h d number capacity flips stop reply view label opened kind s some opens other answered may takes stays honest =
+    IsHonest grids (quiet (Scan d number flips stop) reply ∷ h) →
+    IsGathered (quiet (Scan d number flips stop) reply ∷ h) d (with_page view.held opened.page)
+gathered_page {A} capacities grids h d number capacity flips stop reply view label opened kind s some opens other
+    answered may takes stays honest =
     let event : Event A = Scan d number flips stop in
     let e : Entry A = quiet event reply in
     let is = honest_page grids h d number flips stop reply label opened some s.left s.shows opens honest in
-    gathered_with e h d view.held (with_page view.held opened.page) opened.page s.shows.document (λ x. none_leaves event reply _ x)
+    gathered_with e h d view.held (with_page view.held opened.page) opened.page s.shows.document
+    (λ x. none_leaves event reply _ x)
     is.printed is.n_is is.part
     (may_take h d number flips stop reply label opened.page s.shows.document s.named is may)
     takes stays
-    (holds_also view.held opened.page is.head.first is.head.last (is_free view.capacity view.held opened.page kind other answered))
+    (holds_also view.held opened.page is.head.first is.head.last
+    (is_free view.capacity view.held opened.page kind other answered))
     (s.runs.gathered honest.1)
 
 -- ---- each answer
 
 -- a scan that is refused, and leaves the desk as it was
 refused_goes : {A : Type 0} (ranges : List Range) (capacities : List ℕ) (grids : List GridView) (h : History A)
-    (d number capacity : ℕ) (flips : List (ℕ × ℕ)) (stop : Stop) (view mid : DeskView) (label : LeftLabel A) (fault : ScanFault) →
-    IsScanned capacities grids h d number capacity flips view label → IsCalled stop → mid ≡ desk_planned view (next_save_of stop) →
-    ((b : Bool) → (let reply : Reply A = ScanRefused fault in failed_after reply b ≡ b)) → IsScanRefused h d stop fault →
-    (IsHonest grids (quiet (Scan d number flips stop) (ScanRefused fault) ∷ h) → IsHonestlyRefused grids capacities h d number flips fault) →
-    DeskGoes ranges capacities grids h (Scan d number flips stop) (ScanRefused fault) d capacity (desks.Running (desk_planned mid next_save.Fine))
-refused_goes {A} ranges capacities grids h d number capacity flips stop view mid label fault s called same failed why answers =
-    desk_kept ranges capacities grids h (Scan d number flips stop) (ScanRefused fault) d capacity view (desk_planned mid next_save.Fine) s.room s.runs
+    (d number capacity : ℕ) (flips : List (ℕ × ℕ)) (stop : Stop) (view mid : DeskView) (label : LeftLabel A)
+    (fault : ScanFault) →
+    IsScanned capacities grids h d number capacity flips view label → IsCalled stop →
+    mid ≡ desk_planned view (next_save_of stop) →
+    ((b : Bool) → (let reply : Reply A = ScanRefused fault in failed_after reply b ≡ b)) →
+    IsScanRefused h d stop fault →
+    (IsHonest grids (quiet (Scan d number flips stop) (ScanRefused fault) ∷ h) →
+    IsHonestlyRefused grids capacities h d number flips fault) →
+    DeskGoes ranges capacities grids h (Scan d number flips stop) (ScanRefused fault) d capacity
+    (desks.Running (desk_planned mid next_save.Fine))
+refused_goes {A} ranges capacities grids h d number capacity flips stop view mid label fault s called same failed why
+    answers =
+    desk_kept ranges capacities grids h (Scan d number flips stop) (ScanRefused fault) d capacity view
+    (desk_planned mid next_save.Fine) s.room s.runs
     (ap (λ (v : DeskView). desk_planned v next_save.Fine) same ∙ fine_desk view (next_save_of stop) s.runs.store.ready)
-    (made_told ranges capacities h d number flips stop (ScanRefused fault) s.there s.runs.up called (λ x. cc) (λ x. cc) (λ x. cc) (refl, why) (λ x. cc))
+    (made_told ranges capacities h d number flips stop (ScanRefused fault) s.there s.runs.up called
+    (λ x. cc) (λ x. cc) (λ x. cc) (refl, why) (λ x. cc))
     refl (failed (is_failed h (DeskAt d))) (λ id m t. absurd t) (λ id x. x) (λ honest. tt) answers
 
 -- a page that is held already
 again_goes : {A : Type 0} (ranges : List Range) (capacities : List ℕ) (grids : List GridView) (h : History A)
-    (d number capacity : ℕ) (flips : List (ℕ × ℕ)) (stop : Stop) (view mid : DeskView) (label : LeftLabel A) (opened : Opened A) (a : Accepted) →
-    IsScanned capacities grids h d number capacity flips view label → IsCalled stop → LabelOpens (flipped label.grid flips) (Ok opened) →
-    view.is_failed ≡ false → NamesPage opened.page a → a.kind ≡ Again → answer view.capacity view.held opened.page ≡ Ok a.kind →
+    (d number capacity : ℕ) (flips : List (ℕ × ℕ)) (stop : Stop) (view mid : DeskView) (label : LeftLabel A)
+    (opened : Opened A) (a : Accepted) →
+    IsScanned capacities grids h d number capacity flips view label → IsCalled stop →
+    LabelOpens (flipped label.grid flips) (Ok opened) →
+    view.is_failed ≡ false → NamesPage opened.page a → a.kind ≡ Again →
+    answer view.capacity view.held opened.page ≡ Ok a.kind →
     mid ≡ desk_planned view (next_save_of stop) →
-    DeskGoes ranges capacities grids h (Scan d number flips stop) (Scanned a) d capacity (desks.Running (desk_planned mid next_save.Fine))
-again_goes {A} ranges capacities grids h d number capacity flips stop view mid label opened a s called opens runs names again answered same =
+    DeskGoes ranges capacities grids h (Scan d number flips stop) (Scanned a) d capacity
+    (desks.Running (desk_planned mid next_save.Fine))
+again_goes {A} ranges capacities grids h d number capacity flips stop view mid label opened a s called opens runs names
+    again answered same =
     let event : Event A = Scan d number flips stop in
     let reply : Reply A = Scanned a in
-    let holds : HoldsPage view.held opened.page = holds_again view.capacity view.held opened.page (answered ∙ ap Ok again) in
-    let there : IsSome (page_at view.held opened.page.id opened.page.m) = subst (λ (o : Option (List ℕ)). IsSome o) (sym holds.bytes) refl in
+    let holds : HoldsPage view.held opened.page = holds_again view.capacity view.held opened.page
+    (answered ∙ ap Ok again) in
+    let there : IsSome (page_at view.held opened.page.id opened.page.m) = subst (λ (o : Option (List ℕ)). IsSome o)
+    (sym holds.bytes) refl in
     let at : (id m : ℕ) → a.id ≡ id → a.m ≡ m → IsSome (page_at view.held id m) = λ id m x y.
     subst (λ (i : ℕ). IsSome (page_at view.held i m)) (sym names.id_is ∙ x)
     (subst (λ (k : ℕ). IsSome (page_at view.held opened.page.id k)) (sym names.m_is ∙ y) there) in
@@ -291,75 +328,103 @@ again_goes {A} ranges capacities grids h d number capacity flips stop view mid l
     (made_told ranges capacities h d number flips stop reply s.there s.runs.up called (λ x. cc) (λ x. cc) (λ x. cc)
     (refl, (λ other. absurd (other again))) (λ x. cc))
     refl refl
-    (λ id m t. (at id m t.1 t.2, subst (λ (held : Documents). IsSome (page_at held id m)) (s.runs.shows runs) (at id m t.1 t.2)))
+    (λ id m t. (
+      at id m t.1 t.2,
+      subst (λ (held : Documents). IsSome (page_at held id m)) (s.runs.shows runs)
+          (at id m t.1 t.2),
+    ))
     (λ id x. x)
     (λ honest. accepted_safe h d number view.capacity label view.held opened.page s.shows.document a s.named
-    (honest_page grids h d number flips stop reply label opened (λ x. cc) s.left s.shows opens honest) names (s.runs.gathered honest.1) answered)
+    (honest_page grids h d number flips stop reply label opened (λ x. cc) s.left s.shows opens honest) names
+    (s.runs.gathered honest.1) answered)
     (λ honest. framed grids number flips label.grid s.left opens.opens.read.frame)
 
 -- a page that was not held
 took_goes : {A : Type 0} (ranges : List Range) (capacities : List ℕ) (grids : List GridView) (h : History A)
-    (d number capacity : ℕ) (flips : List (ℕ × ℕ)) (stop : Stop) (view mid : DeskView) (label : LeftLabel A) (opened : Opened A) (a : Accepted) →
-    IsScanned capacities grids h d number capacity flips view label → IsCalled stop → LabelOpens (flipped label.grid flips) (Ok opened) →
+    (d number capacity : ℕ) (flips : List (ℕ × ℕ)) (stop : Stop) (view mid : DeskView) (label : LeftLabel A)
+    (opened : Opened A) (a : Accepted) →
+    IsScanned capacities grids h d number capacity flips view label → IsCalled stop →
+    LabelOpens (flipped label.grid flips) (Ok opened) →
     IsInOrder view → NamesPage opened.page a → a.kind ≢ Again → NeedsSave (answer view.capacity view.held opened.page) →
-    answer view.capacity view.held opened.page ≡ Ok a.kind → KeepsPage opened.page (desk_planned view (next_save_of stop)) mid →
-    DeskGoes ranges capacities grids h (Scan d number flips stop) (Scanned a) d capacity (desks.Running (desk_planned mid next_save.Fine))
-took_goes {A} ranges capacities grids h d number capacity flips stop view mid label opened a s called opens order names other needs answered keeps =
+    answer view.capacity view.held opened.page ≡ Ok a.kind →
+    KeepsPage opened.page (desk_planned view (next_save_of stop)) mid →
+    DeskGoes ranges capacities grids h (Scan d number flips stop) (Scanned a) d capacity
+    (desks.Running (desk_planned mid next_save.Fine))
+took_goes {A} ranges capacities grids h d number capacity flips stop view mid label opened a s called opens order names
+    other needs answered keeps =
     let event : Event A = Scan d number flips stop in
     let reply : Reply A = Scanned a in
     let none : stop ≡ stops.None = done_with_none stop view mid _ called keeps.replaced in
-    desk_saves ranges capacities grids h event reply d capacity view mid (next_save_of stop) _ (with_page view.held opened.page) s.room s.runs
+    desk_saves ranges capacities grids h event reply d capacity view mid (next_save_of stop) _
+    (with_page view.held opened.page) s.room s.runs
     keeps.replaced keeps.holding
-    (subst (λ (c : ℕ). finite.len (with_page view.held opened.page) ≤ c) s.runs.capacity_is (few_with view.capacity view.held opened.page order.few needs))
-    (made_told ranges capacities h d number flips stop reply s.there s.runs.up called (λ x. cc) (λ x. cc) (λ x. cc) (refl, (λ _. none)) (λ x. cc))
+    (subst (λ (c : ℕ). finite.len (with_page view.held opened.page) ≤ c) s.runs.capacity_is
+    (few_with view.capacity view.held opened.page order.few needs))
+    (made_told ranges capacities h d number flips stop reply s.there s.runs.up called
+    (λ x. cc) (λ x. cc) (λ x. cc) (refl, (λ _. none)) (λ x. cc))
     refl refl
-    (gathered_page capacities grids h d number capacity flips stop reply view label opened a.kind s (λ x. cc) opens other answered refl
+    (gathered_page capacities grids h d number capacity flips stop reply view label opened a.kind s
+    (λ x. cc) opens other answered refl
     (λ id m t. (sym t.1 ∙ names.id_is, sym t.2 ∙ names.m_is)) (λ id x. x))
     (λ honest. accepted_safe h d number view.capacity label view.held opened.page s.shows.document a s.named
-    (honest_page grids h d number flips stop reply label opened (λ x. cc) s.left s.shows opens honest) names (s.runs.gathered honest.1) answered)
+    (honest_page grids h d number flips stop reply label opened (λ x. cc) s.left s.shows opens honest) names
+    (s.runs.gathered honest.1) answered)
     (λ honest. framed grids number flips label.grid s.left opens.opens.read.frame)
 
 -- what is gathered once a page whose save failed may be held
-gathered_kept : {A : Type 0} (capacities : List ℕ) (grids : List GridView) (h : History A) (d number capacity : ℕ) (flips : List (ℕ × ℕ)) (k : Kept)
+gathered_kept : {A : Type 0} (capacities : List ℕ) (grids : List GridView) (h : History A) (d number capacity : ℕ)
+    (flips : List (ℕ × ℕ)) (k : Kept)
     (view : DeskView) (label : LeftLabel A) (opened : Opened A) →
-    IsScanned capacities grids h d number capacity flips view label → LabelOpens (flipped label.grid flips) (Ok opened) →
+    IsScanned capacities grids h d number capacity flips view label →
+    LabelOpens (flipped label.grid flips) (Ok opened) →
     NeedsSave (answer view.capacity view.held opened.page) →
     IsHonest grids (quiet (Scan d number flips (SaveFault k)) (ScanRefused scan_fault.Save) ∷ h) →
-    IsGathered (quiet (Scan d number flips (SaveFault k)) (ScanRefused scan_fault.Save) ∷ h) d (kept_held k view.held (with_page view.held opened.page))
+    IsGathered (quiet (Scan d number flips (SaveFault k)) (ScanRefused scan_fault.Save) ∷ h) d
+    (kept_held k view.held (with_page view.held opened.page))
 gathered_kept {A} capacities grids h d number capacity flips kept.Old view label opened s opens needs honest =
     gathered_keeps (quiet (Scan d number flips (SaveFault kept.Old)) (ScanRefused scan_fault.Save)) h d view.held
-    (λ x. none_leaves {A = A} (Scan d number flips (SaveFault kept.Old)) (ScanRefused scan_fault.Save) _ x) (λ id m t. absurd t) (λ id x. x)
+    (λ x. none_leaves {A = A} (Scan d number flips (SaveFault kept.Old)) (ScanRefused scan_fault.Save) _ x)
+    (λ id m t. absurd t) (λ id x. x)
     (s.runs.gathered honest.1)
 gathered_kept {A} capacities grids h d number capacity flips kept.New view label opened s opens (inl new) honest =
-    gathered_page capacities grids h d number capacity flips (SaveFault kept.New) (ScanRefused scan_fault.Save) view label opened New s (λ x. cc) opens
+    gathered_page capacities grids h d number capacity flips (SaveFault kept.New)
+    (ScanRefused scan_fault.Save) view label opened New s (λ x. cc) opens
     (λ x. cc) new refl (λ id m t. absurd t) (λ id x. x) honest
 gathered_kept {A} capacities grids h d number capacity flips kept.New view label opened s opens (inr complete) honest =
-    gathered_page capacities grids h d number capacity flips (SaveFault kept.New) (ScanRefused scan_fault.Save) view label opened Complete s (λ x. cc) opens
+    gathered_page capacities grids h d number capacity flips (SaveFault kept.New)
+    (ScanRefused scan_fault.Save) view label opened Complete s (λ x. cc) opens
     (λ x. cc) complete refl (λ id m t. absurd t) (λ id x. x) honest
 
-few_kept : (k : Kept) (view : DeskView) (p : PageView) → finite.len view.held ≤ view.capacity → NeedsSave (answer view.capacity view.held p) →
+few_kept : (k : Kept) (view : DeskView) (p : PageView) → finite.len view.held ≤ view.capacity →
+    NeedsSave (answer view.capacity view.held p) →
     finite.len (kept_held k view.held (with_page view.held p)) ≤ view.capacity
 few_kept kept.Old view p few needs = few
 few_kept kept.New view p few needs = few_with view.capacity view.held p few needs
 
 -- a page whose save failed
 failed_goes : {A : Type 0} (ranges : List Range) (capacities : List ℕ) (grids : List GridView) (h : History A)
-    (d number capacity : ℕ) (flips : List (ℕ × ℕ)) (k : Kept) (view mid : DeskView) (label : LeftLabel A) (opened : Opened A) →
-    IsScanned capacities grids h d number capacity flips view label → LabelOpens (flipped label.grid flips) (Ok opened) → IsInOrder view →
-    NeedsSave (answer view.capacity view.held opened.page) → FailsToKeepPage opened.page (desk_planned view (next_save_of (SaveFault k))) mid →
+    (d number capacity : ℕ) (flips : List (ℕ × ℕ)) (k : Kept) (view mid : DeskView) (label : LeftLabel A)
+    (opened : Opened A) →
+    IsScanned capacities grids h d number capacity flips view label →
+    LabelOpens (flipped label.grid flips) (Ok opened) → IsInOrder view →
+    NeedsSave (answer view.capacity view.held opened.page) →
+    FailsToKeepPage opened.page (desk_planned view (next_save_of (SaveFault k))) mid →
     DeskGoes ranges capacities grids h (Scan d number flips (SaveFault k)) (ScanRefused scan_fault.Save) d capacity
     (desks.Running (desk_planned mid next_save.Fine))
 failed_goes {A} ranges capacities grids h d number capacity flips k view mid label opened s opens order needs fails =
     let event : Event A = Scan d number flips (SaveFault k) in
     let reply : Reply A = ScanRefused scan_fault.Save in
-    desk_fails ranges capacities grids h event reply d capacity view mid k _ (with_page view.held opened.page) s.room s.runs
+    desk_fails ranges capacities grids h event reply d capacity view mid k _
+    (with_page view.held opened.page) s.room s.runs
     fails.replaced fails.failing
     (subst (λ (c : ℕ). finite.len (kept_held k view.held (with_page view.held opened.page)) ≤ c) s.runs.capacity_is
     (few_kept k view opened.page order.few needs))
-    (made_told ranges capacities h d number flips (SaveFault k) reply s.there s.runs.up tt (λ x. cc) (λ x. cc) (λ x. cc) (refl, (k, refl)) (λ x. cc))
+    (made_told ranges capacities h d number flips (SaveFault k) reply s.there s.runs.up tt
+    (λ x. cc) (λ x. cc) (λ x. cc) (refl, (k, refl)) (λ x. cc))
     refl refl
     (gathered_kept capacities grids h d number capacity flips k view label opened s opens needs)
-    (λ honest. gathered_keeps (quiet event reply) h d view.held (λ x. none_leaves event reply _ x) (λ id m t. absurd t) (λ id x. x)
+    (λ honest. gathered_keeps (quiet event reply) h d view.held (λ x. none_leaves event reply _ x) (λ id m t. absurd t)
+    (λ id x. x)
     (s.runs.gathered honest.1))
     (λ honest. tt)
     (λ honest. framed grids number flips label.grid s.left opens.opens.read.frame)
@@ -368,35 +433,50 @@ failed_goes {A} ranges capacities grids h d number capacity flips k view mid lab
 
 -- what is answered to a page
 page_goes : {A : Type 0} (ranges : List Range) (capacities : List ℕ) (grids : List GridView) (h : History A)
-    (d number capacity : ℕ) (flips : List (ℕ × ℕ)) (stop : Stop) (view mid : DeskView) (label : LeftLabel A) (opened : Opened A)
-    (given : Result Accepted ScanFault) → IsScanned capacities grids h d number capacity flips view label → IsCalled stop →
+    (d number capacity : ℕ) (flips : List (ℕ × ℕ)) (stop : Stop) (view mid : DeskView) (label : LeftLabel A)
+    (opened : Opened A)
+    (given : Result Accepted ScanFault) → IsScanned capacities grids h d number capacity flips view label →
+    IsCalled stop →
     LabelOpens (flipped label.grid flips) (Ok opened) → IsInOrder view → view.is_failed ≡ false →
     AcceptsPage opened.page (desk_planned view (next_save_of stop)) given mid →
-    DeskGoes ranges capacities grids h (Scan d number flips stop) (scan_reply given) d capacity (desks.Running (desk_planned mid next_save.Fine))
-page_goes {A} ranges capacities grids h d number capacity flips stop view mid label opened (Ok a) s called opens order runs acts =
+    DeskGoes ranges capacities grids h (Scan d number flips stop) (scan_reply given) d capacity
+    (desks.Running (desk_planned mid next_save.Fine))
+page_goes {A} ranges capacities grids h d number capacity flips stop view mid label opened
+    (Ok a) s called opens order runs acts =
     by_kind a.kind refl acts.2
   where
-    by_kind : (kind : Kind) → a.kind ≡ kind → ChangesByPage kind opened.page (desk_planned view (next_save_of stop)) mid →
-        DeskGoes ranges capacities grids h (Scan d number flips stop) (Scanned a) d capacity (desks.Running (desk_planned mid next_save.Fine))
+    by_kind : (kind : Kind) → a.kind ≡ kind →
+        ChangesByPage kind opened.page (desk_planned view (next_save_of stop)) mid →
+        DeskGoes ranges capacities grids h (Scan d number flips stop) (Scanned a) d capacity
+        (desks.Running (desk_planned mid next_save.Fine))
     by_kind Again is changes =
-        again_goes ranges capacities grids h d number capacity flips stop view mid label opened a s called opens runs acts.0 is acts.1 changes
+        again_goes ranges capacities grids h d number capacity flips stop view mid label opened a s called opens runs
+        acts.0 is acts.1 changes
     by_kind New is changes =
-        took_goes ranges capacities grids h d number capacity flips stop view mid label opened a s called opens order acts.0 (λ x. cc (x, is))
+        took_goes ranges capacities grids h d number capacity flips stop view mid label opened a s called opens order
+        acts.0 (λ x. cc (x, is))
         (inl (acts.1 ∙ ap Ok is)) acts.1 changes
     by_kind Complete is changes =
-        took_goes ranges capacities grids h d number capacity flips stop view mid label opened a s called opens order acts.0 (λ x. cc (x, is))
+        took_goes ranges capacities grids h d number capacity flips stop view mid label opened a s called opens order
+        acts.0 (λ x. cc (x, is))
         (inr (acts.1 ∙ ap Ok is)) acts.1 changes
-page_goes ranges capacities grids h d number capacity flips stop view mid label opened (Err scan_fault.Conflict) s called opens order runs acts =
-    refused_goes ranges capacities grids h d number capacity flips stop view mid label scan_fault.Conflict s called acts.1 (λ b. refl) tt
+page_goes ranges capacities grids h d number capacity flips stop view mid label opened
+    (Err scan_fault.Conflict) s called opens order runs acts =
+    refused_goes ranges capacities grids h d number capacity flips stop view mid label scan_fault.Conflict s called
+    acts.1 (λ b. refl) tt
     (λ honest.
-    let is = honest_page grids h d number flips stop (ScanRefused scan_fault.Conflict) label opened (λ x. cc) s.left s.shows opens honest in
+    let is = honest_page grids h d number flips stop (ScanRefused scan_fault.Conflict) label opened
+    (λ x. cc) s.left s.shows opens honest in
     no_conflict h d view.held opened.page s.shows.document (s.runs.gathered honest.1) is.printed is.n_is is.part
     (disagrees view.capacity view.held opened.page acts.0))
-page_goes {A} ranges capacities grids h d number capacity flips stop view mid label opened (Err scan_fault.Full) s called opens order runs acts =
+page_goes {A} ranges capacities grids h d number capacity flips stop view mid label opened
+    (Err scan_fault.Full) s called opens order runs acts =
     let full = is_full view.capacity view.held opened.page acts.0 in
-    refused_goes ranges capacities grids h d number capacity flips stop view mid label scan_fault.Full s called acts.1 (λ b. refl) tt
+    refused_goes ranges capacities grids h d number capacity flips stop view mid label scan_fault.Full s called acts.1
+    (λ b. refl) tt
     (λ honest.
-    let is = honest_page grids h d number flips stop (ScanRefused scan_fault.Full) label opened (λ x. cc) s.left s.shows opens honest in (
+    let is = honest_page grids h d number flips stop (ScanRefused scan_fault.Full) label opened
+    (λ x. cc) s.left s.shows opens honest in (
       framed grids number flips label.grid s.left opens.opens.read.frame,
       record {
         name = page_name opened.page;
@@ -406,34 +486,48 @@ page_goes {A} ranges capacities grids h d number capacity flips stop view mid la
             (other_held h d opened.page.id view order (s.runs.gathered honest.1) full.0 full.1));
       },
     ))
-page_goes ranges capacities grids h d number capacity flips stop view mid label opened (Err scan_fault.Memory) s called opens order runs acts =
-    refused_goes ranges capacities grids h d number capacity flips stop view mid label scan_fault.Memory s called acts.1 (λ b. refl) tt
+page_goes ranges capacities grids h d number capacity flips stop view mid label opened
+    (Err scan_fault.Memory) s called opens order runs acts =
+    refused_goes ranges capacities grids h d number capacity flips stop view mid label scan_fault.Memory s called acts.1
+    (λ b. refl) tt
     (λ honest. framed grids number flips label.grid s.left opens.opens.read.frame)
-page_goes {A} ranges capacities grids h d number capacity flips stop view mid label opened (Err scan_fault.Save) s called opens order runs acts =
+page_goes {A} ranges capacities grids h d number capacity flips stop view mid label opened
+    (Err scan_fault.Save) s called opens order runs acts =
     let k : (k : Kept) × (stop ≡ SaveFault k) = faulted_with stop view mid _ called acts.1.replaced in
-    subst (λ (t : Stop). DeskGoes ranges capacities grids h (Scan d number flips t) (ScanRefused scan_fault.Save) d capacity
+    subst (λ (t : Stop). DeskGoes ranges capacities grids h (Scan d number flips t)
+    (ScanRefused scan_fault.Save) d capacity
     (desks.Running (desk_planned mid next_save.Fine))) (sym k.1)
     (failed_goes ranges capacities grids h d number capacity flips k.0 view mid label opened s opens order acts.0
     (subst (λ (t : Stop). FailsToKeepPage opened.page (desk_planned view (next_save_of t)) mid) k.1 acts.1))
-page_goes ranges capacities grids h d number capacity flips stop view mid label opened (Err scan_fault.Failed) s called opens order runs acts = absurd acts
-page_goes ranges capacities grids h d number capacity flips stop view mid label opened (Err (scan_fault.Label fault)) s called opens order runs acts =
+page_goes ranges capacities grids h d number capacity flips stop view mid label opened
+    (Err scan_fault.Failed) s called opens order runs acts = absurd acts
+page_goes ranges capacities grids h d number capacity flips stop view mid label opened
+    (Err (scan_fault.Label fault)) s called opens order runs acts =
     absurd acts
 
 -- a grid that is opened as no label
 unopened_goes : {A : Type 0} (ranges : List Range) (capacities : List ℕ) (grids : List GridView) (h : History A)
-    (d number capacity : ℕ) (flips : List (ℕ × ℕ)) (stop : Stop) (view mid : DeskView) (label : LeftLabel A) (fault : LabelFault)
-    (given : Result Accepted ScanFault) → IsScanned capacities grids h d number capacity flips view label → IsCalled stop →
+    (d number capacity : ℕ) (flips : List (ℕ × ℕ)) (stop : Stop) (view mid : DeskView) (label : LeftLabel A)
+    (fault : LabelFault)
+    (given : Result Accepted ScanFault) → IsScanned capacities grids h d number capacity flips view label →
+    IsCalled stop →
     given ≡ Err (scan_fault.Label fault) → mid ≡ desk_planned view (next_save_of stop) →
-    (IsHonest grids (quiet (Scan d number flips stop) (ScanRefused (scan_fault.Label fault)) ∷ h) → IsBeyond grids number flips fault) →
-    DeskGoes ranges capacities grids h (Scan d number flips stop) (scan_reply given) d capacity (desks.Running (desk_planned mid next_save.Fine))
-unopened_goes {A} ranges capacities grids h d number capacity flips stop view mid label fault given s called is same answers =
-    subst (λ (r : Result Accepted ScanFault). DeskGoes ranges capacities grids h (Scan d number flips stop) (scan_reply r) d capacity
+    (IsHonest grids (quiet (Scan d number flips stop) (ScanRefused (scan_fault.Label fault)) ∷ h) →
+    IsBeyond grids number flips fault) →
+    DeskGoes ranges capacities grids h (Scan d number flips stop) (scan_reply given) d capacity
+    (desks.Running (desk_planned mid next_save.Fine))
+unopened_goes {A} ranges capacities grids h d number capacity flips stop view mid label fault given s called is same
+    answers =
+    subst (λ (r : Result Accepted ScanFault). DeskGoes ranges capacities grids h (Scan d number flips stop)
+    (scan_reply r) d capacity
     (desks.Running (desk_planned mid next_save.Fine))) (sym is)
-    (refused_goes ranges capacities grids h d number capacity flips stop view mid label (scan_fault.Label fault) s called same (λ b. refl) tt answers)
+    (refused_goes ranges capacities grids h d number capacity flips stop view mid label
+    (scan_fault.Label fault) s called same (λ b. refl) tt answers)
 
 -- no honest scan is refused so
 never_so : {A : Type 0} (grids : List GridView) (h : History A) (d number : ℕ) (flips : List (ℕ × ℕ)) (stop : Stop)
-    (label : LeftLabel A) (fault : LabelFault) (opened : Result (Opened A) LabelFault) → opened ≡ Err fault → slice_get grids number ≡ Some label.grid →
+    (label : LeftLabel A) (fault : LabelFault) (opened : Result (Opened A) LabelFault) → opened ≡ Err fault →
+    slice_get grids number ≡ Some label.grid →
     (s : ShowsDocument h label) → LabelOpens (flipped label.grid flips) opened →
     IsHonest grids (quiet (Scan d number flips stop) (ScanRefused (scan_fault.Label fault)) ∷ h) →
     OpensNear (record { id = label.id; m = label.number; n = label.count; bytes = s.bytes }) opened
@@ -445,77 +539,123 @@ never_so grids h d number flips stop label fault opened is left s opens honest =
 opened_goes : {A : Type 0} (ranges : List Range) (capacities : List ℕ) (grids : List GridView) (h : History A)
     (d number capacity : ℕ) (flips : List (ℕ × ℕ)) (stop : Stop) (view mid : DeskView) (label : LeftLabel A)
     (opened : Result (Opened A) LabelFault) (given : Result Accepted ScanFault) →
-    IsScanned capacities grids h d number capacity flips view label → IsCalled stop → LabelOpens (flipped label.grid flips) opened →
+    IsScanned capacities grids h d number capacity flips view label → IsCalled stop →
+    LabelOpens (flipped label.grid flips) opened →
     IsInOrder view → view.is_failed ≡ false → Scans opened (desk_planned view (next_save_of stop)) given mid →
-    DeskGoes ranges capacities grids h (Scan d number flips stop) (scan_reply given) d capacity (desks.Running (desk_planned mid next_save.Fine))
-opened_goes ranges capacities grids h d number capacity flips stop view mid label (Ok opened) given s called opens order runs acts =
-    page_goes ranges capacities grids h d number capacity flips stop view mid label opened given s called opens order runs acts
-opened_goes {A} ranges capacities grids h d number capacity flips stop view mid label (Err labels.Memory) given s called opens order runs acts =
-    subst (λ (r : Result Accepted ScanFault). DeskGoes ranges capacities grids h (Scan d number flips stop) (scan_reply r) d capacity
+    DeskGoes ranges capacities grids h (Scan d number flips stop) (scan_reply given) d capacity
+    (desks.Running (desk_planned mid next_save.Fine))
+opened_goes ranges capacities grids h d number capacity flips stop view mid label
+    (Ok opened) given s called opens order runs acts =
+    page_goes ranges capacities grids h d number capacity flips stop view mid label opened given s called opens order
+    runs acts
+opened_goes {A} ranges capacities grids h d number capacity flips stop view mid label
+    (Err labels.Memory) given s called opens order runs acts =
+    subst (λ (r : Result Accepted ScanFault). DeskGoes ranges capacities grids h (Scan d number flips stop)
+    (scan_reply r) d capacity
     (desks.Running (desk_planned mid next_save.Fine))) (sym acts.0)
-    (refused_goes ranges capacities grids h d number capacity flips stop view mid label scan_fault.Memory s called acts.1 (λ b. refl) tt
+    (refused_goes ranges capacities grids h d number capacity flips stop view mid label scan_fault.Memory s called
+    acts.1 (λ b. refl) tt
     (λ honest. framed grids number flips label.grid s.left opens.opens))
-opened_goes ranges capacities grids h d number capacity flips stop view mid label (Err (labels.Border wrong)) given s called opens order runs acts =
-    unopened_goes ranges capacities grids h d number capacity flips stop view mid label (labels.Border wrong) given s called acts.0 acts.1
+opened_goes ranges capacities grids h d number capacity flips stop view mid label
+    (Err (labels.Border wrong)) given s called opens order runs acts =
+    unopened_goes ranges capacities grids h d number capacity flips stop view mid label
+    (labels.Border wrong) given s called acts.0 acts.1
     (λ honest. record { grid = label.grid; has_left = s.left; frame = opens.opens })
-opened_goes ranges capacities grids h d number capacity flips stop view mid label (Err (labels.Block block)) given s called opens order runs acts =
-    unopened_goes ranges capacities grids h d number capacity flips stop view mid label (labels.Block block) given s called acts.0 acts.1
-    (λ honest. absurd (never_so grids h d number flips stop label (labels.Block block) (Err (labels.Block block)) refl s.left s.shows opens honest))
-opened_goes ranges capacities grids h d number capacity flips stop view mid label (Err labels.NotAppended) given s called opens order runs acts =
-    unopened_goes ranges capacities grids h d number capacity flips stop view mid label labels.NotAppended given s called acts.0 acts.1
-    (λ honest. absurd (never_so grids h d number flips stop label labels.NotAppended (Err labels.NotAppended) refl s.left s.shows opens honest))
-opened_goes ranges capacities grids h d number capacity flips stop view mid label (Err (labels.Sequence word)) given s called opens order runs acts =
-    unopened_goes ranges capacities grids h d number capacity flips stop view mid label (labels.Sequence word) given s called acts.0 acts.1
-    (λ honest. absurd (never_so grids h d number flips stop label (labels.Sequence word) (Err (labels.Sequence word)) refl s.left s.shows opens honest))
-opened_goes ranges capacities grids h d number capacity flips stop view mid label (Err labels.FileId) given s called opens order runs acts =
-    unopened_goes ranges capacities grids h d number capacity flips stop view mid label labels.FileId given s called acts.0 acts.1
-    (λ honest. absurd (never_so grids h d number flips stop label labels.FileId (Err labels.FileId) refl s.left s.shows opens honest))
-opened_goes ranges capacities grids h d number capacity flips stop view mid label (Err (labels.Content fault)) given s called opens order runs acts =
-    unopened_goes ranges capacities grids h d number capacity flips stop view mid label (labels.Content fault) given s called acts.0 acts.1
-    (λ honest. absurd (never_so grids h d number flips stop label (labels.Content fault) (Err (labels.Content fault)) refl s.left s.shows opens honest))
+opened_goes ranges capacities grids h d number capacity flips stop view mid label
+    (Err (labels.Block block)) given s called opens order runs acts =
+    unopened_goes ranges capacities grids h d number capacity flips stop view mid label
+    (labels.Block block) given s called acts.0 acts.1
+    (λ honest. absurd (never_so grids h d number flips stop label (labels.Block block)
+    (Err (labels.Block block)) refl s.left s.shows opens honest))
+opened_goes ranges capacities grids h d number capacity flips stop view mid label
+    (Err labels.NotAppended) given s called opens order runs acts =
+    unopened_goes ranges capacities grids h d number capacity flips stop view mid label labels.NotAppended given s
+    called acts.0 acts.1
+    (λ honest. absurd (never_so grids h d number flips stop label labels.NotAppended
+    (Err labels.NotAppended) refl s.left s.shows opens honest))
+opened_goes ranges capacities grids h d number capacity flips stop view mid label
+    (Err (labels.Sequence word)) given s called opens order runs acts =
+    unopened_goes ranges capacities grids h d number capacity flips stop view mid label
+    (labels.Sequence word) given s called acts.0 acts.1
+    (λ honest. absurd (never_so grids h d number flips stop label (labels.Sequence word)
+    (Err (labels.Sequence word)) refl s.left s.shows opens honest))
+opened_goes ranges capacities grids h d number capacity flips stop view mid label
+    (Err labels.FileId) given s called opens order runs acts =
+    unopened_goes ranges capacities grids h d number capacity flips stop view mid label labels.FileId given s called
+    acts.0 acts.1
+    (λ honest. absurd (never_so grids h d number flips stop label labels.FileId
+    (Err labels.FileId) refl s.left s.shows opens honest))
+opened_goes ranges capacities grids h d number capacity flips stop view mid label
+    (Err (labels.Content fault)) given s called opens order runs acts =
+    unopened_goes ranges capacities grids h d number capacity flips stop view mid label
+    (labels.Content fault) given s called acts.0 acts.1
+    (λ honest. absurd (never_so grids h d number flips stop label (labels.Content fault)
+    (Err (labels.Content fault)) refl s.left s.shows opens honest))
 
 -- a scan that is made
 called_goes : {A : Type 0} (ranges : List Range) (capacities : List ℕ) (grids : List GridView) (h : History A)
-    (d number capacity : ℕ) (flips : List (ℕ × ℕ)) (stop : Stop) (view mid : DeskView) (label : LeftLabel A) (given : Result Accepted ScanFault) →
+    (d number capacity : ℕ) (flips : List (ℕ × ℕ)) (stop : Stop) (view mid : DeskView) (label : LeftLabel A)
+    (given : Result Accepted ScanFault) →
     IsScanned capacities grids h d number capacity flips view label → IsCalled stop →
     Accepts A (flipped label.grid flips) (desk_planned view (next_save_of stop)) given mid →
-    DeskGoes ranges capacities grids h (Scan d number flips stop) (scan_reply given) d capacity (desks.Running (desk_planned mid next_save.Fine))
-called_goes {A} ranges capacities grids h d number capacity flips stop view mid label given s called accepts = by_failed view.is_failed refl
+    DeskGoes ranges capacities grids h (Scan d number flips stop) (scan_reply given) d capacity
+    (desks.Running (desk_planned mid next_save.Fine))
+called_goes {A} ranges capacities grids h d number capacity flips stop view mid label given s called accepts =
+    by_failed view.is_failed refl
   where
     order : IsInOrder view
-    order = record { room = accepts.before.room; few = accepts.before.few; entries = accepts.before.entries; saved = accepts.before.saved }
+    order = record {
+      room = accepts.before.room;
+      few = accepts.before.few;
+      entries = accepts.before.entries;
+      saved = accepts.before.saved;
+    }
 
     by_failed : (b : Bool) → view.is_failed ≡ b →
-        DeskGoes ranges capacities grids h (Scan d number flips stop) (scan_reply given) d capacity (desks.Running (desk_planned mid next_save.Fine))
+        DeskGoes ranges capacities grids h (Scan d number flips stop) (scan_reply given) d capacity
+        (desks.Running (desk_planned mid next_save.Fine))
     by_failed true was =
         (let f = accepts.failed was in
-        subst (λ (r : Result Accepted ScanFault). DeskGoes ranges capacities grids h (Scan d number flips stop) (scan_reply r) d capacity
+        subst (λ (r : Result Accepted ScanFault). DeskGoes ranges capacities grids h (Scan d number flips stop)
+        (scan_reply r) d capacity
         (desks.Running (desk_planned mid next_save.Fine))) (sym f.0)
-        (refused_goes ranges capacities grids h d number capacity flips stop view mid label scan_fault.Failed s called f.1 (λ b. refl)
+        (refused_goes ranges capacities grids h d number capacity flips stop view mid label scan_fault.Failed s called
+        f.1 (λ b. refl)
         (sym s.runs.failed ∙ was) (λ honest. tt)))
     by_failed false was =
         (let x = accepts.scanned was in
-        opened_goes ranges capacities grids h d number capacity flips stop view mid label x.opened given s called x.label order was x.scans)
+        opened_goes ranges capacities grids h d number capacity flips stop view mid label x.opened given s called
+        x.label order was x.scans)
 
 -- ---- a call that is stopped
 
 -- what the set of a desk stands for after a scan that was stopped once it had saved, if it came so far
 stored_stopped : {A : Type 0} (capacities : List ℕ) (grids : List GridView) (h : History A)
-    (d number capacity : ℕ) (flips : List (ℕ × ℕ)) (stop : Stop) (view mid : DeskView) (label : LeftLabel A) (given : Result Accepted ScanFault) →
+    (d number capacity : ℕ) (flips : List (ℕ × ℕ)) (stop : Stop) (view mid : DeskView) (label : LeftLabel A)
+    (given : Result Accepted ScanFault) →
     IsScanned capacities grids h d number capacity flips view label →
     (let reply : Reply A = Stopped in may_save (Scan d number flips stop) reply ≡ true) →
     Accepts A (flipped label.grid flips) (desk_planned view next_save.Fine) given mid →
-    (stored : Documents) × SetStands grids (quiet (Scan d number flips stop) Stopped ∷ h) d capacity (desk_planned mid next_save.Fine).saved stored
-stored_stopped {A} capacities grids h d number capacity flips stop view mid label given s may accepts = by_failed view.is_failed refl
+    (stored : Documents) × SetStands grids (quiet (Scan d number flips stop) Stopped ∷ h) d capacity
+    (desk_planned mid next_save.Fine).saved stored
+stored_stopped {A} capacities grids h d number capacity flips stop view mid label given s may accepts =
+    by_failed view.is_failed refl
   where
     Stored : Type 0
-    Stored = (stored : Documents) × SetStands grids (quiet (Scan d number flips stop) Stopped ∷ h) d capacity (desk_planned mid next_save.Fine).saved stored
+    Stored = (stored : Documents) × SetStands grids (quiet (Scan d number flips stop) Stopped ∷ h) d capacity
+        (desk_planned mid next_save.Fine).saved stored
 
     order : IsInOrder view
-    order = record { room = accepts.before.room; few = accepts.before.few; entries = accepts.before.entries; saved = accepts.before.saved }
+    order = record {
+      room = accepts.before.room;
+      few = accepts.before.few;
+      entries = accepts.before.entries;
+      saved = accepts.before.saved;
+    }
 
     same : mid ≡ desk_planned view next_save.Fine →
-        (stored : Documents) × SetStands grids (quiet (Scan d number flips stop) Stopped ∷ h) d capacity (desk_planned mid next_save.Fine).saved stored
+        (stored : Documents) × SetStands grids (quiet (Scan d number flips stop) Stopped ∷ h) d capacity
+        (desk_planned mid next_save.Fine).saved stored
     same is =
         let e : Entry A = quiet (Scan d number flips stop) Stopped in
         let after : desk_planned mid next_save.Fine ≡ view =
@@ -523,33 +663,42 @@ stored_stopped {A} capacities grids h d number capacity flips stop view mid labe
           s.runs.stored,
           subst (λ (v : DeskView). SetStands grids (e ∷ h) d capacity v.saved s.runs.stored) (sym after)
               (set_keeps e h grids grids d capacity view.saved s.runs.stored (λ honest. honest.1)
-              (λ x. none_leaves {A = A} (Scan d number flips stop) Stopped _ x) (λ id m t. absurd t) (λ id x. x) s.runs.store),
+              (λ x. none_leaves {A = A} (Scan d number flips stop) Stopped _ x) (λ id m t. absurd t)
+              (λ id x. x) s.runs.store),
         )
 
     took : (opened : Opened A) (kind : Kind) → LabelOpens (flipped label.grid flips) (Ok opened) → kind ≢ Again →
         NeedsSave (answer view.capacity view.held opened.page) → answer view.capacity view.held opened.page ≡ Ok kind →
         KeepsPage opened.page (desk_planned view next_save.Fine) mid →
-        (stored : Documents) × SetStands grids (quiet (Scan d number flips stop) Stopped ∷ h) d capacity (desk_planned mid next_save.Fine).saved stored
+        (stored : Documents) × SetStands grids (quiet (Scan d number flips stop) Stopped ∷ h) d capacity
+        (desk_planned mid next_save.Fine).saved stored
     took opened kind opens other needs answered keeps =
         let event : Event A = Scan d number flips stop in
         let e : Entry A = quiet event Stopped in (
           with_page view.held opened.page,
-          set_saved grids e h d capacity view mid next_save.Fine _ (with_page view.held opened.page) s.runs.store.ready keeps.replaced keeps.holding
-              (subst (λ (c : ℕ). finite.len (with_page view.held opened.page) ≤ c) s.runs.capacity_is (few_with view.capacity view.held opened.page order.few needs))
-              (gathered_page capacities grids h d number capacity flips stop Stopped view label opened kind s (λ x. cc) opens other answered may
+          set_saved grids e h d capacity view mid next_save.Fine _
+              (with_page view.held opened.page) s.runs.store.ready keeps.replaced keeps.holding
+              (subst (λ (c : ℕ). finite.len (with_page view.held opened.page) ≤ c) s.runs.capacity_is
+              (few_with view.capacity view.held opened.page order.few needs))
+              (gathered_page capacities grids h d number capacity flips stop Stopped view label opened kind s
+              (λ x. cc) opens other answered may
               (λ id m t. absurd t) (λ id x. x)),
         )
 
-    by_kind : (opened : Opened A) (kind : Kind) → LabelOpens (flipped label.grid flips) (Ok opened) → answer view.capacity view.held opened.page ≡ Ok kind →
+    by_kind : (opened : Opened A) (kind : Kind) → LabelOpens (flipped label.grid flips) (Ok opened) →
+        answer view.capacity view.held opened.page ≡ Ok kind →
         ChangesByPage kind opened.page (desk_planned view next_save.Fine) mid →
-        (stored : Documents) × SetStands grids (quiet (Scan d number flips stop) Stopped ∷ h) d capacity (desk_planned mid next_save.Fine).saved stored
+        (stored : Documents) × SetStands grids (quiet (Scan d number flips stop) Stopped ∷ h) d capacity
+        (desk_planned mid next_save.Fine).saved stored
     by_kind opened Again opens answered changes = same changes
     by_kind opened New opens answered changes = took opened New opens (λ x. cc) (inl answered) answered changes
-    by_kind opened Complete opens answered changes = took opened Complete opens (λ x. cc) (inr answered) answered changes
+    by_kind opened Complete opens answered changes =
+        took opened Complete opens (λ x. cc) (inr answered) answered changes
 
     by_page : (opened : Opened A) (r : Result Accepted ScanFault) → LabelOpens (flipped label.grid flips) (Ok opened) →
         AcceptsPage opened.page (desk_planned view next_save.Fine) r mid →
-        (stored : Documents) × SetStands grids (quiet (Scan d number flips stop) Stopped ∷ h) d capacity (desk_planned mid next_save.Fine).saved stored
+        (stored : Documents) × SetStands grids (quiet (Scan d number flips stop) Stopped ∷ h) d capacity
+        (desk_planned mid next_save.Fine).saved stored
     by_page opened (Ok a) opens x = by_kind opened a.kind opens x.1 x.2
     by_page opened (Err scan_fault.Conflict) opens x = same x.1
     by_page opened (Err scan_fault.Full) opens x = same x.1
@@ -560,25 +709,29 @@ stored_stopped {A} capacities grids h d number capacity flips stop view mid labe
 
     by_opened : (opened : Result (Opened A) LabelFault) → LabelOpens (flipped label.grid flips) opened →
         Scans opened (desk_planned view next_save.Fine) given mid →
-        (stored : Documents) × SetStands grids (quiet (Scan d number flips stop) Stopped ∷ h) d capacity (desk_planned mid next_save.Fine).saved stored
+        (stored : Documents) × SetStands grids (quiet (Scan d number flips stop) Stopped ∷ h) d capacity
+        (desk_planned mid next_save.Fine).saved stored
     by_opened (Ok opened) opens x = by_page opened given opens x
     by_opened (Err fault) opens x = same x.1
 
     by_failed : (b : Bool) → view.is_failed ≡ b →
-        (stored : Documents) × SetStands grids (quiet (Scan d number flips stop) Stopped ∷ h) d capacity (desk_planned mid next_save.Fine).saved stored
+        (stored : Documents) × SetStands grids (quiet (Scan d number flips stop) Stopped ∷ h) d capacity
+        (desk_planned mid next_save.Fine).saved stored
     by_failed true was = same (accepts.failed was).1
     by_failed false was = (let x = accepts.scanned was in by_opened x.opened x.label x.scans)
 
 -- a scan that is stopped
 stopped_goes : {A : Type 0} (ranges : List Range) (capacities : List ℕ) (grids : List GridView) (h : History A)
-    (d number capacity : ℕ) (flips : List (ℕ × ℕ)) (stop : Stop) (view : DeskView) (label : LeftLabel A) (state : DeskState A) →
+    (d number capacity : ℕ) (flips : List (ℕ × ℕ)) (stop : Stop) (view : DeskView) (label : LeftLabel A)
+    (state : DeskState A) →
     IsScanned capacities grids h d number capacity flips view label →
     StopsDesk stop view (λ mid. (given : Result Accepted ScanFault) × (given ≢ Err scan_fault.Memory)
     × Accepts A (flipped label.grid flips) (desk_planned view next_save.Fine) given mid) state →
     DeskGoes ranges capacities grids h (Scan d number flips stop) Stopped d capacity state
 stopped_goes {A} ranges capacities grids h d number capacity flips stop view label state s acts = by_stop stop acts
   where
-    told : (t : Stop) → IsStopping t → (let reply : Reply A = Stopped in IsTold ranges (length capacities) h (Scan d number flips t) reply d)
+    told : (t : Stop) → IsStopping t →
+        (let reply : Reply A = Stopped in IsTold ranges (length capacities) h (Scan d number flips t) reply d)
     told t stopping = record {
       named = refl;
       there = s.there;
@@ -591,31 +744,40 @@ stopped_goes {A} ranges capacities grids h d number capacity flips stop view lab
       untold = λ x. cc;
     }
 
-    before : (t : Stop) → (let reply : Reply A = Stopped in SetStands grids (quiet (Scan d number flips t) reply ∷ h) d capacity view.saved s.runs.stored)
-    before t = set_keeps (quiet (Scan d number flips t) Stopped) h grids grids d capacity view.saved s.runs.stored (λ honest. honest.1)
+    before : (t : Stop) → (let reply : Reply A = Stopped in
+        SetStands grids (quiet (Scan d number flips t) reply ∷ h) d capacity view.saved s.runs.stored)
+    before t = set_keeps (quiet (Scan d number flips t) Stopped) h grids grids d capacity view.saved s.runs.stored
+        (λ honest. honest.1)
         (λ x. none_leaves {A = A} (Scan d number flips t) Stopped _ x) (λ id m t. absurd t) (λ id x. x) s.runs.store
 
     by_stop : (t : Stop) →
         StopsDesk t view (λ mid. (given : Result Accepted ScanFault) × (given ≢ Err scan_fault.Memory)
         × Accepts A (flipped label.grid flips) (desk_planned view next_save.Fine) given mid) state →
         DeskGoes ranges capacities grids h (Scan d number flips t) Stopped d capacity state
-    by_stop BeforeSave x = desk_stopped ranges capacities grids h (Scan d number flips BeforeSave) d capacity view.saved s.runs.stored state s.room
+    by_stop BeforeSave x = desk_stopped ranges capacities grids h
+        (Scan d number flips BeforeSave) d capacity view.saved s.runs.stored state s.room
         (told BeforeSave tt) (before BeforeSave) tt tt x
-    by_stop (InSave kept.Old) x = desk_stopped ranges capacities grids h (Scan d number flips (InSave kept.Old)) d capacity view.saved s.runs.stored state s.room
+    by_stop (InSave kept.Old) x = desk_stopped ranges capacities grids h
+        (Scan d number flips (InSave kept.Old)) d capacity view.saved s.runs.stored state s.room
         (told (InSave kept.Old) tt) (before (InSave kept.Old)) tt tt x
     by_stop (InSave kept.New) x =
-        (let stored = stored_stopped capacities grids h d number capacity flips (InSave kept.New) view x.0 label x.1.0 s refl x.1.2 in
-        desk_stopped ranges capacities grids h (Scan d number flips (InSave kept.New)) d capacity (desk_planned x.0 next_save.Fine).saved stored.0 state s.room
+        (let stored = stored_stopped capacities grids h d number capacity flips
+        (InSave kept.New) view x.0 label x.1.0 s refl x.1.2 in
+        desk_stopped ranges capacities grids h (Scan d number flips (InSave kept.New)) d capacity
+        (desk_planned x.0 next_save.Fine).saved stored.0 state s.room
         (told (InSave kept.New) tt) stored.1 tt tt x.2)
     by_stop (AfterLabels most) x =
-        (let stored = stored_stopped capacities grids h d number capacity flips (AfterLabels most) view x.0 label x.1.0 s refl x.1.2 in
-        desk_stopped ranges capacities grids h (Scan d number flips (AfterLabels most)) d capacity (desk_planned x.0 next_save.Fine).saved stored.0 state s.room
+        (let stored = stored_stopped capacities grids h d number capacity flips
+        (AfterLabels most) view x.0 label x.1.0 s refl x.1.2 in
+        desk_stopped ranges capacities grids h (Scan d number flips (AfterLabels most)) d capacity
+        (desk_planned x.0 next_save.Fine).saved stored.0 state s.room
         (told (AfterLabels most) tt) stored.1 tt tt x.2)
     by_stop stops.None x = absurd x
     by_stop (SaveFault k) x = absurd x
 
 -- a scan whose memory was refused
-none_scanned : {A : Type 0} (grid : GridView) (old new : DeskView) → Accepts A grid old (Err scan_fault.Memory) new → new ≡ old
+none_scanned : {A : Type 0} (grid : GridView) (old new : DeskView) → Accepts A grid old (Err scan_fault.Memory) new →
+    new ≡ old
 none_scanned {A} grid old new accepts = by_failed old.is_failed refl
   where
     by_opened : (opened : Result (Opened A) LabelFault) → Scans opened old (Err scan_fault.Memory) new → new ≡ old
@@ -629,20 +791,30 @@ none_scanned {A} grid old new accepts = by_failed old.is_failed refl
 -- ---- any scan of a label that left, at a running desk
 
 pub scan_goes : {A : Type 0} (ranges : List Range) (capacities : List ℕ) (grids : List GridView) (h : History A)
-    (d number capacity : ℕ) (flips : List (ℕ × ℕ)) (stop : Stop) (view : DeskView) (label : LeftLabel A) (reply : Reply A) (state : DeskState A) →
+    (d number capacity : ℕ) (flips : List (ℕ × ℕ)) (stop : Stop) (view : DeskView) (label : LeftLabel A)
+    (reply : Reply A) (state : DeskState A) →
     IsScanned capacities grids h d number capacity flips view label →
-    ScanActs view (flipped label.grid flips) stop reply state → DeskGoes ranges capacities grids h (Scan d number flips stop) reply d capacity state
+    ScanActs view (flipped label.grid flips) stop reply state →
+    DeskGoes ranges capacities grids h (Scan d number flips stop) reply d capacity state
 scan_goes {A} ranges capacities grids h d number capacity flips stop view label reply state s (inl none) =
-    memory_goes ranges capacities grids h (Scan d number flips stop) d capacity view reply state s.room s.runs refl s.there (refl, tt)
+    memory_goes ranges capacities grids h (Scan d number flips stop) d capacity view reply state s.room s.runs refl
+    s.there (refl, tt)
     (λ id m t. t) (λ id x. x) tt tt none.0 none.1
 scan_goes {A} ranges capacities grids h d number capacity flips stop view label reply state s (inr (inl made)) =
-    subst (λ (r : Reply A). DeskGoes ranges capacities grids h (Scan d number flips stop) r d capacity state) (sym made.reply_is)
-    (subst (λ (x : DeskState A). DeskGoes ranges capacities grids h (Scan d number flips stop) (scan_reply made.answer) d capacity x) (sym made.state_is)
-    (called_goes ranges capacities grids h d number capacity flips stop view made.mid label made.answer s made.called made.makes))
-scan_goes {A} ranges capacities grids h d number capacity flips stop view label reply state s (inr (inr (inl stopped))) =
-    subst (λ (r : Reply A). DeskGoes ranges capacities grids h (Scan d number flips stop) r d capacity state) (sym stopped.0)
+    subst (λ (r : Reply A). DeskGoes ranges capacities grids h (Scan d number flips stop) r d capacity state)
+    (sym made.reply_is)
+    (subst (λ (x : DeskState A). DeskGoes ranges capacities grids h (Scan d number flips stop)
+    (scan_reply made.answer) d capacity x) (sym made.state_is)
+    (called_goes ranges capacities grids h d number capacity flips stop view made.mid label made.answer s made.called
+    made.makes))
+scan_goes {A} ranges capacities grids h d number capacity flips stop view label reply state s
+    (inr (inr (inl stopped))) =
+    subst (λ (r : Reply A). DeskGoes ranges capacities grids h (Scan d number flips stop) r d capacity state)
+    (sym stopped.0)
     (stopped_goes ranges capacities grids h d number capacity flips stop view label state s stopped.1)
 scan_goes ranges capacities grids h d number capacity flips stop view label reply state s (inr (inr (inr lacks))) =
-    memory_goes ranges capacities grids h (Scan d number flips stop) d capacity view reply state s.room s.runs refl s.there (refl, tt)
+    memory_goes ranges capacities grids h (Scan d number flips stop) d capacity view reply state s.room s.runs refl
+    s.there (refl, tt)
     (λ id m t. t) (λ id x. x) tt tt lacks.0
-    (lacks_same stop _ view state s.runs.store.ready (none_scanned (flipped label.grid flips) (desk_planned view next_save.Fine)) lacks.1)
+    (lacks_same stop _ view state s.runs.store.ready
+    (none_scanned (flipped label.grid flips) (desk_planned view next_save.Fine)) lacks.1)

@@ -38,7 +38,8 @@ not_printer : (d p : ℕ) → DeskAt d ≡ PrinterAt p → ⊥
 not_printer d p x = cc
 
 -- the reply of a printer is safe, and one of an honest history
-printer_safe : {A : Type 0} (h : History A) (event : Event A) (reply : Reply A) (p : ℕ) → actor_of event ≡ PrinterAt p → IsReplySafe h event reply
+printer_safe : {A : Type 0} (h : History A) (event : Event A) (reply : Reply A) (p : ℕ) → actor_of event ≡ PrinterAt p →
+    IsReplySafe h event reply
 printer_safe h (Print q document size scheme stop) reply p named = tt
 printer_safe h (Scan d l flips stop) reply p named = absurd (not_printer d p named)
 printer_safe h (RestartPrinter q) reply p named = tt
@@ -50,7 +51,8 @@ printer_safe h (Take q ticket stop) reply p named = tt
 printer_safe h (Export d id) reply p named = absurd (not_printer d p named)
 printer_safe h (Import d export stop) reply p named = absurd (not_printer d p named)
 
-printer_answers : {A : Type 0} (grids : List GridView) (capacities : List ℕ) (h : History A) (event : Event A) (reply : Reply A) (p : ℕ) →
+printer_answers : {A : Type 0} (grids : List GridView) (capacities : List ℕ) (h : History A) (event : Event A)
+    (reply : Reply A) (p : ℕ) →
     actor_of event ≡ PrinterAt p → IsHonestReply grids capacities h event reply
 printer_answers grids capacities h (Print q document size scheme stop) reply p named = tt
 printer_answers grids capacities h (Scan d l flips stop) reply p named = absurd (not_printer d p named)
@@ -64,13 +66,15 @@ printer_answers grids capacities h (Export d id) reply p named = tt
 printer_answers grids capacities h (Import d export stop) reply p named = absurd (not_printer d p named)
 
 -- a desk gives no ticket, and a printer no export
-desk_gives_none : {A : Type 0} (ranges : List Range) (h : History A) (event : Event A) (reply : Reply A) (d : ℕ) → actor_of event ≡ DeskAt d →
+desk_gives_none : {A : Type 0} (ranges : List Range) (h : History A) (event : Event A) (reply : Reply A) (d : ℕ) →
+    actor_of event ≡ DeskAt d →
     IsReply ranges h 0 0 event reply → given reply ≡ []
 desk_gives_none ranges h (Give p receiver range stop) reply d named is = cc
 desk_gives_none ranges h event (Given index ticket) d named is = absurd is
 desk_gives_none ranges h event reply d named is = refl
 
-printer_exports_none : {A : Type 0} (ranges : List Range) (h : History A) (id left : ℕ) (event : Event A) (reply : Reply A) (p : ℕ) →
+printer_exports_none : {A : Type 0} (ranges : List Range) (h : History A) (id left : ℕ) (event : Event A)
+    (reply : Reply A) (p : ℕ) →
     actor_of event ≡ PrinterAt p → IsReply ranges h id left event reply → exported reply ≡ []
 printer_exports_none ranges h id left (Export d i) reply p named is = cc
 printer_exports_none ranges h id left event (Exported index told n mask) p named is = absurd is
@@ -79,21 +83,29 @@ printer_exports_none ranges h id left event reply p named is = refl
 -- ---- what is named
 
 -- the name of a label, and of an export, that is there
-pub named_at : {A : Type 0} (ranges : List Range) (capacities : List ℕ) (world : WorldView A) (h : History A) (i : ℕ) (label : LeftLabel A) →
-    StandsFor ranges capacities world h → slice_get world.labels i ≡ Some label → slice_get (out h) i ≡ Some (name_of label)
+pub named_at : {A : Type 0} (ranges : List Range) (capacities : List ℕ) (world : WorldView A) (h : History A) (i : ℕ)
+    (label : LeftLabel A) →
+    StandsFor ranges capacities world h → slice_get world.labels i ≡ Some label →
+    slice_get (out h) i ≡ Some (name_of label)
 named_at ranges capacities world h i label s at =
-    subst (λ (l : List LabelName). slice_get l i ≡ Some (name_of label)) s.left.names (get_map name_of world.labels i label at)
+    subst (λ (l : List LabelName). slice_get l i ≡ Some (name_of label)) s.left.names
+    (get_map name_of world.labels i label at)
 
-pub export_named_at : {A : Type 0} (ranges : List Range) (capacities : List ℕ) (world : WorldView A) (h : History A) (i : ℕ) (export : LeftExport A) →
-    StandsFor ranges capacities world h → slice_get world.exports i ≡ Some export → slice_get (exports h) i ≡ Some (export_name_of export)
+pub export_named_at : {A : Type 0} (ranges : List Range) (capacities : List ℕ) (world : WorldView A) (h : History A)
+    (i : ℕ) (export : LeftExport A) →
+    StandsFor ranges capacities world h → slice_get world.exports i ≡ Some export →
+    slice_get (exports h) i ≡ Some (export_name_of export)
 export_named_at ranges capacities world h i export s at =
-    subst (λ (l : List ExportName). slice_get l i ≡ Some (export_name_of export)) s.export_names (get_map export_name_of world.exports i export at)
+    subst (λ (l : List ExportName). slice_get l i ≡ Some (export_name_of export)) s.export_names
+    (get_map export_name_of world.exports i export at)
 
-exports_count : {A : Type 0} (ranges : List Range) (capacities : List ℕ) (world : WorldView A) (h : History A) → StandsFor ranges capacities world h →
+exports_count : {A : Type 0} (ranges : List Range) (capacities : List ℕ) (world : WorldView A) (h : History A) →
+    StandsFor ranges capacities world h →
     length world.exports ≡ length (exports h)
 exports_count ranges capacities world h s = sym (length-map world.exports export_name_of) ∙ ap length s.export_names
 
-pub there_of : {A : Type 0} (ranges : List Range) (capacities : List ℕ) (world : WorldView A) (h : History A) (event : Event A) →
+pub there_of : {A : Type 0} (ranges : List Range) (capacities : List ℕ) (world : WorldView A) (h : History A)
+    (event : Event A) →
     StandsFor ranges capacities world h → IsNamed world event → IsThere (length ranges) (length capacities) h event
 there_of ranges capacities world h (Print p document size scheme stop) s is = (let c = s.count in omega arith)
 there_of ranges capacities world h (Scan d number flips stop) s is =
@@ -104,7 +116,8 @@ there_of ranges capacities world h (Scan d number flips stop) s is =
         has_left = named_at ranges capacities world h number is.1 s is.2;
         document = shows.document;
         printed = shows.printed;
-        within = subst (λ (size : Size). All (λ flip. (flip.0 < side size) × (flip.1 < side size)) flips) shows.size_is is.3;
+        within = subst (λ (size : Size). All (λ flip. (flip.0 < side size) × (flip.1 < side size)) flips)
+            shows.size_is is.3;
       },
     )
 there_of ranges capacities world h (RestartPrinter p) s is = (let c = s.count in omega arith)
@@ -112,19 +125,25 @@ there_of ranges capacities world h (RestartDesk d) s is = (let c = s.desk_count 
 there_of ranges capacities world h (Ask d id) s is = (let c = s.desk_count in omega arith)
 there_of ranges capacities world h (Forget d id stop) s is = (let c = s.desk_count in omega arith)
 there_of ranges capacities world h (Give p receiver range stop) s is = (let c = s.count in omega arith)
-there_of ranges capacities world h (Take p ticket stop) s is =
-    ((let c = s.count in let x = is.0 in omega arith), subst (λ (l : List TicketView). ticket < length l) s.left.tickets_are is.1)
+there_of ranges capacities world h (Take p ticket stop) s is = (
+  (let c = s.count in let x = is.0 in omega arith),
+  subst (λ (l : List TicketView). ticket < length l) s.left.tickets_are is.1,
+)
 there_of ranges capacities world h (Export d id) s is = (let c = s.desk_count in omega arith)
-there_of ranges capacities world h (Import d export stop) s is =
-    ((let c = s.desk_count in let x = is.0 in omega arith), subst (λ (n : ℕ). export < n) (exports_count ranges capacities world h s) is.1)
+there_of ranges capacities world h (Import d export stop) s is = (
+  (let c = s.desk_count in let x = is.0 in omega arith),
+  subst (λ (n : ℕ). export < n) (exports_count ranges capacities world h s) is.1,
+)
 
-pub named_of : {A : Type 0} (ranges : List Range) (capacities : List ℕ) (world : WorldView A) (h : History A) (event : Event A) →
+pub named_of : {A : Type 0} (ranges : List Range) (capacities : List ℕ) (world : WorldView A) (h : History A)
+    (event : Event A) →
     StandsFor ranges capacities world h → IsThere (length ranges) (length capacities) h event → IsNamed world event
 named_of ranges capacities world h (Print p document size scheme stop) s is = (let c = s.count in omega arith)
 named_of {A} ranges capacities world h (Scan d number flips stop) s is =
     let at : slice_get (map name_of world.labels) number ≡ Some is.1.name =
     subst (λ (l : List LabelName). slice_get l number ≡ Some is.1.name) (sym s.left.names) is.1.has_left in
-    let label : (l : LeftLabel A) × (slice_get world.labels number ≡ Some l) × (name_of l ≡ is.1.name) = get_map_from name_of world.labels number is.1.name at in
+    let label : (l : LeftLabel A) × (slice_get world.labels number ≡ Some l) × (name_of l ≡ is.1.name) =
+    get_map_from name_of world.labels number is.1.name at in
     let shows : ShowsDocument h label.0 = s.labels number label.0 label.1 in
     let id : label.0.id ≡ is.1.name.id = ap (λ (n : LabelName). n.id) label.2 in
     let printed : docs h label.0.id ≡ Some is.1.document = ap (docs h) id ∙ is.1.printed in
@@ -141,15 +160,21 @@ named_of ranges capacities world h (RestartDesk d) s is = (let c = s.desk_count 
 named_of ranges capacities world h (Ask d id) s is = (let c = s.desk_count in omega arith)
 named_of ranges capacities world h (Forget d id stop) s is = (let c = s.desk_count in omega arith)
 named_of ranges capacities world h (Give p receiver range stop) s is = (let c = s.count in omega arith)
-named_of ranges capacities world h (Take p ticket stop) s is =
-    ((let c = s.count in let x = is.0 in omega arith), subst (λ (l : List TicketView). ticket < length l) (sym s.left.tickets_are) is.1)
+named_of ranges capacities world h (Take p ticket stop) s is = (
+  (let c = s.count in let x = is.0 in omega arith),
+  subst (λ (l : List TicketView). ticket < length l)
+      (sym s.left.tickets_are) is.1,
+)
 named_of ranges capacities world h (Export d id) s is = (let c = s.desk_count in omega arith)
-named_of ranges capacities world h (Import d export stop) s is =
-    ((let c = s.desk_count in let x = is.0 in omega arith), subst (λ (n : ℕ). export < n) (sym (exports_count ranges capacities world h s)) is.1)
+named_of ranges capacities world h (Import d export stop) s is = (
+  (let c = s.desk_count in let x = is.0 in omega arith),
+  subst (λ (n : ℕ). export < n) (sym (exports_count ranges capacities world h s)) is.1,
+)
 
 -- ---- a printer's step
 
-pub printer_steps : {A : Type 0} (ranges : List Range) (capacities : List ℕ) (world new : WorldView A) (h : History A) (event : Event A) (reply : Reply A)
+pub printer_steps : {A : Type 0} (ranges : List Range) (capacities : List ℕ) (world new : WorldView A) (h : History A)
+    (event : Event A) (reply : Reply A)
     (p : ℕ) (actor after : PrinterActor A) →
     StandsFor ranges capacities world h → actor_of event ≡ PrinterAt p → slice_get world.printers p ≡ Some actor →
     new.printers ≡ slice_set world.printers p after → new.desks ≡ world.desks → new.exports ≡ world.exports →
@@ -170,7 +195,8 @@ printer_steps {A} ranges capacities world new h event reply p actor after s name
       tickets_are = g.tickets_are;
       exports_more = [];
       exports_are = exports_same ∙ sym (append-nil world.exports);
-      export_names = sym (printer_exports_none ranges h g.entry.id g.entry.left g.entry.event g.entry.reply p own g.fits.reply);
+      export_names = sym (printer_exports_none ranges h g.entry.id g.entry.left g.entry.event g.entry.reply p own
+          g.fits.reply);
       exports_show = λ i export here. cc;
       count = ap length set ∙ length-set world.printers p after ∙ s.count;
       printers = λ q b there.
@@ -179,18 +205,23 @@ printer_steps {A} ranges capacities world new h event reply p actor after s name
           elim (same_or_other p q) [
             | inl same ↦ own_one q b same now
             | inr other ↦
-                (let away : actor_of g.entry.event ≢ PrinterAt q = (λ is. other (let x : PrinterAt p ≡ PrinterAt q = sym own ∙ is in cc)) in
-                printer_keeps ranges g.entry h q b (quiet_other g.entry h (PrinterAt q) away) (numbers_other g.entry h q away)
+                (let away : actor_of g.entry.event ≢ PrinterAt q =
+                (λ is. other (let x : PrinterAt p ≡ PrinterAt q = sym own ∙ is in cc)) in
+                printer_keeps ranges g.entry h q b (quiet_other g.entry h (PrinterAt q) away)
+                (numbers_other g.entry h q away)
                 (s.printers q b (sym (get_set_other world.printers p q after other) ∙ now)))
           ];
       desk_count = ap length desks_same ∙ s.desk_count;
       desks = λ d capacity desk here there.
-          let old = s.desks d capacity desk here (subst (λ (l : List (DeskActor A)). slice_get l d ≡ Some desk) desks_same there) in
+          let old = s.desks d capacity desk here
+          (subst (λ (l : List (DeskActor A)). slice_get l d ≡ Some desk) desks_same there) in
           let other : actor_of g.entry.event ≢ DeskAt d = (λ same. not_printer d p (sym same ∙ own)) in (
             old.0,
             desk_keeps g.entry h (grids_of world) (grids_of new) d capacity desk.state
-                (honest_before (grids_of world) (grids_of new) (map grid_of g.more) g.entry h grids) fresh (quiet_other g.entry h (DeskAt d) other)
-                (λ id m took. other (takes_there h g.entry.event g.entry.reply d id m took)) (λ id x. other (forgets_there g.entry.event g.entry.reply d id x))
+                (honest_before (grids_of world) (grids_of new) (map grid_of g.more) g.entry h grids) fresh
+                (quiet_other g.entry h (DeskAt d) other)
+                (λ id m took. other (takes_there h g.entry.event g.entry.reply d id m took))
+                (λ id x. other (forgets_there g.entry.event g.entry.reply d id x))
                 old.1,
           );
     })
@@ -198,7 +229,8 @@ printer_steps {A} ranges capacities world new h event reply p actor after s name
     own_one : (q : ℕ) (b : PrinterActor A) → p ≡ q →
         slice_get (slice_set world.printers p after) q ≡ Some b → PrinterStands ranges (g.entry ∷ h) q b
     own_one q b same now =
-        let is : slice_get (slice_set world.printers p after) p ≡ Some after = get_set_same world.printers p after actor was in
+        let is : slice_get (slice_set world.printers p after) p ≡ Some after =
+        get_set_same world.printers p after actor was in
         let there : slice_get (slice_set world.printers p after) p ≡ Some b =
         subst (λ (i : ℕ). slice_get (slice_set world.printers p after) i ≡ Some b) (sym same) now in
         let b_is : after ≡ b = cc (is, there) in
@@ -207,15 +239,18 @@ printer_steps {A} ranges capacities world new h event reply p actor after s name
 
 -- ---- a desk's step
 
-pub desk_steps : {A : Type 0} (ranges : List Range) (capacities : List ℕ) (world new : WorldView A) (h : History A) (event : Event A) (reply : Reply A)
+pub desk_steps : {A : Type 0} (ranges : List Range) (capacities : List ℕ) (world new : WorldView A) (h : History A)
+    (event : Event A) (reply : Reply A)
     (d capacity : ℕ) (actor : DeskActor A) (after : DeskState A) →
     StandsFor ranges capacities world h → actor_of event ≡ DeskAt d →
     slice_get capacities d ≡ Some capacity → slice_get world.desks d ≡ Some actor →
     new.desks ≡ slice_set world.desks d (record { capacity = actor.capacity; state = after }) →
     new.printers ≡ world.printers → new.labels ≡ world.labels → new.tickets ≡ world.tickets →
-    DeskGoes ranges capacities (grids_of world) h event reply d capacity after → ExportsGo (grids_of world) h event reply world.exports new.exports →
+    DeskGoes ranges capacities (grids_of world) h event reply d capacity after →
+    ExportsGo (grids_of world) h event reply world.exports new.exports →
     StandsFor ranges capacities new (quiet event reply ∷ h)
-desk_steps {A} ranges capacities world new h event reply d capacity actor after s named at was set printers_same labels_same tickets_same g x =
+desk_steps {A} ranges capacities world new h event reply d capacity actor after s named at was set printers_same
+    labels_same tickets_same g x =
     let e : Entry A = quiet event reply in
     let old = s.desks d capacity actor at was in
     let grids : grids_of new ≡ grids_of world = ap (map grid_of) labels_same in
@@ -229,31 +264,38 @@ desk_steps {A} ranges capacities world new h event reply d capacity actor after 
       answers = λ honest. subst (λ (l : List GridView). IsHonestReply l capacities h event reply) (sym grids)
           (g.answers (subst (λ (l : List GridView). IsHonest l (e ∷ h)) grids honest));
       tickets_are = tickets_same ∙ sym (append-nil world.tickets) ∙
-          ap (λ (l : List TicketView). world.tickets ++ l) (sym (desk_gives_none ranges h event reply d named g.fits.reply));
+          ap (λ (l : List TicketView). world.tickets ++
+          l) (sym (desk_gives_none ranges h event reply d named g.fits.reply));
       exports_more = x.more;
       exports_are = x.exports_are;
       export_names = x.names;
-      exports_show = λ i export here. subst (λ (l : List GridView). ShowsPages l (e ∷ h) export) (sym grids) (x.shows i export here);
+      exports_show = λ i export here. subst (λ (l : List GridView). ShowsPages l (e ∷ h) export) (sym grids)
+          (x.shows i export here);
       count = ap length printers_same ∙ s.count;
       printers = λ q b b_there.
           printer_keeps ranges e h q b (quiet_other e h (PrinterAt q) (λ is. not_printer d q (sym named ∙ is)))
           (numbers_other e h q (λ is. not_printer d q (sym named ∙ is)))
           (s.printers q b (subst (λ (l : List (PrinterActor A)). slice_get l q ≡ Some b) printers_same b_there));
-      desk_count = ap length set ∙ length-set world.desks d (record { capacity = actor.capacity; state = after }) ∙ s.desk_count;
+      desk_count = ap length set ∙ length-set world.desks d (record { capacity = actor.capacity; state = after }) ∙
+          s.desk_count;
       desks = λ c room desk here desk_there.
-          let now_there : slice_get (slice_set world.desks d (record { capacity = actor.capacity; state = after })) c ≡ Some desk =
+          let now_there : slice_get (slice_set world.desks d (record { capacity = actor.capacity; state = after }))
+          c ≡ Some desk =
           subst (λ (l : List (DeskActor A)). slice_get l c ≡ Some desk) set desk_there in
           subst (λ (l : List GridView). (desk.capacity ≡ room) × DeskStands l (e ∷ h) c room desk.state) (sym grids)
           (elim (same_or_other d c) [
             | inl same ↦ own_one (old.0, g.stands) c room desk same here now_there
             | inr other ↦ (
-                let away : actor_of e.event ≢ DeskAt c = (λ is. other (let y : DeskAt d ≡ DeskAt c = sym named ∙ is in cc)) in
+                let away : actor_of e.event ≢ DeskAt c =
+                (λ is. other (let y : DeskAt d ≡ DeskAt c = sym named ∙ is in cc)) in
                 let before = s.desks c room desk here
-                (sym (get_set_other world.desks d c (record { capacity = actor.capacity; state = after }) other) ∙ now_there) in (
+                (sym (get_set_other world.desks d c (record { capacity = actor.capacity; state = after }) other) ∙
+                now_there) in (
                   before.0,
                   desk_keeps e h (grids_of world) (grids_of world) c room desk.state (λ honest. honest.1)
                       (λ some. none_leaves {A = A} event reply _ some) (quiet_other e h (DeskAt c) away)
-                      (λ id m took. away (takes_there h event reply c id m took)) (λ id y. away (forgets_there event reply c id y)) before.1,
+                      (λ id m took. away (takes_there h event reply c id m took))
+                      (λ id y. away (forgets_there event reply c id y)) before.1,
                 ))
           ]);
     })
@@ -271,8 +313,12 @@ desk_steps {A} ranges capacities world new h event reply d capacity actor after 
         let desk_there : slice_get (slice_set world.desks d mine) d ≡ Some desk =
         subst (λ (i : ℕ). slice_get (slice_set world.desks d mine) i ≡ Some desk) (sym same) now in
         let desk_is : mine ≡ desk = cc (is, desk_there) in
-        let here' : slice_get capacities d ≡ Some room = subst (λ (i : ℕ). slice_get capacities i ≡ Some room) (sym same) here in
+        let here' : slice_get capacities d ≡ Some room = subst (λ (i : ℕ). slice_get capacities i ≡ Some room)
+        (sym same) here in
         let room_is : capacity ≡ room = cc (at, here') in
-        subst (λ (i : ℕ). (desk.capacity ≡ room) × DeskStands (grids_of world) (quiet event reply ∷ h) i room desk.state) same
-        (subst (λ (n : ℕ). (desk.capacity ≡ n) × DeskStands (grids_of world) (quiet event reply ∷ h) d n desk.state) room_is
-        (subst (λ (a : DeskActor A). (a.capacity ≡ capacity) × DeskStands (grids_of world) (quiet event reply ∷ h) d capacity a.state) desk_is stands))
+        subst (λ (i : ℕ). (desk.capacity ≡ room) ×
+        DeskStands (grids_of world) (quiet event reply ∷ h) i room desk.state) same
+        (subst (λ (n : ℕ). (desk.capacity ≡ n) ×
+        DeskStands (grids_of world) (quiet event reply ∷ h) d n desk.state) room_is
+        (subst (λ (a : DeskActor A). (a.capacity ≡ capacity) ×
+        DeskStands (grids_of world) (quiet event reply ∷ h) d capacity a.state) desk_is stands))

@@ -42,19 +42,22 @@ use Rattle.dm_event_steps.proofs.DeskGoing.{set_keeps, running_keeps}
 
 -- ---- lists
 
-pub get_set_same : {X : Type 0} (xs : List X) (i : ℕ) (x y : X) → slice_get xs i ≡ Some y → slice_get (slice_set xs i x) i ≡ Some x
+pub get_set_same : {X : Type 0} (xs : List X) (i : ℕ) (x y : X) → slice_get xs i ≡ Some y →
+    slice_get (slice_set xs i x) i ≡ Some x
 get_set_same [] i x y h = cc
 get_set_same (z ∷ zs) zero x y h = refl
 get_set_same (z ∷ zs) (suc i) x y h = get_set_same zs i x y h
 
-pub get_set_other : {X : Type 0} (xs : List X) (i j : ℕ) (x : X) → i ≢ j → slice_get (slice_set xs i x) j ≡ slice_get xs j
+pub get_set_other : {X : Type 0} (xs : List X) (i j : ℕ) (x : X) → i ≢ j →
+    slice_get (slice_set xs i x) j ≡ slice_get xs j
 get_set_other [] i j x other = refl
 get_set_other (z ∷ zs) zero zero x other = absurd (other refl)
 get_set_other (z ∷ zs) zero (suc j) x other = refl
 get_set_other (z ∷ zs) (suc i) zero x other = refl
 get_set_other (z ∷ zs) (suc i) (suc j) x other = get_set_other zs i j x (λ same. other (ap suc same))
 
-pub get_map : {X Y : Type 0} (f : X → Y) (xs : List X) (i : ℕ) (x : X) → slice_get xs i ≡ Some x → slice_get (map f xs) i ≡ Some (f x)
+pub get_map : {X Y : Type 0} (f : X → Y) (xs : List X) (i : ℕ) (x : X) → slice_get xs i ≡ Some x →
+    slice_get (map f xs) i ≡ Some (f x)
 get_map f [] i x is = cc
 get_map f (z ∷ zs) zero x is = (let e : z ≡ x = cc in ap (λ u. Some (f u)) e)
 get_map f (z ∷ zs) (suc i) x is = get_map f zs i x is
@@ -66,7 +69,8 @@ get_map_from f (z ∷ zs) zero y is = (z, refl, cc)
 get_map_from f (z ∷ zs) (suc i) y is = get_map_from f zs i y is
 
 -- where an element is, of two lists of one length
-pub other_has : {X Y : Type 0} (xs : List X) (ys : List Y) (i : ℕ) (y : Y) → length ys ≡ length xs → slice_get ys i ≡ Some y →
+pub other_has : {X Y : Type 0} (xs : List X) (ys : List Y) (i : ℕ) (y : Y) → length ys ≡ length xs →
+    slice_get ys i ≡ Some y →
     (x : X) × (slice_get xs i ≡ Some x)
 other_has [] [] i y e h = cc
 other_has [] (b ∷ bs) i y e h = absurd (omega arith)
@@ -84,7 +88,8 @@ get_append P (z ∷ zs) ys a b (suc i) x h = get_append P zs ys (λ j. a (suc j)
 
 -- ---- honest histories
 
-fair_less : {A : Type 0} (grids more : List GridView) (event : Event A) → IsFair (grids ++ more) event → IsFair grids event
+fair_less : {A : Type 0} (grids more : List GridView) (event : Event A) → IsFair (grids ++ more) event →
+    IsFair grids event
 fair_less grids more (Print p document size scheme stop) is = tt
 fair_less grids more (Scan d number flips stop) is = λ grid at. is grid (get_more grids more number grid at)
 fair_less grids more (RestartPrinter p) is = tt
@@ -99,7 +104,8 @@ fair_less grids more (Import d export stop) is = tt
 -- a history that is honest over more labels is honest over these
 honest_less : {A : Type 0} (grids more : List GridView) (h : History A) → IsHonest (grids ++ more) h → IsHonest grids h
 honest_less grids more [] is = tt
-honest_less grids more (e ∷ h) is = ((λ there. fair_less grids more e.event (is.0 there)), honest_less grids more h is.1)
+honest_less grids more (e ∷ h) is =
+    ((λ there. fair_less grids more e.event (is.0 there)), honest_less grids more h is.1)
 
 -- an honest history was honest before its last entry
 pub honest_before : {A : Type 0} (grids all more : List GridView) (e : Entry A) (h : History A) → all ≡ grids ++ more →
@@ -121,20 +127,26 @@ beyond_more : (grids more : List GridView) (number : ℕ) (flips : List (ℕ × 
 beyond_more grids more number flips (label_faults.Border wrong) s = framed_more _ grids more number flips s
 beyond_more grids more number flips fault s = absurd s
 
-refused_more : {A : Type 0} (grids more : List GridView) (capacities : List ℕ) (h : History A) (d number : ℕ) (flips : List (ℕ × ℕ))
+refused_more : {A : Type 0} (grids more : List GridView) (capacities : List ℕ) (h : History A) (d number : ℕ)
+    (flips : List (ℕ × ℕ))
     (fault : ScanFault) →
-    IsHonestlyRefused grids capacities h d number flips fault → IsHonestlyRefused (grids ++ more) capacities h d number flips fault
+    IsHonestlyRefused grids capacities h d number flips fault →
+    IsHonestlyRefused (grids ++ more) capacities h d number flips fault
 refused_more grids more capacities h d number flips scan_fault.Failed is = tt
-refused_more grids more capacities h d number flips (scan_fault.Label fault) is = beyond_more grids more number flips fault is
+refused_more grids more capacities h d number flips (scan_fault.Label fault) is =
+    beyond_more grids more number flips fault is
 refused_more grids more capacities h d number flips scan_fault.Conflict is = is
-refused_more grids more capacities h d number flips scan_fault.Full is = (framed_more _ grids more number flips is.0, is.1)
+refused_more grids more capacities h d number flips scan_fault.Full is =
+    (framed_more _ grids more number flips is.0, is.1)
 refused_more grids more capacities h d number flips scan_fault.Memory is = framed_more _ grids more number flips is
 refused_more grids more capacities h d number flips scan_fault.Save is = framed_more _ grids more number flips is
 
-reply_more : {A : Type 0} (grids more : List GridView) (capacities : List ℕ) (h : History A) (event : Event A) (reply : Reply A) →
+reply_more : {A : Type 0} (grids more : List GridView) (capacities : List ℕ) (h : History A) (event : Event A)
+    (reply : Reply A) →
     IsHonestReply grids capacities h event reply → IsHonestReply (grids ++ more) capacities h event reply
 reply_more grids more capacities h (Scan d number flips stop) (Scanned a) is = framed_more _ grids more number flips is
-reply_more grids more capacities h (Scan d number flips stop) (ScanRefused fault) is = refused_more grids more capacities h d number flips fault is
+reply_more grids more capacities h (Scan d number flips stop) (ScanRefused fault) is =
+    refused_more grids more capacities h d number flips fault is
 reply_more grids more capacities h (Import d number stop) (ImportRefused fault) is = is
 reply_more grids more capacities h event reply is = tt
 
@@ -155,44 +167,60 @@ pub quiet_other : {A : Type 0} (e : Entry A) (h : History A) (a : Actor) → act
 quiet_other e h a other = record { down = is_down_other e h a other; failed = is_failed_other e h a other }
 
 pub printer_keeps : {A : Type 0} (ranges : List Range) (e : Entry A) (h : History A) (p : ℕ) (actor : PrinterActor A) →
-    IsQuietFor e h (PrinterAt p) → KeepsNumbers e h p → PrinterStands ranges h p actor → PrinterStands ranges (e ∷ h) p actor
+    IsQuietFor e h (PrinterAt p) → KeepsNumbers e h p → PrinterStands ranges h p actor →
+    PrinterStands ranges (e ∷ h) p actor
 printer_keeps ranges e h p (printers.Running view) quiet numbers s = record {
   up = quiet.down ∙ s.up;
   failed = s.failed ∙ sym quiet.failed;
   stored = s.stored;
-  store = record { ready = s.store.ready; holds = s.store.holds; is = numbers_keep ranges e h p s.stored numbers s.store.is };
+  store = record {
+    ready = s.store.ready;
+    holds = s.store.holds;
+    is = numbers_keep ranges e h p s.stored numbers s.store.is;
+  };
   shows = s.shows;
 }
 printer_keeps ranges e h p (printers.Down saved) quiet numbers s = record {
   down = quiet.down ∙ s.down;
   stored = s.stored;
-  store = record { ready = s.store.ready; holds = s.store.holds; is = numbers_keep ranges e h p s.stored numbers s.store.is };
+  store = record {
+    ready = s.store.ready;
+    holds = s.store.holds;
+    is = numbers_keep ranges e h p s.stored numbers s.store.is;
+  };
 }
 
-pub desk_keeps : {A : Type 0} (e : Entry A) (h : History A) (grids all : List GridView) (d capacity : ℕ) (state : DeskState A) →
+pub desk_keeps : {A : Type 0} (e : Entry A) (h : History A) (grids all : List GridView) (d capacity : ℕ)
+    (state : DeskState A) →
     (IsHonest all (e ∷ h) → IsHonest grids h) → (0 < e.left → docs h e.id ≡ None) → IsQuietFor e h (DeskAt d) →
     ((id m : ℕ) → ¬ Takes h e.event e.reply d id m) → ((id : ℕ) → ¬ Forgets e.event e.reply d id) →
     DeskStands grids h d capacity state → DeskStands all (e ∷ h) d capacity state
-desk_keeps e h grids all d capacity (desks.Running view) back fresh quiet takes stays s =
-    (s.0, running_keeps e h grids all d capacity view back fresh (quiet.down ∙ s.1.up) quiet.failed s.1 (λ id m t. absurd (takes id m t)) stays)
+desk_keeps e h grids all d capacity (desks.Running view) back fresh quiet takes stays s = (
+  s.0,
+  running_keeps e h grids all d capacity view back fresh (quiet.down ∙ s.1.up) quiet.failed s.1
+      (λ id m t. absurd (takes id m t)) stays,
+)
 desk_keeps e h grids all d capacity (desks.Down saved) back fresh quiet takes stays s = (
   s.0,
   record {
     down = quiet.down ∙ s.1.down;
     stored = s.1.stored;
-    store = set_keeps e h grids all d capacity saved s.1.stored back fresh (λ id m t. absurd (takes id m t)) stays s.1.store;
+    store = set_keeps e h grids all d capacity saved s.1.stored back fresh
+        (λ id m t. absurd (takes id m t)) stays s.1.store;
   },
 )
 
 -- pages are taken, and documents forgotten, at the desk that is named
-pub takes_there : {A : Type 0} (h : History A) (event : Event A) (reply : Reply A) (d id m : ℕ) → Takes h event reply d id m → actor_of event ≡ DeskAt d
+pub takes_there : {A : Type 0} (h : History A) (event : Event A) (reply : Reply A) (d id m : ℕ) →
+    Takes h event reply d id m → actor_of event ≡ DeskAt d
 takes_there h (Scan desk label flips stop) (Scanned accepted) d id m took = ap DeskAt took.0
 takes_there h (Scan desk label flips stop) reply d id m took = absurd took
 takes_there h (Import desk export stop) (Imported imported) d id m took = ap DeskAt took.0
 takes_there h (Import desk export stop) reply d id m took = absurd took
 takes_there h event reply d id m took = absurd took
 
-pub forgets_there : {A : Type 0} (event : Event A) (reply : Reply A) (d id : ℕ) → Forgets event reply d id → actor_of event ≡ DeskAt d
+pub forgets_there : {A : Type 0} (event : Event A) (reply : Reply A) (d id : ℕ) → Forgets event reply d id →
+    actor_of event ≡ DeskAt d
 forgets_there (Forget desk name stop) Forgotten d id forgot = ap DeskAt forgot.0
 forgets_there (Forget desk name stop) reply d id forgot = absurd forgot
 forgets_there event reply d id forgot = absurd forgot
@@ -211,7 +239,8 @@ label_keeps e h label fresh s = record {
   carries = s.carries;
 }
 
-pages_keep : {A : Type 0} (grids all more : List GridView) (e : Entry A) (h : History A) (export : LeftExport A) → all ≡ grids ++ more →
+pages_keep : {A : Type 0} (grids all more : List GridView) (e : Entry A) (h : History A) (export : LeftExport A) →
+    all ≡ grids ++ more →
     (0 < e.left → docs h e.id ≡ None) → ShowsPages grids h export → ShowsPages all (e ∷ h) export
 pages_keep grids all more e h export is fresh x = record {
   pages = x.pages;
@@ -222,7 +251,8 @@ pages_keep grids all more e h export is fresh x = record {
 }
 
 -- what is to be shown of a step
-pub record IsAdded {A : Type 0} (ranges : List Range) (capacities : List ℕ) (world new : WorldView A) (h : History A) (entry : Entry A) : Type 0 where
+pub record IsAdded {A : Type 0} (ranges : List Range) (capacities : List ℕ) (world new : WorldView A) (h : History A)
+    (entry : Entry A) : Type 0 where
   pub fits : Fits ranges (length capacities) h entry
   pub more : List (LeftLabel A)
   pub labels_are : new.labels ≡ world.labels ++ more
@@ -234,33 +264,45 @@ pub record IsAdded {A : Type 0} (ranges : List Range) (capacities : List ℕ) (w
   pub exports_more : List (LeftExport A)
   pub exports_are : new.exports ≡ world.exports ++ exports_more
   pub export_names : map export_name_of exports_more ≡ exported entry.reply
-  pub exports_show : (i : ℕ) (export : LeftExport A) → slice_get exports_more i ≡ Some export → ShowsPages (grids_of new) (entry ∷ h) export
+  pub exports_show : (i : ℕ) (export : LeftExport A) → slice_get exports_more i ≡ Some export →
+      ShowsPages (grids_of new) (entry ∷ h) export
   pub count : length new.printers ≡ length ranges
-  pub printers : (p : ℕ) (actor : PrinterActor A) → slice_get new.printers p ≡ Some actor → PrinterStands ranges (entry ∷ h) p actor
+  pub printers : (p : ℕ) (actor : PrinterActor A) → slice_get new.printers p ≡ Some actor →
+      PrinterStands ranges (entry ∷ h) p actor
   pub desk_count : length new.desks ≡ length capacities
-  pub desks : (d capacity : ℕ) (actor : DeskActor A) → slice_get capacities d ≡ Some capacity → slice_get new.desks d ≡ Some actor →
+  pub desks : (d capacity : ℕ) (actor : DeskActor A) → slice_get capacities d ≡ Some capacity →
+      slice_get new.desks d ≡ Some actor →
       (actor.capacity ≡ capacity) × DeskStands (grids_of new) (entry ∷ h) d capacity actor.state
 
 -- the identification of a new entry was not printed
-pub fresh_of : {A : Type 0} (ranges : List Range) (capacities : List ℕ) (world : WorldView A) (h : History A) (entry : Entry A) →
-    StandsFor ranges capacities world h → Fits ranges (length capacities) h entry → 0 < entry.left → docs h entry.id ≡ None
+pub fresh_of : {A : Type 0} (ranges : List Range) (capacities : List ℕ) (world : WorldView A) (h : History A)
+    (entry : Entry A) →
+    StandsFor ranges capacities world h → Fits ranges (length capacities) h entry → 0 < entry.left →
+    docs h entry.id ≡ None
 fresh_of ranges capacities world h entry s fits some =
-    fresh_next ranges (length capacities) h entry s.legal (all_placed ranges (length capacities) h s.disjoint s.legal) fits some
+    fresh_next ranges (length capacities) h entry s.legal (all_placed ranges (length capacities) h s.disjoint s.legal)
+    fits some
 
 -- the grids of the labels that left before and now
-pub grids_more : {A : Type 0} (world new : WorldView A) (more : List (LeftLabel A)) → new.labels ≡ world.labels ++ more →
+pub grids_more : {A : Type 0} (world new : WorldView A) (more : List (LeftLabel A)) →
+    new.labels ≡ world.labels ++ more →
     grids_of new ≡ grids_of world ++ map grid_of more
 grids_more world new more is = ap (map grid_of) is ∙ map-append grid_of world.labels more
 
-pub goes_on : {A : Type 0} (ranges : List Range) (capacities : List ℕ) (world new : WorldView A) (h : History A) (entry : Entry A) →
-    StandsFor ranges capacities world h → IsAdded ranges capacities world new h entry → StandsFor ranges capacities new (entry ∷ h)
+pub goes_on : {A : Type 0} (ranges : List Range) (capacities : List ℕ) (world new : WorldView A) (h : History A)
+    (entry : Entry A) →
+    StandsFor ranges capacities world h → IsAdded ranges capacities world new h entry →
+    StandsFor ranges capacities new (entry ∷ h)
 goes_on {A} ranges capacities world new h entry s g =
     let fresh = fresh_of ranges capacities world h entry s g.fits in
     let grids : grids_of new ≡ grids_of world ++ map grid_of g.more = grids_more world new g.more g.labels_are in
     record {
       disjoint = s.disjoint;
       legal = (g.fits, s.legal);
-      safe = λ honest. (g.safe honest, s.safe (honest_before (grids_of world) (grids_of new) (map grid_of g.more) entry h grids honest));
+      safe = λ honest. (
+        g.safe honest,
+        s.safe (honest_before (grids_of world) (grids_of new) (map grid_of g.more) entry h grids honest),
+      );
       answers = λ honest. (
         g.answers honest,
         subst (λ (l : List GridView). AreHonestReplies l capacities h) (sym grids)
@@ -282,7 +324,8 @@ goes_on {A} ranges capacities world new h entry s g =
           ap (λ l. l ++ map export_name_of g.exports_more) s.export_names ∙ ap (λ l. exports h ++ l) g.export_names;
       exports = λ i export here.
           get_append (ShowsPages (grids_of new) (entry ∷ h)) world.exports g.exports_more
-          (λ j old there. pages_keep (grids_of world) (grids_of new) (map grid_of g.more) entry h old grids fresh (s.exports j old there))
+          (λ j old there. pages_keep (grids_of world) (grids_of new) (map grid_of g.more) entry h old grids fresh
+          (s.exports j old there))
           g.exports_show i export
           (subst (λ (l : List (LeftExport A)). slice_get l i ≡ Some export) g.exports_are here);
       count = g.count;

@@ -45,28 +45,61 @@ pub call_stops_after : {A X : Type 0} (Call : DeskView → X → DeskView → Ty
     IsMadeUnder Call stop old answer new → stops_before stop ≡ false → IsStopping stop → answer ≢ no_memory →
     reply ≡ Stopped → state ≡ desks.Down new.saved → CallActs Call reply_of no_memory old stop reply state
 call_stops_after Call reply_of no_memory (InSave New) old answer new reply state made is stopping had reply_is down =
-    inr (inl (reply_is, (made.mid, (answer, had, made.makes), down ∙ ap (λ (d : DeskView). desks.Down d.saved) made.new_is)))
-call_stops_after Call reply_of no_memory (AfterLabels count) old answer new reply state made is stopping had reply_is down =
-    inr (inl (reply_is, (made.mid, (answer, had, made.makes), down ∙ ap (λ (d : DeskView). desks.Down d.saved) made.new_is)))
+    inr (inl (
+      reply_is,
+      (
+        made.mid,
+        (answer, had, made.makes),
+        down ∙
+            ap (λ (d : DeskView). desks.Down d.saved) made.new_is,
+      ),
+    ))
+call_stops_after Call reply_of no_memory (AfterLabels count) old answer new reply state made is stopping had
+    reply_is down =
+    inr (inl (
+      reply_is,
+      (
+        made.mid,
+        (answer, had, made.makes),
+        down ∙
+            ap (λ (d : DeskView). desks.Down d.saved) made.new_is,
+      ),
+    ))
 call_stops_after Call reply_of no_memory BeforeSave old answer new reply state made is stopping had reply_is down = cc
 call_stops_after Call reply_of no_memory (InSave Old) old answer new reply state made is stopping had reply_is down = cc
-call_stops_after Call reply_of no_memory stops.None old answer new reply state made is stopping had reply_is down = absurd stopping
-call_stops_after Call reply_of no_memory (SaveFault kept) old answer new reply state made is stopping had reply_is down =
+call_stops_after Call reply_of no_memory stops.None old answer new reply state made is stopping had reply_is down =
+    absurd stopping
+call_stops_after Call reply_of no_memory (SaveFault kept) old answer new reply state made is stopping had
+    reply_is down =
     absurd stopping
 
-pub call_lacks_memory : {A X : Type 0} (Call : DeskView → X → DeskView → Type 0) (reply_of : X → Reply A) (no_memory : X)
+pub call_lacks_memory : {A X : Type 0} (Call : DeskView → X → DeskView → Type 0) (reply_of : X → Reply A)
+    (no_memory : X)
     (stop : Stop) (old : DeskView) (answer : X) (new : DeskView) (reply : Reply A) (state : DeskState A) →
     IsMadeUnder Call stop old answer new → stops_before stop ≡ false → IsStopping stop → answer ≡ no_memory →
     reply ≡ Memory → state ≡ desks.Running new → CallActs Call reply_of no_memory old stop reply state
-call_lacks_memory {A} {X} Call reply_of no_memory stop old answer new reply state made is stopping lacks reply_is running =
+call_lacks_memory {A} {X} Call reply_of no_memory stop old answer new reply state made is stopping lacks reply_is
+    running =
     inr (inr (reply_is, by_stop stop (subst (λ (x : X). IsMadeUnder Call stop old x new) lacks made) is stopping))
   where
     by_stop : (stop : Stop) → IsMadeUnder Call stop old no_memory new → stops_before stop ≡ false → IsStopping stop →
         DeskLacksMemory stop (λ mid. Call (desk_planned old next_save.Fine) no_memory mid) state
     by_stop (InSave New) made is stopping =
-        record { to_be_stopped = refl; mid = made.mid; call = made.makes; state_is = running ∙ ap desks.Running made.new_is }
+        record {
+          to_be_stopped = refl;
+          mid = made.mid;
+          call = made.makes;
+          state_is = running ∙
+              ap desks.Running made.new_is;
+        }
     by_stop (AfterLabels count) made is stopping =
-        record { to_be_stopped = refl; mid = made.mid; call = made.makes; state_is = running ∙ ap desks.Running made.new_is }
+        record {
+          to_be_stopped = refl;
+          mid = made.mid;
+          call = made.makes;
+          state_is = running ∙
+              ap desks.Running made.new_is;
+        }
     by_stop BeforeSave made is stopping = cc
     by_stop (InSave Old) made is stopping = cc
     by_stop stops.None made is stopping = absurd stopping

@@ -37,21 +37,24 @@ scans_running {A} grid copy flips stop view old reply new copied is acts =
 
 pub forgets_running : {A : Type 0} (id : ℕ) (stop : Stop) (view : DeskView)
     (old : DeskState A) (reply : Reply A) (new : DeskState A) → old ≡ desks.Running view →
-    CallActs (ForgetsOne id) forget_reply (Err forget_fault.Memory) view stop reply new → ForgetsDocument id stop old reply new
+    CallActs (ForgetsOne id) forget_reply (Err forget_fault.Memory) view stop reply new →
+    ForgetsDocument id stop old reply new
 forgets_running {A} id stop view old reply new is acts =
     subst (λ (state : DeskState A). ForgetsDocument id stop state reply new) (sym is)
     (λ labels exports desk capacity. (refl, acts))
 
 pub imports_running : {A : Type 0} (bytes : List ℕ) (stop : Stop) (view : DeskView)
     (old : DeskState A) (reply : Reply A) (new : DeskState A) → old ≡ desks.Running view →
-    CallActs (ImportsIn bytes) import_reply (Err import_fault.Memory) view stop reply new → ImportsExport bytes stop old reply new
+    CallActs (ImportsIn bytes) import_reply (Err import_fault.Memory) view stop reply new →
+    ImportsExport bytes stop old reply new
 imports_running {A} bytes stop view old reply new is acts =
     subst (λ (state : DeskState A). ImportsExport bytes stop state reply new) (sym is)
     (λ labels exports desk number capacity export at same. (
       refl,
       export,
       at,
-      subst (λ (b : List ℕ). CallActs (ImportsIn b) import_reply (Err import_fault.Memory) view stop reply new) (sym same) acts,
+      subst (λ (b : List ℕ). CallActs (ImportsIn b) import_reply (Err import_fault.Memory) view stop reply new)
+          (sym same) acts,
     ))
 
 pub asks_running : {A : Type 0} (id : ℕ) (view : DeskView) (state : DeskState A) (reply : Reply A) →
@@ -90,7 +93,8 @@ document_given bytes view id document reply asked named order is = record {
   order = order;
 }
 
-refused_whole : {X : Type 0} (bytes : X → List ℕ) (pages : Pages) (fault : AskFault) → AsksWhole bytes pages (Err fault) →
+refused_whole : {X : Type 0} (bytes : X → List ℕ) (pages : Pages) (fault : AskFault) →
+    AsksWhole bytes pages (Err fault) →
     AsksWhole (λ b. b) pages (Err fault)
 refused_whole bytes pages asks.Memory asked = tt
 refused_whole bytes pages asks.NotHeld asked = absurd asked

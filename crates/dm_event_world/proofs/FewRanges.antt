@@ -20,7 +20,8 @@ differ a b away = by_test (eqb a b) refl
     by_test false is = is
 
 -- a number is no first of ranges that begin elsewhere
-none_first : (n : ℕ) (ranges : List Range) → All (λ range. n ≢ range.first) ranges → AllByRecursion (λ m. eqb n m ≡ false) (firsts ranges)
+none_first : (n : ℕ) (ranges : List Range) → All (λ range. n ≢ range.first) ranges →
+    AllByRecursion (λ m. eqb n m ≡ false) (firsts ranges)
 none_first n [] each = tt
 none_first n (r ∷ rs) each = (
   differ n r.first (All-head (λ (range : Range). n ≢ range.first) r rs each),
@@ -36,10 +37,12 @@ distinct_firsts (r ∷ rs) apart each = (
       let other = All-tail IsRange r rs each i d within in
       let are_apart : IsApart r (slice_index_or rs i d) = apart 0 (suc i) d (omega arith) (omega arith) in
       λ same. elim are_apart [ inl below ↦ omega arith | inr above ↦ omega arith ]),
-  distinct_firsts rs (λ i j d before within. apart (suc i) (suc j) d (omega arith) (omega arith)) (All-tail IsRange r rs each),
+  distinct_firsts rs (λ i j d before within. apart (suc i) (suc j) d (omega arith) (omega arith))
+      (All-tail IsRange r rs each),
 )
 
-small_firsts : (ranges : List Range) → All IsRange ranges → (n : ℕ) → list_any (eqb n) (firsts ranges) ≡ true → n < 64516
+small_firsts : (ranges : List Range) → All IsRange ranges → (n : ℕ) → list_any (eqb n) (firsts ranges) ≡ true →
+    n < 64516
 small_firsts [] each n is = cc
 small_firsts (r ∷ rs) each n is = by_test (eqb n r.first) refl is (small_firsts rs (All-tail IsRange r rs each) n)
   where
@@ -56,6 +59,7 @@ small_firsts (r ∷ rs) each n is = by_test (eqb n r.first) refl is (small_first
 pub few_ranges : (ranges : List Range) → All IsRange ranges → AreDisjoint ranges → length ranges ≤ 64516
 few_ranges ranges each apart =
     let few : length (firsts ranges) ≤ 64516 =
-    length-le_from_distinct_below (firsts ranges) 64516 (distinct_firsts ranges apart each) (small_firsts ranges each) in
+    length-le_from_distinct_below (firsts ranges) 64516 (distinct_firsts ranges apart each)
+    (small_firsts ranges each) in
     let same : length (firsts ranges) ≡ length ranges = length-map ranges (λ range. range.first) in
     omega arith

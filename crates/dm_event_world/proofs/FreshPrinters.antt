@@ -28,7 +28,8 @@ abbrev pub AreFreshSoFar : {A : Type 0} → List Range → List (PrinterActor A)
 AreFreshSoFar {A} ranges printers = (number : ℕ) (range : Range) (actor : PrinterActor A) →
     slice_get ranges number ≡ Some range → slice_get printers number ≡ Some actor → IsFresh number range actor
 
-pub one_more : {A : Type 0} (ranges : List Range) (old new : List (PrinterActor A)) (range : Range) (actor : PrinterActor A) (number : ℕ) →
+pub one_more : {A : Type 0} (ranges : List Range) (old new : List (PrinterActor A)) (range : Range)
+    (actor : PrinterActor A) (number : ℕ) →
     number ≡ length old → new ≡ old ++ actor ∷ [] → slice_get ranges number ≡ Some range → IsFresh number range actor →
     AreFreshSoFar ranges old → AreFreshSoFar ranges new
 one_more {A} ranges old new range actor number last new_is here fresh so_far i other one at there =
@@ -47,14 +48,16 @@ abbrev pub empty_store : Saved
 empty_store = record { content = None; is_honest = true; load_plan = LoadsFine; save_plan = SavesFine }
 
 -- a printer that was created over one is fresh
-pub created_fresh : (A : Type 0) (saved : Saved) (number : ℕ) (range : Range) (view : PrinterView) → saved ≡ empty_store →
+pub created_fresh : (A : Type 0) (saved : Saved) (number : ℕ) (range : Range) (view : PrinterView) →
+    saved ≡ empty_store →
     Creates saved number range view → (let actor : PrinterActor A = actors.Running view in IsFresh number range actor)
 created_fresh A saved number range view is creates =
     let honest = ap (λ (s : Saved). s.is_honest) is in (
       record {
         honest = creates.replaced.same_honesty ∙ honest;
         loads_fine = creates.replaced.same_load_plan ∙ ap (λ (s : Saved). s.load_plan) is;
-        saves_fine = subst (λ (plan : SavePlan). Follows plan Done view.saved.save_plan) (ap (λ (s : Saved). s.save_plan) is) creates.replaced.follows;
+        saves_fine = subst (λ (plan : SavePlan). Follows plan Done view.saved.save_plan)
+            (ap (λ (s : Saved). s.save_plan) is) creates.replaced.follows;
       },
       creates.running,
       creates.ledger,
@@ -70,6 +73,7 @@ fresh_ready {A} ranges printers fresh number actor at =
     let here = slice_get-get_or ranges number (record { first = 0; last = 0 }) (omega arith) in
     ready_of actor (fresh.each number _ actor here at)
   where
-    ready_of : (one : PrinterActor A) → IsFresh number (slice_index_or ranges number (record { first = 0; last = 0 })) one → IsReady (saved_of one)
+    ready_of : (one : PrinterActor A) →
+        IsFresh number (slice_index_or ranges number (record { first = 0; last = 0 })) one → IsReady (saved_of one)
     ready_of (actors.Running view) is = is.0
     ready_of (actors.Down saved) is = absurd is

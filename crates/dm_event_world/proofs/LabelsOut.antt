@@ -11,7 +11,8 @@ use Rattle.dm_event_steps.specs.Labels.{left_labels}
 use Rattle.dm_event_steps.proofs.JobLabels.{length-AreLabels}
 
 -- one label more has left, and one fewer is to leave
-pub one_more : {A : Type 0} (id count before most : ℕ) (grid : GridView) (rest given : List GridView) (xs now ys : List (LeftLabel A)) →
+pub one_more : {A : Type 0} (id count before most : ℕ) (grid : GridView) (rest given : List GridView)
+    (xs now ys : List (LeftLabel A)) →
     before < most → given ≡ grid ∷ rest →
     now ≡ xs ++ record { id = id; number = before + 1; count = count; grid = grid } ∷ [] →
     xs ++ left_labels id count (before + 1) (take (most - before) given) ≡ ys →
@@ -27,7 +28,8 @@ one_more {A} id count before most grid rest given xs now ys there given_is now_i
     ∙ sym (ap (λ (grids : List GridView). xs ++ left_labels id count (before + 1) grids) all) ∙ out
 
 -- a job has at most 16 labels
-pub few_labels : (size : Size) (scheme : Scheme) (parts : List (List ℕ)) (job : JobView) → IsJobOf size scheme job.id parts job →
+pub few_labels : (size : Size) (scheme : Scheme) (parts : List (List ℕ)) (job : JobView) →
+    IsJobOf size scheme job.id parts job →
     length job.labels ≤ 16
 few_labels size scheme parts job is =
     let same = length-AreLabels size scheme job.id (length parts) 1 parts job.labels is.labels in
@@ -35,7 +37,8 @@ few_labels size scheme parts job is =
     omega arith
 
 -- and as many as it counts: where that many are let out, all are
-pub all_out : {A : Type 0} (size : Size) (scheme : Scheme) (parts : List (List ℕ)) (job : JobView) (count : ℕ) (old new : List (LeftLabel A)) →
+pub all_out : {A : Type 0} (size : Size) (scheme : Scheme) (parts : List (List ℕ)) (job : JobView) (count : ℕ)
+    (old new : List (LeftLabel A)) →
     IsJobOf size scheme job.id parts job → count ≡ job.count →
     new ≡ old ++ left_labels job.id job.count 1 (take count job.labels) →
     new ≡ old ++ left_labels job.id job.count 1 job.labels

@@ -15,7 +15,8 @@ use Rattle.dm_event_steps.specs.Acts.{StopsPrinter, stopped_labels}
 use Rattle.dm_event_world.specs.inner.PrinterCalls.{labels_before}
 
 -- one that is not made leaves the store
-pub stops_before : (A : Type 0) (stop : Stop) (view : PrinterView) (Call : PrinterView → Type 0) → IsStopping stop → labels_before stop ≡ None →
+pub stops_before : (A : Type 0) (stop : Stop) (view : PrinterView) (Call : PrinterView → Type 0) → IsStopping stop →
+    labels_before stop ≡ None →
     (let down : PrinterActor A = actors.Down view.saved in StopsPrinter stop view Call down)
 stops_before A BeforeSave view Call is none = refl
 stops_before A (InSave Old) view Call is none = refl
@@ -25,7 +26,8 @@ stops_before A stops.None view Call is none = absurd is
 stops_before A (SaveFault kept) view Call is none = absurd is
 
 -- no label leaves of one that was refused
-pub no_label : {A : Type 0} (stop : Stop) (fault : PrintFault) (labels : List (LeftLabel A)) → labels ≡ labels ++ stopped_labels stop (Err fault)
+pub no_label : {A : Type 0} (stop : Stop) (fault : PrintFault) (labels : List (LeftLabel A)) →
+    labels ≡ labels ++ stopped_labels stop (Err fault)
 no_label {A} stop fault labels =
     sym (append-nil labels) ∙ ap (λ (l : List (LeftLabel A)). labels ++ l) (sym (none_of stop))
   where

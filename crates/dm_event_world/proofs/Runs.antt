@@ -10,7 +10,8 @@ use Rattle.dm_event_world.specs.Runs.{Continues, GoesOn, GoesOnByAll}
 use Rattle.dm_event_world.specs.Watched.{given, replies, AreHonest, Answers, AnswersAll}
 
 -- one event more
-pub runs_more : {A : Type 0} (old mid new : WorldView A) (events : List (Event A)) (all : List (Reply A)) (event : Event A) (reply : Reply A) →
+pub runs_more : {A : Type 0} (old mid new : WorldView A) (events : List (Event A)) (all : List (Reply A))
+    (event : Event A) (reply : Reply A) →
     Runs old events all mid → Steps mid event reply new → Runs old (events ++ event ∷ []) (all ++ reply ∷ []) new
 runs_more {A} old mid new [] [] event reply runs steps =
     (new, subst (λ (w : WorldView A). Steps w event reply new) runs steps, refl)
@@ -19,8 +20,10 @@ runs_more old mid new (e ∷ events) (r ∷ all) event reply runs steps =
 runs_more old mid new [] (r ∷ all) event reply runs steps = absurd runs
 runs_more old mid new (e ∷ events) [] event reply runs steps = absurd runs
 
-pub answers_more : {A : Type 0} (old mid new : WorldView A) (events : List (Event A)) (all : List (Answer A)) (event : Event A) (answer : Answer A) →
-    AnswersAll old events all mid → Answers mid event answer new → AnswersAll old (events ++ event ∷ []) (all ++ answer ∷ []) new
+pub answers_more : {A : Type 0} (old mid new : WorldView A) (events : List (Event A)) (all : List (Answer A))
+    (event : Event A) (answer : Answer A) →
+    AnswersAll old events all mid → Answers mid event answer new →
+    AnswersAll old (events ++ event ∷ []) (all ++ answer ∷ []) new
 answers_more {A} old mid new [] [] event answer runs steps =
     (new, subst (λ (w : WorldView A). Answers w event answer new) runs steps, refl)
 answers_more old mid new (e ∷ events) (r ∷ all) event answer runs steps =
@@ -29,16 +32,21 @@ answers_more old mid new [] (r ∷ all) event answer runs steps = absurd runs
 answers_more old mid new (e ∷ events) [] event answer runs steps = absurd runs
 
 -- a history goes on by all events where it goes on by each
-pub continues_more : {A : Type 0} (h mid after : History A) (events : List (Event A)) (all : List (Reply A)) (event : Event A) (reply : Reply A) →
-    Continues h events all mid → Continues mid (event ∷ []) (reply ∷ []) after → Continues h (events ++ event ∷ []) (all ++ reply ∷ []) after
-continues_more {A} h mid after [] [] event reply one more = subst (λ (x : History A). Continues x (event ∷ []) (reply ∷ []) after) one more
+pub continues_more : {A : Type 0} (h mid after : History A) (events : List (Event A)) (all : List (Reply A))
+    (event : Event A) (reply : Reply A) →
+    Continues h events all mid → Continues mid (event ∷ []) (reply ∷ []) after →
+    Continues h (events ++ event ∷ []) (all ++ reply ∷ []) after
+continues_more {A} h mid after [] [] event reply one more =
+    subst (λ (x : History A). Continues x (event ∷ []) (reply ∷ []) after) one more
 continues_more h mid after (e ∷ events) (r ∷ all) event reply one more =
     (one.0, one.1, one.2, continues_more (one.0 ∷ h) mid after events all event reply one.3 more)
 continues_more h mid after [] (r ∷ all) event reply one more = absurd one
 continues_more h mid after (e ∷ events) [] event reply one more = absurd one
 
-pub goes_on_more : {A : Type 0} (old mid new : WorldView A) (events : List (Event A)) (all : List (Reply A)) (event : Event A) (reply : Reply A) →
-    GoesOnByAll old events all mid → GoesOn mid event reply new → GoesOnByAll old (events ++ event ∷ []) (all ++ reply ∷ []) new
+pub goes_on_more : {A : Type 0} (old mid new : WorldView A) (events : List (Event A)) (all : List (Reply A))
+    (event : Event A) (reply : Reply A) →
+    GoesOnByAll old events all mid → GoesOn mid event reply new →
+    GoesOnByAll old (events ++ event ∷ []) (all ++ reply ∷ []) new
 goes_on_more old mid new events all event reply by_all by_one = λ ranges capacities h stands.
     let m = by_all ranges capacities h stands in
     let n = by_one ranges capacities m.0 m.2 in
@@ -73,6 +81,7 @@ runs_by old new [] [] runs = runs
 runs_by old new (event ∷ events) (Given is_honest reply ∷ answers) runs =
     (runs.0, runs.1.1, runs_by runs.0 new events answers runs.2)
 runs_by {A} old new (event ∷ events) (NotGiven ∷ answers) runs =
-    subst (λ (w : WorldView A). Runs w (given events answers) (replies answers) new) runs.1.1 (runs_by runs.0 new events answers runs.2)
+    subst (λ (w : WorldView A). Runs w (given events answers) (replies answers) new) runs.1.1
+    (runs_by runs.0 new events answers runs.2)
 runs_by old new [] (answer ∷ answers) runs = absurd runs
 runs_by old new (event ∷ events) [] runs = absurd runs

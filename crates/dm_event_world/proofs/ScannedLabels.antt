@@ -17,7 +17,8 @@ use Rattle.dm_event_world.specs.Watched.{IsLookedAt}
 abbrev pub AreWithin : GridView → List (ℕ × ℕ) → Type 0
 AreWithin grid flips = All (λ flip. (flip.0 < side grid.size) × (flip.1 < side grid.size)) flips
 
-pub no_label : {A : Type 0} (old : WorldView A) (d label : ℕ) (flips : List (ℕ × ℕ)) (stop : Stop) → length old.labels ≤ label →
+pub no_label : {A : Type 0} (old : WorldView A) (d label : ℕ) (flips : List (ℕ × ℕ)) (stop : Stop) →
+    length old.labels ≤ label →
     ¬ IsNamed old (Scan d label flips stop)
 no_label old d label flips stop past named =
     let within = slice_get_within old.labels label named.1 named.2 in absurd (omega arith)

@@ -30,7 +30,8 @@ AreHonest [] = Unit {0}
 AreHonest (Given is_honest reply ∷ answers) = (is_honest ≡ true) × AreHonest answers
 AreHonest (NotGiven ∷ answers) = AreHonest answers
 
--- As long as each event was found honest, the replies are faithful, whatever comes later: whatever document any desk gave
+-- As long as each event was found honest, the replies are faithful, whatever comes later: whatever document any desk
+-- gave
 -- for an identification is the one document printed under it, and no identification was printed twice.
 abbrev pub IsFaithfulIfHonest : {A : Type 0} → List (Event A) → List (Answer A) → Type 0
 IsFaithfulIfHonest events answers = (k : ℕ) → AreHonest (take k answers) →
@@ -43,7 +44,8 @@ abbrev pub IsLookedAt : {A : Type 0} → WorldView A → Event A → Type 0
 IsLookedAt world (Scan desk label flips stop) = IsNamed world (Scan desk label flips stop)
 IsLookedAt world event = ⊥
 
--- An event that is given to the world is one step of it, and found honest exactly where it is fair, or names what is not
+-- An event that is given to the world is one step of it, and found honest exactly where it is fair, or names what is
+-- not
 -- there. Only a scan of what is there may not be given, as memory for the look is refused; it changes nothing.
 abbrev pub Answers : {A : Type 0} → WorldView A → Event A → Answer A → WorldView A → Type 0
 Answers old event (Given is_honest reply) new = ((is_honest ≡ true) ↔ IsFairIn old event) × Steps old event reply new
@@ -57,8 +59,10 @@ AnswersAll {A} old (event ∷ events) (answer ∷ answers) new =
 AnswersAll old [] (answer ∷ answers) new = ⊥
 AnswersAll old (event ∷ events) [] new = ⊥
 
--- A world began with these ranges and capacities, and answered the events so. No identification was printed twice, and if
--- each event was found honest, the replies are faithful: in both, by batches of just the labels that left the world, each
+-- A world began with these ranges and capacities, and answered the events so. No identification was printed twice, and
+-- if
+-- each event was found honest, the replies are faithful: in both, by batches of just the labels that left the world,
+-- each
 -- of which carries a part of the document of its batch. No label left the world twice.
 pub record RunsFromTheStart {A : Type 0} (ranges : List Range) (capacities : List ℕ) (events : List (Event A))
     (answers : List (Answer A)) : Type 0 where

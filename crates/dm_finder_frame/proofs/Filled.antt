@@ -15,21 +15,25 @@ nothing_filled n value xs size = record { count = size; filled = λ k h. absurd 
 
 -- one module more
 pub module_filled : (n r c : ℕ) (value : ℕ → ℕ → Bool) (xs ys : List Bool) (x : Bool) → r < n → c < n
-    → IsFilledTo n (r * n + c) value xs → x ≡ value r c → ys ≡ set xs (r * n + c) x → IsFilledTo n (r * n + (c + 1)) value ys
+    → IsFilledTo n (r * n + c) value xs → x ≡ value r c → ys ≡ set xs (r * n + c) x →
+    IsFilledTo n (r * n + (c + 1)) value ys
 module_filled n r c value xs ys x hr hc before is e =
     let f : ℕ → Bool = λ i. value (i / n) (i % n) in
     let i = r * n + c in
     let within = mul-add-lt r n c n hr hc in
     let size = before.count in
-    let here : x ≡ f i = is ∙ ap (λ v. value v c) (sym (div-mul-add r n c hc)) ∙ ap (λ v. value (i / n) v) (sym (mod-mul-add r n c hc)) in
+    let here : x ≡ f i = is ∙ ap (λ v. value v c) (sym (div-mul-add r n c hc)) ∙
+    ap (λ v. value (i / n) v) (sym (mod-mul-add r n c hc)) in
     let written : ys ≡ set xs i (f i) = e ∙ ap (λ v. set xs i v) here in
     record {
       count = ap length e ∙ length-set xs i x ∙ size;
-      filled = λ k h. ap (λ v. get_or v k false) written ∙ fill_by_more f xs i false (omega (arith, within, size)) before.filled k (omega arith);
+      filled = λ k h. ap (λ v. get_or v k false) written ∙
+          fill_by_more f xs i false (omega (arith, within, size)) before.filled k (omega arith);
     }
 
 -- a whole row more
-pub row_filled : (n r c : ℕ) (value : ℕ → ℕ → Bool) (xs : List Bool) → c ≡ n → IsFilledTo n (r * n + c) value xs → IsFilledTo n ((r + 1) * n) value xs
+pub row_filled : (n r c : ℕ) (value : ℕ → ℕ → Bool) (xs : List Bool) → c ≡ n → IsFilledTo n (r * n + c) value xs →
+    IsFilledTo n ((r + 1) * n) value xs
 row_filled n r c value xs e before = record { count = before.count; filled = λ k h. before.filled k (omega arith) }
 
 -- the whole square
@@ -40,8 +44,10 @@ all_filled n r value xs e before =
     fill_by_all (λ i. value (i / n) (i % n)) xs (n * n) false before.count (λ k h. before.filled k (omega arith))
 
 -- one module more is looked at
-pub one_more : (g : GridView) (first n : ℕ) → wrong_among g first (n + 1) ≡ wrong_among g first n + cond (is_wrong g (first + n)) 1 0
-one_more g first n = sum_by-map-range_with_len_more (λ (wrong : Bool). cond wrong 1 0) (is_wrong g) first n (first + n) refl
+pub one_more : (g : GridView) (first n : ℕ) →
+    wrong_among g first (n + 1) ≡ wrong_among g first n + cond (is_wrong g (first + n)) 1 0
+one_more g first n = sum_by-map-range_with_len_more (λ (wrong : Bool). cond wrong 1 0) (is_wrong g) first n
+    (first + n) refl
 
 -- some modules, and those after them
 pub joined : (g : GridView) (m n : ℕ) → wrong_among g 0 (m + n) ≡ wrong_among g 0 m + wrong_among g m n

@@ -14,12 +14,14 @@ use Rattle.dm_finder_frame.proofs.FramedGrids.{matrix_is_whole, column_below, pl
 use Rattle.dm_finder_frame.proofs.GridPlaces.{fills_side, some_region, mapping_of_grid_place, grid_of_mapping_place, mapping_place_below, no_frame_inside}
 
 -- the flipped module, and every other one
-flipped_same : (g : Square) (r c : ℕ) → IsWhole g → r < g.side → c < g.side → module_at (with_flipped g r c) r c ≡ not (module_at g r c)
+flipped_same : (g : Square) (r c : ℕ) → IsWhole g → r < g.side → c < g.side →
+    module_at (with_flipped g r c) r c ≡ not (module_at g r c)
 flipped_same g r c whole hr hc =
     let l = mul-add-lt r g.side c g.side hr hc in
     get_or-set_same g.modules (r * g.side + c) (not (module_at g r c)) false (omega (arith, l, whole))
 
-flipped_other : (g : Square) (r c i j : ℕ) → c < g.side → j < g.side → (i ≡ r → j ≡ c → ⊥) → module_at (with_flipped g r c) i j ≡ module_at g i j
+flipped_other : (g : Square) (r c i j : ℕ) → c < g.side → j < g.side → (i ≡ r → j ≡ c → ⊥) →
+    module_at (with_flipped g r c) i j ≡ module_at g i j
 flipped_other g r c i j hc hj ne =
     get_or-set_other g.modules (r * g.side + c) (i * g.side + j) (not (module_at g r c)) false
     (λ e. let p = same_from_place i j r c g.side hj hc e in ne p.0 p.1)
@@ -45,7 +47,8 @@ frame_flipped g r c hc e =
     (λ i l.
     let li = subst (λ (x : ℕ). i < x) (matrix_is_whole g') l in
     matrix_at g' i li
-    ∙ flipped_other (square_of g) r c (grid_place h (i / n)) (grid_place h (i % n)) hc (place_within s (i % n) (column_below n i li))
+    ∙ flipped_other (square_of g) r c (grid_place h (i / n)) (grid_place h (i % n)) hc
+    (place_within s (i % n) (column_below n i li))
     (λ a b. true_false _ e (ap (λ x. is_on_frame h (x % (h + 2)) (c % (h + 2))) (sym a)
     ∙ ap (λ x. is_on_frame h (grid_place h (i / n) % (h + 2)) (x % (h + 2))) (sym b) ∙ place_inside s (i / n) (i % n)))
     ∙ sym (matrix_at g i li))
@@ -58,7 +61,8 @@ matrix_flipped : (g : GridView) (r c : ℕ) → IsWholeGrid g → r < side g.siz
     → is_on_frame (region g.size) (r % (region g.size + 2)) (c % (region g.size + 2)) ≡ false
     → matrix_modules (grid_with_flipped g r c)
     ≡ set (matrix_modules g) (mapping_place (region g.size) r * mapping g.size + mapping_place (region g.size) c)
-    (not (get_or (matrix_modules g) (mapping_place (region g.size) r * mapping g.size + mapping_place (region g.size) c) false))
+    (not (get_or (matrix_modules g)
+    (mapping_place (region g.size) r * mapping g.size + mapping_place (region g.size) c) false))
 matrix_flipped g r c whole hr hc e =
     let s = g.size in
     let n = mapping s in
@@ -90,12 +94,14 @@ matrix_flipped g r c whole hr hc e =
     let li = subst (λ (x : ℕ). i < x) (matrix_is_whole g') l in
     elim (eqb_tells i k) [
       | inl w ↦
-          (ap (λ x. get_or (matrix_modules g') x false) w.1 ∙ there ∙ flipped_same (square_of g) r c whole hr hc ∙ ap not (sym here)
+          (ap (λ x. get_or (matrix_modules g') x false) w.1 ∙ there ∙ flipped_same (square_of g) r c whole hr hc ∙
+          ap not (sym here)
           ∙ sym (get_or-set_same (matrix_modules g) k v false (subst (λ (x : ℕ). k < x) (sym (matrix_is_whole g)) lk))
           ∙ ap (λ x. get_or (set (matrix_modules g) k v) x false) (sym w.1))
       | inr w ↦
           (matrix_at g' i li
-          ∙ flipped_other (square_of g) r c (grid_place h (i / n)) (grid_place h (i % n)) hc (place_within s (i % n) (column_below n i li))
+          ∙ flipped_other (square_of g) r c (grid_place h (i / n)) (grid_place h (i % n)) hc
+          (place_within s (i % n) (column_below n i li))
           (λ a d. w.1 (sym (div-add-mod' i n)
           ∙ ap (λ x. x * n + i % n) (sym (mapping_of_grid_place h (i / n) z) ∙ ap (mapping_place h) a)
           ∙ ap (λ x. mapping_place h r * n + x) (sym (mapping_of_grid_place h (i % n) z) ∙ ap (mapping_place h) d)))

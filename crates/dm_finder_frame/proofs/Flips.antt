@@ -24,7 +24,8 @@ one_flip_more g (first ∷ flips) flip = one_flip_more (grid_with_flipped g firs
 
 -- After the first i flips, the flip of place i is the next.
 pub next_flip : (g : GridView) (flips : List (ℕ × ℕ)) (i : ℕ) (other : ℕ × ℕ) → i < length flips
-    → flipped g (take (suc i) flips) ≡ grid_with_flipped (flipped g (take i flips)) (get_or flips i other).0 (get_or flips i other).1
+    → flipped g (take (suc i) flips) ≡ grid_with_flipped (flipped g (take i flips)) (get_or flips i other).0
+    (get_or flips i other).1
 next_flip g [] i other h = absurd (omega arith)
 next_flip g (flip ∷ flips) zero other h = refl
 next_flip g (flip ∷ flips) (suc i) other h = next_flip (grid_with_flipped g flip.0 flip.1) flips i other (omega arith)

@@ -23,7 +23,8 @@ pub column_below : (n i : ℕ) → i < n * n → i % n < n
 column_below n i h = mod_below i n (positive n i h)
 
 -- the module of a grid made from a mapping matrix
-pub grid_at : (s : Size) (m : Square) (r c : ℕ) → r < side s → c < side s → grid_module_at (grid_of_matrix s m) r c ≡ grid_module s m r c
+pub grid_at : (s : Size) (m : Square) (r c : ℕ) → r < side s → c < side s →
+    grid_module_at (grid_of_matrix s m) r c ≡ grid_module s m r c
 unfolding grid_modules
 grid_at s m r c hr hc =
     let n = side s in
@@ -46,14 +47,17 @@ matrix_is_whole g = length-map-range_with_len _ 0 (mapping g.size * mapping g.si
 pub place_within : (s : Size) (r : ℕ) → r < mapping s → grid_place (region s) r < side s
 place_within s r h =
     let some = some_region s in
-    subst (λ (x : ℕ). grid_place (region s) r < x) (fills_side s) (grid_place_below (region s) (across s) r (omega arith) h)
+    subst (λ (x : ℕ). grid_place (region s) r < x) (fills_side s)
+    (grid_place_below (region s) (across s) r (omega arith) h)
 
-pub place_inside : (s : Size) (r c : ℕ) → is_on_frame (region s) (grid_place (region s) r % (region s + 2)) (grid_place (region s) c % (region s + 2)) ≡ false
+pub place_inside : (s : Size) (r c : ℕ) →
+    is_on_frame (region s) (grid_place (region s) r % (region s + 2)) (grid_place (region s) c % (region s + 2)) ≡ false
 place_inside s r c =
     let h = region s in
     let some = some_region s in
     let z : 0 < h = omega arith in
-    ap (λ x. is_on_frame h x (grid_place h c % (h + 2))) (grid_place_rest h r z) ∙ ap (λ x. is_on_frame h (r % h + 1) x) (grid_place_rest h c z)
+    ap (λ x. is_on_frame h x (grid_place h c % (h + 2))) (grid_place_rest h r z) ∙
+    ap (λ x. is_on_frame h (r % h + 1) x) (grid_place_rest h c z)
     ∙ inside_no_frame h (r % h) (c % h) (mod_below r h z) (mod_below c h z)
 
 -- The mapping matrix of the grid of a mapping matrix is that matrix.
@@ -69,14 +73,17 @@ unframe_undoes_frame s m whole same =
     (fill_by_all f m.modules (n * n) false (whole ∙ ap (λ x. x * x) same)
     (λ i l.
     let at : i / n * m.side + i % n ≡ i = ap (λ x. i / n * x + i % n) same ∙ div-add-mod' i n in
-    sym (grid_at s m (grid_place h (i / n)) (grid_place h (i % n)) (place_within s (i / n) (row_below n i l)) (place_within s (i % n) (column_below n i l))
+    sym (grid_at s m (grid_place h (i / n)) (grid_place h (i % n)) (place_within s (i / n) (row_below n i l))
+    (place_within s (i % n) (column_below n i l))
     ∙ ap (λ b. cond b (frame_value h (grid_place h (i / n) % (h + 2)) (grid_place h (i % n) % (h + 2)))
-    (module_at m (mapping_place h (grid_place h (i / n))) (mapping_place h (grid_place h (i % n))))) (place_inside s (i / n) (i % n))
+    (module_at m (mapping_place h (grid_place h (i / n))) (mapping_place h (grid_place h (i % n)))))
+    (place_inside s (i / n) (i % n))
     ∙ ap (λ x. module_at m x (mapping_place h (grid_place h (i % n)))) (mapping_of_grid_place h (i / n) z)
     ∙ ap (λ x. module_at m (i / n) x) (mapping_of_grid_place h (i % n) z)
     ∙ ap (λ x. get_or m.modules x false) at))))
   where
-    same_square : (m : Square) (n : ℕ) (xs : List Bool) → m.side ≡ n → m.modules ≡ xs → m ≡ record { side = n; modules = xs }
+    same_square : (m : Square) (n : ℕ) (xs : List Bool) → m.side ≡ n → m.modules ≡ xs →
+        m ≡ record { side = n; modules = xs }
     same_square m n xs a b =
         let square : ℕ → List Bool → Square = λ n xs. record { side = n; modules = xs } in
         ap (λ v. square v m.modules) a ∙ ap (λ v. square n v) b
@@ -101,6 +108,7 @@ frame_has_no_wrong_module s m =
     (length-map-range_with_len (is_wrong (grid_of_matrix s m)) 0 (n * n))
     (λ i l.
     get_or-map-range_with_len (is_wrong (grid_of_matrix s m)) 0 (n * n) i i false l (zero-add i)
-    ∙ ap (λ d. wrong_module h d (i / n % (h + 2)) (i % n % (h + 2))) (grid_at s m (i / n) (i % n) (row_below n i l) (column_below n i l))
+    ∙ ap (λ d. wrong_module h d (i / n % (h + 2)) (i % n % (h + 2))) (grid_at s m (i / n) (i % n) (row_below n i l)
+    (column_below n i l))
     ∙ none_wrong (is_on_frame h (i / n % (h + 2)) (i % n % (h + 2))) _ _))
     ∙ none_counted (range_with_len 0 (n * n))

@@ -79,7 +79,8 @@ grid_of_mapping_place h r l m =
     let s = mapping_place_sum h r l in
     let b : r % (h + 2) - 1 < h = omega arith in
     let d : mapping_place h r / h ≡ r / (h + 2) = ap (λ x. x / h) s ∙ div-mul-add (r / (h + 2)) h (r % (h + 2) - 1) b in
-    let t : mapping_place h r % h ≡ r % (h + 2) - 1 = ap (λ x. x % h) s ∙ mod-mul-add (r / (h + 2)) h (r % (h + 2) - 1) b in
+    let t : mapping_place h r % h ≡ r % (h + 2) - 1 = ap (λ x. x % h) s ∙
+    mod-mul-add (r / (h + 2)) h (r % (h + 2) - 1) b in
     let e = div-add-mod' r (h + 2) in
     ap (λ x. x * (h + 2) + mapping_place h r % h + 1) d ∙ ap (λ x. r / (h + 2) * (h + 2) + x + 1) t ∙ omega (arith, e)
 
@@ -87,7 +88,8 @@ grid_of_mapping_place h r l m =
 pub inside_no_frame : (h a b : ℕ) → a < h → b < h → is_on_frame h (a + 1) (b + 1) ≡ false
 inside_no_frame h a b k l = grind (arith, nat_tests)
 
-pub no_frame_inside : (h a b : ℕ) → a < h + 2 → b < h + 2 → is_on_frame h a b ≡ false → (1 ≤ a) × (a ≤ h) × (1 ≤ b) × (b ≤ h)
+pub no_frame_inside : (h a b : ℕ) → a < h + 2 → b < h + 2 → is_on_frame h a b ≡ false →
+    (1 ≤ a) × (a ≤ h) × (1 ≤ b) × (b ≤ h)
 no_frame_inside h a b k l e =
     let f = or_parts (eqb a 0 || eqb a (h + 1)) (eqb b 0 || eqb b (h + 1)) e in
     let x = or_parts (eqb a 0) (eqb a (h + 1)) f.0 in

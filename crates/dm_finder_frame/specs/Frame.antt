@@ -63,7 +63,8 @@ wrong_module h dark r c = is_on_frame h r c && (if dark then not (frame_value h 
 
 -- the module at a row and a column is one of the finder patterns, and wrong
 abbrev pub is_wrong_at : GridView → ℕ → ℕ → Bool
-is_wrong_at g r c = wrong_module (region g.size) (grid_module_at g r c) (r % (region g.size + 2)) (c % (region g.size + 2))
+is_wrong_at g r c = wrong_module (region g.size) (grid_module_at g r c)
+    (r % (region g.size + 2)) (c % (region g.size + 2))
 
 -- the same by the place of the module in the list
 abbrev pub is_wrong : GridView → ℕ → Bool

@@ -16,6 +16,7 @@ abbrev pub HasBadFrame : GridView → ℕ → Type 0
 HasBadFrame g wrong = (frame_module_count g.size < 8 * wrong_frame_modules g) × (wrong ≡ wrong_frame_modules g)
 
 abbrev pub Unframes : {A : Type 0} → GridView → Result (Framed A) FrameFault → Type 0
-Unframes g (Ok f) = HasGoodFrame g × (f.size ≡ g.size) × (f.matrix ≡ matrix_of_grid g) × (f.wrong ≡ wrong_frame_modules g)
+Unframes g (Ok f) = HasGoodFrame g × (f.size ≡ g.size) × (f.matrix ≡ matrix_of_grid g) ×
+    (f.wrong ≡ wrong_frame_modules g)
 Unframes g (Err (Border wrong)) = HasBadFrame g wrong
 Unframes g (Err Memory) = HasGoodFrame g

@@ -34,7 +34,12 @@ pub plain-xor_r : (k a b c : ℕ) → plain k a (bit_xor b c) ≡ bit_xor (plain
 unfolding plain
 plain-xor_r zero a b c = refl
 plain-xor_r (suc k) a b c =
-    rw (plain-xor_r k a b c, bit_at_xor b c k, bit_scale (bit_at b k) (bit_at c k) (a * 2 ^ k) (bit_at-lt b k) (bit_at-lt c k))
+    rw (
+      plain-xor_r k a b c,
+      bit_at_xor b c k,
+      bit_scale (bit_at b k) (bit_at c k) (a * 2 ^ k) (bit_at-lt b k)
+          (bit_at-lt c k),
+    )
     (xor_interchange (plain k a b) (plain k a c) (bit_at b k * (a * 2 ^ k)) (bit_at c k * (a * 2 ^ k)))
 
 -- the reduction is additive
@@ -44,14 +49,19 @@ reduced-xor zero p q = refl
 reduced-xor (suc k) p q =
     let m = 301 * 2 ^ k in
     ap (reduced k)
-    (rw (bit_at_xor p q (8 + k), bit_scale (bit_at p (8 + k)) (bit_at q (8 + k)) m (bit_at-lt p (8 + k)) (bit_at-lt q (8 + k)))
+    (rw (
+      bit_at_xor p q (8 + k),
+      bit_scale (bit_at p (8 + k)) (bit_at q (8 + k)) m
+          (bit_at-lt p (8 + k)) (bit_at-lt q (8 + k)),
+    )
     (xor_interchange p q (bit_at p (8 + k) * m) (bit_at q (8 + k) * m)))
     ∙ reduced-xor k _ _
 
 -- a shifted exclusive or is the exclusive or of the shifted numbers
 shift-xor : (k a b : ℕ) → bit_xor a b * 2 ^ k ≡ bit_xor (a * 2 ^ k) (b * 2 ^ k)
 shift-xor k a b =
-    let e : bit_xor (a * 2 ^ k + 0) (b * 2 ^ k + 0) ≡ bit_xor a b * 2 ^ k + bit_xor 0 0 = xor_block k a b 0 0 (pow_pos k) (pow_pos k) in
+    let e : bit_xor (a * 2 ^ k + 0) (b * 2 ^ k + 0) ≡ bit_xor a b * 2 ^ k + bit_xor 0 0 =
+    xor_block k a b 0 0 (pow_pos k) (pow_pos k) in
     sym (simp add-zero at e)
 
 -- the plain product is additive in its first factor

@@ -35,16 +35,19 @@ double_high a h l =
 -- a number is its half, doubled, and its lowest bit
 split_bit : (b : ℕ) → b ≡ bit_xor (b / 2 * 2) (b % 2)
 split_bit b =
-    let e : bit_xor (b / 2 * 2 ^ 1 + 0) (0 * 2 ^ 1 + b % 2) ≡ bit_xor (b / 2) 0 * 2 ^ 1 + bit_xor 0 (b % 2) = xor_block 1 (b / 2) 0 0 (b % 2) (omega arith) (omega arith) in
+    let e : bit_xor (b / 2 * 2 ^ 1 + 0) (0 * 2 ^ 1 + b % 2) ≡ bit_xor (b / 2) 0 * 2 ^ 1 + bit_xor 0 (b % 2) =
+    xor_block 1 (b / 2) 0 0 (b % 2) (omega arith) (omega arith) in
     let f : bit_xor (b / 2 * 2) (b % 2) ≡ b / 2 * 2 + b % 2 = simp (add-zero, zero-add, xor_zero_r) at e in
     omega arith ∙ sym f
 
 -- a b = a (b mod 2) + 2 a (b / 2)
 pub product_halves : (a b : ℕ) → b < 256 → product a b ≡ bit_xor (product (product 2 a) (b / 2)) (product a (b % 2))
 product_halves a b h =
-    let twice : b / 2 * 2 ≡ product 2 (b / 2) = (let e : b / 2 * 2 ≡ b / 2 * 2 % 256 = omega arith in e) ∙ double_low (b / 2) (omega arith) in
+    let twice : b / 2 * 2 ≡ product 2 (b / 2) = (let e : b / 2 * 2 ≡ b / 2 * 2 % 256 = omega arith in e) ∙
+    double_low (b / 2) (omega arith) in
     ap (product a) (split_bit b) ∙ product-xor_r a _ _
-    ∙ ap (λ t. bit_xor t (product a (b % 2))) (ap (product a) twice ∙ sym (product_assoc a 2 (b / 2)) ∙ ap (λ t. product t (b / 2)) (product_comm a 2))
+    ∙ ap (λ t. bit_xor t (product a (b % 2))) (ap (product a) twice ∙ sym (product_assoc a 2 (b / 2)) ∙
+    ap (λ t. product t (b / 2)) (product_comm a 2))
 
 -- the value of a polynomial with one coefficient more
 pub value-push : (cs : List ℕ) (c x : ℕ) → c < 256 → value (cs ++ c ∷ []) x ≡ bit_xor (product (value cs x) x) c
@@ -61,16 +64,19 @@ value-push (d ∷ cs) c x h =
     ∙ sym (product-xor_l (product d p) (value cs x) x))
 
 -- one step of the product's loop, where the lowest bit of b is 1 and where it is 0
-pub product-step_one : (s a b p : ℕ) → a < 256 → b < 256 → b % 2 ≡ 1 → bit_xor s (product a b) ≡ p → bit_xor (bit_xor s a) (product (product 2 a) (b / 2)) ≡ p
+pub product-step_one : (s a b p : ℕ) → a < 256 → b < 256 → b % 2 ≡ 1 → bit_xor s (product a b) ≡ p →
+    bit_xor (bit_xor s a) (product (product 2 a) (b / 2)) ≡ p
 product-step_one s a b p la lb e h =
     xor_assoc s a _
     ∙ ap (bit_xor s)
-    (xor_comm a _ ∙ ap (bit_xor (product (product 2 a) (b / 2))) (sym (product_comm a 1 ∙ one-product a la) ∙ ap (product a) (sym e))
+    (xor_comm a _ ∙ ap (bit_xor (product (product 2 a) (b / 2))) (sym (product_comm a 1 ∙ one-product a la) ∙
+    ap (product a) (sym e))
     ∙ sym (product_halves a b lb))
     ∙ h
 
 -- the same where the lowest bit is 0
-pub product-step_zero : (s a b p : ℕ) → b < 256 → b % 2 ≡ 0 → bit_xor s (product a b) ≡ p → bit_xor s (product (product 2 a) (b / 2)) ≡ p
+pub product-step_zero : (s a b p : ℕ) → b < 256 → b % 2 ≡ 0 → bit_xor s (product a b) ≡ p →
+    bit_xor s (product (product 2 a) (b / 2)) ≡ p
 product-step_zero s a b p lb e h =
     ap (bit_xor s)
     (sym (xor_zero_r _) ∙ ap (bit_xor (product (product 2 a) (b / 2))) (sym (product-zero_r a) ∙ ap (product a) (sym e))

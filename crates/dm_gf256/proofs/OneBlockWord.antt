@@ -18,7 +18,8 @@ length-sum_word (x ∷ xs) [] e = absurd (omega arith)
 length-sum_word (x ∷ xs) (y ∷ ys) e = ap suc (length-sum_word xs ys (omega arith))
 
 -- the value of a sum is the sum of the values
-pub value-sum_word : (xs ys : List ℕ) (x : ℕ) → length xs ≡ length ys → value (sum_word xs ys) x ≡ bit_xor (value xs x) (value ys x)
+pub value-sum_word : (xs ys : List ℕ) (x : ℕ) → length xs ≡ length ys →
+    value (sum_word xs ys) x ≡ bit_xor (value xs x) (value ys x)
 unfolding sum_word value
 value-sum_word [] [] z e = refl
 value-sum_word [] (y ∷ ys) z e = absurd (omega arith)
@@ -43,7 +44,8 @@ bytes-sum_word (x ∷ xs) (y ∷ ys) p q = (xor_lt 8 x y (p.0) (q.0), bytes-sum_
 mark-xor : (x y : ℕ) → mark (bit_xor x y) ≤ cond (eqb x y) 0 1
 unfolding mark
 mark-xor x y =
-    ⊎_elim (λ (e : eqb x y ≡ true). let z : bit_xor x y ≡ 0 = ap (λ t. bit_xor t y) (eqb-true x y e) ∙ xor_self y in rw z (omega arith))
+    ⊎_elim (λ (e : eqb x y ≡ true). let z : bit_xor x y ≡ 0 = ap (λ t. bit_xor t y) (eqb-true x y e) ∙ xor_self y in
+    rw z (omega arith))
     (λ (e : eqb x y ≡ false). rw e (mark_le (bit_xor x y)))
     (cases_Bool (eqb x y))
 
@@ -69,7 +71,8 @@ nonzeros-sum_word (x ∷ xs) (y ∷ ys) = omega (arith, nonzeros-sum_word xs ys,
 -- two elements whose sum is zero are equal
 same_from_zero_sum : (x y : ℕ) → bit_xor x y ≡ 0 → x ≡ y
 same_from_zero_sum x y e =
-    sym (xor_zero_r x) ∙ ap (bit_xor x) (sym (xor_self y)) ∙ sym (xor_assoc x y y) ∙ ap (λ t. bit_xor t y) e ∙ xor_zero_l y
+    sym (xor_zero_r x) ∙ ap (bit_xor x) (sym (xor_self y)) ∙ sym (xor_assoc x y y) ∙ ap (λ t. bit_xor t y) e ∙
+    xor_zero_l y
 
 -- two words whose sum is zero are equal
 pub same_from_zeros : (xs ys : List ℕ) → length xs ≡ length ys → Zeros (sum_word xs ys) → xs ≡ ys
@@ -82,14 +85,16 @@ same_from_zeros (x ∷ xs) (y ∷ ys) e z =
     let t = same_from_zeros xs ys (omega arith) (z.1) in cc
 
 -- two block words of one length that differ in at most c places are equal
-pub one_block_word : (c : ℕ) (a b : List ℕ) → length a ≡ length b → length a ≤ 255 → Bytes a → Bytes b → IsBlockWord c a → IsBlockWord c b → differ a b ≤ c → a ≡ b
+pub one_block_word : (c : ℕ) (a b : List ℕ) → length a ≡ length b → length a ≤ 255 → Bytes a → Bytes b →
+    IsBlockWord c a → IsBlockWord c b → differ a b ≤ c → a ≡ b
 one_block_word c a b e l p q u v d =
     let w = sum_word a b in
     let le : length w ≡ length a = length-sum_word a b e in
     same_from_zeros a b e
     (vanish (length w) c w refl (omega arith) (bytes-sum_word a b p q) (omega (arith, nonzeros-sum_word a b))
     (λ k h. sym (value-moment w (suc k)) ∙ value-sum_word a b (power 2 (suc k)) e
-    ∙ ap (λ t. bit_xor t (value b (power 2 (suc k)))) (u (suc k) (omega arith) (omega arith)) ∙ v (suc k) (omega arith) (omega arith)))
+    ∙ ap (λ t. bit_xor t (value b (power 2 (suc k)))) (u (suc k) (omega arith) (omega arith)) ∙
+    v (suc k) (omega arith) (omega arith)))
 
 -- ---- differ is a distance
 pub differ-self : (a : List ℕ) → differ a a ≡ 0
@@ -98,12 +103,14 @@ differ-self [] = refl
 differ-self (x ∷ xs) = rw (eq-eqb x x refl, differ-self xs) refl
 
 -- the triangle inequality of the number of differing places
-pub differ_triangle : (a b c : List ℕ) → length a ≡ length b → length b ≡ length c → differ a c ≤ differ a b + differ b c
+pub differ_triangle : (a b c : List ℕ) → length a ≡ length b → length b ≡ length c →
+    differ a c ≤ differ a b + differ b c
 unfolding differ
 differ_triangle [] b c p q = omega arith
 differ_triangle (x ∷ xs) [] c p q = absurd (omega arith)
 differ_triangle (x ∷ xs) (y ∷ ys) [] p q = absurd (omega arith)
-differ_triangle (x ∷ xs) (y ∷ ys) (z ∷ zs) p q = omega (arith, apart_triangle x y z, differ_triangle xs ys zs (omega arith) (omega arith))
+differ_triangle (x ∷ xs) (y ∷ ys) (z ∷ zs) p q =
+    omega (arith, apart_triangle x y z, differ_triangle xs ys zs (omega arith) (omega arith))
 
 -- the number of differing places is symmetric
 pub differ_comm : (a b : List ℕ) → length a ≡ length b → differ a b ≡ differ b a

@@ -23,12 +23,14 @@ high_bit : (k b : ℕ) → 2 ^ k ≤ b → b < 2 ^ suc k → (b - 2 ^ k < 2 ^ k)
 high_bit k b p q =
     let two : 2 ^ suc k ≡ 2 * 2 ^ k = pow-succ' 2 k in
     let l : b - 2 ^ k < 2 ^ k = omega arith in
-    let e : bit_xor (1 * 2 ^ k + 0) (0 * 2 ^ k + (b - 2 ^ k)) ≡ bit_xor 1 0 * 2 ^ k + bit_xor 0 (b - 2 ^ k) = xor_block k 1 0 0 (b - 2 ^ k) (pow_pos k) l in
+    let e : bit_xor (1 * 2 ^ k + 0) (0 * 2 ^ k + (b - 2 ^ k)) ≡ bit_xor 1 0 * 2 ^ k + bit_xor 0 (b - 2 ^ k) =
+    xor_block k 1 0 0 (b - 2 ^ k) (pow_pos k) l in
     let e2 : bit_xor (2 ^ k) (b - 2 ^ k) ≡ 2 ^ k + (b - 2 ^ k) = simp (add-zero, one-mul, zero-mul, zero-add) at e in
     (l, e2 ∙ omega arith)
 
 -- what holds of 0, of each 2^i below 2^k, and of a sum where it holds of both parts, holds below 2^k
-pub by_bits : (P : ℕ → Type 0) → P 0 → ((a b : ℕ) → P a → P b → P (bit_xor a b)) → (k : ℕ) → ((i : ℕ) → i < k → P (2 ^ i)) → (b : ℕ) → b < 2 ^ k → P b
+pub by_bits : (P : ℕ → Type 0) → P 0 → ((a b : ℕ) → P a → P b → P (bit_xor a b)) → (k : ℕ) →
+    ((i : ℕ) → i < k → P (2 ^ i)) → (b : ℕ) → b < 2 ^ k → P b
 by_bits P z s zero h b l = let e : 0 ≡ b = omega arith in subst P e z
 by_bits P z s (suc k) h b l =
     let low : (c : ℕ) → c < 2 ^ k → P c = by_bits P z s k (λ i p. h i (omega arith)) in
@@ -60,12 +62,15 @@ unfolding product
 product-mod a b = rw (mod_mod a, mod_mod b) refl
 
 -- ---- the ring laws
-basis_comm : all_below 8 (λ i. all_below 8 (λ j. eqb (product (2 ^ i) (2 ^ j)) (product (2 ^ j) (2 ^ i)) && ltb (product (2 ^ i) (2 ^ j)) 256)) ≡ true
+basis_comm : all_below 8 (λ i. all_below 8
+    (λ j. eqb (product (2 ^ i) (2 ^ j)) (product (2 ^ j) (2 ^ i)) && ltb (product (2 ^ i) (2 ^ j)) 256)) ≡ true
 unfolding all_below product reduced plain
 basis_comm = refl
 
 -- the product of powers of 2 below 256 is associative, by computing
-basis_assoc : all_below 8 (λ i. all_below 8 (λ j. all_below 8 (λ k. eqb (product (product (2 ^ i) (2 ^ j)) (2 ^ k)) (product (2 ^ i) (product (2 ^ j) (2 ^ k)))))) ≡ true
+basis_assoc : all_below 8 (λ i. all_below 8
+    (λ j. all_below 8 (λ k. eqb (product (product (2 ^ i) (2 ^ j)) (2 ^ k))
+    (product (2 ^ i) (product (2 ^ j) (2 ^ k)))))) ≡ true
 unfolding all_below product reduced plain
 basis_assoc = refl
 
@@ -75,17 +80,22 @@ unfolding all_below product reduced plain
 basis_one = refl
 
 -- two powers of 2 below 256 commute, and their product is a byte
-basis_comm-at : (i : ℕ) → i < 8 → (j : ℕ) → j < 8 → (product (2 ^ i) (2 ^ j) ≡ product (2 ^ j) (2 ^ i)) × (product (2 ^ i) (2 ^ j) < 256)
+basis_comm-at : (i : ℕ) → i < 8 → (j : ℕ) → j < 8 → (product (2 ^ i) (2 ^ j) ≡ product (2 ^ j) (2 ^ i)) ×
+    (product (2 ^ i) (2 ^ j) < 256)
 basis_comm-at i p j q =
     let parts = and_parts _ _ (all_below-at 8 _ (all_below-at 8 _ basis_comm i p) j q) in
     (eqb-true _ _ (parts.0), ltb-true _ _ (parts.1))
 
 -- three powers of 2 below 256 are associative
-basis_assoc-at : (i : ℕ) → i < 8 → (j : ℕ) → j < 8 → (k : ℕ) → k < 8 → product (product (2 ^ i) (2 ^ j)) (2 ^ k) ≡ product (2 ^ i) (product (2 ^ j) (2 ^ k))
-basis_assoc-at i p j q k r = eqb-true _ _ (all_below-at 8 _ (all_below-at 8 _ (all_below-at 8 _ basis_assoc i p) j q) k r)
+basis_assoc-at : (i : ℕ) → i < 8 → (j : ℕ) → j < 8 → (k : ℕ) → k < 8 →
+    product (product (2 ^ i) (2 ^ j)) (2 ^ k) ≡ product (2 ^ i) (product (2 ^ j) (2 ^ k))
+basis_assoc-at i p j q k r = eqb-true _ _
+    (all_below-at 8 _ (all_below-at 8 _ (all_below-at 8 _ basis_assoc i p) j q) k r)
 
 -- two additive functions that agree at the powers of 2 agree below 256
-agree : (f g : ℕ → ℕ) → ((a b : ℕ) → f (bit_xor a b) ≡ bit_xor (f a) (f b)) → ((a b : ℕ) → g (bit_xor a b) ≡ bit_xor (g a) (g b)) → ((i : ℕ) → i < 8 → f (2 ^ i) ≡ g (2 ^ i)) → (b : ℕ) → b < 256 → f b ≡ g b
+agree : (f g : ℕ → ℕ) → ((a b : ℕ) → f (bit_xor a b) ≡ bit_xor (f a) (f b)) →
+    ((a b : ℕ) → g (bit_xor a b) ≡ bit_xor (g a) (g b)) → ((i : ℕ) → i < 8 → f (2 ^ i) ≡ g (2 ^ i)) → (b : ℕ) →
+    b < 256 → f b ≡ g b
 agree f g F G h =
     by_bits (λ b. f b ≡ g b) (F 0 0 ∙ xor_self (f 0) ∙ sym (G 0 0 ∙ xor_self (g 0)))
     (λ a b p q. F a b ∙ ap (λ t. bit_xor t (f b)) p ∙ ap (λ t. bit_xor (g a) t) q ∙ sym (G a b)) 8 h
@@ -94,7 +104,8 @@ agree f g F G h =
 comm_below : (a : ℕ) → a < 256 → (b : ℕ) → b < 256 → product a b ≡ product b a
 comm_below a p =
     agree (λ b. product a b) (λ b. product b a) (product-xor_r a) (λ x y. product-xor_l x y a)
-    (λ j jl. agree (λ a. product a (2 ^ j)) (λ a. product (2 ^ j) a) (λ x y. product-xor_l x y (2 ^ j)) (product-xor_r (2 ^ j))
+    (λ j jl. agree (λ a. product a (2 ^ j)) (λ a. product (2 ^ j) a) (λ x y. product-xor_l x y (2 ^ j))
+    (product-xor_r (2 ^ j))
     (λ i il. (basis_comm-at i il j jl).0) a p)
 
 -- the product is commutative
@@ -111,10 +122,12 @@ byte_below a p =
 
 -- every product is a byte
 pub product_byte : (a b : ℕ) → product a b < 256
-product_byte a b = let P : ℕ → Type 0 = λ t. t < 256 in subst P (product-mod a b) (byte_below (a % 256) (byte a) (b % 256) (byte b))
+product_byte a b = let P : ℕ → Type 0 = λ t. t < 256 in
+    subst P (product-mod a b) (byte_below (a % 256) (byte a) (b % 256) (byte b))
 
 -- the product of bytes is associative
-assoc_below : (a : ℕ) → a < 256 → (b : ℕ) → b < 256 → (c : ℕ) → c < 256 → product (product a b) c ≡ product a (product b c)
+assoc_below : (a : ℕ) → a < 256 → (b : ℕ) → b < 256 → (c : ℕ) → c < 256 →
+    product (product a b) c ≡ product a (product b c)
 assoc_below a p b q =
     agree (λ c. product (product a b) c) (λ c. product a (product b c)) (product-xor_r (product a b))
     (λ x y. ap (product a) (product-xor_r b x y) ∙ product-xor_r a _ _)
@@ -145,7 +158,8 @@ product_assoc a b c =
 
 -- 1 times a byte is the byte
 pub one-product : (a : ℕ) → a < 256 → product 1 a ≡ a
-one-product = agree (product 1) (λ b. b) (product-xor_r 1) (λ a b. refl) (λ i il. eqb-true _ _ (all_below-at 8 _ basis_one i il))
+one-product = agree (product 1) (λ b. b) (product-xor_r 1)
+    (λ a b. refl) (λ i il. eqb-true _ _ (all_below-at 8 _ basis_one i il))
 
 -- ---- inverses: the power 254
 unfoldable pub inverse : ℕ → ℕ
@@ -194,7 +208,8 @@ inverse_byte a h = power_byte a 254 h
 pub product_cancel : (a b c : ℕ) → 0 < a → a < 256 → b < 256 → c < 256 → product a b ≡ product a c → b ≡ c
 product_cancel a b c p q r s e =
     let back : (x : ℕ) → x < 256 → product (inverse a) (product a x) ≡ x =
-    λ x l. sym (product_assoc (inverse a) a x) ∙ ap (λ t. product t x) (product_comm (inverse a) a ∙ product-inverse a p q) ∙ one-product x l in
+    λ x l. sym (product_assoc (inverse a) a x) ∙
+    ap (λ t. product t x) (product_comm (inverse a) a ∙ product-inverse a p q) ∙ one-product x l in
     sym (back b r) ∙ ap (product (inverse a)) e ∙ back c s
 
 -- no product of nonzero elements is 0
@@ -213,7 +228,9 @@ power_two_distinct i j p q e =
     let d = j - i in
     let f : i + d ≡ j = omega arith in
     let g : product (power 2 i) (power 2 d) ≡ product (power 2 i) 1 =
-    sym (power-add 2 i d (omega arith)) ∙ ap (power 2) f ∙ sym e ∙ sym (product_comm (power 2 i) 1 ∙ one-product _ (power_byte 2 i (omega arith))) in
-    let one : power 2 d ≡ 1 = product_cancel (power 2 i) (power 2 d) 1 (power_two_pos i (omega arith)) (power_byte 2 i (omega arith)) (power_byte 2 d (omega arith)) (omega arith) g in
+    sym (power-add 2 i d (omega arith)) ∙ ap (power 2) f ∙ sym e ∙
+    sym (product_comm (power 2 i) 1 ∙ one-product _ (power_byte 2 i (omega arith))) in
+    let one : power 2 d ≡ 1 = product_cancel (power 2 i) (power 2 d) 1 (power_two_pos i (omega arith))
+    (power_byte 2 i (omega arith)) (power_byte 2 d (omega arith)) (omega arith) g in
     let big : 1 < power 2 d = power_above_one d (omega arith) (omega arith) in
     omega arith

@@ -16,7 +16,8 @@ doubles = refl
 pub powers_table : (k : ℕ) → k < 510 → get_or POWERS k 0 ≡ power 2 k
 unfolding power
 powers_table zero h = refl
-powers_table (suc k) h = eqb-true _ _ (all_below-at 509 _ doubles k (omega arith)) ∙ ap (product 2) (powers_table k (omega arith))
+powers_table (suc k) h = eqb-true _ _ (all_below-at 509 _ doubles k (omega arith)) ∙
+    ap (product 2) (powers_table k (omega arith))
 
 -- 2 to the power 255 is 1
 pub whole_turn : power 2 255 ≡ 1
@@ -32,7 +33,8 @@ zeros_table : (k : ℕ) → k < 511 → get_or POWERS (510 + k) 0 ≡ 0
 zeros_table k h = eqb-true _ _ (all_below-at 511 _ zeros_checked k h)
 
 -- each nonzero entry of LOGS is an exponent below 255 of its index, by computing
-logs_checked : all_below 255 (λ k. eqb (get_or POWERS (get_or LOGS (suc k) 0) 0) (suc k) && ltb (get_or LOGS (suc k) 0) 255) ≡ true
+logs_checked : all_below 255 (λ k. eqb (get_or POWERS (get_or LOGS (suc k) 0) 0)
+    (suc k) && ltb (get_or LOGS (suc k) 0) 255) ≡ true
 unfolding all_below
 logs_checked = refl
 
@@ -51,16 +53,19 @@ exponent_table (suc k) h = let u = log_of (suc k) (omega arith) h in inl (u.1, u
 
 -- an exponent is at most 510
 pub exponent_most : (a e : ℕ) → IsExponent a e → e ≤ 510
-exponent_most a e = ⊎_elim (λ (l : (e < 255) × (power 2 e ≡ a)). (let m : e < 255 = l.0 in omega arith)) (λ (z : (e ≡ 510) × (a ≡ 0)). (let m : e ≡ 510 = z.0 in omega arith))
+exponent_most a e = ⊎_elim (λ (l : (e < 255) × (power 2 e ≡ a)). (let m : e < 255 = l.0 in omega arith))
+    (λ (z : (e ≡ 510) × (a ≡ 0)). (let m : e ≡ 510 = z.0 in omega arith))
 
 -- the exponent of a nonzero element is below 255
 pub exponent_below : (a e : ℕ) → 0 < a → IsExponent a e → (e < 255) × (power 2 e ≡ a)
-exponent_below a e p = ⊎_elim (λ (l : (e < 255) × (power 2 e ≡ a)). l) (λ (z : (e ≡ 510) × (a ≡ 0)). (let m : a ≡ 0 = z.1 in absurd (omega arith)))
+exponent_below a e p = ⊎_elim (λ (l : (e < 255) × (power 2 e ≡ a)). l) (λ (z : (e ≡ 510) × (a ≡ 0)). (let m : a ≡ 0 =
+    z.1 in absurd (omega arith)))
 
 -- a zero among the factors
 past : (e f a b : ℕ) → a ≡ 0 → e ≡ 510 → f ≤ 510 → get_or POWERS (e + f) 0 ≡ product a b
 past e f a b z h l =
-    ap (λ n. get_or POWERS (n + f) 0) h ∙ zeros_table f (omega arith) ∙ sym (product-zero_l b) ∙ ap (λ n. product n b) (sym z)
+    ap (λ n. get_or POWERS (n + f) 0) h ∙ zeros_table f (omega arith) ∙ sym (product-zero_l b) ∙
+    ap (λ n. product n b) (sym z)
 
 -- the entry at an exponent and k is the product with 2 to the power k
 pub power_product : (a e k : ℕ) → IsExponent a e → k < 256 → get_or POWERS (e + k) 0 ≡ product a (power 2 k)
@@ -78,7 +83,8 @@ product_table a b e f h i =
     let m : f < 255 = p.0 in
     power_product a e f h (omega arith) ∙ ap (product a) (p.1))
     (λ (z : (f ≡ 510) × (b ≡ 0)).
-    ap (λ n. get_or POWERS n 0) (let s : e + f ≡ f + e = omega arith in s) ∙ past f e b a (z.1) (z.0) (exponent_most a e h) ∙ product_comm b a)
+    ap (λ n. get_or POWERS n 0) (let s : e + f ≡ f + e = omega arith in s) ∙
+    past f e b a (z.1) (z.0) (exponent_most a e h) ∙ product_comm b a)
     i
 
 -- the entry at 255 less an exponent is the inverse

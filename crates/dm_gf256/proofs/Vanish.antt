@@ -97,13 +97,16 @@ value-moment (y ∷ ys) k =
     ∙ ap (λ t. bit_xor (product y (power (power 2 n) k)) t) (value-moment ys k)
 
 -- ---- weighing with X + x takes the moments S(k) to S(k+1) + x S(k)
-pub moment-weigh_shift : (x : ℕ) (ys : List ℕ) (k : ℕ) → moment (weigh (λ t. bit_xor t x) ys) k ≡ bit_xor (moment ys (suc k)) (product x (moment ys k))
+pub moment-weigh_shift : (x : ℕ) (ys : List ℕ) (k : ℕ) →
+    moment (weigh (λ t. bit_xor t x) ys) k ≡ bit_xor (moment ys (suc k)) (product x (moment ys k))
 unfolding moment weigh power
 moment-weigh_shift x [] k = sym (product-zero_r x)
 moment-weigh_shift x (y ∷ ys) k =
     let L = position_value ys in let P = power L k in let A = product y (power L (suc k)) in
-    let e : power (position_value (weigh (λ t. bit_xor t x) ys)) k ≡ P = ap (λ n. power (power 2 n) k) (length-weigh (λ t. bit_xor t x) ys) in
-    let B : product y (product x P) ≡ product x (product y P) = sym (product_assoc y x P) ∙ ap (λ t. product t P) (product_comm y x) ∙ product_assoc x y P in
+    let e : power (position_value (weigh (λ t. bit_xor t x) ys)) k ≡ P =
+    ap (λ n. power (power 2 n) k) (length-weigh (λ t. bit_xor t x) ys) in
+    let B : product y (product x P) ≡ product x (product y P) = sym (product_assoc y x P) ∙
+    ap (λ t. product t P) (product_comm y x) ∙ product_assoc x y P in
     let head : product (product y (bit_xor L x)) P ≡ bit_xor A (product x (product y P)) =
     product_assoc y (bit_xor L x) P ∙ ap (product y) (product-xor_l L x P) ∙ product-xor_r y _ _ ∙ ap (bit_xor A) B in
     ap (λ t. bit_xor (product (product y (bit_xor L x)) t) (moment (weigh (λ t. bit_xor t x) ys) k)) e
@@ -118,16 +121,21 @@ xor_apart a b h =
     ⊎_elim (λ (e : 0 < bit_xor a b). e)
     (λ (e : bit_xor a b ≤ 0).
     let z : bit_xor a b ≡ 0 = omega arith in
-    absurd (h (sym (xor_zero_r a) ∙ ap (bit_xor a) (sym (xor_self b)) ∙ sym (xor_assoc a b b) ∙ ap (λ t. bit_xor t b) z ∙ xor_zero_l b)))
+    absurd (h (sym (xor_zero_r a) ∙ ap (bit_xor a) (sym (xor_self b)) ∙ sym (xor_assoc a b b) ∙
+    ap (λ t. bit_xor t b) z ∙ xor_zero_l b)))
     (cases_lt 0 (bit_xor a b))
 
 -- a word whose multiples by nonzero factors are zero is zero
-zeros-unweigh : (x : ℕ) (ys : List ℕ) → x < 256 → Bytes ys → ((j : ℕ) → j < length ys → 0 < bit_xor (power 2 j) x) → Zeros (weigh (λ t. bit_xor t x) ys) → Zeros ys
+zeros-unweigh : (x : ℕ) (ys : List ℕ) → x < 256 → Bytes ys → ((j : ℕ) → j < length ys → 0 < bit_xor (power 2 j) x) →
+    Zeros (weigh (λ t. bit_xor t x) ys) → Zeros ys
 unfolding weigh
 zeros-unweigh x [] xl b h z = tt
 zeros-unweigh x (y ∷ ys) xl b h z =
-    let w : product (bit_xor (position_value ys) x) y ≡ 0 = product_comm _ y ∙ z.0 in
-    (product_zero (bit_xor (position_value ys) x) y (h (length ys) (omega arith)) (xor_lt 8 _ _ (power_byte 2 (length ys) (omega arith)) xl) (b.0) w, zeros-unweigh x ys xl (b.1) (λ j p. h j (omega arith)) (z.1))
+    let w : product (bit_xor (position_value ys) x) y ≡ 0 = product_comm _ y ∙ z.0 in (
+      product_zero (bit_xor (position_value ys) x) y (h (length ys) (omega arith))
+          (xor_lt 8 _ _ (power_byte 2 (length ys) (omega arith)) xl) (b.0) w,
+      zeros-unweigh x ys xl (b.1) (λ j p. h j (omega arith)) (z.1),
+    )
 
 -- the sums of a zero word are zero
 pub moment-zeros : (ys : List ℕ) (k : ℕ) → Zeros ys → moment ys k ≡ 0
@@ -138,7 +146,8 @@ moment-zeros (y ∷ ys) k z =
     ∙ ap (λ t. bit_xor t (moment ys k)) (product-zero_l _) ∙ moment-zeros ys k (z.1)
 
 -- n is the length, for the recursion
-pub vanish : (n c : ℕ) (ys : List ℕ) → length ys ≡ n → n ≤ 255 → Bytes ys → nonzeros ys ≤ c → ((k : ℕ) → k < c → moment ys (suc k) ≡ 0) → Zeros ys
+pub vanish : (n c : ℕ) (ys : List ℕ) → length ys ≡ n → n ≤ 255 → Bytes ys → nonzeros ys ≤ c →
+    ((k : ℕ) → k < c → moment ys (suc k) ≡ 0) → Zeros ys
 unfolding nonzeros mark moment weigh power
 vanish zero c [] e l b h s = tt
 vanish zero c (y ∷ ys) e l b h s = absurd (omega arith)
@@ -154,17 +163,23 @@ vanish (suc n) (suc c) (suc m ∷ ys) e l b h s =
     let ws = weigh (λ t. bit_xor t x) ys in
     let sums : (k : ℕ) → k < c → moment ws (suc k) ≡ 0 = λ k p.
     let whole : moment (weigh (λ t. bit_xor t x) (suc m ∷ ys)) (suc k) ≡ 0 =
-    moment-weigh_shift x (suc m ∷ ys) (suc k) ∙ ap (λ t. bit_xor t (product x (moment (suc m ∷ ys) (suc k)))) (s (suc k) (omega arith))
+    moment-weigh_shift x (suc m ∷ ys) (suc k) ∙ ap (λ t. bit_xor t (product x (moment (suc m ∷ ys) (suc k))))
+    (s (suc k) (omega arith))
     ∙ ap (product x) (s k (omega arith)) ∙ product-zero_r x in
     let P = power (position_value ws) (suc k) in
     let head : product (product (suc m) (bit_xor x x)) P ≡ 0 =
-    ap (λ t. product (product (suc m) t) P) (xor_self x) ∙ ap (λ t. product t P) (product-zero_r (suc m)) ∙ product-zero_l P in
+    ap (λ t. product (product (suc m) t) P) (xor_self x) ∙ ap (λ t. product t P) (product-zero_r (suc m)) ∙
+    product-zero_l P in
     sym (ap (λ t. bit_xor t (moment ws (suc k))) head) ∙ whole in
-    let zs : Zeros ws = vanish n c ws (length-weigh (λ t. bit_xor t x) ys ∙ (let e : length ys ≡ n = omega arith in e)) (omega arith) (bytes-weigh (λ t. bit_xor t x) ys) (omega (arith, nonzeros-weigh (λ t. bit_xor t x) ys)) sums in
-    let rest : Zeros ys = zeros-unweigh x ys (power_byte 2 _ (omega arith)) (b.1) (λ j p. xor_apart _ _ (power_two_distinct j (length ys) p (omega arith))) zs in
+    let zs : Zeros ws = vanish n c ws (length-weigh (λ t. bit_xor t x) ys ∙
+    (let e : length ys ≡ n = omega arith in e)) (omega arith) (bytes-weigh (λ t. bit_xor t x) ys)
+    (omega (arith, nonzeros-weigh (λ t. bit_xor t x) ys)) sums in
+    let rest : Zeros ys = zeros-unweigh x ys (power_byte 2 _ (omega arith))
+    (b.1) (λ j p. xor_apart _ _ (power_two_distinct j (length ys) p (omega arith))) zs in
     let x_byte : x < 256 = power_byte 2 _ (omega arith) in
     let one : product (suc m) (power x 1) ≡ 0 =
-    sym (xor_zero_r _) ∙ ap (bit_xor (product (suc m) (power x 1))) (sym (moment-zeros ys 1 rest)) ∙ s 0 (omega arith) in
+    sym (xor_zero_r _) ∙ ap (bit_xor (product (suc m) (power x 1))) (sym (moment-zeros ys 1 rest)) ∙
+    s 0 (omega arith) in
     let is_x : power x 1 ≡ x = product_comm x 1 ∙ one-product x x_byte in
     let none : product x (suc m) ≡ 0 = product_comm x (suc m) ∙ sym (ap (product (suc m)) is_x) ∙ one in
     (product_zero x (suc m) (power_two_pos (length ys) (omega arith)) x_byte (b.0) none, rest)

@@ -55,4 +55,5 @@ row_taken pixels old new w s row ew hr whole en eo =
 
 -- all modules inside the quiet zone
 pub length-inside : (p : Picture) → length (modules_inside p) ≡ (p.width - 2) * (p.width - 2)
-length-inside p = length-map-range_with_len (inner_module p.pixels p.width (p.width - 2)) 0 ((p.width - 2) * (p.width - 2))
+length-inside p = length-map-range_with_len (inner_module p.pixels p.width (p.width - 2)) 0
+    ((p.width - 2) * (p.width - 2))

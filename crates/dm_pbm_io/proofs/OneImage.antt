@@ -38,7 +38,8 @@ open_stays (b ∷ d) e =
 pub closed_none : (d : List ℕ) → signs_from false d ≡ [] → in_comment false d ≡ false → d ≡ []
 closed_none [] e c = refl
 closed_none (b ∷ d) e c =
-    elim (is_hidden false b) as (λ h. cond h (signs_from true d) (b ∷ signs_from false d) ≡ [] → in_comment h d ≡ false → b ∷ d ≡ []) [
+    elim (is_hidden false b) as (λ h. cond h (signs_from true d) (b ∷ signs_from false d) ≡ [] →
+    in_comment h d ≡ false → b ∷ d ≡ []) [
       | true ↦ λ f k. let o = open_stays d f in cc
       | false ↦ λ f k. cc
     ] e c
@@ -91,7 +92,8 @@ one_packed : (a b x y : List ℕ) (w h : ℕ) (p q : List Bool) → IsPackedRast
     → a ++ x ≡ b ++ y → (a ≡ b) × (p ≡ q)
 one_packed a b x y w h p q r s e =
     let m = same_fronts a b x y (length-packed a w h p r ∙ sym (length-packed b w h q s)) e in
-    let rows = same_rows (stride w) r.rows s.rows r.each s.each (r.count ∙ sym s.count) (sym r.raster_is ∙ m.0 ∙ s.raster_is) in
+    let rows = same_rows (stride w) r.rows s.rows r.each s.each (r.count ∙ sym s.count) (sym r.raster_is ∙ m.0 ∙
+    s.raster_is) in
     (m.0, r.pixels_are ∙ ap (flat_map (row_of w)) rows ∙ sym s.pixels_are)
 
 same_digit : (p q : Bool) → digit_of p ≡ digit_of q → p ≡ q
@@ -144,7 +146,8 @@ no_more [] n = refl
 no_more (b ∷ d) n = absurd (n (omega arith))
 
 -- a plain raster that goes on with d is none of as many pixels, unless d is nothing
-plain_ends : (a d : List ℕ) (count : ℕ) (p q : List Bool) → IsPlainRaster a count p → IsPlainRaster (a ++ d) count q → (d ≡ []) × (p ≡ q)
+plain_ends : (a d : List ℕ) (count : ℕ) (p q : List Bool) → IsPlainRaster a count p → IsPlainRaster (a ++ d) count q →
+    (d ≡ []) × (p ≡ q)
 plain_ends a d count p q r s =
     let b = signs_after a d r.closed in
     let shut = sym b.1 ∙ s.closed in
@@ -157,7 +160,8 @@ plain_ends a d count p q r s =
     let none : length (filter is_pixel_digit (signs d)) ≡ 0 = omega (arith, r.count_is, s.count_is) in
     let empty : d ≡ [] = no_more d (λ n. let last = last_after a d s.front (digit_of s.last) s.ends n in
     let some = digits_after d last.0 s.last last.1 shut in omega arith) in
-    let same : map digit_of q ≡ map digit_of p = kept ∙ ap (λ t. map digit_of p ++ filter is_pixel_digit (signs t)) empty
+    let same : map digit_of q ≡ map digit_of p = kept ∙
+    ap (λ t. map digit_of p ++ filter is_pixel_digit (signs t)) empty
     ∙ append-nil (map digit_of p) in
     (empty, sym (same_digits q p same))
 
@@ -193,7 +197,8 @@ one_magic true false x y e = let h : ◌≡◌ {A = ℕ} 49 52 = cc in absurd (o
 one_magic false true x y e = let h : ◌≡◌ {A = ℕ} 52 49 = cc in absurd (omega arith)
 
 -- pictures with the same fields
-pub same_picture : (p q : Picture) → p.width ≡ q.width → p.height ≡ q.height → p.pixels ≡ q.pixels → p.plain ≡ q.plain → p ≡ q
+pub same_picture : (p q : Picture) → p.width ≡ q.width → p.height ≡ q.height → p.pixels ≡ q.pixels →
+    p.plain ≡ q.plain → p ≡ q
 same_picture p q w h x f = λ i. record { width = w i; height = h i; pixels = x i; plain = f i }
 
 pub capped_same : (m n : ℕ) → m ≤ 1024 → n ≤ 1024 → min m 1025 ≡ min n 1025 → m ≡ n

@@ -17,7 +17,8 @@ use Rattle.dm_pbm_io.specs.SymbolImage.{pixel_with_quiet_zone, pixels_with_quiet
 abbrev over : ℕ → ℕ → List Bool → List Bool → List Bool
 over a k xs ys = take a xs ++ (ys ++ drop k (drop a xs))
 
-over_below : (a k : ℕ) (xs ys : List Bool) (i : ℕ) → a ≤ length xs → i < a → get_or (over a k xs ys) i false ≡ get_or xs i false
+over_below : (a k : ℕ) (xs ys : List Bool) (i : ℕ) → a ≤ length xs → i < a →
+    get_or (over a k xs ys) i false ≡ get_or xs i false
 over_below a k xs ys i h l =
     let size = length-take-le a xs h in
     get_or_append_left (take a xs) (ys ++ drop k (drop a xs)) false i (omega (arith, size)) ∙ get_or-take a xs i false l
@@ -55,7 +56,8 @@ pub same_place : (g : Square) (n row : ℕ) (xs ys : List Bool) → n ≡ g.side
     (g.side + 2) + 1) g.side xs ys
 same_place g n row xs ys e =
     let size : (row + 1) * (n + 2) + 1 + n - ((row + 1) * (n + 2) + 1) ≡ g.side = omega arith in
-    ap (λ (k : ℕ). over ((row + 1) * (n + 2) + 1) k xs ys) size ∙ ap (λ (m : ℕ). over ((row + 1) * (m + 2) + 1) g.side xs ys) e
+    ap (λ (k : ℕ). over ((row + 1) * (n + 2) + 1) k xs ys) size ∙
+    ap (λ (m : ℕ). over ((row + 1) * (m + 2) + 1) g.side xs ys) e
 
 -- what is drawn, and what is still light
 reached : (r n : ℕ) (b : Bool) → r < n → (if nat_lt r n then b else false) ≡ b
@@ -78,7 +80,8 @@ right : (g : Square) (r c : ℕ) → g.side + 1 ≤ c → pixel_with_quiet_zone 
 right g r c h = grind (arith, nat_tests)
 
 -- a module and its pixel
-pub within : (g : Square) (r c : ℕ) → r < g.side → c < g.side → pixel_with_quiet_zone g (r + 1) (c + 1) ≡ module_at g r c
+pub within : (g : Square) (r c : ℕ) → r < g.side → c < g.side →
+    pixel_with_quiet_zone g (r + 1) (c + 1) ≡ module_at g r c
 within g r c h k =
     let a : r + 1 - 1 ≡ r = omega arith in
     let b : c + 1 - 1 ≡ c = omega arith in
@@ -102,16 +105,20 @@ nothing_drawn g w =
     }
 
 -- the modules of a row, of which the grid has them all
-row_size : (g : Square) (row : ℕ) → IsWhole g → row < g.side → length (between (row * g.side) ((row + 1) * g.side) g.modules) ≡ g.side
+row_size : (g : Square) (row : ℕ) → IsWhole g → row < g.side →
+    length (between (row * g.side) ((row + 1) * g.side) g.modules) ≡ g.side
 row_size g row whole h =
-    let fits : (row + 1) * g.side ≤ g.side * g.side = mul-le-mul_right g.side (let below : row + 1 ≤ g.side = omega arith in below) in
+    let fits : (row + 1) * g.side ≤ g.side * g.side =
+    mul-le-mul_right g.side (let below : row + 1 ≤ g.side = omega arith in below) in
     length-between g.modules (row * g.side) ((row + 1) * g.side) (omega (arith, whole)) ∙ omega arith
 
 -- a pixel of the row that is drawn
 new_row : (g : Square) (w rows : ℕ) (pixels modules : List Bool) → IsWhole g → w ≡ g.side + 2 → rows < g.side
-    → modules ≡ between (rows * g.side) ((rows + 1) * g.side) g.modules → (rows + 1) * w + w ≤ length pixels → IsDrawnTo g w rows pixels
+    → modules ≡ between (rows * g.side) ((rows + 1) * g.side) g.modules → (rows + 1) * w + w ≤ length pixels →
+    IsDrawnTo g w rows pixels
     → (c : ℕ) → c < w
-    → get_or (over ((rows + 1) * w + 1) g.side pixels modules) ((rows + 1) * w + c) false ≡ pixel_with_quiet_zone g (rows + 1) c
+    → get_or (over ((rows + 1) * w + 1) g.side pixels modules) ((rows + 1) * w + c) false ≡ pixel_with_quiet_zone g
+    (rows + 1) c
 new_row g w rows pixels modules whole ew hrow em fits before c hc =
     let n = g.side in
     let r = rows + 1 in
@@ -119,7 +126,8 @@ new_row g w rows pixels modules whole ew hrow em fits before c hc =
     let size : length modules ≡ n = ap length em ∙ row_size g rows whole hrow in
     let light : get_or pixels (r * w + c) false ≡ false = before.drawn r c (omega arith) hc
     ∙ not_reached r (rows + 1) (pixel_with_quiet_zone g r c) (omega arith) in
-    ⊎_elim (λ (h : c < 1). over_below start n pixels modules (r * w + c) (omega arith) (omega arith) ∙ light ∙ sym (left g r c h))
+    ⊎_elim (λ (h : c < 1). over_below start n pixels modules (r * w + c) (omega arith) (omega arith) ∙ light ∙
+    sym (left g r c h))
     (λ (h : 1 ≤ c).
     ⊎_elim (λ (l : c < n + 1).
     let k = c - 1 in
@@ -132,13 +140,15 @@ new_row g w rows pixels modules whole ew hrow em fits before c hc =
     ∙ ap (λ (xs : List Bool). get_or xs k false) em
     ∙ get_or-between g.modules (rows * n) ((rows + 1) * n) k false (omega (arith, row))
     ∙ sym (within g rows k hrow below) ∙ ap (λ (x : ℕ). pixel_with_quiet_zone g r x) column)
-    (λ (l : n + 1 ≤ c). over_above start n pixels modules (r * w + c) (omega arith) size (omega arith) ∙ light ∙ sym (right g r c l))
+    (λ (l : n + 1 ≤ c). over_above start n pixels modules (r * w + c) (omega arith) size (omega arith) ∙ light ∙
+    sym (right g r c l))
     (cases_lt c (n + 1)))
     (cases_lt c 1)
 
 -- one row more
 pub row_drawn : (g : Square) (w rows : ℕ) (pixels new modules : List Bool) → IsWhole g → w ≡ g.side + 2 → rows < g.side
-    → modules ≡ between (rows * g.side) ((rows + 1) * g.side) g.modules → new ≡ over ((rows + 1) * w + 1) g.side pixels modules
+    → modules ≡ between (rows * g.side) ((rows + 1) * g.side) g.modules →
+    new ≡ over ((rows + 1) * w + 1) g.side pixels modules
     → IsDrawnTo g w rows pixels → IsDrawnTo g w (rows + 1) new
 row_drawn g w rows pixels new modules whole ew hrow em en before =
     let n = g.side in
@@ -174,7 +184,8 @@ row_drawn g w rows pixels new modules whole ew hrow em en before =
     }
 
 -- all rows
-pub all_drawn : (g : Square) (w rows : ℕ) (pixels : List Bool) → w ≡ g.side + 2 → rows ≡ g.side → IsDrawnTo g w rows pixels
+pub all_drawn : (g : Square) (w rows : ℕ) (pixels : List Bool) → w ≡ g.side + 2 → rows ≡ g.side →
+    IsDrawnTo g w rows pixels
     → (r c : ℕ) → r < w → c < w → get_or pixels (r * w + c) false ≡ pixel_with_quiet_zone g r c
 all_drawn g w rows pixels ew er drawn r c hr hc =
     drawn.drawn r c hr hc
@@ -183,10 +194,12 @@ all_drawn g w rows pixels ew er drawn r c hr hc =
     (cases_lt r (rows + 1))
 
 -- so they are the pixels of the image
-pub drawn_pixels : (g : Square) (w rows : ℕ) (pixels : List Bool) → w ≡ g.side + 2 → rows ≡ g.side → IsDrawnTo g w rows pixels
+pub drawn_pixels : (g : Square) (w rows : ℕ) (pixels : List Bool) → w ≡ g.side + 2 → rows ≡ g.side →
+    IsDrawnTo g w rows pixels
     → pixels ≡ pixels_with_quiet_zone g
 drawn_pixels g w rows pixels ew er drawn =
-    fill_by_all (λ i. pixel_with_quiet_zone g (i / (g.side + 2)) (i % (g.side + 2))) pixels ((g.side + 2) * (g.side + 2)) false
+    fill_by_all (λ i. pixel_with_quiet_zone g (i / (g.side + 2)) (i % (g.side + 2))) pixels
+    ((g.side + 2) * (g.side + 2)) false
     (drawn.count ∙ ap (λ n. n * n) ew)
     (λ k h.
     let r = k / (g.side + 2) in

@@ -48,7 +48,8 @@ length-row_of width row n = let e = length-bits row in simp length-take (omega a
 pub packed_none : (width : ℕ) → IsPackedRaster [] width 0 []
 packed_none width = record { rows = []; count = refl; each = tt; raster_is = refl; pixels_are = refl }
 
-all-append : {X : Type 0} (P : X → Type 0) (xs : List X) (x : X) → AllByRecursion P xs → P x → AllByRecursion P (xs ++ x ∷ [])
+all-append : {X : Type 0} (P : X → Type 0) (xs : List X) (x : X) → AllByRecursion P xs → P x →
+    AllByRecursion P (xs ++ x ∷ [])
 all-append P [] x h p = (p, tt)
 all-append P (y ∷ xs) x h p = (h.0, all-append P xs x h.1 p)
 
@@ -59,16 +60,20 @@ packed_more raster row width height pixels p n = record {
   rows = p.rows ++ row ∷ [];
   count = let e = p.count in simp length-append (omega arith);
   each = all-append (λ r. length r ≡ stride width) p.rows row p.each n;
-  raster_is = sym (concat-append p.rows (row ∷ []) ∙ ap (λ r. concat p.rows ++ r) (append-nil row) ∙ ap (λ r. r ++ row) (sym p.raster_is));
+  raster_is = sym (concat-append p.rows (row ∷ []) ∙ ap (λ r. concat p.rows ++ r) (append-nil row) ∙
+      ap (λ r. r ++ row) (sym p.raster_is));
   pixels_are = sym (flat_map-append (row_of width) p.rows (row ∷ [])
-      ∙ ap (λ r. flat_map (row_of width) p.rows ++ r) (append-nil (row_of width row)) ∙ ap (λ r. r ++ row_of width row) (sym p.pixels_are));
+      ∙ ap (λ r. flat_map (row_of width) p.rows ++ r) (append-nil (row_of width row)) ∙
+      ap (λ r. r ++ row_of width row) (sym p.pixels_are));
 }
 
-length-concat : (n : ℕ) (rows : List (List ℕ)) → AllByRecursion (λ r. length r ≡ n) rows → length (concat rows) ≡ length rows * n
+length-concat : (n : ℕ) (rows : List (List ℕ)) → AllByRecursion (λ r. length r ≡ n) rows →
+    length (concat rows) ≡ length rows * n
 length-concat n [] h = omega arith
 length-concat n (r ∷ rows) h = let e = length-concat n rows h.1 in let f = h.0 in simp length-append (grind arith)
 
-pub length-packed : (raster : List ℕ) (width height : ℕ) (pixels : List Bool) → IsPackedRaster raster width height pixels
+pub length-packed : (raster : List ℕ) (width height : ℕ) (pixels : List Bool) →
+    IsPackedRaster raster width height pixels
     → length raster ≡ height * stride width
 length-packed raster width height pixels p = ap length p.raster_is ∙ length-concat (stride width) p.rows p.each
     ∙ ap (λ n. n * stride width) p.count
@@ -86,7 +91,8 @@ white_more text s pixels p h =
     record {
       allowed = list_all-append is_plain_sign text (s ∷ []) ∙ rw (p.allowed, sign) refl;
       digits = filter-append is_pixel_digit text (s ∷ [])
-          ∙ ap (λ t. filter is_pixel_digit text ++ cond t (s ∷ []) []) other ∙ append-nil (filter is_pixel_digit text) ∙ p.digits;
+          ∙ ap (λ t. filter is_pixel_digit text ++ cond t (s ∷ []) []) other ∙ append-nil (filter is_pixel_digit text) ∙
+          p.digits;
     }
 
 digit_allowed : (pixel : Bool) → list_all is_plain_sign (digit_of pixel ∷ []) ≡ true
@@ -101,7 +107,8 @@ pub digit_more : (text : List ℕ) (pixel : Bool) (pixels : List Bool) → Shows
     → ShowsPixels (text ++ digit_of pixel ∷ []) (pixels ++ pixel ∷ [])
 digit_more text pixel pixels p = record {
   allowed = list_all-append is_plain_sign text (digit_of pixel ∷ []) ∙ rw p.allowed (digit_allowed pixel);
-  digits = filter-append is_pixel_digit text (digit_of pixel ∷ []) ∙ ap (λ t. filter is_pixel_digit text ++ t) (digit_kept pixel)
+  digits = filter-append is_pixel_digit text (digit_of pixel ∷ []) ∙
+      ap (λ t. filter is_pixel_digit text ++ t) (digit_kept pixel)
       ∙ ap (λ t. t ++ digit_of pixel ∷ []) p.digits ∙ sym (map-append digit_of pixels (pixel ∷ []));
 }
 

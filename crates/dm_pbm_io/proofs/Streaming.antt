@@ -15,14 +15,20 @@ takes-nil a = record { consumed = Consumes-nil a.remaining; kept = refl }
 -- first some bytes, and then more
 pub takes-trans : (a b c : InputView) (bs cs : List ℕ) → Takes a b bs → Takes b c cs → Takes a c (bs ++ cs)
 takes-trans a b c bs cs p q =
-    record { consumed = Consumes-trans a.remaining b.remaining c.remaining bs cs p.consumed q.consumed; kept = q.kept ∙ p.kept }
+    record {
+      consumed = Consumes-trans a.remaining b.remaining c.remaining bs cs p.consumed q.consumed;
+      kept = q.kept ∙
+          p.kept;
+    }
 
 -- what the source remembers is not changed by what was taken before
-remembers-after : (a b c : InputView) (fault : PbmFault) → b.has_failed ≡ a.has_failed → Remembers b c fault → Remembers a c fault
+remembers-after : (a b c : InputView) (fault : PbmFault) → b.has_failed ≡ a.has_failed → Remembers b c fault →
+    Remembers a c fault
 remembers-after a b c fault same r = record { failed = r.failed; kept = λ n. r.kept n ∙ same }
 
 -- a fault that is not `Read` leaves what the source remembers
-pub remembers-other : (a b : InputView) (fault : PbmFault) → b.has_failed ≡ a.has_failed → fault ≢ Read → Remembers a b fault
+pub remembers-other : (a b : InputView) (fault : PbmFault) → b.has_failed ≡ a.has_failed → fault ≢ Read →
+    Remembers a b fault
 remembers-other a b fault same n = record { failed = λ e. absurd (n e); kept = λ _. same }
 
 -- a fault after some bytes
@@ -34,15 +40,19 @@ until-trans a b c bs cs fault p q = record {
 }
 
 -- a fault that took nothing more
-pub until-here : (a b c : InputView) (bs : List ℕ) (fault : PbmFault) → Takes a b bs → TakesUntil b c [] fault → TakesUntil a c bs fault
-until-here a b c bs fault p q = subst (λ xs. TakesUntil a c xs fault) (append-nil bs) (until-trans a b c bs [] fault p q)
+pub until-here : (a b c : InputView) (bs : List ℕ) (fault : PbmFault) → Takes a b bs → TakesUntil b c [] fault →
+    TakesUntil a c bs fault
+until-here a b c bs fault p q = subst (λ xs. TakesUntil a c xs fault) (append-nil bs)
+    (until-trans a b c bs [] fault p q)
 
 -- a fault of the bytes that were taken
-pub until-now : (a b : InputView) (bs : List ℕ) (fault : PbmFault) → Takes a b bs → fault ≢ Read → TakesUntil a b bs fault
+pub until-now : (a b : InputView) (bs : List ℕ) (fault : PbmFault) → Takes a b bs → fault ≢ Read →
+    TakesUntil a b bs fault
 until-now a b bs fault p n = record { consumed = p.consumed; remembers = remembers-other a b fault p.kept n }
 
 -- a fault at the end
-pub until-end : (a b c : InputView) (bs : List ℕ) (fault : PbmFault) → Takes a b bs → FindsEnd b c → fault ≢ Read → TakesUntil a c bs fault
+pub until-end : (a b c : InputView) (bs : List ℕ) (fault : PbmFault) → Takes a b bs → FindsEnd b c → fault ≢ Read →
+    TakesUntil a c bs fault
 until-end a b c bs fault p q n = record {
   consumed = Consumes-kept a.remaining b.remaining c.remaining bs p.consumed q.nothing;
   remembers = remembers-other a c fault (q.kept ∙ p.kept) n;
@@ -74,10 +84,15 @@ adds-nil a = record { appended = Appends-nil a.contents; kept = refl }
 -- first some text, and then more
 pub adds-trans : (a b c : OutputView) (bs cs : List ℕ) → Adds a b bs → Adds b c cs → Adds a c (bs ++ cs)
 adds-trans a b c bs cs p q =
-    record { appended = Appends-trans a.contents b.contents c.contents bs cs p.appended q.appended; kept = q.kept ∙ p.kept }
+    record {
+      appended = Appends-trans a.contents b.contents c.contents bs cs p.appended q.appended;
+      kept = q.kept ∙
+          p.kept;
+    }
 
 -- first some text, and then the rest of the whole, if it was written
-pub adds_rest : {E : Type 0} (a b c : OutputView) (all first rest : List ℕ) (put : Result (Unit {0}) E) → all ≡ first ++ rest
+pub adds_rest : {E : Type 0} (a b c : OutputView) (all first rest : List ℕ) (put : Result (Unit {0}) E) →
+    all ≡ first ++ rest
     → Adds a b first → OnOk put (Adds b c rest) → OnOk put (Adds a c all)
 adds_rest a b c all first rest (Ok x) is p q = subst (Adds a c) (sym is) (adds-trans a b c first rest p q)
 adds_rest a b c all first rest (Err e) is p q = tt

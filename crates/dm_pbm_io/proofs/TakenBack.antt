@@ -42,7 +42,8 @@ taken_back g plain whole =
         square = refl;
         size = g.size;
         side = refl;
-        count = length-map-range_with_len (λ i. pixel_with_quiet_zone (square_of g) (i / (n + 2)) (i % (n + 2))) 0 ((n + 2) * (n + 2));
+        count = length-map-range_with_len (λ i. pixel_with_quiet_zone (square_of g) (i / (n + 2)) (i % (n + 2))) 0
+            ((n + 2) * (n + 2));
       },
       record {
         side = refl;

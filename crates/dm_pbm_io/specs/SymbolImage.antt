@@ -18,7 +18,8 @@ pixel_with_quiet_zone s r c =
 -- the pixels of that image, row by row from the top left
 abbrev pub pixels_with_quiet_zone : Square → List Bool
 pixels_with_quiet_zone s =
-    let width = s.side + 2 in map (λ i. pixel_with_quiet_zone s (i / width) (i % width)) (range_with_len 0 (width * width))
+    let width = s.side + 2 in map (λ i. pixel_with_quiet_zone s (i / width) (i % width))
+    (range_with_len 0 (width * width))
 
 -- the image of a grid, plain or packed
 abbrev pub image_with_quiet_zone : GridView → Bool → Picture
@@ -37,7 +38,8 @@ p4 g = written (image_with_quiet_zone g false)
 abbrev pub modules_inside : Picture → List Bool
 modules_inside p =
     let side = p.width - 2 in
-    map (λ i. slice_index_or p.pixels ((i / side + 1) * p.width + (i % side + 1)) false) (range_with_len 0 (side * side))
+    map (λ i. slice_index_or p.pixels ((i / side + 1) * p.width + (i % side + 1)) false)
+    (range_with_len 0 (side * side))
 
 -- a square picture with all its pixels whose side, less the quiet zone, is that of a symbol size
 pub record HasShape (p : Picture) : Type 0 where

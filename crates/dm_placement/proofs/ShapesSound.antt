@@ -22,7 +22,8 @@ is_in n p = ltb p.row n && ltb p.column n
 
 -- whether a shape may stand
 abbrev pub is_placeable : ℕ → Shape → Bool
-is_placeable n (Plain p) = (is_in n p && eqb ((5 * p.row + p.column) % 8) 4) && (not (eqb (n % 8) 6 && eqb (p.row + p.column) (n - 2)) || (ltb 0 p.row && ltb 0 p.column))
+is_placeable n (Plain p) = (is_in n p && eqb ((5 * p.row + p.column) % 8) 4) &&
+    (not (eqb (n % 8) 6 && eqb (p.row + p.column) (n - 2)) || (ltb 0 p.row && ltb 0 p.column))
 is_placeable n CornerOne = true
 is_placeable n CornerTwo = true
 
@@ -32,7 +33,8 @@ is_sound n s = is_placeable n s && list_all (is_in n) (shape_cells n s)
 
 -- whether all shapes of a side are so, and as many as it has words
 unfoldable pub are_sound : ℕ → Bool
-unfolding shapes anchors corner_before is_anchor is_left_out is_in_square rising_diagonal falling_diagonal cell_from_anchor shape_cells
+unfolding shapes anchors corner_before is_anchor is_left_out is_in_square rising_diagonal falling_diagonal
+    cell_from_anchor shape_cells
 are_sound n = list_all (is_sound n) (shapes n) && eqb (length (shapes n)) (n * n / 8)
 
 -- each word may stand where it stands, with its cells in the square
@@ -47,7 +49,8 @@ in_by_test n p e = let b = and_parts (ltb p.row n) (ltb p.column n) e in (ltb-tr
 -- cells that pass the test lie in the square
 all_in_by_test : (n : ℕ) (ps : List Cell) → list_all (is_in n) ps ≡ true → AllIn n ps
 all_in_by_test n [] e = tt
-all_in_by_test n (p ∷ ps) e = let b = and_parts (is_in n p) (list_all (is_in n) ps) e in (in_by_test n p b.0, all_in_by_test n ps b.1)
+all_in_by_test n (p ∷ ps) e = let b = and_parts (is_in n p) (list_all (is_in n) ps) e in
+    (in_by_test n p b.0, all_in_by_test n ps b.1)
 
 -- a test of the form: if a and b, then c and d
 kept_by_test : (a b c d : Bool) → (not (a && b) || (c && d)) ≡ true → a ≡ true → b ≡ true → (c ≡ true) × (d ≡ true)
@@ -58,7 +61,8 @@ kept_by_test false b c d e f g = absurd (cc)
 -- a shape that passes the test may stand
 placeable_by_test : (n : ℕ) (s : Shape) → is_placeable n s ≡ true → IsPlaceable n s
 placeable_by_test n (Plain p) e =
-    let b = and_parts (is_in n p && eqb ((5 * p.row + p.column) % 8) 4) (not (eqb (n % 8) 6 && eqb (p.row + p.column) (n - 2)) || (ltb 0 p.row && ltb 0 p.column)) e in
+    let b = and_parts (is_in n p && eqb ((5 * p.row + p.column) % 8) 4)
+    (not (eqb (n % 8) 6 && eqb (p.row + p.column) (n - 2)) || (ltb 0 p.row && ltb 0 p.column)) e in
     let d = and_parts (is_in n p) (eqb ((5 * p.row + p.column) % 8) 4) b.0 in
     let i = in_by_test n p d.0 in
     record {
@@ -66,7 +70,8 @@ placeable_by_test n (Plain p) e =
       column_in = i.1;
       on_lattice = eqb-true _ _ d.1;
       not_left_out = λ f g.
-          (let k = kept_by_test (eqb (n % 8) 6) (eqb (p.row + p.column) (n - 2)) (ltb 0 p.row) (ltb 0 p.column) b.1 (eq-eqb _ _ f) (eq-eqb _ _ g) in
+          (let k = kept_by_test (eqb (n % 8) 6) (eqb (p.row + p.column) (n - 2)) (ltb 0 p.row) (ltb 0 p.column) b.1
+          (eq-eqb _ _ f) (eq-eqb _ _ g) in
           (ltb-true _ _ k.0, ltb-true _ _ k.1));
     }
 placeable_by_test n CornerOne e = tt
@@ -83,7 +88,8 @@ sound_by_test n (s ∷ ss) e =
 -- the shapes of a side that passes are sound
 sound_rule : (n : ℕ) → are_sound n ≡ true → AllSound n (shapes n)
 unfolding are_sound
-sound_rule n e = sound_by_test n (shapes n) (and_parts (list_all (is_sound n) (shapes n)) (eqb (length (shapes n)) (n * n / 8)) e).0
+sound_rule n e = sound_by_test n (shapes n)
+    (and_parts (list_all (is_sound n) (shapes n)) (eqb (length (shapes n)) (n * n / 8)) e).0
 
 -- a side that passes has a shape for each word
 count_rule : (n : ℕ) → are_sound n ≡ true → length (shapes n) ≡ n * n / 8
@@ -185,7 +191,10 @@ are_sound_120 = refl
 
 -- the mapping side of each size passes
 passes : (s : Size) → are_sound (mapping s) ≡ true
-passes s = at_each_size (λ n. are_sound n ≡ true) are_sound_8 are_sound_10 are_sound_12 are_sound_14 are_sound_16 are_sound_18 are_sound_20 are_sound_22 are_sound_24 are_sound_28 are_sound_32 are_sound_36 are_sound_40 are_sound_44 are_sound_48 are_sound_56 are_sound_64 are_sound_72 are_sound_80 are_sound_88 are_sound_96 are_sound_108 are_sound_120 s
+passes s = at_each_size (λ n. are_sound n ≡ true) are_sound_8 are_sound_10 are_sound_12 are_sound_14 are_sound_16
+    are_sound_18 are_sound_20 are_sound_22 are_sound_24 are_sound_28 are_sound_32 are_sound_36 are_sound_40 are_sound_44
+    are_sound_48 are_sound_56 are_sound_64 are_sound_72 are_sound_80 are_sound_88 are_sound_96 are_sound_108
+    are_sound_120 s
 
 -- the shapes of each size are sound
 pub sound_size : (s : Size) → AllSound (mapping s) (shapes (mapping s))

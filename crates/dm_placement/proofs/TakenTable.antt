@@ -42,7 +42,8 @@ take_cell_same (x ∷ xs) zero c = mark_bit_same x c
 take_cell_same (x ∷ xs) (suc r) c = take_cell_same xs r c
 
 -- taking one cell leaves the others
-take_cell_other : (rows : List ℕ) (r c i j : ℕ) → (i ≡ r → j ≡ c → ⊥) → is_marked (take_cell rows r c) i j ≡ is_marked rows i j
+take_cell_other : (rows : List ℕ) (r c i j : ℕ) → (i ≡ r → j ≡ c → ⊥) →
+    is_marked (take_cell rows r c) i j ≡ is_marked rows i j
 take_cell_other [] r c i j ne = refl
 take_cell_other (x ∷ xs) zero c zero j ne = ap (λ b. eqb b 1) (mark_bit_other x c j (λ e. ne refl e))
 take_cell_other (x ∷ xs) zero c (suc i) j ne = refl
@@ -99,5 +100,6 @@ pub table_light : (n : ℕ) → IsTable n (replicate n 0) (light_square n)
 table_light n = record {
   side = refl;
   size = length-replicate (n * n) false;
-  same = λ r c hr hc. get_or-replicate (n * n) (r * n + c) false false (mul-add-lt r n c n hr hc) ∙ sym (no_marks n r c hr);
+  same = λ r c hr hc. get_or-replicate (n * n) (r * n + c) false false (mul-add-lt r n c n hr hc) ∙
+      sym (no_marks n r c hr);
 }

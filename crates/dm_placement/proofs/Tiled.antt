@@ -36,7 +36,8 @@ empty_row (suc n) zero c h e = let z = bit_at-zero c in let o = eqb-true (bit_at
 empty_row (suc n) (suc r) c h e = empty_row n r c (omega arith) e
 
 -- the test of a filled square, taken apart
-filled : (n : ℕ) (o : Option (List ℕ)) → is_filled n o ≡ true → (rows : List ℕ) × (o ≡ Some rows) × (are_full n rows ≡ true)
+filled : (n : ℕ) (o : Option (List ℕ)) → is_filled n o ≡ true → (rows : List ℕ) × (o ≡ Some rows) ×
+    (are_full n rows ≡ true)
 filled n (Some rows) e = (rows, refl, e)
 filled n None e = absurd (cc)
 
@@ -45,7 +46,8 @@ pub tiled_by_test : (n : ℕ) → is_tiled n ≡ true → IsTiled n
 unfolding is_tiled
 tiled_by_test n e =
     let d = cell_at 0 0 in
-    let b = and_parts (is_filled n (marked (replicate n 0) (all_cells n))) (list_all (λ p. ltb p.column n) (all_cells n)) e in
+    let b = and_parts (is_filled n (marked (replicate n 0) (all_cells n)))
+    (list_all (λ p. ltb p.column n) (all_cells n)) e in
     let f = filled n (marked (replicate n 0) (all_cells n)) b.0 in
     record {
       in_square = λ i h. (
@@ -60,7 +62,10 @@ tiled_by_test n e =
 
 -- each size
 pub tiled_size : (s : Size) → IsTiled (mapping s)
-tiled_size s = tiled_by_test (mapping s) (at_each_size (λ n. is_tiled n ≡ true) is_tiled_8 is_tiled_10 is_tiled_12 is_tiled_14 is_tiled_16 is_tiled_18 is_tiled_20 is_tiled_22 is_tiled_24 is_tiled_28 is_tiled_32 is_tiled_36 is_tiled_40 is_tiled_44 is_tiled_48 is_tiled_56 is_tiled_64 is_tiled_72 is_tiled_80 is_tiled_88 is_tiled_96 is_tiled_108 is_tiled_120 s)
+tiled_size s = tiled_by_test (mapping s)
+    (at_each_size (λ n. is_tiled n ≡ true) is_tiled_8 is_tiled_10 is_tiled_12 is_tiled_14 is_tiled_16 is_tiled_18
+    is_tiled_20 is_tiled_22 is_tiled_24 is_tiled_28 is_tiled_32 is_tiled_36 is_tiled_40 is_tiled_44 is_tiled_48
+    is_tiled_56 is_tiled_64 is_tiled_72 is_tiled_80 is_tiled_88 is_tiled_96 is_tiled_108 is_tiled_120 s)
 
 -- each mapping side is tiled
 pub tiled : (n : ℕ) → IsMappingSide n → IsTiled n

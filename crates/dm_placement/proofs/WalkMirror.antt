@@ -46,18 +46,21 @@ run (suc f) n Start r c rows =
     [ true ↦ before (corner_at n r c) (run f n Up r c (take_words n rows (corner_at n r c))) | false ↦ Some [] ]
 run (suc f) n Up r c rows =
     elim (leb 2 r && ltb c (n + 2)) [
-      | true ↦ before (word_at n r c (is_marked rows (r - 2) (c - 2))) (run f n Up (r - 2) (c + 2) (take_words n rows (word_at n r c (is_marked rows (r - 2) (c - 2)))))
+      | true ↦ before (word_at n r c (is_marked rows (r - 2) (c - 2))) (run f n Up
+          (r - 2) (c + 2) (take_words n rows (word_at n r c (is_marked rows (r - 2) (c - 2)))))
       | false ↦ run f n Down (r + 1) (c + 3) rows
     ]
 run (suc f) n Down r c rows =
     elim (ltb r (n + 2) && leb 2 c) [
-      | true ↦ before (word_at n r c (is_marked rows (r - 2) (c - 2))) (run f n Down (r + 2) (c - 2) (take_words n rows (word_at n r c (is_marked rows (r - 2) (c - 2)))))
+      | true ↦ before (word_at n r c (is_marked rows (r - 2) (c - 2))) (run f n Down
+          (r + 2) (c - 2) (take_words n rows (word_at n r c (is_marked rows (r - 2) (c - 2)))))
       | false ↦ run f n Start (r + 3) (c + 1) rows
     ]
 
 -- the walk of a whole square
 unfoldable pub GivesShapes : ℕ → Type 0
-unfolding shapes anchors corner_before is_anchor is_left_out is_in_square rising_diagonal falling_diagonal cell_from_anchor shape_cells word_at corner_at
+unfolding shapes anchors corner_before is_anchor is_left_out is_in_square rising_diagonal falling_diagonal
+    cell_from_anchor shape_cells word_at corner_at
 GivesShapes n = run (n * n) n Start 6 2 (replicate n 0) ≡ Some (shapes n)
 
 -- each side in turn, by computing

@@ -12,7 +12,10 @@ use Rattle.dm_placement.proofs.WalkRemains.{Remains}
 
 -- the computed walk gives the shapes of each size
 gives_size : (s : Size) → GivesShapes (mapping s)
-gives_size s = at_each_size GivesShapes gives_shapes_8 gives_shapes_10 gives_shapes_12 gives_shapes_14 gives_shapes_16 gives_shapes_18 gives_shapes_20 gives_shapes_22 gives_shapes_24 gives_shapes_28 gives_shapes_32 gives_shapes_36 gives_shapes_40 gives_shapes_44 gives_shapes_48 gives_shapes_56 gives_shapes_64 gives_shapes_72 gives_shapes_80 gives_shapes_88 gives_shapes_96 gives_shapes_108 gives_shapes_120 s
+gives_size s = at_each_size GivesShapes gives_shapes_8 gives_shapes_10 gives_shapes_12 gives_shapes_14 gives_shapes_16
+    gives_shapes_18 gives_shapes_20 gives_shapes_22 gives_shapes_24 gives_shapes_28 gives_shapes_32 gives_shapes_36
+    gives_shapes_40 gives_shapes_44 gives_shapes_48 gives_shapes_56 gives_shapes_64 gives_shapes_72 gives_shapes_80
+    gives_shapes_88 gives_shapes_96 gives_shapes_108 gives_shapes_120 s
 
 -- the computed walk gives the shapes of each mapping side
 gives : (n : ℕ) → IsMappingSide n → GivesShapes n

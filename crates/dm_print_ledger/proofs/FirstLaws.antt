@@ -32,15 +32,19 @@ read_is : (bytes : List ℕ) (f l n : ℕ) → f ≡ number_in bytes 5 → l ≡
 read_is bytes f l n a b c = cc
 
 -- bytes whose numbers are not in order spell no ledger of version 1
-pub first_not_sound : (bytes : List ℕ) (f l n : ℕ) → f ≡ number_in bytes 5 → l ≡ number_in bytes 7 → n ≡ number_in bytes 9 →
-    (let read : FirstLedger = record { first = f; last = l; next = n } in ¬ IsFirst read) → (first : FirstLedger) → IsFirst first →
+pub first_not_sound : (bytes : List ℕ) (f l n : ℕ) → f ≡ number_in bytes 5 → l ≡ number_in bytes 7 →
+    n ≡ number_in bytes 9 →
+    (let read : FirstLedger = record { first = f; last = l; next = n } in ¬ IsFirst read) → (first : FirstLedger) →
+    IsFirst first →
     ¬ (bytes ≡ first_ledger_bytes first)
 first_not_sound bytes f l n a b c wrong first sound h =
     wrong (subst IsFirst (sym (first_read bytes first h) ∙ read_is bytes f l n a b c) sound)
 
 -- bytes that differ from those of their numbers spell no ledger of version 1
-pub first_not_spelled : (bytes : List ℕ) (f l n : ℕ) → f ≡ number_in bytes 5 → l ≡ number_in bytes 7 → n ≡ number_in bytes 9 →
-    (let read : FirstLedger = record { first = f; last = l; next = n } in bytes ≢ first_ledger_bytes read) → (first : FirstLedger) →
+pub first_not_spelled : (bytes : List ℕ) (f l n : ℕ) → f ≡ number_in bytes 5 → l ≡ number_in bytes 7 →
+    n ≡ number_in bytes 9 →
+    (let read : FirstLedger = record { first = f; last = l; next = n } in bytes ≢ first_ledger_bytes read) →
+    (first : FirstLedger) →
     IsFirst first → ¬ (bytes ≡ first_ledger_bytes first)
 first_not_spelled bytes f l n a b c wrong first sound h =
     wrong (h ∙ ap first_ledger_bytes (sym (first_read bytes first h) ∙ read_is bytes f l n a b c))

@@ -18,23 +18,30 @@ joins n = omega arith
 -- one more pair, and the rest after it
 pub pairs_more : {X : Type 0} (make : ℕ → ℕ → X) (bytes : List ℕ) (at i count : ℕ) → i < count →
     pairs_in make bytes (at + 4 * i) (count - i)
-    ≡ make (number_in bytes (at + 4 * i)) (number_in bytes (at + 4 * i + 2)) ∷ pairs_in make bytes (at + 4 * (i + 1)) (count - (i + 1))
+    ≡ make (number_in bytes (at + 4 * i)) (number_in bytes (at + 4 * i + 2)) ∷ pairs_in make bytes
+    (at + 4 * (i + 1)) (count - (i + 1))
 pairs_more make bytes at i count below =
     let e : count - i ≡ suc (count - (i + 1)) = omega arith in
     let f : at + 4 * i + 4 ≡ at + 4 * (i + 1) = omega arith in
     ap (λ n. pairs_in make bytes (at + 4 * i) n) e
-    ∙ ap (λ a. make (number_in bytes (at + 4 * i)) (number_in bytes (at + 4 * i + 2)) ∷ pairs_in make bytes a (count - (i + 1))) f
+    ∙ ap (λ a. make (number_in bytes (at + 4 * i)) (number_in bytes (at + 4 * i + 2)) ∷ pairs_in make bytes a
+    (count - (i + 1))) f
 
 -- what stands after a front
 after_front : (front rest : List ℕ) (at k : ℕ) → length front ≡ at → get_or (front ++ rest) (at + k) 0 ≡ get_or rest k 0
-after_front front rest at k e = subst (λ (a : ℕ). get_or (front ++ rest) (a + k) 0 ≡ get_or rest k 0) e (get_or-append-add front rest k 0)
+after_front front rest at k e = subst (λ (a : ℕ). get_or (front ++ rest) (a + k) 0 ≡ get_or rest k 0) e
+    (get_or-append-add front rest k 0)
 
 -- the number that stands after a front
-first_number : (front rest : List ℕ) (n b at : ℕ) → length front ≡ at → number_in (front ++ (n / 256 ∷ n % 256 ∷ rest)) at ≡ n
+first_number : (front rest : List ℕ) (n b at : ℕ) → length front ≡ at →
+    number_in (front ++ (n / 256 ∷ n % 256 ∷ rest)) at ≡ n
 first_number front rest n b at e =
-    let p : get_or (front ++ (n / 256 ∷ n % 256 ∷ rest)) at 0 ≡ n / 256 = get_or_at front (n / 256) (n % 256 ∷ rest) 0 at e in
-    let q : get_or (front ++ (n / 256 ∷ n % 256 ∷ rest)) (at + 1) 0 ≡ n % 256 = after_front front (n / 256 ∷ n % 256 ∷ rest) at 1 e in
-    ap (λ x. 256 * x + get_or (front ++ (n / 256 ∷ n % 256 ∷ rest)) (at + 1) 0) p ∙ ap (λ x. 256 * (n / 256) + x) q ∙ joins n
+    let p : get_or (front ++ (n / 256 ∷ n % 256 ∷ rest)) at 0 ≡ n / 256 =
+    get_or_at front (n / 256) (n % 256 ∷ rest) 0 at e in
+    let q : get_or (front ++ (n / 256 ∷ n % 256 ∷ rest)) (at + 1) 0 ≡ n % 256 =
+    after_front front (n / 256 ∷ n % 256 ∷ rest) at 1 e in
+    ap (λ x. 256 * x + get_or (front ++ (n / 256 ∷ n % 256 ∷ rest)) (at + 1) 0) p ∙
+    ap (λ x. 256 * (n / 256) + x) q ∙ joins n
 
 -- the number that stands two bytes after a front
 second_number : (front rest : List ℕ) (a b n at : ℕ) → length front ≡ at →
@@ -48,12 +55,14 @@ second_number front rest a b n at e =
     let s : at + 2 + 1 ≡ at + 3 = omega arith in
     let r : get_or (front ++ (a ∷ b ∷ n / 256 ∷ n % 256 ∷ rest)) (at + 2 + 1) 0
     ≡ n % 256 = ap (λ i. get_or (front ++ (a ∷ b ∷ n / 256 ∷ n % 256 ∷ rest)) i 0) s ∙ q in
-    ap (λ x. 256 * x + get_or (front ++ (a ∷ b ∷ n / 256 ∷ n % 256 ∷ rest)) (at + 2 + 1) 0) p ∙ ap (λ x. 256 * (n / 256) + x) r ∙ joins n
+    ap (λ x. 256 * x + get_or (front ++ (a ∷ b ∷ n / 256 ∷ n % 256 ∷ rest)) (at + 2 + 1) 0) p ∙
+    ap (λ x. 256 * (n / 256) + x) r ∙ joins n
 
 -- pairs that were written are read
 pub pairs_again : {X : Type 0} (make : ℕ → ℕ → X) (one two : X → ℕ) → ((x : X) → make (one x) (two x) ≡ x) →
     (front : List ℕ) (xs : List X) (rest : List ℕ) (at : ℕ) → length front ≡ at →
-    pairs_in make (front ++ (flat_map (λ x. one x / 256 ∷ one x % 256 ∷ two x / 256 ∷ two x % 256 ∷ []) xs ++ rest)) at (length xs) ≡ xs
+    pairs_in make (front ++ (flat_map (λ x. one x / 256 ∷ one x % 256 ∷ two x / 256 ∷ two x % 256 ∷ []) xs ++ rest)) at
+    (length xs) ≡ xs
 pairs_again make one two whole front [] rest at e = refl
 pairs_again {X} make one two whole front (x ∷ xs) rest at e =
     let four : List ℕ = one x / 256 ∷ one x % 256 ∷ two x / 256 ∷ two x % 256 ∷ [] in
@@ -72,17 +81,20 @@ pairs_again {X} make one two whole front (x ∷ xs) rest at e =
     ∙ ap (λ ys. x ∷ ys) r
 
 -- items of four bytes each
-pub length_fours : {X : Type 0} (f : X → List ℕ) → ((x : X) → length (f x) ≡ 4) → (xs : List X) → length (flat_map f xs) ≡ 4 * length xs
+pub length_fours : {X : Type 0} (f : X → List ℕ) → ((x : X) → length (f x) ≡ 4) → (xs : List X) →
+    length (flat_map f xs) ≡ 4 * length xs
 length_fours f four [] = refl
 length_fours f four (x ∷ xs) =
-    let a : length (f x ++ flat_map f xs) ≡ length (f x) + length (flat_map f xs) = length-append (f x) (flat_map f xs) in
+    let a : length (f x ++ flat_map f xs) ≡ length (f x) + length (flat_map f xs) =
+    length-append (f x) (flat_map f xs) in
     let b : length (f x) ≡ 4 = four x in
     let c : length (flat_map f xs) ≡ 4 * length xs = length_fours f four xs in
     omega arith
 
 -- the ten bytes before the ranges
 abbrev front_of : LedgerView → List ℕ
-front_of l = 68 ∷ 77 ∷ 76 ∷ 71 ∷ 2 ∷ l.number / 256 ∷ l.number % 256 ∷ l.next_serial / 256 ∷ l.next_serial % 256 ∷ length l.free ∷ []
+front_of l = 68 ∷ 77 ∷ 76 ∷ 71 ∷ 2 ∷ l.number / 256 ∷ l.number % 256 ∷ l.next_serial / 256 ∷ l.next_serial %
+    256 ∷ length l.free ∷ []
 
 -- the bytes after the count of givers
 abbrev givers_of : LedgerView → List ℕ
@@ -101,19 +113,24 @@ regrouped l = sym (append_assoc (front_of l) (flat_map range_bytes l.free) (leng
 length-ranges_of : (l : LedgerView) → length (ranges_of l) ≡ 10 + 4 * length l.free
 length-ranges_of l =
     let a : length (flat_map range_bytes l.free) ≡ 4 * length l.free = length_fours range_bytes (λ x. refl) l.free in
-    let b : length (ranges_of l) ≡ 10 + length (flat_map range_bytes l.free) = length-append (front_of l) (flat_map range_bytes l.free) in
+    let b : length (ranges_of l) ≡ 10 + length (flat_map range_bytes l.free) =
+    length-append (front_of l) (flat_map range_bytes l.free) in
     omega arith
 
 -- how many bytes a ledger has
 pub length-ledger_bytes : (l : LedgerView) → length (ledger_bytes l) ≡ 13 + 4 * length l.free + 4 * length l.givers
 length-ledger_bytes l =
-    let a : length (ledger_bytes l) ≡ length (ranges_of l ++ (length l.givers ∷ givers_of l)) = ap length (regrouped l) in
+    let a : length (ledger_bytes l) ≡ length (ranges_of l ++ (length l.givers ∷ givers_of l)) =
+    ap length (regrouped l) in
     let b : length (ranges_of l ++ (length l.givers ∷ givers_of l))
-    ≡ length (ranges_of l) + length (length l.givers ∷ givers_of l) = length-append (ranges_of l) (length l.givers ∷ givers_of l) in
+    ≡ length (ranges_of l) + length (length l.givers ∷ givers_of l) =
+    length-append (ranges_of l) (length l.givers ∷ givers_of l) in
     let c : length (ranges_of l) ≡ 10 + 4 * length l.free = length-ranges_of l in
-    let d : length (givers_of l) ≡ length (flat_map giver_bytes l.givers) + 2 = length-append (flat_map giver_bytes l.givers)
+    let d : length (givers_of l) ≡ length (flat_map giver_bytes l.givers) + 2 =
+    length-append (flat_map giver_bytes l.givers)
     (two_bytes (65535 - free_count l.free)) in
-    let f : length (flat_map giver_bytes l.givers) ≡ 4 * length l.givers = length_fours giver_bytes (λ x. refl) l.givers in
+    let f : length (flat_map giver_bytes l.givers) ≡ 4 * length l.givers =
+    length_fours giver_bytes (λ x. refl) l.givers in
     omega arith
 
 -- the tenth byte is the count of ranges
@@ -141,10 +158,12 @@ has_size l sound =
 -- the ranges are read back
 free_again : (l : LedgerView) → pairs_in make_range (ledger_bytes l) 10 (length l.free) ≡ l.free
 unfolding ledger_bytes
-free_again l = pairs_again make_range (λ r. r.first) (λ r. r.last) (λ r. refl) (front_of l) l.free (length l.givers ∷ givers_of l) 10 refl
+free_again l = pairs_again make_range (λ r. r.first) (λ r. r.last) (λ r. refl) (front_of l) l.free
+    (length l.givers ∷ givers_of l) 10 refl
 
 -- the givers are read back
-givers_again : (l : LedgerView) → pairs_in make_giver (ledger_bytes l) (11 + 4 * length l.free) (length l.givers) ≡ l.givers
+givers_again : (l : LedgerView) → pairs_in make_giver (ledger_bytes l) (11 + 4 * length l.free)
+    (length l.givers) ≡ l.givers
 givers_again l =
     let front : List ℕ = ranges_of l ++ (length l.givers ∷ []) in
     let len : length (ranges_of l ++ (length l.givers ∷ [])) ≡ 11 + 4 * length l.free =
@@ -155,7 +174,8 @@ givers_again l =
     let same : front ++ givers_of l ≡ ledger_bytes l = append_assoc (ranges_of l) (length l.givers ∷ []) (givers_of l)
     ∙ sym (regrouped l) in
     subst (λ (bytes : List ℕ). pairs_in make_giver bytes (11 + 4 * length l.free) (length l.givers) ≡ l.givers) same
-    (pairs_again make_giver (λ g. g.number) (λ g. g.serial) (λ g. refl) front l.givers (two_bytes (65535 - free_count l.free))
+    (pairs_again make_giver (λ g. g.number) (λ g. g.serial) (λ g. refl) front l.givers
+    (two_bytes (65535 - free_count l.free))
     (11 + 4 * length l.free) len)
 
 -- the number is read back
@@ -179,15 +199,20 @@ read_again l =
     let bytes : List ℕ = ledger_bytes l in
     let free : pairs_in make_range (ledger_bytes l) 10 (range_count (ledger_bytes l)) ≡ l.free =
     ap (λ n. pairs_in make_range (ledger_bytes l) 10 n) (range_count_is l) ∙ free_again l in
-    let givers : pairs_in make_giver (ledger_bytes l) (11 + 4 * range_count (ledger_bytes l)) (giver_count (ledger_bytes l)) ≡ l.givers =
+    let givers : pairs_in make_giver (ledger_bytes l) (11 + 4 * range_count (ledger_bytes l))
+    (giver_count (ledger_bytes l)) ≡ l.givers =
     ap (λ n. pairs_in make_giver (ledger_bytes l) (11 + 4 * n) (giver_count (ledger_bytes l))) (range_count_is l)
     ∙ ap (λ n. pairs_in make_giver (ledger_bytes l) (11 + 4 * length l.free) n) (giver_count_is l)
     ∙ givers_again l in
-    ap (λ n. view_of n (number_in (ledger_bytes l) 7) (pairs_in make_range (ledger_bytes l) 10 (range_count (ledger_bytes l)))
-    (pairs_in make_giver (ledger_bytes l) (11 + 4 * range_count (ledger_bytes l)) (giver_count (ledger_bytes l)))) (number_again l)
+    ap (λ n. view_of n (number_in (ledger_bytes l) 7)
+    (pairs_in make_range (ledger_bytes l) 10 (range_count (ledger_bytes l)))
+    (pairs_in make_giver (ledger_bytes l) (11 + 4 * range_count (ledger_bytes l)) (giver_count (ledger_bytes l))))
+    (number_again l)
     ∙ ap (λ n. view_of l.number n (pairs_in make_range (ledger_bytes l) 10 (range_count (ledger_bytes l)))
-    (pairs_in make_giver (ledger_bytes l) (11 + 4 * range_count (ledger_bytes l)) (giver_count (ledger_bytes l)))) (serial_again l)
-    ∙ ap (λ f. view_of l.number l.next_serial f (pairs_in make_giver (ledger_bytes l) (11 + 4 * range_count (ledger_bytes l))
+    (pairs_in make_giver (ledger_bytes l) (11 + 4 * range_count (ledger_bytes l)) (giver_count (ledger_bytes l))))
+    (serial_again l)
+    ∙ ap (λ f. view_of l.number l.next_serial f
+    (pairs_in make_giver (ledger_bytes l) (11 + 4 * range_count (ledger_bytes l))
     (giver_count (ledger_bytes l)))) free
     ∙ ap (λ g. view_of l.number l.next_serial l.free g) givers
 
@@ -200,17 +225,20 @@ pub read_spelled : (bytes : List ℕ) (l : LedgerView) → bytes ≡ ledger_byte
 read_spelled bytes l e = ap read_from e ∙ read_again l
 
 -- where the ledger that is read is not sound, the bytes spell none
-pub not_sound : (bytes : List ℕ) (read : LedgerView) → read ≡ read_from bytes → ¬ IsSound read → (l : LedgerView) → IsSound l →
+pub not_sound : (bytes : List ℕ) (read : LedgerView) → read ≡ read_from bytes → ¬ IsSound read → (l : LedgerView) →
+    IsSound l →
     ¬ (bytes ≡ ledger_bytes l)
 not_sound bytes read e wrong l sound h = wrong (subst IsSound (sym (e ∙ read_spelled bytes l h)) sound)
 
 -- bytes that differ from those of what was read spell no sound ledger
-pub not_spelled : (bytes : List ℕ) (read : LedgerView) → read ≡ read_from bytes → bytes ≢ ledger_bytes read → (l : LedgerView) →
+pub not_spelled : (bytes : List ℕ) (read : LedgerView) → read ≡ read_from bytes → bytes ≢ ledger_bytes read →
+    (l : LedgerView) →
     IsSound l → ¬ (bytes ≡ ledger_bytes l)
 not_spelled bytes read e wrong l sound h = wrong (h ∙ ap ledger_bytes (sym (e ∙ read_spelled bytes l h)))
 
 -- one pair more was read
-pub pairs_step : {X : Type 0} (make : ℕ → ℕ → X) (bytes : List ℕ) (at i count a b : ℕ) (old new all : List X) → i < count →
+pub pairs_step : {X : Type 0} (make : ℕ → ℕ → X) (bytes : List ℕ) (at i count a b : ℕ) (old new all : List X) →
+    i < count →
     new ≡ old ++ make a b ∷ [] → a ≡ number_in bytes (at + 4 * i) → b ≡ number_in bytes (at + 4 * i + 2) →
     old ++ pairs_in make bytes (at + 4 * i) (count - i) ≡ all →
     new ++ pairs_in make bytes (at + 4 * (i + 1)) (count - (i + 1)) ≡ all
@@ -222,7 +250,8 @@ pairs_step make bytes at i count a b old new all below grown first second before
     ap (λ xs. xs ++ rest) grown ∙ append_assoc old (make a b ∷ []) rest ∙ ap (λ xs. old ++ xs) (sym more) ∙ before
 
 -- what is written, piece by piece
-pub written : (number serial ranges count others : ℕ) (free : List Range) (givers : List Giver) (a b c d e f g h : List ℕ) →
+pub written : (number serial ranges count others : ℕ) (free : List Range) (givers : List Giver)
+    (a b c d e f g h : List ℕ) →
     a ≡ 68 ∷ 77 ∷ 76 ∷ 71 ∷ 2 ∷ [] → b ≡ a ++ two_bytes number → c ≡ b ++ two_bytes serial → d ≡ c ++ ranges ∷ [] →
     e ≡ d ++ flat_map range_bytes free → f ≡ e ++ others ∷ [] → g ≡ f ++ flat_map giver_bytes givers →
     h ≡ g ++ two_bytes (65535 - count) →
@@ -234,10 +263,12 @@ written number serial ranges count others free givers a b c d e f g h pa pb pc p
     let tail : ((flat_map range_bytes free ++ others ∷ []) ++ flat_map giver_bytes givers) ++ two_bytes (65535 - count)
     ≡ flat_map range_bytes free ++ (others ∷ (flat_map giver_bytes givers ++ two_bytes (65535 - count))) =
     append_assoc (flat_map range_bytes free ++ others ∷ []) (flat_map giver_bytes givers) (two_bytes (65535 - count))
-    ∙ append_assoc (flat_map range_bytes free) (others ∷ []) (flat_map giver_bytes givers ++ two_bytes (65535 - count)) in
+    ∙ append_assoc (flat_map range_bytes free) (others ∷ []) (flat_map giver_bytes givers ++
+    two_bytes (65535 - count)) in
     let whole : h ≡ 68 ∷ 77 ∷ 76 ∷ 71 ∷ 2 ∷ number / 256 ∷ number % 256 ∷ serial / 256 ∷ serial % 256 ∷ ranges ∷
     (((flat_map range_bytes free ++ others ∷ []) ++ flat_map giver_bytes givers) ++ two_bytes (65535 - count)) =
-    ph ∙ ap (λ x. x ++ two_bytes (65535 - count)) (pg ∙ ap (λ x. x ++ flat_map giver_bytes givers) (pf ∙ ap (λ x. x ++ others ∷ [])
+    ph ∙ ap (λ x. x ++ two_bytes (65535 - count)) (pg ∙
+    ap (λ x. x ++ flat_map giver_bytes givers) (pf ∙ ap (λ x. x ++ others ∷ [])
     (pe ∙ ap (λ x. x ++ flat_map range_bytes free) (pd ∙ ap (λ x. x ++ ranges ∷ []) (pc
     ∙ ap (λ x. x ++ two_bytes serial) (pb ∙ ap (λ x. x ++ two_bytes number) pa)))))) in
     whole

@@ -7,7 +7,8 @@ use Rattle.dm_print_ledger.specs.Givers.{last_taken, GiversFrom, Notes}
 use Rattle.dm_print_ledger.specs.inner.Changes.{givers_with}
 
 -- no giver below the first number is listed
-none_below : (from : ℕ) (givers : List Giver) (number : ℕ) → GiversFrom from givers → number < from → last_taken givers number ≡ None
+none_below : (from : ℕ) (givers : List Giver) (number : ℕ) → GiversFrom from givers → number < from →
+    last_taken givers number ≡ None
 none_below from [] number rise low = refl
 none_below from (giver ∷ givers) number rise low =
     let a : from ≤ giver.number = rise.0 in
@@ -18,14 +19,16 @@ none_below from (giver ∷ givers) number rise low =
 -- after a giver below the new one comes what the rest gives
 with_past : (giver : Giver) (givers : List Giver) (last : Giver) → giver.number < last.number →
     givers_with (giver ∷ givers) last ≡ giver ∷ givers_with givers last
-with_past giver givers last h = cond-true (nat_lt giver.number last.number) (giver ∷ givers_with givers last) _ (lt-ltb _ _ h)
+with_past giver givers last h = cond-true (nat_lt giver.number last.number) (giver ∷ givers_with givers last) _
+    (lt-ltb _ _ h)
 
 -- at the same giver its serial is replaced
 with_here : (giver : Giver) (givers : List Giver) (last : Giver) → giver.number ≡ last.number →
     givers_with (giver ∷ givers) last ≡ last ∷ givers
 with_here giver givers last h =
     cond-false (nat_lt giver.number last.number) (giver ∷ givers_with givers last)
-    (if giver.number == last.number then last ∷ givers else last ∷ giver ∷ givers) (le-ltb giver.number last.number (omega arith))
+    (if giver.number == last.number then last ∷ givers else last ∷ giver ∷ givers) (le-ltb giver.number last.number
+    (omega arith))
     ∙ cond-true (giver.number == last.number) (last ∷ givers) (last ∷ giver ∷ givers) (eq-eqb _ _ h)
 
 -- before a later giver the new one is put
@@ -34,12 +37,17 @@ with_before : (giver : Giver) (givers : List Giver) (last : Giver) → last.numb
 with_before giver givers last h =
     let ne : giver.number ≡ last.number → ⊥ = (λ e. omega arith) in
     cond-false (nat_lt giver.number last.number) (giver ∷ givers_with givers last)
-    (if giver.number == last.number then last ∷ givers else last ∷ giver ∷ givers) (le-ltb giver.number last.number (omega arith))
+    (if giver.number == last.number then last ∷ givers else last ∷ giver ∷ givers) (le-ltb giver.number last.number
+    (omega arith))
     ∙ cond-false (giver.number == last.number) (last ∷ givers) (last ∷ giver ∷ givers) (ne_eqb _ _ ne)
 
 -- of two numbers one is less, or they are the same
 three : (a b : ℕ) → (a < b) ⊎ ((a ≡ b) ⊎ (b < a))
-three a b = elim (cases_lt a b) [ inl l ↦ inl l | inr g ↦ elim (cases_lt b a) [ inl l ↦ inr (inr l) | inr h ↦ inr (inl (omega arith)) ] ]
+three a b = elim (cases_lt a b) [
+  | inl l ↦ inl l
+  | inr g ↦
+      elim (cases_lt b a) [ inl l ↦ inr (inr l) | inr h ↦ inr (inl (omega arith)) ]
+]
 
 -- the givers with one more rise
 pub with_rise : (from : ℕ) (givers : List Giver) (last : Giver) → GiversFrom from givers → from ≤ last.number →
@@ -51,7 +59,8 @@ with_rise from (giver ∷ givers) last rise low =
       | inl past ↦ subst P (sym (with_past giver givers last past))
           (rise.0, with_rise (giver.number + 1) givers last rise.1 (omega arith))
       | inr h ↦ elim h [
-        | inl here ↦ subst P (sym (with_here giver givers last here)) (low, subst (λ (n : ℕ). GiversFrom (n + 1) givers) here rise.1)
+        | inl here ↦ subst P (sym (with_here giver givers last here))
+            (low, subst (λ (n : ℕ). GiversFrom (n + 1) givers) here rise.1)
         | inr before ↦ subst P (sym (with_before giver givers last before))
             (low, (let l : last.number + 1 ≤ giver.number = omega arith in l, rise.1))
       ]
@@ -66,19 +75,24 @@ cond_swap false b x y z apart = refl
 
 -- each giver's last serial, once one is noted
 pub with_last : (from : ℕ) (givers : List Giver) (last : Giver) (other : ℕ) → GiversFrom from givers →
-    last_taken (givers_with givers last) other ≡ (if last.number == other then Some last.serial else last_taken givers other)
+    last_taken (givers_with givers last) other ≡ (if last.number == other then Some last.serial else last_taken
+    givers other)
 with_last from [] last other rise = refl
 with_last from (giver ∷ givers) last other rise =
     let P : List Giver → Type 0 = λ all. last_taken all other
     ≡ (if last.number == other then Some last.serial else last_taken (giver ∷ givers) other) in
     elim (three giver.number last.number) [
       | inl past ↦ subst P (sym (with_past giver givers last past))
-          (ap (λ o. if giver.number == other then Some giver.serial else o) (with_last (giver.number + 1) givers last other rise.1)
-          ∙ cond_swap (giver.number == other) (last.number == other) (Some giver.serial) (Some last.serial) (last_taken givers other)
-          (λ a b. let x : giver.number ≡ other = eqb-true _ _ a in let y : last.number ≡ other = eqb-true _ _ b in omega arith))
+          (ap (λ o. if giver.number == other then Some giver.serial else o)
+          (with_last (giver.number + 1) givers last other rise.1)
+          ∙ cond_swap (giver.number == other) (last.number == other) (Some giver.serial) (Some last.serial)
+          (last_taken givers other)
+          (λ a b. let x : giver.number ≡ other = eqb-true _ _ a in let y : last.number ≡ other = eqb-true _ _ b in
+          omega arith))
       | inr h ↦ elim h [
         | inl here ↦ subst P (sym (with_here giver givers last here))
-            (same_key giver.number last.number other (Some giver.serial) (Some last.serial) (last_taken givers other) here)
+            (same_key giver.number last.number other (Some giver.serial) (Some last.serial)
+            (last_taken givers other) here)
         | inr before ↦ subst P (sym (with_before giver givers last before)) refl
       ]
     ]
@@ -86,11 +100,13 @@ with_last from (giver ∷ givers) last other rise =
     same_key : {X : Type 0} (a b c : ℕ) (x y z : X) → a ≡ b →
         (if b == c then y else z) ≡ (if b == c then y else (if a == c then x else z))
     same_key a b c x y z e = elim (cases_eq b c) [
-      | inl same ↦ cond-true (b == c) y z (eq-eqb b c same) ∙ sym (cond-true (b == c) y (if a == c then x else z) (eq-eqb b c same))
+      | inl same ↦ cond-true (b == c) y z (eq-eqb b c same) ∙
+          sym (cond-true (b == c) y (if a == c then x else z) (eq-eqb b c same))
       | inr not ↦
           let not' : a ≡ c → ⊥ = (λ f. not (sym e ∙ f)) in
           cond-false (b == c) y z (ne_eqb b c not)
-          ∙ sym (cond-false (b == c) y (if a == c then x else z) (ne_eqb b c not) ∙ cond-false (a == c) x z (ne_eqb a c not'))
+          ∙ sym (cond-false (b == c) y (if a == c then x else z) (ne_eqb b c not) ∙
+          cond-false (a == c) x z (ne_eqb a c not'))
     ]
 
 -- a list grows by one that is new, and only then
@@ -103,8 +119,10 @@ with_known from (giver ∷ givers) last serial rise h =
       | inl past ↦
           let ne : giver.number ≡ last.number → ⊥ = (λ e. omega arith) in
           let rest : last_taken givers last.number ≡ Some serial = sym
-          (cond-false (giver.number == last.number) (Some giver.serial) (last_taken givers last.number) (ne_eqb _ _ ne)) ∙ h in
-          let n : length (givers_with givers last) ≤ length givers = with_known (giver.number + 1) givers last serial rise.1 rest in
+          (cond-false (giver.number == last.number) (Some giver.serial) (last_taken givers last.number)
+          (ne_eqb _ _ ne)) ∙ h in
+          let n : length (givers_with givers last) ≤ length givers =
+          with_known (giver.number + 1) givers last serial rise.1 rest in
           subst P (sym (with_past giver givers last past)) (omega arith)
       | inr g ↦ elim g [
         | inl here ↦ subst P (sym (with_here giver givers last here)) (omega arith)
@@ -129,12 +147,14 @@ with_new (giver ∷ givers) last h =
       | inl past ↦
           let ne : giver.number ≡ last.number → ⊥ = (λ e. omega arith) in
           let rest : last_taken givers last.number ≡ None = sym
-          (cond-false (giver.number == last.number) (Some giver.serial) (last_taken givers last.number) (ne_eqb _ _ ne)) ∙ h in
+          (cond-false (giver.number == last.number) (Some giver.serial) (last_taken givers last.number)
+          (ne_eqb _ _ ne)) ∙ h in
           let n : length (givers_with givers last) ≡ length givers + 1 = with_new givers last rest in
           subst P (sym (with_past giver givers last past)) (omega arith)
       | inr g ↦ elim g [
         | inl here ↦ some_none giver.serial (last_taken (giver ∷ givers) last.number)
-            (cond-true (giver.number == last.number) (Some giver.serial) (last_taken givers last.number) (eq-eqb _ _ here)) h
+            (cond-true (giver.number == last.number) (Some giver.serial) (last_taken givers last.number)
+            (eq-eqb _ _ here)) h
         | inr before ↦ subst P (sym (with_before giver givers last before)) (omega arith)
       ]
     ]
@@ -148,10 +168,14 @@ pub one_too_many : (givers : List Giver) (last : Giver) → GiversFrom 0 givers 
     (last_taken givers last.number ≡ None) × (length givers ≡ 64)
 one_too_many givers last rise few many = go (last_taken givers last.number) refl
   where
-    go : (o : Option ℕ) → last_taken givers last.number ≡ o → (last_taken givers last.number ≡ None) × (length givers ≡ 64)
-    go None e = let n : length (givers_with givers last) ≡ length givers + 1 = with_new givers last e in (e, omega arith)
-    go (Some serial) e = let n : length (givers_with givers last) ≤ length givers = with_known 0 givers last serial rise e in absurd
-        (omega arith)
+    go : (o : Option ℕ) → last_taken givers last.number ≡ o → (last_taken givers last.number ≡ None) ×
+        (length givers ≡ 64)
+    go None e =
+        let n : length (givers_with givers last) ≡ length givers + 1 = with_new givers last e in
+        (e, omega arith)
+    go (Some serial) e =
+        let n : length (givers_with givers last) ≤ length givers = with_known 0 givers last serial rise e in
+        absurd (omega arith)
 
 -- where the givers with one more are few, it is listed or they were fewer
 pub not_one_too_many : (givers : List Giver) (last : Giver) → length (givers_with givers last) ≤ 64 →
@@ -163,7 +187,8 @@ not_one_too_many givers last few h =
 
 -- the noted list notes
 pub notes : (givers : List Giver) (number serial : ℕ) → GiversFrom 0 givers →
-    (let last : Giver = record { number = number; serial = serial } in Notes givers number serial (givers_with givers last))
+    (let last : Giver = record { number = number; serial = serial } in
+    Notes givers number serial (givers_with givers last))
 notes givers number serial rise =
     let last : Giver = record { number = number; serial = serial } in
     record {

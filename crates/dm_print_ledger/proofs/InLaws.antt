@@ -53,7 +53,8 @@ meets_free from (one ∷ ranges) range rise some h =
 pub meets_none : (ranges : List Range) (range : Range) → any_meets ranges range ≡ false → AreTaken ranges range
 meets_none [] range h = λ n inside. refl
 meets_none (one ∷ ranges) range h = λ n inside.
-    let parts : (meets one range ≡ false) × (any_meets ranges range ≡ false) = or_parts (meets one range) (any_meets ranges range) h in
+    let parts : (meets one range ≡ false) × (any_meets ranges range ≡ false) =
+    or_parts (meets one range) (any_meets ranges range) h in
     let here : is_in one n ≡ false = outside one range n parts.0 inside in
     not_free one ranges n here (meets_none ranges range parts.1 n inside)
   where
@@ -68,11 +69,13 @@ meets_none (one ∷ ranges) range h = λ n inside.
         ]
 
 -- a range of which no number is free has none in the rest
-taken_after : (one : Range) (ranges : List Range) (range : Range) → AreTaken (one ∷ ranges) range → AreTaken ranges range
+taken_after : (one : Range) (ranges : List Range) (range : Range) → AreTaken (one ∷ ranges) range →
+    AreTaken ranges range
 taken_after one ranges range taken = λ n inside. (or_parts (is_in one n) (is_free ranges n) (taken n inside)).1
 
 -- a range of which no number is free has none in the first range
-taken_apart : (one : Range) (ranges : List Range) (range : Range) (n : ℕ) → AreTaken (one ∷ ranges) range → is_in range n ≡ true →
+taken_apart : (one : Range) (ranges : List Range) (range : Range) (n : ℕ) → AreTaken (one ∷ ranges) range →
+    is_in range n ≡ true →
     is_in one n ≡ false
 taken_apart one ranges range n taken inside = (or_parts (is_in one n) (is_free ranges n) (taken n inside)).0
 
@@ -99,12 +102,14 @@ past_in : (from : ℕ) (one : Range) (ranges new : List Range) (range : Range) �
 past_in from one ranges new range rise inner = record {
   rises = (rise.0, rise.1, inner.rises);
   free = λ n. ap (λ b. is_in one n || b) (inner.free n) ∙ or_swap (is_in one n) (is_in range n) (is_free ranges n);
-  count = λ taken. let c : free_count new ≡ free_count ranges + size_of range = inner.count (taken_after one ranges range taken) in
+  count = λ taken. let c : free_count new ≡ free_count ranges + size_of range =
+      inner.count (taken_after one ranges range taken) in
       omega arith;
 }
 
 -- wholly above: it stands before all
-before_in : (from : ℕ) (one : Range) (ranges : List Range) (range : Range) → RiseFrom from (one ∷ ranges) → from ≤ range.first →
+before_in : (from : ℕ) (one : Range) (ranges : List Range) (range : Range) → RiseFrom from (one ∷ ranges) →
+    from ≤ range.first →
     IsRange range → range.last + 1 < one.first → IsIn from (one ∷ ranges) range (range ∷ one ∷ ranges)
 before_in from one ranges range rise low is apart = record {
   rises = (low, is, (let l : range.last + 2 ≤ one.first = omega arith in l, rise.1, rise.2));
@@ -142,11 +147,13 @@ hull_in one range n some some' near near' =
     ])
 
 -- no number of the union with a first range that touches is free in the rest
-hull_taken : (from : ℕ) (one : Range) (ranges : List Range) (range : Range) → RiseFrom from (one ∷ ranges) → range.first ≤ range.last →
+hull_taken : (from : ℕ) (one : Range) (ranges : List Range) (range : Range) → RiseFrom from (one ∷ ranges) →
+    range.first ≤ range.last →
     range.first ≤ one.last + 1 → one.first ≤ range.last + 1 →
     AreTaken (one ∷ ranges) range → AreTaken ranges (hull one range)
 hull_taken from one ranges range rise some near near' taken = λ n inside.
-    elim (or_cases (is_in range n) (is_in one n) (sym (hull_in one range n rise.1.not_empty some near near') ∙ inside)) [
+    elim (or_cases (is_in range n) (is_in one n) (sym (hull_in one range n rise.1.not_empty some near near') ∙
+    inside)) [
       | inl here ↦ taken_after one ranges range taken n here
       | inr here ↦
           let m : n ≤ one.last = at_most one n here in
@@ -166,7 +173,8 @@ apart one ranges range some some' taken =
             let m : ℕ = max one.first range.first in
             both (is_in one m) (in_from one m (let l : one.first ≤ max one.first range.first = omega arith in l)
             (let l : max one.first range.first ≤ one.last = omega arith in l))
-            (taken_apart one ranges range m taken (in_from range m (let l : range.first ≤ max one.first range.first = omega arith in l)
+            (taken_apart one ranges range m taken
+            (in_from range m (let l : range.first ≤ max one.first range.first = omega arith in l)
             (let l : max one.first range.first ≤ range.last = omega arith in l)))
       ]
     ]
@@ -189,7 +197,8 @@ touch_in from one ranges new range rise some near near' inner = record {
 }
 
 -- the ranges with one more
-in_from_all : (from : ℕ) (ranges : List Range) (range : Range) → RiseFrom from ranges → from ≤ range.first → IsRange range →
+in_from_all : (from : ℕ) (ranges : List Range) (range : Range) → RiseFrom from ranges → from ≤ range.first →
+    IsRange range →
     IsIn from ranges range (union_of ranges range)
 in_from_all from [] range rise low is = record {
   rises = (low, is, tt);
@@ -202,25 +211,31 @@ in_from_all from (one ∷ ranges) range rise low is =
     let some' : one.first ≤ one.last = rise.1.not_empty in
     let most' : one.last ≤ 64515 = rise.1.within in
     let low' : from ≤ one.first = rise.0 in
-    let rest : List Range = if nat_lt (range.last + 1) one.first then range ∷ one ∷ ranges else union_of ranges (hull one range) in
+    let rest : List Range = if nat_lt (range.last + 1) one.first then range ∷ one ∷ ranges else union_of ranges
+    (hull one range) in
     let P : List Range → Type 0 = λ new. IsIn from (one ∷ ranges) range new in
     elim (cases_lt (one.last + 1) range.first) [
       | inl past ↦
           let l : one.last + 2 ≤ range.first = omega arith in
-          subst P (sym (cond-true (nat_lt (one.last + 1) range.first) (one ∷ union_of ranges range) rest (lt-ltb _ _ past)))
-          (past_in from one ranges (union_of ranges range) range rise (in_from_all (one.last + 2) ranges range rise.2 l is))
+          subst P (sym (cond-true (nat_lt (one.last + 1) range.first) (one ∷ union_of ranges range) rest
+          (lt-ltb _ _ past)))
+          (past_in from one ranges (union_of ranges range) range rise
+          (in_from_all (one.last + 2) ranges range rise.2 l is))
       | inr near ↦
-          subst P (sym (cond-false (nat_lt (one.last + 1) range.first) (one ∷ union_of ranges range) rest (le-ltb _ _ near)))
+          subst P (sym (cond-false (nat_lt (one.last + 1) range.first) (one ∷ union_of ranges range) rest
+          (le-ltb _ _ near)))
           (elim (cases_lt (range.last + 1) one.first) [
             | inl before ↦
-                subst P (sym (cond-true (nat_lt (range.last + 1) one.first) (range ∷ one ∷ ranges) (union_of ranges (hull one range))
+                subst P (sym (cond-true (nat_lt (range.last + 1) one.first)
+                (range ∷ one ∷ ranges) (union_of ranges (hull one range))
                 (lt-ltb _ _ before)))
                 (before_in from one ranges range rise low is before)
             | inr near' ↦
                 let h : IsRange (hull one range) = record { not_empty = omega arith; within = omega arith } in
                 let l : from ≤ min one.first range.first = omega arith in
                 let rest_rises : RiseFrom from ranges = rise_lower (one.last + 2) from ranges (omega arith) rise.2 in
-                subst P (sym (cond-false (nat_lt (range.last + 1) one.first) (range ∷ one ∷ ranges) (union_of ranges (hull one range))
+                subst P (sym (cond-false (nat_lt (range.last + 1) one.first)
+                (range ∷ one ∷ ranges) (union_of ranges (hull one range))
                 (le-ltb _ _ near')))
                 (touch_in from one ranges (union_of ranges (hull one range)) range rise some near near'
                 (in_from_all from ranges (hull one range) rest_rises l h))

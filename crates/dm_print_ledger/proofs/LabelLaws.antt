@@ -9,7 +9,8 @@ use Rattle.dm_print_ledger.specs.Views.{JobView}
 use Rattle.dm_print_ledger.specs.Printing.{AreLabels, IsJobOf}
 
 -- Once no part remains, the labels made are those of all parts.
-pub all_made : (size : Size) (scheme : Scheme) (id n m from : ℕ) (document ends rest : List ℕ) (labels : List GridView) → rest ≡ [] →
+pub all_made : (size : Size) (scheme : Scheme) (id n m from : ℕ) (document ends rest : List ℕ)
+    (labels : List GridView) → rest ≡ [] →
     ((tail : List GridView) → AreLabels size scheme id n m (parts_from document from rest) tail →
     AreLabels size scheme id n 1 (parts_from document 0 ends) (labels ++ tail)) →
     AreLabels size scheme id n 1 (parts_from document 0 ends) labels
@@ -21,7 +22,8 @@ all_made size scheme id n m from document ends rest labels none so_far =
     subst Q (append-nil labels) (done tt)
 
 -- there are as many parts as ends
-length-parts_from : (document : List ℕ) (from : ℕ) (ends : List ℕ) → length (parts_from document from ends) ≡ length ends
+length-parts_from : (document : List ℕ) (from : ℕ) (ends : List ℕ) →
+    length (parts_from document from ends) ≡ length ends
 length-parts_from document from [] = refl
 length-parts_from document from (end ∷ ends) = simp (length-parts_from document end ends)
 
@@ -41,7 +43,8 @@ makes_job size scheme id document ends labels least most made =
     }
 
 -- The same, with the identification, the count and the ends as the code has them.
-pub makes_job_of : (size : Size) (scheme : Scheme) (id number count : ℕ) (document ends given : List ℕ) (labels : List GridView)
+pub makes_job_of : (size : Size) (scheme : Scheme) (id number count : ℕ) (document ends given : List ℕ)
+    (labels : List GridView)
     (job : JobView) →
     (let made : JobView = record { id = number; count = count; labels = labels } in job ≡ made) →
     number ≡ id → count ≡ length ends → given ≡ ends → IsCut size scheme document ends →

@@ -16,7 +16,8 @@ use Rattle.dm_print_ledger.proofs.InLaws.{puts_in}
 use Rattle.dm_print_ledger.proofs.GiverLaws.{notes}
 
 -- a range of which all numbers are free can be taken out
-pub out_of : (ranges : List Range) (range : Range) → RiseFrom 0 ranges → range.first ≤ range.last → AreFree ranges range →
+pub out_of : (ranges : List Range) (range : Range) → RiseFrom 0 ranges → range.first ≤ range.last →
+    AreFree ranges range →
     TakesOut ranges range (without ranges range)
 out_of ranges range rise some free = go (any_covers ranges range) refl
   where
@@ -25,7 +26,8 @@ out_of ranges range rise some free = go (any_covers ranges range) refl
     go false e = let g = gap 0 ranges range rise some e in both (is_free ranges g.0) (free g.0 g.1) g.2
 
 -- the least free number is the first of all
-least_is : (one : Range) (ranges : List Range) (n : ℕ) → RiseFrom 0 (one ∷ ranges) → IsLeastFree (one ∷ ranges) n → n ≡ one.first
+least_is : (one : Range) (ranges : List Range) (n : ℕ) → RiseFrom 0 (one ∷ ranges) → IsLeastFree (one ∷ ranges) n →
+    n ≡ one.first
 least_is one ranges n rise least =
     let a : n ≤ one.first = least.least one.first (first_is_free 0 one ranges rise) in
     let b : one.first ≤ n = from_first 0 one ranges n rise least.free in
@@ -57,22 +59,27 @@ least_counted one ranges rise = let some : one.first ≤ one.last = rise.1.not_e
 
 -- a ledger of which one number less is free
 pub uses : (old : LedgerView) (id : ℕ) (new : LedgerView) → IsSound old → IsLeastFree old.free id →
-    new.number ≡ old.number → new.next_serial ≡ old.next_serial → new.givers ≡ old.givers → new.free ≡ without old.free (single id) →
+    new.number ≡ old.number → new.next_serial ≡ old.next_serial → new.givers ≡ old.givers →
+    new.free ≡ without old.free (single id) →
     Uses old id new
 uses old id new sound least number serial givers free = record {
   least = least;
-  free = subst (λ (rs : List Range). TakesOut old.free (single id) rs) (sym free) (used_out old.free id sound.ranges least);
+  free = subst (λ (rs : List Range). TakesOut old.free (single id) rs) (sym free)
+      (used_out old.free id sound.ranges least);
   number = number;
   next_serial = serial;
   givers = givers;
 }
 
 -- without the range, and with one more serial, a ledger has given it
-pub gives_away : (old : LedgerView) (range : Range) (new : LedgerView) → IsSound old → IsRange range → AreFree old.free range →
-    new.number ≡ old.number → new.next_serial ≡ old.next_serial + 1 → new.givers ≡ old.givers → new.free ≡ without old.free range →
+pub gives_away : (old : LedgerView) (range : Range) (new : LedgerView) → IsSound old → IsRange range →
+    AreFree old.free range →
+    new.number ≡ old.number → new.next_serial ≡ old.next_serial + 1 → new.givers ≡ old.givers →
+    new.free ≡ without old.free range →
     GivesAway old range new
 gives_away old range new sound is all number serial givers free = record {
-  free = subst (λ (rs : List Range). TakesOut old.free range rs) (sym free) (out_of old.free range sound.ranges is.not_empty all);
+  free = subst (λ (rs : List Range). TakesOut old.free range rs) (sym free)
+      (out_of old.free range sound.ranges is.not_empty all);
   number = number;
   next_serial = serial;
   givers = givers;
@@ -81,16 +88,19 @@ gives_away old range new sound is all number serial givers free = record {
 -- the ranges without the range are too many
 pub leaves_too_many : (old : LedgerView) (range : Range) → IsSound old → IsRange range → AreFree old.free range →
     64 < length (without old.free range) → LeavesTooMany old.free range
-leaves_too_many old range sound is all many = (without old.free range, out_of old.free range sound.ranges is.not_empty all, many)
+leaves_too_many old range sound is all many =
+    (without old.free range, out_of old.free range sound.ranges is.not_empty all, many)
 
 -- with the range and the serial a ledger has taken the ticket
 pub takes_in : (old : LedgerView) (ticket : TicketView) (new : LedgerView) → IsSound old → IsRange ticket.range →
     AreTaken old.free ticket.range →
     new.number ≡ old.number → new.next_serial ≡ old.next_serial → new.free ≡ union_of old.free ticket.range →
-    (let last : Giver = record { number = ticket.giver; serial = ticket.serial } in new.givers ≡ givers_with old.givers last) →
+    (let last : Giver = record { number = ticket.giver; serial = ticket.serial } in
+    new.givers ≡ givers_with old.givers last) →
     TakesIn old ticket new
 takes_in old ticket new sound is none number serial free givers = record {
-  free = subst (λ (rs : List Range). PutsIn old.free ticket.range rs) (sym free) (puts_in old.free ticket.range sound.ranges is none);
+  free = subst (λ (rs : List Range). PutsIn old.free ticket.range rs) (sym free)
+      (puts_in old.free ticket.range sound.ranges is none);
   number = number;
   next_serial = serial;
   givers = subst (λ (gs : List Giver). Notes old.givers ticket.giver ticket.serial gs) (sym givers)
@@ -98,17 +108,22 @@ takes_in old ticket new sound is none number serial free givers = record {
 }
 
 -- the ranges with those of the ticket are too many
-pub joins_too_many : (old : LedgerView) (ticket : TicketView) → IsSound old → IsRange ticket.range → AreTaken old.free ticket.range →
+pub joins_too_many : (old : LedgerView) (ticket : TicketView) → IsSound old → IsRange ticket.range →
+    AreTaken old.free ticket.range →
     64 < length (union_of old.free ticket.range) → JoinsTooMany old.free ticket.range
-joins_too_many old ticket sound is none many = (union_of old.free ticket.range, puts_in old.free ticket.range sound.ranges is none, many)
+joins_too_many old ticket sound is none many =
+    (union_of old.free ticket.range, puts_in old.free ticket.range sound.ranges is none, many)
 
 -- the ranges with those of the ticket are few
-pub joins_few : (old : LedgerView) (ticket : TicketView) → IsSound old → IsRange ticket.range → AreTaken old.free ticket.range →
+pub joins_few : (old : LedgerView) (ticket : TicketView) → IsSound old → IsRange ticket.range →
+    AreTaken old.free ticket.range →
     length (union_of old.free ticket.range) ≤ 64 → JoinsFew old.free ticket.range
-joins_few old ticket sound is none few = (union_of old.free ticket.range, puts_in old.free ticket.range sound.ranges is none, few)
+joins_few old ticket sound is none few =
+    (union_of old.free ticket.range, puts_in old.free ticket.range sound.ranges is none, few)
 
 -- what a range taken out leaves is one list
-pub out_once : (old : List Range) (range : Range) (a b : List Range) → TakesOut old range a → TakesOut old range b → a ≡ b
+pub out_once : (old : List Range) (range : Range) (a b : List Range) → TakesOut old range a →
+    TakesOut old range b → a ≡ b
 out_once old range a b p q = one_list 0 a b p.ranges q.ranges (λ n. p.free n ∙ sym (q.free n))
 
 -- what a range put in leaves is one list
@@ -116,7 +131,8 @@ pub in_once : (old : List Range) (range : Range) (a b : List Range) → PutsIn o
 in_once old range a b p q = one_list 0 a b p.ranges q.ranges (λ n. p.free n ∙ sym (q.free n))
 
 -- a ledger with other ranges is sound
-pub sound_with : (old new : LedgerView) → IsSound old → AreRanges new.free → length new.free ≤ 64 → new.givers ≡ old.givers → IsSound new
+pub sound_with : (old new : LedgerView) → IsSound old → AreRanges new.free → length new.free ≤ 64 →
+    new.givers ≡ old.givers → IsSound new
 sound_with old new sound ranges few same = record {
   ranges = ranges;
   few_ranges = few;
@@ -125,7 +141,8 @@ sound_with old new sound ranges few same = record {
 }
 
 -- the least number of ranges that are there
-pub least_at : (ranges : List Range) (d : Range) → RiseFrom 0 ranges → 0 < length ranges → IsLeastFree ranges (get_or ranges 0 d).first
+pub least_at : (ranges : List Range) (d : Range) → RiseFrom 0 ranges → 0 < length ranges →
+    IsLeastFree ranges (get_or ranges 0 d).first
 least_at [] d rise some = absurd (omega arith)
 least_at (one ∷ ranges) d rise some = least_free one ranges rise
 

@@ -47,7 +47,8 @@ abbrev is_other_at : Option ℕ → Type 0
 is_other_at o = IsSomeAnd o (λ version. (version ≢ 1) × (version ≢ 2))
 
 -- a fault of what a load shows is a fault of the whole
-fault_cut : (c : List ℕ) (number : ℕ) (fault : LedgerFault) → HasFault (take 526 c) number fault → HasFault c number fault
+fault_cut : (c : List ℕ) (number : ℕ) (fault : LedgerFault) → HasFault (take 526 c) number fault →
+    HasFault c number fault
 fault_cut c number ledger.NotALedger h = λ m. h (marked_cut c ∙ m)
 fault_cut c number ledger.Version h =
     (sym (marked_cut c) ∙ h.0, subst is_other_at (fifth_cut c) h.1)
@@ -65,7 +66,8 @@ fault_cut c number ledger.Number h =
 
 -- the same, of what a store holds
 pub fault_by_cut : (content : Option (List ℕ)) (bytes : List ℕ) (number : ℕ) (fault : LedgerFault) →
-    Some bytes ≡ option_map (take 526) content → HasFault bytes number fault → IsSomeAnd content (λ c. HasFault c number fault)
+    Some bytes ≡ option_map (take 526) content → HasFault bytes number fault →
+    IsSomeAnd content (λ c. HasFault c number fault)
 fault_by_cut None bytes number fault e h = cc
 fault_by_cut (Some c) bytes number fault e h =
     let cut : bytes ≡ take 526 c = cc in
@@ -77,7 +79,8 @@ both_at None p q = absurd p
 both_at (Some x) p q = (x, p, q)
 
 -- a store holds one ledger of one number
-pub one_ledger : (saved : Saved) (l m : LedgerView) → HoldsLedger saved l → HoldsLedger saved m → m.number ≡ l.number → m ≡ l
+pub one_ledger : (saved : Saved) (l m : LedgerView) → HoldsLedger saved l → HoldsLedger saved m →
+    m.number ≡ l.number → m ≡ l
 one_ledger saved l m a b same =
     let both = both_at {P = λ bytes. Spells bytes l} {Q = λ bytes. Spells bytes m} saved.content a b in
     one_spelled both.0 m l both.2 both.1 same
@@ -130,19 +133,22 @@ no_fault bytes l ledger.Number s h = elim s.spelled [
 ]
 
 -- where a ledger of this number is held, no fault is
-none_at : (saved : Saved) (l : LedgerView) (number : ℕ) (fault : LedgerFault) → HoldsLedger saved l → l.number ≡ number →
+none_at : (saved : Saved) (l : LedgerView) (number : ℕ) (fault : LedgerFault) → HoldsLedger saved l →
+    l.number ≡ number →
     IsSomeAnd saved.content (λ bytes. HasFault bytes number fault) → ⊥
 none_at saved l number fault holds same h =
     let both = both_at {P = λ bytes. Spells bytes l} {Q = λ bytes. HasFault bytes number fault} saved.content holds h in
     no_fault both.0 l fault both.1 (subst (λ (n : ℕ). HasFault both.0 n fault) (sym same) both.2)
 
 -- where a ledger is held, something is
-not_absent : (content : Option (List ℕ)) (l : LedgerView) → IsSomeAnd content (λ bytes. Spells bytes l) → content ≡ None → ⊥
+not_absent : (content : Option (List ℕ)) (l : LedgerView) → IsSomeAnd content (λ bytes. Spells bytes l) →
+    content ≡ None → ⊥
 not_absent None l h e = h
 not_absent (Some c) l h e = cc
 
 -- where a ledger of this number is held, only the load keeps it back
-pub may_fail : (saved : Saved) (l : LedgerView) (number : ℕ) (fault : OpenFault) → IsTrue saved.is_honest → HoldsLedger saved l →
+pub may_fail : (saved : Saved) (l : LedgerView) (number : ℕ) (fault : OpenFault) → IsTrue saved.is_honest →
+    HoldsLedger saved l →
     l.number ≡ number →
     HasOpenFault saved number fault → MayFailToLoad fault
 may_fail saved l number Absent honest holds same h = not_absent saved.content l holds (h honest)
@@ -158,29 +164,36 @@ spelled_by : (bytes : List ℕ) (l : LedgerView) → IsSound l → bytes ≡ led
 spelled_by bytes l sound e = record { sound = sound; spelled = inl e }
 
 -- no two faults stand together
-fault_once : (bytes : List ℕ) (number : ℕ) (f g : LedgerFault) → HasFault bytes number f → HasFault bytes number g → f ≡ g
+fault_once : (bytes : List ℕ) (number : ℕ) (f g : LedgerFault) → HasFault bytes number f →
+    HasFault bytes number g → f ≡ g
 fault_once bytes number ledger.NotALedger ledger.NotALedger a b = refl
 fault_once bytes number ledger.NotALedger ledger.Version a b = absurd (a b.0)
 fault_once bytes number ledger.NotALedger ledger.Damaged a b = absurd (a b.0)
-fault_once bytes number ledger.NotALedger ledger.Number a b = absurd (a (marked bytes b.0 (spelled_by bytes b.0 b.1 b.2)))
+fault_once bytes number ledger.NotALedger ledger.Number a b =
+    absurd (a (marked bytes b.0 (spelled_by bytes b.0 b.1 b.2)))
 fault_once bytes number ledger.Version ledger.NotALedger a b = absurd (b a.0)
 fault_once bytes number ledger.Version ledger.Version a b = refl
 fault_once bytes number ledger.Version ledger.Damaged a b = absurd (b.1 a.1)
-fault_once bytes number ledger.Version ledger.Number a b = absurd (not_other bytes b.0 (spelled_by bytes b.0 b.1 b.2) a.1)
+fault_once bytes number ledger.Version ledger.Number a b =
+    absurd (not_other bytes b.0 (spelled_by bytes b.0 b.1 b.2) a.1)
 fault_once bytes number ledger.Damaged ledger.NotALedger a b = absurd (b a.0)
 fault_once bytes number ledger.Damaged ledger.Version a b = absurd (a.1 b.1)
 fault_once bytes number ledger.Damaged ledger.Damaged a b = refl
 fault_once bytes number ledger.Damaged ledger.Number a b = absurd (a.2 b.0 (spelled_by bytes b.0 b.1 b.2))
-fault_once bytes number ledger.Number ledger.NotALedger a b = absurd (b (marked bytes a.0 (spelled_by bytes a.0 a.1 a.2)))
-fault_once bytes number ledger.Number ledger.Version a b = absurd (not_other bytes a.0 (spelled_by bytes a.0 a.1 a.2) b.1)
+fault_once bytes number ledger.Number ledger.NotALedger a b =
+    absurd (b (marked bytes a.0 (spelled_by bytes a.0 a.1 a.2)))
+fault_once bytes number ledger.Number ledger.Version a b =
+    absurd (not_other bytes a.0 (spelled_by bytes a.0 a.1 a.2) b.1)
 fault_once bytes number ledger.Number ledger.Damaged a b = absurd (b.2 a.0 (spelled_by bytes a.0 a.1 a.2))
 fault_once bytes number ledger.Number ledger.Number a b = refl
 
 -- no two faults of what is held stand together
-at_once : (saved : Saved) (number : ℕ) (f g : LedgerFault) → IsSomeAnd saved.content (λ bytes. HasFault bytes number f) →
+at_once : (saved : Saved) (number : ℕ) (f g : LedgerFault) →
+    IsSomeAnd saved.content (λ bytes. HasFault bytes number f) →
     IsSomeAnd saved.content (λ bytes. HasFault bytes number g) → f ≡ g
 at_once saved number f g a b =
-    let both = both_at {P = λ bytes. HasFault bytes number f} {Q = λ bytes. HasFault bytes number g} saved.content a b in
+    let both = both_at {P = λ bytes. HasFault bytes number f}
+    {Q = λ bytes. HasFault bytes number g} saved.content a b in
     fault_once both.0 number f g both.1 both.2
 
 -- where nothing is held, no fault of bytes is
@@ -189,7 +202,8 @@ absent_or None P e h = h
 absent_or (Some c) P e h = cc
 
 -- the refusal that was answered is the one that stands, or the load failed
-pub refused_by : (saved : Saved) (number : ℕ) (fault answered : OpenFault) → IsTrue saved.is_honest → HoldsNone saved number fault →
+pub refused_by : (saved : Saved) (number : ℕ) (fault answered : OpenFault) → IsTrue saved.is_honest →
+    HoldsNone saved number fault →
     HasOpenFault saved number answered → IsRefusal fault answered
 refused_by saved number fault Device honest a b = inr tt
 refused_by saved number fault Memory honest a b = inr tt
@@ -207,9 +221,11 @@ refused_by saved number NotALedger Damaged honest a b = absurd (let e : ledger.N
     ≡ ledger.Damaged = at_once saved number ledger.NotALedger ledger.Damaged a (b honest) in cc)
 refused_by saved number NotALedger Number honest a b = absurd (let e : ledger.NotALedger
     ≡ ledger.Number = at_once saved number ledger.NotALedger ledger.Number a (b honest) in cc)
-refused_by saved number Absent Version honest a b = absurd (absent_or saved.content (λ bytes. HasFault bytes number ledger.Version) a
+refused_by saved number Absent Version honest a b =
+    absurd (absent_or saved.content (λ bytes. HasFault bytes number ledger.Version) a
     (b honest))
-refused_by saved number Version Absent honest a b = absurd (absent_or saved.content (λ bytes. HasFault bytes number ledger.Version)
+refused_by saved number Version Absent honest a b =
+    absurd (absent_or saved.content (λ bytes. HasFault bytes number ledger.Version)
     (b honest) a)
 refused_by saved number Version NotALedger honest a b = absurd (let e : ledger.Version
     ≡ ledger.NotALedger = at_once saved number ledger.Version ledger.NotALedger a (b honest) in cc)
@@ -218,9 +234,11 @@ refused_by saved number Version Damaged honest a b = absurd (let e : ledger.Vers
     ≡ ledger.Damaged = at_once saved number ledger.Version ledger.Damaged a (b honest) in cc)
 refused_by saved number Version Number honest a b = absurd (let e : ledger.Version
     ≡ ledger.Number = at_once saved number ledger.Version ledger.Number a (b honest) in cc)
-refused_by saved number Absent Damaged honest a b = absurd (absent_or saved.content (λ bytes. HasFault bytes number ledger.Damaged) a
+refused_by saved number Absent Damaged honest a b =
+    absurd (absent_or saved.content (λ bytes. HasFault bytes number ledger.Damaged) a
     (b honest))
-refused_by saved number Damaged Absent honest a b = absurd (absent_or saved.content (λ bytes. HasFault bytes number ledger.Damaged)
+refused_by saved number Damaged Absent honest a b =
+    absurd (absent_or saved.content (λ bytes. HasFault bytes number ledger.Damaged)
     (b honest) a)
 refused_by saved number Damaged NotALedger honest a b = absurd (let e : ledger.Damaged
     ≡ ledger.NotALedger = at_once saved number ledger.Damaged ledger.NotALedger a (b honest) in cc)
@@ -229,9 +247,11 @@ refused_by saved number Damaged Version honest a b = absurd (let e : ledger.Dama
 refused_by saved number Damaged Damaged honest a b = inl refl
 refused_by saved number Damaged Number honest a b = absurd (let e : ledger.Damaged
     ≡ ledger.Number = at_once saved number ledger.Damaged ledger.Number a (b honest) in cc)
-refused_by saved number Absent Number honest a b = absurd (absent_or saved.content (λ bytes. HasFault bytes number ledger.Number) a
+refused_by saved number Absent Number honest a b =
+    absurd (absent_or saved.content (λ bytes. HasFault bytes number ledger.Number) a
     (b honest))
-refused_by saved number Number Absent honest a b = absurd (absent_or saved.content (λ bytes. HasFault bytes number ledger.Number)
+refused_by saved number Number Absent honest a b =
+    absurd (absent_or saved.content (λ bytes. HasFault bytes number ledger.Number)
     (b honest) a)
 refused_by saved number Number NotALedger honest a b = absurd (let e : ledger.Number
     ≡ ledger.NotALedger = at_once saved number ledger.Number ledger.NotALedger a (b honest) in cc)
@@ -242,7 +262,8 @@ refused_by saved number Number Damaged honest a b = absurd (let e : ledger.Numbe
 refused_by saved number Number Number honest a b = inl refl
 
 -- where a ledger of this number is held, nothing of this is
-pub holds_some : (saved : Saved) (l : LedgerView) (number : ℕ) (fault : OpenFault) → HoldsLedger saved l → l.number ≡ number →
+pub holds_some : (saved : Saved) (l : LedgerView) (number : ℕ) (fault : OpenFault) → HoldsLedger saved l →
+    l.number ≡ number →
     ¬ HoldsNone saved number fault
 holds_some saved l number Absent holds same h = not_absent saved.content l holds h
 holds_some saved l number Device holds same h = h

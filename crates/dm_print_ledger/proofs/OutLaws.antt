@@ -67,7 +67,8 @@ gap from (one ∷ ranges) range rise some h =
                 (below_not_free (one.last + 2) ranges (one.last + 1) rise.2 (omega arith)),
           )
           | inl past ↦
-              let found : HasTaken ranges range = gap (one.last + 2) ranges range rise.2 some (any_parts one ranges range h).1 in
+              let found : HasTaken ranges range = gap (one.last + 2) ranges range rise.2 some
+              (any_parts one ranges range h).1 in
               let low : range.first ≤ found.0 = at_least range found.0 found.1 in
               (found.0, found.1, not_free one ranges found.0 (not_in_above one found.0 (omega arith)) found.2)
         ]
@@ -98,7 +99,8 @@ unchanged (one ∷ ranges) range h =
     ∙ ap (λ r. one ∷ r) (unchanged ranges range (any_parts one ranges range h).1)
 
 -- a first range that covers leaves what is below and above
-head_is : (one : Range) (ranges : List Range) (range : Range) → covers one range ≡ true → any_covers ranges range ≡ false →
+head_is : (one : Range) (ranges : List Range) (range : Range) → covers one range ≡ true →
+    any_covers ranges range ≡ false →
     without (one ∷ ranges) range ≡ below one range ++ (above one range ++ ranges)
 head_is one ranges range h rest =
     ap (λ p. p ++ without ranges range) (cond-true (covers one range) (below one range ++ above one range) (one ∷ []) h)
@@ -114,14 +116,17 @@ abbrev lower : Range → Range → Range
 lower one range = record { first = one.first; last = range.first - 1 }
 
 -- The part above a range, and what rises after it.
-above_rises : (one range : Range) (ranges : List Range) → IsRange one → RiseFrom (one.last + 2) ranges → range.last ≤ one.last →
+above_rises : (one range : Range) (ranges : List Range) → IsRange one → RiseFrom (one.last + 2) ranges →
+    range.last ≤ one.last →
     RiseFrom (range.last + 1) (above one range ++ ranges)
 above_rises one range ranges is rise high =
-    cond_both (nat_lt range.last one.last) (upper one range ∷ []) [] (λ part. RiseFrom (range.last + 1) (part ++ ranges))
+    cond_both (nat_lt range.last one.last) (upper one range ∷ []) []
+    (λ part. RiseFrom (range.last + 1) (part ++ ranges))
     (λ e. let lt : range.last < one.last = ltb-true _ _ e in
     let most : one.last ≤ 64515 = is.within in
     (omega arith, record { not_empty = omega arith; within = most }, rise))
-    (λ e. let ge : one.last ≤ range.last = ltb-false _ _ e in rise_lower (one.last + 2) (range.last + 1) ranges (omega arith) rise)
+    (λ e. let ge : one.last ≤ range.last = ltb-false _ _ e in
+    rise_lower (one.last + 2) (range.last + 1) ranges (omega arith) rise)
 
 -- how many numbers are above
 above_count : (one range : Range) (ranges : List Range) → range.last ≤ one.last →
@@ -152,11 +157,13 @@ above_here : (one range : Range) (ranges : List Range) (n : ℕ) → range.last 
     is_free (above one range ++ ranges) n ≡ true
 above_here one range ranges n low high =
     cond_both (nat_lt range.last one.last) (upper one range ∷ []) [] (λ part. is_free (part ++ ranges) n ≡ true)
-    (λ e. free_here (upper one range) ranges n (in_from (upper one range) n (let l : range.last + 1 ≤ n = omega arith in l) high))
+    (λ e. free_here (upper one range) ranges n (in_from (upper one range) n (let l : range.last + 1 ≤ n = omega arith in
+    l) high))
     (λ e. let ge : one.last ≤ range.last = ltb-false _ _ e in absurd (omega arith))
 
 -- the numbers of the rest are free
-above_rest : (one range : Range) (ranges : List Range) (n : ℕ) → is_free ranges n ≡ true → is_free (above one range ++ ranges) n ≡ true
+above_rest : (one range : Range) (ranges : List Range) (n : ℕ) → is_free ranges n ≡ true →
+    is_free (above one range ++ ranges) n ≡ true
 above_rest one range ranges n h =
     cond_both (nat_lt range.last one.last) (upper one range ∷ []) [] (λ part. is_free (part ++ ranges) n
     ≡ true) (λ e. free_after _ ranges n h) (λ e. h)
@@ -172,7 +179,8 @@ below_rises from one range ranges least most rise low =
       rise_lower (range.first + 1) (range.first - 1 + 2) ranges
           (omega arith) rise,
     ))
-    (λ e. let ge : range.first ≤ one.first = ltb-false _ _ e in rise_lower (range.first + 1) from ranges (omega arith) rise)
+    (λ e. let ge : range.first ≤ one.first = ltb-false _ _ e in
+    rise_lower (range.first + 1) from ranges (omega arith) rise)
 
 -- how many numbers are below
 below_count : (one range : Range) (ranges : List Range) → one.first ≤ range.first →
@@ -204,11 +212,13 @@ below_here : (one range : Range) (ranges : List Range) (n : ℕ) → one.first �
     is_free (below one range ++ ranges) n ≡ true
 below_here one range ranges n low high =
     cond_both (nat_lt one.first range.first) (lower one range ∷ []) [] (λ part. is_free (part ++ ranges) n ≡ true)
-    (λ e. free_here (lower one range) ranges n (in_from (lower one range) n low (let l : n ≤ range.first - 1 = omega arith in l)))
+    (λ e. free_here (lower one range) ranges n
+    (in_from (lower one range) n low (let l : n ≤ range.first - 1 = omega arith in l)))
     (λ e. let ge : range.first ≤ one.first = ltb-false _ _ e in absurd (omega arith))
 
 -- the numbers of the rest are free
-below_rest : (one range : Range) (ranges : List Range) (n : ℕ) → is_free ranges n ≡ true → is_free (below one range ++ ranges) n ≡ true
+below_rest : (one range : Range) (ranges : List Range) (n : ℕ) → is_free ranges n ≡ true →
+    is_free (below one range ++ ranges) n ≡ true
 below_rest one range ranges n h =
     cond_both (nat_lt one.first range.first) (lower one range ∷ []) [] (λ part. is_free (part ++ ranges) n
     ≡ true) (λ e. free_after _ ranges n h) (λ e. h)
@@ -220,15 +230,18 @@ record IsOut (from : ℕ) (old : List Range) (range : Range) (new : List Range) 
   pub count : free_count new + size_of range ≡ free_count old
 
 -- where the first range covers, just the numbers of the range leave
-head_free : (from : ℕ) (one : Range) (ranges : List Range) (range : Range) → RiseFrom from (one ∷ ranges) → range.first ≤ range.last →
+head_free : (from : ℕ) (one : Range) (ranges : List Range) (range : Range) → RiseFrom from (one ∷ ranges) →
+    range.first ≤ range.last →
     covers one range ≡ true →
-    (n : ℕ) → is_free (below one range ++ (above one range ++ ranges)) n ≡ (is_free (one ∷ ranges) n && not (is_in range n))
+    (n : ℕ) → is_free (below one range ++
+    (above one range ++ ranges)) n ≡ (is_free (one ∷ ranges) n && not (is_in range n))
 head_free from one ranges range rise some h n =
     let a : one.first ≤ range.first = covers_low one range h in
     let b : range.last ≤ one.last = covers_high one range h in
     let free : Bool = is_free (one ∷ ranges) n in
     let inside : Bool = is_in range n in
-    same_tests (is_free (below one range ++ (above one range ++ ranges)) n) (is_free (one ∷ ranges) n && not (is_in range n))
+    same_tests (is_free (below one range ++ (above one range ++ ranges)) n)
+    (is_free (one ∷ ranges) n && not (is_in range n))
     (λ f. elim (below_to one range (above one range ++ ranges) n f) [
       | inl low ↦
           let l : one.first ≤ n = low.0 in
@@ -262,7 +275,8 @@ head_free from one ranges range rise some h n =
     ])
 
 -- the same, with order and count
-head_out : (from : ℕ) (one : Range) (ranges : List Range) (range : Range) → RiseFrom from (one ∷ ranges) → range.first ≤ range.last →
+head_out : (from : ℕ) (one : Range) (ranges : List Range) (range : Range) → RiseFrom from (one ∷ ranges) →
+    range.first ≤ range.last →
     covers one range ≡ true →
     IsOut from (one ∷ ranges) range (below one range ++ (above one range ++ ranges))
 head_out from one ranges range rise some h =
@@ -270,9 +284,11 @@ head_out from one ranges range rise some h =
     let b : range.last ≤ one.last = covers_high one range h in
     let most : one.last ≤ 64515 = rise.1.within in
     let ups : RiseFrom (range.last + 1) (above one range ++ ranges) = above_rises one range ranges rise.1 rise.2 b in
-    let c : free_count (above one range ++ ranges) ≡ (one.last - range.last) + free_count ranges = above_count one range ranges b in
+    let c : free_count (above one range ++ ranges) ≡ (one.last - range.last) + free_count ranges =
+    above_count one range ranges b in
     let d : free_count (below one range ++ (above one range ++ ranges))
-    ≡ (range.first - one.first) + free_count (above one range ++ ranges) = below_count one range (above one range ++ ranges) a in
+    ≡ (range.first - one.first) + free_count (above one range ++ ranges) =
+    below_count one range (above one range ++ ranges) a in
     record {
       rises = below_rises from one range (above one range ++ ranges) rise.0 (omega arith)
           (rise_lower (range.last + 1) (range.first + 1) _ (omega arith) ups) a;
@@ -291,7 +307,8 @@ tail_out from one ranges new range rise h some out =
     elim (cases_lt one.last range.first) [
       | inl l ↦ l
       | inr g ↦ both (is_free ranges range.first) (covered_free ranges range h range.first
-          (in_from range range.first (omega arith) some)) (below_not_free (one.last + 2) ranges range.first rise.2 (omega arith))
+          (in_from range range.first (omega arith) some))
+          (below_not_free (one.last + 2) ranges range.first rise.2 (omega arith))
     ] in
     record {
       rises = (rise.0, rise.1, out.rises);
@@ -299,7 +316,8 @@ tail_out from one ranges new range rise h some out =
           (λ f. elim (free_cases one new n f) [
             | inl here ↦
                 let m : n ≤ one.last = at_most one n here in
-                still_free (is_free (one ∷ ranges) n) (is_in range n) (free_here one ranges n here) (not_in_below range n (omega arith))
+                still_free (is_free (one ∷ ranges) n) (is_in range n) (free_here one ranges n here)
+                (not_in_below range n (omega arith))
             | inr rest ↦
                 let was : (is_free ranges n && not (is_in range n)) ≡ true = sym (out.free n) ∙ rest in
                 still_free (is_free (one ∷ ranges) n) (is_in range n)
@@ -334,7 +352,8 @@ out_from from (one ∷ ranges) range rise some h =
     ]
 
 -- the ranges without a range have just its numbers less
-pub takes_out : (ranges : List Range) (range : Range) → RiseFrom 0 ranges → range.first ≤ range.last → any_covers ranges range ≡ true →
+pub takes_out : (ranges : List Range) (range : Range) → RiseFrom 0 ranges → range.first ≤ range.last →
+    any_covers ranges range ≡ true →
     TakesOut ranges range (without ranges range)
 takes_out ranges range rise some h =
     let out : IsOut 0 ranges range (without ranges range) = out_from 0 ranges range rise some h in
@@ -348,16 +367,19 @@ takes_out ranges range rise some h =
 -- the part above a range is one range at most
 above_length : (one range : Range) (ranges : List Range) → length (above one range ++ ranges) ≤ length ranges + 1
 above_length one range ranges =
-    cond_both (nat_lt range.last one.last) (upper one range ∷ []) [] (λ part. length (part ++ ranges) ≤ length ranges + 1)
+    cond_both (nat_lt range.last one.last) (upper one range ∷ []) []
+    (λ part. length (part ++ ranges) ≤ length ranges + 1)
     (λ e. omega arith) (λ e. omega arith)
 
 -- without the first number there are no more ranges
 pub first_out : (one : Range) (ranges : List Range) → RiseFrom 0 (one ∷ ranges) →
-    (let first : Range = record { first = one.first; last = one.first } in length (without (one ∷ ranges) first) ≤ length (one ∷ ranges))
+    (let first : Range = record { first = one.first; last = one.first } in
+    length (without (one ∷ ranges) first) ≤ length (one ∷ ranges))
 first_out one ranges rise =
     let first : Range = record { first = one.first; last = one.first } in
     let some : one.first ≤ one.last = rise.1.not_empty in
-    let here : covers one first ≡ true = covers_from one first (let l : one.first ≤ one.first = omega arith in l) some in
+    let here : covers one first ≡ true = covers_from one first (let l : one.first ≤ one.first = omega arith in
+    l) some in
     let rest : any_covers ranges first ≡ false = none_after (one.last + 2) ranges first rise.2
     (let l : one.first < one.last + 2 = omega arith in l) in
     let nothing : below one first ≡ [] = cond-false (nat_lt one.first one.first) (lower one first ∷ []) []

@@ -47,7 +47,8 @@ first_none bytes one none l s = elim s.spelled [
 ]
 
 -- with a fifth byte 2, bytes that spell no ledger of version 2 spell none
-pub second_none : (bytes : List ℕ) → get_or bytes 4 0 ≡ 2 → ((l : LedgerView) → IsSound l → ¬ (bytes ≡ ledger_bytes l)) →
+pub second_none : (bytes : List ℕ) → get_or bytes 4 0 ≡ 2 →
+    ((l : LedgerView) → IsSound l → ¬ (bytes ≡ ledger_bytes l)) →
     (l : LedgerView) → ¬ Spells bytes l
 second_none bytes two none l s = elim s.spelled [
   | inl e ↦ none l s.sound e
@@ -71,6 +72,7 @@ one_spelled bytes l m a b same = elim a.spelled [
         absurd (omega arith)
     | inr f ↦
         let first : e.0 ≡ f.0 = sym (first_read bytes e.0 e.2) ∙ first_read bytes f.0 f.2 in
-        e.3 ∙ ap (λ (x : FirstLedger). continuation_of x l.number) first ∙ ap (λ (n : ℕ). continuation_of f.0 n) same ∙ sym f.3
+        e.3 ∙ ap (λ (x : FirstLedger). continuation_of x l.number) first ∙
+        ap (λ (n : ℕ). continuation_of f.0 n) same ∙ sym f.3
   ]
 ]

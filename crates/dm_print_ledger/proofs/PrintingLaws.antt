@@ -42,7 +42,8 @@ print_once p size scheme document printing.Memory g a b = absurd (can_print p si
 print_once p size scheme document printing.Save g a b = absurd a
 
 -- what is made under a number
-pub makes : (old ledger next : LedgerView) (size : Size) (scheme : Scheme) (document ends : List ℕ) (job : JobView) (n : ℕ) →
+pub makes : (old ledger next : LedgerView) (size : Size) (scheme : Scheme) (document ends : List ℕ) (job : JobView)
+    (n : ℕ) →
     AreEnds size scheme document ends → ledger ≡ old → Uses ledger n next → IsSound next →
     IsJobOf size scheme n (parts_from document 0 ends) job →
     Makes old size scheme document job next

@@ -6,7 +6,8 @@ use Rattle.dm_print_ledger.specs.Ranges.{is_free, RiseFrom, free_count, IsLeastF
 use Rattle.dm_print_ledger.proofs.RangeTests.{both, in_from, not_in_below, not_in_above}
 
 -- no number below is free
-pub below_not_free : (from : ℕ) (ranges : List Range) (n : ℕ) → RiseFrom from ranges → n < from → is_free ranges n ≡ false
+pub below_not_free : (from : ℕ) (ranges : List Range) (n : ℕ) → RiseFrom from ranges → n < from →
+    is_free ranges n ≡ false
 below_not_free from [] n rise low = refl
 below_not_free from (one ∷ ranges) n rise low =
     let least : from ≤ one.first = rise.0 in
@@ -49,15 +50,18 @@ rest_free : (one : Range) (ranges : List Range) (n : ℕ) → one.last < n → i
 rest_free one ranges n high = rw (not_in_above one n high) refl
 
 -- the last number of a first range is not after that of a first range with the same numbers
-last_below : (x y : Range) (xs ys : List Range) (from : ℕ) → x.first ≡ y.first → RiseFrom from (x ∷ xs) → RiseFrom from (y ∷ ys) →
+last_below : (x y : Range) (xs ys : List Range) (from : ℕ) → x.first ≡ y.first → RiseFrom from (x ∷ xs) →
+    RiseFrom from (y ∷ ys) →
     ((n : ℕ) → is_free (x ∷ xs) n ≡ is_free (y ∷ ys) n) → y.last ≤ x.last
 last_below x y xs ys from e p q same =
     elim (cases_lt x.last y.last) [
       | inl low ↦
           let some : x.first ≤ x.last = p.1.not_empty in
-          let free : is_free (y ∷ ys) (x.last + 1) ≡ true = or_left _ _ (in_from y (x.last + 1) (omega arith) (omega arith)) in
+          let free : is_free (y ∷ ys) (x.last + 1) ≡ true =
+          or_left _ _ (in_from y (x.last + 1) (omega arith) (omega arith)) in
           let none : is_free xs (x.last + 1) ≡ false = below_not_free (x.last + 2) xs (x.last + 1) p.2 (omega arith) in
-          let none_at_all : is_free (x ∷ xs) (x.last + 1) ≡ false = or_from _ _ (not_in_above x (x.last + 1) (omega arith)) none in
+          let none_at_all : is_free (x ∷ xs) (x.last + 1) ≡ false =
+          or_from _ _ (not_in_above x (x.last + 1) (omega arith)) none in
           both _ (same (x.last + 1) ∙ free) none_at_all
       | inr high ↦ high
     ]
@@ -81,7 +85,8 @@ rest_same x y xs ys from e p q same n =
     ]
 
 -- lists of ranges with the same numbers are one
-pub one_list : (from : ℕ) (xs ys : List Range) → RiseFrom from xs → RiseFrom from ys → ((n : ℕ) → is_free xs n ≡ is_free ys n) → xs ≡ ys
+pub one_list : (from : ℕ) (xs ys : List Range) → RiseFrom from xs → RiseFrom from ys →
+    ((n : ℕ) → is_free xs n ≡ is_free ys n) → xs ≡ ys
 one_list from [] [] p q same = refl
 one_list from [] (y ∷ ys) p q same = both _ (same y.first ∙ first_is_free from y ys q) refl
 one_list from (x ∷ xs) [] p q same = both _ (first_is_free from x xs p) (same x.first)

@@ -29,7 +29,8 @@ many_not_few_in free range a b =
     omega arith
 
 -- a serial is not old and new
-old_not_new : {A : Type 0} (last : Option ℕ) (serial : ℕ) → IsSomeAnd last (λ n. serial ≤ n) → IfSome last (λ n. n < serial) → A
+old_not_new : {A : Type 0} (last : Option ℕ) (serial : ℕ) → IsSomeAnd last (λ n. serial ≤ n) →
+    IfSome last (λ n. n < serial) → A
 old_not_new None serial a b = absurd a
 old_not_new (Some n) serial a b = absurd (omega arith)
 
@@ -46,7 +47,8 @@ can_give p receiver range giving.Memory can h = h
 can_give p receiver range giving.Save can h = h
 
 -- where a ticket can be taken, no refusal stands
-pub can_take : (p : PrinterView) (ticket : TicketView) (fault : TakeFault) → CanTake p ticket → ¬ CannotTake p ticket fault
+pub can_take : (p : PrinterView) (ticket : TicketView) (fault : TakeFault) → CanTake p ticket →
+    ¬ CannotTake p ticket fault
 can_take p ticket taking.Failed can h = both p.is_failed h can.0
 can_take p ticket taking.Receiver can h = absurd (h.1 can.1)
 can_take p ticket taking.Old can h = old_not_new (last_taken p.ledger.givers ticket.giver) ticket.serial h.2 can.2
@@ -57,7 +59,8 @@ can_take p ticket taking.Memory can h = h
 can_take p ticket taking.Save can h = h
 
 -- one refusal of take stands at most
-pub take_once : (p : PrinterView) (ticket : TicketView) (f g : TakeFault) → CannotTake p ticket f → CannotTake p ticket g → f ≡ g
+pub take_once : (p : PrinterView) (ticket : TicketView) (f g : TakeFault) → CannotTake p ticket f →
+    CannotTake p ticket g → f ≡ g
 take_once p ticket taking.Failed taking.Failed a b = refl
 take_once p ticket taking.Failed taking.Receiver a b = both p.is_failed a b.0
 take_once p ticket taking.Failed taking.Old a b = both p.is_failed a b.0
@@ -77,14 +80,18 @@ take_once p ticket taking.Receiver taking.Save a b = absurd b
 take_once p ticket taking.Old taking.Failed a b = both p.is_failed b a.0
 take_once p ticket taking.Old taking.Receiver a b = absurd (b.1 a.1)
 take_once p ticket taking.Old taking.Old a b = refl
-take_once p ticket taking.Old taking.Overlap a b = old_not_new (last_taken p.ledger.givers ticket.giver) ticket.serial a.2 b.2
-take_once p ticket taking.Old taking.Ranges a b = old_not_new (last_taken p.ledger.givers ticket.giver) ticket.serial a.2 b.2
-take_once p ticket taking.Old taking.Givers a b = old_not_new (last_taken p.ledger.givers ticket.giver) ticket.serial a.2 b.2
+take_once p ticket taking.Old taking.Overlap a b =
+    old_not_new (last_taken p.ledger.givers ticket.giver) ticket.serial a.2 b.2
+take_once p ticket taking.Old taking.Ranges a b =
+    old_not_new (last_taken p.ledger.givers ticket.giver) ticket.serial a.2 b.2
+take_once p ticket taking.Old taking.Givers a b =
+    old_not_new (last_taken p.ledger.givers ticket.giver) ticket.serial a.2 b.2
 take_once p ticket taking.Old taking.Memory a b = absurd b
 take_once p ticket taking.Old taking.Save a b = absurd b
 take_once p ticket taking.Overlap taking.Failed a b = both p.is_failed b a.0
 take_once p ticket taking.Overlap taking.Receiver a b = absurd (b.1 a.1)
-take_once p ticket taking.Overlap taking.Old a b = old_not_new (last_taken p.ledger.givers ticket.giver) ticket.serial b.2 a.2
+take_once p ticket taking.Overlap taking.Old a b =
+    old_not_new (last_taken p.ledger.givers ticket.giver) ticket.serial b.2 a.2
 take_once p ticket taking.Overlap taking.Overlap a b = refl
 take_once p ticket taking.Overlap taking.Ranges a b = both (is_free p.ledger.free a.3.0) a.3.2 (b.3 a.3.0 a.3.1)
 take_once p ticket taking.Overlap taking.Givers a b = both (is_free p.ledger.free a.3.0) a.3.2 (b.3 a.3.0 a.3.1)
@@ -92,7 +99,8 @@ take_once p ticket taking.Overlap taking.Memory a b = absurd b
 take_once p ticket taking.Overlap taking.Save a b = absurd b
 take_once p ticket taking.Ranges taking.Failed a b = both p.is_failed b a.0
 take_once p ticket taking.Ranges taking.Receiver a b = absurd (b.1 a.1)
-take_once p ticket taking.Ranges taking.Old a b = old_not_new (last_taken p.ledger.givers ticket.giver) ticket.serial b.2 a.2
+take_once p ticket taking.Ranges taking.Old a b =
+    old_not_new (last_taken p.ledger.givers ticket.giver) ticket.serial b.2 a.2
 take_once p ticket taking.Ranges taking.Overlap a b = both (is_free p.ledger.free b.3.0) b.3.2 (a.3 b.3.0 b.3.1)
 take_once p ticket taking.Ranges taking.Ranges a b = refl
 take_once p ticket taking.Ranges taking.Givers a b = absurd (many_not_few_in p.ledger.free ticket.range a.4 b.4)
@@ -100,7 +108,8 @@ take_once p ticket taking.Ranges taking.Memory a b = absurd b
 take_once p ticket taking.Ranges taking.Save a b = absurd b
 take_once p ticket taking.Givers taking.Failed a b = both p.is_failed b a.0
 take_once p ticket taking.Givers taking.Receiver a b = absurd (b.1 a.1)
-take_once p ticket taking.Givers taking.Old a b = old_not_new (last_taken p.ledger.givers ticket.giver) ticket.serial b.2 a.2
+take_once p ticket taking.Givers taking.Old a b =
+    old_not_new (last_taken p.ledger.givers ticket.giver) ticket.serial b.2 a.2
 take_once p ticket taking.Givers taking.Overlap a b = both (is_free p.ledger.free b.3.0) b.3.2 (a.3 b.3.0 b.3.1)
 take_once p ticket taking.Givers taking.Ranges a b = absurd (many_not_few_in p.ledger.free ticket.range b.4 a.4)
 take_once p ticket taking.Givers taking.Givers a b = refl

@@ -18,7 +18,8 @@ use Rattle.dm_symbol.specs.declared.fault.SymbolFault.TheVariants.{Border, Block
 use Rattle.dm_symbol.proofs.ChangedWords.{length-block}
 
 -- The words of a block of bytes are bytes.
-bytes_of_block : (s : Size) (b : ℕ) (words : List ℕ) → All (λ word. word < 256) words → All (λ word. word < 256) (block_of s b words)
+bytes_of_block : (s : Size) (b : ℕ) (words : List ℕ) → All (λ word. word < 256) words →
+    All (λ word. word < 256) (block_of s b words)
 unfolding block_of
 bytes_of_block s b words h =
     All-from_get_or (λ word. word < 256) (block_of s b words) 0 (λ i l.
@@ -31,10 +32,12 @@ bytes_of_block s b words h =
     byte_at : (xs : List ℕ) (k : ℕ) → All (λ word. word < 256) xs → get_or xs k 0 < 256
     byte_at xs k all =
         ⊎_elim (λ (l : k < length xs). All-get_or (λ word. word < 256) xs k 0 l all)
-        (λ (l : length xs ≤ k). let past : get_or xs k 0 ≡ 0 = get_or_past xs k 0 l in omega arith) (cases_lt k (length xs))
+        (λ (l : length xs ≤ k). let past : get_or xs k 0 ≡ 0 = get_or_past xs k 0 l in omega arith)
+        (cases_lt k (length xs))
 
 -- A symbol whose grid is near corrects the grid's words.
-corrects_near : (grid : GridView) (words : List ℕ) → IsSymbol grid.size words → words_of_grid (grid_of_words grid.size words) ≡ words
+corrects_near : (grid : GridView) (words : List ℕ) → IsSymbol grid.size words →
+    words_of_grid (grid_of_words grid.size words) ≡ words
     → IsNear grid (grid_of_words grid.size words) → CorrectsSymbol grid.size (words_of_grid grid) words
 corrects_near grid words symbol carried near =
     let s = grid.size in
@@ -44,7 +47,8 @@ corrects_near grid words symbol carried near =
         bytes = bytes_of_block s b words symbol.bytes;
         size = length-block s b words ∙ sym (length-block s b (words_of_grid grid));
         block_word = symbol.block_words b h;
-        near = subst (λ (x : List ℕ). differ (block_of s b (words_of_grid grid)) (block_of s b x) ≤ limit s) carried (near.words b h);
+        near = subst (λ (x : List ℕ). differ (block_of s b (words_of_grid grid)) (block_of s b x) ≤ limit s) carried
+            (near.words b h);
       };
     }
 
@@ -52,7 +56,8 @@ corrects_near grid words symbol carried near =
 pub near_gives : (grid : GridView) (result : Result CorrectedView SymbolFault) → CorrectsGrid grid result
     → (words : List ℕ) → IsSymbol grid.size words → words_of_grid (grid_of_words grid.size words) ≡ words
     → IsNear grid (grid_of_words grid.size words) → CorrectsNear words result
-near_gives grid (Ok found) h words symbol carried near = sym (h.read.only words (corrects_near grid words symbol carried near))
+near_gives grid (Ok found) h words symbol carried near =
+    sym (h.read.only words (corrects_near grid words symbol carried near))
 near_gives grid (Err (Border wrong)) h words symbol carried near = tt
 near_gives grid (Err (Block block)) h words symbol carried near =
     let corrects = corrects_near grid words symbol carried near in

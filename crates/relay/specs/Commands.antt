@@ -65,7 +65,8 @@ Does A (Ledger file number first last) old status new =
     EndsLedger old.saved number (record { first = first; last = last }) old.output status new.saved new.output
     × (new.set ≡ old.set) × (new.input ≡ old.input) × (new.errors ≡ old.errors)
 Does A (Print file number side scheme) old status new =
-    EndsPrint old.saved number side scheme old.input new.input old.output old.errors status new.saved new.output new.errors
+    EndsPrint old.saved number side scheme old.input new.input old.output old.errors status new.saved new.output
+    new.errors
     × (new.set ≡ old.set) × TakesPart old.input.remaining new.input.remaining DOCUMENT_BYTES
 Does A (Give file number to first last) old status new =
     EndsGive old.saved number to (record { first = first; last = last }) old.output status new.saved new.output

@@ -119,7 +119,8 @@ refusal_at work sight = first_reason (
     ∷ (is_no_plain_file sight.file, faults.Device)
     ∷ [])
 
--- Such work is done over nothing, if there is no file and no folder at its path: it makes neither. A desk that can't be,
+-- Such work is done over nothing, if there is no file and no folder at its path: it makes neither. A desk that can't
+-- be,
 -- since room for no number of documents is asked for, is not made, unless documents are to be moved first.
 abbrev pub is_done_over_nothing : Work → (no_room : Bool) → Sight → Bool
 is_done_over_nothing works.Nothing no_room sight = true
@@ -129,7 +130,8 @@ is_done_over_nothing works.Gathers no_room sight = no_room && not (has_documents
 is_done_over_nothing works.Forgets no_room sight = is_absent sight.file && is_absent sight.folder
 is_done_over_nothing works.Reads no_room sight = is_absent sight.file && is_absent sight.folder
 
--- What is locked for such work: a ledger itself, and of a desk its folder. Work that only reads is locked if it is to move
+-- What is locked for such work: a ledger itself, and of a desk its folder. Work that only reads is locked if it is to
+-- move
 -- the documents of a joint file first.
 abbrev pub locked_for : Work → Bool → Option Locked
 locked_for works.Nothing has_joint = None

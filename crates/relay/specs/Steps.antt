@@ -1,6 +1,7 @@
 -- In which order a command's steps are taken, and how it ends. A command that names no file is done over nothing. Any
 -- other is tried without a file first, and what it says then is how it ends, unless it goes on to a file. Only then its
--- paths are looked at, and what is to be done is planned. A move of a ledger is tried up to its save. What has to be locked
+-- paths are looked at, and what is to be done is planned. A move of a ledger is tried up to its save. What has to be
+-- locked
 -- is locked, and stays so while the command is done. At last what was written is let out.
 use Rattle.std.specs.Prelude.{◌≡◌, ℕ, Bool, true, false, ◌==◌, List, Option, Some, None, if◌then◌else◌, codes}
 use Rattle.relay_line.specs.declared.command.Command.{Command}
@@ -75,7 +76,8 @@ refusal_by command fault = record { on_errors = refuses_on_errors_by_command com
 abbrev pub planned : Command → Plan → Stage
 planned command (plans.Refuses fault) = Refuses (refusal_by command fault)
 planned command plans.OverNothing = OverNothing
-planned command (plans.OverFiles locked) = if tries_its_save_by_command command then (Tries command locked) else (Ready command locked)
+planned command (plans.OverFiles locked) =
+    if tries_its_save_by_command command then (Tries command locked) else (Ready command locked)
 
 abbrev pub after_look : Stage → Sight → Stage
 after_look (GoesOn command) sight = planned command (plan_for command sight)

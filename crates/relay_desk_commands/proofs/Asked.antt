@@ -31,7 +31,8 @@ given_refused : {X F : Type 0} (x : X) (fault : F) → Ok x ≡ Err fault → �
 given_refused x fault same = cc
 
 -- a document is given where each page is held, and it is these
-pub asked_whole : {X : Type 0} (bytes : X → List ℕ) (found : Option Pages) (document : X) → Asks bytes found (Ok document)
+pub asked_whole : {X : Type 0} (bytes : X → List ℕ) (found : Option Pages) (document : X) →
+    Asks bytes found (Ok document)
     → IsWhole found (bytes document)
 asked_whole bytes None document given = absurd (given_refused document _ given)
 asked_whole bytes (Some pages) document given = whole (list_all is_some pages) refl
@@ -63,7 +64,8 @@ same_missing : (one other : ℕ) → asks.Incomplete one ≡ asks.Incomplete oth
 same_missing one other same = cc
 
 -- why a document is not given, by what is held of it
-pub asked_refused : {X : Type 0} (bytes : X → List ℕ) (found : Option Pages) (fault : AskFault) → Asks bytes found (Err fault)
+pub asked_refused : {X : Type 0} (bytes : X → List ℕ) (found : Option Pages) (fault : AskFault) →
+    Asks bytes found (Err fault)
     → HasAskFault found fault
 asked_refused bytes None asks.NotHeld given = refl
 asked_refused bytes None (asks.Incomplete missing) given = absurd (not_incomplete missing (same_fault _ _ _ given))
@@ -75,7 +77,8 @@ asked_refused bytes (Some pages) fault given = by_pages (list_all is_some pages)
     by_pages true asks.NotHeld all refused = absurd (MatchBool-at_true _ _ all refused)
     by_pages true (asks.Incomplete missing) all refused = absurd (MatchBool-at_true _ _ all refused)
     by_pages true asks.Memory all refused = (pages, refl, all)
-    by_pages false asks.NotHeld some refused = absurd (not_held _ (same_fault _ _ _ (MatchBool-at_false _ _ some refused)))
+    by_pages false asks.NotHeld some refused =
+        absurd (not_held _ (same_fault _ _ _ (MatchBool-at_false _ _ some refused)))
     by_pages false (asks.Incomplete missing) some refused =
         (pages, refl, some, same_missing _ _ (same_fault _ _ _ (MatchBool-at_false _ _ some refused)))
     by_pages false asks.Memory some refused = absurd (memory _ (same_fault _ _ _ (MatchBool-at_false _ _ some refused)))

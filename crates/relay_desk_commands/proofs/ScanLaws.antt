@@ -30,7 +30,8 @@ pub runs_after : {A : Type 0} (opened : Result (Opened A) LabelFault) (accepted 
 runs_after (Ok o) accepted old new running given = changed accepted.kind o.page old new running given.2
 runs_after (Err fault) accepted old new running given = absurd (given_refused accepted _ given.0)
 
-refused_page : (p : PageView) (fault : ScanFault) (old new : DeskView) → old.is_failed ≡ false → (fault ≡ scans.Save → ⊥)
+refused_page : (p : PageView) (fault : ScanFault) (old new : DeskView) → old.is_failed ≡ false →
+    (fault ≡ scans.Save → ⊥)
     → AcceptsPage p old (Err fault) new → new.is_failed ≡ false
 refused_page p scans.Conflict old new running other given = ap (λ (d : DeskView). d.is_failed) given.1 ∙ running
 refused_page p scans.Full old new running other given = ap (λ (d : DeskView). d.is_failed) given.1 ∙ running

@@ -40,7 +40,8 @@ pub record DeskFiles : Type 0 where
   pub joint : Saved
   pub set : SavedSet
 
--- The documents of the joint file were moved to the set, and nothing that both held was lost. Honesty stays, the plans of
+-- The documents of the joint file were moved to the set, and nothing that both held was lost. Honesty stays, the plans
+-- of
 -- loads stay, and fine plans of saves stay fine.
 pub record MovesFiles (before after : DeskFiles) : Type 0 where
   pub written : ℕ
@@ -57,7 +58,8 @@ pub record OpensDesk (before : DeskFiles) (capacity : ℕ) (joint : Saved) (desk
 pub data HasNoDesk (before : DeskFiles) (capacity : ℕ) (old : OutputView) : ℕ → DeskFiles → OutputView → Type 0 where
   not_moved : {status : ℕ} {after : DeskFiles} {new : OutputView} (fault : MoveFault)
       → HasMoveFault before.joint before.set fault after.joint after.set
-      → KeepsFiles before.joint before.set after.joint after.set → KeepsPlans before.joint before.set after.joint after.set
+      → KeepsFiles before.joint before.set after.joint after.set →
+      KeepsPlans before.joint before.set after.joint after.set
       → TellsRefusal (move_fault_name fault) old new status → HasNoDesk before capacity old status after new
   not_opened : {status : ℕ} {after : DeskFiles} {new : OutputView} (fault : DeskFault) → MovesFiles before after
       → HasDeskFault after.set capacity fault → TellsRefusal (desk_fault_name fault) old new status
@@ -91,7 +93,8 @@ HasAskFault found (asks.Incomplete missing) =
 HasAskFault found asks.Memory = (pages : Pages) × (found ≡ Some pages) × (list_all is_some pages ≡ true)
 
 -- How `deliver` ends, from the files and two outputs to the exit status, the files and the outputs: each page of the
--- document is held, and it goes out; or the text is no identification's, there is no desk, or there is a reason that the
+-- document is held, and it goes out; or the text is no identification's, there is no desk, or there is a reason that
+-- the
 -- document is not given.
 pub data EndsDeliver (before : DeskFiles) (text : List ℕ) (old old_errors : OutputView)
     : ℕ → DeskFiles → OutputView → OutputView → Type 0 where
@@ -137,7 +140,8 @@ pub data EndsExport (before : DeskFiles) (text : List ℕ) (old old_errors : Out
 pub data TellsForget (id : ℕ) (before : DeskView) (old : OutputView) : ℕ → DeskView → OutputView → Type 0 where
   forgotten : {status : ℕ} {after : DeskView} {new : OutputView} → Forgets id before (Ok tt) after
       → Tells (forgotten_line id) 0 old new status → TellsForget id before old status after new
-  refused : {status : ℕ} {after : DeskView} {new : OutputView} (fault : ForgetFault) → Forgets id before (Err fault) after
+  refused : {status : ℕ} {after : DeskView} {new : OutputView} (fault : ForgetFault) →
+      Forgets id before (Err fault) after
       → TellsRefusal (forget_fault_name fault) old new status → TellsForget id before old status after new
 
 -- how `forget` ends: the desk was opened and has answered; or the text is no identification's, or there is no desk
@@ -152,9 +156,11 @@ pub data EndsForget (before : DeskFiles) (text : List ℕ) (old : OutputView) : 
 
 -- what a desk answers to bytes that it is to take in, and the line of it
 pub data TellsImport (bytes : List ℕ) (before : DeskView) (old : OutputView) : ℕ → DeskView → OutputView → Type 0 where
-  imported : {status : ℕ} {after : DeskView} {new : OutputView} (reply : Imported) → ImportsBytes bytes before (Ok reply) after
+  imported : {status : ℕ} {after : DeskView} {new : OutputView} (reply : Imported) →
+      ImportsBytes bytes before (Ok reply) after
       → Tells (imported_line reply) 0 old new status → TellsImport bytes before old status after new
-  refused : {status : ℕ} {after : DeskView} {new : OutputView} (fault : ImportFault) → ImportsBytes bytes before (Err fault) after
+  refused : {status : ℕ} {after : DeskView} {new : OutputView} (fault : ImportFault) →
+      ImportsBytes bytes before (Err fault) after
       → TellsRefusal (import_fault_name fault) old new status → TellsImport bytes before old status after new
 
 -- these bytes were read, and no other: one more than the greatest file has, or all where they are fewer
@@ -166,7 +172,8 @@ ReadsFile input rest bytes = TakesFirst input.remaining rest.remaining IMPORT_BY
 pub data EndsImport (before : DeskFiles) (capacity : ℕ) (input rest : InputView) (old : OutputView)
     : ℕ → DeskFiles → OutputView → Type 0 where
   not_read : {status : ℕ} {new : OutputView} (fault : InputFault) → HasInputFault rest fault
-      → TellsRefusal (input_fault_name fault) old new status → EndsImport before capacity input rest old status before new
+      → TellsRefusal (input_fault_name fault) old new status →
+      EndsImport before capacity input rest old status before new
   no_desk : {status : ℕ} {after : DeskFiles} {new : OutputView} (bytes : List ℕ) → ReadsFile input rest bytes
       → HasNoDesk before capacity old status after new → EndsImport before capacity input rest old status after new
   opened : {status : ℕ} {new : OutputView} (bytes : List ℕ) (joint : Saved) (desk after : DeskView)

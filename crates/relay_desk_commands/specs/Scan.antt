@@ -59,9 +59,11 @@ pub data EndsScans (A : Type 0) (desk : DeskView) : ℕ → List ℕ → InputVi
   too_many : {taken : List ℕ} {rest : InputView} → IsAnother taken rest
       → EndsScans A desk MOST_IMAGES taken rest (refused_line (codes "TooMany")) true desk
 
--- What was taken of the input is images and its end, the desk was handed their grids, in order, their lines were written,
+-- What was taken of the input is images and its end, the desk was handed their grids, in order, their lines were
+-- written,
 -- and the exit status says whether any of them names a refusal.
-pub record ScansInput (A : Type 0) (start : DeskView) (input rest : InputView) (output written : OutputView) (status : ℕ)
+pub record ScansInput (A : Type 0) (start : DeskView) (input rest : InputView) (output written : OutputView)
+    (status : ℕ)
     (after : DeskView) : Type 0 where
   pub count : ℕ
   pub desk : DeskView
@@ -79,7 +81,8 @@ pub record ScansInput (A : Type 0) (start : DeskView) (input rest : InputView) (
 
 -- ---- an output that has refused a line
 
--- What comes last after this many images, if its line was refused: what was taken, what is left, the line, and the desk.
+-- What comes last after this many images, if its line was refused: what was taken, what is left, the line, and the
+-- desk.
 pub data EndsUnsaid (A : Type 0) (desk : DeskView) : ℕ → List ℕ → InputView → List ℕ → DeskView → Type 0 where
   image : {count : ℕ} {taken line : List ℕ} {rest : InputView} {refused : Bool} {after : DeskView} (p : Picture)
       → count < MOST_IMAGES → Spells taken p → ScansPicture A p desk line refused after
@@ -89,9 +92,11 @@ pub data EndsUnsaid (A : Type 0) (desk : DeskView) : ℕ → List ℕ → InputV
   too_many : {taken : List ℕ} {rest : InputView} → IsAnother taken rest
       → EndsUnsaid A desk MOST_IMAGES taken rest (refused_line (codes "TooMany")) desk
 
--- The output has failed. What was taken of the input is images and what comes last, and the desk was handed their grids,
+-- The output has failed. What was taken of the input is images and what comes last, and the desk was handed their
+-- grids,
 -- in order, and no other. The lines of the images are out, then a part of the last line, and nothing else.
-pub record StopsScanning (A : Type 0) (start : DeskView) (input rest : InputView) (output written : OutputView) (status : ℕ)
+pub record StopsScanning (A : Type 0) (start : DeskView) (input rest : InputView) (output written : OutputView)
+    (status : ℕ)
     (after : DeskView) : Type 0 where
   pub count : ℕ
   pub desk : DeskView
@@ -113,7 +118,8 @@ pub record StopsScanning (A : Type 0) (start : DeskView) (input rest : InputView
 -- page that was held is held with the same bytes, and what the desk holds is in order with its set.
 pub record TellsScan (A : Type 0) (before : DeskView) (input rest : InputView) (old : OutputView) (status : ℕ)
     (after : DeskView) (new : OutputView) : Type 0 where
-  pub told : ScansInput A before input rest old new status after ⊎ StopsScanning A before input rest old new status after
+  pub told : ScansInput A before input rest old new status after ⊎
+      StopsScanning A before input rest old new status after
   pub kept : KeepsPages before.held after.held
   pub in_order : IsInOrder after
 
@@ -122,6 +128,7 @@ pub data EndsScan (A : Type 0) (before : DeskFiles) (capacity : ℕ) (input rest
     : ℕ → DeskFiles → OutputView → Type 0 where
   no_desk : {status : ℕ} {after : DeskFiles} {new : OutputView} → HasNoDesk before capacity old status after new
       → rest ≡ input → EndsScan A before capacity input rest old status after new
-  opened : {status : ℕ} {new : OutputView} (joint : Saved) (desk after : DeskView) → OpensDesk before capacity joint desk
+  opened : {status : ℕ} {new : OutputView} (joint : Saved) (desk after : DeskView) →
+      OpensDesk before capacity joint desk
       → TellsScan A desk input rest old status after new
       → EndsScan A before capacity input rest old status (record { joint = joint; set = after.saved }) new

@@ -31,7 +31,8 @@ refused_after line name old mid new status first (inr (failed, part, is)) =
 pub some_are_lost : (labels : List GridView) (line : List ℕ) (old old_errors mid new errors : OutputView) (status : ℕ)
     (fault : ImagesFault) → (fault ≡ Memory → PutsFirst labels old new) → (fault ≡ Write → new.has_failed ≡ true)
     → AppendsPart old.contents new.contents (images_of labels) → Appends old_errors.contents mid.contents line
-    → TellsRefusal (images_fault_name fault) mid errors status → PrintsLabels labels line old old_errors status new errors
+    → TellsRefusal (images_fault_name fault) mid errors status →
+    PrintsLabels labels line old old_errors status new errors
 some_are_lost labels line old old_errors mid new errors status Memory memory write part first told =
     let after = refused_after line (images_fault_name Memory) old_errors mid errors status first told in
     let puts = memory refl in
@@ -47,19 +48,23 @@ after_line line name old new (inl whole) = (refused_line name, whole)
 after_line line name old new (inr (failed, part)) = (part.0, part.2)
 
 -- the labels of a job go out after its line
-labels_after : (id count left : ℕ) (labels : List GridView) (old old_errors : OutputView) (status : ℕ) (new errors : OutputView)
+labels_after : (id count left : ℕ) (labels : List GridView) (old old_errors : OutputView) (status : ℕ)
+    (new errors : OutputView)
     → PrintsLabels labels (printed_line id count left) old old_errors status new errors
     → PrintsLineFirst old old_errors new errors
 labels_after id count left labels old old_errors _ new errors (all line images) =
     inr (id, count, left, [], subst (Appends old_errors.contents errors.contents) (sym (append-nil _)) line)
 labels_after id count left labels old old_errors _ new errors (no_line failed part) = inl refl
 labels_after id count left labels old old_errors _ new errors (no_memory done next rest is images refuses) =
-    let after = after_line (printed_line id count left) (codes "Memory") old_errors errors refuses in inr (id, count, left, after.0, after.1)
+    let after = after_line (printed_line id count left) (codes "Memory") old_errors errors refuses in
+    inr (id, count, left, after.0, after.1)
 labels_after id count left labels old old_errors _ new errors (not_written failed part refuses) =
-    let after = after_line (printed_line id count left) (codes "Write") old_errors errors refuses in inr (id, count, left, after.0, after.1)
+    let after = after_line (printed_line id count left) (codes "Write") old_errors errors refuses in
+    inr (id, count, left, after.0, after.1)
 
 -- what a printer answers to a document goes out after the line of it
-pub line_first : (before : PrinterView) (size : Size) (scheme : Scheme) (document : List ℕ) (old old_errors : OutputView)
+pub line_first : (before : PrinterView) (size : Size) (scheme : Scheme) (document : List ℕ)
+    (old old_errors : OutputView)
     (status : ℕ) (after : PrinterView) (new errors : OutputView)
     → TellsPrint before size scheme document old old_errors status after new errors
     → PrintsLineFirst old old_errors new errors

@@ -29,7 +29,8 @@ use Rattle.relay_shared.specs.Telling.{AppendsThenPart, TellsRefusal}
 abbrev pub images_of : List GridView → List ℕ
 images_of grids = flat_map p4 grids
 
--- the line `printed` was written whole, and after it the line of a refusal; or the output has failed, and after the whole
+-- the line `printed` was written whole, and after it the line of a refusal; or the output has failed, and after the
+-- whole
 -- line a part of that refusal is out
 abbrev pub PrintsButRefuses : List ℕ → List ℕ → OutputView → OutputView → Type 0
 PrintsButRefuses line name old new =
@@ -37,7 +38,8 @@ PrintsButRefuses line name old new =
     ⊎ ((new.has_failed ≡ true) × AppendsThenPart old.contents new.contents line (refused_line name))
 
 -- How the labels of a job go out, from both outputs to both: first the line, then the images. If the line can't be
--- written, no byte of an image goes out. Without memory for an image the labels before it are out, and it is not; where a
+-- written, no byte of an image goes out. Without memory for an image the labels before it are out, and it is not; where
+-- a
 -- write of an image fails, the images are out up to a byte.
 pub data PrintsLabels (labels : List GridView) (line : List ℕ) (old old_errors : OutputView)
     : ℕ → OutputView → OutputView → Type 0 where
@@ -63,20 +65,24 @@ PrintsLineFirst old old_errors new errors =
 -- ---- the whole
 
 -- what a printer answers to a document, and what goes out: the labels, or the line of a refusal
-pub data TellsPrint (before : PrinterView) (size : Size) (scheme : Scheme) (document : List ℕ) (old old_errors : OutputView)
+pub data TellsPrint (before : PrinterView) (size : Size) (scheme : Scheme) (document : List ℕ)
+    (old old_errors : OutputView)
     : ℕ → PrinterView → OutputView → OutputView → Type 0 where
   printed : {status : ℕ} {after : PrinterView} {new errors : OutputView} (job : JobView)
       → Prints before size scheme document (Ok job) after
-      → PrintsLabels job.labels (printed_line job.id job.count (free_count after.ledger.free)) old old_errors status new errors
+      → PrintsLabels job.labels (printed_line job.id job.count (free_count after.ledger.free)) old old_errors status
+      new errors
       → TellsPrint before size scheme document old old_errors status after new errors
   refused : {status : ℕ} {after : PrinterView} {errors : OutputView} (fault : PrintFault)
-      → Prints before size scheme document (Err fault) after → TellsRefusal (print_fault_name fault) old_errors errors status
+      → Prints before size scheme document (Err fault) after →
+      TellsRefusal (print_fault_name fault) old_errors errors status
       → TellsPrint before size scheme document old old_errors status after old errors
 
 -- How `print` ends, from a store, an input and two outputs to the exit status, the store and the outputs: the printer
 -- was opened and has answered to the document; or, in this order, the side is none, the input could not be read, or the
 -- document was read and the printer was not opened.
-pub data EndsPrint (saved : Saved) (number n : ℕ) (scheme : Scheme) (input rest : InputView) (old old_errors : OutputView)
+pub data EndsPrint (saved : Saved) (number n : ℕ) (scheme : Scheme) (input rest : InputView)
+    (old old_errors : OutputView)
     : ℕ → Saved → OutputView → OutputView → Type 0 where
   no_side : {status : ℕ} {errors : OutputView} → ¬ IsSide n → rest ≡ input
       → TellsRefusal (codes "Side") old_errors errors status

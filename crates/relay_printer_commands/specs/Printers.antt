@@ -20,11 +20,13 @@ use Rattle.relay_shared.specs.Telling.{Tells, TellsRefusal}
 
 -- How `ledger` ends, from a store and an output to its exit status, the store and the output: a printer was created, or
 -- why none was.
-pub data EndsLedger (saved : Saved) (number : ℕ) (range : Range) (old : OutputView) : ℕ → Saved → OutputView → Type 0 where
+pub data EndsLedger (saved : Saved) (number : ℕ) (range : Range) (old : OutputView) : ℕ → Saved → OutputView →
+    Type 0 where
   created : {status : ℕ} {new : OutputView} (printer : PrinterView) → Creates saved number range printer
       → Tells (left_line (free_count printer.ledger.free)) 0 old new status
       → EndsLedger saved number range old status printer.saved new
-  refused : {status : ℕ} {after : Saved} {new : OutputView} (fault : CreateFault) → HasCreateFault saved number range fault after
+  refused : {status : ℕ} {after : Saved} {new : OutputView} (fault : CreateFault) →
+      HasCreateFault saved number range fault after
       → TellsRefusal (create_fault_name fault) old new status
       → EndsLedger saved number range old status after new
 
@@ -37,13 +39,16 @@ pub data IsNotOpened (saved : Saved) (number : ℕ) (old : OutputView) : ℕ →
 -- what a printer answers to a range that it is to give, and the line of it
 pub data TellsGive (before : PrinterView) (to : ℕ) (range : Range) (old : OutputView)
     : ℕ → PrinterView → OutputView → Type 0 where
-  given : {status : ℕ} {after : PrinterView} {new : OutputView} (ticket : TicketView) → Gives before to range (Ok ticket) after
+  given : {status : ℕ} {after : PrinterView} {new : OutputView} (ticket : TicketView) →
+      Gives before to range (Ok ticket) after
       → Tells (ticket_line ticket) 0 old new status → TellsGive before to range old status after new
-  refused : {status : ℕ} {after : PrinterView} {new : OutputView} (fault : GiveFault) → Gives before to range (Err fault) after
+  refused : {status : ℕ} {after : PrinterView} {new : OutputView} (fault : GiveFault) →
+      Gives before to range (Err fault) after
       → TellsRefusal (give_fault_name fault) old new status → TellsGive before to range old status after new
 
 -- how `give` ends: the printer was opened and has answered, or it was not opened
-pub data EndsGive (saved : Saved) (number to : ℕ) (range : Range) (old : OutputView) : ℕ → Saved → OutputView → Type 0 where
+pub data EndsGive (saved : Saved) (number to : ℕ) (range : Range) (old : OutputView) : ℕ → Saved → OutputView →
+    Type 0 where
   opened : {status : ℕ} {new : OutputView} (before after : PrinterView) → Opens saved number before
       → TellsGive before to range old status after new → EndsGive saved number to range old status after.saved new
   not_opened : {status : ℕ} {after : Saved} {new : OutputView} → IsNotOpened saved number old status after new
@@ -61,16 +66,20 @@ HasTicket text = (bytes : List ℕ) × (decode_sized text 10 ≡ Ok bytes) × Ar
 pub data TellsTake (before : PrinterView) (ticket : TicketView) (old : OutputView)
     : ℕ → PrinterView → OutputView → Type 0 where
   taken : {status : ℕ} {after : PrinterView} {new : OutputView} → Takes before ticket (Ok tt) after
-      → Tells (taken_line (free_count after.ledger.free)) 0 old new status → TellsTake before ticket old status after new
-  refused : {status : ℕ} {after : PrinterView} {new : OutputView} (fault : TakeFault) → Takes before ticket (Err fault) after
+      → Tells (taken_line (free_count after.ledger.free)) 0 old new status →
+      TellsTake before ticket old status after new
+  refused : {status : ℕ} {after : PrinterView} {new : OutputView} (fault : TakeFault) →
+      Takes before ticket (Err fault) after
       → TellsRefusal (take_fault_name fault) old new status → TellsTake before ticket old status after new
 
 -- how `take` ends: the text is that of no ticket; or the printer was opened and has answered, or it was not opened
-pub data EndsTake (saved : Saved) (number : ℕ) (text : List ℕ) (old : OutputView) : ℕ → Saved → OutputView → Type 0 where
+pub data EndsTake (saved : Saved) (number : ℕ) (text : List ℕ) (old : OutputView) : ℕ → Saved → OutputView →
+    Type 0 where
   no_ticket : {status : ℕ} {new : OutputView} → ¬ HasTicket text → TellsRefusal (codes "Ticket") old new status
       → EndsTake saved number text old status saved new
   opened : {status : ℕ} {new : OutputView} (ticket : TicketView) (before after : PrinterView) → HasTicket text
       → IsTextOf text ticket → Opens saved number before → TellsTake before ticket old status after new
       → EndsTake saved number text old status after.saved new
-  not_opened : {status : ℕ} {after : Saved} {new : OutputView} → HasTicket text → IsNotOpened saved number old status after new
+  not_opened : {status : ℕ} {after : Saved} {new : OutputView} → HasTicket text →
+      IsNotOpened saved number old status after new
       → EndsTake saved number text old status after new

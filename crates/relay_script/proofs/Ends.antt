@@ -28,11 +28,17 @@ pub last_text : (lines : List (Bor (List ℕ))) (fewer : List (List ℕ)) → ma
     → (0 < length lines) × ((get_or lines (length lines - 1) (record { ref_ptr = (0, 0); now = [] })).now ≡ [])
 last_text lines fewer is =
     let long = ap length is in
-    let many : 0 < length lines = omega (arith, long, length-map lines (λ line. line.now), length-append fewer ([] ∷ [])) in
+    let many : 0 < length lines = omega (
+      arith,
+      long,
+      length-map lines (λ line. line.now),
+      length-append fewer ([] ∷ []),
+    ) in
     let same : length lines ≡ length (fewer ++ [] ∷ []) = omega (arith, long, length-map lines (λ line. line.now)) in
     let at = ap (λ (texts : List (List ℕ)). get_or texts (length lines - 1) []) is in (
       many,
-      sym (get_or-map (λ (line : Bor (List ℕ)). line.now) lines (length lines - 1) (record { ref_ptr = (0, 0); now = [] })) ∙ at
+      sym (get_or-map (λ (line : Bor (List ℕ)). line.now) lines
+          (length lines - 1) (record { ref_ptr = (0, 0); now = [] })) ∙ at
           ∙ rw same (last-push fewer [] []),
     )
 
@@ -40,7 +46,9 @@ last_text lines fewer is =
 pub no_empty_end : {B : Type 0} (S : List ℕ → B → Type 0) → ((y : B) → ¬ S [] y) → (front : List (List ℕ)) (at : List ℕ)
     (rest lines : List (List ℕ)) (ys : List B) → at ≢ [] → AllZip S rest ys → front ++ at ∷ rest ≢ lines ++ [] ∷ []
 no_empty_end S never front at [] lines ys some all is =
-    some (sym (last-push front at []) ∙ ap (λ (xs : List (List ℕ)). get_or xs (length xs - 1) []) is ∙ last-push lines [] [])
+    some (sym (last-push front at []) ∙ ap (λ (xs : List (List ℕ)). get_or xs (length xs - 1) []) is ∙
+    last-push lines [] [])
 no_empty_end S never front at (x ∷ rest) lines [] some all is = all
 no_empty_end S never front at (x ∷ rest) lines (y ∷ ys) some all is =
-    no_empty_end S never (front ++ at ∷ []) x rest lines ys (λ empty. never y (rw empty at all.0)) all.1 (append_assoc front (at ∷ []) (x ∷ rest) ∙ is)
+    no_empty_end S never (front ++ at ∷ []) x rest lines ys (λ empty. never y (rw empty at all.0)) all.1
+    (append_assoc front (at ∷ []) (x ∷ rest) ∙ is)

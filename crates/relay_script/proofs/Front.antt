@@ -13,13 +13,15 @@ within_front S front rest at zero ys short all = absurd (omega (arith, short))
 within_front S [] rest at (suc m) [] short all = absurd all
 within_front S [] rest at (suc m) (y ∷ ys) short all = (y, all.0)
 within_front S (x ∷ front) rest at (suc m) [] short all = absurd all
-within_front S (x ∷ front) rest at (suc m) (y ∷ ys) short all = within_front S front rest at m ys (omega (arith, short)) all.1
+within_front S (x ∷ front) rest at (suc m) (y ∷ ys) short all = within_front S front rest at m ys
+    (omega (arith, short)) all.1
 
 -- so a line that spells nothing stands past the front
 pub past_front : {A B : Type 0} (S : A → B → Type 0) (xs front rest : List A) (at : A) (m : ℕ) (ys : List B)
     → xs ≡ front ++ at ∷ rest → Nothing (S at) → AllZip S (take m xs) ys → m ≤ length front
 past_front S xs front rest at m ys is none all =
-    ⊎_elim (λ short. let found = within_front S front rest at m ys short (rw is at all) in absurd (none found.0 found.1))
+    ⊎_elim (λ short. let found = within_front S front rest at m ys short (rw is at all) in
+    absurd (none found.0 found.1))
     (λ long. long) (cases_lt (length front) m)
 
 -- where one line spells something, it is not the one that spells nothing
@@ -33,9 +35,11 @@ first_fits S xs (x ∷ front) rest at (y ∷ ys) d is all some none =
 
 -- a text among the lines, by its place
 pub at_text : {B : Type 0} (S : List ℕ → B → Type 0) (lines : List (Bor (List ℕ))) (i n : ℕ) → n ≡ i
-    → Nothing (S (get_or lines i (record { ref_ptr = (0, 0); now = [] })).now) → Nothing (S (get_or (map (λ line. line.now) lines) n []))
+    → Nothing (S (get_or lines i (record { ref_ptr = (0, 0); now = [] })).now) →
+    Nothing (S (get_or (map (λ line. line.now) lines) n []))
 at_text S lines i n same none =
-    let at : get_or (map (λ (line : Bor (List ℕ)). line.now) lines) i [] ≡ (get_or lines i (record { ref_ptr = (0, 0); now = [] })).now =
+    let at : get_or (map (λ (line : Bor (List ℕ)). line.now) lines) i [] ≡ (get_or lines i
+    (record { ref_ptr = (0, 0); now = [] })).now =
     get_or-map (λ (line : Bor (List ℕ)). line.now) lines i (record { ref_ptr = (0, 0); now = [] }) in
     rw (same, at) none
 
@@ -45,7 +49,8 @@ spelled_at : {A B : Type 0} (S : A → B → Type 0) (front rest : List A) (ys :
 spelled_at S [] rest ys n d below all none = absurd (omega (arith, below))
 spelled_at S (x ∷ front) rest [] n d below all none = all
 spelled_at S (x ∷ front) rest (y ∷ ys) zero d below all none = none y all.0
-spelled_at S (x ∷ front) rest (y ∷ ys) (suc n) d below all none = spelled_at S front rest ys n d (omega (arith, below)) all.1 none
+spelled_at S (x ∷ front) rest (y ∷ ys) (suc n) d below all none = spelled_at S front rest ys n d
+    (omega (arith, below)) all.1 none
 
 -- so there is one place where the front can end
 pub front_ends : {A B : Type 0} (S : A → B → Type 0) (xs front rest : List A) (at : A) (fs ys : List B) (n : ℕ) (d : A)
@@ -59,8 +64,10 @@ front_ends S xs front rest at fs ys n d is each none all next =
     (λ reached. omega (arith, past, reached)) (cases_lt n (length front))
 
 -- two cuts at one place are the same
-pub same_rest : {A : Type 0} (front others rest more : List A) (at here : A) → front ++ at ∷ rest ≡ others ++ here ∷ more
+pub same_rest : {A : Type 0} (front others rest more : List A) (at here : A) → front ++ at ∷ rest ≡ others ++
+    here ∷ more
     → length front ≡ length others → (at ≡ here) × (rest ≡ more)
 same_rest front others rest more at here is same =
-    let end : at ∷ rest ≡ here ∷ more = sym (drop-append_seam front (at ∷ rest)) ∙ ap (drop (length front)) is ∙ rw same (drop-append_seam others (here ∷ more)) in
+    let end : at ∷ rest ≡ here ∷ more = sym (drop-append_seam front (at ∷ rest)) ∙ ap (drop (length front)) is ∙
+    rw same (drop-append_seam others (here ∷ more)) in
     (ap (λ (list : List _). get_or list 0 at) end, ap (drop 1) end)

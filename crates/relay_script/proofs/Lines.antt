@@ -5,7 +5,8 @@ use Rattle.std.proofs.lemmas.List.{take-map, take_all, map_more, map-append, tak
 use Rattle.std.proofs.lemmas.Slice.Zip.{all_zipped_more}
 
 -- one more is read
-pub one_more_read : {X A B : Type 0} (v : X → A) (R : A → B → Type 0) (xs : List X) (ys : List B) (i : ℕ) (d : X) (y : B)
+pub one_more_read : {X A B : Type 0} (v : X → A) (R : A → B → Type 0) (xs : List X) (ys : List B) (i : ℕ)
+    (d : X) (y : B)
     → i < length xs → AllZip R (take i (map v xs)) ys → R (v (get_or xs i d)) y
     → AllZip R (take (i + 1) (map v xs)) (ys ++ y ∷ [])
 one_more_read v R xs ys i d y below so_far at =

@@ -44,7 +44,8 @@ other : {A : Type 0} (words : Words) (event : Event A) (name : List ℕ) → wor
 other words event name is fits = ap (λ (text : List ℕ). get_or text 0 0) (sym is ∙ named words event fits)
 
 only_print : {A : Type 0} (words : Words) → word words 0 ≡ codes "print"
-    → ((printer : ℕ) → (document : List ℕ) → (size : Size) → (scheme : Scheme) → (stop : Stop) → ¬ SpellsPrint words printer document size scheme stop)
+    → ((printer : ℕ) → (document : List ℕ) → (size : Size) → (scheme : Scheme) → (stop : Stop) →
+    ¬ SpellsPrint words printer document size scheme stop)
     → (event : Event A) → ¬ SpellsEvent words event
 only_print words name none (Print printer document size scheme stop) fits = none printer document size scheme stop fits
 only_print words name none event fits = absurd (omega (arith, other words event (codes "print") name fits))
@@ -67,27 +68,34 @@ only_forget : {A : Type 0} (words : Words) → word words 0 ≡ codes "forget"
 only_forget words name none (Forget desk id stop) fits = none desk id stop fits
 only_forget words name none event fits = absurd (omega (arith, other words event (codes "forget") name fits))
 
-pub read_print : {A : Type 0} (words : Words) (result : Result (Event A) ScriptFault) → word words 0 ≡ codes "print" → IfOk result (SpellsEvent words)
-    → (IsErrOf result Script → (printer : ℕ) → (document : List ℕ) → (size : Size) → (scheme : Scheme) → (stop : Stop) → ¬ SpellsPrint words printer document size scheme stop)
+pub read_print : {A : Type 0} (words : Words) (result : Result (Event A) ScriptFault) → word words 0 ≡ codes "print" →
+    IfOk result (SpellsEvent words)
+    → (IsErrOf result Script → (printer : ℕ) → (document : List ℕ) → (size : Size) → (scheme : Scheme) → (stop : Stop) →
+    ¬ SpellsPrint words printer document size scheme stop)
     → IsRead result (SpellsEvent words)
 read_print words (Ok event) name spells none = spells
 read_print words (Err Script) name spells none = only_print words name (none refl)
 read_print words (Err Memory) name spells none = tt
 
-pub read_scan : {A : Type 0} (words : Words) (result : Result (Event A) ScriptFault) → word words 0 ≡ codes "scan" → IfOk result (SpellsEvent words)
-    → (IsErrOf result Script → (desk label : ℕ) → (flips : List (ℕ × ℕ)) → (stop : Stop) → ¬ SpellsScan words desk label flips stop)
+pub read_scan : {A : Type 0} (words : Words) (result : Result (Event A) ScriptFault) → word words 0 ≡ codes "scan" →
+    IfOk result (SpellsEvent words)
+    → (IsErrOf result Script → (desk label : ℕ) → (flips : List (ℕ × ℕ)) → (stop : Stop) →
+    ¬ SpellsScan words desk label flips stop)
     → IsRead result (SpellsEvent words)
 read_scan words (Ok event) name spells none = spells
 read_scan words (Err Script) name spells none = only_scan words name (none refl)
 read_scan words (Err Memory) name spells none = tt
 
-pub read_give : {A : Type 0} (words : Words) (found : Option (Event A)) → word words 0 ≡ codes "give" → IfSome found (SpellsEvent words)
-    → (IsNone found → (printer receiver : ℕ) → (range : Range) → (stop : Stop) → ¬ SpellsGive words printer receiver range stop)
+pub read_give : {A : Type 0} (words : Words) (found : Option (Event A)) → word words 0 ≡ codes "give" →
+    IfSome found (SpellsEvent words)
+    → (IsNone found → (printer receiver : ℕ) → (range : Range) → (stop : Stop) →
+    ¬ SpellsGive words printer receiver range stop)
     → IsRead (ok_or found Script) (SpellsEvent words)
 read_give words (Some event) name spells none = spells
 read_give words None name spells none = only_give words name (none refl)
 
-pub read_forget : {A : Type 0} (words : Words) (found : Option (Event A)) → word words 0 ≡ codes "forget" → IfSome found (SpellsEvent words)
+pub read_forget : {A : Type 0} (words : Words) (found : Option (Event A)) → word words 0 ≡ codes "forget" →
+    IfSome found (SpellsEvent words)
     → (IsNone found → (desk id : ℕ) → (stop : Stop) → ¬ SpellsForget words desk id stop)
     → IsRead (ok_or found Script) (SpellsEvent words)
 read_forget words (Some event) name spells none = spells

@@ -13,7 +13,8 @@ use Rattle.relay_script.specs.declared.fault.ScriptFault.TheVariants.{Script, Me
 use Rattle.relay_script.specs.Words.{AreFlipsOf, Nothing, cut_at, IsFound, IsRead, IsFlipOf, IsStopOf, IsNumber}
 
 -- where nothing fits, each refusal is right
-pub refused : {A : Type 0} (result : Result A ScriptFault) (Fits : A → Type 0) → IsErr result → Nothing Fits → IsRead result Fits
+pub refused : {A : Type 0} (result : Result A ScriptFault) (Fits : A → Type 0) → IsErr result → Nothing Fits →
+    IsRead result Fits
 refused (Ok x) Fits is_err none = cc is_err
 refused (Err Script) Fits is_err none = none
 refused (Err Memory) Fits is_err none = tt
@@ -46,7 +47,8 @@ no_numbers word parts cut (inr no_column) flip fits =
     no_column (rw same.1 fits.4.0)
 
 -- a word that is not `-` and has a part that is no flip is none of flips
-pub no_flips : (word : List ℕ) → word ≢ codes "-" → Nothing (AllZip IsFlipOf (cut_at 59 word)) → Nothing (AreFlipsOf word)
+pub no_flips : (word : List ℕ) → word ≢ codes "-" → Nothing (AllZip IsFlipOf (cut_at 59 word)) →
+    Nothing (AreFlipsOf word)
 no_flips word no_dash none flips (inl dash) = no_dash dash.0
 no_flips word no_dash none flips (inr all) = none flips all
 
@@ -64,7 +66,8 @@ none_named word none before in_old in_new fault_old fault_new labels (AfterLabel
 
 pub found_by_labels : (word : List ℕ) (found : Option Stop) → word ≢ codes "-" → word ≢ codes "before"
     → word ≢ codes "in-old" → word ≢ codes "in-new" → word ≢ codes "fault-old" → word ≢ codes "fault-new"
-    → MatchOption found ((most : ℕ) → ¬ IsStopOf word (AfterLabels most)) (IsStopOf word) → IsFound found (IsStopOf word)
+    → MatchOption found ((most : ℕ) → ¬ IsStopOf word (AfterLabels most)) (IsStopOf word) →
+    IsFound found (IsStopOf word)
 found_by_labels word (Some stop) none before in_old in_new fault_old fault_new labels = labels
 found_by_labels word None none before in_old in_new fault_old fault_new labels =
     none_named word none before in_old in_new fault_old fault_new labels

@@ -20,19 +20,26 @@ same_word a b same i =
 
 same_many : (a b : Words) → texts a ≡ texts b → length a ≡ length b
 same_many a b same =
-    let long = ap length same in omega (arith, long, length-map a (λ (text : Bor (List ℕ)). text.now), length-map b (λ (text : Bor (List ℕ)). text.now))
+    let long = ap length same in omega (
+      arith,
+      long,
+      length-map a (λ (text : Bor (List ℕ)). text.now),
+      length-map b (λ (text : Bor (List ℕ)). text.now),
+    )
 
 same_form : (a b : Words) (name : List ℕ) (count : ℕ) → texts a ≡ texts b → HasForm a name count → HasForm b name count
 same_form a b name count same form = (sym (same_many a b same) ∙ form.0, sym (same_word a b same 0) ∙ form.1)
 
-same_restart : (a b : Words) (what : List ℕ) (number : ℕ) → texts a ≡ texts b → SpellsRestart a what number → SpellsRestart b what number
+same_restart : (a b : Words) (what : List ℕ) (number : ℕ) → texts a ≡ texts b → SpellsRestart a what number →
+    SpellsRestart b what number
 same_restart a b what number same spells = record {
   form = same_form a b _ _ same spells.form;
   what_is = sym (same_word a b same 1) ∙ spells.what_is;
   number_is = rw (same_word a b same 2) at spells.number_is;
 }
 
-same_of_id : (a b : Words) (name : List ℕ) (desk id : ℕ) → texts a ≡ texts b → SpellsOfId a name desk id → SpellsOfId b name desk id
+same_of_id : (a b : Words) (name : List ℕ) (desk id : ℕ) → texts a ≡ texts b → SpellsOfId a name desk id →
+    SpellsOfId b name desk id
 same_of_id a b name desk id same spells = record {
   form = same_form a b _ _ same spells.form;
   desk_is = rw (same_word a b same 1) at spells.desk_is;
@@ -49,7 +56,8 @@ same_of_number a b name actor number stop same spells = record {
 }
 
 -- the words of a line that spell an event
-pub same_event : {A : Type 0} (a b : Words) → texts a ≡ texts b → (event : Event A) → SpellsEvent a event → SpellsEvent b event
+pub same_event : {A : Type 0} (a b : Words) → texts a ≡ texts b → (event : Event A) → SpellsEvent a event →
+    SpellsEvent b event
 same_event a b same (Print printer document size scheme stop) spells = record {
   form = same_form a b _ _ same spells.form;
   printer_is = rw (same_word a b same 1) at spells.printer_is;
@@ -87,7 +95,8 @@ same_event a b same (Export desk id) spells = same_of_id a b _ _ _ same spells
 same_event a b same (Import desk export stop) spells = same_of_number a b _ _ _ _ same spells
 
 -- a line none of whose words spell an event is no line of one
-pub no_event_line : {A : Type 0} (line : List ℕ) (words : Words) → AreWordsOf line words → Nothing (SpellsEvent {A = A} words)
+pub no_event_line : {A : Type 0} (line : List ℕ) (words : Words) → AreWordsOf line words →
+    Nothing (SpellsEvent {A = A} words)
     → Nothing (SpellsEventLine {A = A} line)
 no_event_line line words are none event spells =
     none event (same_event spells.words words (spells.words_are ∙ sym are) event spells.spells)
@@ -95,7 +104,8 @@ no_event_line line words are none event spells =
 -- a line of desks is no line of a range
 pub desks_no_range : (line : List ℕ) (count capacity : ℕ) → SpellsDesks line count capacity → Nothing (SpellsRange line)
 desks_no_range line count capacity desks range spells =
-    let names = ap (λ (text : List ℕ). get_or text 0 0) (sym desks.form.1 ∙ same_word desks.words spells.words (desks.words_are ∙ sym spells.words_are) 0 ∙ spells.form.1) in
+    let names = ap (λ (text : List ℕ). get_or text 0 0) (sym desks.form.1 ∙
+    same_word desks.words spells.words (desks.words_are ∙ sym spells.words_are) 0 ∙ spells.form.1) in
     let letters : get_or (codes "desks") 0 0 ≡ get_or (codes "range") 0 0 = names in
     absurd (omega (arith, letters))
 
@@ -121,4 +131,9 @@ long_enough words (Import desk export stop) spells = omega (arith, spells.form.0
 pub no_empty_event : {A : Type 0} (event : Event A) → ¬ SpellsEventLine [] event
 no_empty_event event line =
     let long = ap length line.words_are in
-    absurd (omega (arith, long, length-map line.words (λ (text : Bor (List ℕ)). text.now), long_enough line.words event line.spells))
+    absurd (omega (
+      arith,
+      long,
+      length-map line.words (λ (text : Bor (List ℕ)). text.now),
+      long_enough line.words event line.spells,
+    ))

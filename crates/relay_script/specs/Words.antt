@@ -63,7 +63,8 @@ IsStopOf word (InSave Old) = word ≡ codes "in-old"
 IsStopOf word (InSave New) = word ≡ codes "in-new"
 IsStopOf word (SaveFault Old) = word ≡ codes "fault-old"
 IsStopOf word (SaveFault New) = word ≡ codes "fault-new"
-IsStopOf word (AfterLabels most) = (digits : List ℕ) × (word ≡ codes "after:" ++ digits) × IsNumberOf digits most × (most ≤ 255)
+IsStopOf word (AfterLabels most) = (digits : List ℕ) × (word ≡ codes "after:" ++ digits) × IsNumberOf digits most ×
+    (most ≤ 255)
 
 -- a row and a column with a comma between them
 abbrev pub IsFlipOf : List ℕ → ℕ × ℕ → Type 0

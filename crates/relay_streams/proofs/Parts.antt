@@ -31,5 +31,8 @@ part_more a b first next (part, (rest, is), p) =
 -- the first text, and a part of the next
 pub part_after : (a b c : Option (List ℕ)) (first next : List ℕ) → Appends a b first → AppendsPart b c next
     → AppendsPart a c (first ++ next)
-part_after a b c first next p (part, (rest, is), q) =
-    (first ++ part, (rest, ap (λ l. first ++ l) is ∙ sym (append_assoc first part rest)), Appends-trans a b c first part p q)
+part_after a b c first next p (part, (rest, is), q) = (
+  first ++ part,
+  (rest, ap (λ l. first ++ l) is ∙ sym (append_assoc first part rest)),
+  Appends-trans a b c first part p q,
+)

@@ -34,7 +34,8 @@ same_data : (grid : GridView) (s : CorrectedView) → IsCorrectedAs grid s → s
 same_data grid s is = ap (λ (size : Size). data_of size s.words) is.same_size
 
 -- The line of a symbol is that of its grid.
-pub line_of_its_grid : (grid : GridView) (s : CorrectedView) (line : List ℕ) → IsCorrectedAs grid s → HasSymbolLine s line → HasLine grid line
+pub line_of_its_grid : (grid : GridView) (s : CorrectedView) (line : List ℕ) → IsCorrectedAs grid s →
+    HasSymbolLine s line → HasLine grid line
 line_of_its_grid grid s line is (label view reads) = line_of_label view s.corrected s.wrong record {
   words = s.words;
   read = is.read;
@@ -54,15 +55,21 @@ line_of_its_grid grid s line is (symbol no_head read) =
     (subst (λ (d : List ℕ). ReadsOnly 1 d bytes) (same_data grid s is) read.1))
 
 -- What refuses a symbol refuses its grid.
-pub refused_for_its_symbol : (grid : GridView) (s : CorrectedView) (refusal : ReadRefusal) → IsCorrectedAs grid s → RefusesSymbolLine s refusal
+pub refused_for_its_symbol : (grid : GridView) (s : CorrectedView) (refusal : ReadRefusal) → IsCorrectedAs grid s →
+    RefusesSymbolLine s refusal
     → RefusesGrid grid refusal
 refused_for_its_symbol grid s refusal is (page fault other reads) =
-    refused_page s.words fault is.read other (subst (λ (d : List ℕ). ReadsPage d (Err fault)) (same_data grid s is) reads)
+    refused_page s.words fault is.read other
+    (subst (λ (d : List ℕ). ReadsPage d (Err fault)) (same_data grid s is) reads)
 refused_for_its_symbol grid s refusal is (text no_head refused) = by_text refusal refused
   where
     by_text : (refusal : ReadRefusal) → RefusesText (symbol_data s) refusal → RefusesGrid grid refusal
     by_text refusal (text_fault fault stuck) =
-        refused_text s.words fault (record { read = is.read; no_head = ap head_at (sym (same_data grid s is)) ∙ no_head })
+        refused_text s.words fault (record {
+          read = is.read;
+          no_head = ap head_at (sym (same_data grid s is)) ∙
+              no_head;
+        })
         (λ h. subst (λ (d : List ℕ). StuckOnly 1 d fault) (same_data grid s is) (stuck h))
     by_text refusal text_memory = refused_memory
 refused_for_its_symbol grid s refusal is memory = refused_memory

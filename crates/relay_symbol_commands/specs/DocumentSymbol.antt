@@ -18,13 +18,15 @@ pub record CarriesDocument (n : ℕ) (scheme : Scheme) (document : List ℕ) (si
   pub fits : need_of scheme document ≤ data_words size
   pub completed : Completes size (filled scheme [] document (data_words size)) words
 
--- Why no symbol was made: the side comes first, before anything is read, then the input, which is seen before and after,
+-- Why no symbol was made: the side comes first, before anything is read, then the input, which is seen before and
+-- after,
 -- and then the document.
 abbrev pub RefusesSymbol : ℕ → Scheme → InputView → InputView → SymbolRefusal → Type 0
 RefusesSymbol n scheme old new Side = (¬ IsSide n) × (new ≡ old)
 RefusesSymbol n scheme old new Read = IsSide n × (new.has_failed ≡ true)
 RefusesSymbol n scheme old new TooLong =
-    (size : Size) × (side size ≡ n) × IfSome old.remaining (λ bytes. data_words size < need_of scheme (document_of bytes))
+    (size : Size) × (side size ≡ n) ×
+    IfSome old.remaining (λ bytes. data_words size < need_of scheme (document_of bytes))
 RefusesSymbol n scheme old new Memory = IsSide n
 
 -- the line of a refusal for which there was a reason was written, or the output has failed and a part of it is out; and

@@ -32,16 +32,19 @@ PrintsDrawing n scheme plain input old new =
 abbrev pub PrintsPartOfDrawing : ℕ → Scheme → Bool → InputView → OutputView → OutputView → Type 0
 PrintsPartOfDrawing n scheme plain input old new =
     IfSome input.remaining (λ bytes.
-    (p : Picture) × DrawsDocument n scheme plain (document_of bytes) p × AppendsPart old.contents new.contents (written p))
+    (p : Picture) × DrawsDocument n scheme plain (document_of bytes) p × AppendsPart old.contents new.contents
+    (written p))
 
--- the output has refused a write, and the line that says so was written to the other, or a part of it, if that has failed
+-- the output has refused a write, and the line that says so was written to the other, or a part of it, if that has
+-- failed
 pub record PrintsWriteRefusal (output old new : OutputView) : Type 0 where
   pub failed : output.has_failed ≡ true
   pub fault : WriteFault
   pub told : TellsRefusal (write_fault_name fault) old new 1
 
 -- How `draw` ends, from an input and two outputs to them and the exit status: the image was written; or the line of a
--- refusal for which there was a reason was written to the second output, or a part of it, if that output has failed. Of an
+-- refusal for which there was a reason was written to the second output, or a part of it, if that output has failed. Of
+-- an
 -- image that could not be written a part is out.
 pub record EndsDraw (n : ℕ) (scheme : Scheme) (plain : Bool) (input rest : InputView) (old old_errors : OutputView)
     (status : ℕ) (new errors : OutputView) : Type 0 where
@@ -49,5 +52,7 @@ pub record EndsDraw (n : ℕ) (scheme : Scheme) (plain : Bool) (input rest : Inp
   pub part : TakesPart input.remaining rest.remaining DOCUMENT_BYTES
   pub drawn : status ≡ 0 → PrintsDrawing n scheme plain input old new
   pub silent : status ≡ 0 → errors ≡ old_errors
-  pub refused : status ≡ 1 → PrintsRefusal n scheme input rest old_errors errors ⊎ PrintsWriteRefusal new old_errors errors
-  pub nothing_else : status ≡ 1 → ((new.has_failed ≡ true) × PrintsPartOfDrawing n scheme plain input old new) ⊎ (new ≡ old)
+  pub refused : status ≡ 1 → PrintsRefusal n scheme input rest old_errors errors ⊎
+      PrintsWriteRefusal new old_errors errors
+  pub nothing_else : status ≡ 1 → ((new.has_failed ≡ true) × PrintsPartOfDrawing n scheme plain input old new) ⊎
+      (new ≡ old)

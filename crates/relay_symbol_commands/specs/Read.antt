@@ -47,7 +47,8 @@ pub data HasLine (grid : GridView) : List ℕ → Type 0 where
   symbol : (words bytes : List ℕ) → HasNoHead grid words → ReadsOnly 1 (data_of grid.size words) bytes
       → HasLine grid (symbol_line (side grid.size) (differ (words_of_grid grid) words) (wrong_frame_modules grid) bytes)
 
--- Why a grid has no line: its words can't be corrected; they have the head of a label and no page; they have no head and
+-- Why a grid has no line: its words can't be corrected; they have the head of a label and no page; they have no head
+-- and
 -- no text; or memory was refused.
 pub data RefusesGrid (grid : GridView) : ReadRefusal → Type 0 where
   symbol : (fault : SymbolFault) → CorrectsGrid grid (Err fault) → RefusesGrid grid (Label (symbol_fault fault))
@@ -68,8 +69,10 @@ pub data RefusesPicture (p : Picture) : ReadRefusal → Type 0 where
 
 -- the line of a picture, and whether it names a refusal
 pub data PrintsPicture (p : Picture) : List ℕ → Bool → Type 0 where
-  read : {line : List ℕ} (grid : GridView) → HasShape p → IsGridInside p grid → HasLine grid line → PrintsPicture p line false
-  refused : (refusal : ReadRefusal) → RefusesPicture p refusal → PrintsPicture p (refused_line (read_refusal_name refusal)) true
+  read : {line : List ℕ} (grid : GridView) → HasShape p → IsGridInside p grid → HasLine grid line →
+      PrintsPicture p line false
+  refused : (refusal : ReadRefusal) → RefusesPicture p refusal →
+      PrintsPicture p (refused_line (read_refusal_name refusal)) true
 
 -- ---- the whole input
 
@@ -83,8 +86,10 @@ pub data PrintsImages : ℕ → List ℕ → List ℕ → Bool → Type 0 where
 -- How the input ends after this many images: what was taken, what is left, the last line, if there is one, and whether
 -- it names a refusal. After a plain image, and after what spells no image, nothing is read.
 pub data EndsInput : ℕ → List ℕ → InputView → List ℕ → Bool → Type 0 where
-  no_image : {count : ℕ} {rest : InputView} → count ≤ MOST_IMAGES → IsAtEnd rest.remaining → EndsInput count [] rest [] false
-  plain_image : {count : ℕ} {taken line : List ℕ} {rest : InputView} {refused : Bool} (p : Picture) → count < MOST_IMAGES
+  no_image : {count : ℕ} {rest : InputView} → count ≤ MOST_IMAGES → IsAtEnd rest.remaining →
+      EndsInput count [] rest [] false
+  plain_image : {count : ℕ} {taken line : List ℕ} {rest : InputView} {refused : Bool} (p : Picture) →
+      count < MOST_IMAGES
       → Spells taken p → p.plain ≡ true → PrintsPicture p line refused → EndsInput count taken rest line refused
   unread : {count : ℕ} {taken : List ℕ} {rest : InputView} (fault : PbmFault) → count < MOST_IMAGES
       → IsUnread fault taken rest → EndsInput count taken rest (refused_line (read_refusal_name (Image fault))) true

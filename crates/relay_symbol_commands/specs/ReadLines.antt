@@ -8,7 +8,8 @@ use Rattle.relay_shared.specs.Hexadecimal.{hexadecimal}
 -- how many words were corrected, how many modules of the finder patterns are wrong, the bytes, and the line's end
 abbrev pub line_end : ℕ → ℕ → List ℕ → List ℕ
 line_end corrected wrong bytes =
-    codes " corrected " ++ (decimal corrected ++ (codes " wrong " ++ (decimal wrong ++ (32 ∷ (hexadecimal bytes ++ 10 ∷ [])))))
+    codes " corrected " ++ (decimal corrected ++
+    (codes " wrong " ++ (decimal wrong ++ (32 ∷ (hexadecimal bytes ++ 10 ∷ [])))))
 
 -- `label`, the two words of the identification in hexadecimal, m and n, and the end
 abbrev pub label_line : PageView → ℕ → ℕ → List ℕ

@@ -36,7 +36,8 @@ PrintsPartOfWords n scheme input old new =
 
 -- How `words` ends, from an input and an output to both and the exit status: the words were printed; or the output has
 -- failed and a part of them is out; or there was a reason for a refusal, and its line was written or a part of it.
-pub record EndsWords (n : ℕ) (scheme : Scheme) (input rest : InputView) (old : OutputView) (status : ℕ) (new : OutputView)
+pub record EndsWords (n : ℕ) (scheme : Scheme) (input rest : InputView) (old : OutputView) (status : ℕ)
+    (new : OutputView)
     : Type 0 where
   pub status_is : (status ≡ 0) ⊎ (status ≡ 1)
   pub part : TakesPart input.remaining rest.remaining DOCUMENT_BYTES

@@ -1,4 +1,5 @@
--- Symbols between texts and images. The text of a symbol is in ASCII encodation, with no head (ISO/IEC 16022:2006, 5.2).
+-- Symbols between texts and images. The text of a symbol is in ASCII encodation, with no head (ISO/IEC 16022:2006,
+-- 5.2).
 use Rattle.std.specs.Prelude.{◌≡◌, ℕ, [], List, length}
 use Rattle.dm_check_blocks.specs.declared.size.Size.{Size}
 use Rattle.dm_check_blocks.specs.Sizes.{all_words, data_words, side}

@@ -12,5 +12,6 @@ pub refusal_more : {A : Type 0} (answers : List (Answer A)) (answer : Answer A) 
     has_refusal (answers ++ answer ∷ []) ≡ (has_refusal answers || has_refusal (answer ∷ []))
 refusal_more [] answer = refl
 refusal_more (Given is_honest reply ∷ answers) answer =
-    ap (λ b. is_refusal reply || b) (refusal_more answers answer) ∙ or_assoc (is_refusal reply) (has_refusal answers) (has_refusal (answer ∷ []))
+    ap (λ b. is_refusal reply || b) (refusal_more answers answer) ∙
+    or_assoc (is_refusal reply) (has_refusal answers) (has_refusal (answer ∷ []))
 refusal_more (NotGiven ∷ answers) answer = refl

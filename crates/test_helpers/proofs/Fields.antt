@@ -26,5 +26,7 @@ module _ (Z : Al) where
   count p = (p.0, p.1 + up 8 (up (align (α Z)) 0 + size (α Z)))
 
   pub fields : {M : Type 1} {𝓤 : Ura M} (𝓛 : Logic 𝓤) (κ : Lft) (x : (Whole).Denot) (p : ℕ × ℕ)
-      → ent 𝓤 (sem 𝓛 (hidden_shr Whole κ x p.0 p.1)) (sep 𝓤 (sem 𝓛 (seen Z κ (within p) x.inner)) (sem 𝓛 (hidden_shr Count κ x.passes (count p).0 (count p).1)))
-  fields {𝓤 = 𝓤} 𝓛 κ x p = qed 𝓛 (‵ (hidden_shr Whole κ x p.0 p.1) ∷ []) ∵ unhide ! $ fsplit ! $ fsplit ! $ use1 𝓛 (‵ (seen Z κ (within p) x.inner)) (id⊢ 𝓤 _) $ move ! (1 ∷ []) $ fsplit ! $ keep ! (2 ∷ 0 ∷ []) $ done !
+      → ent 𝓤 (sem 𝓛 (hidden_shr Whole κ x p.0 p.1))
+      (sep 𝓤 (sem 𝓛 (seen Z κ (within p) x.inner)) (sem 𝓛 (hidden_shr Count κ x.passes (count p).0 (count p).1)))
+  fields {𝓤 = 𝓤} 𝓛 κ x p = qed 𝓛 (‵ (hidden_shr Whole κ x p.0 p.1) ∷ []) ∵ unhide ! $ fsplit ! $ fsplit ! $ use1 𝓛
+      (‵ (seen Z κ (within p) x.inner)) (id⊢ 𝓤 _) $ move ! (1 ∷ []) $ fsplit ! $ keep ! (2 ∷ 0 ∷ []) $ done !

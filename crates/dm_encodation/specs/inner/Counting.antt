@@ -17,7 +17,8 @@ use Rattle.dm_encodation.specs.declared.scheme.Scheme.TheVariants.{Ascii, C40, T
 unfoldable pub has_lone_digit : List ℕ → Bool
 has_lone_digit [] = false
 has_lone_digit (b ∷ []) = is_ascii_digit b
-has_lone_digit (b ∷ c ∷ bs) = if is_ascii_digit b && is_ascii_digit c then has_lone_digit bs else has_lone_digit (c ∷ bs)
+has_lone_digit (b ∷ c ∷ bs) = if is_ascii_digit b && is_ascii_digit c then has_lone_digit bs else has_lone_digit
+    (c ∷ bs)
 
 -- a counter of a text in ASCII
 pub record CountsAscii (bytes : List ℕ) (c : AsciiCounter) : Type 0 where

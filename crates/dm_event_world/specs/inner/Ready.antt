@@ -10,7 +10,8 @@ use Rattle.dm_event_steps.specs.DeskStands.{IsReadySet}
 
 -- each printer's store is honest, and nothing is to fail in it
 abbrev pub ArePrintersReady : {A : Type 0} → List (PrinterActor A) → Type 0
-ArePrintersReady {A} printers = (i : ℕ) (actor : PrinterActor A) → slice_get printers i ≡ Some actor → IsReady (saved_of actor)
+ArePrintersReady {A} printers = (i : ℕ) (actor : PrinterActor A) → slice_get printers i ≡ Some actor →
+    IsReady (saved_of actor)
 
 -- each desk's set is honest, and nothing is to fail in it
 abbrev pub AreDesksReady : {A : Type 0} → List (DeskActor A) → Type 0

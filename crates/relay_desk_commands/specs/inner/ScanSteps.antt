@@ -15,7 +15,8 @@ ScansStep A p before (Image refused) line after = ScansPicture A p before line r
 ScansStep A p before (End refused) line after = ScansPicture A p before line refused after × (after.is_failed ≡ true)
 
 -- and its line was written
-pub record ScansLine (A : Type 0) (p : Picture) (step : Step) (before after : DeskView) (old new : OutputView) : Type 0 where
+pub record ScansLine (A : Type 0) (p : Picture) (step : Step) (before after : DeskView)
+    (old new : OutputView) : Type 0 where
   pub line : List ℕ
   pub scans : ScansStep A p before step line after
   pub appended : Appends old.contents new.contents line
@@ -23,12 +24,14 @@ pub record ScansLine (A : Type 0) (p : Picture) (step : Step) (before after : De
 -- an image and its line, or the end and its line, whatever the number of images before
 abbrev pub TakesScan : Type 0 → Step → DeskView → List ℕ → InputView → List ℕ → DeskView → Type 0
 TakesScan A (Image refused) before taken rest line after =
-    (p : Picture) × Spells taken p × (p.plain ≡ false) × ScansPicture A p before line refused after × (after.is_failed ≡ false)
+    (p : Picture) × Spells taken p × (p.plain ≡ false) × ScansPicture A p before line refused after ×
+    (after.is_failed ≡ false)
 TakesScan A (End refused) before taken rest line after =
     (count : ℕ) → count < MOST_IMAGES → EndsScans A before count taken rest line refused after
 
 -- a step from one state of the input, the desk and the output to the next
-pub record MakesScan (A : Type 0) (step : Step) (input rest : InputView) (before after : DeskView) (old new : OutputView)
+pub record MakesScan (A : Type 0) (step : Step) (input rest : InputView) (before after : DeskView)
+    (old new : OutputView)
     : Type 0 where
   pub taken : List ℕ
   pub line : List ℕ
@@ -37,7 +40,8 @@ pub record MakesScan (A : Type 0) (step : Step) (input rest : InputView) (before
   pub takes : TakesScan A step before taken rest line after
 
 -- the input has ended after the greatest number of images, with its line
-pub record EndsScansAtMost (A : Type 0) (desk : DeskView) (refused : Bool) (input rest : InputView) (old new : OutputView)
+pub record EndsScansAtMost (A : Type 0) (desk : DeskView) (refused : Bool) (input rest : InputView)
+    (old new : OutputView)
     : Type 0 where
   pub taken : List ℕ
   pub line : List ℕ
@@ -53,7 +57,8 @@ pub record HandsPicture (A : Type 0) (p : Picture) (before after : DeskView) (ol
   pub part : AppendsPart old.contents new.contents line
 
 -- what was taken and handed to the desk, and that a part of its line is out, whatever the number of images before
-pub record HandsNext (A : Type 0) (input rest : InputView) (before after : DeskView) (old new : OutputView) : Type 0 where
+pub record HandsNext (A : Type 0) (input rest : InputView) (before after : DeskView)
+    (old new : OutputView) : Type 0 where
   pub taken : List ℕ
   pub line : List ℕ
   pub consumed : Consumes input.remaining rest.remaining taken

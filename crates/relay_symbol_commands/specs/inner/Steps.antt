@@ -10,7 +10,8 @@ use Rattle.relay_shared.specs.declared.images.Step.TheVariants.{Image, End}
 
 -- an image and its line, or the end and its line, whatever the number of images before
 abbrev pub TakesStep : Step → List ℕ → InputView → List ℕ → Type 0
-TakesStep (Image refused) taken rest line = (p : Picture) × Spells taken p × (p.plain ≡ false) × PrintsPicture p line refused
+TakesStep (Image refused) taken rest line = (p : Picture) × Spells taken p × (p.plain ≡ false) ×
+    PrintsPicture p line refused
 TakesStep (End refused) taken rest line = (count : ℕ) → count < MOST_IMAGES → EndsInput count taken rest line refused
 
 -- a step from one state of the input and the output to the next

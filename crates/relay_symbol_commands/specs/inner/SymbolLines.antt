@@ -34,11 +34,13 @@ pub data RefusesText (words : List ℕ) : ReadRefusal → Type 0 where
 -- the line of the page, or, where there is no head of a label, that of the symbol
 pub data HasSymbolLine (s : CorrectedView) : List ℕ → Type 0 where
   label : (page : PageView) → IsPageOf (symbol_data s) page → HasSymbolLine s (label_line page s.corrected s.wrong)
-  symbol : {line : List ℕ} → head_at (symbol_data s) ≡ Err head_faults.NotAppended → ReadsAsSymbol s line → HasSymbolLine s line
+  symbol : {line : List ℕ} → head_at (symbol_data s) ≡ Err head_faults.NotAppended → ReadsAsSymbol s line →
+      HasSymbolLine s line
 
 pub data RefusesSymbolLine (s : CorrectedView) : ReadRefusal → Type 0 where
   page : (fault : PageFault) → fault ≢ page_faults.Head head_faults.NotAppended → ReadsPage (symbol_data s) (Err fault)
       → RefusesSymbolLine s (Label (page_fault fault))
-  text : {refusal : ReadRefusal} → head_at (symbol_data s) ≡ Err head_faults.NotAppended → RefusesText (symbol_data s) refusal
+  text : {refusal : ReadRefusal} → head_at (symbol_data s) ≡ Err head_faults.NotAppended →
+      RefusesText (symbol_data s) refusal
       → RefusesSymbolLine s refusal
   memory : RefusesSymbolLine s Memory

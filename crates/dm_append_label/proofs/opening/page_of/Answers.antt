@@ -5,14 +5,19 @@ use Rattle.dm_append_label.specs.inner.ReadHeads.{view_of}
 use Rattle.dm_append_label.proofs.opening.page_of.Goals as goal
 
 pub returns-in-Err-Memory-clause-page : goal.returns-in-Err-Memory-clause-page
-returns-in-Err-Memory-clause-page g c = (view_of c.in_ok-head.head, ap head_at (sym c.data-data.ensures.data) ∙ c.in_ok-head.ensures.head.0)
+returns-in-Err-Memory-clause-page g c = (
+  view_of c.in_ok-head.head,
+  ap head_at (sym c.data-data.ensures.data) ∙
+      c.in_ok-head.ensures.head.0,
+)
 
 pub returns-in-Err : goal.returns-in-Err
 returns-in-Err g c = record {
   page = record {
     head = view_of c.in_ok-head.head;
     is_head = ap head_at (sym c.data-data.ensures.data) ∙ c.in_ok-head.ensures.head.0;
-    stuck = subst (λ (d : List ℕ). StuckOnly 5 (drop 4 d) c.in-Err.fault) c.data-data.ensures.data (c.in-Err.ensures.stuck (search rules));
+    stuck = subst (λ (d : List ℕ). StuckOnly 5 (drop 4 d) c.in-Err.fault) c.data-data.ensures.data
+        (c.in-Err.ensures.stuck (search rules));
   };
   short = tt;
 }

@@ -14,7 +14,14 @@ save-requires g c =
     let put : Documents = c.put.new.documents in
     let after : put ≡ with_page held p = search rules in
     let id_is : c.number-id.result ≡ p.id = search rules in
-    let q : IsPage p = record { id_fits = omega arith; least = omega arith; most = omega arith; first = omega arith; last = omega arith; short = c.requires.short } in
+    let q : IsPage p = record {
+      id_fits = omega arith;
+      least = omega arith;
+      most = omega arith;
+      first = omega arith;
+      last = omega arith;
+      short = c.requires.short;
+    } in
     entry_there held put p after c.number-id.result id_is q c.requires.entries c.requires.free
 
 pub returns-then-is_first-clause-err : goal.returns-then-is_first-clause-err
@@ -34,7 +41,8 @@ returns-then-is_first-clause-replaced g c =
     let put : Documents = c.put.new.documents in
     let after : put ≡ with_page held p = search rules in
     let id_is : c.number-id.result ≡ p.id = search rules in
-    saved_there held put p after c.number-id.result id_is (g.S.StoreSet.state c.args.set.now) (g.S.StoreSet.state c.save.new.set) (Err c.in-Err.fault) c.in-Err.ensures
+    saved_there held put p after c.number-id.result id_is (g.S.StoreSet.state c.args.set.now)
+    (g.S.StoreSet.state c.save.new.set) (Err c.in-Err.fault) c.in-Err.ensures
 
 pub take_back-requires-clause-held : goal.take_back-requires-clause-held
 take_back-requires-clause-held g c =
@@ -52,7 +60,14 @@ take_back-requires-clause-last g c =
     let put : Documents = c.put.new.documents in
     let after : put ≡ with_page held p = search rules in
     let id_is : c.number-id.result ≡ p.id = search rules in
-    let q : IsPage p = record { id_fits = omega arith; least = omega arith; most = omega arith; first = omega arith; last = omega arith; short = c.requires.short } in
+    let q : IsPage p = record {
+      id_fits = omega arith;
+      least = omega arith;
+      most = omega arith;
+      first = omega arith;
+      last = omega arith;
+      short = c.requires.short;
+    } in
     let m_is : c.m-m.result ≡ p.m = c.m-m.ensures.same in
     let some : IsSome (get held c.number-id.result) = search rules in
     long_there held put p after c.number-id.result c.m-m.result id_is m_is q c.requires.free some c.requires.entries
@@ -64,7 +79,8 @@ returns-in-Ok-clause-replaced g c =
     let put : Documents = c.put.new.documents in
     let after : put ≡ with_page held p = search rules in
     let id_is : c.number-id.result ≡ p.id = search rules in
-    saved_there held put p after c.number-id.result id_is (g.S.StoreSet.state c.args.set.now) (g.S.StoreSet.state c.save.new.set) (Ok tt) c.in-Ok.ensures
+    saved_there held put p after c.number-id.result id_is (g.S.StoreSet.state c.args.set.now)
+    (g.S.StoreSet.state c.save.new.set) (Ok tt) c.in-Ok.ensures
 
 pub returns-else-is_first-clause-err : goal.returns-else-is_first-clause-err
 returns-else-is_first-clause-err g c =
@@ -73,7 +89,14 @@ returns-else-is_first-clause-err g c =
     let put : Documents = c.put.new.documents in
     let after : put ≡ with_page held p = search rules in
     let id_is : c.number-id.result ≡ p.id = search rules in
-    let q : IsPage p = record { id_fits = omega arith; least = omega arith; most = omega arith; first = omega arith; last = omega arith; short = c.requires.short } in
+    let q : IsPage p = record {
+      id_fits = omega arith;
+      least = omega arith;
+      most = omega arith;
+      first = omega arith;
+      last = omega arith;
+      short = c.requires.short;
+    } in
     let m_is : c.m-m.result ≡ p.m = c.m-m.ensures.same in
     let some : IsSome (get held c.number-id.result) = search rules in
     c.take_back.ensures ∙ back_held held put p after c.number-id.result c.m-m.result id_is m_is q c.requires.free some
@@ -85,4 +108,5 @@ returns-else-is_first-clause-replaced g c =
     let put : Documents = c.put.new.documents in
     let after : put ≡ with_page held p = search rules in
     let id_is : c.number-id.result ≡ p.id = search rules in
-    saved_there held put p after c.number-id.result id_is (g.S.StoreSet.state c.args.set.now) (g.S.StoreSet.state c.save.new.set) (Err c.in-Err.fault) c.in-Err.ensures
+    saved_there held put p after c.number-id.result id_is (g.S.StoreSet.state c.args.set.now)
+    (g.S.StoreSet.state c.save.new.set) (Err c.in-Err.fault) c.in-Err.ensures

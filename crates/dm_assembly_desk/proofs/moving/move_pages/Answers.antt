@@ -44,7 +44,8 @@ pub returns-in-Ok-None-clause-ok : goal.returns-in-Ok-None-clause-ok
 returns-in-Ok-None-clause-ok g c =
     let old : Saved = g.O.Store.state c.args.old.now in
     let set : SavedSet = g.S.StoreSet.state c.args.set.now in
-    subst (λ (s : Saved). Moves old set 0 s set) (sym c.load.ensures.same) (moves_none old set (λ honest. rw c.in-Ok-None.field-0-is at (c.in-Ok-None.ensures.saved honest)))
+    subst (λ (s : Saved). Moves old set 0 s set) (sym c.load.ensures.same)
+    (moves_none old set (λ honest. rw c.in-Ok-None.field-0-is at (c.in-Ok-None.ensures.saved honest)))
 
 pub returns-in-Err-clause-fault : goal.returns-in-Err-clause-fault
 returns-in-Err-clause-fault g c =
@@ -52,8 +53,10 @@ returns-in-Err-clause-fault g c =
     let set : SavedSet = g.S.StoreSet.state c.args.set.now in
     let loaded : List ℕ = c.deref.result.now in
     let loads : IsTrue old.is_honest → Some loaded ≡ option_map (take (42636295 + 1)) old.content =
-    λ honest. ap (λ (bs : List ℕ). Some bs) c.deref.ensures.value ∙ (rw c.in-Ok-Some.field-0-is at (c.in-Ok-Some.ensures.saved honest)) in
-    subst (λ (s : Saved). HasMoveFault old set c.in-Err.fault s set) (sym c.load.ensures.same) (faulty old set loaded c.in-Err.fault loads c.in-Err.ensures.fault)
+    λ honest. ap (λ (bs : List ℕ). Some bs) c.deref.ensures.value ∙
+    (rw c.in-Ok-Some.field-0-is at (c.in-Ok-Some.ensures.saved honest)) in
+    subst (λ (s : Saved). HasMoveFault old set c.in-Err.fault s set) (sym c.load.ensures.same)
+    (faulty old set loaded c.in-Err.fault loads c.in-Err.ensures.fault)
 
 pub returns-then-count-eq0-clause-ok : goal.returns-then-count-eq0-clause-ok
 returns-then-count-eq0-clause-ok g c =
@@ -61,9 +64,11 @@ returns-then-count-eq0-clause-ok g c =
     let set : SavedSet = g.S.StoreSet.state c.args.set.now in
     let loaded : List ℕ = c.deref.result.now in
     let loads : IsTrue old.is_honest → Some loaded ≡ option_map (take (42636295 + 1)) old.content =
-    λ honest. ap (λ (bs : List ℕ). Some bs) c.deref.ensures.value ∙ (rw c.in-Ok-Some.field-0-is at (c.in-Ok-Some.ensures.saved honest)) in
+    λ honest. ap (λ (bs : List ℕ). Some bs) c.deref.ensures.value ∙
+    (rw c.in-Ok-Some.field-0-is at (c.in-Ok-Some.ensures.saved honest)) in
     subst (λ (s : Saved). Moves old set 0 s set) (sym c.load.ensures.same)
-    (moves_nothing old set loaded (map_keys set.content) c.in-Ok.found.0 c.in-Ok.found.1.now c.in-Ok.ensures.found loads (λ _. refl) c.if-count-eq0.true)
+    (moves_nothing old set loaded (map_keys set.content) c.in-Ok.found.0 c.in-Ok.found.1.now c.in-Ok.ensures.found loads
+    (λ _. refl) c.if-count-eq0.true)
 
 pub returns-in-Err-Device-keys-clause-kept : goal.returns-in-Err-Device-keys-clause-kept
 returns-in-Err-Device-keys-clause-kept g c =
@@ -85,15 +90,19 @@ returns-in-Err-Device-move_entries-clause-kept g c =
     let set : SavedSet = g.S.StoreSet.state c.args.set.now in
     let loaded : List ℕ = c.deref.result.now in
     let loads : IsTrue old.is_honest → Some loaded ≡ option_map (take (42636295 + 1)) old.content =
-    λ honest. ap (λ (bs : List ℕ). Some bs) c.deref.ensures.value ∙ (rw c.in-Ok-Some.field-0-is at (c.in-Ok-Some.ensures.saved honest)) in
+    λ honest. ap (λ (bs : List ℕ). Some bs) c.deref.ensures.value ∙
+    (rw c.in-Ok-Some.field-0-is at (c.in-Ok-Some.ensures.saved honest)) in
     let ks : List ℕ = c.deref-3.result.now in
     let known : IsTrue set.is_honest → ks ≡ map_keys set.content = λ honest.
-    all_of_them set.content ks (λ i. rw (c.deref-3.ensures.value ∙ sym c.deref-2.ensures.value) (c.keys_fit.ensures i)) (c.deref-3.ensures.value ∙ c.in-Ok-keys.ensures.saved honest) in
+    all_of_them set.content ks (λ i. rw (c.deref-3.ensures.value ∙ sym c.deref-2.ensures.value) (c.keys_fit.ensures i))
+    (c.deref-3.ensures.value ∙ c.in-Ok-keys.ensures.saved honest) in
     let after : SavedSet = g.S.StoreSet.state c.move_entries.new.set in
     let m : MovesEntries set ks c.in-Ok.found.0 c.in-Ok.found.1.now (Err replaces.Device) after =
-    subst (λ (s : SavedSet). MovesEntries s ks c.in-Ok.found.0 c.in-Ok.found.1.now (Err replaces.Device) after) c.keys.ensures.same (rw c.in-Err-Device-move_entries.field-0-is at c.in-Err-Device-move_entries.ensures) in
+    subst (λ (s : SavedSet). MovesEntries s ks c.in-Ok.found.0 c.in-Ok.found.1.now (Err replaces.Device) after)
+    c.keys.ensures.same (rw c.in-Err-Device-move_entries.field-0-is at c.in-Err-Device-move_entries.ensures) in
     subst (λ (s : Saved). KeepsFiles old set s after) (sym c.load.ensures.same)
-    (abandoned old set loaded ks c.in-Ok.found.0 c.in-Ok.found.1.now c.in-Ok.ensures.found loads known after replaces.Device m)
+    (abandoned old set loaded ks c.in-Ok.found.0 c.in-Ok.found.1.now c.in-Ok.ensures.found loads known after
+    replaces.Device m)
 
 pub returns-in-Err-Memory-move_entries-clause-kept : goal.returns-in-Err-Memory-move_entries-clause-kept
 returns-in-Err-Memory-move_entries-clause-kept g c =
@@ -101,15 +110,19 @@ returns-in-Err-Memory-move_entries-clause-kept g c =
     let set : SavedSet = g.S.StoreSet.state c.args.set.now in
     let loaded : List ℕ = c.deref.result.now in
     let loads : IsTrue old.is_honest → Some loaded ≡ option_map (take (42636295 + 1)) old.content =
-    λ honest. ap (λ (bs : List ℕ). Some bs) c.deref.ensures.value ∙ (rw c.in-Ok-Some.field-0-is at (c.in-Ok-Some.ensures.saved honest)) in
+    λ honest. ap (λ (bs : List ℕ). Some bs) c.deref.ensures.value ∙
+    (rw c.in-Ok-Some.field-0-is at (c.in-Ok-Some.ensures.saved honest)) in
     let ks : List ℕ = c.deref-3.result.now in
     let known : IsTrue set.is_honest → ks ≡ map_keys set.content = λ honest.
-    all_of_them set.content ks (λ i. rw (c.deref-3.ensures.value ∙ sym c.deref-2.ensures.value) (c.keys_fit.ensures i)) (c.deref-3.ensures.value ∙ c.in-Ok-keys.ensures.saved honest) in
+    all_of_them set.content ks (λ i. rw (c.deref-3.ensures.value ∙ sym c.deref-2.ensures.value) (c.keys_fit.ensures i))
+    (c.deref-3.ensures.value ∙ c.in-Ok-keys.ensures.saved honest) in
     let after : SavedSet = g.S.StoreSet.state c.move_entries.new.set in
     let m : MovesEntries set ks c.in-Ok.found.0 c.in-Ok.found.1.now (Err replaces.Memory) after =
-    subst (λ (s : SavedSet). MovesEntries s ks c.in-Ok.found.0 c.in-Ok.found.1.now (Err replaces.Memory) after) c.keys.ensures.same (rw c.in-Err-Memory-move_entries.field-0-is at c.in-Err-Memory-move_entries.ensures) in
+    subst (λ (s : SavedSet). MovesEntries s ks c.in-Ok.found.0 c.in-Ok.found.1.now (Err replaces.Memory) after)
+    c.keys.ensures.same (rw c.in-Err-Memory-move_entries.field-0-is at c.in-Err-Memory-move_entries.ensures) in
     subst (λ (s : Saved). KeepsFiles old set s after) (sym c.load.ensures.same)
-    (abandoned old set loaded ks c.in-Ok.found.0 c.in-Ok.found.1.now c.in-Ok.ensures.found loads known after replaces.Memory m)
+    (abandoned old set loaded ks c.in-Ok.found.0 c.in-Ok.found.1.now c.in-Ok.ensures.found loads known after
+    replaces.Memory m)
 
 pub returns-in-Ok-replace-clause-ok : goal.returns-in-Ok-replace-clause-ok
 returns-in-Ok-replace-clause-ok g c =
@@ -117,17 +130,22 @@ returns-in-Ok-replace-clause-ok g c =
     let set : SavedSet = g.S.StoreSet.state c.args.set.now in
     let loaded : List ℕ = c.deref.result.now in
     let loads : IsTrue old.is_honest → Some loaded ≡ option_map (take (42636295 + 1)) old.content =
-    λ honest. ap (λ (bs : List ℕ). Some bs) c.deref.ensures.value ∙ (rw c.in-Ok-Some.field-0-is at (c.in-Ok-Some.ensures.saved honest)) in
+    λ honest. ap (λ (bs : List ℕ). Some bs) c.deref.ensures.value ∙
+    (rw c.in-Ok-Some.field-0-is at (c.in-Ok-Some.ensures.saved honest)) in
     let ks : List ℕ = c.deref-3.result.now in
     let known : IsTrue set.is_honest → ks ≡ map_keys set.content = λ honest.
-    all_of_them set.content ks (λ i. rw (c.deref-3.ensures.value ∙ sym c.deref-2.ensures.value) (c.keys_fit.ensures i)) (c.deref-3.ensures.value ∙ c.in-Ok-keys.ensures.saved honest) in
+    all_of_them set.content ks (λ i. rw (c.deref-3.ensures.value ∙ sym c.deref-2.ensures.value) (c.keys_fit.ensures i))
+    (c.deref-3.ensures.value ∙ c.in-Ok-keys.ensures.saved honest) in
     let after : SavedSet = g.S.StoreSet.state c.move_entries.new.set in
     let m : MovesEntries set ks c.in-Ok.found.0 c.in-Ok.found.1.now (Ok c.in-Ok-move_entries.written) after =
-    subst (λ (s : SavedSet). MovesEntries s ks c.in-Ok.found.0 c.in-Ok.found.1.now (Ok c.in-Ok-move_entries.written) after) c.keys.ensures.same c.in-Ok-move_entries.ensures in
+    subst (λ (s : SavedSet). MovesEntries s ks c.in-Ok.found.0 c.in-Ok.found.1.now
+    (Ok c.in-Ok-move_entries.written) after) c.keys.ensures.same c.in-Ok-move_entries.ensures in
     let emptied : Saved = g.O.Store.state c.replace.new.self in
     let p : Replaces old (68 ∷ 77 ∷ 80 ∷ 71 ∷ 1 ∷ 0 ∷ 0 ∷ []) (Ok tt) emptied =
-    subst (λ (s : Saved). Replaces s (68 ∷ 77 ∷ 80 ∷ 71 ∷ 1 ∷ 0 ∷ 0 ∷ []) (Ok tt) emptied) c.load.ensures.same (c.in-Ok-replace.ensures) in
-    moves_done old set loaded ks c.in-Ok.found.0 c.in-Ok.found.1.now c.in-Ok.ensures.found loads known after c.in-Ok-move_entries.written m emptied c.if-count-eq0.false p
+    subst (λ (s : Saved). Replaces s (68 ∷ 77 ∷ 80 ∷ 71 ∷ 1 ∷ 0 ∷ 0 ∷ []) (Ok tt) emptied) c.load.ensures.same
+    (c.in-Ok-replace.ensures) in
+    moves_done old set loaded ks c.in-Ok.found.0 c.in-Ok.found.1.now c.in-Ok.ensures.found loads known after
+    c.in-Ok-move_entries.written m emptied c.if-count-eq0.false p
 
 pub returns-in-Ok-replace-clause-kept : goal.returns-in-Ok-replace-clause-kept
 returns-in-Ok-replace-clause-kept g c =
@@ -135,17 +153,22 @@ returns-in-Ok-replace-clause-kept g c =
     let set : SavedSet = g.S.StoreSet.state c.args.set.now in
     let loaded : List ℕ = c.deref.result.now in
     let loads : IsTrue old.is_honest → Some loaded ≡ option_map (take (42636295 + 1)) old.content =
-    λ honest. ap (λ (bs : List ℕ). Some bs) c.deref.ensures.value ∙ (rw c.in-Ok-Some.field-0-is at (c.in-Ok-Some.ensures.saved honest)) in
+    λ honest. ap (λ (bs : List ℕ). Some bs) c.deref.ensures.value ∙
+    (rw c.in-Ok-Some.field-0-is at (c.in-Ok-Some.ensures.saved honest)) in
     let ks : List ℕ = c.deref-3.result.now in
     let known : IsTrue set.is_honest → ks ≡ map_keys set.content = λ honest.
-    all_of_them set.content ks (λ i. rw (c.deref-3.ensures.value ∙ sym c.deref-2.ensures.value) (c.keys_fit.ensures i)) (c.deref-3.ensures.value ∙ c.in-Ok-keys.ensures.saved honest) in
+    all_of_them set.content ks (λ i. rw (c.deref-3.ensures.value ∙ sym c.deref-2.ensures.value) (c.keys_fit.ensures i))
+    (c.deref-3.ensures.value ∙ c.in-Ok-keys.ensures.saved honest) in
     let after : SavedSet = g.S.StoreSet.state c.move_entries.new.set in
     let m : MovesEntries set ks c.in-Ok.found.0 c.in-Ok.found.1.now (Ok c.in-Ok-move_entries.written) after =
-    subst (λ (s : SavedSet). MovesEntries s ks c.in-Ok.found.0 c.in-Ok.found.1.now (Ok c.in-Ok-move_entries.written) after) c.keys.ensures.same c.in-Ok-move_entries.ensures in
+    subst (λ (s : SavedSet). MovesEntries s ks c.in-Ok.found.0 c.in-Ok.found.1.now
+    (Ok c.in-Ok-move_entries.written) after) c.keys.ensures.same c.in-Ok-move_entries.ensures in
     let emptied : Saved = g.O.Store.state c.replace.new.self in
     let p : Replaces old (68 ∷ 77 ∷ 80 ∷ 71 ∷ 1 ∷ 0 ∷ 0 ∷ []) (Ok tt) emptied =
-    subst (λ (s : Saved). Replaces s (68 ∷ 77 ∷ 80 ∷ 71 ∷ 1 ∷ 0 ∷ 0 ∷ []) (Ok tt) emptied) c.load.ensures.same (c.in-Ok-replace.ensures) in
-    joined_done old set loaded ks c.in-Ok.found.0 c.in-Ok.found.1.now c.in-Ok.ensures.found loads known after c.in-Ok-move_entries.written m emptied p
+    subst (λ (s : Saved). Replaces s (68 ∷ 77 ∷ 80 ∷ 71 ∷ 1 ∷ 0 ∷ 0 ∷ []) (Ok tt) emptied) c.load.ensures.same
+    (c.in-Ok-replace.ensures) in
+    joined_done old set loaded ks c.in-Ok.found.0 c.in-Ok.found.1.now c.in-Ok.ensures.found loads known after
+    c.in-Ok-move_entries.written m emptied p
 
 pub returns-in-Err-Device-replace-clause-kept : goal.returns-in-Err-Device-replace-clause-kept
 returns-in-Err-Device-replace-clause-kept g c =
@@ -153,17 +176,22 @@ returns-in-Err-Device-replace-clause-kept g c =
     let set : SavedSet = g.S.StoreSet.state c.args.set.now in
     let loaded : List ℕ = c.deref.result.now in
     let loads : IsTrue old.is_honest → Some loaded ≡ option_map (take (42636295 + 1)) old.content =
-    λ honest. ap (λ (bs : List ℕ). Some bs) c.deref.ensures.value ∙ (rw c.in-Ok-Some.field-0-is at (c.in-Ok-Some.ensures.saved honest)) in
+    λ honest. ap (λ (bs : List ℕ). Some bs) c.deref.ensures.value ∙
+    (rw c.in-Ok-Some.field-0-is at (c.in-Ok-Some.ensures.saved honest)) in
     let ks : List ℕ = c.deref-3.result.now in
     let known : IsTrue set.is_honest → ks ≡ map_keys set.content = λ honest.
-    all_of_them set.content ks (λ i. rw (c.deref-3.ensures.value ∙ sym c.deref-2.ensures.value) (c.keys_fit.ensures i)) (c.deref-3.ensures.value ∙ c.in-Ok-keys.ensures.saved honest) in
+    all_of_them set.content ks (λ i. rw (c.deref-3.ensures.value ∙ sym c.deref-2.ensures.value) (c.keys_fit.ensures i))
+    (c.deref-3.ensures.value ∙ c.in-Ok-keys.ensures.saved honest) in
     let after : SavedSet = g.S.StoreSet.state c.move_entries.new.set in
     let m : MovesEntries set ks c.in-Ok.found.0 c.in-Ok.found.1.now (Ok c.in-Ok-move_entries.written) after =
-    subst (λ (s : SavedSet). MovesEntries s ks c.in-Ok.found.0 c.in-Ok.found.1.now (Ok c.in-Ok-move_entries.written) after) c.keys.ensures.same c.in-Ok-move_entries.ensures in
+    subst (λ (s : SavedSet). MovesEntries s ks c.in-Ok.found.0 c.in-Ok.found.1.now
+    (Ok c.in-Ok-move_entries.written) after) c.keys.ensures.same c.in-Ok-move_entries.ensures in
     let emptied : Saved = g.O.Store.state c.replace.new.self in
     let p : Replaces old (68 ∷ 77 ∷ 80 ∷ 71 ∷ 1 ∷ 0 ∷ 0 ∷ []) (Err replaces.Device) emptied =
-    subst (λ (s : Saved). Replaces s (68 ∷ 77 ∷ 80 ∷ 71 ∷ 1 ∷ 0 ∷ 0 ∷ []) (Err replaces.Device) emptied) c.load.ensures.same (rw c.in-Err-Device-replace.field-0-is at c.in-Err-Device-replace.ensures) in
-    joined_faulted old set loaded ks c.in-Ok.found.0 c.in-Ok.found.1.now c.in-Ok.ensures.found loads known after c.in-Ok-move_entries.written m emptied replaces.Device p
+    subst (λ (s : Saved). Replaces s (68 ∷ 77 ∷ 80 ∷ 71 ∷ 1 ∷ 0 ∷ 0 ∷ []) (Err replaces.Device) emptied)
+    c.load.ensures.same (rw c.in-Err-Device-replace.field-0-is at c.in-Err-Device-replace.ensures) in
+    joined_faulted old set loaded ks c.in-Ok.found.0 c.in-Ok.found.1.now c.in-Ok.ensures.found loads known after
+    c.in-Ok-move_entries.written m emptied replaces.Device p
 
 pub returns-clause-kept : goal.returns-clause-kept
 returns-clause-kept g c =
@@ -171,17 +199,22 @@ returns-clause-kept g c =
     let set : SavedSet = g.S.StoreSet.state c.args.set.now in
     let loaded : List ℕ = c.deref.result.now in
     let loads : IsTrue old.is_honest → Some loaded ≡ option_map (take (42636295 + 1)) old.content =
-    λ honest. ap (λ (bs : List ℕ). Some bs) c.deref.ensures.value ∙ (rw c.in-Ok-Some.field-0-is at (c.in-Ok-Some.ensures.saved honest)) in
+    λ honest. ap (λ (bs : List ℕ). Some bs) c.deref.ensures.value ∙
+    (rw c.in-Ok-Some.field-0-is at (c.in-Ok-Some.ensures.saved honest)) in
     let ks : List ℕ = c.deref-3.result.now in
     let known : IsTrue set.is_honest → ks ≡ map_keys set.content = λ honest.
-    all_of_them set.content ks (λ i. rw (c.deref-3.ensures.value ∙ sym c.deref-2.ensures.value) (c.keys_fit.ensures i)) (c.deref-3.ensures.value ∙ c.in-Ok-keys.ensures.saved honest) in
+    all_of_them set.content ks (λ i. rw (c.deref-3.ensures.value ∙ sym c.deref-2.ensures.value) (c.keys_fit.ensures i))
+    (c.deref-3.ensures.value ∙ c.in-Ok-keys.ensures.saved honest) in
     let after : SavedSet = g.S.StoreSet.state c.move_entries.new.set in
     let m : MovesEntries set ks c.in-Ok.found.0 c.in-Ok.found.1.now (Ok c.in-Ok-move_entries.written) after =
-    subst (λ (s : SavedSet). MovesEntries s ks c.in-Ok.found.0 c.in-Ok.found.1.now (Ok c.in-Ok-move_entries.written) after) c.keys.ensures.same c.in-Ok-move_entries.ensures in
+    subst (λ (s : SavedSet). MovesEntries s ks c.in-Ok.found.0 c.in-Ok.found.1.now
+    (Ok c.in-Ok-move_entries.written) after) c.keys.ensures.same c.in-Ok-move_entries.ensures in
     let emptied : Saved = g.O.Store.state c.replace.new.self in
     let p : Replaces old (68 ∷ 77 ∷ 80 ∷ 71 ∷ 1 ∷ 0 ∷ 0 ∷ []) (Err replaces.Memory) emptied =
-    subst (λ (s : Saved). Replaces s (68 ∷ 77 ∷ 80 ∷ 71 ∷ 1 ∷ 0 ∷ 0 ∷ []) (Err replaces.Memory) emptied) c.load.ensures.same (rw c.in-Err-Memory-replace.field-0-is at c.in-Err-Memory-replace.ensures) in
-    joined_faulted old set loaded ks c.in-Ok.found.0 c.in-Ok.found.1.now c.in-Ok.ensures.found loads known after c.in-Ok-move_entries.written m emptied replaces.Memory p
+    subst (λ (s : Saved). Replaces s (68 ∷ 77 ∷ 80 ∷ 71 ∷ 1 ∷ 0 ∷ 0 ∷ []) (Err replaces.Memory) emptied)
+    c.load.ensures.same (rw c.in-Err-Memory-replace.field-0-is at c.in-Err-Memory-replace.ensures) in
+    joined_faulted old set loaded ks c.in-Ok.found.0 c.in-Ok.found.1.now c.in-Ok.ensures.found loads known after
+    c.in-Ok-move_entries.written m emptied replaces.Memory p
 
 pub returns-in-Ok-None-clause-plans : goal.returns-in-Ok-None-clause-plans
 returns-in-Ok-None-clause-plans g c =
@@ -234,7 +267,8 @@ returns-in-Err-Device-move_entries-clause-plans g c =
     let ks : List ℕ = c.deref-3.result.now in
     let after : SavedSet = g.S.StoreSet.state c.move_entries.new.set in
     let m : MovesEntries set ks c.in-Ok.found.0 c.in-Ok.found.1.now (Err replaces.Device) after =
-    subst (λ (s : SavedSet). MovesEntries s ks c.in-Ok.found.0 c.in-Ok.found.1.now (Err replaces.Device) after) c.keys.ensures.same (rw c.in-Err-Device-move_entries.field-0-is at c.in-Err-Device-move_entries.ensures) in
+    subst (λ (s : SavedSet). MovesEntries s ks c.in-Ok.found.0 c.in-Ok.found.1.now (Err replaces.Device) after)
+    c.keys.ensures.same (rw c.in-Err-Device-move_entries.field-0-is at c.in-Err-Device-move_entries.ensures) in
     subst (λ (s : Saved). KeepsPlans old set s after) (sym c.load.ensures.same)
     (plans_abandoned old set ks c.in-Ok.found.0 c.in-Ok.found.1.now after replaces.Device m)
 
@@ -245,7 +279,8 @@ returns-in-Err-Memory-move_entries-clause-plans g c =
     let ks : List ℕ = c.deref-3.result.now in
     let after : SavedSet = g.S.StoreSet.state c.move_entries.new.set in
     let m : MovesEntries set ks c.in-Ok.found.0 c.in-Ok.found.1.now (Err replaces.Memory) after =
-    subst (λ (s : SavedSet). MovesEntries s ks c.in-Ok.found.0 c.in-Ok.found.1.now (Err replaces.Memory) after) c.keys.ensures.same (rw c.in-Err-Memory-move_entries.field-0-is at c.in-Err-Memory-move_entries.ensures) in
+    subst (λ (s : SavedSet). MovesEntries s ks c.in-Ok.found.0 c.in-Ok.found.1.now (Err replaces.Memory) after)
+    c.keys.ensures.same (rw c.in-Err-Memory-move_entries.field-0-is at c.in-Err-Memory-move_entries.ensures) in
     subst (λ (s : Saved). KeepsPlans old set s after) (sym c.load.ensures.same)
     (plans_abandoned old set ks c.in-Ok.found.0 c.in-Ok.found.1.now after replaces.Memory m)
 
@@ -256,11 +291,14 @@ returns-in-Ok-replace-clause-plans g c =
     let ks : List ℕ = c.deref-3.result.now in
     let after : SavedSet = g.S.StoreSet.state c.move_entries.new.set in
     let m : MovesEntries set ks c.in-Ok.found.0 c.in-Ok.found.1.now (Ok c.in-Ok-move_entries.written) after =
-    subst (λ (s : SavedSet). MovesEntries s ks c.in-Ok.found.0 c.in-Ok.found.1.now (Ok c.in-Ok-move_entries.written) after) c.keys.ensures.same c.in-Ok-move_entries.ensures in
+    subst (λ (s : SavedSet). MovesEntries s ks c.in-Ok.found.0 c.in-Ok.found.1.now
+    (Ok c.in-Ok-move_entries.written) after) c.keys.ensures.same c.in-Ok-move_entries.ensures in
     let emptied : Saved = g.O.Store.state c.replace.new.self in
     let p : Replaces old (68 ∷ 77 ∷ 80 ∷ 71 ∷ 1 ∷ 0 ∷ 0 ∷ []) (Ok tt) emptied =
-    subst (λ (s : Saved). Replaces s (68 ∷ 77 ∷ 80 ∷ 71 ∷ 1 ∷ 0 ∷ 0 ∷ []) (Ok tt) emptied) c.load.ensures.same (c.in-Ok-replace.ensures) in
-    plans_replaced old set ks c.in-Ok.found.0 c.in-Ok.found.1.now after c.in-Ok-move_entries.written m (68 ∷ 77 ∷ 80 ∷ 71 ∷ 1 ∷ 0 ∷ 0 ∷ []) (Ok tt) emptied p
+    subst (λ (s : Saved). Replaces s (68 ∷ 77 ∷ 80 ∷ 71 ∷ 1 ∷ 0 ∷ 0 ∷ []) (Ok tt) emptied) c.load.ensures.same
+    (c.in-Ok-replace.ensures) in
+    plans_replaced old set ks c.in-Ok.found.0 c.in-Ok.found.1.now after c.in-Ok-move_entries.written m
+    (68 ∷ 77 ∷ 80 ∷ 71 ∷ 1 ∷ 0 ∷ 0 ∷ []) (Ok tt) emptied p
 
 pub returns-in-Err-Device-replace-clause-plans : goal.returns-in-Err-Device-replace-clause-plans
 returns-in-Err-Device-replace-clause-plans g c =
@@ -269,11 +307,14 @@ returns-in-Err-Device-replace-clause-plans g c =
     let ks : List ℕ = c.deref-3.result.now in
     let after : SavedSet = g.S.StoreSet.state c.move_entries.new.set in
     let m : MovesEntries set ks c.in-Ok.found.0 c.in-Ok.found.1.now (Ok c.in-Ok-move_entries.written) after =
-    subst (λ (s : SavedSet). MovesEntries s ks c.in-Ok.found.0 c.in-Ok.found.1.now (Ok c.in-Ok-move_entries.written) after) c.keys.ensures.same c.in-Ok-move_entries.ensures in
+    subst (λ (s : SavedSet). MovesEntries s ks c.in-Ok.found.0 c.in-Ok.found.1.now
+    (Ok c.in-Ok-move_entries.written) after) c.keys.ensures.same c.in-Ok-move_entries.ensures in
     let emptied : Saved = g.O.Store.state c.replace.new.self in
     let p : Replaces old (68 ∷ 77 ∷ 80 ∷ 71 ∷ 1 ∷ 0 ∷ 0 ∷ []) (Err replaces.Device) emptied =
-    subst (λ (s : Saved). Replaces s (68 ∷ 77 ∷ 80 ∷ 71 ∷ 1 ∷ 0 ∷ 0 ∷ []) (Err replaces.Device) emptied) c.load.ensures.same (rw c.in-Err-Device-replace.field-0-is at c.in-Err-Device-replace.ensures) in
-    plans_replaced old set ks c.in-Ok.found.0 c.in-Ok.found.1.now after c.in-Ok-move_entries.written m (68 ∷ 77 ∷ 80 ∷ 71 ∷ 1 ∷ 0 ∷ 0 ∷ []) (Err replaces.Device) emptied p
+    subst (λ (s : Saved). Replaces s (68 ∷ 77 ∷ 80 ∷ 71 ∷ 1 ∷ 0 ∷ 0 ∷ []) (Err replaces.Device) emptied)
+    c.load.ensures.same (rw c.in-Err-Device-replace.field-0-is at c.in-Err-Device-replace.ensures) in
+    plans_replaced old set ks c.in-Ok.found.0 c.in-Ok.found.1.now after c.in-Ok-move_entries.written m
+    (68 ∷ 77 ∷ 80 ∷ 71 ∷ 1 ∷ 0 ∷ 0 ∷ []) (Err replaces.Device) emptied p
 
 pub returns-clause-plans : goal.returns-clause-plans
 returns-clause-plans g c =
@@ -282,29 +323,35 @@ returns-clause-plans g c =
     let ks : List ℕ = c.deref-3.result.now in
     let after : SavedSet = g.S.StoreSet.state c.move_entries.new.set in
     let m : MovesEntries set ks c.in-Ok.found.0 c.in-Ok.found.1.now (Ok c.in-Ok-move_entries.written) after =
-    subst (λ (s : SavedSet). MovesEntries s ks c.in-Ok.found.0 c.in-Ok.found.1.now (Ok c.in-Ok-move_entries.written) after) c.keys.ensures.same c.in-Ok-move_entries.ensures in
+    subst (λ (s : SavedSet). MovesEntries s ks c.in-Ok.found.0 c.in-Ok.found.1.now
+    (Ok c.in-Ok-move_entries.written) after) c.keys.ensures.same c.in-Ok-move_entries.ensures in
     let emptied : Saved = g.O.Store.state c.replace.new.self in
     let p : Replaces old (68 ∷ 77 ∷ 80 ∷ 71 ∷ 1 ∷ 0 ∷ 0 ∷ []) (Err replaces.Memory) emptied =
-    subst (λ (s : Saved). Replaces s (68 ∷ 77 ∷ 80 ∷ 71 ∷ 1 ∷ 0 ∷ 0 ∷ []) (Err replaces.Memory) emptied) c.load.ensures.same (rw c.in-Err-Memory-replace.field-0-is at c.in-Err-Memory-replace.ensures) in
-    plans_replaced old set ks c.in-Ok.found.0 c.in-Ok.found.1.now after c.in-Ok-move_entries.written m (68 ∷ 77 ∷ 80 ∷ 71 ∷ 1 ∷ 0 ∷ 0 ∷ []) (Err replaces.Memory) emptied p
+    subst (λ (s : Saved). Replaces s (68 ∷ 77 ∷ 80 ∷ 71 ∷ 1 ∷ 0 ∷ 0 ∷ []) (Err replaces.Memory) emptied)
+    c.load.ensures.same (rw c.in-Err-Memory-replace.field-0-is at c.in-Err-Memory-replace.ensures) in
+    plans_replaced old set ks c.in-Ok.found.0 c.in-Ok.found.1.now after c.in-Ok-move_entries.written m
+    (68 ∷ 77 ∷ 80 ∷ 71 ∷ 1 ∷ 0 ∷ 0 ∷ []) (Err replaces.Memory) emptied p
 
 pub returns-in-Ok-None-clause-exact : goal.returns-in-Ok-None-clause-exact
 returns-in-Ok-None-clause-exact g c =
     let old : Saved = g.O.Store.state c.args.old.now in
     let set : SavedSet = g.S.StoreSet.state c.args.set.now in
-    subst (λ (s : Saved). LeavesAlone old set (Ok 0) s set) (sym c.load.ensures.same) (leaves_none old set (λ honest. rw c.in-Ok-None.field-0-is at (c.in-Ok-None.ensures.saved honest)))
+    subst (λ (s : Saved). LeavesAlone old set (Ok 0) s set) (sym c.load.ensures.same)
+    (leaves_none old set (λ honest. rw c.in-Ok-None.field-0-is at (c.in-Ok-None.ensures.saved honest)))
 
 pub returns-in-Err-Device-clause-exact : goal.returns-in-Err-Device-clause-exact
 returns-in-Err-Device-clause-exact g c =
     let old : Saved = g.O.Store.state c.args.old.now in
     let set : SavedSet = g.S.StoreSet.state c.args.set.now in
-    subst (λ (s : Saved). LeavesAlone old set (Err moves.Device) s set) (sym c.load.ensures.same) (leaves_failed old set (c.load.ensures.device (search rules)))
+    subst (λ (s : Saved). LeavesAlone old set (Err moves.Device) s set) (sym c.load.ensures.same)
+    (leaves_failed old set (c.load.ensures.device (search rules)))
 
 pub returns-in-Err-Memory-clause-exact : goal.returns-in-Err-Memory-clause-exact
 returns-in-Err-Memory-clause-exact g c =
     let old : Saved = g.O.Store.state c.args.old.now in
     let set : SavedSet = g.S.StoreSet.state c.args.set.now in
-    subst (λ (s : Saved). LeavesAlone old set (Err moves.Memory) s set) (sym c.load.ensures.same) (leaves_refused old set)
+    subst (λ (s : Saved). LeavesAlone old set (Err moves.Memory) s set) (sym c.load.ensures.same)
+    (leaves_refused old set)
 
 pub returns-in-Err-clause-exact : goal.returns-in-Err-clause-exact
 returns-in-Err-clause-exact g c =
@@ -312,8 +359,10 @@ returns-in-Err-clause-exact g c =
     let set : SavedSet = g.S.StoreSet.state c.args.set.now in
     let loaded : List ℕ = c.deref.result.now in
     let loads : IsTrue old.is_honest → Some loaded ≡ option_map (take (42636295 + 1)) old.content =
-    λ honest. ap (λ (bs : List ℕ). Some bs) c.deref.ensures.value ∙ (rw c.in-Ok-Some.field-0-is at (c.in-Ok-Some.ensures.saved honest)) in
-    subst (λ (s : Saved). LeavesAlone old set (Err c.in-Err.fault) s set) (sym c.load.ensures.same) (leaves_faulty old set loaded loads c.in-Err.fault c.in-Err.ensures.fault)
+    λ honest. ap (λ (bs : List ℕ). Some bs) c.deref.ensures.value ∙
+    (rw c.in-Ok-Some.field-0-is at (c.in-Ok-Some.ensures.saved honest)) in
+    subst (λ (s : Saved). LeavesAlone old set (Err c.in-Err.fault) s set) (sym c.load.ensures.same)
+    (leaves_faulty old set loaded loads c.in-Err.fault c.in-Err.ensures.fault)
 
 pub returns-then-count-eq0-clause-exact : goal.returns-then-count-eq0-clause-exact
 returns-then-count-eq0-clause-exact g c =
@@ -321,8 +370,10 @@ returns-then-count-eq0-clause-exact g c =
     let set : SavedSet = g.S.StoreSet.state c.args.set.now in
     let loaded : List ℕ = c.deref.result.now in
     let loads : IsTrue old.is_honest → Some loaded ≡ option_map (take (42636295 + 1)) old.content =
-    λ honest. ap (λ (bs : List ℕ). Some bs) c.deref.ensures.value ∙ (rw c.in-Ok-Some.field-0-is at (c.in-Ok-Some.ensures.saved honest)) in
-    subst (λ (s : Saved). LeavesAlone old set (Ok 0) s set) (sym c.load.ensures.same) (leaves_empty old set loaded loads c.in-Ok.found.0 c.in-Ok.found.1.now c.in-Ok.ensures.found)
+    λ honest. ap (λ (bs : List ℕ). Some bs) c.deref.ensures.value ∙
+    (rw c.in-Ok-Some.field-0-is at (c.in-Ok-Some.ensures.saved honest)) in
+    subst (λ (s : Saved). LeavesAlone old set (Ok 0) s set) (sym c.load.ensures.same)
+    (leaves_empty old set loaded loads c.in-Ok.found.0 c.in-Ok.found.1.now c.in-Ok.ensures.found)
 
 pub returns-in-Err-Device-keys-clause-exact : goal.returns-in-Err-Device-keys-clause-exact
 returns-in-Err-Device-keys-clause-exact g c =
@@ -330,8 +381,10 @@ returns-in-Err-Device-keys-clause-exact g c =
     let set : SavedSet = g.S.StoreSet.state c.args.set.now in
     let loaded : List ℕ = c.deref.result.now in
     let loads : IsTrue old.is_honest → Some loaded ≡ option_map (take (42636295 + 1)) old.content =
-    λ honest. ap (λ (bs : List ℕ). Some bs) c.deref.ensures.value ∙ (rw c.in-Ok-Some.field-0-is at (c.in-Ok-Some.ensures.saved honest)) in
-    leaves_some old set loaded loads c.in-Ok.found.0 c.in-Ok.found.1.now c.in-Ok.ensures.found c.if-count-eq0.false (Err moves.Device) (g.O.Store.state c.load.new.self) (g.S.StoreSet.state c.keys.new.self)
+    λ honest. ap (λ (bs : List ℕ). Some bs) c.deref.ensures.value ∙
+    (rw c.in-Ok-Some.field-0-is at (c.in-Ok-Some.ensures.saved honest)) in
+    leaves_some old set loaded loads c.in-Ok.found.0 c.in-Ok.found.1.now c.in-Ok.ensures.found c.if-count-eq0.false
+    (Err moves.Device) (g.O.Store.state c.load.new.self) (g.S.StoreSet.state c.keys.new.self)
 
 pub returns-in-Err-Memory-keys-clause-exact : goal.returns-in-Err-Memory-keys-clause-exact
 returns-in-Err-Memory-keys-clause-exact g c =
@@ -339,8 +392,10 @@ returns-in-Err-Memory-keys-clause-exact g c =
     let set : SavedSet = g.S.StoreSet.state c.args.set.now in
     let loaded : List ℕ = c.deref.result.now in
     let loads : IsTrue old.is_honest → Some loaded ≡ option_map (take (42636295 + 1)) old.content =
-    λ honest. ap (λ (bs : List ℕ). Some bs) c.deref.ensures.value ∙ (rw c.in-Ok-Some.field-0-is at (c.in-Ok-Some.ensures.saved honest)) in
-    leaves_some old set loaded loads c.in-Ok.found.0 c.in-Ok.found.1.now c.in-Ok.ensures.found c.if-count-eq0.false (Err moves.Memory) (g.O.Store.state c.load.new.self) (g.S.StoreSet.state c.keys.new.self)
+    λ honest. ap (λ (bs : List ℕ). Some bs) c.deref.ensures.value ∙
+    (rw c.in-Ok-Some.field-0-is at (c.in-Ok-Some.ensures.saved honest)) in
+    leaves_some old set loaded loads c.in-Ok.found.0 c.in-Ok.found.1.now c.in-Ok.ensures.found c.if-count-eq0.false
+    (Err moves.Memory) (g.O.Store.state c.load.new.self) (g.S.StoreSet.state c.keys.new.self)
 
 pub returns-in-Err-Device-move_entries-clause-exact : goal.returns-in-Err-Device-move_entries-clause-exact
 returns-in-Err-Device-move_entries-clause-exact g c =
@@ -348,8 +403,10 @@ returns-in-Err-Device-move_entries-clause-exact g c =
     let set : SavedSet = g.S.StoreSet.state c.args.set.now in
     let loaded : List ℕ = c.deref.result.now in
     let loads : IsTrue old.is_honest → Some loaded ≡ option_map (take (42636295 + 1)) old.content =
-    λ honest. ap (λ (bs : List ℕ). Some bs) c.deref.ensures.value ∙ (rw c.in-Ok-Some.field-0-is at (c.in-Ok-Some.ensures.saved honest)) in
-    leaves_some old set loaded loads c.in-Ok.found.0 c.in-Ok.found.1.now c.in-Ok.ensures.found c.if-count-eq0.false (Err moves.Device) (g.O.Store.state c.load.new.self) (g.S.StoreSet.state c.move_entries.new.set)
+    λ honest. ap (λ (bs : List ℕ). Some bs) c.deref.ensures.value ∙
+    (rw c.in-Ok-Some.field-0-is at (c.in-Ok-Some.ensures.saved honest)) in
+    leaves_some old set loaded loads c.in-Ok.found.0 c.in-Ok.found.1.now c.in-Ok.ensures.found c.if-count-eq0.false
+    (Err moves.Device) (g.O.Store.state c.load.new.self) (g.S.StoreSet.state c.move_entries.new.set)
 
 pub returns-in-Err-Memory-move_entries-clause-exact : goal.returns-in-Err-Memory-move_entries-clause-exact
 returns-in-Err-Memory-move_entries-clause-exact g c =
@@ -357,8 +414,10 @@ returns-in-Err-Memory-move_entries-clause-exact g c =
     let set : SavedSet = g.S.StoreSet.state c.args.set.now in
     let loaded : List ℕ = c.deref.result.now in
     let loads : IsTrue old.is_honest → Some loaded ≡ option_map (take (42636295 + 1)) old.content =
-    λ honest. ap (λ (bs : List ℕ). Some bs) c.deref.ensures.value ∙ (rw c.in-Ok-Some.field-0-is at (c.in-Ok-Some.ensures.saved honest)) in
-    leaves_some old set loaded loads c.in-Ok.found.0 c.in-Ok.found.1.now c.in-Ok.ensures.found c.if-count-eq0.false (Err moves.Memory) (g.O.Store.state c.load.new.self) (g.S.StoreSet.state c.move_entries.new.set)
+    λ honest. ap (λ (bs : List ℕ). Some bs) c.deref.ensures.value ∙
+    (rw c.in-Ok-Some.field-0-is at (c.in-Ok-Some.ensures.saved honest)) in
+    leaves_some old set loaded loads c.in-Ok.found.0 c.in-Ok.found.1.now c.in-Ok.ensures.found c.if-count-eq0.false
+    (Err moves.Memory) (g.O.Store.state c.load.new.self) (g.S.StoreSet.state c.move_entries.new.set)
 
 pub returns-in-Ok-replace-clause-exact : goal.returns-in-Ok-replace-clause-exact
 returns-in-Ok-replace-clause-exact g c =
@@ -366,8 +425,11 @@ returns-in-Ok-replace-clause-exact g c =
     let set : SavedSet = g.S.StoreSet.state c.args.set.now in
     let loaded : List ℕ = c.deref.result.now in
     let loads : IsTrue old.is_honest → Some loaded ≡ option_map (take (42636295 + 1)) old.content =
-    λ honest. ap (λ (bs : List ℕ). Some bs) c.deref.ensures.value ∙ (rw c.in-Ok-Some.field-0-is at (c.in-Ok-Some.ensures.saved honest)) in
-    leaves_some old set loaded loads c.in-Ok.found.0 c.in-Ok.found.1.now c.in-Ok.ensures.found c.if-count-eq0.false (Ok c.in-Ok-move_entries.written) (g.O.Store.state c.replace.new.self) (g.S.StoreSet.state c.move_entries.new.set)
+    λ honest. ap (λ (bs : List ℕ). Some bs) c.deref.ensures.value ∙
+    (rw c.in-Ok-Some.field-0-is at (c.in-Ok-Some.ensures.saved honest)) in
+    leaves_some old set loaded loads c.in-Ok.found.0 c.in-Ok.found.1.now c.in-Ok.ensures.found c.if-count-eq0.false
+    (Ok c.in-Ok-move_entries.written) (g.O.Store.state c.replace.new.self)
+    (g.S.StoreSet.state c.move_entries.new.set)
 
 pub returns-in-Err-Device-replace-clause-exact : goal.returns-in-Err-Device-replace-clause-exact
 returns-in-Err-Device-replace-clause-exact g c =
@@ -375,8 +437,10 @@ returns-in-Err-Device-replace-clause-exact g c =
     let set : SavedSet = g.S.StoreSet.state c.args.set.now in
     let loaded : List ℕ = c.deref.result.now in
     let loads : IsTrue old.is_honest → Some loaded ≡ option_map (take (42636295 + 1)) old.content =
-    λ honest. ap (λ (bs : List ℕ). Some bs) c.deref.ensures.value ∙ (rw c.in-Ok-Some.field-0-is at (c.in-Ok-Some.ensures.saved honest)) in
-    leaves_some old set loaded loads c.in-Ok.found.0 c.in-Ok.found.1.now c.in-Ok.ensures.found c.if-count-eq0.false (Err moves.Device) (g.O.Store.state c.replace.new.self) (g.S.StoreSet.state c.move_entries.new.set)
+    λ honest. ap (λ (bs : List ℕ). Some bs) c.deref.ensures.value ∙
+    (rw c.in-Ok-Some.field-0-is at (c.in-Ok-Some.ensures.saved honest)) in
+    leaves_some old set loaded loads c.in-Ok.found.0 c.in-Ok.found.1.now c.in-Ok.ensures.found c.if-count-eq0.false
+    (Err moves.Device) (g.O.Store.state c.replace.new.self) (g.S.StoreSet.state c.move_entries.new.set)
 
 pub returns-clause-exact : goal.returns-clause-exact
 returns-clause-exact g c =
@@ -384,5 +448,7 @@ returns-clause-exact g c =
     let set : SavedSet = g.S.StoreSet.state c.args.set.now in
     let loaded : List ℕ = c.deref.result.now in
     let loads : IsTrue old.is_honest → Some loaded ≡ option_map (take (42636295 + 1)) old.content =
-    λ honest. ap (λ (bs : List ℕ). Some bs) c.deref.ensures.value ∙ (rw c.in-Ok-Some.field-0-is at (c.in-Ok-Some.ensures.saved honest)) in
-    leaves_some old set loaded loads c.in-Ok.found.0 c.in-Ok.found.1.now c.in-Ok.ensures.found c.if-count-eq0.false (Err moves.Memory) (g.O.Store.state c.replace.new.self) (g.S.StoreSet.state c.move_entries.new.set)
+    λ honest. ap (λ (bs : List ℕ). Some bs) c.deref.ensures.value ∙
+    (rw c.in-Ok-Some.field-0-is at (c.in-Ok-Some.ensures.saved honest)) in
+    leaves_some old set loaded loads c.in-Ok.found.0 c.in-Ok.found.1.now c.in-Ok.ensures.found c.if-count-eq0.false
+    (Err moves.Memory) (g.O.Store.state c.replace.new.self) (g.S.StoreSet.state c.move_entries.new.set)

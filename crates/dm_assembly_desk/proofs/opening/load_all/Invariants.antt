@@ -11,5 +11,6 @@ invariant-loop-key g l =
       same : state l.set ≡ state l.fn.set;
       entries : AreEntries l.documents;
       few : len l.documents ≤ l.key-index;
-      so_far : IsTrue (state l.fn.set).is_honest → SoFar (state l.fn.set).content l.documents l.has_memory (drop l.key-index l.key-items);
+      so_far : IsTrue (state l.fn.set).is_honest →
+          SoFar (state l.fn.set).content l.documents l.has_memory (drop l.key-index l.key-items);
     }

@@ -6,6 +6,7 @@ use Rattle.dm_check_blocks.proofs.checks.checks_of.Goals as goal
 
 pub returns-clause-only : goal.returns-clause-only
 returns-clause-only c = λ others same bytes word.
-    one_list_of_checks (length c.args.checks.now) c.args.message.now others c.fill.new.checks same (omega arith) c.requires.fits
+    one_list_of_checks (length c.args.checks.now) c.args.message.now others c.fill.new.checks same
+    (omega arith) c.requires.fits
     (bytes_from_places c.args.message.now (λ i. (c.type_inv.message i).fits)) (recursion_from_All _ others bytes)
     (bytes_from_places c.fill.new.checks (λ i. (c.type_inv.checks i).fits)) word c.fill.ensures

@@ -8,4 +8,5 @@ invariant-loop-check l = (k : ℕ) → k < l.check-index → get_or l.checks k 0
 
 abbrev pub invariant-loop-word : goal.invariant-loop-word
 invariant-loop-word l =
-    (x : ℕ) → x < 256 → value (1 ∷ l.generator) x ≡ 0 → value l.checks x ≡ product (value (take l.word-index l.message) x) (power x (length l.generator))
+    (x : ℕ) → x < 256 → value (1 ∷ l.generator) x ≡ 0 →
+    value l.checks x ≡ product (value (take l.word-index l.message) x) (power x (length l.generator))

@@ -7,4 +7,5 @@ pub returns : goal.returns
 returns c = λ x h z.
     ap (λ t. value t x) c.add_multiple.ensures
     ∙ rw c.rotate_left.ensures.after
-    (step_value c.args.checks.now c.args.generator.now c.args.word _ x c.requires.some c.requires.same (omega (arith, c.rotate_left.ensures.len, ap length c.rotate_left.ensures.after)) h z)
+    (step_value c.args.checks.now c.args.generator.now c.args.word _ x c.requires.some c.requires.same
+    (omega (arith, c.rotate_left.ensures.len, ap length c.rotate_left.ensures.after)) h z)

@@ -4,7 +4,8 @@ use Rattle.dm_check_blocks.proofs.symbol.block_word.Goals as goal
 
 pub returns-clause-position : goal.returns-clause-position
 returns-clause-position c =
-    ap (λ t. c.args.word * t + c.args.block) c.blocks-2.ensures.value ∙ sym (position-closed c.args.size c.args.block c.args.word)
+    ap (λ t. c.args.word * t + c.args.block) c.blocks-2.ensures.value ∙
+    sym (position-closed c.args.size c.args.block c.args.word)
 
 pub returns-clause-in_symbol : goal.returns-clause-in_symbol
 returns-clause-in_symbol c =

@@ -22,6 +22,7 @@ returns-clause-completed c =
     let first : length message ≡ block_data s = simp length-take (omega (arith, c.data_of_block-data.ensures.size)) in
     let parts : block_of s b c.write_checks.new.words ≡ message ++ c.fill.new.checks =
     block_of-parts s b message c.fill.new.checks c.write_checks.new.words first (long ∙ c.requires.length)
-    (λ i h. get_or-take d data' i 0 (omega arith) ∙ c.data_of_block-data.ensures.words i h ∙ sym (c.write_checks.ensures.others (position s b i) (inl (position_in_data s b i c.requires.block h))))
+    (λ i h. get_or-take d data' i 0 (omega arith) ∙ c.data_of_block-data.ensures.words i h ∙
+    sym (c.write_checks.ensures.others (position s b i) (inl (position_in_data s b i c.requires.block h))))
     c.write_checks.ensures.written in
     λ k p q. ap (λ t. value t (power 2 k)) parts ∙ c.fill.ensures k p (omega (arith, zeros))

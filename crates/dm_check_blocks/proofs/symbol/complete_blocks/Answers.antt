@@ -10,8 +10,10 @@ loop-block-preserved c = record {
       below_more _ _
       (λ b h k p q.
       ap (λ t. value t (power 2 k))
-      (block_of_same c.args.size b c.complete_block.new.words c.loop-block.words (let e = c.blocks-block-end.ensures.value in omega arith)
-      (λ at e. c.complete_block.ensures.others at (inr (λ f. let n : b ≢ c.loop-block.block = omega arith in n (sym e ∙ f)))))
+      (block_of_same c.args.size b c.complete_block.new.words c.loop-block.words
+      (let e = c.blocks-block-end.ensures.value in omega arith)
+      (λ at e. c.complete_block.ensures.others at
+      (inr (λ f. let n : b ≢ c.loop-block.block = omega arith in n (sym e ∙ f)))))
       ∙ c.loop-block.invariant.completed b h k p q)
       c.complete_block.ensures.completed;
   bytes = c.complete_block.ensures.bytes;

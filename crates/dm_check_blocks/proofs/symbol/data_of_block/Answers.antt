@@ -14,6 +14,7 @@ loop-i-preserved c =
     record {
       size = simp length-set c.loop-i.invariant.size;
       read =
-          gathered_more c.loop-i.data c.args.words.now (position c.args.size c.args.block) c.loop-i.i _ (omega (arith, c.loop-i.invariant.size))
+          gathered_more c.loop-i.data c.args.words.now (position c.args.size c.args.block) c.loop-i.i _
+          (omega (arith, c.loop-i.invariant.size))
           (ap (λ t. get_or c.args.words.now t 0) c.block_word.ensures.position) c.loop-i.invariant.read;
     }

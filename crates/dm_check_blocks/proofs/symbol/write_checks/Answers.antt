@@ -11,6 +11,7 @@ loop-k-preserved c =
     c.block_word.ensures.position
     ∙ ap (λ t. position s b (t + k)) c.block_data-data.ensures.value in
     rw place (record {
-      written = written_more s b k c.loop-k.words c.args.checks.now (let l = c.block_word.ensures.in_symbol in omega (arith, sym place)) c.loop-k.invariant.written;
+      written = written_more s b k c.loop-k.words c.args.checks.now (let l = c.block_word.ensures.in_symbol in
+          omega (arith, sym place)) c.loop-k.invariant.written;
       others = λ p h. others_more s b k p _ c.loop-k.words c.requires.block h ∙ c.loop-k.invariant.others p h;
     })

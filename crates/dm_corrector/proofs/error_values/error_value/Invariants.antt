@@ -9,6 +9,7 @@ use Rattle.dm_corrector.proofs.error_values.error_value.Given as goal
 abbrev pub invariant-loop-index : goal.invariant-loop-index
 invariant-loop-index l = record {
   size : length l.sums ≡ 35;
-  sums : (w : List ℕ) → AreSyndromes (length l.syndromes) (numbers l.syndromes) w → (k : ℕ) → k + l.index ≤ length l.roots → get_or l.sums k 0 ≡ moment (weigh (others l.at (take l.index l.roots)) w) (suc k);
+  sums : (w : List ℕ) → AreSyndromes (length l.syndromes) (numbers l.syndromes) w → (k : ℕ) →
+      k + l.index ≤ length l.roots → get_or l.sums k 0 ≡ moment (weigh (others l.at (take l.index l.roots)) w) (suc k);
   scale : l.scale ≡ product (others l.at (take l.index l.roots) (power 2 l.at)) (power 2 l.at);
 }

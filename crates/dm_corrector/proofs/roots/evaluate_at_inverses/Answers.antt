@@ -10,4 +10,6 @@ loop-coefficient-init c = c.requires.zeros
 pub loop-coefficient-preserved : goal.loop-coefficient-preserved
 loop-coefficient-preserved c = λ place l.
     c.add_coefficient.ensures place (omega arith)
-    ∙ value-more c.args.polynomial.now (record { 0 = 0 }) c.loop-coefficient.coefficient-index _ _ c.loop-coefficient-test.true (omega arith) (c.loop-coefficient.invariant place l)
+    ∙ value-more c.args.polynomial.now
+    (record { 0 = 0 }) c.loop-coefficient.coefficient-index _ _ c.loop-coefficient-test.true (omega arith)
+    (c.loop-coefficient.invariant place l)

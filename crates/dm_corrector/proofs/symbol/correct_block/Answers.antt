@@ -13,7 +13,8 @@ on_any_err (Ok v) p = tt
 on_any_err (Err e) p = p
 
 -- what one call of `gather` and one of `scatter` make of a correction
-carried : (s : Size) (checks b : ℕ) (old new block after : List ℕ) → checks ≡ block_checks s → block ≡ block_of s b old → after ≡ block_of s b new →
+carried : (s : Size) (checks b : ℕ) (old new block after : List ℕ) → checks ≡ block_checks s →
+    block ≡ block_of s b old → after ≡ block_of s b new →
     Corrects checks block after → Corrects (block_checks s) (block_of s b old) (block_of s b new)
 carried s checks b old new block after n e f c =
     let P : ℕ → Type 0 = λ m. Corrects m (block_of s b old) (block_of s b new) in
@@ -30,7 +31,8 @@ returns-in_err-changed-clause-none c = on_any_err c.from_residual.result (λ w r
     let longest : block_length s ≤ 243 = t.longest_block in
     let m : length c.gather.new.block ≡ block_length s = c.gather.auto.block ∙ simp length-take (omega arith) in
     let before : c.gather.new.block ≡ block_of s b c.args.words.now =
-    is_block s b c.args.words.now c.gather.new.block t m (λ i l. c.gather.ensures i (simp length-take (omega arith)) ∙ ap (λ k. get_or c.args.words.now (i * k + b) 0) c.blocks-blocks.ensures.value) in
+    is_block s b c.args.words.now c.gather.new.block t m (λ i l. c.gather.ensures i (simp length-take (omega arith)) ∙
+    ap (λ k. get_or c.args.words.now (i * k + b) 0) c.blocks-blocks.ensures.value) in
     let checks : c.block_checks.result ≡ block_checks s = c.block_checks.ensures.value in
     c.in_err-changed.ensures.none w (rw (checks, before) r))
 
@@ -57,10 +59,14 @@ returns-clause-near c =
     let m : length c.gather.new.block ≡ block_length s = c.gather.auto.block ∙ simp length-take (omega arith) in
     let same : length c.correct.new.block ≡ length c.gather.new.block = c.correct.auto.block in
     let before : c.gather.new.block ≡ block_of s b c.args.words.now =
-    is_block s b c.args.words.now c.gather.new.block t m (λ i l. c.gather.ensures i (simp length-take (omega arith)) ∙ ap (λ k. get_or c.args.words.now (i * k + b) 0) c.blocks-blocks.ensures.value) in
+    is_block s b c.args.words.now c.gather.new.block t m (λ i l. c.gather.ensures i (simp length-take (omega arith)) ∙
+    ap (λ k. get_or c.args.words.now (i * k + b) 0) c.blocks-blocks.ensures.value) in
     let after : c.correct.new.block ≡ block_of s b c.scatter.new.words =
-    is_block s b c.scatter.new.words c.correct.new.block t (same ∙ m) (λ i l. sym (c.scatter.ensures.own i (omega arith)) ∙ ap (λ k. get_or c.scatter.new.words (i * k + b) 0) c.blocks-blocks.ensures.value) in
-    carried s _ b c.args.words.now c.scatter.new.words c.gather.new.block c.correct.new.block c.block_checks.ensures.value before after c.in_ok-changed.ensures.near
+    is_block s b c.scatter.new.words c.correct.new.block t
+    (same ∙ m) (λ i l. sym (c.scatter.ensures.own i (omega arith)) ∙
+    ap (λ k. get_or c.scatter.new.words (i * k + b) 0) c.blocks-blocks.ensures.value) in
+    carried s _ b c.args.words.now c.scatter.new.words c.gather.new.block c.correct.new.block
+    c.block_checks.ensures.value before after c.in_ok-changed.ensures.near
 
 pub returns-clause-others : goal.returns-clause-others
 returns-clause-others c = λ b l d.
@@ -70,7 +76,8 @@ returns-clause-others c = λ b l d.
     (λ i h.
     let m : (i * blocks s + b) % blocks s ≡ b = mod-mul-add i (blocks s) b l in
     block_of-at s b c.scatter.new.words i t h
-    ∙ c.scatter.ensures.others (i * blocks s + b) (λ e. d (sym m ∙ ap (λ n. (i * blocks s + b) % n) (sym c.blocks-blocks.ensures.value) ∙ e)))
+    ∙ c.scatter.ensures.others (i * blocks s + b) (λ e. d (sym m ∙
+    ap (λ n. (i * blocks s + b) % n) (sym c.blocks-blocks.ensures.value) ∙ e)))
 
 pub returns-clause-changed : goal.returns-clause-changed
 returns-clause-changed c = λ before same e.
@@ -81,10 +88,15 @@ returns-clause-changed c = λ before same e.
     let longest : block_length s ≤ 243 = t.longest_block in
     let m : length c.gather.new.block ≡ block_length s = c.gather.auto.block ∙ simp length-take (omega arith) in
     let kept : length c.correct.new.block ≡ length c.gather.new.block = c.correct.auto.block in
-    let move : (words : List ℕ) (k : ℕ) → get_or words (k * c.blocks-blocks.result + b) 0 ≡ get_or words (k * blocks s + b) 0 = λ words k. ap (λ n. get_or words (k * n + b) 0) c.blocks-blocks.ensures.value in
-    let alike : (k : ℕ) → k < block_length s → get_or c.args.words.now (k * c.blocks-blocks.result + b) 0 ≡ get_or before (k * c.blocks-blocks.result + b) 0 =
-    λ k l. move c.args.words.now k ∙ sym (block_of-at s b c.args.words.now k t l) ∙ ap (λ x. get_or x k 0) (sym e) ∙ block_of-at s b before k t l ∙ sym (move before k) in
-    let gathered : (k : ℕ) → k < length c.gather.new.block → get_or c.gather.new.block k 0 ≡ get_or c.args.words.now (k * c.blocks-blocks.result + b) 0 =
+    let move : (words : List ℕ) (k : ℕ) → get_or words (k * c.blocks-blocks.result + b) 0 ≡ get_or words
+    (k * blocks s + b) 0 = λ words k. ap (λ n. get_or words (k * n + b) 0) c.blocks-blocks.ensures.value in
+    let alike : (k : ℕ) → k < block_length s →
+    get_or c.args.words.now (k * c.blocks-blocks.result + b) 0 ≡ get_or before (k * c.blocks-blocks.result + b) 0 =
+    λ k l. move c.args.words.now k ∙ sym (block_of-at s b c.args.words.now k t l) ∙ ap (λ x. get_or x k 0) (sym e) ∙
+    block_of-at s b before k t l ∙ sym (move before k) in
+    let gathered : (k : ℕ) → k < length c.gather.new.block →
+    get_or c.gather.new.block k 0 ≡ get_or c.args.words.now (k * c.blocks-blocks.result + b) 0 =
     λ k l. c.gather.ensures k (simp length-take (omega arith)) in
-    c.scatter.ensures.changed before c.gather.new.block same (sym kept) (λ k l. gathered k l ∙ alike k (omega arith)) gathered
+    c.scatter.ensures.changed before c.gather.new.block same (sym kept) (λ k l. gathered k l ∙
+    alike k (omega arith)) gathered
     ∙ ap (λ v. differ before c.args.words.now + v) (sym c.in_ok-changed.ensures.changed)

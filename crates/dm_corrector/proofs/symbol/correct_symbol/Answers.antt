@@ -14,7 +14,8 @@ pub returns-in-Err-clause-first : goal.returns-in-Err-clause-first
 returns-in-Err-clause-first c =
     let s = c.args.size in
     let k = c.loop-block.block in
-    let inside : k < blocks s = (let e : c.blocks-blocks.result ≡ blocks s = c.blocks-blocks.ensures.value in let l : k < c.blocks-blocks.result = c.loop-block-test.true in omega arith) in
+    let inside : k < blocks s = (let e : c.blocks-blocks.result ≡ blocks s = c.blocks-blocks.ensures.value in
+    let l : k < c.blocks-blocks.result = c.loop-block-test.true in omega arith) in
     let P : List ℕ → Type 0 = λ v. (w : List ℕ) → Corrects (block_checks s) v w → ⊥ in
     record {
       in_range = inside;
@@ -32,7 +33,8 @@ returns-clause-only c = λ w r.
     same_symbol s w new t r.count c.loop-block.invariant.count
     (λ b l.
     let n : length (block_of s b c.args.words.now) ≡ block_length s = length-block_of s b c.args.words.now in
-    one_correction (block_checks s) (block_of s b c.args.words.now) (block_of s b new) (block_of s b w) (omega arith) (c.loop-block.invariant.done b (omega arith)) (r.each_block b l))
+    one_correction (block_checks s) (block_of s b c.args.words.now) (block_of s b new) (block_of s b w) (omega arith)
+    (c.loop-block.invariant.done b (omega arith)) (r.each_block b l))
     ∙ sym c.copy_from_slice-2.ensures.after
 
 pub loop-block-init : goal.loop-block-init
@@ -47,13 +49,19 @@ pub overflow_add-changed : goal.overflow_add-changed
 overflow_add-changed c =
     let s = c.args.size in
     let k = c.loop-block.block in
-    let inside : k < blocks s = (let e : c.blocks-blocks.result ≡ blocks s = c.blocks-blocks.ensures.value in let l : k < c.blocks-blocks.result = c.loop-block-test.true in omega arith) in
-    let same : length c.args.words.now ≡ length c.loop-block.corrected = c.requires ∙ sym c.loop-block.invariant.count in
-    let sum : differ c.args.words.now c.correct_block.new.words ≡ differ c.args.words.now c.loop-block.corrected + c.in-Ok.words_changed =
+    let inside : k < blocks s = (let e : c.blocks-blocks.result ≡ blocks s = c.blocks-blocks.ensures.value in
+    let l : k < c.blocks-blocks.result = c.loop-block-test.true in omega arith) in
+    let same : length c.args.words.now ≡ length c.loop-block.corrected = c.requires ∙
+    sym c.loop-block.invariant.count in
+    let sum : differ c.args.words.now c.correct_block.new.words ≡ differ c.args.words.now
+    c.loop-block.corrected + c.in-Ok.words_changed =
     c.in-Ok.ensures.changed c.args.words.now same (sym (c.loop-block.invariant.rest k (omega arith) inside)) in
-    let so_far : c.loop-block.changed ≡ differ c.args.words.now c.loop-block.corrected = c.loop-block.invariant.changed in
-    let most : length c.args.words.now ≤ 1800 = (let e : length c.args.words.now ≡ all_words s = c.requires in let h : all_words s ≤ 1800 = c.blocks-blocks.ensures.sound.most_words in omega arith) in
-    let few : c.loop-block.changed + c.in-Ok.words_changed ≤ 1800 = omega (arith, differ_le c.args.words.now c.correct_block.new.words) in
+    let so_far : c.loop-block.changed ≡ differ c.args.words.now c.loop-block.corrected =
+    c.loop-block.invariant.changed in
+    let most : length c.args.words.now ≤ 1800 = (let e : length c.args.words.now ≡ all_words s = c.requires in
+    let h : all_words s ≤ 1800 = c.blocks-blocks.ensures.sound.most_words in omega arith) in
+    let few : c.loop-block.changed + c.in-Ok.words_changed ≤ 1800 =
+    omega (arith, differ_le c.args.words.now c.correct_block.new.words) in
     omega arith
 
 pub returns-clause-block_words : goal.returns-clause-block_words
@@ -62,6 +70,7 @@ returns-clause-block_words c =
     let e : c.blocks-blocks.result ≡ blocks s = c.blocks-blocks.ensures.value in
     rw c.copy_from_slice-2.ensures.after (record {
       count = c.loop-block.invariant.count;
-      bytes = all_bytes c.copy_from_slice-2.new.self c.loop-block.corrected c.copy_from_slice-2.ensures.after (λ k. (c.type_inv.words k).fits);
+      bytes = all_bytes c.copy_from_slice-2.new.self c.loop-block.corrected c.copy_from_slice-2.ensures.after
+          (λ k. (c.type_inv.words k).fits);
       block_words = λ b l. (c.loop-block.invariant.done b (omega arith)).block_word;
     })

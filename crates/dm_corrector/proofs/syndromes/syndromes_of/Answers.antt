@@ -21,8 +21,10 @@ loop-word-preserved c =
       count = omega arith;
       values = λ k l.
           c.add_coefficient.ensures k (omega arith)
-          ∙ ap (λ j. bit_xor (product (get_or c.loop-word.sums k 0) (power 2 j)) (get_or c.args.block.now c.loop-word.word-index 0)) (let e : 1 + k ≡ suc k = omega arith in e)
-          ∙ value_more c.args.block.now c.loop-word.word-index (power 2 (suc k)) _ c.loop-word-test.true (omega arith) (c.loop-word.invariant.values k l);
+          ∙ ap (λ j. bit_xor (product (get_or c.loop-word.sums k 0) (power 2 j))
+          (get_or c.args.block.now c.loop-word.word-index 0)) (let e : 1 + k ≡ suc k = omega arith in e)
+          ∙ value_more c.args.block.now c.loop-word.word-index (power 2 (suc k)) _ c.loop-word-test.true (omega arith)
+          (c.loop-word.invariant.values k l);
     }
 
 pub returns-clause-bytes : goal.returns-clause-bytes

@@ -5,10 +5,15 @@ use Rattle.dm_encodation.proofs.AsciiWords.{ascii-digits, ascii-character, ascii
 use Rattle.dm_encodation.proofs.ascii.first_piece.Goals as goal
 
 pub returns-then-begins_with_digits-clause-words : goal.returns-then-begins_with_digits-clause-words
-returns-then-begins_with_digits-clause-words c = rw take_rest (ascii-digits c.args.bytes.now (sym c.if-begins_with_digits.ensures))
+returns-then-begins_with_digits-clause-words c =
+    rw take_rest (ascii-digits c.args.bytes.now (sym c.if-begins_with_digits.ensures))
 
 pub returns-then-bytes-lt128-clause-words : goal.returns-then-bytes-lt128-clause-words
-returns-then-bytes-lt128-clause-words c = rw take_rest (ascii-character c.args.bytes.now (eqb-false _ _ (sym c.if-is_empty.ensures)) (sym c.if-begins_with_digits.ensures) c.if-bytes-lt128.true)
+returns-then-bytes-lt128-clause-words c =
+    rw take_rest (ascii-character c.args.bytes.now (eqb-false _ _ (sym c.if-is_empty.ensures))
+    (sym c.if-begins_with_digits.ensures) c.if-bytes-lt128.true)
 
 pub returns-else-bytes-lt128-clause-words : goal.returns-else-bytes-lt128-clause-words
-returns-else-bytes-lt128-clause-words c = rw take_rest (ascii-upper c.args.bytes.now (eqb-false _ _ (sym c.if-is_empty.ensures)) (sym c.if-begins_with_digits.ensures) c.if-bytes-lt128.false)
+returns-else-bytes-lt128-clause-words c =
+    rw take_rest (ascii-upper c.args.bytes.now (eqb-false _ _ (sym c.if-is_empty.ensures))
+    (sym c.if-begins_with_digits.ensures) c.if-bytes-lt128.false)

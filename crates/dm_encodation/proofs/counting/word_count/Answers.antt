@@ -4,7 +4,9 @@ use Rattle.dm_encodation.proofs.Counters.{small}
 use Rattle.dm_encodation.proofs.counting.word_count.Goals as goal
 
 pub with-counter-requires : goal.with-counter-requires
-with-counter-requires c = small c.args.scheme (take c.loop-byte.byte-index c.args.bytes.now) c.loop-byte.counter (simp length-take (omega arith)) c.loop-byte.invariant
+with-counter-requires c = small c.args.scheme (take c.loop-byte.byte-index c.args.bytes.now) c.loop-byte.counter
+    (simp length-take (omega arith)) c.loop-byte.invariant
 
 pub words-requires : goal.words-requires
-words-requires c = small c.args.scheme (take c.loop-byte.byte-index c.args.bytes.now) c.loop-byte.counter (simp length-take (omega arith)) c.loop-byte.invariant
+words-requires c = small c.args.scheme (take c.loop-byte.byte-index c.args.bytes.now) c.loop-byte.counter
+    (simp length-take (omega arith)) c.loop-byte.invariant

@@ -7,5 +7,6 @@ use Rattle.dm_encodation.proofs.decoding.collect.Given as goal
 abbrev pub invariant-loop-at : goal.invariant-loop-at
 invariant-loop-at g l = record {
   mode : IsMode l.mode (l.at + 1);
-  so_far : prepend l.out.items (reading l.mode (l.at + 1) (drop l.at l.words)) ≡ reading Ascii (l.from + 1) (drop l.from l.words);
+  so_far : prepend l.out.items (reading l.mode (l.at + 1) (drop l.at l.words)) ≡ reading Ascii
+      (l.from + 1) (drop l.from l.words);
 }

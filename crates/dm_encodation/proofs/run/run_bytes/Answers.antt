@@ -12,12 +12,14 @@ loop-index-preserved c =
     let t = c.args.letters in
     let bytes = c.args.bytes.now in
     let i = c.loop-index.index in
-    let over = over_more t bytes i c.loop-index.over c.values_in.result c.loop-index-test.true c.values_in.ensures.exact c.loop-index.invariant.over in
+    let over = over_more t bytes i c.loop-index.over c.values_in.result c.loop-index-test.true c.values_in.ensures.exact
+    c.loop-index.invariant.over in
     record {
       over = over;
       whole = elim c.if-over-eq0.branch [
         | then-over-eq0 w ↦ w.whole-is ∙ whole_more t bytes i _ c.loop-index-test.true over w.if-over-eq0.true
-        | else-over-eq0 w ↦ w.whole-is ∙ c.loop-index.invariant.whole ∙ whole_same t bytes i _ c.loop-index-test.true over w.if-over-eq0.false
+        | else-over-eq0 w ↦ w.whole-is ∙ c.loop-index.invariant.whole ∙
+            whole_same t bytes i _ c.loop-index-test.true over w.if-over-eq0.false
       ];
     }
 

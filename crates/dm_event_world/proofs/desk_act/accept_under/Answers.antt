@@ -16,4 +16,5 @@ returns-clause-made g c =
 pub returns-clause-ready : goal.returns-clause-ready
 returns-clause-ready g c =
     ready_again _ c.args.stop c.args.desk.now c.accept-answer.result c.set_next-2.new.self
-    (λ was mid call. accepts_keeps c.args.grid.now was c.accept-answer.result mid call) (returns-clause-made g c) c.requires
+    (λ was mid call. accepts_keeps c.args.grid.now was c.accept-answer.result mid call)
+    (returns-clause-made g c) c.requires

@@ -12,7 +12,8 @@ returns-then-not-is_stopping-clause-acts g c =
     imports_running c.args.bytes.now c.args.stop c.in-Running.desk c.args.state.now c.reply_to_import.result
     (Running c.import_under-answer.new.desk) c.in-Running.is
     (call_answers _ import_reply (Err import_fault.Memory) c.args.stop c.in-Running.desk c.import_under-answer.result
-    c.import_under-answer.new.desk c.reply_to_import.result (Running c.import_under-answer.new.desk) c.import_under-answer.ensures.made
+    c.import_under-answer.new.desk c.reply_to_import.result
+    (Running c.import_under-answer.new.desk) c.import_under-answer.ensures.made
     (c.is_stopping.ensures.no c.if-not-is_stopping.true) c.reply_to_import.ensures refl)
 
 pub returns-then-import_lacks_memory-clause-acts : goal.returns-then-import_lacks_memory-clause-acts
@@ -20,16 +21,20 @@ returns-then-import_lacks_memory-clause-acts g c =
     imports_running c.args.bytes.now c.args.stop c.in-Running.desk c.args.state.now Memory
     (Running c.import_under-answer.new.desk) c.in-Running.is
     (call_lacks_memory _ import_reply (Err import_fault.Memory) c.args.stop c.in-Running.desk
-    c.import_under-answer.result c.import_under-answer.new.desk Memory (Running c.import_under-answer.new.desk) c.import_under-answer.ensures.made
+    c.import_under-answer.result c.import_under-answer.new.desk Memory
+    (Running c.import_under-answer.new.desk) c.import_under-answer.ensures.made
     (sym c.is_stopped_before.ensures ∙ c.if-is_stopped_before.false)
-    (c.is_stopping.ensures.yes.0 c.if-not-is_stopping.false) (c.import_lacks_memory.ensures.0 c.if-import_lacks_memory.true) refl refl)
+    (c.is_stopping.ensures.yes.0 c.if-not-is_stopping.false)
+    (c.import_lacks_memory.ensures.0 c.if-import_lacks_memory.true) refl refl)
 
 pub returns-clause-acts : goal.returns-clause-acts
 returns-clause-acts g c =
     imports_running c.args.bytes.now c.args.stop c.in-Running.desk c.args.state.now Stopped
     c.take_down-2.new.state c.in-Running.is
-    (call_stops_after _ import_reply (Err import_fault.Memory) c.args.stop c.in-Running.desk c.import_under-answer.result
+    (call_stops_after _ import_reply
+    (Err import_fault.Memory) c.args.stop c.in-Running.desk c.import_under-answer.result
     c.import_under-answer.new.desk Stopped c.take_down-2.new.state c.import_under-answer.ensures.made
     (sym c.is_stopped_before.ensures ∙ c.if-is_stopped_before.false)
     (c.is_stopping.ensures.yes.0 c.if-not-is_stopping.false)
-    (λ lacks. let yes = c.import_lacks_memory.ensures.1 lacks in let no = c.if-import_lacks_memory.false in cc) refl c.take_down-2.ensures)
+    (λ lacks. let yes = c.import_lacks_memory.ensures.1 lacks in let no = c.if-import_lacks_memory.false in
+    cc) refl c.take_down-2.ensures)

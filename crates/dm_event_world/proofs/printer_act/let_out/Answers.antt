@@ -9,8 +9,10 @@ loop-before-preserved g c =
     let given = ap (λ (job : JobView). job.labels) c.in-Some.ensures in
     record {
       room = search rules;
-      out = one_more c.id-id.result c.count-count.result c.loop-before.before c.args.most c.in-Some.grid c.next_label.new.self.labels
+      out = one_more c.id-id.result c.count-count.result c.loop-before.before c.args.most c.in-Some.grid
+          c.next_label.new.self.labels
           c.loop-before.job.labels c.loop-before.labels.items c.push_reserved.new.self.items
-          (c.args.labels.now.items ++ left_labels c.id-id.result c.count-count.result 1 (take c.args.most c.args.job.labels))
+          (c.args.labels.now.items ++ left_labels c.id-id.result c.count-count.result 1
+          (take c.args.most c.args.job.labels))
           c.loop-before-test.true given c.push_reserved.ensures.items c.loop-before.invariant.out;
     }

@@ -5,7 +5,8 @@ use Rattle.dm_event_world.proofs.printer_act.print_at.Goals as goal
 pub let_out-requires : goal.let_out-requires
 let_out-requires g c =
     let prints = c.in-Ok.ensures.prints.call in
-    let few : length c.in-Ok.job.labels ≤ 16 = few_labels c.args.size c.args.scheme prints.1 c.in-Ok.job prints.3.job_is in
+    let few : length c.in-Ok.job.labels ≤ 16 =
+    few_labels c.args.size c.args.scheme prints.1 c.in-Ok.job prints.3.job_is in
     record { room = omega arith }
 
 pub returns-in-Ok-clause-prints : goal.returns-in-Ok-clause-prints
@@ -20,7 +21,8 @@ returns-in-Ok-clause-prints g c =
       after_is = called.after_is;
       tells = (
         (cc),
-        all_out c.args.size c.args.scheme called.call.1 job c.count-count.result c.args.labels.now.items c.let_out.new.labels.items
+        all_out c.args.size c.args.scheme called.call.1 job c.count-count.result c.args.labels.now.items
+            c.let_out.new.labels.items
             called.call.3.job_is c.count-count.ensures c.let_out.ensures,
       );
     }

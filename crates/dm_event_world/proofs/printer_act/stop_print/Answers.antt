@@ -14,5 +14,6 @@ returns-in_default-clause-stops g c = (
 pub let_out-requires : goal.let_out-requires
 let_out-requires g c =
     let prints = c.in-Ok.ensures.prints.call in
-    let few : length c.in-Ok.job.labels ≤ 16 = few_labels c.args.size c.args.scheme prints.1 c.in-Ok.job prints.3.job_is in
+    let few : length c.in-Ok.job.labels ≤ 16 =
+    few_labels c.args.size c.args.scheme prints.1 c.in-Ok.job prints.3.job_is in
     record { room = omega arith }

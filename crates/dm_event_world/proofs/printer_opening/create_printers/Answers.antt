@@ -18,17 +18,21 @@ loop-number-preserved g c =
       count = search rules;
       room = search rules;
       fresh = one_more c.args.ranges.now c.loop-number.printers.items c.push_reserved.new.self.items _ _ number last
-          c.push_reserved.ensures.items here (created_fresh g.row.A.Denot c.new.result number _ c.in-Ok.printer c.new.ensures c.in-Ok.ensures.ok)
+          c.push_reserved.ensures.items here
+          (created_fresh g.row.A.Denot c.new.result number _ c.in-Ok.printer c.new.ensures c.in-Ok.ensures.ok)
           c.loop-number.invariant.fresh;
     }
 
 pub returns-clause-ready : goal.returns-clause-ready
 returns-clause-ready g c =
-    let count : length c.loop-number.printers.items ≡ length c.args.ranges.now = omega (arith, c.loop-number.printers.ok.0) in
-    fresh_ready c.args.ranges.now c.loop-number.printers.items (record { count = count; each = c.loop-number.invariant.fresh })
+    let count : length c.loop-number.printers.items ≡ length c.args.ranges.now =
+    omega (arith, c.loop-number.printers.ok.0) in
+    fresh_ready c.args.ranges.now c.loop-number.printers.items
+    (record { count = count; each = c.loop-number.invariant.fresh })
 
 pub returns-clause-few : goal.returns-clause-few
 returns-clause-few g c =
-    let count : length c.loop-number.printers.items ≡ length c.args.ranges.now = omega (arith, c.loop-number.printers.ok.0) in
+    let count : length c.loop-number.printers.items ≡ length c.args.ranges.now =
+    omega (arith, c.loop-number.printers.ok.0) in
     let few : length c.args.ranges.now ≤ 64516 = few_ranges c.args.ranges.now c.requires.ranges c.requires.disjoint in
     omega arith

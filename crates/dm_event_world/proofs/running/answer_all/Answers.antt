@@ -8,11 +8,13 @@ loop-event-preserved g c =
     let i = c.loop-event.event-index in
     let there : i < length c.args.events.now = omega arith in
     let more : take (i + 1) c.args.events.now ≡ take i c.args.events.now ++ c.event-item.result ∷ [] =
-    take_more c.args.events.now i c.event-item.result there ∙ ap (λ x. take i c.args.events.now ++ x ∷ []) (sym c.event-item.is) in
+    take_more c.args.events.now i c.event-item.result there ∙
+    ap (λ x. take i c.args.events.now ++ x ∷ []) (sym c.event-item.is) in
     record {
       count = search rules;
       room = search rules;
       answers = rw (more, c.push_reserved.ensures.items)
           (answers_more c.args.world.now c.loop-event.world c.answer_one.new.world (take i c.args.events.now)
-          c.loop-event.answers.items c.event-item.result c.answer_one.result c.loop-event.invariant.answers c.answer_one.ensures);
+          c.loop-event.answers.items c.event-item.result c.answer_one.result c.loop-event.invariant.answers
+          c.answer_one.ensures);
     }

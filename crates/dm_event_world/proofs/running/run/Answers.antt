@@ -8,12 +8,17 @@ loop-event-preserved g c =
     let i = c.loop-event.event-index in
     let there : i < length c.args.events.now = omega arith in
     let more : take (i + 1) c.args.events.now ≡ take i c.args.events.now ++ c.event-item.result ∷ [] =
-    take_more c.args.events.now i c.event-item.result there ∙ ap (λ x. take i c.args.events.now ++ x ∷ []) (sym c.event-item.is) in
+    take_more c.args.events.now i c.event-item.result there ∙
+    ap (λ x. take i c.args.events.now ++ x ∷ []) (sym c.event-item.is) in
     record {
       count = search rules;
       room = search rules;
-      runs = rw (more, c.push_reserved.ensures.items) (runs_more c.args.world.now c.loop-event.world c.step.new.self (take i c.args.events.now)
-          c.loop-event.replies.items c.event-item.result c.step.result c.loop-event.invariant.runs c.step.ensures.steps);
-      goes_on = rw (more, c.push_reserved.ensures.items) (goes_on_more c.args.world.now c.loop-event.world c.step.new.self (take i c.args.events.now)
-          c.loop-event.replies.items c.event-item.result c.step.result c.loop-event.invariant.goes_on c.step.ensures.goes_on);
+      runs = rw (more, c.push_reserved.ensures.items) (runs_more c.args.world.now c.loop-event.world c.step.new.self
+          (take i c.args.events.now)
+          c.loop-event.replies.items c.event-item.result c.step.result c.loop-event.invariant.runs
+          c.step.ensures.steps);
+      goes_on = rw (more, c.push_reserved.ensures.items) (goes_on_more c.args.world.now c.loop-event.world
+          c.step.new.self (take i c.args.events.now)
+          c.loop-event.replies.items c.event-item.result c.step.result c.loop-event.invariant.goes_on
+          c.step.ensures.goes_on);
     }

@@ -7,43 +7,58 @@ pub returns-in-Ok-answer_all-clause-headline : goal.returns-in-Ok-answer_all-cla
 returns-in-Ok-answer_all-clause-headline g c = λ k honest.
     (let events = take k c.args.events.now in
     let answers = take k c.in-Ok-answer_all.answers.items in
-    let first = first_answers k c.in-Ok.world c.answer_all.new.world c.args.events.now c.in-Ok-answer_all.answers.items c.in-Ok-answer_all.ensures in
-    let f = c.each_fair_run_is_faithful.ensures c.args.ranges.now c.args.capacities.now c.in-Ok.world first.0 (given events answers) (replies answers)
+    let first = first_answers k c.in-Ok.world c.answer_all.new.world c.args.events.now c.in-Ok-answer_all.answers.items
+    c.in-Ok-answer_all.ensures in
+    let f = c.each_fair_run_is_faithful.ensures c.args.ranges.now c.args.capacities.now c.in-Ok.world first.0
+    (given events answers) (replies answers)
     c.in-Ok.ensures.stands (runs_fairly c.in-Ok.world first.0 events answers first.1 honest) in
     (f.0, f.2))
 
 pub returns-in-Ok-answer_all-clause-once : goal.returns-in-Ok-answer_all-clause-once
 returns-in-Ok-answer_all-clause-once g c =
-    (let p = (c.each_run_prints_once.ensures c.args.ranges.now c.args.capacities.now c.in-Ok.world c.answer_all.new.world
-    (given c.args.events.now c.in-Ok-answer_all.answers.items) (replies c.in-Ok-answer_all.answers.items) c.in-Ok.ensures.stands
-    (runs_by c.in-Ok.world c.answer_all.new.world c.args.events.now c.in-Ok-answer_all.answers.items c.in-Ok-answer_all.ensures)).0 in
+    (let p = (c.each_run_prints_once.ensures c.args.ranges.now c.args.capacities.now c.in-Ok.world
+    c.answer_all.new.world
+    (given c.args.events.now c.in-Ok-answer_all.answers.items)
+    (replies c.in-Ok-answer_all.answers.items) c.in-Ok.ensures.stands
+    (runs_by c.in-Ok.world c.answer_all.new.world c.args.events.now c.in-Ok-answer_all.answers.items
+    c.in-Ok-answer_all.ensures)).0 in
     (p.0, p.2))
 
 pub returns-in-Ok-answer_all-clause-tickets : goal.returns-in-Ok-answer_all-clause-tickets
 returns-in-Ok-answer_all-clause-tickets g c =
     c.each_run_takes_once.ensures c.args.ranges.now c.args.capacities.now c.in-Ok.world c.answer_all.new.world
-    (given c.args.events.now c.in-Ok-answer_all.answers.items) (replies c.in-Ok-answer_all.answers.items) c.in-Ok.ensures.stands
-    (runs_by c.in-Ok.world c.answer_all.new.world c.args.events.now c.in-Ok-answer_all.answers.items c.in-Ok-answer_all.ensures)
+    (given c.args.events.now c.in-Ok-answer_all.answers.items)
+    (replies c.in-Ok-answer_all.answers.items) c.in-Ok.ensures.stands
+    (runs_by c.in-Ok.world c.answer_all.new.world c.args.events.now c.in-Ok-answer_all.answers.items
+    c.in-Ok-answer_all.ensures)
 
 pub returns-in-Ok-answer_all-clause-exports : goal.returns-in-Ok-answer_all-clause-exports
 returns-in-Ok-answer_all-clause-exports g c =
     c.each_run_imports_exports.ensures c.args.ranges.now c.args.capacities.now c.in-Ok.world c.answer_all.new.world
-    (given c.args.events.now c.in-Ok-answer_all.answers.items) (replies c.in-Ok-answer_all.answers.items) c.in-Ok.ensures.stands
-    (runs_by c.in-Ok.world c.answer_all.new.world c.args.events.now c.in-Ok-answer_all.answers.items c.in-Ok-answer_all.ensures)
+    (given c.args.events.now c.in-Ok-answer_all.answers.items)
+    (replies c.in-Ok-answer_all.answers.items) c.in-Ok.ensures.stands
+    (runs_by c.in-Ok.world c.answer_all.new.world c.args.events.now c.in-Ok-answer_all.answers.items
+    c.in-Ok-answer_all.ensures)
 
 pub returns-in-Ok-answer_all-clause-answers : goal.returns-in-Ok-answer_all-clause-answers
 returns-in-Ok-answer_all-clause-answers g c =
-    let once = c.each_run_prints_once.ensures c.args.ranges.now c.args.capacities.now c.in-Ok.world c.answer_all.new.world
-    (given c.args.events.now c.in-Ok-answer_all.answers.items) (replies c.in-Ok-answer_all.answers.items) c.in-Ok.ensures.stands
-    (runs_by c.in-Ok.world c.answer_all.new.world c.args.events.now c.in-Ok-answer_all.answers.items c.in-Ok-answer_all.ensures) in record {
+    let once = c.each_run_prints_once.ensures c.args.ranges.now c.args.capacities.now c.in-Ok.world
+    c.answer_all.new.world
+    (given c.args.events.now c.in-Ok-answer_all.answers.items)
+    (replies c.in-Ok-answer_all.answers.items) c.in-Ok.ensures.stands
+    (runs_by c.in-Ok.world c.answer_all.new.world c.args.events.now c.in-Ok-answer_all.answers.items
+    c.in-Ok-answer_all.ensures) in record {
       old = c.in-Ok.world;
       new = c.answer_all.new.world;
       begins = c.in-Ok.ensures.begins;
       answered = c.in-Ok-answer_all.ensures;
       printed_once = once.0;
       faithful = λ honest.
-          c.each_fair_run_is_faithful.ensures c.args.ranges.now c.args.capacities.now c.in-Ok.world c.answer_all.new.world
-          (given c.args.events.now c.in-Ok-answer_all.answers.items) (replies c.in-Ok-answer_all.answers.items) c.in-Ok.ensures.stands
-          (runs_fairly c.in-Ok.world c.answer_all.new.world c.args.events.now c.in-Ok-answer_all.answers.items c.in-Ok-answer_all.ensures honest);
+          c.each_fair_run_is_faithful.ensures c.args.ranges.now c.args.capacities.now c.in-Ok.world
+          c.answer_all.new.world
+          (given c.args.events.now c.in-Ok-answer_all.answers.items)
+          (replies c.in-Ok-answer_all.answers.items) c.in-Ok.ensures.stands
+          (runs_fairly c.in-Ok.world c.answer_all.new.world c.args.events.now c.in-Ok-answer_all.answers.items
+          c.in-Ok-answer_all.ensures honest);
       labels = once.1;
     }

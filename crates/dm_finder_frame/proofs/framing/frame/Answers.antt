@@ -11,4 +11,6 @@ returns g c =
     let n = side c.args.size in
     let grid : List Bool → GridView = λ modules. record { size = c.args.size; modules = modules } in
     let end : c.loop-row.row ≡ n = omega (arith, c.side-side.ensures.value) in
-    c.from_modules.ensures ∙ ap grid (all_filled n c.loop-row.row (grid_module c.args.size c.args.matrix.now) c.loop-row.modules.items end c.loop-row.invariant)
+    c.from_modules.ensures ∙ ap grid
+    (all_filled n c.loop-row.row (grid_module c.args.size c.args.matrix.now) c.loop-row.modules.items end
+    c.loop-row.invariant)

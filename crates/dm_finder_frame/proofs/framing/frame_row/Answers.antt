@@ -8,6 +8,8 @@ use Rattle.std.proofs.Common.{ℕ, set, arith}
 pub loop-column-preserved : goal.loop-column-preserved
 loop-column-preserved g c =
     let s = c.args.size in
-    module_filled (side s) c.args.row c.loop-column.column (grid_module s c.args.matrix.now) c.loop-column.modules _ c.grid_value.result
+    module_filled (side s) c.args.row c.loop-column.column
+    (grid_module s c.args.matrix.now) c.loop-column.modules _ c.grid_value.result
     c.requires.row_in (omega (arith, c.side-side.ensures.value)) c.loop-column.invariant c.grid_value.ensures
-    (ap (λ (n : ℕ). set c.loop-column.modules (c.args.row * n + c.loop-column.column) c.grid_value.result) c.side-side.ensures.value)
+    (ap (λ (n : ℕ). set c.loop-column.modules (c.args.row * n + c.loop-column.column) c.grid_value.result)
+    c.side-side.ensures.value)

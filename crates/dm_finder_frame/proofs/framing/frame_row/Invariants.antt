@@ -5,4 +5,5 @@ use Rattle.dm_finder_frame.specs.inner.Lines.{IsFilledTo}
 use Rattle.dm_finder_frame.proofs.framing.frame_row.Given as goal
 
 abbrev pub invariant-loop-column : goal.invariant-loop-column
-invariant-loop-column g l = IsFilledTo (side l.size) (l.row * side l.size + l.column) (grid_module l.size l.matrix) l.modules
+invariant-loop-column g l = IsFilledTo (side l.size) (l.row * side l.size + l.column) (grid_module l.size l.matrix)
+    l.modules

@@ -13,7 +13,8 @@ pub module-requires-clause-row_in : goal.module-requires-clause-row_in
 module-requires-clause-row_in g c =
     elim c.if-r.branch [
       | then-r w ↦ absurd (let a = w.value-is in let b = c.if-c.false in cc)
-      | else-r w ↦ inner_line c.args.size c.args.lines.now c.args.row c.args.matrix.now.side _ c.requires.lines c.requires.row_in c.requires.same_side w.if-r.false
+      | else-r w ↦ inner_line c.args.size c.args.lines.now c.args.row c.args.matrix.now.side _ c.requires.lines
+          c.requires.row_in c.requires.same_side w.if-r.false
     ]
 
 pub module-requires-clause-column_in : goal.module-requires-clause-column_in
@@ -21,6 +22,7 @@ module-requires-clause-column_in g c =
     elim c.if-r.branch [
       | then-r w ↦ absurd (let a = w.value-is in let b = c.if-c.false in cc)
       | else-r w ↦
-          inner_line c.args.size c.args.lines.now c.args.column c.args.matrix.now.side _ c.requires.lines c.requires.column_in c.requires.same_side
+          inner_line c.args.size c.args.lines.now c.args.column c.args.matrix.now.side _ c.requires.lines
+          c.requires.column_in c.requires.same_side
           (sym w.value-is ∙ c.if-c.false)
     ]

@@ -7,5 +7,6 @@ use Rattle.dm_finder_frame.proofs.unframing.unframe_row.Given as goal
 abbrev pub invariant-loop-column : goal.invariant-loop-column
 invariant-loop-column g l = record {
   side : l.matrix.side ≡ mapping l.grid.size;
-  filled : IsFilledTo (mapping l.grid.size) (l.row * mapping l.grid.size + l.column) (matrix_module l.grid) l.matrix.modules;
+  filled : IsFilledTo (mapping l.grid.size) (l.row * mapping l.grid.size + l.column) (matrix_module l.grid)
+      l.matrix.modules;
 }

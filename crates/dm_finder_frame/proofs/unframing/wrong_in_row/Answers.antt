@@ -13,10 +13,12 @@ use Rattle.dm_finder_frame.proofs.unframing.wrong_in_row.Goals.{then-is_wrong_at
 is_test : (g : GridView) (r c : ℕ) → c < side g.size → is_wrong_at g r c ≡ is_wrong g (r * side g.size + c)
 is_test g r c hc =
     let n = side g.size in
-    sym (ap (λ (x : ℕ). is_wrong_at g x ((r * n + c) % n)) (div-mul-add r n c hc) ∙ ap (λ (x : ℕ). is_wrong_at g r x) (mod-mul-add r n c hc))
+    sym (ap (λ (x : ℕ). is_wrong_at g x ((r * n + c) % n)) (div-mul-add r n c hc) ∙
+    ap (λ (x : ℕ). is_wrong_at g r x) (mod-mul-add r n c hc))
 
 -- one module more is counted
-counts : (g : GridView) (first n a b : ℕ) (t : Bool) → a ≡ wrong_among g first n → t ≡ is_wrong g (first + n) → b ≡ a + cond t 1 0
+counts : (g : GridView) (first n a b : ℕ) (t : Bool) → a ≡ wrong_among g first n → t ≡ is_wrong g (first + n) →
+    b ≡ a + cond t 1 0
     → b ≡ wrong_among g first (n + 1)
 counts g first n a b t ea et eb =
     let e = one_more g first n in
@@ -34,8 +36,10 @@ loop-column-preserved k c =
     let is = c.is_wrong_at.ensures ∙ is_test g r n (omega (arith, c.side-column-end.ensures.value)) in
     record {
       counted = elim c.if-is_wrong_at.branch [
-        | then-is_wrong_at w ↦ counts g first n c.loop-column.wrong c.if-is_wrong_at.wrong true i.counted (sym w.if-is_wrong_at.true ∙ is) w.wrong-is
-        | else-is_wrong_at w ↦ counts g first n c.loop-column.wrong c.if-is_wrong_at.wrong false i.counted (sym w.if-is_wrong_at.false ∙ is) (w.wrong-is ∙ sym (add-zero c.loop-column.wrong))
+        | then-is_wrong_at w ↦ counts g first n c.loop-column.wrong c.if-is_wrong_at.wrong true i.counted
+            (sym w.if-is_wrong_at.true ∙ is) w.wrong-is
+        | else-is_wrong_at w ↦ counts g first n c.loop-column.wrong c.if-is_wrong_at.wrong false i.counted
+            (sym w.if-is_wrong_at.false ∙ is) (w.wrong-is ∙ sym (add-zero c.loop-column.wrong))
       ];
       most = elim c.if-is_wrong_at.branch [ then-is_wrong_at w ↦ omega arith | else-is_wrong_at w ↦ omega arith ];
     }

@@ -32,7 +32,8 @@ returns-in_default g c =
 pub returns-in_err-read_raster : goal.returns-in_err-read_raster
 returns-in_err-read_raster g c =
     let size = c.in_ok-width.ensures in
-    let p = err_from_is_err_and c.from_residual-in_err-read_raster.result c.from_residual-in_err-read_raster.ensures.1 in
+    let p = err_from_is_err_and c.from_residual-in_err-read_raster.result
+    c.from_residual-in_err-read_raster.ensures.1 in
     let stops = c.in_err-read_raster.ensures in
     rw (p.1, p.2) (
       size.0 ++ stops.0,

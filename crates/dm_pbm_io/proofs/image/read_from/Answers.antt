@@ -10,8 +10,11 @@ returns-in_err-image g c =
     let p = err_from_is_err_and c.from_residual-in_err-image.result c.from_residual-in_err-image.ensures.1 in
     let start = rw c.in-Some.is at c.in_ok-plain.ensures in
     let stops = c.in_err-image.ensures in
-    rw (p.1, p.2)
-    (magic c.in-Some.plain ++ stops.0, until-trans _ _ _ _ _ _ start stops.1, after_magic c.in-Some.plain stops.0 refl stops.2)
+    rw (p.1, p.2) (
+      magic c.in-Some.plain ++ stops.0,
+      until-trans _ _ _ _ _ _ start stops.1,
+      after_magic c.in-Some.plain stops.0 refl stops.2,
+    )
 
 pub returns : goal.returns
 returns g c =

@@ -9,4 +9,5 @@ returns-then-image-lt3-clause-shape g c = λ e. too_narrow (picture c.args.image
 
 pub from_modules-requires : goal.from_modules-requires
 from_modules-requires g c =
-    ap length c.in_ok-modules_of.ensures ∙ length-inside (picture c.args.image.now) ∙ ap (λ n. n * n) (sym c.in-Some.ensures.found)
+    ap length c.in_ok-modules_of.ensures ∙ length-inside (picture c.args.image.now) ∙
+    ap (λ n. n * n) (sym c.in-Some.ensures.found)

@@ -12,4 +12,5 @@ returns-clause-image g c =
     let wide : c.side-side.result + 2 ≡ side grid.size + 2 = ap (λ n. n + 2) is in
     let end : c.loop-row.row ≡ c.side-side.result = omega arith in
     same_picture _ _ wide wide
-    (drawn_pixels (square_of grid) (side grid.size + 2) c.loop-row.row c.loop-row.pixels.items refl (end ∙ is) c.loop-row.invariant) refl
+    (drawn_pixels (square_of grid) (side grid.size + 2) c.loop-row.row c.loop-row.pixels.items refl
+    (end ∙ is) c.loop-row.invariant) refl

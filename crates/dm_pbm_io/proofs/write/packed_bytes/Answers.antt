@@ -17,7 +17,11 @@ loop-at-preserved c =
       done = i.done
           ∙ ap (λ t. c.loop-at.bytes.items ++ t) (packed_step (stride
           (length c.args.piece.now)) c.loop-at.at c.loop-at.rest.now (omega arith))
-          ∙ rw (c.push.ensures.items, c.byte_of.ensures, c.after_byte-rest.ensures) (sym (append_assoc c.loop-at.bytes.items _ _));
+          ∙ rw (
+            c.push.ensures.items,
+            c.byte_of.ensures,
+            c.after_byte-rest.ensures,
+          ) (sym (append_assoc c.loop-at.bytes.items _ _));
       count = c.push.ensures.len ∙ ap (λ n. n + 1) i.count;
     }
 

@@ -19,12 +19,14 @@ word_at_cells-requires-clause-room g c =
 pub word_at_cells-requires-clause-in_matrix : goal.word_at_cells-requires-clause-in_matrix
 word_at_cells-requires-clause-in_matrix g c =
     subst (λ (n : ℕ). AllIn n c.cells-cells.result.now) (sym c.requires.same_side)
-    (subst (λ (l : List Cell). AllIn (mapping c.args.layout.now) l) (sym c.cells-cells.ensures) (all_in_bits c.args.layout.now))
+    (subst (λ (l : List Cell). AllIn (mapping c.args.layout.now) l) (sym c.cells-cells.ensures)
+    (all_in_bits c.args.layout.now))
 
 pub loop-k-preserved : goal.loop-k-preserved
 loop-k-preserved g c =
     let f : ℕ → ℕ = λ word. word_from c.args.matrix.now (bit_cells (mapping c.args.layout.now)) (8 * word) in
-    let same : c.word_at_cells.result ≡ f c.loop-k.k = c.word_at_cells.ensures ∙ ap (λ (l : List Cell). word_from c.args.matrix.now l (8 * c.loop-k.k)) c.cells-cells.ensures in
+    let same : c.word_at_cells.result ≡ f c.loop-k.k = c.word_at_cells.ensures ∙
+    ap (λ (l : List Cell). word_from c.args.matrix.now l (8 * c.loop-k.k)) c.cells-cells.ensures in
     c.in_ok-push.ensures.items ∙ ap (λ (xs : List ℕ). xs ++ c.word_at_cells.result ∷ []) c.loop-k.invariant
     ∙ ap (λ (b : ℕ). map f (range_with_len 0 c.loop-k.k) ++ b ∷ []) same
     ∙ sym (map-range_with_len_more f 0 c.loop-k.k c.loop-k.k (zero-add c.loop-k.k))

@@ -19,7 +19,8 @@ loop-i-init g c =
     let n = mapping c.args.layout.now in
     let side : c.mapping.result ≡ n = c.mapping.ensures.value ∙ ap mapping c.size.ensures in
     let blank = c.in_ok-matrix.ensures ∙ ap (λ (k : ℕ). with_dark (light_square k) (dark_cells k)) side in
-    subst (λ (m : Square). Placing n c.args.words.now m 0) (sym blank) (placing_start n c.args.words.now (side_is_sound c.args.layout.now).eight)
+    subst (λ (m : Square). Placing n c.args.words.now m 0) (sym blank)
+    (placing_start n c.args.words.now (side_is_sound c.args.layout.now).eight)
 
 pub bounds-words-i : goal.bounds-words-i
 bounds-words-i g c =
@@ -48,13 +49,16 @@ loop-i-preserved g c =
     let w = get_or c.args.words.now (c.loop-i.i / 8) 0 in
     let b = eqb (bit_and (w / 2 ^ (7 - c.loop-i.i % 8)) 1) 1 in
     let bit = ap (λ v. eqb v 1) (shr_and_one w (7 - c.loop-i.i % 8)) in
-    let written = subst (λ (l : List Cell). c.set.new.self ≡ with_module c.loop-i.matrix (get_or l c.loop-i.i (cell_at 0 0)).row (get_or l c.loop-i.i (cell_at 0 0)).column b) e c.set.ensures in
-    placing_step (mapping c.args.layout.now) c.args.words.now c.loop-i.matrix c.set.new.self c.loop-i.i b (tiled_size c.args.layout.now) c.loop-i.invariant lt bit written
+    let written = subst (λ (l : List Cell). c.set.new.self ≡ with_module c.loop-i.matrix
+    (get_or l c.loop-i.i (cell_at 0 0)).row (get_or l c.loop-i.i (cell_at 0 0)).column b) e c.set.ensures in
+    placing_step (mapping c.args.layout.now) c.args.words.now c.loop-i.matrix c.set.new.self c.loop-i.i b
+    (tiled_size c.args.layout.now) c.loop-i.invariant lt bit written
 
 pub returns : goal.returns
 returns g c =
     let e = ap length c.cells-cells.ensures in
     record {
       placed = placed_only c.args.layout.now c.args.words.now c.loop-i.matrix (tiled_size c.args.layout.now)
-          (placing_end (mapping c.args.layout.now) c.args.words.now c.loop-i.matrix c.loop-i.i (omega (arith, e)) c.loop-i.invariant);
+          (placing_end (mapping c.args.layout.now) c.args.words.now c.loop-i.matrix c.loop-i.i
+          (omega (arith, e)) c.loop-i.invariant);
     }

@@ -9,7 +9,8 @@ returns-then-bytes-ne13-clause-none c = λ l sound e. c.if-bytes-ne13.true (ap l
 pub returns-then-not-is_sound-clause-none : goal.returns-then-not-is_sound-clause-none
 returns-then-not-is_sound-clause-none c =
     first_not_sound c.args.bytes.now c.number_at.result c.number_at-2.result c.number_at-3.result
-    c.number_at.ensures c.number_at-2.ensures c.number_at-3.ensures (λ s. grind (arith, s, c.is_sound.ensures, c.if-not-is_sound.true))
+    c.number_at.ensures c.number_at-2.ensures c.number_at-3.ensures
+    (λ s. grind (arith, s, c.is_sound.ensures, c.if-not-is_sound.true))
 
 pub returns-else-eq-clause-none : goal.returns-else-eq-clause-none
 returns-else-eq-clause-none c =

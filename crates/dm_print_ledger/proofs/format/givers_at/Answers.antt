@@ -5,7 +5,8 @@ use Rattle.dm_print_ledger.proofs.format.givers_at.Goals as goal
 
 pub loop-i-preserved : goal.loop-i-preserved
 loop-i-preserved c = record {
-  all = pairs_step make_giver c.args.bytes.now c.args.at c.loop-i.i c.args.count c.number_at-number.result c.number_at-serial.result
+  all = pairs_step make_giver c.args.bytes.now c.args.at c.loop-i.i c.args.count c.number_at-number.result
+      c.number_at-serial.result
       c.loop-i.givers.items c.push.new.self.items _ (omega arith) c.push.ensures.items c.number_at-number.ensures
       c.number_at-serial.ensures c.loop-i.invariant.all;
   len = omega arith;

@@ -8,7 +8,8 @@ returns-in_default-clause-none c = λ l sound e. c.in_default.ensures.none (size
 
 pub returns-then-not-is_sound-clause-none : goal.returns-then-not-is_sound-clause-none
 returns-then-not-is_sound-clause-none c =
-    not_sound c.args.bytes.now c.in-Some.ledger c.in-Some.ensures.some (λ s. grind (arith, s, c.is_sound.ensures, c.if-not-is_sound.true))
+    not_sound c.args.bytes.now c.in-Some.ledger c.in-Some.ensures.some
+    (λ s. grind (arith, s, c.is_sound.ensures, c.if-not-is_sound.true))
 
 pub returns-else-eq-clause-none : goal.returns-else-eq-clause-none
 returns-else-eq-clause-none c =

@@ -13,6 +13,7 @@ invariant-loop-end g l = record {
   rest : PartsFit l.layout l.scheme l.document l.from (drop l.end-index l.ends);
   -- whatever completes the labels of the rest completes all
   so_far : (tail : List GridView) →
-      AreLabels l.layout l.scheme l.id (length l.ends) l.m (parts_from l.document l.from (drop l.end-index l.ends)) tail →
+      AreLabels l.layout l.scheme l.id (length l.ends) l.m
+      (parts_from l.document l.from (drop l.end-index l.ends)) tail →
       AreLabels l.layout l.scheme l.id (length l.ends) 1 (parts_from l.document 0 l.ends) (l.labels.items ++ tail);
 }

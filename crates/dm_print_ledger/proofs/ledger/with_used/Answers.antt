@@ -9,7 +9,8 @@ use Rattle.dm_print_ledger.proofs.ledger.with_used.Goals as goal
 pub unreachable-requires : goal.unreachable-requires
 unreachable-requires c =
     let free = c.as_slice.ensures.value ∙ ap (λ (v : LedgerView). v.free) c.ledger.view_is in
-    let few = used_few c.args.ledger.now.free c.args.id c.requires.sound.ranges c.requires.least c.requires.sound.few_ranges in
+    let few = used_few c.args.ledger.now.free c.args.id c.requires.sound.ranges c.requires.least
+    c.requires.sound.few_ranges in
     let many : 64 < length (without c.args.ledger.now.free (single c.args.id)) =
     subst (λ (rs : List Range). 64 < length (without rs (single c.args.id))) free c.in_default.ensures.err in
     omega arith

@@ -11,14 +11,16 @@ returns-in-Ok-clause-ok g c = λ honest.
 
 pub returns-in-Err-Damaged-clause-fault : goal.returns-in-Err-Damaged-clause-fault
 returns-in-Err-Damaged-clause-fault g c = λ honest.
-    subst (λ (f : LedgerFault). IsSomeAnd (g.S.Store.state c.args.store.now).content (λ bytes. HasFault bytes c.args.number f))
+    subst (λ (f : LedgerFault). IsSomeAnd (g.S.Store.state c.args.store.now).content
+    (λ bytes. HasFault bytes c.args.number f))
     c.in-Err-Damaged.field-0-is
     (fault_by_cut _ c.as_slice.result.now c.args.number c.in-Err-Damaged.field-0 (ap Some c.as_slice.ensures.value
     ∙ (rw c.in-Ok-Some.field-0-is at (c.in-Ok-Some.ensures.saved honest))) c.in-Err-Damaged.ensures.fault)
 
 pub returns-in-Ok-Some-clause-fault : goal.returns-in-Ok-Some-clause-fault
 returns-in-Ok-Some-clause-fault g c = λ honest.
-    subst (λ (f : LedgerFault). IsSomeAnd (g.S.Store.state c.args.store.now).content (λ bytes. HasFault bytes c.args.number f))
+    subst (λ (f : LedgerFault). IsSomeAnd (g.S.Store.state c.args.store.now).content
+    (λ bytes. HasFault bytes c.args.number f))
     c.in-Err-Number.field-0-is
     (fault_by_cut _ c.as_slice.result.now c.args.number c.in-Err-Number.field-0 (ap Some c.as_slice.ensures.value
     ∙ (rw c.in-Ok-Some.field-0-is at (c.in-Ok-Some.ensures.saved honest))) c.in-Err-Number.ensures.fault)

@@ -13,11 +13,13 @@ pub loop-i-preserved : goal.loop-i-preserved
 loop-i-preserved c =
     let s = c.args.size in let b = c.args.block in let i = c.loop-i.i in
     let whole = c.block_length-i-end.ensures.value in
-    let more = counted_more s b i c.block_word-at.result c.args.one.now c.args.other.now (omega arith) c.block_word-at.ensures.position in
+    let more = counted_more s b i c.block_word-at.result c.args.one.now c.args.other.now
+    (omega arith) c.block_word-at.ensures.position in
     elim c.if-one-at.branch [
       | then-one-at w ↦ record {
         few = (let f = c.loop-i.invariant.few in omega (arith, w.changed-is));
-        counted = w.changed-is ∙ ap (λ t. t + 1) c.loop-i.invariant.counted ∙ sym (differs _ _ _ w.if-one-at.true) ∙ sym more;
+        counted = w.changed-is ∙ ap (λ t. t + 1) c.loop-i.invariant.counted ∙ sym (differs _ _ _ w.if-one-at.true) ∙
+            sym more;
       }
       | else-one-at w ↦ record {
         few = (let f = c.loop-i.invariant.few in omega (arith, w.changed-is));

@@ -9,6 +9,7 @@ returns-in-Err g c = no_desk c.in-Some.ensures.0 c.in-Err.ensures
 
 pub returns : goal.returns
 returns g c =
-    rw (c.end.ensures.status, c.end.ensures.store, c.end.ensures.set) (opened c.in-Some.id (g.S.Store.state c.in-Ok.opened.store)
+    rw (c.end.ensures.status, c.end.ensures.store, c.end.ensures.set) (opened c.in-Some.id
+    (g.S.Store.state c.in-Ok.opened.store)
     c.in-Ok.opened.desk c.forget-status.new.desk c.in-Some.ensures.0 c.in-Some.ensures.1 c.in-Ok.ensures.0
     (rw c.in-Ok.ensures.1 at c.forget-status.ensures))

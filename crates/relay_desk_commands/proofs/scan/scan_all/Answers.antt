@@ -72,7 +72,8 @@ returns-in-Ok g c =
         end_taken = end.taken;
         end_line = end.line;
         end_refused = c.in-Ok.also;
-        scanned = subst (λ (n : ℕ). ScansImages g.row.A.Denot c.args.desk.now n so_far.images so_far.lines c.loop-count.refused c.loop-count.desk) all so_far.scanned;
+        scanned = subst (λ (n : ℕ). ScansImages g.row.A.Denot c.args.desk.now n so_far.images so_far.lines
+            c.loop-count.refused c.loop-count.desk) all so_far.scanned;
         ended = end.ends;
         consumed = Consumes-trans _ _ _ _ _ so_far.consumed end.consumed;
         appended = Appends-trans _ _ _ _ _ so_far.appended end.appended;

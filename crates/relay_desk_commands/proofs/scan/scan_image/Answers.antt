@@ -88,7 +88,8 @@ returns-in_err-put_accepted-in-Ok-accept-clause-unsaid g c =
     rw p.1 record {
       line = _;
       refused = _;
-      scans = accepted c.in-Ok.grid c.in-Ok-accept.accepted inside.0 inside.1 (c.in-Ok-accept.ensures.scanned c.requires);
+      scans = accepted c.in-Ok.grid c.in-Ok-accept.accepted inside.0 inside.1
+          (c.in-Ok-accept.ensures.scanned c.requires);
       part = c.put_accepted.ensures.part;
     }
 

@@ -18,9 +18,11 @@ returns-in-Err-open_printer-clause-ends g c =
 
 pub returns-clause-ends : goal.returns-clause-ends
 returns-clause-ends g c =
-    rw c.close-store.ensures (opened c.in-Some.size c.in-Ok.document.items c.in-Ok-open_printer.printer c.print-status.new.printer
+    rw c.close-store.ensures (opened c.in-Some.size c.in-Ok.document.items c.in-Ok-open_printer.printer
+    c.print-status.new.printer
     c.in-Some.ensures.found c.in-Ok.ensures.taken c.in-Ok-open_printer.ensures.0
     (rw (c.in-Ok-open_printer.ensures.1, c.deref.ensures.value) at c.print-status.ensures))
 
 pub returns-clause-line_first : goal.returns-clause-line_first
-returns-clause-line_first g c = rw c.in-Ok-open_printer.ensures.1 at (line_first _ _ _ _ _ _ _ _ _ _ c.print-status.ensures)
+returns-clause-line_first g c = rw c.in-Ok-open_printer.ensures.1 at
+    (line_first _ _ _ _ _ _ _ _ _ _ c.print-status.ensures)

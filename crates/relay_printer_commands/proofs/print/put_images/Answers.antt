@@ -15,15 +15,18 @@ loop-grid-init g c = ([], refl, Appends-nil _)
 
 pub loop-grid-smaller : goal.loop-grid-smaller
 loop-grid-smaller g c =
-    let left : c.loop-grid.job.labels ≡ c.in-Some.grid ∷ c.next_label.new.self.labels = ap (λ j. j.labels) c.in-Some.ensures in
+    let left : c.loop-grid.job.labels ≡ c.in-Some.grid ∷ c.next_label.new.self.labels =
+    ap (λ j. j.labels) c.in-Some.ensures in
     rw left (omega arith)
 
 pub loop-grid-preserved : goal.loop-grid-preserved
 loop-grid-preserved g c =
-    let left : c.loop-grid.job.labels ≡ c.in-Some.grid ∷ c.next_label.new.self.labels = ap (λ j. j.labels) c.in-Some.ensures in
+    let left : c.loop-grid.job.labels ≡ c.in-Some.grid ∷ c.next_label.new.self.labels =
+    ap (λ j. j.labels) c.in-Some.ensures in
     let done = c.loop-grid.invariant.0 in (
       done ++ c.in-Some.grid ∷ [],
-      c.loop-grid.invariant.1 ∙ ap (λ l. done ++ l) left ∙ sym (append_assoc done (c.in-Some.grid ∷ []) c.next_label.new.self.labels),
+      c.loop-grid.invariant.1 ∙ ap (λ l. done ++ l) left ∙
+          sym (append_assoc done (c.in-Some.grid ∷ []) c.next_label.new.self.labels),
       rw (flat_map_more p4 [] done c.in-Some.grid) at
           (Appends-trans _ _ _ _ _ c.loop-grid.invariant.2 c.in_ok-put_image.ensures.written),
     )
@@ -43,7 +46,9 @@ images_at labels done rest grid is =
 
 pub returns-in_err-put_image-clause-part : goal.returns-in_err-put_image-clause-part
 returns-in_err-put_image-clause-part g c =
-    let left : c.loop-grid.job.labels ≡ c.in-Some.grid ∷ c.next_label.new.self.labels = ap (λ j. j.labels) c.in-Some.ensures in
+    let left : c.loop-grid.job.labels ≡ c.in-Some.grid ∷ c.next_label.new.self.labels =
+    ap (λ j. j.labels) c.in-Some.ensures in
     let done = c.loop-grid.invariant.0 in
     let all = images_at _ done _ c.in-Some.grid (c.loop-grid.invariant.1 ∙ ap (λ l. done ++ l) left) in
-    subst (AppendsPart _ _) (sym all) (part_after _ _ _ _ _ c.loop-grid.invariant.2 (part_more _ _ _ _ c.put_image.ensures.part))
+    subst (AppendsPart _ _) (sym all)
+    (part_after _ _ _ _ _ c.loop-grid.invariant.2 (part_more _ _ _ _ c.put_image.ensures.part))

@@ -9,12 +9,14 @@ returns-in-Err-Write g c =
     no_line c.in-Err-Write.ensures.failed (rw (c.id.ensures, c.count.ensures) at c.in-Err-Write.ensures.part)
 
 pub returns-in-Ok-put_images : goal.returns-in-Ok-put_images
-returns-in-Ok-put_images g c = all (rw (c.id.ensures, c.count.ensures) at c.in-Ok.ensures.written) c.in-Ok-put_images.ensures.written
+returns-in-Ok-put_images g c =
+    all (rw (c.id.ensures, c.count.ensures) at c.in-Ok.ensures.written) c.in-Ok-put_images.ensures.written
 
 pub returns-in-Err : goal.returns-in-Err
 returns-in-Err g c =
     some_are_lost c.args.job.labels (printed_line c.args.job.id c.args.job.count c.args.left) c.args.output.now
-    c.args.errors.now c.put_printed.new.output c.put_images.new.output c.refuse.new.output c.refuse.result c.in-Err.fault
+    c.args.errors.now c.put_printed.new.output c.put_images.new.output c.refuse.new.output c.refuse.result
+    c.in-Err.fault
     (λ e. c.in-Err.ensures.memory (ap Err e)) (λ e. c.in-Err.ensures.write (ap Err e)) c.in-Err.ensures.part
     (rw (c.id.ensures, c.count.ensures) at c.in-Ok.ensures.written)
     (rw c.name.ensures at c.refuse.ensures)

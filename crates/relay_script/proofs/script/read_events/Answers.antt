@@ -12,15 +12,18 @@ use Rattle.relay_script.proofs.script.read_events.Goals as goal
 
 pub loop-line-preserved : goal.loop-line-preserved
 loop-line-preserved g c =
-    let grown : c.push.new.self.items ≡ c.loop-line.events.items ++ c.in_ok-event.event ∷ [] = grind (arith, common_steps) in
-    rw grown (one_more_read (λ line. line.now) SpellsEventLine _ _ _ _ _ c.loop-line-test.true c.loop-line.invariant (record {
+    let grown : c.push.new.self.items ≡ c.loop-line.events.items ++ c.in_ok-event.event ∷ [] =
+    grind (arith, common_steps) in
+    rw grown (one_more_read (λ line. line.now) SpellsEventLine _ _ _ _ _ c.loop-line-test.true c.loop-line.invariant
+    (record {
       words = c.in_ok-words.words.items;
       words_are = c.in_ok-words.ensures;
       spells = rw c.deref.ensures.value at c.in_ok-event.ensures;
     }))
 
 pub returns-clause-events : goal.returns-clause-events
-returns-clause-events g c = all_read (λ line. line.now) SpellsEventLine _ _ _ c.loop-line-test.false c.loop-line.invariant
+returns-clause-events g c = all_read (λ line. line.now) SpellsEventLine _ _ _ c.loop-line-test.false
+    c.loop-line.invariant
 
 pub returns-clause-few : goal.returns-clause-few
 returns-clause-few g c =

@@ -19,7 +19,8 @@ returns g c =
     let found = rw (c.deref-2.ensures.value, c.len.ensures, many) at c.in-Some.ensures.lookup in
     let parts = rw (sym found.1) at (parts_of (λ line. line.now) lines n c.in-Some.line.now found.3.0) in
     let ranges = rw c.deref.ensures.value at c.in_ok-ranges.ensures.ranges in
-    let events = rw (c.deref-3.ensures.value, c.len-2.ensures, many, take_rest lines (n + 1)) at c.in_ok-events.ensures.events in
+    let events = rw (c.deref-3.ensures.value, c.len-2.ensures, many, take_rest lines (n + 1)) at
+    c.in_ok-events.ensures.events in
     record {
       range_lines = take n (map (λ line. line.now) lines);
       desks_line = c.in-Some.line.now.now;
@@ -45,7 +46,8 @@ returns-in_err-ranges g c =
     let blamed : c.in_err-ranges.field-0.0 ≡ Blamed = cc in
     let others = rw c.in-Ok.ensures.cases.0 at c.in_ok-lines.ensures.no_others in
     let none = rw c.deref.ensures.value at c.in_err-ranges.ensures.no_ranges in
-    none (ap Err blamed) fits.range_lines fits.event_lines fits.desks_line script.ranges.items (its_lines c.args.bytes.now _ script others fits)
+    none (ap Err blamed) fits.range_lines fits.event_lines fits.desks_line script.ranges.items
+    (its_lines c.args.bytes.now _ script others fits)
     fits.ranges fits.some_printers fits.few_printers (desks_no_range _ _ _ fits.desks.spells))
 
 pub returns-in_default-get : goal.returns-in_default-get
@@ -56,13 +58,15 @@ returns-in_default-get g c = λ script fits.
     let past = rw (c.deref-2.ensures.value, c.len.ensures, many) at c.in_default-get.ensures.lookup.3 in
     let others = rw c.in-Ok.ensures.cases.0 at c.in_ok-lines.ensures.no_others in
     let ranges = rw c.deref.ensures.value at c.in_ok-ranges.ensures.ranges in
-    let below = its_ranges c.args.bytes.now (map (λ line. line.now) lines) script n c.in_ok-ranges.ranges.items others ranges fits in
+    let below = its_ranges c.args.bytes.now (map (λ line. line.now) lines) script n c.in_ok-ranges.ranges.items others
+    ranges fits in
     absurd (omega (arith, past, below, length-map lines (λ line. line.now)))
 
 pub returns-in_err-capacities : goal.returns-in_err-capacities
 returns-in_err-capacities g c =
     refused_as _ (IsScript c.args.bytes.now) c.from_residual-in_err-capacities.ensures.0 (λ refused script fits.
-    let exit = err_from_is_err_and c.from_residual-in_err-capacities.result c.from_residual-in_err-capacities.ensures.1 in
+    let exit = err_from_is_err_and c.from_residual-in_err-capacities.result
+    c.from_residual-in_err-capacities.ensures.1 in
     let blamed : c.in_err-capacities.field-0.0 ≡ Blamed = cc in
     let none = rw blamed at c.in_err-capacities.ensures in
     let lines = c.in_ok-lines.lines.items in
@@ -73,7 +77,8 @@ returns-in_err-capacities g c =
     let others = rw c.in-Ok.ensures.cases.0 at c.in_ok-lines.ensures.no_others in
     let ranges = rw c.deref.ensures.value at c.in_ok-ranges.ensures.ranges in
     let next = rw c.deref.ensures.value at c.in_ok-ranges.ensures.next in
-    let same = its_parts c.args.bytes.now (map (λ line. line.now) lines) script n c.in_ok-ranges.ranges.items _ _ others ranges
+    let same = its_parts c.args.bytes.now (map (λ line. line.now) lines) script n c.in_ok-ranges.ranges.items _ _
+    others ranges
     (λ below. next found.3.0) (rw (length-map lines (λ line. line.now)) found.3.0) parts fits in
     none script.capacities (rw same.0 at fits.desks))
 
@@ -85,13 +90,15 @@ returns-in_err-events g c =
     let lines = c.in_ok-lines.lines.items in
     let n = length c.in_ok-ranges.ranges.items in
     let many : vec_len c.in_ok-ranges.ranges ≡ n = c.in_ok-ranges.ranges.ok.0 in
-    let none = rw (c.deref-3.ensures.value, c.len-2.ensures, many, take_rest lines (n + 1)) at c.in_err-events.ensures.no_events in
+    let none = rw (c.deref-3.ensures.value, c.len-2.ensures, many, take_rest lines (n + 1)) at
+    c.in_err-events.ensures.no_events in
     let found = rw (c.deref-2.ensures.value, c.len.ensures, many) at c.in-Some.ensures.lookup in
     let parts = rw (sym found.1) at (parts_of (λ line. line.now) lines n c.in-Some.line.now found.3.0) in
     let others = rw c.in-Ok.ensures.cases.0 at c.in_ok-lines.ensures.no_others in
     let ranges = rw c.deref.ensures.value at c.in_ok-ranges.ensures.ranges in
     let next = rw c.deref.ensures.value at c.in_ok-ranges.ensures.next in
-    let same = its_parts c.args.bytes.now (map (λ line. line.now) lines) script n c.in_ok-ranges.ranges.items _ _ others ranges
+    let same = its_parts c.args.bytes.now (map (λ line. line.now) lines) script n c.in_ok-ranges.ranges.items _ _
+    others ranges
     (λ below. next found.3.0) (rw (length-map lines (λ line. line.now)) found.3.0) parts fits in
     let events = rw same.1 at fits.events in
     let few = rw (same.1, length-map (drop (n + 1) lines) (λ line. line.now)) at fits.few_events in

@@ -7,8 +7,10 @@ returns-in_err-row c = rw c.from_residual.ensures (no_cut _ c.in_err-row.ensures
 
 pub returns-in_err-number : goal.returns-in_err-number
 returns-in_err-number c =
-    rw c.from_residual-in_err-number.ensures (no_numbers _ (c.in_ok-row.row, c.in_ok-row.column) c.in_ok-row.ensures.cases (inl c.in_err-number.ensures))
+    rw c.from_residual-in_err-number.ensures
+    (no_numbers _ (c.in_ok-row.row, c.in_ok-row.column) c.in_ok-row.ensures.cases (inl c.in_err-number.ensures))
 
 pub returns-in_err-number-2 : goal.returns-in_err-number-2
 returns-in_err-number-2 c =
-    rw c.from_residual-in_err-number-2.ensures (no_numbers _ (c.in_ok-row.row, c.in_ok-row.column) c.in_ok-row.ensures.cases (inr c.in_err-number-2.ensures))
+    rw c.from_residual-in_err-number-2.ensures
+    (no_numbers _ (c.in_ok-row.row, c.in_ok-row.column) c.in_ok-row.ensures.cases (inr c.in_err-number-2.ensures))

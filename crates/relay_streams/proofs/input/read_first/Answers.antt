@@ -7,12 +7,17 @@ use Rattle.relay_streams.proofs.input.read_first.Goals as goal
 
 pub returns-then-len-limit-clause-taken : goal.returns-then-len-limit-clause-taken
 returns-then-len-limit-clause-taken g c =
-    limit_reached _ _ _ _ c.loop.invariant.consumed (let n = c.loop.taken.ok.0 in omega (arith, c.if-len-limit.true, c.len.ensures, n))
+    limit_reached _ _ _ _ c.loop.invariant.consumed (let n = c.loop.taken.ok.0 in
+    omega (arith, c.if-len-limit.true, c.len.ensures, n))
 
 pub returns-in_err-count-clause-part : goal.returns-in_err-count-clause-part
 returns-in_err-count-clause-part g c =
     let p = err_from_is_err_and c.from_residual.result c.from_residual.ensures.1 in
-    rw p.1 (c.loop.taken.items, Consumes-kept _ _ _ _ c.loop.invariant.consumed c.in_err-count.ensures.bytes, c.loop.invariant.bound)
+    rw p.1 (
+      c.loop.taken.items,
+      Consumes-kept _ _ _ _ c.loop.invariant.consumed c.in_err-count.ensures.bytes,
+      c.loop.invariant.bound,
+    )
 
 pub returns-then-count-eq0-clause-taken : goal.returns-then-count-eq0-clause-taken
 returns-then-count-eq0-clause-taken g c =
@@ -22,9 +27,15 @@ returns-then-count-eq0-clause-taken g c =
 
 pub returns-in_err-extend_from_slice-clause-part : goal.returns-in_err-extend_from_slice-clause-part
 returns-in_err-extend_from_slice-clause-part g c =
-    let p = err_from_is_err_and c.from_residual-in_err-extend_from_slice.result c.from_residual-in_err-extend_from_slice.ensures.1 in
-    rw p.1 (_, Consumes-trans _ _ _ _ _ c.loop.invariant.consumed c.in_ok-count.ensures.bytes.0, search (rules, length-append, length-take))
+    let p = err_from_is_err_and c.from_residual-in_err-extend_from_slice.result
+    c.from_residual-in_err-extend_from_slice.ensures.1 in
+    rw p.1 (
+      _,
+      Consumes-trans _ _ _ _ _ c.loop.invariant.consumed c.in_ok-count.ensures.bytes.0,
+      search (rules, length-append, length-take),
+    )
 
 pub returns-clause-taken : goal.returns-clause-taken
 returns-clause-taken g c =
-    limit_reached _ _ _ _ c.loop.invariant.consumed (let i = c.loop.invariant.turns in let j = c.loop.invariant.bound in omega arith)
+    limit_reached _ _ _ _ c.loop.invariant.consumed (let i = c.loop.invariant.turns in let j = c.loop.invariant.bound in
+    omega arith)

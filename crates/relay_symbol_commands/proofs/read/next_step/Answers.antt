@@ -38,7 +38,8 @@ returns-clause-step g c =
       line = _;
       consumed = stops.1;
       appended = rw c.name.ensures at c.in_ok-put_refusal-in-Err.ensures.written;
-      takes = λ count h. unread c.in-Err.fault h (record { refused = stops.2; failed = λ e. c.in-Err.ensures.failed (ap (λ (f : PbmFault). Err f) e) });
+      takes = λ count h. unread c.in-Err.fault h
+          (record { refused = stops.2; failed = λ e. c.in-Err.ensures.failed (ap (λ (f : PbmFault). Err f) e) });
     }
 
 pub returns-in_err-refused-in-Ok-Some-clause-unsaid : goal.returns-in_err-refused-in-Ok-Some-clause-unsaid

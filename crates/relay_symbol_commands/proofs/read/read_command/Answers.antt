@@ -6,7 +6,13 @@ use Rattle.relay_symbol_commands.specs.Read.PrintsImages.{none, another}
 use Rattle.relay_symbol_commands.proofs.read.read_command.Goals as goal
 
 pub loop-count-init : goal.loop-count-init
-loop-count-init g c = record { images = []; lines = []; printed = none; consumed = Consumes-nil _; appended = Appends-nil _ }
+loop-count-init g c = record {
+  images = [];
+  lines = [];
+  printed = none;
+  consumed = Consumes-nil _;
+  appended = Appends-nil _;
+}
 
 pub returns-in-Ok-End-clause-printed : goal.returns-in-Ok-End-clause-printed
 returns-in-Ok-End-clause-printed g c =

@@ -20,16 +20,21 @@ pub returns-in-Err-clause-line : goal.returns-in-Err-clause-line
 returns-in-Err-clause-line g c =
     let s = c.args.symbol.now in
     let no_head : head_at (symbol_data s) ≡ Err head_faults.NotAppended =
-    subst (λ (f : PageFault). ReadsPage (symbol_data s) (Err f)) (c.is_no_label.ensures.yes c.if-is_no_label.true) c.in-Err.ensures.page in
-    if_ok_follows (λ line. ReadsAsSymbol s (string_bytes line)) (λ line. HasSymbolLine s (string_bytes line)) c.line_of_no_label.result
+    subst (λ (f : PageFault). ReadsPage (symbol_data s) (Err f))
+    (c.is_no_label.ensures.yes c.if-is_no_label.true) c.in-Err.ensures.page in
+    if_ok_follows (λ line. ReadsAsSymbol s (string_bytes line))
+    (λ line. HasSymbolLine s (string_bytes line)) c.line_of_no_label.result
     (λ line h. symbol no_head h) c.line_of_no_label.ensures.line
 
 pub returns-in-Err-clause-refused : goal.returns-in-Err-clause-refused
 returns-in-Err-clause-refused g c =
     let s = c.args.symbol.now in
     let no_head : head_at (symbol_data s) ≡ Err head_faults.NotAppended =
-    subst (λ (f : PageFault). ReadsPage (symbol_data s) (Err f)) (c.is_no_label.ensures.yes c.if-is_no_label.true) c.in-Err.ensures.page in
-    if_err_follows (RefusesText (symbol_data s)) (RefusesSymbolLine s) c.line_of_no_label.result (λ refusal h. text no_head h) c.line_of_no_label.ensures.refused
+    subst (λ (f : PageFault). ReadsPage (symbol_data s) (Err f))
+    (c.is_no_label.ensures.yes c.if-is_no_label.true) c.in-Err.ensures.page in
+    if_err_follows (RefusesText (symbol_data s)) (RefusesSymbolLine s) c.line_of_no_label.result
+    (λ refusal h. text no_head h) c.line_of_no_label.ensures.refused
 
 pub returns-clause-refused : goal.returns-clause-refused
-returns-clause-refused g c = rw c.from.ensures (page c.in-Err.fault (c.is_no_label.ensures.no c.if-is_no_label.false) c.in-Err.ensures.page)
+returns-clause-refused g c = rw c.from.ensures
+    (page c.in-Err.fault (c.is_no_label.ensures.no c.if-is_no_label.false) c.in-Err.ensures.page)

@@ -9,7 +9,8 @@ pub returns-in-Ok-clause-line : goal.returns-in-Ok-clause-line
 returns-in-Ok-clause-line g c =
     let grid = c.args.grid.now in
     let s = c.in-Ok.symbol in
-    if_ok_follows (λ line. HasSymbolLine s (string_bytes line)) (λ line. HasLine grid (string_bytes line)) c.line_of_corrected.result
+    if_ok_follows (λ line. HasSymbolLine s (string_bytes line))
+    (λ line. HasLine grid (string_bytes line)) c.line_of_corrected.result
     (λ line h. line_of_its_grid grid s (string_bytes line) c.in-Ok.ensures.corrects h) c.line_of_corrected.ensures.line
 
 pub returns-in-Ok-clause-refused : goal.returns-in-Ok-clause-refused

@@ -11,7 +11,8 @@ pub returns-in-Ok-clause-line : goal.returns-in-Ok-clause-line
 returns-in-Ok-clause-line g c =
     let p = picture c.args.image.now in
     let inside = c.in-Ok.ensures.grid in
-    if_ok_follows (λ line. HasLine c.in-Ok.grid (string_bytes line)) (λ line. PrintsPicture p (string_bytes line) false) c.line_of_grid.result
+    if_ok_follows (λ line. HasLine c.in-Ok.grid (string_bytes line))
+    (λ line. PrintsPicture p (string_bytes line) false) c.line_of_grid.result
     (λ line h. read c.in-Ok.grid inside.0 inside.1 h) c.line_of_grid.ensures.line
 
 pub returns-in-Ok-clause-refused : goal.returns-in-Ok-clause-refused
@@ -21,7 +22,9 @@ returns-in-Ok-clause-refused g c =
     (λ refusal h. grid c.in-Ok.grid inside.0 inside.1 h) c.line_of_grid.ensures.refused
 
 pub returns-in-Err-Shape-clause-refused : goal.returns-in-Err-Shape-clause-refused
-returns-in-Err-Shape-clause-refused g c = shape (c.grid_of.ensures.shape (rw (c.in-Err-Shape.is, c.in-Err-Shape.field-0-is) refl))
+returns-in-Err-Shape-clause-refused g c =
+    shape (c.grid_of.ensures.shape (rw (c.in-Err-Shape.is, c.in-Err-Shape.field-0-is) refl))
 
 pub returns-in-Err-Memory-clause-refused : goal.returns-in-Err-Memory-clause-refused
-returns-in-Err-Memory-clause-refused g c = memory (c.grid_of.ensures.memory (rw (c.in-Err-Memory.is, c.in-Err-Memory.field-0-is) refl))
+returns-in-Err-Memory-clause-refused g c =
+    memory (c.grid_of.ensures.memory (rw (c.in-Err-Memory.is, c.in-Err-Memory.field-0-is) refl))

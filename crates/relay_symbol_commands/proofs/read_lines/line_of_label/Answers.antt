@@ -9,5 +9,17 @@ pub returns : goal.returns
 returns g c =
     let page = c.args.page.now in
     let symbol = c.args.symbol.now in
-    rw (c.in_ok-push_line_end.ensures, c.in_ok-write.ensures.bytes, c.new-line.ensures.bytes, c.in_ok-id.ensures, c.id.ensures, c.m-m.ensures.same, c.n-n.ensures.same, c.bytes.ensures, c.corrected.ensures, c.wrong.ensures)
-    (label_joined (encode_lower (id_words page.id)) (decimal page.m) (decimal page.n) (line_end symbol.corrected symbol.wrong page.bytes))
+    rw (
+      c.in_ok-push_line_end.ensures,
+      c.in_ok-write.ensures.bytes,
+      c.new-line.ensures.bytes,
+      c.in_ok-id.ensures,
+      c.id.ensures,
+      c.m-m.ensures.same,
+      c.n-n.ensures.same,
+      c.bytes.ensures,
+      c.corrected.ensures,
+      c.wrong.ensures,
+    )
+    (label_joined (encode_lower (id_words page.id)) (decimal page.m) (decimal page.n)
+    (line_end symbol.corrected symbol.wrong page.bytes))

@@ -11,5 +11,6 @@ pub loop-byte-preserved : goal.loop-byte-preserved
 loop-byte-preserved g c =
     let i = c.loop-byte.byte-index in
     let there : i < length c.args.bytes.now = omega arith in
-    rw (take_more c.args.bytes.now i 0 there, hex_more (take i c.args.bytes.now) _) (Appends-trans _ _ _ _ _ c.loop-byte.invariant
+    rw (take_more c.args.bytes.now i 0 there, hex_more (take i c.args.bytes.now) _)
+    (Appends-trans _ _ _ _ _ c.loop-byte.invariant
     (rw c.in-Ok.ensures.written at c.in_ok-put.ensures.written))

@@ -14,7 +14,8 @@ loop-answer-preserved g c =
     let answer = c.answer-item.result in
     let there : i < length c.args.answers.now = omega arith in
     let more : take (i + 1) c.args.answers.now ≡ take i c.args.answers.now ++ answer ∷ [] =
-    take_more c.args.answers.now i answer there ∙ ap (λ x. take i c.args.answers.now ++ x ∷ []) (sym c.answer-item.is) in
+    take_more c.args.answers.now i answer there ∙
+    ap (λ x. take i c.args.answers.now ++ x ∷ []) (sym c.answer-item.is) in
     record {
       written = rw more (rw (flat_map_more answer_line [] (take i c.args.answers.now) answer) at
           (Appends-trans _ _ _ _ _ c.loop-answer.invariant.written c.in_ok-put_answer.ensures.written));

@@ -15,80 +15,153 @@ use Rattle.dm_assembly_desk.proofs.desk.Desk.accept_page.Goals as goal
 
 pub invariant_of-self : goal.invariant_of-self
 invariant_of-self g c =
-    let old : DeskView = record { saved = g.S.StoreSet.state c.self.inside.set; held = c.self.inside.documents; capacity = c.self.inside.capacity; is_failed = c.self.inside.is_failed } in
+    let old : DeskView = record {
+      saved = g.S.StoreSet.state c.self.inside.set;
+      held = c.self.inside.documents;
+      capacity = c.self.inside.capacity;
+      is_failed = c.self.inside.is_failed;
+    } in
     let set : SavedSet = g.S.StoreSet.state c.keep.new.set in
     let p : PageView = c.args.page in
     let running : old.is_failed ≡ false = ap (λ (d : DeskView). d.is_failed) c.self.view_is ∙ c.requires.running in
     let judged : answer old.capacity old.held p ≡ Ok c.in_ok-kind.kind = search rules in
     let other : c.in_ok-kind.kind ≡ Again → ⊥ = search rules in
-    let adding : NeedsSave (answer old.capacity old.held p) = adds (answer old.capacity old.held p) c.in_ok-kind.kind judged other in
+    let adding : NeedsSave (answer old.capacity old.held p) =
+    adds (answer old.capacity old.held p) c.in_ok-kind.kind judged other in
     let fits : p.id < 64516 = search rules in
-    let q : IsPage p = record { id_fits = fits; least = omega arith; most = omega arith; first = omega arith; last = omega arith; short = c.requires.short } in
-    subst (λ (d : Documents). IsInOrder (done_view old set d)) (sym c.in-Ok.ensures.ok) (keeps_order old p set c.self.invariant running q adding c.in-Ok.ensures.replaced)
+    let q : IsPage p = record {
+      id_fits = fits;
+      least = omega arith;
+      most = omega arith;
+      first = omega arith;
+      last = omega arith;
+      short = c.requires.short;
+    } in
+    subst (λ (d : Documents). IsInOrder (done_view old set d)) (sym c.in-Ok.ensures.ok)
+    (keeps_order old p set c.self.invariant running q adding c.in-Ok.ensures.replaced)
 
 pub invariant_of-self-in-Err-Device : goal.invariant_of-self-in-Err-Device
 invariant_of-self-in-Err-Device g c =
-    let old : DeskView = record { saved = g.S.StoreSet.state c.self.inside.set; held = c.self.inside.documents; capacity = c.self.inside.capacity; is_failed = c.self.inside.is_failed } in
+    let old : DeskView = record {
+      saved = g.S.StoreSet.state c.self.inside.set;
+      held = c.self.inside.documents;
+      capacity = c.self.inside.capacity;
+      is_failed = c.self.inside.is_failed;
+    } in
     let set : SavedSet = g.S.StoreSet.state c.keep.new.set in
     let same : c.keep.new.documents ≡ old.held = search rules in
-    subst (λ (d : Documents). IsInOrder (record { saved = set; held = d; capacity = old.capacity; is_failed = true })) (sym same) (fails_order old set c.self.invariant)
+    subst (λ (d : Documents). IsInOrder (record { saved = set; held = d; capacity = old.capacity; is_failed = true }))
+    (sym same) (fails_order old set c.self.invariant)
 
 pub returns-in-Ok-clause-accepts : goal.returns-in-Ok-clause-accepts
 returns-in-Ok-clause-accepts g c =
-    let old : DeskView = record { saved = g.S.StoreSet.state c.self.inside.set; held = c.self.inside.documents; capacity = c.self.inside.capacity; is_failed = c.self.inside.is_failed } in
+    let old : DeskView = record {
+      saved = g.S.StoreSet.state c.self.inside.set;
+      held = c.self.inside.documents;
+      capacity = c.self.inside.capacity;
+      is_failed = c.self.inside.is_failed;
+    } in
     let set : SavedSet = g.S.StoreSet.state c.keep.new.set in
     let p : PageView = c.args.page in
     let running : old.is_failed ≡ false = ap (λ (d : DeskView). d.is_failed) c.self.view_is ∙ c.requires.running in
     let judged : answer old.capacity old.held p ≡ Ok c.in_ok-kind.kind = search rules in
     let other : c.in_ok-kind.kind ≡ Again → ⊥ = search rules in
-    let adding : NeedsSave (answer old.capacity old.held p) = adds (answer old.capacity old.held p) c.in_ok-kind.kind judged other in
+    let adding : NeedsSave (answer old.capacity old.held p) =
+    adds (answer old.capacity old.held p) c.in_ok-kind.kind judged other in
     let fits : p.id < 64516 = search rules in
-    let q : IsPage p = record { id_fits = fits; least = omega arith; most = omega arith; first = omega arith; last = omega arith; short = c.requires.short } in
+    let q : IsPage p = record {
+      id_fits = fits;
+      least = omega arith;
+      most = omega arith;
+      first = omega arith;
+      last = omega arith;
+      short = c.requires.short;
+    } in
     let now : DeskView = done_view old set c.keep.new.documents in
-    let kept : KeepsPage p old now = subst (λ (d : Documents). KeepsPage p old (done_view old set d)) (sym c.in-Ok.ensures.ok) (keeps old p set c.self.invariant running q adding c.in-Ok.ensures.replaced) in (
+    let kept : KeepsPage p old now = subst (λ (d : Documents). KeepsPage p old (done_view old set d))
+    (sym c.in-Ok.ensures.ok) (keeps old p set c.self.invariant running q adding c.in-Ok.ensures.replaced) in (
       record { id_is = c.id.ensures; m_is = c.m.ensures.same; n_is = c.n.ensures.same },
       ap (λ (d : DeskView). answer d.capacity d.held p) (sym c.self.view_is) ∙ judged,
-      changes c.in_ok-kind.kind p c.args.self.now now other (subst (λ (before : DeskView). KeepsPage p before now) c.self.view_is kept),
+      changes c.in_ok-kind.kind p c.args.self.now now other
+          (subst (λ (before : DeskView). KeepsPage p before now) c.self.view_is kept),
     )
 
 pub returns-in-Err-Device-clause-accepts : goal.returns-in-Err-Device-clause-accepts
 returns-in-Err-Device-clause-accepts g c =
-    let old : DeskView = record { saved = g.S.StoreSet.state c.self.inside.set; held = c.self.inside.documents; capacity = c.self.inside.capacity; is_failed = c.self.inside.is_failed } in
+    let old : DeskView = record {
+      saved = g.S.StoreSet.state c.self.inside.set;
+      held = c.self.inside.documents;
+      capacity = c.self.inside.capacity;
+      is_failed = c.self.inside.is_failed;
+    } in
     let set : SavedSet = g.S.StoreSet.state c.keep.new.set in
     let p : PageView = c.args.page in
     let running : old.is_failed ≡ false = ap (λ (d : DeskView). d.is_failed) c.self.view_is ∙ c.requires.running in
     let judged : answer old.capacity old.held p ≡ Ok c.in_ok-kind.kind = search rules in
     let other : c.in_ok-kind.kind ≡ Again → ⊥ = search rules in
-    let adding : NeedsSave (answer old.capacity old.held p) = adds (answer old.capacity old.held p) c.in_ok-kind.kind judged other in
+    let adding : NeedsSave (answer old.capacity old.held p) =
+    adds (answer old.capacity old.held p) c.in_ok-kind.kind judged other in
     let fits : p.id < 64516 = search rules in
-    let q : IsPage p = record { id_fits = fits; least = omega arith; most = omega arith; first = omega arith; last = omega arith; short = c.requires.short } in
+    let q : IsPage p = record {
+      id_fits = fits;
+      least = omega arith;
+      most = omega arith;
+      first = omega arith;
+      last = omega arith;
+      short = c.requires.short;
+    } in
     let same : c.keep.new.documents ≡ old.held = search rules in
-    let replaced : ReplacesKey old.saved p.id (file p.id (pages_with old.held p)) (Err replacing.Device) set = rw c.in-Err-Device.field-0-is at c.in-Err-Device.ensures.replaced in
-    let failed : FailsToKeepPage p old (failed_view old set) = fails_to_keep old p set c.self.invariant running q adding replaced in (
+    let replaced : ReplacesKey old.saved p.id (file p.id (pages_with old.held p)) (Err replacing.Device) set =
+    rw c.in-Err-Device.field-0-is at c.in-Err-Device.ensures.replaced in
+    let failed : FailsToKeepPage p old (failed_view old set) =
+    fails_to_keep old p set c.self.invariant running q adding replaced in (
       subst (λ (before : DeskView). NeedsSave (answer before.capacity before.held p)) c.self.view_is adding,
-      subst (λ (before : DeskView). FailsToKeepPage p before (record { saved = set; held = c.keep.new.documents; capacity = old.capacity; is_failed = true })) c.self.view_is
-          (subst (λ (d : Documents). FailsToKeepPage p old (record { saved = set; held = d; capacity = old.capacity; is_failed = true })) (sym same) failed),
+      subst (λ (before : DeskView). FailsToKeepPage p before
+          (record { saved = set; held = c.keep.new.documents; capacity = old.capacity; is_failed = true }))
+          c.self.view_is
+          (subst (λ (d : Documents). FailsToKeepPage p old
+          (record { saved = set; held = d; capacity = old.capacity; is_failed = true })) (sym same) failed),
     )
 
 pub returns-in-Ok-clause-after : goal.returns-in-Ok-clause-after
 returns-in-Ok-clause-after g c =
-    let old : DeskView = record { saved = g.S.StoreSet.state c.self.inside.set; held = c.self.inside.documents; capacity = c.self.inside.capacity; is_failed = c.self.inside.is_failed } in
+    let old : DeskView = record {
+      saved = g.S.StoreSet.state c.self.inside.set;
+      held = c.self.inside.documents;
+      capacity = c.self.inside.capacity;
+      is_failed = c.self.inside.is_failed;
+    } in
     let set : SavedSet = g.S.StoreSet.state c.keep.new.set in
     let p : PageView = c.args.page in
     let running : old.is_failed ≡ false = ap (λ (d : DeskView). d.is_failed) c.self.view_is ∙ c.requires.running in
     let judged : answer old.capacity old.held p ≡ Ok c.in_ok-kind.kind = search rules in
     let other : c.in_ok-kind.kind ≡ Again → ⊥ = search rules in
-    let adding : NeedsSave (answer old.capacity old.held p) = adds (answer old.capacity old.held p) c.in_ok-kind.kind judged other in
+    let adding : NeedsSave (answer old.capacity old.held p) =
+    adds (answer old.capacity old.held p) c.in_ok-kind.kind judged other in
     let fits : p.id < 64516 = search rules in
-    let q : IsPage p = record { id_fits = fits; least = omega arith; most = omega arith; first = omega arith; last = omega arith; short = c.requires.short } in
-    subst (λ (d : Documents). IsInOrder (done_view old set d)) (sym c.in-Ok.ensures.ok) (keeps_order old p set c.self.invariant running q adding c.in-Ok.ensures.replaced)
+    let q : IsPage p = record {
+      id_fits = fits;
+      least = omega arith;
+      most = omega arith;
+      first = omega arith;
+      last = omega arith;
+      short = c.requires.short;
+    } in
+    subst (λ (d : Documents). IsInOrder (done_view old set d)) (sym c.in-Ok.ensures.ok)
+    (keeps_order old p set c.self.invariant running q adding c.in-Ok.ensures.replaced)
 
 pub returns-in-Err-Device-clause-after : goal.returns-in-Err-Device-clause-after
 returns-in-Err-Device-clause-after g c =
-    let old : DeskView = record { saved = g.S.StoreSet.state c.self.inside.set; held = c.self.inside.documents; capacity = c.self.inside.capacity; is_failed = c.self.inside.is_failed } in
+    let old : DeskView = record {
+      saved = g.S.StoreSet.state c.self.inside.set;
+      held = c.self.inside.documents;
+      capacity = c.self.inside.capacity;
+      is_failed = c.self.inside.is_failed;
+    } in
     let set : SavedSet = g.S.StoreSet.state c.keep.new.set in
     let same : c.keep.new.documents ≡ old.held = search rules in
-    subst (λ (d : Documents). IsInOrder (record { saved = set; held = d; capacity = old.capacity; is_failed = true })) (sym same) (fails_order old set c.self.invariant)
+    subst (λ (d : Documents). IsInOrder (record { saved = set; held = d; capacity = old.capacity; is_failed = true }))
+    (sym same) (fails_order old set c.self.invariant)
 
 pub returns-in-Ok-clause-kept : goal.returns-in-Ok-clause-kept
 returns-in-Ok-clause-kept g c =
@@ -96,7 +169,8 @@ returns-in-Ok-clause-kept g c =
     let p : PageView = c.args.page in
     let judged : answer c.self.inside.capacity held p ≡ Ok c.in_ok-kind.kind = search rules in
     let other : c.in_ok-kind.kind ≡ Again → ⊥ = search rules in
-    let free = can_be_added c.self.inside.capacity held p (adds (answer c.self.inside.capacity held p) c.in_ok-kind.kind judged other) in
+    let free = can_be_added c.self.inside.capacity held p
+    (adds (answer c.self.inside.capacity held p) c.in_ok-kind.kind judged other) in
     let kept : KeepsPages held (with_page held p) = pages_kept held p (omega arith) free in
     subst (λ (d : DeskView). KeepsPages d.held c.keep.new.documents) c.self.view_is
     (subst (λ (d : Documents). KeepsPages held d) (sym c.in-Ok.ensures.ok) kept)

@@ -12,11 +12,16 @@ pub returns-in-Ok-clause-imported : goal.returns-in-Ok-clause-imported
 returns-in-Ok-clause-imported g c = λ running.
     let pages : Pages = map lent_bytes c.in-Ok.entry.pages.items in
     let imports : ImportsFile c.in-Ok.entry.id pages c.args.self.now c.import_pages.result c.import_pages.new.self =
-    subst (λ (xs : Lent). ImportsFile c.in-Ok.entry.id (map lent_bytes xs) c.args.self.now c.import_pages.result c.import_pages.new.self) c.as_slice.ensures.value c.import_pages.ensures.imports in
-    imports_file c.args.bytes.now c.in-Ok.entry.id pages c.args.self.now c.import_pages.result c.import_pages.new.self c.in-Ok.ensures.found imports
+    subst (λ (xs : Lent). ImportsFile c.in-Ok.entry.id
+    (map lent_bytes xs) c.args.self.now c.import_pages.result c.import_pages.new.self) c.as_slice.ensures.value
+    c.import_pages.ensures.imports in
+    imports_file c.args.bytes.now c.in-Ok.entry.id pages c.args.self.now c.import_pages.result c.import_pages.new.self
+    c.in-Ok.ensures.found imports
 
 pub returns-in-Ok-clause-kept : goal.returns-in-Ok-clause-kept
-returns-in-Ok-clause-kept g c = imports_kept c.in-Ok.entry.id (map lent_bytes c.as_slice.result.now) c.args.self.now c.import_pages.result c.import_pages.new.self c.import_pages.ensures.imports
+returns-in-Ok-clause-kept g c =
+    imports_kept c.in-Ok.entry.id (map lent_bytes c.as_slice.result.now) c.args.self.now c.import_pages.result
+    c.import_pages.new.self c.import_pages.ensures.imports
 
 pub returns-in-Err-clause-imported : goal.returns-in-Err-clause-imported
 returns-in-Err-clause-imported g c = λ running.

@@ -6,7 +6,8 @@ pub returns-in-Ascii : goal.returns-in-Ascii
 returns-in-Ascii c = rw c.in-Ascii.is (words-ascii c.in-Ascii.counter)
 
 pub returns-in-Base256 : goal.returns-in-Base256
-returns-in-Base256 c = rw c.in-Base256.is (words-base_256 c.in-Base256.count c.base_256_words.result c.base_256_words.ensures)
+returns-in-Base256 c = rw c.in-Base256.is
+    (words-base_256 c.in-Base256.count c.base_256_words.result c.base_256_words.ensures)
 
 pub returns-in-Run : goal.returns-in-Run
 returns-in-Run c = rw c.in-Run.is (λ scheme bytes counts. c.words.ensures ∙ words-run _ _ scheme bytes counts)

@@ -8,9 +8,13 @@ use Rattle.dm_event_world.proofs.world.World.ask.Goals as goal
 
 pub returns : goal.returns
 returns g c =
-    let desk = read_by c.self.inside.desks.items c.deref.result.now c.args.desk c.in-Some.actor.now c.deref.ensures.value
+    let desk = read_by c.self.inside.desks.items c.deref.result.now c.args.desk c.in-Some.actor.now
+    c.deref.ensures.value
     c.in-Some.ensures.lookup.1 c.in-Some.ensures.lookup.3.0 in
     let there = slice_get_within c.self.inside.desks.items c.args.desk c.in-Some.actor.now desk in
-    subst (λ (w : WorldView _). Steps c.args.self.now (Ask c.args.desk c.args.id) c.ask.result w) c.self.view_is (desk_stays c.self.inside.printers.items c.self.inside.desks.items c.self.inside.labels.items c.self.inside.tickets.items c.self.inside.exports.items
-    c.self.inside.exports.items _ (Ask c.args.desk c.args.id) c.ask.result c.args.desk c.in-Some.actor.now c.self.view_is refl there desk
+    subst (λ (w : WorldView _). Steps c.args.self.now (Ask c.args.desk c.args.id) c.ask.result w) c.self.view_is
+    (desk_stays c.self.inside.printers.items c.self.inside.desks.items c.self.inside.labels.items
+    c.self.inside.tickets.items c.self.inside.exports.items
+    c.self.inside.exports.items _ (Ask c.args.desk c.args.id) c.ask.result c.args.desk c.in-Some.actor.now
+    c.self.view_is refl there desk
     (c.ask.ensures c.self.inside.labels.items c.self.inside.exports.items c.args.desk c.in-Some.actor.now.capacity))

@@ -6,9 +6,11 @@ use Rattle.dm_event_world.proofs.world.World.export.Goals as goal
 
 pub returns : goal.returns
 returns g c =
-    let desk = read_by c.self.inside.desks.items c.deref.result.now c.args.desk c.in-Some.actor.now c.deref.ensures.value
+    let desk = read_by c.self.inside.desks.items c.deref.result.now c.args.desk c.in-Some.actor.now
+    c.deref.ensures.value
     c.in-Some.ensures.lookup.1 c.in-Some.ensures.lookup.3.0 in
     let there = slice_get_within c.self.inside.desks.items c.args.desk c.in-Some.actor.now desk in
-    desk_stays c.self.inside.printers.items c.self.inside.desks.items c.self.inside.labels.items c.self.inside.tickets.items c.self.inside.exports.items
+    desk_stays c.self.inside.printers.items c.self.inside.desks.items c.self.inside.labels.items
+    c.self.inside.tickets.items c.self.inside.exports.items
     c.export.new.exports.items _ _ c.export.result c.args.desk c.in-Some.actor.now c.self.view_is refl there desk
     (c.export.ensures c.self.inside.labels.items c.args.desk c.in-Some.actor.now.capacity)

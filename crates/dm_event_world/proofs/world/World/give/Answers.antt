@@ -5,7 +5,8 @@ use Rattle.dm_event_world.proofs.world.World.give.Goals as goal
 
 pub give-requires : goal.give-requires
 give-requires g c = record {
-  ready = c.self.invariant.0 c.args.printer c.in-Some.actor.now (read_at _ _ _ c.in-Some.ensures.item.3.0 c.in-Some.ensures.value);
+  ready = c.self.invariant.0 c.args.printer c.in-Some.actor.now
+      (read_at _ _ _ c.in-Some.ensures.item.3.0 c.in-Some.ensures.value);
 }
 
 pub invariant_of-self-2 : goal.invariant_of-self-2
@@ -13,7 +14,9 @@ invariant_of-self-2 g c = printer_set _ _ c.args.printer c.give.new.actor c.give
 
 pub returns : goal.returns
 returns g c =
-    printer_steps c.self.inside.printers.items c.self.inside.desks.items c.self.inside.labels.items c.self.inside.labels.items c.self.inside.tickets.items
-    c.give.new.tickets.items c.self.inside.exports.items _ _ c.give.result c.args.printer c.in-Some.actor.now c.give.new.actor
+    printer_steps c.self.inside.printers.items c.self.inside.desks.items c.self.inside.labels.items
+    c.self.inside.labels.items c.self.inside.tickets.items
+    c.give.new.tickets.items c.self.inside.exports.items _ _ c.give.result c.args.printer c.in-Some.actor.now
+    c.give.new.actor
     c.self.view_is refl c.in-Some.ensures.item.3.0 (read_at _ _ _ c.in-Some.ensures.item.3.0 c.in-Some.ensures.value)
     (c.give.ensures.acts c.args.printer c.self.inside.labels.items)

@@ -14,7 +14,11 @@ returns-clause-begins g c = record {
 
 pub returns-clause-stands : goal.returns-clause-stands
 returns-clause-stands g c =
-    rw (c.new.ensures.items, c.new-2.ensures.items, c.new-3.ensures.items) (c.each_beginning_stands.ensures c.args.ranges.now
+    rw (
+      c.new.ensures.items,
+      c.new-2.ensures.items,
+      c.new-3.ensures.items,
+    ) (c.each_beginning_stands.ensures c.args.ranges.now
     c.args.capacities.now c.in-Ok.printers.items c.in-Ok-open_desks.desks.items
     (c.are_disjoint.ensures.0 c.if-not-are_disjoint.false) c.in-Ok.ensures.fresh c.in-Ok-open_desks.ensures.empty)
 

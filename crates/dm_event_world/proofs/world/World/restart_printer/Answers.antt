@@ -11,7 +11,8 @@ overflow_cast-printer g c =
 
 pub restart-requires : goal.restart-requires
 restart-requires g c = record {
-  ready = c.self.invariant.0 c.args.printer c.in-Some.actor.now (read_at _ _ _ c.in-Some.ensures.item.3.0 c.in-Some.ensures.value);
+  ready = c.self.invariant.0 c.args.printer c.in-Some.actor.now
+      (read_at _ _ _ c.in-Some.ensures.item.3.0 c.in-Some.ensures.value);
 }
 
 pub invariant_of-self-2 : goal.invariant_of-self-2
@@ -19,7 +20,9 @@ invariant_of-self-2 g c = printer_set _ _ c.args.printer c.restart.new.actor c.r
 
 pub returns : goal.returns
 returns g c =
-    printer_steps c.self.inside.printers.items c.self.inside.desks.items c.self.inside.labels.items c.self.inside.labels.items c.self.inside.tickets.items
-    c.self.inside.tickets.items c.self.inside.exports.items _ _ c.restart.result c.args.printer c.in-Some.actor.now c.restart.new.actor
+    printer_steps c.self.inside.printers.items c.self.inside.desks.items c.self.inside.labels.items
+    c.self.inside.labels.items c.self.inside.tickets.items
+    c.self.inside.tickets.items c.self.inside.exports.items _ _ c.restart.result c.args.printer c.in-Some.actor.now
+    c.restart.new.actor
     c.self.view_is refl c.in-Some.ensures.item.3.0 (read_at _ _ _ c.in-Some.ensures.item.3.0 c.in-Some.ensures.value)
     (c.restart.ensures.acts c.self.inside.labels.items c.self.inside.tickets.items)

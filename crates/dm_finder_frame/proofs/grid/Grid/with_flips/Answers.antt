@@ -13,5 +13,6 @@ loop-row-preserved k c =
       size = ap (λ (x : GridView). x.size) c.flip.ensures ∙ c.loop-row.invariant.size;
       flipped =
           c.flip.ensures ∙ ap (λ (x : GridView). grid_with_flipped x flip.0 flip.1) c.loop-row.invariant.flipped
-          ∙ sym (next_flip g flips i (0, 0) c.loop-row-test.true) ∙ ap (λ (n : ℕ). flipped g (take n flips)) (sym (add-one i));
+          ∙ sym (next_flip g flips i (0, 0) c.loop-row-test.true) ∙
+          ap (λ (n : ℕ). flipped g (take n flips)) (sym (add-one i));
     }

@@ -7,12 +7,14 @@ use Rattle.dm_print_ledger.proofs.printer.Printer.make_job.Goals as goal
 
 pub make_labels-requires-clause-fit : goal.make_labels-requires-clause-fit
 make_labels-requires-clause-fit g c =
-    subst (λ (ends : List ℕ). PartsFit c.args.size c.args.scheme c.args.document.now 0 ends) (sym c.as_slice-2.ensures.value)
+    subst (λ (ends : List ℕ). PartsFit c.args.size c.args.scheme c.args.document.now 0 ends)
+    (sym c.as_slice-2.ensures.value)
     c.in-Ok.ensures.cut.fit
 
 pub returns-clause-made : goal.returns-clause-made
 returns-clause-made g c =
-    makes c.args.self.now.ledger c.self.inside.ledger c.with_used.result c.args.size c.args.scheme c.args.document.now c.in-Ok.ends.items
+    makes c.args.self.now.ledger c.self.inside.ledger c.with_used.result c.args.size c.args.scheme c.args.document.now
+    c.in-Ok.ends.items
     c.new-job.result c.in-Some.number c.in-Ok.ensures.ends (ap (λ (p : PrinterView). p.ledger) c.self.view_is)
     c.with_used.ensures.used c.with_used.ensures.sound
     (makes_job_of c.args.size c.args.scheme c.in-Some.number c.in-Some-of_number.id c.len.result c.args.document.now

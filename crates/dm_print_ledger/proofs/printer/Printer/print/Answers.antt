@@ -11,13 +11,16 @@ returns-in_err-job-clause-exact g c = λ fault h.
     answered.1 ∙ ap Err (answered.2 ∙ same)
 
 pub returns-in-Ok-clause-exact : goal.returns-in-Ok-clause-exact
-returns-in-Ok-clause-exact g c = λ fault h. absurd (can_print c.args.self.now c.args.size c.args.scheme c.args.document.now fault
+returns-in-Ok-clause-exact g c =
+    λ fault h. absurd (can_print c.args.self.now c.args.size c.args.scheme c.args.document.now fault
     c.in_ok-job.ensures.can h)
 
 pub returns-in-Err-Memory-clause-exact : goal.returns-in-Err-Memory-clause-exact
-returns-in-Err-Memory-clause-exact g c = λ fault h. absurd (can_print c.args.self.now c.args.size c.args.scheme c.args.document.now
+returns-in-Err-Memory-clause-exact g c =
+    λ fault h. absurd (can_print c.args.self.now c.args.size c.args.scheme c.args.document.now
     fault c.in_ok-job.ensures.can h)
 
 pub returns-clause-exact : goal.returns-clause-exact
-returns-clause-exact g c = λ fault h. absurd (can_print c.args.self.now c.args.size c.args.scheme c.args.document.now fault
+returns-clause-exact g c = λ fault
+    h. absurd (can_print c.args.self.now c.args.size c.args.scheme c.args.document.now fault
     c.in_ok-job.ensures.can h)

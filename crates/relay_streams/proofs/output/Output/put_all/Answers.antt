@@ -17,6 +17,8 @@ texts_at f xs i d there =
 pub returns-in_err-put-clause-part : goal.returns-in_err-put-clause-part
 returns-in_err-put-clause-part g c =
     let none : Bor (List ℕ) = record { ref_ptr = (0, 0); now = [] } in
-    let split = texts_at (λ (piece : Bor (List ℕ)). piece.now) c.args.pieces.now c.loop-piece.piece-index none c.loop-piece-test.true in
+    let split = texts_at (λ (piece : Bor (List ℕ)). piece.now) c.args.pieces.now c.loop-piece.piece-index none
+    c.loop-piece-test.true in
     subst (AppendsPart c.args.self.now.contents c.put.new.self.contents) (sym split)
-    (part_after _ c.loop-piece.self.contents _ _ _ c.loop-piece.invariant.written (part_more _ _ _ _ c.put.ensures.part))
+    (part_after _ c.loop-piece.self.contents _ _ _ c.loop-piece.invariant.written
+    (part_more _ _ _ _ c.put.ensures.part))
