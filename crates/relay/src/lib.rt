@@ -22,6 +22,7 @@ mod replay;
 mod standard_error;
 mod standard_streams;
 mod steps;
+mod stuck_writer;
 mod system_steps;
 mod workplace;
 

@@ -59,6 +59,10 @@ impl WorkplaceFault {
 }
 
 impl From<AllocError> for WorkplaceFault {
+    ghost use Rattle.relay.specs.declared.plan.WorkplaceFault.TheVariants as faults;
+
+    ghost from_gives = { λ _ fault. fault ≡ faults.Memory };
+
     fn from(_: AllocError) -> Self {
         WorkplaceFault::Memory
     }

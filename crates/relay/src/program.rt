@@ -6,6 +6,7 @@ use crate::commands::file_of;
 use crate::plan::{Work, work_of};
 use crate::standard_streams::HeldPlaces;
 use crate::steps::{refuses_on_errors, take_steps};
+use crate::stuck_writer::StuckWriter;
 use crate::system_steps::{SystemSteps, refuse_at};
 use relay_line::{Command, LineFault, command_line};
 use std::fs::File;
@@ -40,14 +41,19 @@ fn run_to<R: AllocGlobal + Input + Print + Eprint + Files<File = File> + Clone, 
 }
 
 // Does a command, and answers its exit status. Each line of `read` and `scan` goes out before the next image is waited
-// for; the other outputs go out in large pieces.
+// for; the other outputs go out in large pieces. A buffer writes what it holds again when it is dropped, so the writer
+// below it is one that stays failed.
 fn run_command<R: AllocGlobal + Input + Print + Eprint + Files<File = File> + Clone>(
     rt: &R,
     command: Command,
 ) -> u8 {
     match command {
-        Command::Read | Command::Scan { .. } => run_to(rt, io::writer(rt), command),
-        _ => match BufWriter::new(rt.alloc(), io::writer(rt)) {
+        Command::Read | Command::Scan { .. } => run_to(
+            rt,
+            StuckWriter::new(io::writer(rt)),
+            command,
+        ),
+        _ => match BufWriter::new(rt.alloc(), StuckWriter::new(io::writer(rt))) {
             Ok(writer) => run_to(rt, writer, command),
             Err(_) => refuse_command(rt, command, "Memory"),
         },
