@@ -130,7 +130,7 @@ pub(crate) enum Found {
     LostLink,
     /// Surely nothing.
     Nothing,
-    /// A plain file, of this length and with so many names.
+    /// A plain file, of this length and with that many names.
     File { bytes: u64, names: u64 },
     /// A folder.
     Folder,

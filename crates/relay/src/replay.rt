@@ -13,7 +13,7 @@ enum Mode {
     Passes,
     // It keeps all of it.
     Keeps,
-    // It gives what it has kept again, of which it has given so many bytes, and then what is left.
+    // It gives what it has kept again, of which it has given that many bytes, and then what is left.
     Repeats { given: usize },
 }
 
