@@ -87,7 +87,7 @@ take_keeps [] ys (suc j) below = absurd (omega arith)
 take_keeps (x ∷ xs) ys zero below = refl
 take_keeps {X} (x ∷ xs) ys (suc j) below = ap (λ (l : List X). x ∷ l) (take_keeps xs ys j (omega arith))
 
-take_whole : {X : Type 0} (xs ys : List X) → take (length xs) (xs ++ ys) ≡ xs
+pub take_whole : {X : Type 0} (xs ys : List X) → take (length xs) (xs ++ ys) ≡ xs
 take_whole [] [] = refl
 take_whole [] (y ∷ ys) = refl
 take_whole {X} (x ∷ xs) ys = ap (λ (l : List X). x ∷ l) (take_whole xs ys)

@@ -5,18 +5,20 @@ use Rattle.dm_finder_frame.specs.Grids.{GridView}
 use Rattle.dm_print_ledger.specs.declared.range.Range.{Range}
 use Rattle.dm_assembly_desk.specs.declared.fault.AskFault.TheVariants.{Incomplete}
 use Rattle.dm_assembly_desk.specs.declared.fault.ScanFault.TheVariants.{Conflict}
+use Rattle.dm_assembly_desk.specs.declared.fault.ImportFault.{ImportFault}
+use Rattle.dm_assembly_desk.specs.declared.fault.ImportFault.TheVariants as import_fault
 use Rattle.dm_event_history.specs.declared.stop.Stop.{Stop}
 use Rattle.dm_event_history.specs.declared.event.Event.{Event}
 use Rattle.dm_event_history.specs.declared.event.Event.TheVariants.{Scan, Ask, Forget, Import, Export}
 use Rattle.dm_event_history.specs.declared.reply.Reply.{Reply}
-use Rattle.dm_event_history.specs.declared.reply.Reply.TheVariants.{Scanned, ScanRefused, Document, AskRefused, Forgotten, Exported}
+use Rattle.dm_event_history.specs.declared.reply.Reply.TheVariants.{Scanned, ScanRefused, Document, AskRefused, Forgotten, Exported, ImportRefused}
 use Rattle.dm_event_history.specs.History.{Entry, History, CutDocument, LabelName, ExportName, out, exports, exported, printed_by, prints_as, docs, events_of, replies_of}
 use Rattle.dm_event_history.specs.Legal.{IsLegal, IsReply, NeverTwice}
 use Rattle.dm_event_history.specs.Safe.{IsSafe, IsReplySafe, IsTrueDocument, IsTrulyMissing, IsExportSafe}
-use Rattle.dm_event_history.specs.Honest.{IsHonestReply, AreHonestReplies}
+use Rattle.dm_event_history.specs.Honest.{IsHonestlyNotImported, IsHonestReply, AreHonestReplies}
 use Rattle.dm_event_history.specs.Masks.{HasPage}
 use Rattle.dm_event_history.specs.Holding.{MayTake, IsPossiblyHeld}
-use Rattle.dm_event_history.specs.Headline.{Batch, count_of, labels_of, IsScanOf, MayHaveSaved, WasScanned, LeftBefore, WasPrinted, WasBegun, PrintsOnceBy, IsFaithfulBy}
+use Rattle.dm_event_history.specs.Headline.{Batch, count_of, labels_of, IsScanOf, MayHaveSaved, WasScanned, LeftBefore, WasPrinted, WasBegun, IsOfDesk, PrintsOnceBy, IsFaithfulBy}
 use Rattle.dm_event_history.proofs.Batches.{all_of, cut_is, batch_of, batches_of, at_last, events_count, replies_count, batches_count, before_or_last, take_keeps, in_either, out_is, label_in, last_batch, whole_before}
 use Rattle.dm_event_history.proofs.PrintsOnce.{prints_once}
 use Rattle.dm_event_history.proofs.Deciding.{if_not, if_so, decided, true_false}
@@ -364,6 +366,7 @@ Tells batches events replies i (Exported index id n mask) =
     (desk : ℕ) × (slice_get events i ≡ Some (Export desk id)) ×
     ((m : ℕ) → HasPage mask m → WasScanned batches events replies i id m n)
 Tells batches events replies i (ScanRefused Conflict) = ⊥
+Tells batches events replies i (ImportRefused fault) = IsOfDesk fault
 Tells batches events replies i reply = Unit {0}
 
 tells_more : {A : Type 0} (batches : List (Option Batch)) (more : Option Batch) (events : List (Event A))
@@ -400,7 +403,17 @@ tells_more batches more events replies event answer i (Exported index id n mask)
   λ m named. scanned_more batches more events replies event answer i id m n within (t.2 m named),
 )
 tells_more batches more events replies event answer i (ScanRefused Conflict) within t = absurd t
+tells_more batches more events replies event answer i (ImportRefused fault) within t = t
 tells_more batches more events replies event answer i reply within t = tt
+
+-- an import that is honestly refused is refused by the state of its desk
+of_desk : {A : Type 0} (capacities : List ℕ) (h : History A) (desk export : ℕ) (fault : ImportFault) →
+    IsHonestlyNotImported capacities h desk export fault → IsOfDesk fault
+of_desk capacities h desk export import_fault.NotPages honest = honest
+of_desk capacities h desk export import_fault.Version honest = honest
+of_desk capacities h desk export import_fault.Damaged honest = honest
+of_desk capacities h desk export import_fault.Conflict honest = honest
+of_desk capacities h desk export fault honest = tt
 
 -- so it is of the last reply
 tells_last : {A : Type 0} (ranges : List Range) (desks : ℕ) (h : History A) (e : Entry A) (grids : List GridView)
@@ -463,6 +476,9 @@ tells_last {A} ranges desks h e grids capacities legal safe honest once =
         ))
     by_reply (Scan desk label flips stop) (ScanRefused Conflict) is fine s honest = absurd honest
     by_reply event (ScanRefused Conflict) is fine s honest = absurd fine
+    by_reply (Import desk export stop) (ImportRefused fault) is fine s honest =
+        of_desk capacities h desk export fault honest
+    by_reply event (ImportRefused fault) is fine s honest = absurd fine
     by_reply event (Scanned accepted) is fine s honest = absurd fine
     by_reply event (Document bytes) is fine s honest = absurd fine
     by_reply event (AskRefused (Incomplete missing)) is fine s honest = absurd fine
@@ -530,6 +546,7 @@ is_faithful {A} ranges desks h grids capacities legal never safe honest = record
       (t.4, t.5, subst (λ (k : ℕ). WasScanned (batches_of h) (events_of h) (replies_of h) i k t.4 t.5) same t.6));
   exported = λ i index id n mask answered. tells i (Exported index id n mask) answered;
   no_conflict = λ i answered. tells i (ScanRefused Conflict) answered;
+  not_imported = λ i fault answered. tells i (ImportRefused fault) answered;
 }
   where
     once : PrintsOnceBy (batches_of h) (events_of h) (replies_of h)

@@ -8,24 +8,16 @@ use Rattle.dm_event_history.specs.declared.event.Event.{Event}
 use Rattle.dm_event_history.specs.declared.event.Event.TheVariants.{Export, Import}
 use Rattle.dm_event_history.specs.declared.reply.Reply.{Reply}
 use Rattle.dm_event_history.specs.declared.reply.Reply.TheVariants.{Exported, Imported}
-use Rattle.dm_event_history.specs.History.{Entry, History, ExportName, events_of, replies_of, exports, exported}
+use Rattle.dm_event_history.specs.History.{History, ExportName, events_of, replies_of, exports, exported}
 use Rattle.dm_event_history.specs.Legal.{IsLegal, IsReply}
 use Rattle.dm_event_history.specs.Imports.{WasExported, ImportsExports}
 use Rattle.dm_event_history.proofs.Batches.{events_count, replies_count, at_last, before_or_last, in_either}
 use Rattle.dm_event_history.proofs.Gotten.{get_more}
+use Rattle.dm_event_history.proofs.NumberedTickets.{next_export, export_numbered, export_there, export_not_there}
+use Rattle.dm_event_history.proofs.Replied.{actor_within}
+use Rattle.dm_event_history.specs.Actors.{DeskAt}
 
 -- ---- numbers of exports
-
--- an export has the next number
-next_number : {A : Type 0} (ranges : List Range) (h : History A) (e : Entry A) (k id n mask : ℕ) →
-    IsReply ranges h e.id e.left e.event e.reply →
-    e.reply ≡ Exported k id n mask → k ≡ length (exports h)
-next_number {A} ranges h e k id n mask fine is =
-    by_event e.event (subst (λ (r : Reply A). IsReply ranges h e.id e.left e.event r) is fine)
-  where
-    by_event : (event : Event A) → IsReply ranges h e.id e.left event (Exported k id n mask) → k ≡ length (exports h)
-    by_event (Export desk asked) fine = fine.index_is
-    by_event event fine = absurd fine
 
 number_within : {A : Type 0} (ranges : List Range) (desks : ℕ) (h : History A) (i k id n mask : ℕ) →
     IsLegal ranges desks h →
@@ -36,7 +28,7 @@ number_within {A} ranges desks (e ∷ h) i k id n mask legal is =
     elim (before_or_last (replies_of h) e.reply (Exported k id n mask) (length h) i (replies_count h) is) [
       | inl before ↦ (let t = number_within ranges desks h i k id n mask legal.1 before in omega arith)
       | inr last ↦
-          (let place : k ≡ length (exports h) = next_number ranges h e k id n mask legal.0.reply last.1 in
+          (let place : k ≡ length (exports h) = next_export ranges h e k id n mask legal.0.reply last.1 in
           let own : length (exported e.reply) ≡ 1 = ap (λ (r : Reply A). length (exported r)) last.1 in omega arith)
     ]
 
@@ -52,13 +44,13 @@ numbered {A} ranges desks (e ∷ h) legal i j k id n mask other_id other_n other
           (length h) j count b) [
             | inl second ↦ numbered ranges desks h legal.1 i j k id n mask other_id other_n other_mask first second
             | inr last ↦ absurd (let t = number_within ranges desks h i k id n mask legal.1 first in
-                let next = next_number ranges h e k other_id other_n other_mask legal.0.reply last.1 in omega arith)
+                let next = next_export ranges h e k other_id other_n other_mask legal.0.reply last.1 in omega arith)
           ]
       | inr here ↦ elim (before_or_last (replies_of h) e.reply (Exported k other_id other_n other_mask)
           (length h) j count b) [
             | inl second ↦ absurd (
                 let t = number_within ranges desks h j k other_id other_n other_mask legal.1 second in
-                let next = next_number ranges h e k id n mask legal.0.reply here.1 in omega arith)
+                let next = next_export ranges h e k id n mask legal.0.reply here.1 in omega arith)
             | inr last ↦ here.0 ∙ sym last.0
           ]
     ]
@@ -163,6 +155,12 @@ exported_before {A} ranges desks (e ∷ h) legal i imported answered =
 pub imports_exports : {A : Type 0} (ranges : List Range) (desks : ℕ) (h : History A) → IsLegal ranges desks h →
     ImportsExports (events_of h) (replies_of h)
 imports_exports ranges desks h legal = record {
+  next = λ i index id n mask answered. export_numbered ranges desks h i index id n mask legal answered;
   numbered = numbered ranges desks h legal;
   exported = exported_before ranges desks h legal;
+  there = λ i desk export stop reply asked answered is_such.
+      export_there ranges desks h i desk export stop reply legal asked answered is_such;
+  not_there = λ i desk export stop asked answered there.
+      export_not_there ranges desks h i desk export stop legal (actor_within ranges desks h (DeskAt desk) legal there)
+      asked answered;
 }

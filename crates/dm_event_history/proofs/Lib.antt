@@ -10,8 +10,11 @@ pub mod Fresh
 pub mod Holds
 pub mod LeftOnce
 pub mod Batches
+pub mod Replied
 pub mod ScannedLabels
 pub mod PrintsOnce
+pub mod NumberedTickets
+pub mod RisingTickets
 pub mod TakesOnce
 pub mod ImportsExports
 pub mod Faithful

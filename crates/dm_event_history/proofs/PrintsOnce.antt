@@ -2,11 +2,13 @@
 use Rattle.std.proofs.Common.{◌≡◌, inl, inr, ℕ, Option, Some, List, [], ◌∷◌, length, slice_get, refl, ap, sym, ◌∙◌, subst, arith}
 use Rattle.dm_print_ledger.specs.declared.range.Range.{Range}
 use Rattle.dm_event_history.specs.declared.reply.Reply.TheVariants.{Printed}
+use Rattle.dm_event_history.specs.Actors.{DeskAt}
 use Rattle.dm_event_history.specs.History.{Entry, History, events_of, replies_of}
 use Rattle.dm_event_history.specs.Legal.{IsLegal, Fits, NeverTwice}
 use Rattle.dm_event_history.specs.Headline.{Batch, LeftBy, labels_of, AllLeft, PrintsOnceBy}
 use Rattle.dm_event_history.proofs.Batches.{all_of, count_all, batch_of, batches_of, events_count, replies_count, batches_count, before_or_last, take_keeps, batch_means, out_is, left_more, last_prints, told_is, unused_is_none, last_batch, whole_before}
-use Rattle.dm_event_history.proofs.ScannedLabels.{there_had_left, desk_within, not_there_had_not}
+use Rattle.dm_event_history.proofs.Replied.{actor_within, are_replies}
+use Rattle.dm_event_history.proofs.ScannedLabels.{there_had_left, not_there_had_not}
 use Rattle.dm_event_history.proofs.Gotten.{get_more, get_beyond}
 
 once_first : {A : Type 0} → (let none : History A = [] in
@@ -14,6 +16,12 @@ once_first : {A : Type 0} → (let none : History A = [] in
 once_first {A} = record {
   each_reply = refl;
   each_batch = refl;
+  replied = record {
+    each = λ i event reply asked answered. absurd (cc (asked));
+    no_such = λ i event asked answered there alone. absurd (cc (asked));
+    down = λ i event reply asked answered is_such. absurd (cc (asked));
+    failed = λ i event reply asked answered tells. absurd (cc (asked));
+  };
   told = λ i id first count is. absurd (cc (is));
   printed = λ i batch is. absurd (cc (is));
   once = λ i j one other a b same. absurd (cc (a));
@@ -28,13 +36,14 @@ once_next : {A : Type 0} (ranges : List Range) (desks : ℕ) (h : History A) (e 
 once_next {A} ranges desks h e legal never f = record {
   each_reply = replies_count (e ∷ h) ∙ sym (events_count (e ∷ h));
   each_batch = batches_count (e ∷ h) ∙ sym (events_count (e ∷ h));
+  replied = are_replies ranges desks (e ∷ h) legal;
   told = tells;
   printed = prints;
   once = one;
   there = λ i desk label flips stop reply. there_had_left ranges desks (e ∷ h) i desk label flips stop reply legal;
   not_there = λ i desk label flips stop asked answered there small.
       not_there_had_not ranges desks (e ∷ h) i desk label flips stop legal
-      (desk_within ranges desks (e ∷ h) desk legal there) small asked answered;
+      (actor_within ranges desks (e ∷ h) (DeskAt desk) legal there) small asked answered;
 }
   where
     fits : Fits ranges desks h e

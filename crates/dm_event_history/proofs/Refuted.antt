@@ -1,24 +1,29 @@
 -- Runs that are not faithful are refuted.
-use Rattle.std.proofs.Common.{◌≡◌, ◌<◌, ◌≤◌, inl, inr, ℕ, zero, suc, min, true, All, Option, Some, None, List, [], ◌∷◌, ◌++◌, length, map, take, slice_get, refl, ap, sym, ◌∙◌, subst, arith}
+use Rattle.std.proofs.Common.{◌≡◌, ◌<◌, ◌≤◌, inl, inr, ℕ, zero, suc, min, true, false, All, Option, Some, None, List, [], ◌∷◌, ◌++◌, length, map, take, slice_get, refl, ap, sym, ◌∙◌, subst, arith}
 use Rattle.dm_check_blocks.specs.declared.size.Size.TheVariants.{Side12}
 use Rattle.dm_encodation.specs.declared.scheme.Scheme.TheVariants.{Ascii}
-use Rattle.dm_assembly_desk.specs.declared.reply.Kind.TheVariants.{New}
+use Rattle.dm_assembly_desk.specs.declared.reply.Kind.TheVariants.{New, Again}
+use Rattle.dm_assembly_desk.specs.declared.fault.ImportFault.TheVariants as import_fault
+use Rattle.dm_assembly_desk.specs.declared.fault.ScanFault.TheVariants as scan_fault
+use Rattle.dm_print_ledger.specs.declared.fault.OpenFault.TheVariants as open_fault
+use Rattle.dm_store.specs.declared.fuse.Kept.TheVariants as kept
 use Rattle.dm_append_label.specs.Parts.{parts_from}
 use Rattle.dm_append_label.proofs.CutParts.{each_cut_is}
 use Rattle.dm_event_history.specs.declared.event.Event.{Event}
-use Rattle.dm_event_history.specs.declared.event.Event.TheVariants.{Print, Scan, Ask, Give, Export}
+use Rattle.dm_event_history.specs.declared.event.Event.TheVariants.{Print, Scan, RestartPrinter, Ask, Forget, Give, Take, Export}
 use Rattle.dm_event_history.specs.declared.reply.Reply.{Reply}
-use Rattle.dm_event_history.specs.declared.reply.Reply.TheVariants.{Document, Exported, Stopped, Memory}
+use Rattle.dm_event_history.specs.declared.reply.Reply.TheVariants.{Scanned, ScanRefused, Document, Forgotten, Taken, Exported, Restarted, PrinterRefused, Stopped, Down, Memory}
 use Rattle.dm_event_history.specs.declared.stop.Stop.{Stop}
 use Rattle.dm_event_history.specs.declared.stop.Stop.TheVariants as stops
 use Rattle.dm_event_history.specs.History.{LabelName, names_from}
 use Rattle.dm_event_history.specs.Headline.{Batch, count_of, LeftBy, labels_of, IsScanOf, MayHaveSaved, WasScanned, WasPrinted, PrintsOnceBy, IsFaithfulBy}
 use Rattle.dm_print_ledger.specs.declared.range.Range.{Range}
+use Rattle.dm_print_ledger.specs.Views.{TicketView}
 use Rattle.dm_event_history.specs.Masks.{HasPage}
 use Rattle.dm_event_history.specs.Saving.{may_save}
-use Rattle.dm_event_history.specs.Tickets.{WasGiven}
+use Rattle.dm_event_history.specs.Tickets.{WasGiven, WasReached}
 use Rattle.dm_event_history.specs.Worked.{digits, first_ticket}
-use Rattle.dm_event_history.specs.Unfaithful.{IsFaithfulRun, PrintsOnceRun, TakesOnceRun, ImportsExportsRun, other_digits, scan, never_saved, conflicting, shown_not_left, shown_left, begun_unscanned, exported_unscanned, printed_after_forgotten, one_serial, taken_though_old, never_exported, imported_another_page, exported_twice, half_printed, printed_unseen, unseen_labels, print, never_printed, wrong_document, another_document, never_scanned, two_documents, printed_twice, told_twice, never_left, numbered_twice, taken_twice, taken_elsewhere, overlaps, AreUnfaithful}
+use Rattle.dm_event_history.specs.Unfaithful.{IsFaithfulRun, PrintsOnceRun, AreRepliesRun, TakesOnceRun, ImportsExportsRun, other_digits, scan, page, another_call, stopped_unasked, forgotten_with_a_fault, scanned_though_stopped, failed_without_a_fault, damaged_by_itself, answered_while_down, down_unstopped, failed_before_a_fault, missing_printer, numbered_above, second_ticket, taken_falling, old_at_first, old_after_a_lower, old_unsaved, refused_ungiven, missing_ticket, exported_above, refused_unexported, missing_export, never_saved, conflicting, refused_import, shown_not_left, shown_left, begun_unscanned, exported_unscanned, printed_after_forgotten, one_serial, taken_though_old, never_exported, imported_another_page, exported_twice, half_printed, printed_unseen, unseen_labels, print, never_printed, wrong_document, another_document, never_scanned, two_documents, printed_twice, told_twice, never_left, numbered_twice, taken_twice, taken_elsewhere, overlaps, AreUnfaithful}
 
 -- ---- what an event lets out
 
@@ -296,13 +301,25 @@ never_saved_is A (batches, f) =
 conflicting_is : (A : Type 0) → ¬ IsFaithfulRun (conflicting A)
 conflicting_is A (batches, f) = f.no_conflict 1 refl
 
+import_conflicting_is : (A : Type 0) → ¬ IsFaithfulRun (refused_import A import_fault.Conflict)
+import_conflicting_is A (batches, f) = f.not_imported 3 import_fault.Conflict refl
+
+import_damaged_is : (A : Type 0) → ¬ IsFaithfulRun (refused_import A import_fault.Damaged)
+import_damaged_is A (batches, f) = f.not_imported 3 import_fault.Damaged refl
+
+import_of_a_version_is : (A : Type 0) → ¬ IsFaithfulRun (refused_import A import_fault.Version)
+import_of_a_version_is A (batches, f) = f.not_imported 3 import_fault.Version refl
+
+import_of_no_pages_is : (A : Type 0) → ¬ IsFaithfulRun (refused_import A import_fault.NotPages)
+import_of_no_pages_is A (batches, f) = f.not_imported 3 import_fault.NotPages refl
+
 two_documents_is : (A : Type 0) → ¬ IsFaithfulRun (two_documents A)
 two_documents_is A (batches, f) = digits_differ (f.same 0 1 0 1 0 digits other_digits refl refl refl refl)
 
 -- ---- prints
 
 -- a batch of one label or more begins with its label 1
-first_label : (batch : Batch) (batches : List (Option Batch)) (name : LabelName) → 1 ≤ batch.left →
+pub first_label : (batch : Batch) (batches : List (Option Batch)) (name : LabelName) → 1 ≤ batch.left →
     slice_get (labels_of (Some batch ∷ batches)) 0 ≡ Some name → batch.id ≡ name.id
 first_label batch batches name some is = by_count batch.left some is
   where
@@ -409,7 +426,7 @@ shown_not_left_is A (batches, f) =
       event = Ask 1 10;
       asked = refl;
       at = 1;
-      of_desk = refl;
+      of_actor = refl;
       not_above = omega arith;
       reply = Document digits;
       answered = refl;
@@ -512,6 +529,56 @@ printed_after_forgotten_is A (batches, f) = by_batches batches f
         let t = f.prints.told 3 0 1 2 refl in
         let place : ◌≡◌ {A = ℕ} 0 3 = f.prints.once 0 3 batch t.batch refl t.there (own ∙ sym t.id_is) in omega arith
 
+-- ---- replies
+
+another_call_is : (A : Type 0) → ¬ AreRepliesRun (another_call A)
+another_call_is A r = (r.each 0 (Ask 0 0) Taken refl refl).may
+
+stopped_unasked_is : (A : Type 0) → ¬ AreRepliesRun (stopped_unasked A)
+stopped_unasked_is A r = (r.each 0 (Ask 0 0) Stopped refl refl).may
+
+forgotten_with_a_fault_is : (A : Type 0) → ¬ AreRepliesRun (forgotten_with_a_fault A)
+forgotten_with_a_fault_is A r =
+    let x : stops.SaveFault kept.New ≡ stops.None =
+    (r.each 0 (Forget 0 0 (stops.SaveFault kept.New)) Forgotten refl refl).may in cc (x)
+
+scanned_though_stopped_is : (A : Type 0) → ¬ AreRepliesRun (scanned_though_stopped A)
+scanned_though_stopped_is A r =
+    (r.each 0 (Scan 0 0 [] stops.BeforeSave) (Scanned (page 0 1 Again)) refl refl).stopped tt
+
+failed_without_a_fault_is : (A : Type 0) → ¬ AreRepliesRun (failed_without_a_fault A)
+failed_without_a_fault_is A r = (let x = (r.each 0 (scan 0) (ScanRefused scan_fault.Save) refl refl).may.1 in cc (x))
+
+damaged_by_itself_is : (A : Type 0) → ¬ AreRepliesRun (damaged_by_itself A)
+damaged_by_itself_is A r =
+    let x : open_fault.Damaged ≡ open_fault.Memory =
+    (r.each 0 (RestartPrinter 0) (PrinterRefused open_fault.Damaged) refl refl).may in cc (x)
+
+answered_while_down_is : (A : Type 0) → ¬ AreRepliesRun (answered_while_down A)
+answered_while_down_is A r =
+    (let x = (r.down 1 (Forget 0 0 stops.None) Forgotten refl refl (λ x. cc (x))).1 (tt, refl) in cc (x))
+
+down_unstopped_is : (A : Type 0) → ¬ AreRepliesRun (down_unstopped A)
+down_unstopped_is A r =
+    (let x : false ≡ true = ((r.down 0 (Ask 0 0) Down refl refl (λ x. cc (x))).0 refl).1 in cc (x))
+
+failed_before_a_fault_is : (A : Type 0) → ¬ AreRepliesRun (failed_before_a_fault A)
+failed_before_a_fault_is A r =
+    (let x : false ≡ true = r.failed 0 (scan 0) (ScanRefused scan_fault.Failed) refl refl tt in cc (x))
+
+missing_printer_is : (A : Type 0) → ¬ AreRepliesRun (missing_printer A)
+missing_printer_is A r = r.no_such 0 (print 0 digits stops.None) refl refl (record {
+  i = 1;
+  event = RestartPrinter 1;
+  asked = refl;
+  at = 1;
+  of_actor = refl;
+  not_above = omega arith;
+  reply = Restarted;
+  answered = refl;
+  is_such = λ x. cc (x);
+}) tt
+
 -- ---- tickets
 
 numbered_twice_is : (A : Type 0) → ¬ TakesOnceRun (numbered_twice A)
@@ -553,6 +620,87 @@ taken_elsewhere_is A t = by_give (t.given 1 2 0 (record { stop = stops.None; eve
 
     by_give : WasGiven events replies 1 2 0 → ⊥
     by_give w = by_place w.j w.before w.giver w.range w.stop w.event
+
+numbered_above_is : (A : Type 0) → ¬ TakesOnceRun (numbered_above A)
+numbered_above_is A t = (let place : ◌≡◌ {A = ℕ} 1 0 = t.next 0 1 first_ticket refl in omega arith)
+
+taken_falling_is : (A : Type 0) → ¬ TakesOnceRun (taken_falling A)
+taken_falling_is A t =
+    let rise : 1 < 0 = t.rising 2 3 1 1 0 second_ticket first_ticket
+    (record { stop = stops.None; event = refl; reply = refl })
+    (record { stop = stops.None; event = refl; reply = refl }) refl refl refl (omega arith) in omega arith
+
+old_at_first_is : (A : Type 0) → ¬ TakesOnceRun (old_at_first A)
+old_at_first_is A t = by_reached (t.reached 1 1 0 stops.None first_ticket refl refl refl)
+  where
+    by_reached : WasReached (map (λ one. one.0) (old_at_first A)) (map (λ one. one.1) (old_at_first A)) 1 1
+        first_ticket → ⊥
+    by_reached w = by_place w.j w.before w.event
+      where
+        by_place : (j : ℕ) → j < 1 → {number : ℕ} {stop : Stop} →
+            slice_get (map (λ one. one.0) (old_at_first A)) j ≡ Some (Take 1 number stop) → ⊥
+        by_place zero before is = cc (is)
+        by_place (suc j) before is = omega arith
+
+old_after_a_lower_is : (A : Type 0) → ¬ TakesOnceRun (old_after_a_lower A)
+old_after_a_lower_is A t =
+    (let w = t.reached 3 1 1 stops.None second_ticket refl refl refl in
+    by_place w.j w.before w.event w.there w.reached)
+  where
+    events : List (Event A)
+    events = map (λ one. one.0) (old_after_a_lower A)
+
+    by_place : (j : ℕ) → j < 3 → {number : ℕ} {stop : Stop} {taken : TicketView} →
+        slice_get events j ≡ Some (Take 1 number stop) →
+        slice_get (first_ticket ∷ second_ticket ∷ []) number ≡ Some taken → 1 ≤ taken.serial → ⊥
+    by_place zero before is there reached = cc (is)
+    by_place (suc zero) before is there reached = cc (is)
+    by_place (suc (suc zero)) before {number} {stop} {taken} is there reached =
+        let e : Some (Take 1 0 stops.None) ≡ Some (Take 1 number stop) = is in
+        let number_is : 0 ≡ number = cc (e) in
+        let found : Some first_ticket ≡ Some taken =
+        subst (λ (k : ℕ). slice_get (first_ticket ∷ second_ticket ∷ []) k ≡ Some taken) (sym number_is) there in
+        let same : first_ticket ≡ taken = cc (found) in
+        let serial : 0 ≡ taken.serial = ap (λ (v : TicketView). v.serial) same in omega arith
+    by_place (suc (suc (suc j))) before is there reached = omega arith
+
+old_unsaved_is : (A : Type 0) → ¬ TakesOnceRun (old_unsaved A)
+old_unsaved_is A t =
+    (let w = t.reached 3 1 0 stops.None first_ticket refl refl refl in by_place w.j w.before w.event w.answered w.saves)
+  where
+    by_place : (j : ℕ) → j < 3 → {number : ℕ} {stop : Stop} {reply : Reply A} →
+        slice_get (map (λ one. one.0) (old_unsaved A)) j ≡ Some (Take 1 number stop) →
+        slice_get (map (λ one. one.1) (old_unsaved A)) j ≡ Some reply →
+        may_save (Take 1 number stop) reply ≡ true → ⊥
+    by_place zero before is answered saves = cc (is)
+    by_place (suc zero) before {number} {stop} {reply} is answered saves =
+        let e : Some (Take 1 0 stops.BeforeSave) ≡ Some (Take 1 number stop) = is in
+        let r : Some Stopped ≡ Some reply = answered in
+        let event_is : ◌≡◌ {A = Event A} (Take 1 0 stops.BeforeSave) (Take 1 number stop) = cc (e) in
+        let reply_is : Stopped ≡ reply = cc (r) in
+        let x : may_save {A = A} (Take 1 0 stops.BeforeSave) Stopped ≡ true =
+        subst (λ (v : Event A). may_save v Stopped ≡ true) (sym event_is)
+        (subst (λ (p : Reply A). may_save (Take 1 number stop) p ≡ true) (sym reply_is) saves) in cc (x)
+    by_place (suc (suc zero)) before is answered saves = cc (is)
+    by_place (suc (suc (suc j))) before is answered saves = omega arith
+
+refused_ungiven_is : (A : Type 0) → ¬ TakesOnceRun (refused_ungiven A)
+refused_ungiven_is A t =
+    (let below : 0 < 0 = t.there 0 1 0 stops.None Memory refl refl (λ x. cc (x)) in omega arith)
+
+missing_ticket_is : (A : Type 0) → ¬ TakesOnceRun (missing_ticket A)
+missing_ticket_is A t =
+    let few : 1 ≤ 0 = t.not_there 1 1 0 stops.None refl refl (record {
+      i = 2;
+      event = RestartPrinter 1;
+      asked = refl;
+      at = 1;
+      of_actor = refl;
+      not_above = omega arith;
+      reply = Restarted;
+      answered = refl;
+      is_such = λ x. cc (x);
+    }) in omega arith
 
 never_left_is : (A : Type 0) → ¬ IsFaithfulRun (never_left A)
 never_left_is A (batches, f) = by_batches batches f
@@ -612,6 +760,27 @@ imported_another_page_is A t =
 exported_twice_is : (A : Type 0) → ¬ ImportsExportsRun (exported_twice A)
 exported_twice_is A t = (let place : ◌≡◌ {A = ℕ} 0 1 = t.numbered 0 1 0 0 2 1 0 2 1 refl refl in omega arith)
 
+exported_above_is : (A : Type 0) → ¬ ImportsExportsRun (exported_above A)
+exported_above_is A t = (let place : ◌≡◌ {A = ℕ} 1 0 = t.next 0 1 0 2 1 refl in omega arith)
+
+refused_unexported_is : (A : Type 0) → ¬ ImportsExportsRun (refused_unexported A)
+refused_unexported_is A t =
+    (let below : 0 < 0 = t.there 0 0 0 stops.None Memory refl refl (λ x. cc (x)) in omega arith)
+
+missing_export_is : (A : Type 0) → ¬ ImportsExportsRun (missing_export A)
+missing_export_is A t =
+    let few : 1 ≤ 0 = t.not_there 1 0 0 stops.None refl refl (record {
+      i = 0;
+      event = Export 0 0;
+      asked = refl;
+      at = 0;
+      of_actor = refl;
+      not_above = omega arith;
+      reply = Exported 0 0 2 1;
+      answered = refl;
+      is_such = λ x. cc (x);
+    }) in omega arith
+
 pub are_unfaithful : (A : Type 0) → AreUnfaithful A
 are_unfaithful A = record {
   never_printed_is = never_printed_is A;
@@ -621,6 +790,10 @@ are_unfaithful A = record {
   never_scanned_is = never_scanned_is A;
   never_saved_is = never_saved_is A;
   conflicting_is = conflicting_is A;
+  import_conflicting_is = import_conflicting_is A;
+  import_damaged_is = import_damaged_is A;
+  import_of_a_version_is = import_of_a_version_is A;
+  import_of_no_pages_is = import_of_no_pages_is A;
   two_documents_is = two_documents_is A;
   shown_not_left_is = shown_not_left_is A;
   shown_left_is = shown_left_is A;
@@ -631,13 +804,33 @@ are_unfaithful A = record {
   printed_unseen_is = printed_unseen_is A;
   told_twice_is = told_twice_is A;
   never_left_is = never_left_is A;
+  another_call_is = another_call_is A;
+  stopped_unasked_is = stopped_unasked_is A;
+  forgotten_with_a_fault_is = forgotten_with_a_fault_is A;
+  scanned_though_stopped_is = scanned_though_stopped_is A;
+  failed_without_a_fault_is = failed_without_a_fault_is A;
+  damaged_by_itself_is = damaged_by_itself_is A;
+  answered_while_down_is = answered_while_down_is A;
+  down_unstopped_is = down_unstopped_is A;
+  failed_before_a_fault_is = failed_before_a_fault_is A;
+  missing_printer_is = missing_printer_is A;
   numbered_twice_is = numbered_twice_is A;
   taken_twice_is = taken_twice_is A;
   taken_elsewhere_is = taken_elsewhere_is A;
   overlaps_is = overlaps_is A;
   one_serial_is = one_serial_is A;
   taken_though_old_is = taken_though_old_is A;
+  numbered_above_is = numbered_above_is A;
+  taken_falling_is = taken_falling_is A;
+  old_at_first_is = old_at_first_is A;
+  old_after_a_lower_is = old_after_a_lower_is A;
+  old_unsaved_is = old_unsaved_is A;
+  refused_ungiven_is = refused_ungiven_is A;
+  missing_ticket_is = missing_ticket_is A;
   never_exported_is = never_exported_is A;
   imported_another_page_is = imported_another_page_is A;
   exported_twice_is = exported_twice_is A;
+  exported_above_is = exported_above_is A;
+  refused_unexported_is = refused_unexported_is A;
+  missing_export_is = missing_export_is A;
 }

@@ -1,6 +1,6 @@
 -- A run of two stopped prints that is faithful.
 use Rattle.std.proofs.Common.{◌≡◌, ◌<◌, ◌≤◌, ℕ, zero, suc, Option, Some, None, List, [], ◌∷◌, length, map, slice_get, take, refl, ap, sym, ◌∙◌, subst, arith, inr}
-use Rattle.std.specs.Prelude.{◌≢◌}
+use Rattle.std.specs.Prelude.{◌≢◌, ◌↔◌, true, false}
 use Rattle.dm_check_blocks.specs.declared.size.Size.TheVariants.{Side12}
 use Rattle.dm_check_blocks.specs.Sizes.{row}
 use Rattle.dm_encodation.specs.declared.scheme.Scheme.TheVariants.{Ascii}
@@ -10,16 +10,22 @@ use Rattle.dm_append_label.specs.Parts.{AreParts}
 use Rattle.dm_assembly_desk.specs.declared.reply.Kind.TheVariants.{New, Complete}
 use Rattle.dm_assembly_desk.specs.declared.fault.AskFault.TheVariants.{Incomplete}
 use Rattle.dm_assembly_desk.specs.declared.fault.ScanFault.TheVariants.{Conflict}
+use Rattle.dm_assembly_desk.specs.declared.fault.ImportFault.{ImportFault}
 use Rattle.dm_assembly_desk.specs.declared.reply.Accepted.{Accepted}
 use Rattle.dm_event_history.specs.declared.event.Event.{Event}
 use Rattle.dm_event_history.specs.declared.event.Event.TheVariants.{Scan, Ask}
 use Rattle.dm_event_history.specs.declared.reply.Reply.{Reply}
-use Rattle.dm_event_history.specs.declared.reply.Reply.TheVariants.{Printed, Scanned, ScanRefused, Document, AskRefused, Forgotten, Exported, NoSuch}
+use Rattle.dm_event_history.specs.declared.reply.Reply.TheVariants.{Printed, Scanned, ScanRefused, Document, AskRefused, Forgotten, Exported, ImportRefused, Stopped, Down, NoSuch}
 use Rattle.dm_event_history.specs.declared.stop.Stop.{Stop}
 use Rattle.dm_event_history.specs.declared.stop.Stop.TheVariants as stops
 use Rattle.dm_event_history.specs.History.{CutDocument}
+use Rattle.dm_event_history.specs.Replying.{IsReplyTo, TellsFailed, is_down_before}
+use Rattle.dm_event_history.specs.Actors.{actor_of}
+use Rattle.dm_event_history.specs.Legal.{NeedsRunning}
+use Rattle.dm_event_history.proofs.Deciding.{true_false}
+use Rattle.dm_event_history.specs.Worked.{digits}
 use Rattle.dm_event_history.specs.Headline.{Batch, LeftBy, labels_of, AllLeft, IsScanOf, MayHaveSaved, WasScanned, WasPrinted}
-use Rattle.dm_event_history.specs.Unfaithful.{IsFaithfulRun, other_digits, page, scan, right_document}
+use Rattle.dm_event_history.specs.Unfaithful.{IsFaithfulRun, other_digits, page, print, scan, right_document}
 
 -- two of the digits fill a label
 two_fit : IsGreatestPrefix Ascii 1 other_digits 2
@@ -59,6 +65,12 @@ right_document_is A = (
     prints = record {
       each_reply = refl;
       each_batch = refl;
+      replied = record {
+        each = each_replied;
+        no_such = λ i event asked answered there alone. absurd (none_missing i answered);
+        down = λ i event reply asked answered is_such. none_down i event reply asked answered;
+        failed = λ i event reply asked answered tells. absurd (none_failed i event reply asked answered tells);
+      };
       told = none_told;
       printed = one_printed;
       once = one;
@@ -73,6 +85,7 @@ right_document_is A = (
     forgotten = λ i desk id stop asked answered. absurd (none_forgotten i answered);
     exported = λ i index id n mask answered. absurd (none_exported i index id n mask answered);
     no_conflict = none_conflicts;
+    not_imported = λ i fault answered. absurd (none_imported i fault answered);
   },
 )
   where
@@ -121,6 +134,81 @@ right_document_is A = (
     none_missing (suc (suc (suc (suc zero)))) is = cc (is)
     none_missing (suc (suc (suc (suc (suc i))))) is = cc (is)
 
+    -- each reply is one to this event, if it is to one
+    only : (Holds : Event A → Reply A → Type 0) {x y : Event A} {p q : Reply A} → Some x ≡ Some y → Some p ≡ Some q →
+        Holds x p → Holds y q
+    only Holds {x} {y} {p} {q} asked answered fits =
+        let event_is : x ≡ y = cc (asked) in
+        let reply_is : p ≡ q = cc (answered) in
+        subst (λ (v : Event A). Holds v q) event_is (subst (λ (r : Reply A). Holds x r) reply_is fits)
+
+    each_replied : (i : ℕ) (event : Event A) (reply : Reply A) → slice_get events i ≡ Some event →
+        slice_get replies i ≡ Some reply → IsReplyTo event reply
+    each_replied zero event reply asked answered =
+        only IsReplyTo {x = print 0 digits (stops.AfterLabels 0)} {p = Stopped} asked answered
+        (record { may = tt; stopped = λ is. tt })
+    each_replied (suc zero) event reply asked answered =
+        only IsReplyTo {x = print 1 other_digits (stops.AfterLabels 2)} {p = Stopped} asked answered
+        (record { may = tt; stopped = λ is. tt })
+    each_replied (suc (suc zero)) event reply asked answered =
+        only IsReplyTo {x = scan 0} {p = Scanned (page 10 1 New)} asked answered
+        (record { may = λ other. refl; stopped = λ is. absurd is })
+    each_replied (suc (suc (suc zero))) event reply asked answered =
+        only IsReplyTo {x = scan 1} {p = Scanned (page 10 2 Complete)} asked answered
+        (record { may = λ other. refl; stopped = λ is. absurd is })
+    each_replied (suc (suc (suc (suc zero)))) event reply asked answered =
+        only IsReplyTo {x = Ask 0 10} {p = Document other_digits} asked answered
+        (record { may = tt; stopped = λ is. absurd is })
+    each_replied (suc (suc (suc (suc (suc i))))) event reply asked answered = absurd (cc (asked))
+
+    -- nothing that is down is asked, and nothing answers so
+    up : (i : ℕ) (event : Event A) (reply : Reply A) → reply ≢ Down →
+        is_down_before events replies i (actor_of event) ≡ false → (reply ≡ Down) ↔
+        (NeedsRunning event × (is_down_before events replies i (actor_of event) ≡ true))
+    up i event reply other is = (
+      λ down. absurd (other down),
+      λ t. absurd (true_false (is_down_before events replies i (actor_of event)) t.1 is),
+    )
+
+    none_down : (i : ℕ) (event : Event A) (reply : Reply A) → slice_get events i ≡ Some event →
+        slice_get replies i ≡ Some reply →
+        (reply ≡ Down) ↔ (NeedsRunning event × (is_down_before events replies i (actor_of event) ≡ true))
+    none_down zero event reply asked answered =
+        only (λ v r. (r ≡ Down) ↔ (NeedsRunning v × (is_down_before events replies 0 (actor_of v) ≡ true)))
+        {x = print 0 digits (stops.AfterLabels 0)} {p = Stopped} asked answered
+        (up 0 (print 0 digits (stops.AfterLabels 0)) Stopped (λ x. cc (x)) refl)
+    none_down (suc zero) event reply asked answered =
+        only (λ v r. (r ≡ Down) ↔ (NeedsRunning v × (is_down_before events replies 1 (actor_of v) ≡ true)))
+        {x = print 1 other_digits (stops.AfterLabels 2)} {p = Stopped} asked answered
+        (up 1 (print 1 other_digits (stops.AfterLabels 2)) Stopped (λ x. cc (x)) refl)
+    none_down (suc (suc zero)) event reply asked answered =
+        only (λ v r. (r ≡ Down) ↔ (NeedsRunning v × (is_down_before events replies 2 (actor_of v) ≡ true)))
+        {x = scan 0} {p = Scanned (page 10 1 New)} asked answered
+        (up 2 (scan 0) (Scanned (page 10 1 New)) (λ x. cc (x)) refl)
+    none_down (suc (suc (suc zero))) event reply asked answered =
+        only (λ v r. (r ≡ Down) ↔ (NeedsRunning v × (is_down_before events replies 3 (actor_of v) ≡ true)))
+        {x = scan 1} {p = Scanned (page 10 2 Complete)} asked answered
+        (up 3 (scan 1) (Scanned (page 10 2 Complete)) (λ x. cc (x)) refl)
+    none_down (suc (suc (suc (suc zero)))) event reply asked answered =
+        only (λ v r. (r ≡ Down) ↔ (NeedsRunning v × (is_down_before events replies 4 (actor_of v) ≡ true)))
+        {x = Ask 0 10} {p = Document other_digits} asked answered
+        (up 4 (Ask 0 10) (Document other_digits) (λ x. cc (x)) refl)
+    none_down (suc (suc (suc (suc (suc i))))) event reply asked answered = absurd (cc (asked))
+
+    none_failed : (i : ℕ) (event : Event A) (reply : Reply A) → slice_get events i ≡ Some event →
+        slice_get replies i ≡ Some reply → TellsFailed reply → ⊥
+    none_failed zero event reply asked answered =
+        only (λ v r. TellsFailed r → ⊥) {p = Stopped} asked answered (λ tells. tells)
+    none_failed (suc zero) event reply asked answered =
+        only (λ v r. TellsFailed r → ⊥) {p = Stopped} asked answered (λ tells. tells)
+    none_failed (suc (suc zero)) event reply asked answered =
+        only (λ v r. TellsFailed r → ⊥) {p = Scanned (page 10 1 New)} asked answered (λ tells. tells)
+    none_failed (suc (suc (suc zero))) event reply asked answered =
+        only (λ v r. TellsFailed r → ⊥) {p = Scanned (page 10 2 Complete)} asked answered (λ tells. tells)
+    none_failed (suc (suc (suc (suc zero)))) event reply asked answered =
+        only (λ v r. TellsFailed r → ⊥) {p = Document other_digits} asked answered (λ tells. tells)
+    none_failed (suc (suc (suc (suc (suc i))))) event reply asked answered = absurd (cc (asked))
+
     none_begun : (i missing : ℕ) → slice_get replies i ≡ Some (AskRefused (Incomplete missing)) → ⊥
     none_begun zero missing is = cc (is)
     none_begun (suc zero) missing is = cc (is)
@@ -152,6 +240,14 @@ right_document_is A = (
     none_conflicts (suc (suc (suc zero))) is = cc (is)
     none_conflicts (suc (suc (suc (suc zero)))) is = cc (is)
     none_conflicts (suc (suc (suc (suc (suc i))))) is = cc (is)
+
+    none_imported : (i : ℕ) (fault : ImportFault) → slice_get replies i ≡ Some (ImportRefused fault) → ⊥
+    none_imported zero fault is = cc (is)
+    none_imported (suc zero) fault is = cc (is)
+    none_imported (suc (suc zero)) fault is = cc (is)
+    none_imported (suc (suc (suc zero))) fault is = cc (is)
+    none_imported (suc (suc (suc (suc zero)))) fault is = cc (is)
+    none_imported (suc (suc (suc (suc (suc i))))) fault is = cc (is)
 
     -- the two scans are of the two labels that had left
     are_there : (i desk label : ℕ) (flips : List (ℕ × ℕ)) (stop : Stop) (reply : Reply A) →

@@ -1,5 +1,5 @@
 -- A scan shows whether its label had left: one that is there had, and one that is not, although its desk is, had not.
-use Rattle.std.proofs.Common.{◌≡◌, ◌<◌, ◌≤◌, ◌⊎◌, inl, inr, ℕ, zero, suc, nat_lt, Option, Some, None, List, [], ◌∷◌, length, slice_get, take, refl, ap, sym, ◌∙◌, subst, arith}
+use Rattle.std.proofs.Common.{◌≡◌, ◌<◌, ◌≤◌, inl, inr, ℕ, zero, suc, nat_lt, Option, Some, None, List, [], ◌∷◌, length, slice_get, take, refl, ap, sym, ◌∙◌, subst, arith}
 use Rattle.std.specs.Prelude.{◌≢◌, All}
 use Rattle.dm_check_blocks.specs.declared.size.Size.{Size}
 use Rattle.dm_check_blocks.specs.declared.size.Size.TheVariants as sizes
@@ -8,37 +8,17 @@ use Rattle.std.proofs.lemmas.Bool.Decides.{nat_tests}
 use Rattle.dm_print_ledger.specs.declared.range.Range.{Range}
 use Rattle.dm_event_history.specs.declared.stop.Stop.{Stop}
 use Rattle.dm_event_history.specs.declared.event.Event.{Event}
-use Rattle.dm_event_history.specs.declared.event.Event.TheVariants.{Print, Scan, RestartPrinter, RestartDesk, Ask, Forget, Give, Take, Export, Import}
+use Rattle.dm_event_history.specs.declared.event.Event.TheVariants.{Scan}
 use Rattle.dm_event_history.specs.declared.reply.Reply.{Reply}
 use Rattle.dm_event_history.specs.declared.reply.Reply.TheVariants.{NoSuch}
-use Rattle.dm_event_history.specs.Actors.{DeskAt, actor_of}
 use Rattle.dm_event_history.specs.History.{Entry, History, CutDocument, LabelName, docs, out, events_of, replies_of}
 use Rattle.dm_event_history.specs.Legal.{HasModules, IsThere, IsLegal, Fits}
-use Rattle.dm_event_history.specs.Headline.{Batch, labels_of, IsDeskThere}
-use Rattle.dm_event_history.proofs.Batches.{batch_of, batches_of, events_count, replies_count, batches_count, before_or_last, take_keeps, out_is, label_in, unused_is_none, whole_before}
+use Rattle.dm_event_history.specs.Headline.{Batch, labels_of}
+use Rattle.dm_event_history.proofs.Batches.{batch_of, batches_of, batches_count, take_keeps, out_is, label_in, unused_is_none, whole_before}
 use Rattle.dm_event_history.proofs.Deciding.{decided}
 use Rattle.dm_event_history.proofs.Gotten.{get_beyond}
 use Rattle.dm_event_history.proofs.Printed.{is_unused}
-use Rattle.dm_event_history.proofs.WhoActs.{desk_is}
-
--- an event and its reply stand before the last ones, or are these
-pub asked_before_or_last : {A : Type 0} (h : History A) (e : Entry A) (i : ℕ) (event : Event A) (reply : Reply A) →
-    slice_get (events_of (e ∷ h)) i ≡ Some event → slice_get (replies_of (e ∷ h)) i ≡ Some reply →
-    ((i < length h) × (slice_get (events_of h) i ≡ Some event) × (slice_get (replies_of h) i ≡ Some reply))
-    ⊎ ((i ≡ length h) × (e.event ≡ event) × (e.reply ≡ reply))
-asked_before_or_last h e i event reply asked answered =
-    let all = events_count h in
-    let each = replies_count h in
-    elim (before_or_last (events_of h) e.event event (length h) i all asked) [
-      | inl before ↦ elim (before_or_last (replies_of h) e.reply reply (length h) i each answered) [
-        | inl told ↦ inl ((let below = get_beyond (events_of h) i event before in omega arith), before, told)
-        | inr last ↦ absurd (let below = get_beyond (events_of h) i event before in let at = last.0 in omega arith)
-      ]
-      | inr last ↦ elim (before_or_last (replies_of h) e.reply reply (length h) i each answered) [
-        | inl told ↦ absurd (let below = get_beyond (replies_of h) i reply told in let at = last.0 in omega arith)
-        | inr now ↦ inr (last.0, last.1, now.1)
-      ]
-    ]
+use Rattle.dm_event_history.proofs.Replied.{asked_before_or_last}
 
 -- how many labels had left before event number i, which is not the last, or is
 left_before : {A : Type 0} (h : History A) (e : Entry A) (i : ℕ) → i < length h →
@@ -75,47 +55,6 @@ there_had_left {A} ranges desks (e ∷ h) i desk label flips stop reply legal as
     ]
 
 -- ---- labels that are not there
-
--- what is there of an event at a desk is the desk, with all else
-desk_of : {A : Type 0} (printers desks : ℕ) (h : History A) (event : Event A) (desk : ℕ) →
-    IsThere printers desks h event →
-    actor_of event ≡ DeskAt desk → desk < desks
-desk_of printers desks h (Print p document size scheme stop) desk there named = absurd (cc (named))
-desk_of printers desks h (Scan d label flips stop) desk there named =
-    (let same = desk_is d desk named in let below = there.0 in omega arith)
-desk_of printers desks h (RestartPrinter p) desk there named = absurd (cc (named))
-desk_of printers desks h (RestartDesk d) desk there named = (let same = desk_is d desk named in omega arith)
-desk_of printers desks h (Ask d id) desk there named = (let same = desk_is d desk named in omega arith)
-desk_of printers desks h (Forget d id stop) desk there named = (let same = desk_is d desk named in omega arith)
-desk_of printers desks h (Give p receiver range stop) desk there named = absurd (cc (named))
-desk_of printers desks h (Take p ticket stop) desk there named = absurd (cc (named))
-desk_of printers desks h (Export d id) desk there named = (let same = desk_is d desk named in omega arith)
-desk_of printers desks h (Import d export stop) desk there named =
-    (let same = desk_is d desk named in let below = there.0 in omega arith)
-
--- a desk that a reply shows to be there is one of so many
-pub desk_within : {A : Type 0} (ranges : List Range) (desks : ℕ) (h : History A) (desk : ℕ) → IsLegal ranges desks h →
-    IsDeskThere (events_of h) (replies_of h) desk → desk < desks
-desk_within ranges desks [] desk legal t = absurd (let x = t.asked in cc (x))
-desk_within {A} ranges desks (e ∷ h) desk legal t =
-    elim (asked_before_or_last h e t.i t.event t.reply t.asked t.answered) [
-      | inl before ↦ desk_within ranges desks h desk legal.1 (record {
-        i = t.i;
-        event = t.event;
-        asked = before.1;
-        at = t.at;
-        of_desk = t.of_desk;
-        not_above = t.not_above;
-        reply = t.reply;
-        answered = before.2;
-        is_such = t.is_such;
-      })
-      | inr last ↦
-          (let fits : Fits ranges desks h e = legal.0 in
-          let below = desk_of (length ranges) desks h e.event t.at
-          (fits.there (λ none. t.is_such (sym last.2 ∙ none))) (ap actor_of last.1 ∙ t.of_desk) in
-          let least : desk ≤ t.at = t.not_above in omega arith)
-    ]
 
 -- each symbol has ten modules along a side at least
 least_side : (size : Size) → 10 ≤ side size

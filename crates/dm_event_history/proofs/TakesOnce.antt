@@ -1,5 +1,5 @@
 -- In a legal history no ticket is taken twice: said of its events and replies alone.
-use Rattle.std.proofs.Common.{◌≡◌, ◌<◌, ◌+◌, ◌&&◌, ◌⊎◌, inl, inr, ℕ, zero, suc, true, Some, List, [], ◌∷◌, ◌++◌, length, slice_get, refl, ap, sym, ◌∙◌, subst, arith, eq-eqb, if◌then◌else◌}
+use Rattle.std.proofs.Common.{◌≡◌, ◌<◌, ◌+◌, ◌&&◌, inl, inr, ℕ, zero, suc, true, Some, List, [], ◌∷◌, ◌++◌, length, slice_get, refl, ap, sym, ◌∙◌, subst, arith, if◌then◌else◌}
 use Rattle.std.proofs.lemmas.List.{length-append}
 use Rattle.dm_print_ledger.specs.declared.range.Range.{Range}
 use Rattle.dm_print_ledger.specs.declared.fault.TakeFault.TheVariants.{Old, Overlap}
@@ -11,59 +11,20 @@ use Rattle.dm_event_history.specs.declared.reply.Reply.{Reply}
 use Rattle.dm_event_history.specs.declared.reply.Reply.TheVariants.{Given, Taken, TakeRefused}
 use Rattle.dm_event_history.specs.History.{Entry, History, events_of, replies_of, tickets, given}
 use Rattle.dm_event_history.specs.Numbers as numbers
-use Rattle.dm_event_history.specs.Places.{takes_ticket, is_taken}
-use Rattle.dm_event_history.specs.Legal.{IsLegal, Fits, IsReply, MayMove, MayBeTaken}
+use Rattle.dm_event_history.specs.Places.{is_taken}
+use Rattle.dm_event_history.specs.Legal.{IsLegal, Fits, IsReply, MayBeTaken}
 use Rattle.dm_event_history.specs.Saving.{tells_of_save}
-use Rattle.dm_event_history.specs.Tickets.{TakesTicket, WasGiven, TakesOnce}
+use Rattle.dm_event_history.specs.Tickets.{TakesTicket, WasGiven, TakesOnce, tickets_in}
 use Rattle.dm_event_history.specs.Actors.{PrinterAt, actor_of}
 use Rattle.dm_event_history.specs.Numbers.{last_serial}
-use Rattle.dm_event_history.proofs.Deciding.{and_so, if_so, or_left, or_right, true_false}
+use Rattle.dm_event_history.proofs.Deciding.{and_so, if_so, true_false}
 use Rattle.dm_event_history.proofs.WhoActs.{same_so}
-use Rattle.dm_event_history.proofs.ScannedLabels.{asked_before_or_last}
+use Rattle.dm_event_history.proofs.Replied.{actor_within, asked_before_or_last}
 use Rattle.dm_event_history.proofs.Gotten.{get_more, get_beyond}
 use Rattle.dm_event_history.proofs.TakenTickets.{WasTaken, taken_more, taken_once, not_taken}
+use Rattle.dm_event_history.proofs.NumberedTickets.{tickets_are, next_ticket, ticket_numbered, ticket_there, ticket_not_there}
+use Rattle.dm_event_history.proofs.RisingTickets.{taken_either, last_takes, was_taken, serials_rise, was_reached}
 use Rattle.dm_event_history.proofs.Batches.{events_count, replies_count, at_last, before_or_last, in_either}
-
--- an event took the ticket before the last one, or it is the last one
-taken_either : {A : Type 0} (h : History A) (e : Entry A) (i printer ticket : ℕ) →
-    TakesTicket (events_of (e ∷ h)) (replies_of (e ∷ h)) i printer ticket →
-    TakesTicket (events_of h) (replies_of h) i printer ticket ⊎
-    ((i ≡ length h) × (stop : Stop) × (e.event ≡ Take printer ticket stop) × (e.reply ≡ Taken))
-taken_either {A} h e i printer ticket t =
-    elim (before_or_last (events_of h) e.event (Take printer ticket t.stop) (length h) i (events_count h) t.event) [
-      | inl asked ↦ elim (before_or_last (replies_of h) e.reply Taken (length h) i (replies_count h) t.reply) [
-        | inl answered ↦ inl (record { stop = t.stop; event = asked; reply = answered })
-        | inr last ↦ absurd (let a = get_beyond (events_of h) i (Take printer ticket t.stop) asked in
-            let b = events_count h in let c = last.0 in omega arith)
-      ]
-      | inr asks ↦ elim (before_or_last (replies_of h) e.reply Taken (length h) i (replies_count h) t.reply) [
-        | inl answered ↦ absurd (let a = get_beyond (replies_of h) i Taken answered in let b = replies_count h in
-            let c = asks.0 in omega arith)
-        | inr last ↦ inr (asks.0, t.stop, asks.1, last.1)
-      ]
-    ]
-
--- a take that was answered `Taken` saved, of a ticket that was the printer's to take
-last_takes : {A : Type 0} (ranges : List Range) (desks : ℕ) (h : History A) (e : Entry A) (printer ticket : ℕ)
-    (stop : Stop) → Fits ranges desks h e →
-    e.event ≡ Take printer ticket stop → e.reply ≡ Taken → (e.saved ≡ true) × MayBeTaken h printer ticket
-last_takes {A} ranges desks h e printer ticket stop fits event_is reply_is =
-    let saved : e.saved ≡ true = fits.told (ap (λ (r : Reply A). tells_of_save r) reply_is) in
-    (saved, subst (λ (v : Event A). MayMove ranges h e.id v) event_is (fits.moves saved))
-
--- a ticket that an event took is taken
-was_taken : {A : Type 0} (ranges : List Range) (desks : ℕ) (h : History A) (i printer ticket : ℕ) →
-    IsLegal ranges desks h →
-    TakesTicket (events_of h) (replies_of h) i printer ticket → is_taken h ticket ≡ true
-was_taken ranges desks [] i printer ticket legal t = absurd (let x = t.reply in cc (x))
-was_taken {A} ranges desks (e ∷ h) i printer ticket legal t = elim (taken_either h e i printer ticket t) [
-  | inl before ↦ or_right (e.saved && takes_ticket e.event ticket) (is_taken h ticket)
-      (was_taken ranges desks h i printer ticket legal.1 before)
-  | inr last ↦ or_left (e.saved && takes_ticket e.event ticket) (is_taken h ticket)
-      (and_so e.saved (takes_ticket e.event ticket)
-      (last_takes ranges desks h e printer ticket last.1 legal.0 last.2 last.3).0
-      (ap (λ (v : Event A). takes_ticket v ticket) last.2 ∙ eq-eqb ticket ticket refl))
-]
 
 given_more : {A : Type 0} (events : List (Event A)) (replies : List (Reply A)) (event : Event A) (reply : Reply A)
     (i later printer ticket : ℕ) →
@@ -128,16 +89,6 @@ given_at {A} ranges desks (e ∷ h) k ticket legal there = elim (in_either (tick
 
 -- ---- numbers of tickets
 
--- a ticket that is given has the next number
-next_number : {A : Type 0} (ranges : List Range) (h : History A) (e : Entry A) (k : ℕ) (ticket : TicketView) →
-    IsReply ranges h e.id e.left e.event e.reply → e.reply ≡ Given k ticket → k ≡ length (tickets h)
-next_number {A} ranges h e k ticket fine is =
-    by_event e.event (subst (λ (r : Reply A). IsReply ranges h e.id e.left e.event r) is fine)
-  where
-    by_event : (event : Event A) → IsReply ranges h e.id e.left event (Given k ticket) → k ≡ length (tickets h)
-    by_event (Give giver receiver range stop) fine = fine.index_is
-    by_event event fine = absurd fine
-
 number_within : {A : Type 0} (ranges : List Range) (desks : ℕ) (h : History A) (i k : ℕ) (ticket : TicketView) →
     IsLegal ranges desks h →
     slice_get (replies_of h) i ≡ Some (Given k ticket) → k < length (tickets h)
@@ -147,7 +98,7 @@ number_within {A} ranges desks (e ∷ h) i k ticket legal is =
     elim (before_or_last (replies_of h) e.reply (Given k ticket) (length h) i (replies_count h) is) [
       | inl before ↦ (let t = number_within ranges desks h i k ticket legal.1 before in omega arith)
       | inr last ↦
-          (let place : k ≡ length (tickets h) = next_number ranges h e k ticket legal.0.reply last.1 in
+          (let place : k ≡ length (tickets h) = next_ticket ranges h e k ticket legal.0.reply last.1 in
           let own : length (given e.reply) ≡ 1 = ap (λ (r : Reply A). length (given r)) last.1 in omega arith)
     ]
 
@@ -228,6 +179,11 @@ takes_first {A} = record {
   once = λ i j printer other ticket a b. absurd (let x = a.reply in cc (x));
   given = λ i printer ticket a. absurd (let x = a.reply in cc (x));
   no_overlap = λ i is. cc (is);
+  next = λ i index ticket a. absurd (cc (a));
+  rising = λ i j printer number later one other a b one_is other_is from order. absurd (let x = a.reply in cc (x));
+  reached = λ i printer number stop ticket a b is. absurd (cc (a));
+  there = λ i printer ticket stop reply a b is_such. absurd (cc (a));
+  not_there = λ i printer ticket stop a b printer_there. absurd (cc (a));
 }
 
 takes_next : {A : Type 0} (ranges : List Range) (desks : ℕ) (h : History A) (e : Entry A) → Fits ranges desks h e →
@@ -238,6 +194,17 @@ takes_next {A} ranges desks h e fits legal f = record {
   serials = serial;
   once = one;
   old = old;
+  next = λ i index ticket answered. ticket_numbered ranges desks (e ∷ h) i index ticket both answered;
+  rising = λ i j printer number later one other a b one_is other_is from order.
+      serials_rise ranges desks (e ∷ h) i j printer number later one other both a b
+      (is_there number one one_is) (is_there later other other_is) from order;
+  reached = λ i printer number stop ticket asked answered is.
+      was_reached ranges desks (e ∷ h) i printer number stop ticket both asked answered is;
+  there = λ i printer ticket stop reply asked answered is_such.
+      ticket_there ranges desks (e ∷ h) i printer ticket stop reply both asked answered is_such;
+  not_there = λ i printer ticket stop asked answered printer_there.
+      ticket_not_there ranges desks (e ∷ h) i printer ticket stop both
+      (actor_within ranges desks (e ∷ h) (PrinterAt printer) both printer_there) asked answered;
   given = λ i printer ticket t. elim (taken_either h e i printer ticket t) [
     | inl before ↦
         (let below = get_beyond (events_of h) i (Take printer ticket before.stop) before.event in
@@ -259,6 +226,14 @@ takes_next {A} ranges desks h e fits legal f = record {
       ];
 }
   where
+    both : IsLegal ranges desks (e ∷ h)
+    both = (fits, legal)
+
+    is_there : (number : ℕ) (ticket : TicketView) →
+        slice_get (tickets_in (replies_of (e ∷ h))) number ≡ Some ticket →
+        slice_get (tickets (e ∷ h)) number ≡ Some ticket
+    is_there number ticket is = ap (λ (l : List TicketView). slice_get l number) (sym (tickets_are (e ∷ h))) ∙ is
+
     refused : (event : Event A) → IsReply ranges h e.id e.left event (TakeRefused Overlap) → ⊥
     refused (Take printer ticket stop) fine = fine
     refused event fine = absurd fine
@@ -271,12 +246,12 @@ takes_next {A} ranges desks h e fits legal f = record {
               (length h) j (replies_count h) b) [
                 | inl second ↦ f.numbered i j ticket one other first second
                 | inr last ↦ absurd (let t = number_within ranges desks h i ticket one legal first in
-                    let n = next_number ranges h e ticket other fits.reply last.1 in omega arith)
+                    let n = next_ticket ranges h e ticket other fits.reply last.1 in omega arith)
               ]
           | inr here ↦ elim (before_or_last (replies_of h) e.reply (Given ticket other)
               (length h) j (replies_count h) b) [
                 | inl second ↦ absurd (let t = number_within ranges desks h j ticket other legal second in
-                    let n = next_number ranges h e ticket one fits.reply here.1 in omega arith)
+                    let n = next_ticket ranges h e ticket one fits.reply here.1 in omega arith)
                 | inr last ↦ here.0 ∙ sym last.0
               ]
         ]

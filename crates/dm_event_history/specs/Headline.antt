@@ -4,17 +4,20 @@ use Rattle.std.specs.Prelude.{◌≡◌, ◌≢◌, ◌<◌, ◌≤◌, ◌⊎�
 use Rattle.dm_append_label.specs.Parts.{AreParts}
 use Rattle.dm_assembly_desk.specs.declared.fault.AskFault.TheVariants.{Incomplete}
 use Rattle.dm_assembly_desk.specs.declared.fault.ScanFault.TheVariants.{Conflict}
+use Rattle.dm_assembly_desk.specs.declared.fault.ImportFault.{ImportFault}
+use Rattle.dm_assembly_desk.specs.declared.fault.ImportFault.TheVariants as import_fault
 use Rattle.dm_assembly_desk.specs.declared.reply.Accepted.{Accepted}
 use Rattle.dm_event_history.specs.Masks.{HasPage}
 use Rattle.dm_event_history.specs.declared.event.Event.{Event}
 use Rattle.dm_event_history.specs.declared.event.Event.TheVariants.{Print, Scan, Ask, Forget, Export}
 use Rattle.dm_event_history.specs.declared.reply.Reply.{Reply}
-use Rattle.dm_event_history.specs.declared.reply.Reply.TheVariants.{Printed, Scanned, ScanRefused, Document, AskRefused, Forgotten, Exported, Stopped, NoSuch}
+use Rattle.dm_event_history.specs.declared.reply.Reply.TheVariants.{Printed, Scanned, ScanRefused, Document, AskRefused, Forgotten, Exported, ImportRefused, Stopped, NoSuch}
 use Rattle.dm_event_history.specs.declared.stop.Stop.{Stop}
 use Rattle.dm_event_history.specs.declared.stop.Stop.TheVariants as stops
-use Rattle.dm_event_history.specs.Actors.{DeskAt, actor_of}
+use Rattle.dm_event_history.specs.Actors.{DeskAt}
 use Rattle.dm_event_history.specs.History.{CutDocument, LabelName, names_from}
 use Rattle.dm_event_history.specs.Saving.{may_save}
+use Rattle.dm_event_history.specs.Replying.{IsActorThere, AreReplies}
 
 -- ---- the labels that left
 
@@ -72,24 +75,14 @@ pub record AllLeft (batches : List (Option Batch)) (i id first count : ℕ) : Ty
   pub all : batch.left ≡ count
   pub first_is : first ≡ length (labels_of (take i batches))
 
--- a reply other than `NoSuch` to an event at a desk shows that it is there, and each of a lower number
-pub record IsDeskThere {A : Type 0} (events : List (Event A)) (replies : List (Reply A)) (desk : ℕ) : Type 0 where
-  pub i : ℕ
-  pub event : Event A
-  pub asked : slice_get events i ≡ Some event
-  pub at : ℕ
-  pub of_desk : actor_of event ≡ DeskAt at
-  pub not_above : desk ≤ at
-  pub reply : Reply A
-  pub answered : slice_get replies i ≡ Some reply
-  pub is_such : reply ≢ NoSuch
-
 -- Each event has a reply, and its batch in `batches`, if labels left by it. No identification comes twice.
 pub record PrintsOnceBy {A : Type 0} (batches : List (Option Batch)) (events : List (Event A))
     (replies : List (Reply A))
     : Type 0 where
   pub each_reply : length replies ≡ length events
   pub each_batch : length batches ≡ length events
+  -- each reply is one to its event
+  pub replied : AreReplies events replies
   -- what a reply says was printed was printed
   pub told : (i id first count : ℕ) → slice_get replies i ≡ Some (Printed id first count) →
       AllLeft batches i id first count
@@ -105,7 +98,7 @@ pub record PrintsOnceBy {A : Type 0} (batches : List (Option Batch)) (events : L
   -- one that is not there, although the desk is, and the modules are in each grid, as the least has side 10, had not
   pub not_there : (i desk label : ℕ) (flips : List (ℕ × ℕ)) (stop : Stop) →
       slice_get events i ≡ Some (Scan desk label flips stop) → slice_get replies i ≡ Some NoSuch →
-      IsDeskThere events replies desk → All (λ flip. (flip.0 < 10) × (flip.1 < 10)) flips →
+      IsActorThere events replies (DeskAt desk) → All (λ flip. (flip.0 < 10) × (flip.1 < 10)) flips →
       length (labels_of (take i batches)) ≤ label
 
 -- no identification is ever printed twice
@@ -167,6 +160,15 @@ pub record WasBegun {A : Type 0} (batches : List (Option Batch)) (events : List 
   pub scanned : (m : ℕ) → 1 ≤ m → m ≤ count_of batch → ¬ HasPage missing m →
       WasScanned batches events replies i id m (count_of batch)
 
+-- an import is refused by the state of its desk: not for the bytes of the export, nor as they disagree with the pages
+-- that the desk holds
+abbrev pub IsOfDesk : ImportFault → Type 0
+IsOfDesk import_fault.NotPages = ⊥
+IsOfDesk import_fault.Version = ⊥
+IsOfDesk import_fault.Damaged = ⊥
+IsOfDesk import_fault.Conflict = ⊥
+IsOfDesk other = Unit {0}
+
 -- what desks tell of labels, documents and pages is as they were printed and scanned
 pub record IsFaithfulBy {A : Type 0} (batches : List (Option Batch)) (events : List (Event A))
     (replies : List (Reply A))
@@ -194,6 +196,8 @@ pub record IsFaithfulBy {A : Type 0} (batches : List (Option Batch)) (events : L
       × ((m : ℕ) → HasPage mask m → WasScanned batches events replies i id m n)
   -- no label disagrees with the pages that a desk holds
   pub no_conflict : (i : ℕ) → slice_get replies i ≢ Some (ScanRefused Conflict)
+  -- nor does an export, and each is a file of pages
+  pub not_imported : (i : ℕ) (fault : ImportFault) → slice_get replies i ≡ Some (ImportRefused fault) → IsOfDesk fault
 
 -- the headline
 abbrev pub IsFaithful : {A : Type 0} → List (Event A) → List (Reply A) → Type 0

@@ -1,13 +1,22 @@
 -- No ticket is taken twice, said of the events and the replies of a run alone, both from the first on.
-use Rattle.std.specs.Prelude.{◌≡◌, ◌≢◌, ◌<◌, ℕ, Some, List, slice_get}
+use Rattle.std.specs.Prelude.{◌≡◌, ◌≢◌, ◌<◌, ◌≤◌, ℕ, true, Some, List, [], ◌∷◌, ◌++◌, length, slice_get, take}
 use Rattle.dm_print_ledger.specs.declared.range.Range.{Range}
 use Rattle.dm_print_ledger.specs.declared.fault.TakeFault.TheVariants.{Old, Overlap}
 use Rattle.dm_print_ledger.specs.Views.{TicketView}
 use Rattle.dm_event_history.specs.declared.event.Event.{Event}
 use Rattle.dm_event_history.specs.declared.event.Event.TheVariants.{Give, Take}
 use Rattle.dm_event_history.specs.declared.reply.Reply.{Reply}
-use Rattle.dm_event_history.specs.declared.reply.Reply.TheVariants.{Given, Taken, TakeRefused}
+use Rattle.dm_event_history.specs.declared.reply.Reply.TheVariants.{Given, Taken, TakeRefused, NoSuch}
 use Rattle.dm_event_history.specs.declared.stop.Stop.{Stop}
+use Rattle.dm_event_history.specs.Actors.{PrinterAt}
+use Rattle.dm_event_history.specs.History.{given}
+use Rattle.dm_event_history.specs.Saving.{may_save}
+use Rattle.dm_event_history.specs.Replying.{IsActorThere}
+
+-- the tickets that these replies tell, the first of them first
+abbrev pub tickets_in : {A : Type 0} → List (Reply A) → List TicketView
+tickets_in [] = []
+tickets_in (reply ∷ replies) = given reply ++ tickets_in replies
 
 -- event number i is a take of the ticket of this number by this printer, and took it
 pub record TakesTicket {A : Type 0} (events : List (Event A)) (replies : List (Reply A)) (i printer ticket : ℕ)
@@ -29,9 +38,30 @@ pub record WasGiven {A : Type 0} (events : List (Event A)) (replies : List (Repl
   pub reply : slice_get replies j
       ≡ Some (Given ticket (record { giver = giver; serial = serial; receiver = printer; range = range }))
 
+-- The ticket is for this printer, and before event number i it may have taken one of the same giver with a serial that
+-- is not below: event number j tells so, or was stopped or failed with the new content kept.
+pub record WasReached {A : Type 0} (events : List (Event A)) (replies : List (Reply A)) (i printer : ℕ)
+    (ticket : TicketView) : Type 0 where
+  pub is_for : ticket.receiver ≡ printer
+  pub j : ℕ
+  pub before : j < i
+  pub number : ℕ
+  pub stop : Stop
+  pub reply : Reply A
+  pub event : slice_get events j ≡ Some (Take printer number stop)
+  pub answered : slice_get replies j ≡ Some reply
+  pub saves : may_save (Take printer number stop) reply ≡ true
+  pub taken : TicketView
+  pub there : slice_get (tickets_in replies) number ≡ Some taken
+  pub giver_is : taken.giver ≡ ticket.giver
+  pub reached : ticket.serial ≤ taken.serial
+
 -- tickets are taken once, by the printers to which they were given
 pub record TakesOnce {A : Type 0} (events : List (Event A)) (replies : List (Reply A)) : Type 0 where
-  -- no two tickets have one number
+  -- a ticket is numbered by how many were given before
+  pub next : (i index : ℕ) (ticket : TicketView) → slice_get replies i ≡ Some (Given index ticket) →
+      index ≡ length (tickets_in (take i replies))
+  -- so no two tickets have one number
   pub numbered : (i j ticket : ℕ) (one other : TicketView) → slice_get replies i ≡ Some (Given ticket one) →
       slice_get replies j ≡ Some (Given ticket other) → i ≡ j
   -- nor have two of one giver one serial
@@ -46,5 +76,22 @@ pub record TakesOnce {A : Type 0} (events : List (Event A)) (replies : List (Rep
   -- what is taken was given before, to the printer that takes it
   pub given : (i printer ticket : ℕ) → TakesTicket events replies i printer ticket →
       WasGiven events replies i printer ticket
+  -- of two tickets of one giver that a printer takes, the later has the higher serial
+  pub rising : (i j printer number later : ℕ) (one other : TicketView) →
+      TakesTicket events replies i printer number → TakesTicket events replies j printer later →
+      slice_get (tickets_in replies) number ≡ Some one → slice_get (tickets_in replies) later ≡ Some other →
+      one.giver ≡ other.giver → i < j → one.serial < other.serial
+  -- what is refused as old was overtaken, or taken
+  pub reached : (i printer number : ℕ) (stop : Stop) (ticket : TicketView) →
+      slice_get events i ≡ Some (Take printer number stop) → slice_get replies i ≡ Some (TakeRefused Old) →
+      slice_get (tickets_in replies) number ≡ Some ticket → WasReached events replies i printer ticket
+  -- a ticket that is asked for, and there, was given before
+  pub there : (i printer ticket : ℕ) (stop : Stop) (reply : Reply A) →
+      slice_get events i ≡ Some (Take printer ticket stop) → slice_get replies i ≡ Some reply → reply ≢ NoSuch →
+      ticket < length (tickets_in (take i replies))
+  -- and one that is not there, although the printer is, was not
+  pub not_there : (i printer ticket : ℕ) (stop : Stop) → slice_get events i ≡ Some (Take printer ticket stop) →
+      slice_get replies i ≡ Some NoSuch → IsActorThere events replies (PrinterAt printer) →
+      length (tickets_in (take i replies)) ≤ ticket
   -- no take is refused since a number of the ticket is free at the printer
   pub no_overlap : (i : ℕ) → slice_get replies i ≢ Some (TakeRefused Overlap)

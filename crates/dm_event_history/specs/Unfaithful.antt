@@ -5,19 +5,26 @@ use Rattle.std.specs.Prelude.{◌≡◌, ℕ, Option, List, [], ◌∷◌, map}
 use Rattle.dm_check_blocks.specs.declared.size.Size.TheVariants.{Side12}
 use Rattle.dm_encodation.specs.declared.scheme.Scheme.TheVariants.{Ascii}
 use Rattle.dm_print_ledger.specs.declared.fault.TakeFault.TheVariants.{Old, Overlap}
+use Rattle.dm_print_ledger.specs.Views.{TicketView}
 use Rattle.dm_assembly_desk.specs.declared.fault.ScanFault.TheVariants.{Conflict}
+use Rattle.dm_assembly_desk.specs.declared.fault.ScanFault.TheVariants as scan_fault
+use Rattle.dm_print_ledger.specs.declared.fault.OpenFault.TheVariants as open_fault
+use Rattle.dm_store.specs.declared.fuse.Kept.TheVariants as kept
+use Rattle.dm_assembly_desk.specs.declared.fault.ImportFault.{ImportFault}
+use Rattle.dm_assembly_desk.specs.declared.fault.ImportFault.TheVariants as import_fault
 use Rattle.dm_assembly_desk.specs.declared.fault.AskFault.TheVariants.{Incomplete}
-use Rattle.dm_assembly_desk.specs.declared.reply.Kind.TheVariants.{New, Complete}
+use Rattle.dm_assembly_desk.specs.declared.reply.Kind.TheVariants.{New, Again, Complete}
 use Rattle.dm_assembly_desk.specs.declared.reply.Kind.{Kind}
 use Rattle.dm_assembly_desk.specs.declared.reply.Accepted.{Accepted}
 use Rattle.dm_event_history.specs.declared.event.Event.{Event}
 use Rattle.dm_event_history.specs.declared.event.Event.TheVariants.{Print, Scan, RestartPrinter, Ask, Forget, Give, Take, Export, Import}
 use Rattle.dm_event_history.specs.declared.reply.Reply.{Reply}
-use Rattle.dm_event_history.specs.declared.reply.Reply.TheVariants.{Printed, Scanned, ScanRefused, Document, AskRefused, Forgotten, Given, Taken, TakeRefused, Exported, Imported, Restarted, Stopped, NoSuch, Memory}
+use Rattle.dm_event_history.specs.declared.reply.Reply.TheVariants.{Printed, Scanned, ScanRefused, Document, AskRefused, Forgotten, Given, Taken, TakeRefused, Exported, Imported, ImportRefused, Restarted, PrinterRefused, Stopped, Down, NoSuch, Memory}
 use Rattle.dm_event_history.specs.declared.stop.Stop.{Stop}
-use Rattle.dm_event_history.specs.declared.stop.Stop.TheVariants.{None, BeforeSave, AfterLabels}
+use Rattle.dm_event_history.specs.declared.stop.Stop.TheVariants.{None, BeforeSave, SaveFault, AfterLabels}
 use Rattle.dm_event_history.specs.History.{LabelName}
 use Rattle.dm_event_history.specs.Headline.{Batch, labels_of, PrintsOnceBy, IsFaithful}
+use Rattle.dm_event_history.specs.Replying.{AreReplies}
 use Rattle.dm_event_history.specs.Tickets.{TakesOnce}
 use Rattle.dm_event_history.specs.Imports.{ImportsExports}
 use Rattle.dm_event_history.specs.Worked.{digits, first_ticket}
@@ -34,6 +41,9 @@ abbrev pub PrintsOnceRun : {A : Type 0} → List LabelName → Run A → Type 0
 PrintsOnceRun labels run =
     (batches : List (Option Batch)) × (labels_of batches ≡ labels)
     × PrintsOnceBy batches (map (λ one. one.0) run) (map (λ one. one.1) run)
+
+abbrev pub AreRepliesRun : {A : Type 0} → Run A → Type 0
+AreRepliesRun run = AreReplies (map (λ one. one.0) run) (map (λ one. one.1) run)
 
 abbrev pub TakesOnceRun : {A : Type 0} → Run A → Type 0
 TakesOnceRun run = TakesOnce (map (λ one. one.0) run) (map (λ one. one.1) run)
@@ -128,6 +138,13 @@ shown_left A =
 abbrev pub conflicting : (A : Type 0) → Run A
 conflicting A = (print 0 digits None, Printed 0 0 2) ∷ (scan 0, ScanRefused Conflict) ∷ []
 
+-- an export is refused at a desk that holds nothing, for this
+abbrev pub refused_import : (A : Type 0) → ImportFault → Run A
+refused_import A fault =
+    (print 0 digits None, Printed 0 0 2) ∷
+    (scan 0, Scanned (page 0 1 New)) ∷
+    (Export 0 0, Exported 0 0 2 1) ∷ (Import 1 0 None, ImportRefused fault) ∷ []
+
 -- ---- pages
 
 -- some pages are missing of a document of which no label was scanned
@@ -176,6 +193,42 @@ told_twice A = (print 0 digits None, Printed 0 0 2) ∷ (print 1 other_digits No
 abbrev pub never_left : (A : Type 0) → Run A
 never_left A = (print 0 digits (AfterLabels 1), Stopped) ∷ (scan 1, Scanned (page 0 2 New)) ∷ []
 
+-- ---- replies
+
+-- each of these replies is to another call, or tells what its stop doesn't let happen
+abbrev pub another_call : (A : Type 0) → Run A
+another_call A = (Ask 0 0, Taken) ∷ []
+
+abbrev pub stopped_unasked : (A : Type 0) → Run A
+stopped_unasked A = (Ask 0 0, Stopped) ∷ []
+
+abbrev pub forgotten_with_a_fault : (A : Type 0) → Run A
+forgotten_with_a_fault A = (Forget 0 0 (SaveFault kept.New), Forgotten) ∷ []
+
+abbrev pub scanned_though_stopped : (A : Type 0) → Run A
+scanned_though_stopped A = (Scan 0 0 [] BeforeSave, Scanned (page 0 1 Again)) ∷ []
+
+abbrev pub failed_without_a_fault : (A : Type 0) → Run A
+failed_without_a_fault A = (scan 0, ScanRefused scan_fault.Save) ∷ []
+
+abbrev pub damaged_by_itself : (A : Type 0) → Run A
+damaged_by_itself A = (RestartPrinter 0, PrinterRefused open_fault.Damaged) ∷ []
+
+-- a desk answers although it is down, and one that was never stopped doesn't
+abbrev pub answered_while_down : (A : Type 0) → Run A
+answered_while_down A = (Forget 0 0 BeforeSave, Stopped) ∷ (Forget 0 0 None, Forgotten) ∷ []
+
+abbrev pub down_unstopped : (A : Type 0) → Run A
+down_unstopped A = (Ask 0 0, Down) ∷ []
+
+-- a desk tells of a save that failed before although none did
+abbrev pub failed_before_a_fault : (A : Type 0) → Run A
+failed_before_a_fault A = (scan 0, ScanRefused scan_fault.Failed) ∷ []
+
+-- a printer is missing that is there
+abbrev pub missing_printer : (A : Type 0) → Run A
+missing_printer A = (print 0 digits None, NoSuch) ∷ (RestartPrinter 1, Restarted) ∷ []
+
 -- ---- tickets
 
 abbrev pub give : {A : Type 0} → Event A × Reply A
@@ -207,6 +260,45 @@ taken_elsewhere A = give ∷ (Take 2 0 None, Taken) ∷ []
 abbrev pub overlaps : (A : Type 0) → Run A
 overlaps A = give ∷ (Take 1 0 None, TakeRefused Overlap) ∷ []
 
+-- a first ticket is not numbered 0
+abbrev pub numbered_above : (A : Type 0) → Run A
+numbered_above A = (Give 0 1 first_ticket.range None, Given 1 first_ticket) ∷ []
+
+-- of two tickets of one giver the second is taken first
+abbrev pub second_ticket : TicketView
+second_ticket = record { giver = 0; serial = 1; receiver = 1; range = first_ticket.range }
+
+abbrev pub taken_falling : (A : Type 0) → Run A
+taken_falling A =
+    give ∷
+    (Give 0 1 second_ticket.range None, Given 1 second_ticket) ∷
+    (Take 1 1 None, Taken) ∷ (Take 1 0 None, Taken) ∷ []
+
+-- a ticket is old although its receiver took none
+abbrev pub old_at_first : (A : Type 0) → Run A
+old_at_first A = give ∷ (Take 1 0 None, TakeRefused Old) ∷ []
+
+-- a ticket is old although its receiver took just one of a lower serial
+abbrev pub old_after_a_lower : (A : Type 0) → Run A
+old_after_a_lower A =
+    give ∷
+    (Give 0 1 second_ticket.range None, Given 1 second_ticket) ∷
+    (Take 1 0 None, Taken) ∷ (Take 1 1 None, TakeRefused Old) ∷ []
+
+-- a ticket is old although the one take of it was stopped before its save
+abbrev pub old_unsaved : (A : Type 0) → Run A
+old_unsaved A =
+    give ∷
+    (Take 1 0 BeforeSave, Stopped) ∷
+    (RestartPrinter 1, Restarted) ∷ (Take 1 0 None, TakeRefused Old) ∷ []
+
+-- a ticket is refused that was not given, and one is missing that was
+abbrev pub refused_ungiven : (A : Type 0) → Run A
+refused_ungiven A = (Take 1 0 None, Memory) ∷ []
+
+abbrev pub missing_ticket : (A : Type 0) → Run A
+missing_ticket A = give ∷ (Take 1 0 None, NoSuch) ∷ (RestartPrinter 1, Restarted) ∷ []
+
 -- ---- exports
 
 abbrev pub import : {A : Type 0} → ℕ → Event A × Reply A
@@ -223,6 +315,17 @@ imported_another_page A = (Export 0 0, Exported 0 0 2 1) ∷ import 2 ∷ []
 abbrev pub exported_twice : (A : Type 0) → Run A
 exported_twice A = (Export 0 0, Exported 0 0 2 1) ∷ (Export 0 0, Exported 0 0 2 1) ∷ []
 
+-- a first export is not numbered 0
+abbrev pub exported_above : (A : Type 0) → Run A
+exported_above A = (Export 0 0, Exported 1 0 2 1) ∷ []
+
+-- an export is refused that was not answered, and one is missing that was
+abbrev pub refused_unexported : (A : Type 0) → Run A
+refused_unexported A = (Import 0 0 None, Memory) ∷ []
+
+abbrev pub missing_export : (A : Type 0) → Run A
+missing_export A = (Export 0 0, Exported 0 0 2 1) ∷ (Import 0 0 None, NoSuch) ∷ []
+
 -- ---- the laws
 
 abbrev pub IsOneFaithful : Type 0 → Type 0
@@ -236,6 +339,10 @@ pub record AreUnfaithful (A : Type 0) : Type 0 where
   pub never_scanned_is : ¬ IsFaithfulRun (never_scanned A)
   pub never_saved_is : ¬ IsFaithfulRun (never_saved A)
   pub conflicting_is : ¬ IsFaithfulRun (conflicting A)
+  pub import_conflicting_is : ¬ IsFaithfulRun (refused_import A import_fault.Conflict)
+  pub import_damaged_is : ¬ IsFaithfulRun (refused_import A import_fault.Damaged)
+  pub import_of_a_version_is : ¬ IsFaithfulRun (refused_import A import_fault.Version)
+  pub import_of_no_pages_is : ¬ IsFaithfulRun (refused_import A import_fault.NotPages)
   pub two_documents_is : ¬ IsFaithfulRun (two_documents A)
   pub shown_not_left_is : ¬ IsFaithfulRun (shown_not_left A)
   pub shown_left_is : ¬ IsFaithfulRun (shown_left A)
@@ -246,12 +353,32 @@ pub record AreUnfaithful (A : Type 0) : Type 0 where
   pub printed_unseen_is : ¬ PrintsOnceRun unseen_labels (printed_unseen A)
   pub told_twice_is : ¬ IsFaithfulRun (told_twice A)
   pub never_left_is : ¬ IsFaithfulRun (never_left A)
+  pub another_call_is : ¬ AreRepliesRun (another_call A)
+  pub stopped_unasked_is : ¬ AreRepliesRun (stopped_unasked A)
+  pub forgotten_with_a_fault_is : ¬ AreRepliesRun (forgotten_with_a_fault A)
+  pub scanned_though_stopped_is : ¬ AreRepliesRun (scanned_though_stopped A)
+  pub failed_without_a_fault_is : ¬ AreRepliesRun (failed_without_a_fault A)
+  pub damaged_by_itself_is : ¬ AreRepliesRun (damaged_by_itself A)
+  pub answered_while_down_is : ¬ AreRepliesRun (answered_while_down A)
+  pub down_unstopped_is : ¬ AreRepliesRun (down_unstopped A)
+  pub failed_before_a_fault_is : ¬ AreRepliesRun (failed_before_a_fault A)
+  pub missing_printer_is : ¬ AreRepliesRun (missing_printer A)
   pub numbered_twice_is : ¬ TakesOnceRun (numbered_twice A)
   pub taken_twice_is : ¬ TakesOnceRun (taken_twice A)
   pub taken_elsewhere_is : ¬ TakesOnceRun (taken_elsewhere A)
   pub overlaps_is : ¬ TakesOnceRun (overlaps A)
   pub one_serial_is : ¬ TakesOnceRun (one_serial A)
   pub taken_though_old_is : ¬ TakesOnceRun (taken_though_old A)
+  pub numbered_above_is : ¬ TakesOnceRun (numbered_above A)
+  pub taken_falling_is : ¬ TakesOnceRun (taken_falling A)
+  pub old_at_first_is : ¬ TakesOnceRun (old_at_first A)
+  pub old_after_a_lower_is : ¬ TakesOnceRun (old_after_a_lower A)
+  pub old_unsaved_is : ¬ TakesOnceRun (old_unsaved A)
+  pub refused_ungiven_is : ¬ TakesOnceRun (refused_ungiven A)
+  pub missing_ticket_is : ¬ TakesOnceRun (missing_ticket A)
   pub never_exported_is : ¬ ImportsExportsRun (never_exported A)
   pub imported_another_page_is : ¬ ImportsExportsRun (imported_another_page A)
   pub exported_twice_is : ¬ ImportsExportsRun (exported_twice A)
+  pub exported_above_is : ¬ ImportsExportsRun (exported_above A)
+  pub refused_unexported_is : ¬ ImportsExportsRun (refused_unexported A)
+  pub missing_export_is : ¬ ImportsExportsRun (missing_export A)

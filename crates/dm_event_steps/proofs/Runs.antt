@@ -1,6 +1,7 @@
 -- Honest histories stay honest by fair events, and what a fair run answers is faithful.
-use Rattle.std.proofs.Common.{◌≡◌, inl, inr, ◌<◌, ◌≤◌, ℕ, zero, suc, List, [], ◌∷◌, ◌++◌, length, map, slice_get, refl, ap, sym, ◌∙◌, subst, arith}
-use Rattle.std.proofs.lemmas.List.{length-append, length-map, append-nil}
+use Rattle.std.proofs.Common.{◌≡◌, inl, inr, ◌<◌, ◌≤◌, ℕ, zero, suc, List, [], ◌∷◌, ◌++◌, Bool, true, nat_le, Option, length, map, take, slice_get, refl, ap, sym, ◌∙◌, subst, arith}
+use Rattle.std.proofs.lemmas.List.{length-append, length-map, append-nil, take_all}
+use Rattle.std.proofs.lemmas.Bool.Decides.{nat_tests}
 use Rattle.std.proofs.Common.{append_assoc}
 use Rattle.dm_finder_frame.specs.Grids.{GridView}
 use Rattle.dm_print_ledger.specs.declared.range.Range.{Range}
@@ -10,7 +11,7 @@ use Rattle.dm_event_history.specs.declared.reply.Reply.{Reply}
 use Rattle.dm_event_history.specs.History.{Entry, History, CutDocument, out, names_from, events_of, replies_of}
 use Rattle.dm_event_history.specs.Legal.{IsLegal, IsThere, NeverTwice, IsNoLabelTwice}
 use Rattle.dm_event_history.specs.Honest.{IsFair, IsHonest}
-use Rattle.dm_event_history.specs.Headline.{PrintsOnceBy, IsFaithfulBy}
+use Rattle.dm_event_history.specs.Headline.{Batch, PrintsOnceBy, IsFaithfulBy}
 use Rattle.dm_event_history.specs.Places.{AreOpened}
 use Rattle.dm_event_history.specs.Tickets.{TakesOnce}
 use Rattle.dm_event_history.specs.Imports.{ImportsExports}
@@ -18,13 +19,14 @@ use Rattle.dm_event_history.proofs.Gotten.{get_beyond}
 use Rattle.std.proofs.lemmas.Option.{slice_get_within}
 use Rattle.dm_event_history.proofs.Fresh.{all_placed, never_twice}
 use Rattle.dm_event_history.proofs.LeftOnce.{labels_once, labels_opened}
-use Rattle.dm_event_history.proofs.Batches.{batches_of, out_is}
+use Rattle.dm_event_history.proofs.Batches.{batch_of, batches_of, batches_count, events_count, replies_count, take_keeps, out_is}
+use Rattle.dm_event_history.proofs.Deciding.{decided}
 use Rattle.dm_event_history.proofs.PrintsOnce.{prints_once}
 use Rattle.dm_event_history.proofs.ImportsExports.{imports_exports}
 use Rattle.dm_event_history.proofs.TakesOnce.{takes_once}
 use Rattle.dm_event_history.proofs.Faithful.{IsPrintedBy, printed_at, is_faithful}
 use Rattle.dm_event_steps.specs.Labels.{name_of, grid_of, IsPart, ShowsDocument}
-use Rattle.dm_event_steps.specs.Worlds.{WorldView, left_of, grids_of, IsFairIn, Steps, Runs, RunsFairly, AreItsBatches, HasPrintedOnce, AreItsLabels, HasBeenFaithful}
+use Rattle.dm_event_steps.specs.Worlds.{WorldView, left_of, grids_of, IsFairIn, Steps, Runs, RunsMarked, AreMarked, AreItsBatches, HasPrintedOnce, AreItsLabels, HasBeenFaithful}
 use Rattle.dm_event_steps.specs.StandsFor.{StandsFor}
 use Rattle.dm_event_steps.proofs.EachPrinter.{printer_goes}
 use Rattle.dm_event_steps.proofs.WorldGoing.{grids_more}
@@ -170,21 +172,6 @@ runs_on {A} ranges capacities h old new (event ∷ events) (reply ∷ replies) s
 runs_on ranges capacities h old new [] (reply ∷ replies) s runs = absurd runs
 runs_on ranges capacities h old new (event ∷ events) [] s runs = absurd runs
 
--- what a fair run leaves is honest
-fairly_on : {A : Type 0} (ranges : List Range) (capacities : List ℕ) (h : History A) (old new : WorldView A)
-    (events : List (Event A))
-    (replies : List (Reply A)) → StandsFor ranges capacities old h → IsHonest (grids_of old) h →
-    RunsFairly old events replies new →
-    (run : HasRun ranges capacities h events replies new) × IsHonest (grids_of new) run.after
-fairly_on {A} ranges capacities h old new [] [] s honest runs =
-    (no_run ranges capacities h old new s runs, subst (λ (w : WorldView A). IsHonest (grids_of w) h) (sym runs) honest)
-fairly_on {A} ranges capacities h old new (event ∷ events) (reply ∷ replies) s honest runs =
-    let t = step_stands ranges capacities h old runs.0 event reply s runs.2 in
-    let rest = fairly_on ranges capacities (t.0 ∷ h) runs.0 new events replies t.3 (t.4 runs.1 honest) runs.3 in
-    (run_with ranges capacities h new t.0 event reply events replies t.1 t.2 rest.0, rest.1)
-fairly_on ranges capacities h old new [] (reply ∷ replies) s honest runs = absurd runs
-fairly_on ranges capacities h old new (event ∷ events) [] s honest runs = absurd runs
-
 -- the labels that left by a run are those of its batches, and show their documents
 its_batches : {A : Type 0} (ranges : List Range) (capacities : List ℕ) (world : WorldView A) (h : History A) →
     StandsFor ranges capacities world h →
@@ -251,19 +238,144 @@ run_imports {A} ranges capacities old new events replies s runs =
     (subst (λ (l : List (Reply A)). ImportsExports (events_of r.after) l) r.replies_are
     (imports_exports ranges (length capacities) r.after r.stands.legal))
 
+-- ---- runs that are fair at first
+
+-- the first of a list are the first of its first part
+take_first : {X : Type 0} (xs ys : List X) (n k : ℕ) → length xs ≡ n → k ≤ n → take k (xs ++ ys) ≡ take k xs
+take_first xs ys n k count below = take_keeps xs ys k (omega arith)
+
+-- the first of more marks
+marked_before : (marks : List Bool) (mark : Bool) → AreMarked (marks ++ mark ∷ []) → AreMarked marks × (mark ≡ true)
+marked_before [] mark marked = (tt, marked.0)
+marked_before (first ∷ marks) mark marked =
+    (let t = marked_before marks mark marked.1 in ((marked.0, t.0), t.1))
+
+-- as long as the entries are marked, the replies are faithful
+abbrev IsFaithfulWhile : {A : Type 0} → History A → List Bool → Type 0
+IsFaithfulWhile h marks = (k : ℕ) → AreMarked (take k marks) →
+    IsFaithfulBy (take k (batches_of h)) (take k (events_of h)) (take k (replies_of h))
+
+record IsMarked {A : Type 0} (world : WorldView A) (h : History A) (marks : List Bool) : Type 0 where
+  pub count : length marks ≡ length h
+  pub honest : AreMarked marks → IsHonest (grids_of world) h
+  pub faithful : IsFaithfulWhile h marks
+
+-- an honest history is faithful
+whole_faithful : {A : Type 0} (ranges : List Range) (capacities : List ℕ) (world : WorldView A) (h : History A) →
+    StandsFor ranges capacities world h → IsHonest (grids_of world) h →
+    IsFaithfulBy (batches_of h) (events_of h) (replies_of h)
+whole_faithful ranges capacities world h s honest =
+    is_faithful ranges (length capacities) h (grids_of world) capacities s.legal
+    (never_twice ranges (length capacities) h s.disjoint s.legal) (s.safe honest) (s.answers honest)
+
+-- and so are the first entries of a history, all of it
+all_faithful : {A : Type 0} (h : History A) (k : ℕ) → length h ≤ k →
+    IsFaithfulBy (batches_of h) (events_of h) (replies_of h) →
+    IsFaithfulBy (take k (batches_of h)) (take k (events_of h)) (take k (replies_of h))
+all_faithful {A} h k all f =
+    let a = batches_count h in
+    let b = events_count h in
+    let c = replies_count h in
+    subst (λ (l : List (Option Batch)). IsFaithfulBy l (take k (events_of h)) (take k (replies_of h)))
+    (sym (take_all k (batches_of h) (omega arith)))
+    (subst (λ (l : List (Event A)). IsFaithfulBy (batches_of h) l (take k (replies_of h)))
+    (sym (take_all k (events_of h) (omega arith)))
+    (subst (λ (l : List (Reply A)). IsFaithfulBy (batches_of h) (events_of h) l)
+    (sym (take_all k (replies_of h) (omega arith))) f))
+
+-- the first entries are faithful among more
+first_faithful : {A : Type 0} (h : History A) (e : Entry A) (k : ℕ) → k ≤ length h →
+    IsFaithfulBy (take k (batches_of h)) (take k (events_of h)) (take k (replies_of h)) →
+    IsFaithfulBy (take k (batches_of (e ∷ h))) (take k (events_of (e ∷ h))) (take k (replies_of (e ∷ h)))
+first_faithful {A} h e k below f =
+    subst (λ (l : List (Option Batch)). IsFaithfulBy l (take k (events_of (e ∷ h))) (take k (replies_of (e ∷ h))))
+    (sym (take_first (batches_of h) (batch_of e ∷ []) (length h) k (batches_count h) below))
+    (subst (λ (l : List (Event A)). IsFaithfulBy (take k (batches_of h)) l (take k (replies_of (e ∷ h))))
+    (sym (take_first (events_of h) (e.event ∷ []) (length h) k (events_count h) below))
+    (subst (λ (l : List (Reply A)). IsFaithfulBy (take k (batches_of h)) (take k (events_of h)) l)
+    (sym (take_first (replies_of h) (e.reply ∷ []) (length h) k (replies_count h) below)) f))
+
+no_marks : {A : Type 0} (ranges : List Range) (capacities : List ℕ) (world : WorldView A) →
+    StandsFor ranges capacities world [] → IsMarked world [] []
+no_marks {A} ranges capacities world s =
+    let none : History A = [] in record {
+      count = refl;
+      honest = λ marked. tt;
+      faithful = λ k marked. all_faithful none k (omega arith) (whole_faithful ranges capacities world none s tt);
+    }
+
+-- one entry more
+marked_next : {A : Type 0} (ranges : List Range) (capacities : List ℕ) (old new : WorldView A) (h : History A)
+    (e : Entry A) (marks : List Bool) (mark : Bool) → StandsFor ranges capacities new (e ∷ h) → IsMarked old h marks →
+    (mark ≡ true → IsHonest (grids_of old) h → IsHonest (grids_of new) (e ∷ h)) →
+    IsMarked new (e ∷ h) (marks ++ mark ∷ [])
+marked_next {A} ranges capacities old new h e marks mark s m fair = record {
+  count = (let l = length-append marks (mark ∷ []) in let c = m.count in omega arith);
+  honest = honest;
+  faithful = λ k marked. elim (decided (nat_le k (length h))) [
+    | inl below ↦
+        (let within : k ≤ length h = grind (arith, nat_tests, below) in
+        first_faithful h e k within
+        (m.faithful k (subst AreMarked (take_first marks (mark ∷ []) (length h) k m.count within) marked)))
+    | inr beyond ↦
+        (let all : length (e ∷ h) ≤ k = grind (arith, nat_tests, beyond) in
+        let l = length-append marks (mark ∷ []) in
+        let c = m.count in
+        all_faithful (e ∷ h) k all (whole_faithful ranges capacities new (e ∷ h) s
+        (honest (subst AreMarked (take_all k (marks ++ mark ∷ []) (omega arith)) marked))))
+  ];
+}
+  where
+    honest : AreMarked (marks ++ mark ∷ []) → IsHonest (grids_of new) (e ∷ h)
+    honest marked = (let t = marked_before marks mark marked in fair t.1 (m.honest t.0))
+
+-- what a run leaves, with its marks
+record HasRunMarked {A : Type 0} (ranges : List Range) (capacities : List ℕ) (h : History A) (was : List Bool)
+    (events : List (Event A)) (marks : List Bool) (replies : List (Reply A)) (new : WorldView A) : Type 0 where
+  pub run : HasRun ranges capacities h events replies new
+  pub marked : IsMarked new run.after (was ++ marks)
+
+marked_on : {A : Type 0} (ranges : List Range) (capacities : List ℕ) (h : History A) (was : List Bool)
+    (old new : WorldView A) (events : List (Event A)) (marks : List Bool) (replies : List (Reply A)) →
+    StandsFor ranges capacities old h → IsMarked old h was → RunsMarked old events marks replies new →
+    HasRunMarked ranges capacities h was events marks replies new
+marked_on {A} ranges capacities h was old new [] [] [] s m runs = record {
+  run = no_run ranges capacities h old new s runs;
+  marked = subst (λ (w : WorldView A). IsMarked w h (was ++ [])) (sym runs)
+      (subst (λ (l : List Bool). IsMarked old h l) (sym (append-nil was)) m);
+}
+marked_on {A} ranges capacities h was old new (event ∷ events) (mark ∷ marks) (reply ∷ replies) s m runs =
+    let t = step_stands ranges capacities h old runs.0 event reply s runs.2 in
+    let next : IsMarked runs.0 (t.0 ∷ h) (was ++ mark ∷ []) =
+    marked_next ranges capacities old runs.0 h t.0 was mark t.3 m (λ is honest. t.4 (runs.1 is) honest) in
+    let rest =
+    marked_on ranges capacities (t.0 ∷ h) (was ++ mark ∷ []) runs.0 new events marks replies t.3 next runs.3 in
+    record {
+      run = run_with ranges capacities h new t.0 event reply events replies t.1 t.2 rest.run;
+      marked = subst (λ (l : List Bool). IsMarked new rest.run.after l) (append_assoc was (mark ∷ []) marks)
+          rest.marked;
+    }
+marked_on ranges capacities h was old new events marks replies s m runs = absurd runs
+
 pub fair_run : {A : Type 0} (ranges : List Range) (capacities : List ℕ) (old new : WorldView A)
-    (events : List (Event A)) (replies : List (Reply A)) →
-    StandsFor ranges capacities old [] → RunsFairly old events replies new → HasBeenFaithful new events replies
-fair_run {A} ranges capacities old new events replies s runs =
+    (events : List (Event A)) (marks : List Bool) (replies : List (Reply A)) →
+    StandsFor ranges capacities old [] → RunsMarked old events marks replies new →
+    HasBeenFaithful new events marks replies
+fair_run {A} ranges capacities old new events marks replies s runs =
     let none : History A = [] in
-    let f = fairly_on ranges capacities none old new events replies s tt runs in
-    let r : HasRun ranges capacities none events replies new = f.0 in
-    let legal = r.stands.legal in (
-      batches_of r.after,
-      its_batches ranges capacities new r.after r.stands,
-      subst (λ (l : List (Event A)). IsFaithfulBy (batches_of r.after) l replies) r.events_are
-          (subst (λ (l : List (Reply A)). IsFaithfulBy (batches_of r.after) (events_of r.after) l) r.replies_are
-          (is_faithful ranges (length capacities) r.after (grids_of new) capacities legal
-          (never_twice ranges (length capacities) r.after r.stands.disjoint legal) (r.stands.safe f.1)
-          (r.stands.answers f.1))),
-    )
+    let f : HasRunMarked ranges capacities none [] events marks replies new =
+    marked_on ranges capacities none [] old new events marks replies s (no_marks ranges capacities old s) runs in
+    let r : HasRun ranges capacities none events replies new = f.run in
+    let legal = r.stands.legal in
+    let never : NeverTwice r.after = never_twice ranges (length capacities) r.after r.stands.disjoint legal in record {
+      batches = batches_of r.after;
+      its = its_batches ranges capacities new r.after r.stands;
+      prints = subst (λ (l : List (Event A)). PrintsOnceBy (batches_of r.after) l replies) r.events_are
+          (subst (λ (l : List (Reply A)). PrintsOnceBy (batches_of r.after) (events_of r.after) l) r.replies_are
+          (prints_once ranges (length capacities) r.after legal never));
+      faithful = λ k marked.
+          subst (λ (l : List (Event A)). IsFaithfulBy (take k (batches_of r.after)) (take k l) (take k replies))
+          r.events_are
+          (subst (λ (l : List (Reply A)). IsFaithfulBy (take k (batches_of r.after)) (take k (events_of r.after))
+          (take k l)) r.replies_are (f.marked.faithful k marked));
+    }

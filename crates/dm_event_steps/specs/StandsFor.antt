@@ -1,5 +1,5 @@
 -- Which histories a world stands for, and what follows of its runs.
-use Rattle.std.specs.Prelude.{◌≡◌, ℕ, Some, List, [], ◌∷◌, length, map, slice_get}
+use Rattle.std.specs.Prelude.{◌≡◌, ℕ, Some, List, [], ◌∷◌, length, map, slice_get, Bool}
 use Rattle.dm_print_ledger.specs.declared.range.Range.{Range}
 use Rattle.dm_event_history.specs.declared.event.Event.{Event}
 use Rattle.dm_event_history.specs.declared.reply.Reply.{Reply}
@@ -18,7 +18,7 @@ use Rattle.dm_event_steps.specs.Exports.{export_name_of, ShowsPages}
 use Rattle.dm_event_steps.specs.Stands.{PrinterStands}
 use Rattle.dm_event_steps.specs.DeskStands.{DeskStands}
 use Rattle.dm_event_steps.specs.Goes.{AreOf}
-use Rattle.dm_event_steps.specs.Worlds.{WorldView, left_of, grids_of, IsFairIn, Steps, Runs, RunsFairly, HasPrintedOnce, AreItsLabels, HasBeenFaithful}
+use Rattle.dm_event_steps.specs.Worlds.{WorldView, left_of, grids_of, IsFairIn, Steps, Runs, RunsMarked, HasPrintedOnce, AreItsLabels, HasBeenFaithful}
 
 -- the world, whose printers began with these ranges and whose desks have room for that many documents each
 pub record StandsFor {A : Type 0} (ranges : List Range) (capacities : List ℕ) (world : WorldView A) (h : History A)
@@ -72,8 +72,9 @@ EachRunImportsExports A = (ranges : List Range) (capacities : List ℕ) (old new
     (events : List (Event A)) (replies : List (Reply A)) →
     StandsFor ranges capacities old [] → Runs old events replies new → ImportsExports events replies
 
--- the headline: a world that begins, and runs fairly, is faithful
+-- the headline: a world that begins is faithful as long as it runs fairly
 abbrev pub EachFairRunIsFaithful : Type 0 → Type 0
 EachFairRunIsFaithful A = (ranges : List Range) (capacities : List ℕ) (old new : WorldView A)
-    (events : List (Event A)) (replies : List (Reply A)) →
-    StandsFor ranges capacities old [] → RunsFairly old events replies new → HasBeenFaithful new events replies
+    (events : List (Event A)) (marks : List Bool) (replies : List (Reply A)) →
+    StandsFor ranges capacities old [] → RunsMarked old events marks replies new →
+    HasBeenFaithful new events marks replies

@@ -1,5 +1,5 @@
 -- Worlds of printers and desks: what one step of a world does, what a run is, and which labels left by it.
-use Rattle.std.specs.Prelude.{◌≡◌, ◌⊎◌, ◌<◌, ℕ, Option, Some, List, [], ◌∷◌, length, map, slice_get, slice_set, All}
+use Rattle.std.specs.Prelude.{◌≡◌, ◌⊎◌, ◌<◌, ℕ, Bool, true, Option, Some, List, [], ◌∷◌, length, map, take, slice_get, slice_set, All}
 use Rattle.dm_check_blocks.specs.Sizes.{side}
 use Rattle.dm_finder_frame.specs.Grids.{GridView}
 use Rattle.dm_append_label.specs.Labels.{Carries}
@@ -103,13 +103,18 @@ Runs {A} old (event ∷ events) (reply ∷ replies) new =
 Runs old [] (reply ∷ replies) new = ⊥
 Runs old (event ∷ events) [] new = ⊥
 
--- the world takes these events on, each of them fair, and replies so
-abbrev pub RunsFairly : {A : Type 0} → WorldView A → List (Event A) → List (Reply A) → WorldView A → Type 0
-RunsFairly old [] [] new = new ≡ old
-RunsFairly {A} old (event ∷ events) (reply ∷ replies) new =
-    (mid : WorldView A) × IsFairIn old event × Steps old event reply mid × RunsFairly mid events replies new
-RunsFairly old [] (reply ∷ replies) new = ⊥
-RunsFairly old (event ∷ events) [] new = ⊥
+-- the same, and each event that is marked is fair
+abbrev pub RunsMarked : {A : Type 0} → WorldView A → List (Event A) → List Bool → List (Reply A) → WorldView A →
+    Type 0
+RunsMarked old [] [] [] new = new ≡ old
+RunsMarked {A} old (event ∷ events) (mark ∷ marks) (reply ∷ replies) new =
+    (mid : WorldView A) × (mark ≡ true → IsFairIn old event) × Steps old event reply mid
+    × RunsMarked mid events marks replies new
+RunsMarked old events marks replies new = ⊥
+
+abbrev pub AreMarked : List Bool → Type 0
+AreMarked [] = Unit {0}
+AreMarked (mark ∷ marks) = (mark ≡ true) × AreMarked marks
 
 -- ---- labels
 
@@ -137,7 +142,13 @@ HasPrintedOnce world events replies =
 abbrev pub AreItsLabels : {A : Type 0} → List Range → WorldView A → Type 0
 AreItsLabels ranges world = IsNoLabelTwice (map name_of world.labels) × AreOpened ranges (map name_of world.labels)
 
--- the replies are faithful, and just the world's labels left
-abbrev pub HasBeenFaithful : {A : Type 0} → WorldView A → List (Event A) → List (Reply A) → Type 0
-HasBeenFaithful world events replies =
-    (batches : List (Option Batch)) × AreItsBatches world batches × IsFaithfulBy batches events replies
+-- No identification was printed twice, and as long as each event is marked, the replies are faithful. One list of
+-- batches serves for both, and for each number of first events; just the world's labels left.
+pub record HasBeenFaithful {A : Type 0} (world : WorldView A) (events : List (Event A)) (marks : List Bool)
+    (replies : List (Reply A))
+    : Type 0 where
+  pub batches : List (Option Batch)
+  pub its : AreItsBatches world batches
+  pub prints : PrintsOnceBy batches events replies
+  pub faithful : (k : ℕ) → AreMarked (take k marks) →
+      IsFaithfulBy (take k batches) (take k events) (take k replies)

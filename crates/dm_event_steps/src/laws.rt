@@ -42,9 +42,9 @@ pub fn each_run_imports_exports<A: Allocator + Copy>()
     ensures { EachRunImportsExports A }
 {}
 
-/// The headline: whatever a world answers that begins with printers of disjoint ranges, whose scans are near the labels
-/// that they name, is faithful. Whatever document any desk gives for an identification is the one document printed
-/// under it, and no identification is ever printed twice.
+/// The headline: whatever a world answers that begins with printers of disjoint ranges is faithful as long as its scans
+/// are near the labels that they name. Whatever document any desk gives for an identification is the one document
+/// printed under it, and no identification is ever printed twice.
 pub fn each_fair_run_is_faithful<A: Allocator + Copy>()
     ensures { EachFairRunIsFaithful A }
 {}

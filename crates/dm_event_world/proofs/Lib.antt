@@ -11,3 +11,4 @@ pub mod Ready
 pub mod OneStep
 pub mod ScannedLabels
 pub mod Runs
+pub mod Shown

@@ -3,4 +3,5 @@ pub mod Left
 pub mod Openings
 pub mod Runs
 pub mod Watched
+pub mod Shown
 pub mod inner

@@ -1,11 +1,11 @@
 -- Runs in which each event is looked at first, and what is so of their answers: the headline.
-use Rattle.std.specs.Prelude.{◌≡◌, ◌↔◌, ℕ, true, List, [], ◌∷◌, take}
+use Rattle.std.specs.Prelude.{◌≡◌, ◌↔◌, ℕ, true, Option, List, [], ◌∷◌, length, take}
 use Rattle.dm_print_ledger.specs.declared.range.Range.{Range}
 use Rattle.dm_event_history.specs.declared.event.Event.{Event}
 use Rattle.dm_event_history.specs.declared.event.Event.TheVariants.{Scan}
 use Rattle.dm_event_history.specs.declared.reply.Reply.{Reply}
-use Rattle.dm_event_history.specs.Headline.{IsFaithful}
-use Rattle.dm_event_steps.specs.Worlds.{WorldView, IsNamed, IsFairIn, Steps, HasPrintedOnce, HasBeenFaithful, AreItsLabels}
+use Rattle.dm_event_history.specs.Headline.{Batch, PrintsOnceBy, IsFaithfulBy}
+use Rattle.dm_event_steps.specs.Worlds.{WorldView, IsNamed, IsFairIn, Steps, AreItsBatches, AreItsLabels}
 use Rattle.dm_event_world.specs.Openings.{Begins}
 use Rattle.dm_event_world.specs.declared.answers.Answer.{Answer}
 use Rattle.dm_event_world.specs.declared.answers.Answer.TheVariants.{Given, NotGiven}
@@ -30,12 +30,20 @@ AreHonest [] = Unit {0}
 AreHonest (Given is_honest reply ∷ answers) = (is_honest ≡ true) × AreHonest answers
 AreHonest (NotGiven ∷ answers) = AreHonest answers
 
--- As long as each event was found honest, the replies are faithful, whatever comes later: whatever document any desk
--- gave
--- for an identification is the one document printed under it, and no identification was printed twice.
+-- No identification was printed twice, and as long as each event was found honest, the replies are faithful, whatever
+-- comes later: whatever document any desk gave for an identification is the one document printed under it. One list of
+-- batches serves for both, and for each k: the batches of the first events are the first of it.
+pub record IsFaithfulIfHonestBy {A : Type 0} (batches : List (Option Batch)) (events : List (Event A))
+    (answers : List (Answer A))
+    : Type 0 where
+  pub once : PrintsOnceBy batches (given events answers) (replies answers)
+  pub faithful : (k : ℕ) → AreHonest (take k answers) →
+      IsFaithfulBy (take (length (replies (take k answers))) batches) (given (take k events) (take k answers))
+      (replies (take k answers))
+
+-- the headline
 abbrev pub IsFaithfulIfHonest : {A : Type 0} → List (Event A) → List (Answer A) → Type 0
-IsFaithfulIfHonest events answers = (k : ℕ) → AreHonest (take k answers) →
-    IsFaithful (given (take k events) (take k answers)) (replies (take k answers))
+IsFaithfulIfHonest events answers = (batches : List (Option Batch)) × IsFaithfulIfHonestBy batches events answers
 
 -- ---- what the answers are
 
@@ -59,17 +67,15 @@ AnswersAll {A} old (event ∷ events) (answer ∷ answers) new =
 AnswersAll old [] (answer ∷ answers) new = ⊥
 AnswersAll old (event ∷ events) [] new = ⊥
 
--- A world began with these ranges and capacities, and answered the events so. No identification was printed twice, and
--- if
--- each event was found honest, the replies are faithful: in both, by batches of just the labels that left the world,
--- each
--- of which carries a part of the document of its batch. No label left the world twice.
+-- A world began with these ranges and capacities, and answered the events so. The headline holds by batches of just the
+-- labels that left the world, each of which carries a part of the document of its batch. No label left the world twice.
 pub record RunsFromTheStart {A : Type 0} (ranges : List Range) (capacities : List ℕ) (events : List (Event A))
     (answers : List (Answer A)) : Type 0 where
   pub old : WorldView A
   pub new : WorldView A
   pub begins : Begins ranges capacities old
   pub answered : AnswersAll old events answers new
-  pub printed_once : HasPrintedOnce new (given events answers) (replies answers)
-  pub faithful : AreHonest answers → HasBeenFaithful new (given events answers) (replies answers)
+  pub batches : List (Option Batch)
+  pub its : AreItsBatches new batches
+  pub faithful : IsFaithfulIfHonestBy batches events answers
   pub labels : AreItsLabels ranges new

@@ -19,6 +19,7 @@ mod desk_act;
 mod desk_moves;
 mod desk_opening;
 mod fault;
+pub mod laws;
 mod printer_act;
 mod printer_opening;
 mod running;

@@ -1,18 +1,15 @@
 use Rattle.dm_event_world.specs.Watched.{given, replies}
-use Rattle.std.specs.Prelude.{take}
-use Rattle.dm_event_world.proofs.Runs.{first_answers, runs_by, runs_fairly}
+use Rattle.dm_event_world.proofs.Runs.{marks, runs_marked, runs_by, faithful_by}
 use Rattle.dm_event_world.proofs.running.watch.Goals as goal
 
 pub returns-in-Ok-answer_all-clause-headline : goal.returns-in-Ok-answer_all-clause-headline
-returns-in-Ok-answer_all-clause-headline g c = λ k honest.
-    (let events = take k c.args.events.now in
-    let answers = take k c.in-Ok-answer_all.answers.items in
-    let first = first_answers k c.in-Ok.world c.answer_all.new.world c.args.events.now c.in-Ok-answer_all.answers.items
-    c.in-Ok-answer_all.ensures in
-    let f = c.each_fair_run_is_faithful.ensures c.args.ranges.now c.args.capacities.now c.in-Ok.world first.0
-    (given events answers) (replies answers)
-    c.in-Ok.ensures.stands (runs_fairly c.in-Ok.world first.0 events answers first.1 honest) in
-    (f.0, f.2))
+returns-in-Ok-answer_all-clause-headline g c =
+    (let events = c.args.events.now in
+    let answers = c.in-Ok-answer_all.answers.items in
+    let f = c.each_fair_run_is_faithful.ensures c.args.ranges.now c.args.capacities.now c.in-Ok.world
+    c.answer_all.new.world (given events answers) (marks answers) (replies answers) c.in-Ok.ensures.stands
+    (runs_marked c.in-Ok.world c.answer_all.new.world events answers c.in-Ok-answer_all.ensures) in
+    (f.batches, faithful_by c.in-Ok.world c.answer_all.new.world events answers c.in-Ok-answer_all.ensures f))
 
 pub returns-in-Ok-answer_all-clause-once : goal.returns-in-Ok-answer_all-clause-once
 returns-in-Ok-answer_all-clause-once g c =
@@ -42,23 +39,20 @@ returns-in-Ok-answer_all-clause-exports g c =
 
 pub returns-in-Ok-answer_all-clause-answers : goal.returns-in-Ok-answer_all-clause-answers
 returns-in-Ok-answer_all-clause-answers g c =
+    let events = c.args.events.now in
+    let answers = c.in-Ok-answer_all.answers.items in
+    let f = c.each_fair_run_is_faithful.ensures c.args.ranges.now c.args.capacities.now c.in-Ok.world
+    c.answer_all.new.world (given events answers) (marks answers) (replies answers) c.in-Ok.ensures.stands
+    (runs_marked c.in-Ok.world c.answer_all.new.world events answers c.in-Ok-answer_all.ensures) in
     let once = c.each_run_prints_once.ensures c.args.ranges.now c.args.capacities.now c.in-Ok.world
-    c.answer_all.new.world
-    (given c.args.events.now c.in-Ok-answer_all.answers.items)
-    (replies c.in-Ok-answer_all.answers.items) c.in-Ok.ensures.stands
-    (runs_by c.in-Ok.world c.answer_all.new.world c.args.events.now c.in-Ok-answer_all.answers.items
-    c.in-Ok-answer_all.ensures) in record {
+    c.answer_all.new.world (given events answers) (replies answers) c.in-Ok.ensures.stands
+    (runs_by c.in-Ok.world c.answer_all.new.world events answers c.in-Ok-answer_all.ensures) in record {
       old = c.in-Ok.world;
       new = c.answer_all.new.world;
       begins = c.in-Ok.ensures.begins;
       answered = c.in-Ok-answer_all.ensures;
-      printed_once = once.0;
-      faithful = λ honest.
-          c.each_fair_run_is_faithful.ensures c.args.ranges.now c.args.capacities.now c.in-Ok.world
-          c.answer_all.new.world
-          (given c.args.events.now c.in-Ok-answer_all.answers.items)
-          (replies c.in-Ok-answer_all.answers.items) c.in-Ok.ensures.stands
-          (runs_fairly c.in-Ok.world c.answer_all.new.world c.args.events.now c.in-Ok-answer_all.answers.items
-          c.in-Ok-answer_all.ensures honest);
+      batches = f.batches;
+      its = f.its;
+      faithful = faithful_by c.in-Ok.world c.answer_all.new.world events answers c.in-Ok-answer_all.ensures f;
       labels = once.1;
     }

@@ -1,0 +1,143 @@
+-- Which replies events may have, said of events and replies alone.
+use Rattle.std.specs.Prelude.{◌≡◌, ◌≢◌, ◌≤◌, ◌↔◌, ℕ, Bool, true, false, if◌then◌else◌, Some, List, ◌∷◌, slice_get, take}
+use Rattle.dm_print_ledger.specs.declared.fault.PrintFault.TheVariants as print_fault
+use Rattle.dm_print_ledger.specs.declared.fault.GiveFault.TheVariants as give_fault
+use Rattle.dm_print_ledger.specs.declared.fault.TakeFault.TheVariants as take_fault
+use Rattle.dm_print_ledger.specs.declared.fault.OpenFault.TheVariants as open_fault
+use Rattle.dm_assembly_desk.specs.declared.reply.Kind.TheVariants.{Again}
+use Rattle.dm_assembly_desk.specs.declared.fault.ScanFault.TheVariants as scan_fault
+use Rattle.dm_assembly_desk.specs.declared.fault.ForgetFault.TheVariants as forget_fault
+use Rattle.dm_assembly_desk.specs.declared.fault.ImportFault.TheVariants as import_fault
+use Rattle.dm_assembly_desk.specs.declared.fault.DeskFault.TheVariants as desk_fault
+use Rattle.dm_event_history.specs.declared.event.Event.{Event}
+use Rattle.dm_event_history.specs.declared.event.Event.TheVariants.{Print, Scan, RestartPrinter, RestartDesk, Ask, Forget, Give, Take, Export, Import}
+use Rattle.dm_event_history.specs.declared.reply.Reply.{Reply}
+use Rattle.dm_event_history.specs.declared.reply.Reply.TheVariants.{Printed, PrintRefused, Scanned, ScanRefused, Document, AskRefused, Forgotten, ForgetRefused, Given, GiveRefused, Taken, TakeRefused, Exported, ExportRefused, Imported, ImportRefused, Restarted, PrinterRefused, DeskRefused, Stopped, Down, NoSuch, Memory}
+use Rattle.dm_event_history.specs.declared.stop.Stop.TheVariants as stops
+use Rattle.dm_event_history.specs.Actors.{Actor, PrinterAt, DeskAt, actor_of, is_same}
+use Rattle.dm_event_history.specs.Running.{down_after, failed_after}
+use Rattle.dm_event_history.specs.Legal.{IsSaveFault, IsStopped, NeedsRunning}
+
+-- ---- one event
+
+-- The reply is one to the event. What tells of a save is told only if nothing was to happen to the call, and `Save`
+-- only if the save was to meet a fault. A restart is refused for memory alone.
+abbrev pub MayReply : {A : Type 0} → Event A → Reply A → Type 0
+MayReply (Print printer document size scheme stop) (Printed id first count) = stop ≡ stops.None
+MayReply (Print printer document size scheme stop) (PrintRefused print_fault.Save) = IsSaveFault stop
+MayReply (Print printer document size scheme stop) (PrintRefused fault) = Unit {0}
+MayReply (Scan desk label flips stop) (Scanned accepted) = accepted.kind ≢ Again → stop ≡ stops.None
+MayReply (Scan desk label flips stop) (ScanRefused scan_fault.Save) = IsSaveFault stop
+MayReply (Scan desk label flips stop) (ScanRefused fault) = Unit {0}
+MayReply (RestartPrinter printer) Restarted = Unit {0}
+MayReply (RestartPrinter printer) (PrinterRefused fault) = fault ≡ open_fault.Memory
+MayReply (RestartDesk desk) Restarted = Unit {0}
+MayReply (RestartDesk desk) (DeskRefused fault) = fault ≡ desk_fault.Memory
+MayReply (Ask desk id) (Document bytes) = Unit {0}
+MayReply (Ask desk id) (AskRefused fault) = Unit {0}
+MayReply (Forget desk id stop) Forgotten = stop ≡ stops.None
+MayReply (Forget desk id stop) (ForgetRefused forget_fault.Save) = IsSaveFault stop
+MayReply (Forget desk id stop) (ForgetRefused fault) = Unit {0}
+MayReply (Give printer receiver range stop) (Given index ticket) =
+    (stop ≡ stops.None) × (ticket.giver ≡ printer) × (ticket.receiver ≡ receiver) × (ticket.range ≡ range)
+MayReply (Give printer receiver range stop) (GiveRefused give_fault.Save) = IsSaveFault stop
+MayReply (Give printer receiver range stop) (GiveRefused fault) = Unit {0}
+MayReply (Take printer ticket stop) Taken = stop ≡ stops.None
+MayReply (Take printer ticket stop) (TakeRefused take_fault.Save) = IsSaveFault stop
+MayReply (Take printer ticket stop) (TakeRefused fault) = Unit {0}
+MayReply (Export desk id) (Exported index told n mask) = told ≡ id
+MayReply (Export desk id) (ExportRefused fault) = Unit {0}
+MayReply (Import desk export stop) (Imported imported) = imported.kind ≢ Again → stop ≡ stops.None
+MayReply (Import desk export stop) (ImportRefused import_fault.Save) = IsSaveFault stop
+MayReply (Import desk export stop) (ImportRefused fault) = Unit {0}
+MayReply event Stopped = IsStopped event
+MayReply event Down = NeedsRunning event
+MayReply event NoSuch = Unit {0}
+MayReply event Memory = Unit {0}
+MayReply event reply = ⊥
+
+-- the reply tells nothing of what the call would have answered
+abbrev pub IsNoAnswer : {A : Type 0} → Reply A → Type 0
+IsNoAnswer Stopped = Unit {0}
+IsNoAnswer Down = Unit {0}
+IsNoAnswer NoSuch = Unit {0}
+IsNoAnswer Memory = Unit {0}
+IsNoAnswer reply = ⊥
+
+-- the reply is one to the event, and a call that is to end before its reply doesn't answer
+pub record IsReplyTo {A : Type 0} (event : Event A) (reply : Reply A) : Type 0 where
+  pub may : MayReply event reply
+  pub stopped : IsStopped event → IsNoAnswer reply
+
+-- ---- what is there
+
+-- a reply other than `NoSuch` to an event at a printer, or at a desk, shows that it is there, and so is each of a
+-- lower number
+pub record IsShown {A : Type 0} (events : List (Event A)) (replies : List (Reply A)) (actor_at : ℕ → Actor)
+    (number : ℕ) : Type 0 where
+  pub i : ℕ
+  pub event : Event A
+  pub asked : slice_get events i ≡ Some event
+  pub at : ℕ
+  pub of_actor : actor_of event ≡ actor_at at
+  pub not_above : number ≤ at
+  pub reply : Reply A
+  pub answered : slice_get replies i ≡ Some reply
+  pub is_such : reply ≢ NoSuch
+
+-- a reply shows that this printer or desk is there
+abbrev pub IsActorThere : {A : Type 0} → List (Event A) → List (Reply A) → Actor → Type 0
+IsActorThere events replies (PrinterAt printer) = IsShown events replies PrinterAt printer
+IsActorThere events replies (DeskAt desk) = IsShown events replies DeskAt desk
+
+-- the event names a printer or a desk, and no label, ticket or export
+abbrev pub NamesNoMore : {A : Type 0} → Event A → Type 0
+NamesNoMore (Scan desk label flips stop) = ⊥
+NamesNoMore (Take printer ticket stop) = ⊥
+NamesNoMore (Import desk export stop) = ⊥
+NamesNoMore event = Unit {0}
+
+-- ---- who is down, and who failed
+
+-- what is so of a printer or a desk after these events, if this was so before: `after` says how each of its replies
+-- changes it
+abbrev pub goes_on : {A : Type 0} → (Reply A → Bool → Bool) → List (Event A) → List (Reply A) → Actor → Bool → Bool
+goes_on after (event ∷ events) (reply ∷ replies) actor before =
+    goes_on after events replies actor (if is_same (actor_of event) actor then after reply before else before)
+goes_on after events replies actor before = before
+
+-- whether a printer or a desk is down before event number i: a stop, or a restart that was refused, left it so
+abbrev pub is_down_before : {A : Type 0} → List (Event A) → List (Reply A) → ℕ → Actor → Bool
+is_down_before events replies i actor = goes_on down_after (take i events) (take i replies) actor false
+
+-- whether it answered `Save` before event number i, and was not restarted since
+abbrev pub has_failed_before : {A : Type 0} → List (Event A) → List (Reply A) → ℕ → Actor → Bool
+has_failed_before events replies i actor = goes_on failed_after (take i events) (take i replies) actor false
+
+-- the reply tells that a save failed before
+abbrev pub TellsFailed : {A : Type 0} → Reply A → Type 0
+TellsFailed (PrintRefused print_fault.Failed) = Unit {0}
+TellsFailed (ScanRefused scan_fault.Failed) = Unit {0}
+TellsFailed (ForgetRefused forget_fault.Failed) = Unit {0}
+TellsFailed (GiveRefused give_fault.Failed) = Unit {0}
+TellsFailed (TakeRefused take_fault.Failed) = Unit {0}
+TellsFailed (ImportRefused import_fault.Failed) = Unit {0}
+TellsFailed reply = ⊥
+
+-- ---- all events
+
+-- each reply is one to its event
+pub record AreReplies {A : Type 0} (events : List (Event A)) (replies : List (Reply A)) : Type 0 where
+  pub each : (i : ℕ) (event : Event A) (reply : Reply A) → slice_get events i ≡ Some event →
+      slice_get replies i ≡ Some reply → IsReplyTo event reply
+  -- a printer or a desk that is there is not told as missing
+  pub no_such : (i : ℕ) (event : Event A) → slice_get events i ≡ Some event → slice_get replies i ≡ Some NoSuch →
+      IsActorThere events replies (actor_of event) → ¬ NamesNoMore event
+  -- what is down, and there, answers nothing but `Down`, unless it is restarted, and nothing else answers that
+  pub down : (i : ℕ) (event : Event A) (reply : Reply A) → slice_get events i ≡ Some event →
+      slice_get replies i ≡ Some reply → reply ≢ NoSuch →
+      (reply ≡ Down) ↔ (NeedsRunning event × (is_down_before events replies i (actor_of event) ≡ true))
+  -- what tells that a save failed before did answer so, and was not restarted since
+  pub failed : (i : ℕ) (event : Event A) (reply : Reply A) → slice_get events i ≡ Some event →
+      slice_get replies i ≡ Some reply → TellsFailed reply →
+      has_failed_before events replies i (actor_of event) ≡ true

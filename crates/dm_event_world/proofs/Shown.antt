@@ -1,0 +1,38 @@
+-- The run is refused: the first batches of its one list are those of the first events.
+use Rattle.std.proofs.Common.{◌≡◌, ℕ, Option, Some, None, List, [], ◌∷◌, take, refl, sym, ◌∙◌, subst, arith, slice_get}
+use Rattle.dm_assembly_desk.specs.declared.reply.Kind.TheVariants.{New}
+use Rattle.dm_event_history.specs.declared.event.Event.TheVariants.{Scan}
+use Rattle.dm_event_history.specs.declared.stop.Stop.TheVariants as stops
+use Rattle.dm_event_history.specs.Headline.{Batch, labels_of, IsScanOf}
+use Rattle.dm_event_history.proofs.Refuted.{first_label}
+use Rattle.dm_event_world.specs.Shown.{IsShownForGood, shown_events, shown_answers}
+use Rattle.dm_event_world.specs.Watched.{IsFaithfulIfHonestBy, given}
+
+pub is_shown_for_good : (A : Type 0) → IsShownForGood A
+is_shown_for_good A (batches, f) = by_batches batches f
+  where
+    -- the scan is of label 0
+    had : (batches : List (Option Batch)) → IsFaithfulIfHonestBy batches (shown_events A) (shown_answers A) →
+        slice_get (labels_of (take 1 (take 2 batches))) 0 ≡ Some (record { id = 7; number = 1; count = 2 })
+    had batches f =
+        let s : IsScanOf (take 2 batches) (given (take 2 (shown_events A)) (take 2 (shown_answers A))) 1
+        (record { id = 7; number = 1; count = 2 }) =
+        (f.faithful 2 (refl, (refl, tt))).scanned 1 (record { id = 7; m = 1; n = 2; kind = New }) refl in
+        let e : Some (Scan 0 0 [] stops.None) ≡ Some (Scan s.desk s.label s.flips s.stop) = s.event in
+        let label_is : 0 ≡ s.label = cc (e) in
+        subst (λ (i : ℕ). slice_get (labels_of (take 1 (take 2 batches))) i ≡ Some (record {
+          id = 7;
+          number = 1;
+          count = 2;
+        })) (sym label_is) s.had_left
+
+    by_batches : (batches : List (Option Batch)) →
+        IsFaithfulIfHonestBy batches (shown_events A) (shown_answers A) → ⊥
+    by_batches [] f = (let x = had [] f in cc (x))
+    by_batches (None ∷ rest) f = (let x = had (None ∷ rest) f in cc (x))
+    by_batches (Some batch ∷ rest) f =
+        let p = f.once.printed 0 batch refl in
+        let own : batch.id ≡ 7 =
+        first_label batch [] (record { id = 7; number = 1; count = 2 }) p.not_none (had (Some batch ∷ rest) f) in
+        let t = f.once.told 3 7 1 2 refl in
+        let place : ◌≡◌ {A = ℕ} 0 3 = f.once.once 0 3 batch t.batch refl t.there (own ∙ sym t.id_is) in omega arith
