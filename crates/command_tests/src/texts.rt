@@ -2,7 +2,6 @@
 
 use dm_append_label::LabelFault;
 use dm_encodation::DecodeFault;
-use dm_pbm_io::PbmFault;
 use relay_symbol_commands::{ReadRefusal, SymbolRefusal};
 use test_helpers::says;
 
@@ -21,10 +20,6 @@ fn refusals_say_what_is_wrong(rt: HostRuntime) {
     }
     for (refusal, text) in [
         (
-            ReadRefusal::Image(PbmFault::Cut),
-            "the input ends inside the image",
-        ),
-        (
             ReadRefusal::Shape,
             "the image has not the shape of a symbol",
         ),
@@ -37,7 +32,6 @@ fn refusals_say_what_is_wrong(rt: HostRuntime) {
             "what begins at position 3 is cut off",
         ),
         (ReadRefusal::Memory, "out of memory"),
-        (ReadRefusal::TooMany, "the input has too many images"),
     ] {
         assert!(rt; says(rt.alloc(), &refusal, text), "{text}");
     }

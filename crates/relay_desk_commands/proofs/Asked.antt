@@ -1,45 +1,18 @@
--- What a desk answers to the commands that give something out.
-use Rattle.std.specs.Prelude.{◌≡◌, ℕ, Bool, true, false, List, Option, None, Some, Result, Ok, Err, is_some}
+-- What a desk answers is what its answer has as bytes.
+use Rattle.std.specs.Prelude.{◌≡◌, ℕ, Bool, true, false, List, Option, None, Some, Result, Ok, Err, is_some, MatchBool}
 use Rattle.std.specs.List.{list_all}
-use Rattle.std.proofs.Common.{refl}
-use Rattle.std.proofs.lemmas.Bool.{MatchBool-at_true, MatchBool-at_false}
-use Rattle.dm_assembly_desk.specs.Asking.{Asks}
+use Rattle.std.proofs.Common.{ap}
+use Rattle.dm_assembly_desk.specs.Asking.{Asks, AsksWhole}
 use Rattle.dm_assembly_desk.specs.Exporting.{Exports}
-use Rattle.dm_assembly_desk.specs.Files.{file}
-use Rattle.dm_assembly_desk.specs.Pages.{Pages, document_of}
+use Rattle.dm_assembly_desk.specs.Pages.{Pages}
 use Rattle.dm_assembly_desk.specs.declared.fault.AskFault.{AskFault}
 use Rattle.dm_assembly_desk.specs.declared.fault.AskFault.TheVariants as asks
 use Rattle.dm_assembly_desk.specs.declared.fault.ExportFault.TheVariants as exports
 use Rattle.dm_assembly_desk.specs.declared.fault.ExportFault.{ExportFault}
-use Rattle.relay_desk_commands.specs.Desks.{HasAskFault, HasExportFault}
-
--- the pages of a document that is given: each of them is held
-pub record IsWhole (found : Option Pages) (document : List ℕ) : Type 0 where
-  pub pages : Pages
-  pub there : found ≡ Some pages
-  pub all : list_all is_some pages ≡ true
-  pub joined : document ≡ document_of pages
-
--- the file of the pages that are held
-pub record IsFileOf (id : ℕ) (found : Option Pages) (bytes : List ℕ) : Type 0 where
-  pub pages : Pages
-  pub there : found ≡ Some pages
-  pub spelled : bytes ≡ file id pages
 
 -- no answer is given and refused
 given_refused : {X F : Type 0} (x : X) (fault : F) → Ok x ≡ Err fault → ⊥
 given_refused x fault same = cc
-
--- a document is given where each page is held, and it is these
-pub asked_whole : {X : Type 0} (bytes : X → List ℕ) (found : Option Pages) (document : X) →
-    Asks bytes found (Ok document)
-    → IsWhole found (bytes document)
-asked_whole bytes None document given = absurd (given_refused document _ given)
-asked_whole bytes (Some pages) document given = whole (list_all is_some pages) refl
-  where
-    whole : (b : Bool) → list_all is_some pages ≡ b → IsWhole (Some pages) (bytes document)
-    whole true all = record { pages = pages; there = refl; all = all; joined = MatchBool-at_true _ _ all given }
-    whole false some = absurd (given_refused document _ (MatchBool-at_false _ _ some given))
 
 abbrev refusal : (X : Type 0) {F : Type 0} → F → Result X F
 refusal X fault = Err fault
@@ -48,54 +21,40 @@ refusal X fault = Err fault
 same_fault : (X : Type 0) {F : Type 0} (one other : F) → refusal X one ≡ refusal X other → one ≡ other
 same_fault X one other same = cc
 
-not_incomplete : (missing : ℕ) → asks.Incomplete missing ≡ asks.NotHeld → ⊥
-not_incomplete missing same = cc
+either : (b : Bool) {P Q R S : Type 0} → (P → R) → (Q → S) → MatchBool b P Q → MatchBool b R S
+either true first second given = first given
+either false first second given = second given
 
-no_memory : asks.Memory ≡ asks.NotHeld → ⊥
-no_memory same = cc
+-- a document that is given
+pub asked : {X : Type 0} (bytes : X → List ℕ) (found : Option Pages) (document : X)
+    → Asks bytes found (Ok document) → Asks (λ (given : List ℕ). given) found (Ok (bytes document))
+asked bytes None document given = absurd (given_refused document _ given)
+asked bytes (Some pages) document given =
+    either (list_all is_some pages) (λ whole. whole) (λ same. absurd (given_refused document _ same)) given
 
-not_held : (missing : ℕ) → asks.NotHeld ≡ asks.Incomplete missing → ⊥
-not_held missing same = cc
+no_memory : {X : Type 0} (bytes : X → List ℕ) (pages : Pages) (fault : AskFault)
+    → AsksWhole bytes pages (Err fault) → AsksWhole (λ (given : List ℕ). given) pages (Err fault)
+no_memory bytes pages asks.Memory whole = tt
+no_memory bytes pages asks.NotHeld whole = whole
+no_memory bytes pages (asks.Incomplete missing) whole = whole
 
-memory : (missing : ℕ) → asks.Memory ≡ asks.Incomplete missing → ⊥
-memory missing same = cc
+-- a document that is not given
+pub not_asked : {X : Type 0} (bytes : X → List ℕ) (found : Option Pages) (fault : AskFault)
+    → Asks bytes found (Err fault) → Asks (λ (given : List ℕ). given) found (Err fault)
+not_asked {X} bytes None fault refused = ap (refusal (List ℕ)) (same_fault X fault _ refused)
+not_asked {X} bytes (Some pages) fault refused =
+    either (list_all is_some pages) (no_memory bytes pages fault)
+    (λ same. ap (refusal (List ℕ)) (same_fault X fault _ same)) refused
 
-same_missing : (one other : ℕ) → asks.Incomplete one ≡ asks.Incomplete other → one ≡ other
-same_missing one other same = cc
+-- a file that is given
+pub exported : {X : Type 0} (bytes : X → List ℕ) (id : ℕ) (found : Option Pages) (file : X)
+    → Exports bytes id found (Ok file) → Exports (λ (given : List ℕ). given) id found (Ok (bytes file))
+exported bytes id None file given = absurd (given_refused file _ given)
+exported bytes id (Some pages) file given = given
 
--- why a document is not given, by what is held of it
-pub asked_refused : {X : Type 0} (bytes : X → List ℕ) (found : Option Pages) (fault : AskFault) →
-    Asks bytes found (Err fault)
-    → HasAskFault found fault
-asked_refused bytes None asks.NotHeld given = refl
-asked_refused bytes None (asks.Incomplete missing) given = absurd (not_incomplete missing (same_fault _ _ _ given))
-asked_refused bytes None asks.Memory given = absurd (no_memory (same_fault _ _ _ given))
-asked_refused bytes (Some pages) fault given = by_pages (list_all is_some pages) fault refl given
-  where
-    by_pages : (b : Bool) (fault : AskFault) → list_all is_some pages ≡ b
-        → Asks bytes (Some pages) (Err fault) → HasAskFault (Some pages) fault
-    by_pages true asks.NotHeld all refused = absurd (MatchBool-at_true _ _ all refused)
-    by_pages true (asks.Incomplete missing) all refused = absurd (MatchBool-at_true _ _ all refused)
-    by_pages true asks.Memory all refused = (pages, refl, all)
-    by_pages false asks.NotHeld some refused =
-        absurd (not_held _ (same_fault _ _ _ (MatchBool-at_false _ _ some refused)))
-    by_pages false (asks.Incomplete missing) some refused =
-        (pages, refl, some, same_missing _ _ (same_fault _ _ _ (MatchBool-at_false _ _ some refused)))
-    by_pages false asks.Memory some refused = absurd (memory _ (same_fault _ _ _ (MatchBool-at_false _ _ some refused)))
-
--- a file is given where a page of the document is held
-pub exported_file : {X : Type 0} (bytes : X → List ℕ) (id : ℕ) (found : Option Pages) (given : X)
-    → Exports bytes id found (Ok given) → IsFileOf id found (bytes given)
-exported_file bytes id None given exported = absurd (given_refused given _ exported)
-exported_file bytes id (Some pages) given exported = record { pages = pages; there = refl; spelled = exported }
-
-no_export : exports.Memory ≡ exports.NotHeld → ⊥
-no_export same = cc
-
--- why no file is given, by what is held of the document
-pub export_refused : {X : Type 0} (bytes : X → List ℕ) (id : ℕ) (found : Option Pages) (fault : ExportFault)
-    → Exports bytes id found (Err fault) → HasExportFault found fault
-export_refused bytes id None exports.NotHeld refused = refl
-export_refused bytes id None exports.Memory refused = absurd (no_export (same_fault _ _ _ refused))
-export_refused bytes id (Some pages) exports.NotHeld refused = absurd refused
-export_refused bytes id (Some pages) exports.Memory refused = (pages, refl)
+-- a file that is not given
+pub not_exported : {X : Type 0} (bytes : X → List ℕ) (id : ℕ) (found : Option Pages) (fault : ExportFault)
+    → Exports bytes id found (Err fault) → Exports (λ (given : List ℕ). given) id found (Err fault)
+not_exported {X} bytes id None fault refused = ap (refusal (List ℕ)) (same_fault X fault _ refused)
+not_exported bytes id (Some pages) exports.NotHeld refused = refused
+not_exported bytes id (Some pages) exports.Memory refused = tt

@@ -1,36 +1,39 @@
 -- What `deliver`, `forget`, `export` and `import` do to the files of a desk, and what they write.
-use Rattle.std.specs.Prelude.{◌≡◌, ◌⊎◌, ℕ, List, [], ◌∷◌, Option, true, false, None, Some, Ok, Err, codes, is_some}
-use Rattle.std.specs.List.{list_all}
+use Rattle.std.specs.Prelude.{◌≡◌, ◌⊎◌, ℕ, List, [], ◌∷◌, Option, true, Ok, Err}
 use Rattle.std.specs.FinMap as map
 use Rattle.std.specs.Io.KnownBytes.{Appends}
 use Rattle.hex.specs.Hex.{decode_sized}
 use Rattle.dm_store.specs.Saved.{Saved}
 use Rattle.dm_store.specs.Sets.{SavedSet}
 use Rattle.dm_append_label.specs.Pages.{IsIdWord, id_words}
+use Rattle.dm_assembly_desk.specs.Asking.{Asks}
 use Rattle.dm_assembly_desk.specs.FaultNames.{ask_fault_name, desk_fault_name, export_fault_name, forget_fault_name, import_fault_name, move_fault_name}
-use Rattle.dm_assembly_desk.specs.Files.{file}
+use Rattle.dm_assembly_desk.specs.Exporting.{Exports}
 use Rattle.dm_assembly_desk.specs.Forgetting.{Forgets}
 use Rattle.dm_assembly_desk.specs.Importing.{ImportsBytes}
 use Rattle.dm_assembly_desk.specs.Moving.{HasMoveFault, KeepsFiles, KeepsPlans, Moves}
 use Rattle.dm_assembly_desk.specs.Opening.{HasDeskFault, Opens}
-use Rattle.dm_assembly_desk.specs.Pages.{Pages, document_of, missing_mask}
+use Rattle.dm_assembly_desk.specs.Pages.{Pages}
 use Rattle.dm_assembly_desk.specs.Views.{DeskView}
 use Rattle.dm_assembly_desk.specs.declared.limits.TheConstants.{MOST_CAPACITY}
 use Rattle.dm_assembly_desk.specs.declared.fault.AskFault.{AskFault}
-use Rattle.dm_assembly_desk.specs.declared.fault.AskFault.TheVariants as asks
 use Rattle.dm_assembly_desk.specs.declared.fault.DeskFault.{DeskFault}
 use Rattle.dm_assembly_desk.specs.declared.fault.ExportFault.{ExportFault}
-use Rattle.dm_assembly_desk.specs.declared.fault.ExportFault.TheVariants as exports
 use Rattle.dm_assembly_desk.specs.declared.fault.ForgetFault.{ForgetFault}
 use Rattle.dm_assembly_desk.specs.declared.fault.ImportFault.{ImportFault}
 use Rattle.dm_assembly_desk.specs.declared.fault.MoveFault.{MoveFault}
 use Rattle.dm_assembly_desk.specs.declared.reply.Imported.{Imported}
-use Rattle.relay_streams.specs.FaultNames.{input_fault_name}
+use Rattle.relay_streams.specs.FaultNames.{input_fault_name, write_fault_name}
 use Rattle.relay_streams.specs.Streams.{AppendsPart, InputView, OutputView, TakesFirst}
 use Rattle.relay_streams.specs.declared.fault.InputFault.{InputFault}
+use Rattle.relay_streams.specs.declared.fault.WriteFault.TheVariants.{Write}
+use Rattle.relay_desk_commands.specs.declared.giving.Given.{Given}
+use Rattle.relay_desk_commands.specs.declared.giving.Given.TheVariants.{Document, File}
 use Rattle.relay_desk_commands.specs.declared.import.TheConstants.{IMPORT_BYTES}
 use Rattle.relay_shared.specs.DeskLines.{forgotten_line, imported_line}
 use Rattle.relay_shared.specs.Documents.{HasInputFault}
+use Rattle.relay_shared.specs.Refusals.{refusal_name}
+use Rattle.relay_shared.specs.declared.refusal.Refusal.TheVariants as refusals
 use Rattle.relay_shared.specs.Telling.{Tells, TellsRefusal}
 
 -- ---- a desk's files
@@ -83,56 +86,48 @@ abbrev pub TellsBytes : List ℕ → OutputView → OutputView → ℕ → Outpu
 TellsBytes bytes old old_errors status new errors =
     (Appends old.contents new.contents bytes × (errors ≡ old_errors) × (status ≡ 0))
     ⊎ ((new.has_failed ≡ true) × AppendsPart old.contents new.contents bytes
-    × TellsRefusal (codes "Write") old_errors errors status)
+    × TellsRefusal (write_fault_name Write) old_errors errors status)
 
--- why no document is given, by what is held of it
-abbrev pub HasAskFault : Option Pages → AskFault → Type 0
-HasAskFault found asks.NotHeld = found ≡ None
-HasAskFault found (asks.Incomplete missing) =
-    (pages : Pages) × (found ≡ Some pages) × (list_all is_some pages ≡ false) × (missing ≡ missing_mask pages)
-HasAskFault found asks.Memory = (pages : Pages) × (found ≡ Some pages) × (list_all is_some pages ≡ true)
+-- these bytes are what the desk gives out by what is held of the document
+abbrev pub Gives : Given → ℕ → Option Pages → List ℕ → Type 0
+Gives Document id found bytes = Asks (λ (given : List ℕ). given) found (Ok bytes)
+Gives File id found bytes = Exports (λ (given : List ℕ). given) id found (Ok bytes)
 
--- How `deliver` ends, from the files and two outputs to the exit status, the files and the outputs: each page of the
--- document is held, and it goes out; or the text is no identification's, there is no desk, or there is a reason that
--- the
--- document is not given.
-pub data EndsDeliver (before : DeskFiles) (text : List ℕ) (old old_errors : OutputView)
+-- the desk gives out nothing by what is held of the document, and this is the name of its fault
+pub data Withholds : Given → ℕ → Option Pages → List ℕ → Type 0 where
+  document : {id : ℕ} {found : Option Pages} (fault : AskFault)
+      → Asks (λ (given : List ℕ). given) found (Err fault) → Withholds Document id found (ask_fault_name fault)
+  file : {id : ℕ} {found : Option Pages} (fault : ExportFault)
+      → Exports (λ (given : List ℕ). given) id found (Err fault) → Withholds File id found (export_fault_name fault)
+
+-- How a command that gives out something of a document ends, from the files and two outputs to the exit status, the
+-- files and the outputs: what the desk gives goes out; or the text is no identification's, there is no desk, or there
+-- is a reason that it gives nothing.
+pub data EndsGiving (what : Given) (before : DeskFiles) (text : List ℕ) (old old_errors : OutputView)
     : ℕ → DeskFiles → OutputView → OutputView → Type 0 where
-  no_id : {status : ℕ} {errors : OutputView} → ¬ HasId text → TellsRefusal (codes "FileId") old_errors errors status
-      → EndsDeliver before text old old_errors status before old errors
+  no_id : {status : ℕ} {errors : OutputView} → ¬ HasId text
+      → TellsRefusal (refusal_name refusals.FileId) old_errors errors status
+      → EndsGiving what before text old old_errors status before old errors
   no_desk : {status : ℕ} {after : DeskFiles} {errors : OutputView} → HasId text
       → HasNoDesk before MOST_CAPACITY old_errors status after errors
-      → EndsDeliver before text old old_errors status after old errors
-  given : {status : ℕ} {new errors : OutputView} (id : ℕ) (joint : Saved) (desk : DeskView) (pages : Pages)
-      → HasId text → IsTextOfId text id → OpensDesk before MOST_CAPACITY joint desk → map.get desk.held id ≡ Some pages
-      → list_all is_some pages ≡ true → TellsBytes (document_of pages) old old_errors status new errors
-      → EndsDeliver before text old old_errors status (record { joint = joint; set = desk.saved }) new errors
-  refused : {status : ℕ} {errors : OutputView} (id : ℕ) (joint : Saved) (desk : DeskView) (fault : AskFault)
+      → EndsGiving what before text old old_errors status after old errors
+  given : {status : ℕ} {new errors : OutputView} (id : ℕ) (joint : Saved) (desk : DeskView) (bytes : List ℕ)
       → HasId text → IsTextOfId text id → OpensDesk before MOST_CAPACITY joint desk
-      → HasAskFault (map.get desk.held id) fault → TellsRefusal (ask_fault_name fault) old_errors errors status
-      → EndsDeliver before text old old_errors status (record { joint = joint; set = desk.saved }) old errors
-
--- why no file is given, by what is held of the document
-abbrev pub HasExportFault : Option Pages → ExportFault → Type 0
-HasExportFault found exports.NotHeld = found ≡ None
-HasExportFault found exports.Memory = (pages : Pages) × (found ≡ Some pages)
-
--- how `export` ends: the file of the pages that are held goes out; or as `deliver` does
-pub data EndsExport (before : DeskFiles) (text : List ℕ) (old old_errors : OutputView)
-    : ℕ → DeskFiles → OutputView → OutputView → Type 0 where
-  no_id : {status : ℕ} {errors : OutputView} → ¬ HasId text → TellsRefusal (codes "FileId") old_errors errors status
-      → EndsExport before text old old_errors status before old errors
-  no_desk : {status : ℕ} {after : DeskFiles} {errors : OutputView} → HasId text
-      → HasNoDesk before MOST_CAPACITY old_errors status after errors
-      → EndsExport before text old old_errors status after old errors
-  given : {status : ℕ} {new errors : OutputView} (id : ℕ) (joint : Saved) (desk : DeskView) (pages : Pages)
-      → HasId text → IsTextOfId text id → OpensDesk before MOST_CAPACITY joint desk → map.get desk.held id ≡ Some pages
-      → TellsBytes (file id pages) old old_errors status new errors
-      → EndsExport before text old old_errors status (record { joint = joint; set = desk.saved }) new errors
-  refused : {status : ℕ} {errors : OutputView} (id : ℕ) (joint : Saved) (desk : DeskView) (fault : ExportFault)
+      → Gives what id (map.get desk.held id) bytes → TellsBytes bytes old old_errors status new errors
+      → EndsGiving what before text old old_errors status (record { joint = joint; set = desk.saved }) new errors
+  refused : {status : ℕ} {errors : OutputView} (id : ℕ) (joint : Saved) (desk : DeskView) (name : List ℕ)
       → HasId text → IsTextOfId text id → OpensDesk before MOST_CAPACITY joint desk
-      → HasExportFault (map.get desk.held id) fault → TellsRefusal (export_fault_name fault) old_errors errors status
-      → EndsExport before text old old_errors status (record { joint = joint; set = desk.saved }) old errors
+      → Withholds what id (map.get desk.held id) name → TellsRefusal name old_errors errors status
+      → EndsGiving what before text old old_errors status (record { joint = joint; set = desk.saved }) old errors
+
+-- how `deliver` ends, which gives out the document, and `export`, the file of the pages that are held
+abbrev pub EndsDeliver : DeskFiles → List ℕ → OutputView → OutputView → ℕ → DeskFiles → OutputView → OutputView → Type 0
+EndsDeliver before text old old_errors status after new errors =
+    EndsGiving Document before text old old_errors status after new errors
+
+abbrev pub EndsExport : DeskFiles → List ℕ → OutputView → OutputView → ℕ → DeskFiles → OutputView → OutputView → Type 0
+EndsExport before text old old_errors status after new errors =
+    EndsGiving File before text old old_errors status after new errors
 
 -- ---- what is let go, and what is taken in
 
@@ -146,7 +141,7 @@ pub data TellsForget (id : ℕ) (before : DeskView) (old : OutputView) : ℕ →
 
 -- how `forget` ends: the desk was opened and has answered; or the text is no identification's, or there is no desk
 pub data EndsForget (before : DeskFiles) (text : List ℕ) (old : OutputView) : ℕ → DeskFiles → OutputView → Type 0 where
-  no_id : {status : ℕ} {new : OutputView} → ¬ HasId text → TellsRefusal (codes "FileId") old new status
+  no_id : {status : ℕ} {new : OutputView} → ¬ HasId text → TellsRefusal (refusal_name refusals.FileId) old new status
       → EndsForget before text old status before new
   no_desk : {status : ℕ} {after : DeskFiles} {new : OutputView} → HasId text
       → HasNoDesk before MOST_CAPACITY old status after new → EndsForget before text old status after new

@@ -1,3 +1,2 @@
 pub mod Desks
 pub mod Scan
-pub mod inner

@@ -2,12 +2,9 @@
 
 ghost use Rattle.relay_desk_commands.specs.Desks.{EndsExport};
 
-use crate::deliver::give_out;
-use crate::desk_opening::open_desk;
-use crate::file_id::id_of;
-use dm_assembly_desk::MOST_CAPACITY;
+use crate::giving::{Given, give_out};
 use dm_store::{Store, StoreSet};
-use relay_shared::{EndedDesk, refuse};
+use relay_shared::EndedDesk;
 use relay_streams::Output;
 use std::alloc::Allocator;
 use std::io::Write;
@@ -25,22 +22,5 @@ pub fn export_command<A: Allocator + Copy, S: Store, T: StoreSet, W: Write, E: W
     ensures { EndsExport (record { joint = S.state store; set = T.state set }) text.now output.old errors.old
         result.status (record { joint = S.state result.store; set = T.state result.set }) output.new errors.new }
 {
-    let Some(id) = id_of(text) else {
-        let status = refuse(errors, "FileId");
-        return EndedDesk { status, store, set };
-    };
-    let opened = match open_desk(alloc, store, set, errors, MOST_CAPACITY) {
-        Ok(opened) => opened,
-        Err(ended) => return ended,
-    };
-    match opened.desk.export(id) {
-        Ok(file) => {
-            let status = give_out(output, errors, &file);
-            opened.end(status)
-        }
-        Err(fault) => {
-            let status = refuse(errors, fault.name());
-            opened.end(status)
-        }
-    }
+    give_out(alloc, store, set, output, errors, text, Given::File)
 }

@@ -8,7 +8,7 @@ use crate::file_id::id_of;
 use dm_append_label::FileId;
 use dm_assembly_desk::{Desk, MOST_CAPACITY};
 use dm_store::{Store, StoreSet};
-use relay_shared::{EndedDesk, put_forgotten, refuse, status_after};
+use relay_shared::{EndedDesk, Refusal, put_forgotten, refuse, status_after};
 use relay_streams::Output;
 use std::alloc::Allocator;
 use std::io::Write;
@@ -41,7 +41,7 @@ pub fn forget_command<A: Allocator + Copy, S: Store, T: StoreSet, W: Write>(
         (record { joint = S.state result.store; set = T.state result.set }) output.new }
 {
     let Some(id) = id_of(text) else {
-        let status = refuse(output, "FileId");
+        let status = refuse(output, Refusal::FileId.name());
         return EndedDesk { status, store, set };
     };
     let mut opened = match open_desk(alloc, store, set, output, MOST_CAPACITY) {

@@ -10,6 +10,7 @@ mod desk_opening;
 mod export;
 mod file_id;
 mod forget;
+mod giving;
 mod import;
 pub mod laws;
 mod notes;

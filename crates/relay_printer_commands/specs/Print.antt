@@ -1,5 +1,5 @@
 -- What `print` does to the store of a ledger, and what it writes.
-use Rattle.std.specs.Prelude.{◌≡◌, ◌⊎◌, ℕ, List, ◌∷◌, ◌++◌, Ok, Err, codes, true}
+use Rattle.std.specs.Prelude.{◌≡◌, ◌⊎◌, ℕ, List, ◌∷◌, ◌++◌, Ok, Err, true}
 use Rattle.std.specs.List.{flat_map}
 use Rattle.std.specs.Io.KnownBytes.{Appends}
 use Rattle.dm_check_blocks.specs.declared.size.Size.{Size}
@@ -14,14 +14,17 @@ use Rattle.dm_print_ledger.specs.Printing.{Prints}
 use Rattle.dm_print_ledger.specs.Ranges.{free_count}
 use Rattle.dm_print_ledger.specs.Views.{JobView, PrinterView}
 use Rattle.dm_print_ledger.specs.declared.fault.PrintFault.{PrintFault}
-use Rattle.relay_streams.specs.FaultNames.{input_fault_name}
+use Rattle.relay_streams.specs.FaultNames.{input_fault_name, write_fault_name}
 use Rattle.relay_streams.specs.Refusal.{refused_line}
 use Rattle.relay_streams.specs.Streams.{AppendsPart, InputView, OutputView}
 use Rattle.relay_streams.specs.declared.fault.InputFault.{InputFault}
+use Rattle.relay_streams.specs.declared.fault.WriteFault.TheVariants.{Write}
 use Rattle.relay_shared.specs.Documents.{HasInputFault, ReadsDocument}
 use Rattle.relay_shared.specs.PrinterLines.{printed_line}
 use Rattle.relay_printer_commands.specs.Printers.{IsNotOpened}
+use Rattle.relay_shared.specs.Refusals.{refusal_name}
 use Rattle.relay_shared.specs.Telling.{AppendsThenPart, TellsRefusal}
+use Rattle.relay_shared.specs.declared.refusal.Refusal.TheVariants as refusals
 
 -- ---- the labels of a job
 
@@ -49,11 +52,11 @@ pub data PrintsLabels (labels : List GridView) (line : List ℕ) (old old_errors
       → PrintsLabels labels line old old_errors 1 old errors
   no_memory : {new errors : OutputView} (done : List GridView) (next : GridView) (rest : List GridView)
       → labels ≡ done ++ next ∷ rest
-      → Appends old.contents new.contents (images_of done) → PrintsButRefuses line (codes "Memory") old_errors errors
+      → Appends old.contents new.contents (images_of done) → PrintsButRefuses line (refusal_name refusals.Memory) old_errors errors
       → PrintsLabels labels line old old_errors 1 new errors
   not_written : {new errors : OutputView} → new.has_failed ≡ true
       → AppendsPart old.contents new.contents (images_of labels)
-      → PrintsButRefuses line (codes "Write") old_errors errors → PrintsLabels labels line old old_errors 1 new errors
+      → PrintsButRefuses line (write_fault_name Write) old_errors errors → PrintsLabels labels line old old_errors 1 new errors
 
 -- No image goes out before its line: nothing went to the output, or a line `printed` is out whole on the errors.
 abbrev pub PrintsLineFirst : OutputView → OutputView → OutputView → OutputView → Type 0
@@ -85,7 +88,7 @@ pub data EndsPrint (saved : Saved) (number n : ℕ) (scheme : Scheme) (input res
     (old old_errors : OutputView)
     : ℕ → Saved → OutputView → OutputView → Type 0 where
   no_side : {status : ℕ} {errors : OutputView} → ¬ IsSide n → rest ≡ input
-      → TellsRefusal (codes "Side") old_errors errors status
+      → TellsRefusal (refusal_name refusals.Side) old_errors errors status
       → EndsPrint saved number n scheme input rest old old_errors status saved old errors
   not_read : {status : ℕ} {errors : OutputView} (fault : InputFault) → IsSide n → HasInputFault rest fault
       → TellsRefusal (input_fault_name fault) old_errors errors status

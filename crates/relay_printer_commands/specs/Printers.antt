@@ -1,5 +1,5 @@
 -- What `ledger`, `give` and `take` do to the store of a ledger, and what they write.
-use Rattle.std.specs.Prelude.{◌≡◌, ℕ, List, Ok, Err, codes}
+use Rattle.std.specs.Prelude.{◌≡◌, ℕ, List, Ok, Err}
 use Rattle.hex.specs.Hex.{decode_sized}
 use Rattle.dm_store.specs.Saved.{Saved}
 use Rattle.dm_print_ledger.specs.Creating.{Creates, HasCreateFault}
@@ -16,7 +16,9 @@ use Rattle.dm_print_ledger.specs.declared.fault.TakeFault.{TakeFault}
 use Rattle.dm_print_ledger.specs.declared.range.Range.{Range}
 use Rattle.relay_streams.specs.Streams.{OutputView}
 use Rattle.relay_shared.specs.PrinterLines.{left_line, taken_line, ticket_line}
+use Rattle.relay_shared.specs.Refusals.{refusal_name}
 use Rattle.relay_shared.specs.Telling.{Tells, TellsRefusal}
+use Rattle.relay_shared.specs.declared.refusal.Refusal.TheVariants.{Ticket}
 
 -- How `ledger` ends, from a store and an output to its exit status, the store and the output: a printer was created, or
 -- why none was.
@@ -75,7 +77,7 @@ pub data TellsTake (before : PrinterView) (ticket : TicketView) (old : OutputVie
 -- how `take` ends: the text is that of no ticket; or the printer was opened and has answered, or it was not opened
 pub data EndsTake (saved : Saved) (number : ℕ) (text : List ℕ) (old : OutputView) : ℕ → Saved → OutputView →
     Type 0 where
-  no_ticket : {status : ℕ} {new : OutputView} → ¬ HasTicket text → TellsRefusal (codes "Ticket") old new status
+  no_ticket : {status : ℕ} {new : OutputView} → ¬ HasTicket text → TellsRefusal (refusal_name Ticket) old new status
       → EndsTake saved number text old status saved new
   opened : {status : ℕ} {new : OutputView} (ticket : TicketView) (before after : PrinterView) → HasTicket text
       → IsTextOf text ticket → Opens saved number before → TellsTake before ticket old status after new

@@ -1,12 +1,11 @@
 //! `relay print`: a document as labels.
 
-ghost use Rattle.std.specs.Prelude.{◌≡◌, true, OnOk, IsErrOf};
+ghost use Rattle.std.specs.Prelude.{OnOk, IfErr};
 ghost use Rattle.std.specs.Io.KnownBytes.{Appends};
 ghost use Rattle.dm_pbm_io.specs.SymbolImage.{p4};
 ghost use Rattle.relay_streams.specs.Streams.{AppendsPart, TakesPart};
 ghost use Rattle.relay_printer_commands.specs.Print.{EndsPrint, PrintsLabels, PrintsLineFirst, TellsPrint, images_of};
-ghost use Rattle.relay_printer_commands.specs.inner.Images.{PutsFirst, images_fault_name};
-ghost use Rattle.relay_printer_commands.specs.declared.print.ImagesFault.TheVariants as images_faults;
+ghost use Rattle.relay_printer_commands.specs.inner.Images.{LosesImage, LosesImages};
 ghost use Rattle.relay_shared.specs.PrinterLines.{printed_line};
 
 use crate::opening::open_printer;
@@ -16,11 +15,10 @@ use dm_finder_frame::Grid;
 use dm_pbm_io::image_of;
 use dm_print_ledger::{Job, Printer};
 use dm_store::Store;
-use relay_shared::{DOCUMENT_BYTES, Ended, put_printed, read_document, refuse};
+use relay_shared::{DOCUMENT_BYTES, Ended, Refusal, put_printed, read_document, refuse};
 use relay_streams::{Input, Output, WriteFault};
 use std::alloc::Allocator;
 use std::io::{Read, Write};
-use thiserror::Error;
 
 /// Which printer prints, and in what form.
 #[derive(Clone, Copy, Debug, PartialEq, Eq)]
@@ -33,45 +31,18 @@ pub struct PrintOptions {
     pub scheme: Scheme,
 }
 
-// Why the images of labels have not all gone out.
-#[derive(Clone, Copy, Debug, PartialEq, Eq, Error)]
-enum ImagesFault {
-    #[error("out of memory")]
-    Memory,
-    #[error("the output has refused a write")]
-    Write,
-}
-
-impl ImagesFault {
-    // The variant's name.
-    fn name(self) -> &'static str
-        ensures { result.now ≡ images_fault_name self }
-    {
-        match self {
-            ImagesFault::Memory => "Memory",
-            ImagesFault::Write => "Write",
-        }
-    }
-}
-
 // Writes the image of one label.
 fn put_image<A: Allocator + Copy, W: Write>(
     alloc: A,
     output: &mut Output<W>,
     grid: &Grid<A>,
-) -> Result<(), ImagesFault>
+) -> Result<(), Refusal>
     ensures written { OnOk result (Appends output.old.contents output.new.contents (p4 grid.now)) }
     ensures part { AppendsPart output.old.contents output.new.contents (p4 grid.now) }
-    ensures memory { IsErrOf result images_faults.Memory → output.new ≡ output.old }
-    ensures write { IsErrOf result images_faults.Write → output.new.has_failed ≡ true }
+    ensures lost { IfErr result (LosesImage output.old output.new) }
 {
-    let Ok(image) = image_of(alloc, grid, false) else {
-        return Err(ImagesFault::Memory);
-    };
-    match image.write(output) {
-        Ok(()) => Ok(()),
-        Err(WriteFault::Write) => Err(ImagesFault::Write),
-    }
+    image_of(alloc, grid, false)?.write(output)?;
+    Ok(())
 }
 
 // Writes the images of the labels of a job, in order.
@@ -79,11 +50,10 @@ fn put_images<A: Allocator + Copy, W: Write>(
     alloc: A,
     output: &mut Output<W>,
     job: Job<A>,
-) -> Result<(), ImagesFault>
+) -> Result<(), Refusal>
     ensures written { OnOk result (Appends output.old.contents output.new.contents (images_of job.labels)) }
     ensures part { AppendsPart output.old.contents output.new.contents (images_of job.labels) }
-    ensures memory { IsErrOf result images_faults.Memory → PutsFirst job.labels output.old output.new }
-    ensures write { IsErrOf result images_faults.Write → output.new.has_failed ≡ true }
+    ensures lost { IfErr result (LosesImages job.labels output.old output.new) }
 {
     let mut job = job;
     while let Some(grid) = job.next_label() {
@@ -109,7 +79,7 @@ fn put_job<A: Allocator + Copy, W: Write, E: Write>(
     }
     match put_images(alloc, output, job) {
         Ok(()) => 0,
-        Err(fault) => refuse(errors, fault.name()),
+        Err(refusal) => refuse(errors, refusal.name()),
     }
 }
 
@@ -150,7 +120,7 @@ pub fn print_command<A: Allocator + Copy, S: Store, R: Read, W: Write, E: Write>
         output.old errors.old result.status (S.state result.store) output.new errors.new }
 {
     let Some(size) = Size::of_side(options.side) else {
-        let status = refuse(errors, "Side");
+        let status = refuse(errors, Refusal::Side.name());
         return Ended { status, store };
     };
     let document = match read_document(alloc, input) {

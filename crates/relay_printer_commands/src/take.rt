@@ -6,7 +6,7 @@ ghost use Rattle.relay_printer_commands.specs.Printers.{EndsTake, HasTicket, IsT
 use crate::opening::open_printer;
 use dm_print_ledger::{Printer, Ticket};
 use dm_store::Store;
-use relay_shared::{Ended, put_taken, refuse, status_after};
+use relay_shared::{Ended, Refusal, put_taken, refuse, status_after};
 use relay_streams::Output;
 use std::alloc::Allocator;
 use std::io::Write;
@@ -48,7 +48,7 @@ pub fn take_command<A: Allocator + Copy, S: Store, W: Write>(
     ensures { EndsTake (S.state store) number text.now output.old result.status (S.state result.store) output.new }
 {
     let Some(ticket) = ticket_of(text) else {
-        let status = refuse(output, "Ticket");
+        let status = refuse(output, Refusal::Ticket.name());
         return Ended { status, store };
     };
     let mut printer = match open_printer(alloc, store, output, number) {

@@ -1,1 +1,2 @@
+pub mod ImageLoop
 pub mod Telling

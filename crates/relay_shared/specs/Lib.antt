@@ -1,6 +1,9 @@
 pub mod DeskLines
 pub mod Documents
+pub mod EachImage
 pub mod Hexadecimal
 pub mod Images
 pub mod PrinterLines
+pub mod Refusals
 pub mod Telling
+pub mod inner

@@ -11,16 +11,17 @@ use std::io::Read;
 /// The most images that a command reads.
 pub const MOST_IMAGES: u32 = 65_536;
 
-/// What a step over images came to, and whether its line names a refusal.
-pub enum Step {
-    /// The line of a packed image was written, and another may follow.
-    Image { refused: bool },
-    /// No image follows.
-    End { refused: bool },
+/// What a command has answered to an image.
+#[derive(Clone, Copy, Debug, PartialEq, Eq)]
+pub struct Answered {
+    /// Whether the line names a refusal.
+    pub refused: bool,
+    /// Whether the command has ended, and reads no more.
+    pub last: bool,
 }
 
 /// Whether the input has ended, or something else comes.
-pub fn is_at_end<A: Allocator + Copy, R: Read>(alloc: A, input: &mut Input<R>) -> bool
+pub(crate) fn is_at_end<A: Allocator + Copy, R: Read>(alloc: A, input: &mut Input<R>) -> bool
     ensures ended { result ≡ true → HasEnded input.old input.new }
     ensures another { result ≡ false → GoesOn input.old input.new }
 {
@@ -32,7 +33,7 @@ pub fn is_at_end<A: Allocator + Copy, R: Read>(alloc: A, input: &mut Input<R>) -
 }
 
 /// The exit status of a command over images: 1 where a line names a refusal.
-pub fn status_of(refused: bool) -> u8
+pub(crate) fn status_of(refused: bool) -> u8
     ensures { result ≡ (if refused then 1 else 0) }
 {
     u8::from(refused)

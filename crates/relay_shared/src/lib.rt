@@ -8,12 +8,16 @@
 mod desk_lines;
 mod document;
 mod ended;
+mod image_loop;
 mod images;
 pub mod laws;
 mod printer_lines;
+mod refusal;
 
 pub use desk_lines::{mask_digits, put_accepted, put_forgotten, put_imported};
 pub use document::{DOCUMENT_BYTES, read_document};
 pub use ended::{Ended, EndedDesk, refuse, status_after};
-pub use images::{MOST_IMAGES, Step, is_at_end, status_of};
+pub use image_loop::{OnImages, each_image};
+pub use images::{Answered, MOST_IMAGES};
 pub use printer_lines::{id_digits, put_left, put_printed, put_taken, put_ticket};
+pub use refusal::Refusal;

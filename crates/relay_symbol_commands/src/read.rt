@@ -1,86 +1,59 @@
 //! `relay read`: what the symbols in images carry.
 
-ghost use Rattle.std.specs.Prelude.{◌≡◌, ◌⊎◌, true, IfOk, OnErr};
-ghost use Rattle.dm_pbm_io.specs.Shown.{picture};
-ghost use Rattle.relay_symbol_commands.specs.Read.{EndsRead};
-ghost use Rattle.relay_symbol_commands.specs.inner.Steps.{EndsAtMost, MakesStep, PrintsLine};
-ghost use Rattle.relay_symbol_commands.specs.inner.Steps.{PrintsPartOfLine, StopsAtMost, StopsStep};
+ghost use Rattle.std.specs.Prelude.{◌≡◌, ◌⊎◌};
+ghost use Rattle.relay_symbol_commands.specs.Read.{EndsRead, read_images};
 
 use crate::read_grid::line_of_image;
-use crate::refusal::ReadRefusal;
 use dm_pbm_io::Image;
 use dm_symbol::SymbolReader;
-use relay_shared::{MOST_IMAGES, Step, is_at_end, status_of};
+use relay_shared::{Answered, OnImages, each_image};
 use relay_streams::{Input, Output, WriteFault};
 use std::alloc::Allocator;
 use std::io::{Read, Write};
 
-// Writes the line of an image, and says whether it names a refusal.
-fn put_line_of<A: Allocator + Copy, W: Write>(
-    alloc: A,
-    reader: &mut SymbolReader<A>,
-    output: &mut Output<W>,
-    image: &Image<A>,
-) -> Result<bool, WriteFault>
-    ensures written { IfOk result (λ refused. PrintsLine (picture image.now) refused output.old output.new) }
-    ensures unsaid { OnErr result (PrintsPartOfLine (picture image.now) output.old output.new) }
-    ensures failed { OnErr result (output.new.has_failed ≡ true) }
-{
-    match line_of_image(alloc, reader, image) {
-        Ok(line) => {
-            output.put(line.as_bytes())?;
-            Ok(false)
-        }
-        Err(refusal) => {
-            output.put_refusal(refusal.name())?;
-            Ok(true)
-        }
-    }
+// Writes the line of each image.
+#[derive(Drop)]
+struct Reading<A: Allocator + Copy> {
+    reader: SymbolReader<A>,
 }
 
-// Reads the next image and writes its line.
-fn next_step<A: Allocator + Copy, R: Read, W: Write>(
-    alloc: A,
-    reader: &mut SymbolReader<A>,
-    input: &mut Input<R>,
-    output: &mut Output<W>,
-) -> Result<Step, WriteFault>
-    ensures step { IfOk result (λ step. MakesStep step input.old input.new output.old output.new) }
-    ensures unsaid { OnErr result (StopsStep input.old input.new output.old output.new) }
-    ensures failed { OnErr result (output.new.has_failed ≡ true) }
-{
-    match Image::read(alloc, input) {
-        Ok(None) => Ok(Step::End { refused: false }),
-        Ok(Some(image)) => {
-            let refused = put_line_of(alloc, reader, output, &image)?;
-            if image.plain {
-                Ok(Step::End { refused })
-            } else {
-                Ok(Step::Image { refused })
+impl<A: Allocator + Copy> OnImages<A> for Reading<A> {
+    ghost command = { read_images };
+
+    ghost state = { λ _. tt };
+
+    ghost keeps = { λ _ _. Unit {0} };
+
+    fn answer<W: Write>(
+        &mut self,
+        alloc: A,
+        output: &mut Output<W>,
+        _number: u32,
+        image: &Image<A>,
+    ) -> Result<Answered, WriteFault> {
+        match line_of_image(alloc, &mut self.reader, image) {
+            Ok(line) => {
+                output.put(line.as_bytes())?;
+                Ok(Answered {
+                    refused: false,
+                    last: false,
+                })
+            }
+            Err(refusal) => {
+                output.put_refusal(refusal.name())?;
+                Ok(Answered {
+                    refused: true,
+                    last: false,
+                })
             }
         }
-        Err(fault) => {
-            output.put_refusal(ReadRefusal::Image(fault).name())?;
-            Ok(Step::End { refused: true })
-        }
     }
-}
 
-// After the greatest number of images, refuses another.
-fn end_at_most<A: Allocator + Copy, R: Read, W: Write>(
-    alloc: A,
-    input: &mut Input<R>,
-    output: &mut Output<W>,
-) -> Result<bool, WriteFault>
-    ensures ended { IfOk result (λ refused. EndsAtMost refused input.old input.new output.old output.new) }
-    ensures unsaid { OnErr result (StopsAtMost input.old input.new output.old output.new) }
-    ensures failed { OnErr result (output.new.has_failed ≡ true) }
-{
-    if is_at_end(alloc, input) {
-        return Ok(false);
-    }
-    output.put_refusal(ReadRefusal::TooMany.name())?;
-    Ok(true)
+    fn note_unread(&mut self, _number: u32, _name: &str) {}
+
+    ghost keeps_itself = { λ _. tt };
+
+    ghost keeps_later = { λ _ _ _ _ _. tt };
 }
 
 /// Reads images, one after another, and prints a line for each: what its symbol carries, as `label IIII m/n corrected C
@@ -95,17 +68,8 @@ pub fn read_command<A: Allocator + Copy, R: Read, W: Write>(
     ensures status { (result ≡ 0) ⊎ (result ≡ 1) }
     ensures printed { EndsRead input.old input.new output.old result output.new }
 {
-    let mut reader = SymbolReader::new();
-    let mut refused = false;
-    for _count in 0..MOST_IMAGES {
-        match next_step(alloc, &mut reader, input, output) {
-            Ok(Step::Image { refused: also }) => refused |= also,
-            Ok(Step::End { refused: also }) => return status_of(refused | also),
-            Err(WriteFault::Write) => return 1,
-        }
-    }
-    match end_at_most(alloc, input, output) {
-        Ok(also) => status_of(refused | also),
-        Err(WriteFault::Write) => 1,
-    }
+    let mut reading = Reading {
+        reader: SymbolReader::new(),
+    };
+    each_image(alloc, &mut reading, input, output)
 }

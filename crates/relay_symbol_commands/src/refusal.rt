@@ -5,8 +5,10 @@ ghost use Rattle.relay_symbol_commands.specs.Refusals.{read_refusal_name, symbol
 ghost use Rattle.relay_symbol_commands.specs.declared.refusal.SymbolRefusal.TheVariants as symbol_refusals;
 
 use dm_append_label::LabelFault;
-use dm_encodation::DecodeFault;
-use dm_pbm_io::PbmFault;
+use dm_encodation::{DecodeFault, EncodeFault};
+use dm_pbm_io::ShapeFault;
+use relay_shared::Refusal;
+use relay_streams::InputFault;
 use std::alloc::AllocError;
 use thiserror::Error;
 
@@ -28,15 +30,15 @@ pub enum SymbolRefusal {
 }
 
 impl SymbolRefusal {
-    /// The refusal's own name.
+    /// The name of what has refused.
     pub fn name(self) -> &'static str
         ensures { result.now ≡ symbol_refusal_name self }
     {
         match self {
-            SymbolRefusal::Side => "Side",
-            SymbolRefusal::Read => "Read",
-            SymbolRefusal::TooLong => "TooLong",
-            SymbolRefusal::Memory => "Memory",
+            SymbolRefusal::Side => Refusal::Side.name(),
+            SymbolRefusal::Read => InputFault::Read.name(),
+            SymbolRefusal::TooLong => EncodeFault::TooLong.name(),
+            SymbolRefusal::Memory => Refusal::Memory.name(),
         }
     }
 }
@@ -49,12 +51,9 @@ impl From<AllocError> for SymbolRefusal {
     }
 }
 
-/// Why `read` has refused an image, or the rest of its input.
+/// Why `read` has refused an image.
 #[derive(Clone, Copy, Debug, PartialEq, Eq, Error)]
 pub enum ReadRefusal {
-    /// The input spells no image, or it could not be read.
-    #[error("{0}")]
-    Image(PbmFault),
     /// The image is no symbol inside a quiet zone one pixel wide.
     #[error("the image has not the shape of a symbol")]
     Shape,
@@ -67,9 +66,6 @@ pub enum ReadRefusal {
     /// Memory was refused for the grid or for the line.
     #[error("out of memory")]
     Memory,
-    /// The input has more images than `read` takes.
-    #[error("the input has too many images")]
-    TooMany,
 }
 
 impl ReadRefusal {
@@ -78,12 +74,10 @@ impl ReadRefusal {
         ensures { result.now ≡ read_refusal_name self }
     {
         match self {
-            ReadRefusal::Image(fault) => fault.name(),
-            ReadRefusal::Shape => "Shape",
+            ReadRefusal::Shape => ShapeFault::Shape.name(),
             ReadRefusal::Label(fault) => fault.name(),
             ReadRefusal::Text(fault) => fault.name(),
-            ReadRefusal::Memory => "Memory",
-            ReadRefusal::TooMany => "TooMany",
+            ReadRefusal::Memory => Refusal::Memory.name(),
         }
     }
 }

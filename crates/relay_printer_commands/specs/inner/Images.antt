@@ -1,20 +1,20 @@
--- How the images of the labels of a job go out.
-use Rattle.std.specs.Prelude.{◌≡◌, ◌∷◌, ◌++◌, ℕ, List, codes}
+-- How the images of the labels of a job go out, if not all do.
+use Rattle.std.specs.Prelude.{◌≡◌, ◌∷◌, ◌++◌, List, true}
 use Rattle.std.specs.Io.KnownBytes.{Appends}
 use Rattle.dm_finder_frame.specs.Grids.{GridView}
 use Rattle.relay_streams.specs.Streams.{OutputView}
+use Rattle.relay_streams.specs.declared.fault.WriteFault.{WriteFault}
+use Rattle.relay_shared.specs.declared.refusal.Refusal.{Refusal}
+use Rattle.relay_shared.specs.declared.refusal.Refusal.TheVariants.{Memory, Output}
 use Rattle.relay_printer_commands.specs.Print.{images_of}
-use Rattle.relay_printer_commands.specs.declared.print.ImagesFault.{ImagesFault}
-use Rattle.relay_printer_commands.specs.declared.print.ImagesFault.TheVariants.{Memory, Write}
 
-abbrev pub images_fault_name : ImagesFault → List ℕ
-images_fault_name Memory = codes "Memory"
-images_fault_name Write = codes "Write"
+-- an image was not made, or not written whole
+pub data LosesImage (old new : OutputView) : Refusal → Type 0 where
+  memory : new ≡ old → LosesImage old new Memory
+  write : (fault : WriteFault) → new.has_failed ≡ true → LosesImage old new (Output fault)
 
--- the images of the first of these labels are out, and others are left
-pub record PutsFirst (labels : List GridView) (old new : OutputView) : Type 0 where
-  pub done : List GridView
-  pub next : GridView
-  pub rest : List GridView
-  pub all : labels ≡ done ++ next ∷ rest
-  pub appended : Appends old.contents new.contents (images_of done)
+-- the images of the first of these labels are out, and the next was not made; or one was not written whole
+pub data LosesImages (labels : List GridView) (old new : OutputView) : Refusal → Type 0 where
+  memory : (done : List GridView) (next : GridView) (rest : List GridView) → labels ≡ done ++ next ∷ rest
+      → Appends old.contents new.contents (images_of done) → LosesImages labels old new Memory
+  write : (fault : WriteFault) → new.has_failed ≡ true → LosesImages labels old new (Output fault)

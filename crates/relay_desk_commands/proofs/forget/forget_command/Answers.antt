@@ -2,7 +2,7 @@ use Rattle.relay_desk_commands.specs.Desks.EndsForget.{no_id, no_desk, opened}
 use Rattle.relay_desk_commands.proofs.forget.forget_command.Goals as goal
 
 pub returns-in_default : goal.returns-in_default
-returns-in_default g c = no_id c.in_default.ensures c.refuse-status.ensures
+returns-in_default g c = no_id c.in_default.ensures (rw c.name.ensures at c.refuse-status.ensures)
 
 pub returns-in-Err : goal.returns-in-Err
 returns-in-Err g c = no_desk c.in-Some.ensures.0 c.in-Err.ensures

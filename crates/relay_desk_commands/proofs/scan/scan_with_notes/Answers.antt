@@ -7,6 +7,8 @@ returns-in-Err g c = no_desk c.in-Err.ensures refl
 
 pub returns : goal.returns
 returns g c =
-    rw (c.end.ensures.status, c.end.ensures.store, c.end.ensures.set) (opened (g.S.Store.state c.in-Ok.opened.store)
-    c.in-Ok.opened.desk c.scan_all-status.new.desk c.in-Ok.ensures.0
-    (rw c.in-Ok.ensures.1 at c.scan_all-status.ensures))
+    let told = rw c.in-Ok.ensures.1 at c.each_image-status.ensures.told in
+    let kept = c.each_image-status.ensures.kept in
+    rw c.close-set.ensures (opened (g.S.Store.state c.in-Ok.opened.store) c.in-Ok.opened.desk
+    c.each_image-status.new.command.desk c.in-Ok.ensures.0
+    (record { told = told; kept = kept.0; in_order = kept.1 c.in-Ok.ensures.2 }))

@@ -4,12 +4,13 @@ use Rattle.relay_printer_commands.proofs.PrintedLabels.{line_first}
 use Rattle.relay_printer_commands.proofs.print.print_command.Goals as goal
 
 pub returns-in_default-clause-ends : goal.returns-in_default-clause-ends
-returns-in_default-clause-ends g c = no_side (λ s. c.in_default.ensures.none refl s.0 s.1) refl c.refuse-status.ensures
+returns-in_default-clause-ends g c = no_side (λ s. c.in_default.ensures.none refl s.0 s.1) refl
+    (rw c.name.ensures at c.refuse-status.ensures)
 
 pub returns-in-Err-clause-ends : goal.returns-in-Err-clause-ends
 returns-in-Err-clause-ends g c =
     not_read c.in-Err.fault (c.in-Some.size, c.in-Some.ensures.found) (λ e. c.in-Err.ensures.failed (ap Err e))
-    (rw c.name.ensures at c.refuse-status-in-Err.ensures)
+    (rw c.name-in-Err.ensures at c.refuse-status-in-Err.ensures)
 
 pub returns-in-Err-open_printer-clause-ends : goal.returns-in-Err-open_printer-clause-ends
 returns-in-Err-open_printer-clause-ends g c =

@@ -1,4 +1,3 @@
-use Rattle.std.proofs.Common.{Err, ap}
 use Rattle.relay_shared.specs.PrinterLines.{printed_line}
 use Rattle.relay_printer_commands.specs.Print.PrintsLabels.{all, no_line}
 use Rattle.relay_printer_commands.proofs.PrintedLabels.{some_are_lost}
@@ -16,7 +15,6 @@ pub returns-in-Err : goal.returns-in-Err
 returns-in-Err g c =
     some_are_lost c.args.job.labels (printed_line c.args.job.id c.args.job.count c.args.left) c.args.output.now
     c.args.errors.now c.put_printed.new.output c.put_images.new.output c.refuse.new.output c.refuse.result
-    c.in-Err.fault
-    (λ e. c.in-Err.ensures.memory (ap Err e)) (λ e. c.in-Err.ensures.write (ap Err e)) c.in-Err.ensures.part
+    c.in-Err.refusal c.in-Err.ensures.lost c.in-Err.ensures.part
     (rw (c.id.ensures, c.count.ensures) at c.in-Ok.ensures.written)
     (rw c.name.ensures at c.refuse.ensures)

@@ -2,7 +2,7 @@ use Rattle.relay_printer_commands.specs.Printers.EndsTake.{no_ticket, opened, no
 use Rattle.relay_printer_commands.proofs.take.take_command.Goals as goal
 
 pub returns-in_default : goal.returns-in_default
-returns-in_default g c = no_ticket c.in_default.ensures c.refuse-status.ensures
+returns-in_default g c = no_ticket c.in_default.ensures (rw c.name.ensures at c.refuse-status.ensures)
 
 pub returns-in-Err : goal.returns-in-Err
 returns-in-Err g c = not_opened c.in-Some.ensures.0 c.in-Err.ensures

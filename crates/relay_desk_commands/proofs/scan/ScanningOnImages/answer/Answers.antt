@@ -1,0 +1,79 @@
+use Rattle.std.proofs.Common.{Err, ap, refl, sym}
+use Rattle.std.proofs.lemmas.Result.{err_from_is_err_and}
+use Rattle.relay_desk_commands.specs.Scan.ScansPicture.{accepted, refused}
+use Rattle.relay_desk_commands.proofs.ScanLaws.{no_grid, runs_after, saved_or_failed}
+use Rattle.relay_desk_commands.proofs.scan.ScanningOnImages.answer.Goals as goal
+
+pub returns-in-Err-clause-answer : goal.returns-in-Err-clause-answer
+returns-in-Err-clause-answer g c = record {
+  line = _;
+  refused = _;
+  answers = no_grid c.in-Err.shape (λ e. c.in-Err.ensures.shape (ap Err e)) (λ e. c.in-Err.ensures.memory (ap Err e));
+  told = (rw c.name.ensures at c.in_ok-put_refusal-in-Err.ensures.written, refl, sym c.requires.running);
+}
+
+pub returns-in_err-put_refusal-in-Err-clause-answer : goal.returns-in_err-put_refusal-in-Err-clause-answer
+returns-in_err-put_refusal-in-Err-clause-answer g c =
+    let p = err_from_is_err_and c.from_residual.result c.from_residual.ensures.1 in
+    rw p.1 record {
+      line = _;
+      refused = _;
+      answers =
+          no_grid c.in-Err.shape (λ e. c.in-Err.ensures.shape (ap Err e)) (λ e. c.in-Err.ensures.memory (ap Err e));
+      told = (rw c.name.ensures at c.put_refusal.ensures.part, c.in_err-put_refusal-in-Err.ensures.failed);
+    }
+
+pub returns-in-Ok-accept-clause-answer : goal.returns-in-Ok-accept-clause-answer
+returns-in-Ok-accept-clause-answer g c =
+    let accepts = c.in-Ok-accept.ensures.scanned c.requires.running in
+    let inside = c.in-Ok.ensures.grid in
+    let runs = runs_after accepts.opened c.in-Ok-accept.accepted _ c.accept.new.self c.requires.running accepts.scans in
+    record {
+      line = _;
+      refused = _;
+      answers = accepted c.in-Ok.grid c.in-Ok-accept.accepted inside.0 inside.1 accepts;
+      told = (c.in_ok-put_accepted-in-Ok-accept.ensures.written, refl, sym runs);
+    }
+
+pub returns-in_err-put_accepted-in-Ok-accept-clause-answer : goal.returns-in_err-put_accepted-in-Ok-accept-clause-answer
+returns-in_err-put_accepted-in-Ok-accept-clause-answer g c =
+    let last = c.from_residual-in_err-put_accepted-in-Ok-accept in
+    let p = err_from_is_err_and last.result last.ensures.1 in
+    let inside = c.in-Ok.ensures.grid in
+    rw p.1 record {
+      line = _;
+      refused = _;
+      answers = accepted c.in-Ok.grid c.in-Ok-accept.accepted inside.0 inside.1
+          (c.in-Ok-accept.ensures.scanned c.requires.running);
+      told = (c.put_accepted.ensures.part, c.in_err-put_accepted-in-Ok-accept.ensures.failed);
+    }
+
+pub returns-clause-answer : goal.returns-clause-answer
+returns-clause-answer g c =
+    let accepts = c.in-Err-accept.ensures.scanned c.requires.running in
+    let inside = c.in-Ok.ensures.grid in
+    let put = c.in_ok-put_refusal-in-Err-accept.ensures.written in
+    let ends = saved_or_failed accepts.opened c.in-Err-accept.fault _ c.accept.new.self c.is_save-last.result c.requires.running
+    c.is_save-last.ensures.yes c.is_save-last.ensures.no accepts.scans in
+    record {
+      line = _;
+      refused = _;
+      answers = refused c.in-Ok.grid c.in-Err-accept.fault inside.0 inside.1 accepts;
+      told = (rw c.name-in-Err-accept.ensures at put, refl, ends);
+    }
+
+pub returns-in_err-put_refusal-in-Err-accept-clause-answer : goal.returns-in_err-put_refusal-in-Err-accept-clause-answer
+returns-in_err-put_refusal-in-Err-accept-clause-answer g c =
+    let last = c.from_residual-in_err-put_refusal-in-Err-accept in
+    let p = err_from_is_err_and last.result last.ensures.1 in
+    let inside = c.in-Ok.ensures.grid in
+    rw p.1 record {
+      line = _;
+      refused = _;
+      answers = refused c.in-Ok.grid c.in-Err-accept.fault inside.0 inside.1
+          (c.in-Err-accept.ensures.scanned c.requires.running);
+      told = (
+        rw c.name-in-Err-accept.ensures at c.put_refusal-in-Err-accept.ensures.part,
+        c.in_err-put_refusal-in-Err-accept.ensures.failed,
+      );
+    }

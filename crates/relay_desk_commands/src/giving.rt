@@ -1,0 +1,85 @@
+//! What is given out of a document at a desk.
+
+ghost use Rattle.std.specs.Prelude.{MatchResult};
+ghost use Rattle.std.specs.FinMap as map;
+ghost use Rattle.relay_desk_commands.specs.Desks.{EndsGiving, Gives, TellsBytes, Withholds};
+
+use crate::desk_opening::open_desk;
+use crate::file_id::id_of;
+use dm_append_label::FileId;
+use dm_assembly_desk::{Desk, MOST_CAPACITY};
+use dm_store::{Store, StoreSet};
+use relay_shared::{EndedDesk, Refusal, refuse};
+use relay_streams::Output;
+use std::alloc::Allocator;
+use std::io::Write;
+
+/// What is given out of a document.
+#[derive(Clone, Copy, Debug, PartialEq, Eq)]
+pub(crate) enum Given {
+    /// The document itself.
+    Document,
+    /// The file of the pages that are held.
+    File,
+}
+
+// Writes bytes, and gives the exit status; where the output has refused them, the line of that goes to `errors`.
+fn put_bytes<W: Write, E: Write>(output: &mut Output<W>, errors: &mut Output<E>, bytes: &[u8]) -> u8
+    ensures { TellsBytes bytes.now output.old errors.old result output.new errors.new }
+{
+    match output.put(bytes) {
+        Ok(()) => 0,
+        Err(fault) => refuse(errors, fault.name()),
+    }
+}
+
+// What the desk gives out of a document, or the name of its fault.
+fn bytes_of<A: Allocator + Copy, T: StoreSet>(
+    desk: &Desk<T, A>,
+    id: FileId,
+    given: Given,
+) -> Result<Vec<u8, A>, &'static str>
+    ensures { MatchResult result
+        (λ bytes. Gives given id (map.get desk.now.held id) bytes.items)
+        (λ name. Withholds given id (map.get desk.now.held id) name.now) }
+{
+    match given {
+        Given::Document => match desk.document(id) {
+            Ok(document) => Ok(document),
+            Err(fault) => Err(fault.name()),
+        },
+        Given::File => match desk.export(id) {
+            Ok(file) => Ok(file),
+            Err(fault) => Err(fault.name()),
+        },
+    }
+}
+
+/// Writes what is given out of the document of an identification, whose two words the text has in hexadecimal, and
+/// nothing else. A refusal is a line on `errors`. The text is looked at before the files.
+pub(crate) fn give_out<A: Allocator + Copy, S: Store, T: StoreSet, W: Write, E: Write>(
+    alloc: A,
+    store: S,
+    set: T,
+    output: &mut Output<W>,
+    errors: &mut Output<E>,
+    text: &str,
+    given: Given,
+) -> EndedDesk<S, T>
+    ensures { EndsGiving given (record { joint = S.state store; set = T.state set }) text.now output.old errors.old
+        result.status (record { joint = S.state result.store; set = T.state result.set }) output.new errors.new }
+{
+    let Some(id) = id_of(text) else {
+        let status = refuse(errors, Refusal::FileId.name());
+        return EndedDesk { status, store, set };
+    };
+    let opened = match open_desk(alloc, store, set, errors, MOST_CAPACITY) {
+        Ok(opened) => opened,
+        Err(ended) => return ended,
+    };
+    let status = match bytes_of(&opened.desk, id, given) {
+        Ok(bytes) => put_bytes(output, errors, &bytes),
+        Err(name) => refuse(errors, name),
+    };
+    opened.end(status)
+}

@@ -1,0 +1,139 @@
+//! A command over images: one loop for all that answer to each image by a line.
+
+ghost use Rattle.std.specs.Prelude.{◌≡◌, ◌<◌, true, false, MatchResult};
+ghost use Rattle.relay_shared.specs.EachImage.{TellsImages};
+ghost use Rattle.relay_shared.specs.declared.images.TheConstants.{MOST_IMAGES};
+ghost use Rattle.relay_shared.specs.inner.Steps.{StopsStep, TakesStep};
+
+use crate::images::{Answered, MOST_IMAGES, is_at_end, status_of};
+use crate::refusal::Refusal;
+use dm_pbm_io::Image;
+use relay_streams::{Input, Output, WriteFault};
+use std::alloc::Allocator;
+use std::io::{Read, Write};
+
+/// What a command does with each image.
+pub trait OnImages<A: Allocator + Copy> {
+    ghost use Rattle.relay_shared.specs.EachImage.{AnswersPicture, ImageCommand};
+    ghost use Rattle.dm_pbm_io.specs.Shown.{picture};
+
+    /// What it answers to a picture.
+    ghost command: { ImageCommand };
+
+    /// Its state.
+    ghost state: { Self → command.State };
+
+    /// What it keeps from a state to a later one.
+    ghost keeps: { command.State → command.State → Type 0 };
+
+    /// Writes the line of image number `number`, from 1.
+    fn answer<W: Write>(
+        &mut self,
+        alloc: A,
+        output: &mut Output<W>,
+        number: u32,
+        image: &Image<A>,
+    ) -> Result<Answered, WriteFault>
+        requires running { command.has_ended (state self.old) ≡ false }
+        ensures answer { AnswersPicture command (state self.old) (picture image.now) result (state self.new)
+            output.old output.new }
+        ensures kept { keeps (state self.old) (state self.new) };
+
+    /// Is told by which name image number `number` was refused that could not be read, after its line.
+    fn note_unread(&mut self, number: u32, name: &str)
+        ensures { state self.new ≡ state self.old };
+
+    ghost keeps_itself: { (now : command.State) → keeps now now };
+
+    ghost keeps_later: { (first now later : command.State) → keeps first now → keeps now later → keeps first later };
+}
+
+// After this many images, reads the next one, and writes the line of the answer.
+fn next_image<A: Allocator + Copy, C: OnImages<A>, R: Read, W: Write>(
+    alloc: A,
+    command: &mut C,
+    input: &mut Input<R>,
+    output: &mut Output<W>,
+    count: u32,
+) -> Result<Answered, WriteFault>
+    requires running { C.command.has_ended (C.state command.old) ≡ false }
+    requires few { count < MOST_IMAGES }
+    ensures step { MatchResult result
+        (λ answered. TakesStep C.command count (C.state command.old) input.old input.new answered
+        (C.state command.new) output.old output.new)
+        (λ _. StopsStep C.command count (C.state command.old) input.old input.new
+        (C.state command.new) output.old output.new) }
+    ensures kept { C.keeps (C.state command.old) (C.state command.new) }
+{
+    match Image::read(alloc, input) {
+        Ok(None) => Ok(Answered {
+            refused: false,
+            last: true,
+        }),
+        Ok(Some(image)) => {
+            let answered = command.answer(alloc, output, count + 1, &image)?;
+            let last = image.plain | answered.last;
+            Ok(Answered {
+                refused: answered.refused,
+                last,
+            })
+        }
+        Err(fault) => {
+            output.put_refusal(fault.name())?;
+            command.note_unread(count + 1, fault.name());
+            Ok(Answered {
+                refused: true,
+                last: true,
+            })
+        }
+    }
+}
+
+// After the greatest number of images, refuses another.
+fn end_at_most<A: Allocator + Copy, C: OnImages<A>, R: Read, W: Write>(
+    alloc: A,
+    input: &mut Input<R>,
+    output: &mut Output<W>,
+) -> Result<bool, WriteFault>
+    ensures { (now : C.command.State) → MatchResult result
+        (λ refused. TakesStep C.command MOST_IMAGES now input.old input.new (record { refused = refused; last = true })
+        now output.old output.new)
+        (λ _. StopsStep C.command MOST_IMAGES now input.old input.new now output.old output.new) }
+{
+    if is_at_end(alloc, input) {
+        return Ok(false);
+    }
+    output.put_refusal(Refusal::TooMany.name())?;
+    Ok(true)
+}
+
+/// Reads images, one after another, and writes the line that the command answers to each. At most 65,536 images are
+/// read. The exit status is 0 where no line names a refusal, and else 1.
+pub fn each_image<A: Allocator + Copy, C: OnImages<A>, R: Read, W: Write>(
+    alloc: A,
+    command: &mut C,
+    input: &mut Input<R>,
+    output: &mut Output<W>,
+) -> u8
+    requires { C.command.has_ended (C.state command.old) ≡ false }
+    ensures told { TellsImages C.command (C.state command.old) input.old input.new output.old result
+        (C.state command.new) output.new }
+    ensures kept { C.keeps (C.state command.old) (C.state command.new) }
+{
+    let mut refused = false;
+    for count in 0..MOST_IMAGES {
+        match next_image(alloc, command, input, output, count) {
+            Ok(answered) => {
+                refused |= answered.refused;
+                if answered.last {
+                    return status_of(refused);
+                }
+            }
+            Err(WriteFault::Write) => return 1,
+        }
+    }
+    match end_at_most::<A, C, R, W>(alloc, input, output) {
+        Ok(also) => status_of(refused | also),
+        Err(WriteFault::Write) => 1,
+    }
+}
