@@ -1,6 +1,5 @@
 -- The parts of a document: how many there are, that each fits a label, that joined they are the document, and that
--- there
--- is one list of them at most.
+-- there is one list of them at most.
 use Rattle.std.specs.Prelude.{slice_range}
 use Rattle.std.specs.List.{concat}
 use Rattle.std.proofs.Common.{◌≡◌, ◌+◌, ◌-◌, ◌≤◌, ◌<◌, ◌++◌, ℕ, zero, suc, List, [], ◌∷◌, length, take, drop, refl, sym, ap, subst, ◌∙◌, arith, length-drop}

@@ -185,8 +185,7 @@ pub record IsImported {A : Type 0} (before : History A) (export : ℕ) (stop : S
   pub added : (m : ℕ) → HasPage imported.added m → HasPage name.mask m
 
 -- The reply is one to the event: what is so where it is given. A page that was not held is replied to as new only where
--- nothing
--- stopped its save, and a printer or a desk over its own store is refused its restart for memory alone.
+-- nothing stopped its save, and a printer or a desk over its own store is refused its restart for memory alone.
 abbrev pub IsReply : {A : Type 0} → List Range → History A → ℕ → ℕ → Event A → Reply A → Type 0
 IsReply ranges before id left (Print printer document size scheme stop) (Printed name first count) =
     IsPrinted before stop id left name first count

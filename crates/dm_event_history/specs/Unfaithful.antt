@@ -1,6 +1,6 @@
 -- Runs that are not faithful, each one step from a run that is, and runs whose tickets or exports are not as they
--- should
--- be: the definitions of the headline alone refuse them. Documents of four digits are printed in labels of side 12.
+-- should be: the definitions of the headline alone refuse them. Documents of four digits are printed in labels of side
+-- 12.
 use Rattle.std.specs.Prelude.{◌≡◌, ℕ, Option, List, [], ◌∷◌, map}
 use Rattle.dm_check_blocks.specs.declared.size.Size.TheVariants.{Side12}
 use Rattle.dm_encodation.specs.declared.scheme.Scheme.TheVariants.{Ascii}

@@ -53,8 +53,7 @@ IsLookedAt world (Scan desk label flips stop) = IsNamed world (Scan desk label f
 IsLookedAt world event = ⊥
 
 -- An event that is given to the world is one step of it, and found honest exactly where it is fair, or names what is
--- not
--- there. Only a scan of what is there may not be given, as memory for the look is refused; it changes nothing.
+-- not there. Only a scan of what is there may not be given, as memory for the look is refused; it changes nothing.
 abbrev pub Answers : {A : Type 0} → WorldView A → Event A → Answer A → WorldView A → Type 0
 Answers old event (Given is_honest reply) new = ((is_honest ≡ true) ↔ IsFairIn old event) × Steps old event reply new
 Answers old event NotGiven new = IsLookedAt old event × (new ≡ old)

@@ -1,6 +1,5 @@
 -- What making a grid of modules answers (this project's own rule): `Side` exactly where the modules do not fill a
--- symbol
--- of that side.
+-- symbol of that side.
 use Rattle.std.specs.Prelude.{ℕ, ◌≡◌, Bool, List, Result, Ok, Err}
 use Rattle.dm_check_blocks.specs.Sizes.{side}
 use Rattle.dm_finder_frame.specs.declared.fault.GridFault.{GridFault}

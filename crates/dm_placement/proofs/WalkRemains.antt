@@ -1,6 +1,5 @@
 -- What the loops of the walk keep: the cells so far are those of the words so far, the table says which they are, and
--- the
--- rest of the walk gives the rest of the words.
+-- the rest of the walk gives the rest of the words.
 use Rattle.std.specs.Prelude.{not}
 use Rattle.std.proofs.lemmas.Bool.{and_parts, ltb-true, leb-true}
 use Rattle.std.proofs.Common.{get_or, ◌*◌, ◌≡◌, ℕ, zero, suc, ◌+◌, ◌-◌, refl, List, [], ◌∷◌, ◌++◌, Option, Some, None, Bool, true, false, ltb, leb, ◌&&◌, ◌||◌, cond, ap, sym, ◌∙◌, subst, arith, append_assoc, append-nil}

@@ -47,8 +47,7 @@ pub record Syncs (old : DiskState) (name : List ℕ) (answer : Result (Unit {0})
   pub done : IsOk answer → new.is_synced name
 
 -- The file gets another name, in place of the file that had it. If its bytes are on the disk, a stop leaves under the
--- new
--- name what it left before, or these bytes; if they are not, nothing is said. Nothing is said of the old name.
+-- new name what it left before, or these bytes; if they are not, nothing is said. Nothing is said of the old name.
 pub record Renames (old : DiskState) (from to : List ℕ) (answer : Result (Unit {0}) DiskFault) (new : DiskState)
     : Type 0 where
   pub others : (other : List ℕ) → other ≢ from → other ≢ to → Keeps old other new

@@ -120,8 +120,7 @@ refusal_at work sight = first_reason (
     ∷ [])
 
 -- Such work is done over nothing, if there is no file and no folder at its path: it makes neither. A desk that can't
--- be,
--- since room for no number of documents is asked for, is not made, unless documents are to be moved first.
+-- be, since room for no number of documents is asked for, is not made, unless documents are to be moved first.
 abbrev pub is_done_over_nothing : Work → (no_room : Bool) → Sight → Bool
 is_done_over_nothing works.Nothing no_room sight = true
 is_done_over_nothing works.MakesLedger no_room sight = false
@@ -131,8 +130,7 @@ is_done_over_nothing works.Forgets no_room sight = is_absent sight.file && is_ab
 is_done_over_nothing works.Reads no_room sight = is_absent sight.file && is_absent sight.folder
 
 -- What is locked for such work: a ledger itself, and of a desk its folder. Work that only reads is locked if it is to
--- move
--- the documents of a joint file first.
+-- move the documents of a joint file first.
 abbrev pub locked_for : Work → Bool → Option Locked
 locked_for works.Nothing has_joint = None
 locked_for works.MakesLedger has_joint = Some locked.File

@@ -1,8 +1,7 @@
 -- In which order a command's steps are taken, and how it ends. A command that names no file is done over nothing. Any
 -- other is tried without a file first, and what it says then is how it ends, unless it goes on to a file. Only then its
 -- paths are looked at, and what is to be done is planned. A move of a ledger is tried up to its save. What has to be
--- locked
--- is locked, and stays so while the command is done. At last what was written is let out.
+-- locked is locked, and stays so while the command is done. At last what was written is let out.
 use Rattle.std.specs.Prelude.{◌≡◌, ℕ, Bool, true, false, ◌==◌, List, Option, Some, None, if◌then◌else◌, codes}
 use Rattle.relay_line.specs.declared.command.Command.{Command}
 use Rattle.relay.specs.declared.plan.WorkplaceFault.{WorkplaceFault}

@@ -44,8 +44,7 @@ pub record DeskFiles : Type 0 where
   pub set : SavedSet
 
 -- The documents of the joint file were moved to the set, and nothing that both held was lost. Honesty stays, the plans
--- of
--- loads stay, and fine plans of saves stay fine.
+-- of loads stay, and fine plans of saves stay fine.
 pub record MovesFiles (before after : DeskFiles) : Type 0 where
   pub written : ℕ
   pub moves : Moves before.joint before.set written after.joint after.set

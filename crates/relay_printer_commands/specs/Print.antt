@@ -33,8 +33,7 @@ abbrev pub images_of : List GridView → List ℕ
 images_of grids = flat_map p4 grids
 
 -- the line `printed` was written whole, and after it the line of a refusal; or the output has failed, and after the
--- whole
--- line a part of that refusal is out
+-- whole line a part of that refusal is out
 abbrev pub PrintsButRefuses : List ℕ → List ℕ → OutputView → OutputView → Type 0
 PrintsButRefuses line name old new =
     (Appends old.contents new.contents (line ++ refused_line name))
@@ -42,8 +41,7 @@ PrintsButRefuses line name old new =
 
 -- How the labels of a job go out, from both outputs to both: first the line, then the images. If the line can't be
 -- written, no byte of an image goes out. Without memory for an image the labels before it are out, and it is not; where
--- a
--- write of an image fails, the images are out up to a byte.
+-- a write of an image fails, the images are out up to a byte.
 pub data PrintsLabels (labels : List GridView) (line : List ℕ) (old old_errors : OutputView)
     : ℕ → OutputView → OutputView → Type 0 where
   all : {new errors : OutputView} → Appends old_errors.contents errors.contents line

@@ -6,8 +6,7 @@ use Rattle.relay_streams.specs.declared.fault.InputFault.TheVariants as input_fa
 use Rattle.relay_shared.specs.declared.document.TheConstants.{DOCUMENT_BYTES}
 
 -- A document is read up to one byte more than the greatest that a printer cuts into labels. That many bytes are too
--- long
--- for every symbol.
+-- long for every symbol.
 abbrev pub document_of : List ℕ → List ℕ
 document_of input = take DOCUMENT_BYTES input
 

@@ -19,8 +19,7 @@ pub record CarriesDocument (n : ℕ) (scheme : Scheme) (document : List ℕ) (si
   pub completed : Completes size (filled scheme [] document (data_words size)) words
 
 -- Why no symbol was made: the side comes first, before anything is read, then the input, which is seen before and
--- after,
--- and then the document.
+-- after, and then the document.
 abbrev pub RefusesSymbol : ℕ → Scheme → InputView → InputView → SymbolRefusal → Type 0
 RefusesSymbol n scheme old new Side = (¬ IsSide n) × (new ≡ old)
 RefusesSymbol n scheme old new Read = IsSide n × (new.has_failed ≡ true)

@@ -44,8 +44,7 @@ pub record PrintsWriteRefusal (output old new : OutputView) : Type 0 where
 
 -- How `draw` ends, from an input and two outputs to them and the exit status: the image was written; or the line of a
 -- refusal for which there was a reason was written to the second output, or a part of it, if that output has failed. Of
--- an
--- image that could not be written a part is out.
+-- an image that could not be written a part is out.
 pub record EndsDraw (n : ℕ) (scheme : Scheme) (plain : Bool) (input rest : InputView) (old old_errors : OutputView)
     (status : ℕ) (new errors : OutputView) : Type 0 where
   pub status_is : (status ≡ 0) ⊎ (status ≡ 1)

@@ -44,8 +44,7 @@ pub data HasLine (grid : GridView) : List ℕ → Type 0 where
       → HasLine grid (symbol_line (side grid.size) (differ (words_of_grid grid) words) (wrong_frame_modules grid) bytes)
 
 -- Why a grid has no line: its words can't be corrected; they have the head of a label and no page; they have no head
--- and
--- no text; or memory was refused.
+-- and no text; or memory was refused.
 pub data RefusesGrid (grid : GridView) : ReadRefusal → Type 0 where
   symbol : (fault : SymbolFault) → CorrectsGrid grid (Err fault) → RefusesGrid grid (Label (symbol_fault fault))
   page : (words : List ℕ) (fault : PageFault) → IsReadAs grid words → fault ≢ page_faults.Head head_faults.NotAppended
