@@ -1,5 +1,5 @@
 -- The blocks of a symbol share its words out: word i of block b stands at i times the blocks plus b.
-use Rattle.std.proofs.Common.{◌≡◌, ◌≢◌, ℕ, ◌+◌, ◌-◌, ◌*◌, ◌/◌, ◌%◌, ◌<◌, ◌≤◌, ◌⊎◌, refl, sym, ◌∙◌, ap, arith, List, ◌++◌, length, length-append, get_or, set, ⊎_elim, below_more, get_or-set_other, get_or-set_same}
+use Rattle.std.proofs.Common.{◌≡◌, ◌≢◌, ℕ, ◌+◌, ◌-◌, ◌*◌, ◌/◌, ◌%◌, ◌<◌, ◌≤◌, ◌⊎◌, refl, sym, ◌∙◌, ap, arith, List, ◌++◌, length, length-append, get_or, set, ⊎_elim, below_more, get_or-set_other, get_or-set_same, mul-one}
 use Rattle.std.specs.Prelude.{nat_lt, if◌then◌else◌}
 use Rattle.std.proofs.Math.Nat.{mul-le-mul_right, mod-lt}
 use Rattle.std.proofs.lemmas.Nat.{mod-mul-add, div-add-mod'}
@@ -105,6 +105,18 @@ block_of_same s b xs ys l h =
     (λ i q.
     let r : i < block_length s = omega (arith, length-block_of s b xs) in
     get_or-block_of s b xs i r ∙ h (position s b i) (position-mod s b i l) ∙ sym (get_or-block_of s b ys i r))
+
+-- a single block is all words
+pub single_block : (s : Size) (b : ℕ) (words : List ℕ) → blocks s ≡ 1 → b < blocks s → length words ≡ all_words s →
+    block_of s b words ≡ words
+single_block s b words one l e =
+    let whole : block_length s ≡ all_words s = sym (mul-one (block_length s)) ∙ ap (λ t. block_length s * t) (sym one) ∙
+    whole_blocks s in
+    ext_get_or 0 (block_of s b words) words (length-block_of s b words ∙ whole ∙ sym e)
+    (λ i h.
+    let r : i < block_length s = omega (arith, length-block_of s b words) in
+    let here : i * blocks s + b ≡ i = ap (λ t. i * t + b) one ∙ omega arith in
+    get_or-block_of s b words i r ∙ ap (λ t. get_or words t 0) (position-closed s b i ∙ here))
 
 -- two lists whose blocks are the same are the same
 pub same_from_blocks : (s : Size) (xs ys : List ℕ) → length xs ≡ all_words s → length ys ≡ all_words s →

@@ -1,3 +1,4 @@
+pub mod DivisionSteps
 pub mod Generators
 pub mod Interleaving
 pub mod OneCompletion

@@ -12,7 +12,7 @@ one_most true = omega arith
 one_most false = omega arith
 
 -- the number of places that differ is at most the length
-differ_most : (a b : List ℕ) → differ a b ≤ length a
+pub differ_most : (a b : List ℕ) → differ a b ≤ length a
 unfolding differ
 differ_most [] b = omega arith
 differ_most (x ∷ xs) [] = omega arith

@@ -1,3 +1,4 @@
 pub mod Blocks
+pub mod Division
 pub mod Sizes
 pub mod inner

@@ -6,6 +6,7 @@ ghost use Rattle.dm_gf256.specs.Polynomial.{IsBlockWord};
 ghost use Rattle.dm_check_blocks.specs.inner.Remainders.{IsGenerator, AddsWord};
 
 use crate::generator::{MOST_CHECKS, coefficients_of};
+use crate::multiples::{Multiples, WINDOW_WORDS};
 use dm_gf256::add_multiple;
 
 // Divides one word more of the message: `checks` is the remainder so far, and `generator` the generator
@@ -22,8 +23,8 @@ fn step(checks: &mut [u8], generator: &[u8], word: u8)
     add_multiple(checks, generator, factor);
 }
 
-/// Fills in the check words of one block by its generator polynomial, given without its leading 1.
-pub(crate) fn fill(message: &[u8], checks: &mut [u8], generator: &[u8])
+// Fills in the check words of one block word by word, by its generator polynomial without its leading 1.
+fn fill_word_by_word(message: &[u8], checks: &mut [u8], generator: &[u8])
     requires some { 1 ≤ length checks.old }
     requires same { length checks.old ≡ length generator.now }
     requires roots { IsGenerator generator.now }
@@ -34,6 +35,39 @@ pub(crate) fn fill(message: &[u8], checks: &mut [u8], generator: &[u8])
     }
     for word in message {
         step(checks, generator, *word);
+    }
+}
+
+// The fewest data words for which the multiples of the generator polynomial are worth their making.
+const FEWEST_BY_ROWS: usize = 19;
+
+// Fills in the check words of one block by the multiples of its generator polynomial.
+fn fill_by_rows(message: &[u8], checks: &mut [u8])
+    requires some { 1 ≤ length message.now }
+    requires most { length checks.old ≤ MOST_CHECKS }
+    requires fits { length message.now + length checks.old ≤ 255 }
+    ensures { IsBlockWord (length checks.old) (message.now ++ checks.new) }
+{
+    let count = message.len();
+    let mut window = [0; WINDOW_WORDS];
+    window[..count].copy_from_slice(message);
+    let mut windows = [window];
+    Multiples::of_generator(checks.len()).divide(&mut windows, count);
+    checks.copy_from_slice(&windows[0][count..count + checks.len()]);
+}
+
+// Fills in the check words of one block.
+pub(crate) fn fill(message: &[u8], checks: &mut [u8])
+    requires some { 1 ≤ length checks.old }
+    requires most { length checks.old ≤ MOST_CHECKS }
+    requires fits { length message.now + length checks.old ≤ 255 }
+    ensures { IsBlockWord (length checks.old) (message.now ++ checks.new) }
+{
+    if message.len() < FEWEST_BY_ROWS {
+        let coefficients = coefficients_of(checks.len());
+        fill_word_by_word(message, checks, &coefficients[1..checks.len() + 1]);
+    } else {
+        fill_by_rows(message, checks);
     }
 }
 
@@ -48,6 +82,5 @@ pub fn checks_of(message: &[u8], checks: &mut [u8])
     ensures only { (others : List ℕ) → length others ≡ length checks.old → All (λ word. word < 256) others
         → IsBlockWord (length checks.old) (message.now ++ others) → others ≡ checks.new }
 {
-    let coefficients = coefficients_of(checks.len());
-    fill(message, checks, &coefficients[1..checks.len() + 1]);
+    fill(message, checks);
 }

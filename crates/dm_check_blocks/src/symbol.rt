@@ -1,20 +1,20 @@
 //! The words of a whole symbol: its blocks, interleaved.
 
-ghost use Rattle.std.specs.Prelude.{◌≡◌, ◌<◌, ◌+◌, ℕ, List, IfOk, length, slice_index};
+ghost use Rattle.std.specs.Prelude.{◌≡◌, ◌<◌, ◌+◌, ℕ, List, IfOk, length, slice_index, take};
 ghost use Rattle.std.specs.List.{All};
 ghost use Rattle.dm_gf256.specs.Polynomial.{IsBlockWord};
 ghost use Rattle.dm_check_blocks.specs.Sizes.{data_words, all_words, blocks, block_data, block_checks, block_length};
 ghost use Rattle.dm_check_blocks.specs.Blocks.{position, block_of, Completes};
-ghost use Rattle.dm_check_blocks.specs.inner.Completing.{KeepsOtherWords};
-ghost use Rattle.dm_check_blocks.specs.inner.Remainders.{IsGenerator};
+ghost use Rattle.dm_check_blocks.specs.Division.{row_at};
+ghost use Rattle.dm_check_blocks.specs.inner.Completing.{KeepsOtherWords, HoldsData, HoldsChecks};
 
 use crate::checks::fill;
-use crate::generator::{MOST_CHECKS, coefficients_of};
+use crate::multiples::{Multiples, WINDOW_WORDS, Window};
 use crate::size::Size;
 use std::alloc::{AllocError, Allocator};
 
-/// The most data words of one block, those of side 120.
-const BLOCK_DATA: usize = 175;
+// The most blocks of a symbol, those of side 132.
+const MOST_BLOCKS: usize = 8;
 
 /// Where a word of a block stands in its symbol. Blocks, words of a block and words of the symbol count from 0, and a
 /// block's data words come before its check words (ISO/IEC 16022:2006, Annex A).
@@ -28,18 +28,27 @@ pub fn block_word(size: Size, block: usize, word: usize) -> usize
 }
 
 // The data words of one block, and zeros after them.
-fn data_of_block(size: Size, block: usize, words: &[u8]) -> [u8; BLOCK_DATA]
+fn data_of_block(size: Size, block: usize, words: &[u8]) -> Window
     requires block { block < blocks size }
     requires count { length words.now ≡ all_words size }
-    ensures size { length result ≡ BLOCK_DATA }
-    ensures words { (i : ℕ) → i < block_data size
-        → slice_index result i ≡ slice_index words.now (position size block i) }
+    ensures { HoldsData size block words.now result }
 {
-    let mut data = [0; BLOCK_DATA];
+    let mut data = [0; WINDOW_WORDS];
     for i in 0..size.block_data() {
         data[i] = words[block_word(size, block, i)];
     }
     data
+}
+
+// Reads the data words of each block into its window.
+fn read_blocks(size: Size, words: &[u8], windows: &mut [Window])
+    requires count { length words.now ≡ all_words size }
+    requires windows { length windows.old ≡ blocks size }
+    ensures { (b : ℕ) → b < blocks size → HoldsData size b words.now (row_at windows.new b) }
+{
+    for block in 0..windows.len() {
+        windows[block] = data_of_block(size, block, words);
+    }
 }
 
 // Writes the check words of one block to their places.
@@ -57,36 +66,47 @@ fn write_checks(size: Size, block: usize, words: &mut [u8], checks: &[u8])
     }
 }
 
-// Completes one block: its check words are those of its data words, and no other word of the symbol changes.
-fn complete_block(size: Size, block: usize, words: &mut [u8], generator: &[u8])
-    requires block { block < blocks size }
+// Writes the check words of each block from its window.
+fn write_blocks(size: Size, words: &mut [u8], windows: &[Window])
     requires count { length words.old ≡ all_words size }
-    requires length { length generator.now ≡ block_checks size }
-    requires roots { IsGenerator generator.now }
-    ensures completed { IsBlockWord (block_checks size) (block_of size block words.new) }
-    ensures bytes { All (λ word. word < 256) words.new }
-    ensures others { KeepsOtherWords size block words.old words.new }
+    requires windows { length windows.now ≡ blocks size }
+    ensures written { (b : ℕ) → b < blocks size → HoldsChecks size b words.new (row_at windows.now b) }
+    ensures message { (p : ℕ) → p < data_words size → slice_index words.new p ≡ slice_index words.old p }
 {
-    let data = data_of_block(size, block, words);
-    let message = &data[..size.block_data()];
-    let mut checks = [0; MOST_CHECKS];
-    let checks = &mut checks[..generator.len()];
-    fill(message, checks, generator);
-    write_checks(size, block, words, checks);
+    let data = size.block_data();
+    let end = data + size.block_checks();
+    for block in 0..windows.len() {
+        write_checks(size, block, words, &windows[block][data..end]);
+    }
 }
 
-// Completes every block.
-fn complete_blocks(size: Size, words: &mut [u8])
+// Completes the blocks in turns, step by step of the division.
+fn complete_in_turns(size: Size, words: &mut [u8])
     requires count { length words.old ≡ all_words size }
     ensures completed { (b : ℕ) → b < blocks size → IsBlockWord (block_checks size) (block_of size b words.new) }
     ensures message { (p : ℕ) → p < data_words size → slice_index words.new p ≡ slice_index words.old p }
     ensures bytes { All (λ word. word < 256) words.new }
 {
-    let checks = size.block_checks();
-    let coefficients = coefficients_of(checks);
-    let generator = &coefficients[1..checks + 1];
-    for block in 0..size.blocks() {
-        complete_block(size, block, words, generator);
+    let mut windows = [[0; WINDOW_WORDS]; MOST_BLOCKS];
+    let windows = &mut windows[..size.blocks()];
+    read_blocks(size, words, windows);
+    Multiples::of_generator(size.block_checks()).divide(windows, size.block_data());
+    write_blocks(size, words, windows);
+}
+
+// Completes every block of the words, which begin with the message.
+fn complete_blocks(size: Size, message: &[u8], words: &mut [u8])
+    requires count { length words.old ≡ all_words size }
+    requires data { length message.now ≡ data_words size }
+    requires begins { take (data_words size) words.old ≡ message.now }
+    ensures completed { (b : ℕ) → b < blocks size → IsBlockWord (block_checks size) (block_of size b words.new) }
+    ensures message { (p : ℕ) → p < data_words size → slice_index words.new p ≡ slice_index words.old p }
+    ensures bytes { All (λ word. word < 256) words.new }
+{
+    if size.blocks() == 1 {
+        fill(message, &mut words[message.len()..]);
+    } else {
+        complete_in_turns(size, words);
     }
 }
 
@@ -109,6 +129,6 @@ pub fn complete<A: Allocator + Copy>(
     let mut words = Vec::with_capacity(alloc, size.all_words())?;
     words.extend_from_slice(message)?;
     words.resize(size.all_words(), 0)?;
-    complete_blocks(size, words.as_mut_slice());
+    complete_blocks(size, message, words.as_mut_slice());
     Ok(words)
 }

@@ -1,11 +1,12 @@
 -- Where the words of a symbol's blocks stand, and that the blocks make up the symbol.
-use Rattle.std.proofs.Common.{◌≡◌, ℕ, ◌+◌, ◌-◌, ◌*◌, ◌/◌, ◌%◌, ◌<◌, ◌≤◌, refl, sym, ◌∙◌, ap, arith, List, length, get_or, lt-ltb, le-ltb, ⊎_elim}
+use Rattle.std.proofs.Common.{◌≡◌, ℕ, ◌+◌, ◌-◌, ◌*◌, ◌/◌, ◌%◌, ◌<◌, ◌≤◌, refl, sym, ◌∙◌, ap, subst, arith, List, length, get_or, lt-ltb, le-ltb, ⊎_elim}
 use Rattle.std.proofs.lemmas.Bool.{cases_lt}
 use Rattle.std.proofs.lemmas.Nat.{mul-add-lt, div-add-mod', div_below, mod_below}
 use Rattle.std.proofs.lemmas.List.FromFn.{get_or-map-range_with_len, length-map-range_with_len, fill_by_all}
 use Rattle.dm_check_blocks.specs.declared.size.Size.{Size}
 use Rattle.dm_check_blocks.specs.Sizes.{IsSound, data_words, all_words, blocks, block_data, block_checks, block_length}
 use Rattle.dm_check_blocks.specs.Blocks.{position, block_of}
+use Rattle.dm_corrector.specs.Corrections.{Corrects}
 
 -- as the blocks are of equal length, the check words go on where the data words end
 pub position-even : (s : Size) (b i : ℕ) → IsSound s → position s b i ≡ i * blocks s + b
@@ -70,3 +71,34 @@ same_symbol s v w t m n same =
     ap (λ x. get_or x i 0) (same b (mod_below p B some)) ∙ block_of-at s b w i t k ∙ ap (λ q. get_or w q 0) e in
     fill_by_all (λ p. get_or w p 0) v (all_words s) 0 m at ∙
     sym (fill_by_all (λ p. get_or w p 0) w (all_words s) 0 n (λ p l. refl))
+
+-- a single block is all words
+pub single_block : (s : Size) (b : ℕ) (words : List ℕ) → IsSound s → blocks s ≡ 1 → b < blocks s →
+    length words ≡ all_words s → block_of s b words ≡ words
+single_block s b words t one l e =
+    let p : block_length s * blocks s ≡ block_length s * 1 = ap (λ k. block_length s * k) one in
+    let n : length words ≡ block_length s = omega (arith, whole s t) in
+    sym (is_block s b words words t n (λ i h.
+    let q : i * blocks s ≡ i * 1 = ap (λ k. i * k) one in
+    let here : i ≡ i * blocks s + b = omega arith in
+    ap (λ k. get_or words k 0) here))
+
+-- a correction of a block, and of the symbol that has it
+pub carried : (s : Size) (checks b : ℕ) (old new block after : List ℕ) → checks ≡ block_checks s →
+    block ≡ block_of s b old → after ≡ block_of s b new →
+    Corrects checks block after → Corrects (block_checks s) (block_of s b old) (block_of s b new)
+carried s checks b old new block after n e f c =
+    let P : ℕ → Type 0 = λ m. Corrects m (block_of s b old) (block_of s b new) in
+    let Q : List ℕ → Type 0 = λ v. Corrects checks v (block_of s b new) in
+    let R : List ℕ → Type 0 = λ v. Corrects checks block v in
+    subst P n (subst Q e (subst R f c))
+
+-- and back
+pub returned : (s : Size) (checks b : ℕ) (old new block after : List ℕ) → checks ≡ block_checks s →
+    block ≡ block_of s b old → after ≡ block_of s b new →
+    Corrects (block_checks s) (block_of s b old) (block_of s b new) → Corrects checks block after
+returned s checks b old new block after n e f c =
+    let P : ℕ → Type 0 = λ m. Corrects m block after in
+    let Q : List ℕ → Type 0 = λ v. Corrects (block_checks s) v after in
+    let R : List ℕ → Type 0 = λ v. Corrects (block_checks s) (block_of s b old) v in
+    subst P (sym n) (subst Q (sym e) (subst R (sym f) c))

@@ -1,16 +1,19 @@
 //! Correction of one block.
 
-ghost use Rattle.std.specs.Prelude.{◌≡◌, ◌<◌, ◌≤◌, ℕ, List, length, IfOk, OnOk, OnErr};
+ghost use Rattle.std.specs.Prelude.{◌≡◌, ◌<◌, ◌≤◌, ℕ, List, length, IfOk, OnOk, OnErr, IfSome, IfNone, OnSome};
 ghost use Rattle.std.specs.List.{All};
 ghost use Rattle.dm_gf256.specs.Polynomial.{differ};
 ghost use Rattle.dm_corrector.specs.Corrections.{Corrects};
 
+use crate::elements::is_zero;
 use crate::error_values::take_out;
+use crate::guess::guess;
 use crate::locate::Locate;
 use crate::massey::Massey;
+use crate::remainder::{divided, has_no_remainder};
 use crate::roots::roots_of;
 use crate::syndromes::{MOST_WORDS, all_zero, is_block_word, syndromes_of};
-use dm_check_blocks::MOST_CHECKS;
+use dm_check_blocks::{MOST_CHECKS, Multiples};
 use thiserror::Error;
 
 /// No block word is within the limit of wrong words.
@@ -75,8 +78,85 @@ pub fn correct_with<L: Locate>(
     }
 }
 
-/// Corrects one block of 2 to 255 words, the last `checks` of which are check words: `correct_with`, by Berlekamp and
-/// Massey's method. Ok gives the number of words that were put right, at most `checks / 2`.
+// Guesses at the correction of a block, given its remainder, and makes it if it is one: if its own remainder is zero
+// and it differs from the block in at most half as many places as the block has check words.
+pub(crate) fn correct_by_guess(
+    multiples: &Multiples,
+    block: &mut [u8],
+    remainder: &[u8],
+) -> Option<u8>
+    requires remainder { length remainder.now ≤ MOST_CHECKS }
+    requires longer { multiples.now.checks < length block.old }
+    requires fits { length block.old ≤ MOST_WORDS }
+    ensures near { OnSome result (Corrects multiples.now.checks block.old block.new) }
+    ensures changed { IfSome result (λ k. k ≡ differ block.old block.new) }
+    ensures unchanged { IfNone result (block.new ≡ block.old) }
+{
+    let mut copy = [0; MOST_WORDS];
+    let guessed = &mut copy[..block.len()];
+    guessed.copy_from_slice(block);
+    if guess(remainder, guessed) && has_no_remainder(multiples, guessed) {
+        let changed = differing(block, guessed);
+        if changed <= multiples.checks / 2 {
+            block.copy_from_slice(guessed);
+            return Some(changed as u8);
+        }
+    }
+    None
+}
+
+/// Corrects one block, given its remainder: by a guess, which its own remainder checks, and if that is no correction,
+/// by Berlekamp and Massey's method.
+pub(crate) fn correct_wrong(
+    multiples: &Multiples,
+    block: &mut [u8],
+    remainder: &[u8],
+) -> Result<u8, Uncorrectable>
+    requires remainder { length remainder.now ≤ MOST_CHECKS }
+    requires some { 1 ≤ multiples.now.checks }
+    requires most { multiples.now.checks ≤ MOST_CHECKS }
+    requires longer { multiples.now.checks < length block.old }
+    requires fits { length block.old ≤ MOST_WORDS }
+    ensures near { OnOk result (Corrects multiples.now.checks block.old block.new) }
+    ensures changed { IfOk result (λ k. k ≡ differ block.old block.new) }
+    ensures only { OnOk result ((w : List ℕ) → Corrects multiples.now.checks block.old w → w ≡ block.new) }
+
+    ensures none { OnErr result ((w : List ℕ) → Corrects multiples.now.checks block.old w → ⊥) }
+    ensures unchanged { OnErr result (block.new ≡ block.old) }
+{
+    match correct_by_guess(multiples, block, remainder) {
+        Some(changed) => Ok(changed),
+        None => correct_with(&Massey, block, multiples.checks),
+    }
+}
+
+// Corrects one block by its remainder, which shows whether it is a block word.
+fn correct_by_remainder(multiples: &Multiples, block: &mut [u8]) -> Result<u8, Uncorrectable>
+    requires some { 1 ≤ multiples.now.checks }
+    requires most { multiples.now.checks ≤ MOST_CHECKS }
+    requires longer { multiples.now.checks < length block.old }
+    requires fits { length block.old ≤ MOST_WORDS }
+    ensures near { OnOk result (Corrects multiples.now.checks block.old block.new) }
+    ensures changed { IfOk result (λ k. k ≡ differ block.old block.new) }
+    ensures only { OnOk result ((w : List ℕ) → Corrects multiples.now.checks block.old w → w ≡ block.new) }
+
+    ensures none { OnErr result ((w : List ℕ) → Corrects multiples.now.checks block.old w → ⊥) }
+    ensures unchanged { OnErr result (block.new ≡ block.old) }
+{
+    let window = divided(multiples, block);
+    let remainder = &window[block.len() - multiples.checks..block.len()];
+    if is_zero(remainder) {
+        Ok(0)
+    } else {
+        correct_wrong(multiples, block, remainder)
+    }
+}
+
+// The fewest data words of a block for which the multiples of the generator polynomial are worth their making.
+const FEWEST_BY_REMAINDER: usize = 19;
+
+/// Corrects one block of 2 to 255 words, the last `checks` of which are check words: as `correct_with` does, and
+/// faster. Ok gives the number of words that were put right, at most `checks / 2`.
 ///
 /// # Errors
 /// Where no block word differs from the block in at most `checks / 2` places; the block is then unchanged.
@@ -92,5 +172,9 @@ pub fn correct(block: &mut [u8], checks: usize) -> Result<u8, Uncorrectable>
     ensures none { OnErr result ((w : List ℕ) → Corrects checks block.old w → ⊥) }
     ensures unchanged { OnErr result (block.new ≡ block.old) }
 {
-    correct_with(&Massey, block, checks)
+    if block.len() - checks < FEWEST_BY_REMAINDER {
+        correct_with(&Massey, block, checks)
+    } else {
+        correct_by_remainder(&Multiples::of_generator(checks), block)
+    }
 }

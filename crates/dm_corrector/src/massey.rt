@@ -1,12 +1,11 @@
 //! An error locator polynomial by Berlekamp and Massey's method: the shortest linear recurrence that the syndromes
 //! meet, found one syndrome after another.
 
-ghost use Rattle.std.specs.Prelude.{◌≡◌, ◌<◌, ◌≤◌, ◌*◌, ℕ, length, IsTrue, ◌↔◌, IfSome};
-ghost use Rattle.std.specs.List.{All};
+ghost use Rattle.std.specs.Prelude.{◌≡◌, ◌<◌, ◌≤◌, ◌*◌, ℕ, length, IsTrue, IfSome};
 ghost use Rattle.dm_gf256.specs.Elements.{numbers};
 ghost use Rattle.dm_corrector.specs.Locators.{IsLocator};
 
-use crate::elements::elements_of;
+use crate::elements::{elements_of, is_zero};
 use crate::elimination::Elimination;
 use crate::locate::{Locate, MOST_COEFFICIENTS, equation};
 use arrayvec::ArrayVec;
@@ -44,13 +43,6 @@ fn discrepancy(
         sum = sum.add(Gf(connection[i]).mul(syndromes[at - i]));
     }
     sum
-}
-
-// Whether all coefficients are zero.
-fn is_zero(coefficients: &[u8]) -> bool
-    ensures { IsTrue result ↔ All (λ c. c ≡ 0) coefficients.now }
-{
-    coefficients.iter().all(|&c| c == 0)
 }
 
 // Whether a polynomial, its lowest power first, is a locator polynomial: it isn't zero, has at most t + 1 coefficients

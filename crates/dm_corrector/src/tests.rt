@@ -1,9 +1,12 @@
-use crate::block::{Uncorrectable, correct, correct_with};
+ghost use Rattle.std.specs.Prelude.{◌<◌, ◌≤◌, length};
+
+use crate::block::{Uncorrectable, correct, correct_by_guess, correct_with};
 use crate::elimination::Elimination;
-use crate::massey::shortest_recurrence;
+use crate::massey::{Massey, shortest_recurrence};
+use crate::remainder::divided;
 use crate::symbol::{BlockFault, correct_symbol};
-use crate::syndromes::{MOST_WORDS, syndromes_of};
-use dm_check_blocks::Size;
+use crate::syndromes::{MOST_WORDS, is_block_word, syndromes_of};
+use dm_check_blocks::{Multiples, Size, checks_of};
 use dm_gf256::Gf;
 use std::process::Abort;
 use std::test::Fail;
@@ -123,13 +126,29 @@ fn half_a_generator_polynomial_in_side_52(rt: HostRuntime) {
     assert!(rt; words == right);
 }
 
-// Berlekamp and Massey's method itself finds the locator wherever there is a correction, and both locators agree.
+// Makes the correction of a block by the guess alone.
+fn guessed(multiples: &Multiples, block: &mut [u8]) -> Option<u8>
+    requires most { multiples.now.checks ≤ 68 }
+    requires longer { multiples.now.checks < length block.old }
+    requires fits { length block.old ≤ 255 }
+{
+    let window = divided(multiples, block);
+    correct_by_guess(
+        multiples,
+        block,
+        &window[block.len() - multiples.checks..block.len()],
+    )
+}
+
+// Berlekamp and Massey's method itself finds the locator wherever there is a correction, both locators agree, and the
+// guess itself makes the correction.
 #[test]
 fn the_method_answers_up_to_the_limit(rt: HostRuntime) {
     for side in SIDES {
         let size = Size::of_side(side).expect(&rt, "a side of the table");
         let checks = size.block_checks();
         let length = size.block_length();
+        let multiples = Multiples::of_generator(checks);
         for wrong in 0..size.limit() + 1 {
             let mut words = [0u8; MOST_WORDS];
             spoil(&rt, &mut words[..length], 1, 0, wrong);
@@ -140,6 +159,12 @@ fn the_method_answers_up_to_the_limit(rt: HostRuntime) {
                 "side {side}, {wrong} wrong"
             );
             let mut other = words;
+            let mut third = words;
+            assert!(rt;
+                guessed(&multiples, &mut third[..length]) == Some(wrong as u8),
+                "side {side}, {wrong} wrong"
+            );
+            assert!(rt; third == [0u8; MOST_WORDS], "side {side}, {wrong} wrong");
             assert!(rt;
                 correct(&mut words[..length], checks) == Ok(wrong as u8),
                 "side {side}"
@@ -150,6 +175,72 @@ fn the_method_answers_up_to_the_limit(rt: HostRuntime) {
             );
             assert!(rt; words == [0u8; MOST_WORDS], "side {side}, {wrong} wrong");
             assert!(rt; other == [0u8; MOST_WORDS], "side {side}, {wrong} wrong");
+        }
+    }
+}
+
+// The next of a fixed row of numbers that look random, below `bound`.
+fn next_below(state: &mut u32, bound: u32) -> u32
+    requires { 0 < bound }
+    ensures { result < bound }
+{
+    *state = state.wrapping_mul(1_664_525).wrapping_add(1_013_904_223);
+    (*state >> 8) % bound
+}
+
+// Makes a block of any data words, and changes any words of it, up to one more than can be corrected.
+fn make_changed(rt: &impl Abort, state: &mut u32, block: &mut [u8], checks: usize) {
+    assert!(rt; checks < block.len() && checks <= 68 && 1 <= checks && block.len() <= 255);
+    let data = block.len() - checks;
+    let mut message = [0u8; MOST_WORDS];
+    for k in 0..data {
+        message[k] = next_below(state, 256) as u8;
+    }
+    block[..data].copy_from_slice(&message[..data]);
+    checks_of(&message[..data], &mut block[data..]);
+    assert!(rt; is_block_word(block, checks), "{checks} check words");
+    change(state, block, checks / 2 + 2);
+}
+
+// Changes fewer words of a block than `bound`.
+fn change(state: &mut u32, block: &mut [u8], bound: usize)
+    requires some { 0 < bound }
+    requires bound { bound ≤ 36 }
+    requires words { 0 < length block.old }
+    requires fits { length block.old ≤ 255 }
+{
+    let length = block.len() as u32;
+    for _ in 0..next_below(state, bound as u32) {
+        let at = next_below(state, length) as usize;
+        block[at] ^= next_below(state, 255) as u8 + 1;
+    }
+}
+
+// Corrects a block by the remainder and a guess, and by the syndromes and the proved method alone.
+fn corrects_alike(rt: &impl Abort, block: &[u8], checks: usize) {
+    assert!(rt; checks < block.len() && checks <= 68 && 1 <= checks && block.len() <= 255);
+    let mut copy = [0u8; MOST_WORDS];
+    let mut other = [0u8; MOST_WORDS];
+    let length = block.len();
+    copy[..length].copy_from_slice(block);
+    other[..length].copy_from_slice(block);
+    let result = correct(&mut copy[..length], checks);
+    assert!(rt; result == correct_with(&Massey, &mut other[..length], checks));
+    assert!(rt; copy == other);
+}
+
+// Of each size 1,100 random blocks are corrected alike by both ways.
+#[test]
+fn random_blocks_are_corrected_alike(rt: HostRuntime) {
+    let mut state = 1u32;
+    for side in SIDES {
+        let size = Size::of_side(side).expect(&rt, "a side of the table");
+        let checks = size.block_checks();
+        let mut block = [0u8; MOST_WORDS];
+        let block = &mut block[..size.block_length()];
+        for _ in 0..1100u16 {
+            make_changed(&rt, &mut state, block, checks);
+            corrects_alike(&rt, block, checks);
         }
     }
 }

@@ -3,4 +3,5 @@ pub mod Counting
 pub mod Pieces
 pub mod Reading
 pub mod Runs
+pub mod Pairs
 pub mod StepViews

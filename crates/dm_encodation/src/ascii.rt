@@ -1,6 +1,6 @@
 //! The words of a text in ASCII encodation.
 
-ghost use Rattle.std.specs.Prelude.{◌≡◌, ◌+◌, ◌<◌, ◌++◌, [], length, MatchOption, IfSome, OnOk};
+ghost use Rattle.std.specs.Prelude.{◌≡◌, ◌+◌, ◌<◌, ◌++◌, [], length, MatchOption, IfOk, IfSome, OnOk};
 ghost use Rattle.dm_encodation.specs.inner.Pieces.{piece_words, has_digits, IsPiece};
 ghost use Rattle.dm_encodation.specs.Written.{ascii};
 
@@ -59,11 +59,27 @@ fn push_piece<A: Allocator>(out: &mut Vec<u8, A>, piece: Piece) -> Result<(), Al
     Ok(())
 }
 
+/// Writes the words of the pairs of digits that a text begins with, and gives the text after them.
+fn push_digits<'a, A: Allocator>(
+    out: &mut Vec<u8, A>,
+    bytes: &'a [u8],
+) -> Result<&'a [u8], AllocError>
+    ensures { IfOk result (λ rest. out.new.items ++ ascii rest.now ≡ out.old.items ++ ascii bytes.now) }
+{
+    let mut rest = bytes;
+    while begins_with_digits(rest) {
+        let number = 10 * (rest[0] - b'0') + (rest[1] - b'0');
+        out.push(130 + number)?;
+        rest = &rest[2..];
+    }
+    Ok(rest)
+}
+
 /// Writes the words of a text after what was written before.
 pub(crate) fn push_ascii<A: Allocator>(out: &mut Vec<u8, A>, bytes: &[u8]) -> Result<(), AllocError>
     ensures { OnOk result (out.new.items ≡ out.old.items ++ ascii bytes.now) }
 {
-    let mut rest = bytes;
+    let mut rest = push_digits(out, bytes)?;
     while let Some((piece, after)) = first_piece(rest) {
         push_piece(out, piece)?;
         rest = after;

@@ -2,6 +2,7 @@
 
 ghost use Rattle.std.specs.Prelude.{◌≡◌, ℕ, ◌+◌, ◌-◌, ◌*◌, ◌≤◌, ◌++◌, length, drop, IfOk, IfErr, OnOk, IsErrOf, List, ◌≢◌, Ok};
 ghost use Rattle.dm_encodation.specs.Grammar.{ReadsOnly, StuckOnly};
+ghost use Rattle.dm_encodation.specs.inner.Pairs.{ArePairs, digits_from};
 ghost use Rattle.dm_encodation.specs.inner.Reading.{reading};
 ghost use Rattle.dm_encodation.specs.inner.StepViews.{bytes_of, Checks, Fails};
 ghost use Rattle.dm_encodation.specs.declared.fault.DecodeFault.TheVariants.{Memory};
@@ -12,15 +13,51 @@ use crate::mode::Mode;
 use crate::reader::{Decoded, finish, step};
 use std::alloc::{AllocError, Allocator};
 
+/// The end of the words of two digits each that stand from an index on.
+fn pairs_end(words: &[u8], from: usize) -> usize
+    requires { from ≤ length words.now }
+    ensures after { from ≤ result }
+    ensures within { result ≤ length words.now }
+    ensures pairs { ArePairs words.now from result }
+{
+    for at in from..words.len() {
+        if words[at] < 130 || words[at] > 229 {
+            return at;
+        }
+    }
+    words.len()
+}
+
+/// Writes the digits of words of two digits each.
+fn push_pairs<A: Allocator>(
+    out: &mut Vec<u8, A>,
+    words: &[u8],
+    from: usize,
+    end: usize,
+) -> Result<(), AllocError>
+    requires after { from ≤ end }
+    requires within { end ≤ length words.now }
+    requires pairs { ArePairs words.now from end }
+    ensures { OnOk result (out.new.items ≡ out.old.items ++ digits_from words.now from (end - from)) }
+{
+    for at in from..end {
+        let number = words[at] - 130;
+        out.push(b'0' + number / 10)?;
+        out.push(b'0' + number % 10)?;
+    }
+    Ok(())
+}
+
 /// Whether the words are a text; no memory is asked for. Gives the number of its bytes, by which
 /// memory is then asked for once; no contract rests on that number.
 fn check(words: &[u8], from: usize) -> Result<usize, DecodeFault>
     requires { from ≤ length words.now }
     ensures { Checks result (reading Ascii (from + 1) (drop from words.now)) }
 {
-    let mut count = 0usize;
+    let start = pairs_end(words, from);
+    let mut count = (start - from).saturating_mul(2);
     let mut mode = Mode::Ascii;
-    for at in from..words.len() {
+    for at in start..words.len() {
         let (next, output) = step(mode, at + 1, words[at])?;
         count = count.saturating_add(output.len());
         mode = next;
@@ -61,8 +98,10 @@ fn collect<A: Allocator + Copy>(
     ensures fails { IfErr result (λ f. Fails f (reading Ascii (from + 1) (drop from words.now))) }
 {
     let mut out = Vec::with_capacity(alloc, count)?;
+    let start = pairs_end(words, from);
+    push_pairs(&mut out, words, from, start)?;
     let mut mode = Mode::Ascii;
-    for at in from..words.len() {
+    for at in start..words.len() {
         let (next, output) = step(mode, at + 1, words[at])?;
         push_output(&mut out, output)?;
         mode = next;

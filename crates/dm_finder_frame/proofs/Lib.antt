@@ -1,5 +1,8 @@
 pub mod GridPlaces
 pub mod FramedGrids
-pub mod Filled
+pub mod Begun
+pub mod FramedRows
+pub mod RowSteps
+pub mod WrongCounts
 pub mod FlippedModules
 pub mod Flips

@@ -1,60 +1,80 @@
 //! From the mapping matrix to the grid.
 
-ghost use Rattle.std.specs.Prelude.{◌≡◌, ◌<◌, ◌+◌, ◌*◌, IfOk};
-ghost use Rattle.dm_check_blocks.specs.Sizes.{mapping, side};
+ghost use Rattle.std.specs.Prelude.{◌≡◌, ◌<◌, ◌≤◌, ◌+◌, ◌*◌, ◌%◌, IfOk, OnOk};
+ghost use Rattle.dm_check_blocks.specs.Sizes.{mapping, region, side};
 ghost use Rattle.dm_finder_frame.specs.Frame.{grid_module, grid_of_matrix};
-ghost use Rattle.dm_finder_frame.specs.inner.Lines.{AreLines, IsFilledTo};
+ghost use Rattle.dm_finder_frame.specs.inner.Lines.{first_modules};
 
 use crate::grid::Grid;
-use crate::line::{Lines, lines_of};
-use crate::region::frame_value;
 use dm_check_blocks::Size;
 use dm_placement::Matrix;
 use std::alloc::{AllocError, Allocator};
 
-// The grid's module at a row and a column.
-fn grid_value<A: Allocator>(
+// The top row of the framed regions, as wide as the largest grid: dark at even columns.
+static TOP: [bool; 132] = [
+    true, false, true, false, true, false, true, false, true, false, true, false, true, false,
+    true, false, true, false, true, false, true, false, true, false, true, false, true, false,
+    true, false, true, false, true, false, true, false, true, false, true, false, true, false,
+    true, false, true, false, true, false, true, false, true, false, true, false, true, false,
+    true, false, true, false, true, false, true, false, true, false, true, false, true, false,
+    true, false, true, false, true, false, true, false, true, false, true, false, true, false,
+    true, false, true, false, true, false, true, false, true, false, true, false, true, false,
+    true, false, true, false, true, false, true, false, true, false, true, false, true, false,
+    true, false, true, false, true, false, true, false, true, false, true, false, true, false,
+    true, false, true, false, true, false,
+];
+
+// Their bottom row.
+static BOTTOM: [bool; 132] = [true; 132];
+
+// Adds a row of the grid that is inside of its framed regions.
+fn push_inner_row<A: Allocator>(
+    modules: &mut Vec<bool, A>,
     size: Size,
     matrix: &Matrix<A>,
-    lines: &Lines,
     row: u16,
-    column: u16,
-) -> bool
+) -> Result<(), AllocError>
     requires same_side { matrix.now.side ≡ mapping size }
-    requires lines { AreLines size lines.now }
     requires row_in { row < side size }
-    requires column_in { column < side size }
-    ensures { result ≡ grid_module size matrix.now row column }
+    requires inside { (1 ≤ row % (region size + 2)) × (row % (region size + 2) ≤ region size) }
+    requires above { modules.old.items ≡ first_modules (side size) (grid_module size matrix.now) (row * side size) }
+    ensures { OnOk result
+        (modules.new.items ≡ first_modules (side size) (grid_module size matrix.now) ((row + 1) * side size)) }
 {
-    let r = lines[row as usize];
-    let c = lines[column as usize];
-    if r.on_frame || c.on_frame {
-        frame_value(size.region(), r.place, c.place)
-    } else {
-        matrix.module(r.mapping, c.mapping)
+    let region = size.region();
+    let place = row % (region + 2);
+    let line = matrix.row(row / (region + 2) * region + place - 1);
+    let width = region as usize;
+    for b in 0..size.across() as usize {
+        modules.push(true)?;
+        modules.extend_from_slice(&line[b * width..b * width + width])?;
+        modules.push(place % 2 == 1)?;
     }
+    Ok(())
 }
 
-// Draws a row of the grid below those that are drawn.
-fn frame_row<A: Allocator>(
+// Adds a row of the grid.
+fn push_row<A: Allocator>(
+    modules: &mut Vec<bool, A>,
     size: Size,
     matrix: &Matrix<A>,
-    lines: &Lines,
     row: u16,
-    modules: &mut [bool],
-)
+) -> Result<(), AllocError>
     requires same_side { matrix.now.side ≡ mapping size }
-    requires lines { AreLines size lines.now }
     requires row_in { row < side size }
-    requires above { IsFilledTo (side size) (row * side size) (grid_module size matrix.now) modules.old }
-    ensures { IsFilledTo (side size) ((row + 1) * side size) (grid_module size matrix.now) modules.new }
+    requires above { modules.old.items ≡ first_modules (side size) (grid_module size matrix.now) (row * side size) }
+    ensures { OnOk result
+        (modules.new.items ≡ first_modules (side size) (grid_module size matrix.now) ((row + 1) * side size)) }
 {
-    let side = size.side();
-    for column in 0..side {
-        modules[row as usize * side as usize + column as usize] = grid_value(
-            size, matrix, lines, row, column,
-        );
+    let region = size.region();
+    let place = row % (region + 2);
+    if place == 0 {
+        return modules.extend_from_slice(&TOP[..size.side() as usize]);
     }
+    if place == region + 1 {
+        return modules.extend_from_slice(&BOTTOM[..size.side() as usize]);
+    }
+    push_inner_row(modules, size, matrix, row)
 }
 
 /// The whole symbol of a mapping matrix: its data regions, each within its finder pattern
@@ -67,10 +87,9 @@ pub fn frame<A: Allocator>(alloc: A, size: Size, matrix: &Matrix<A>) -> Result<G
     ensures { IfOk result (λ grid. grid ≡ grid_of_matrix size matrix.now) }
 {
     let side = size.side();
-    let lines = lines_of(size);
-    let mut modules = vec![in alloc; false; side as usize * side as usize]?;
+    let mut modules = Vec::with_capacity(alloc, side as usize * side as usize)?;
     for row in 0..side {
-        frame_row(size, matrix, &lines, row, &mut modules);
+        push_row(&mut modules, size, matrix, row)?;
     }
     Ok(Grid::from_modules(size, modules))
 }

@@ -1,16 +1,13 @@
-//! Rows and columns of a grid and of its mapping matrix, worked out once for each.
+//! Rows and columns of a grid, worked out once for each.
 
 ghost use Rattle.std.specs.Prelude.{◌≡◌, ◌<◌, ◌≤◌};
-ghost use Rattle.dm_check_blocks.specs.Sizes.{mapping, region, side};
-ghost use Rattle.dm_finder_frame.specs.inner.Lines.{AreGridPlaces, AreLines, line_at};
+ghost use Rattle.dm_check_blocks.specs.Sizes.{region, side};
+ghost use Rattle.dm_finder_frame.specs.inner.Lines.{AreLines, line_at};
 
 use dm_check_blocks::Size;
 
 /// Rows of the largest grid.
 const MOST_LINES: usize = 132;
-
-/// Rows of the largest mapping matrix.
-const MOST_PLACES: usize = 120;
 
 /// A row or a column of a grid.
 #[derive(Clone, Copy)]
@@ -25,10 +22,6 @@ pub(crate) struct Line {
 
 /// The rows of a grid, which are its columns too. The entries after them have no meaning.
 pub(crate) type Lines = [Line; MOST_LINES];
-
-/// For each row of a mapping matrix the row of the grid where it stands, and so for its columns. The entries after them
-/// have no meaning.
-pub(crate) type GridPlaces = [u16; MOST_PLACES];
 
 // The line of a number.
 fn line_of(region: u16, number: u16) -> Line
@@ -59,16 +52,4 @@ pub(crate) fn lines_of(size: Size) -> Lines
         lines[k as usize] = line_of(region, k);
     }
     lines
-}
-
-/// Where the lines of a size's mapping matrix stand in its grid.
-pub(crate) fn grid_places_of(size: Size) -> GridPlaces
-    ensures { AreGridPlaces size result }
-{
-    let region = size.region();
-    let mut places = [0; MOST_PLACES];
-    for k in 0..size.mapping() {
-        places[k as usize] = k / region * (region + 2) + k % region + 1;
-    }
-    places
 }

@@ -1,14 +1,14 @@
 //! From the grid to the mapping matrix.
 
-ghost use Rattle.std.specs.Prelude.{◌≡◌, ◌<◌, ◌≤◌, ◌+◌, ◌*◌, IfOk};
-ghost use Rattle.dm_check_blocks.specs.Sizes.{mapping, side};
+ghost use Rattle.std.specs.Prelude.{◌≡◌, ◌<◌, ◌≤◌, ◌+◌, ◌*◌, ◌%◌, IfOk, OnOk};
+ghost use Rattle.dm_check_blocks.specs.Sizes.{mapping, region, side};
 ghost use Rattle.dm_finder_frame.specs.Frame.{is_wrong_at as is_wrong_module, matrix_module, matrix_of_grid, wrong_frame_modules};
-ghost use Rattle.dm_finder_frame.specs.inner.Lines.{AreGridPlaces, AreLines, IsFilledTo, wrong_among};
+ghost use Rattle.dm_finder_frame.specs.inner.Lines.{AreLines, first_modules, wrong_among};
 ghost use Rattle.dm_finder_frame.specs.UnframeOutcome.{Unframes};
 
 use crate::fault::FrameFault;
 use crate::grid::Grid;
-use crate::line::{GridPlaces, Lines, grid_places_of, lines_of};
+use crate::line::{Lines, lines_of};
 use crate::region::frame_value;
 use dm_check_blocks::Size;
 use dm_placement::Matrix;
@@ -54,6 +54,41 @@ fn wrong_in_row<A: Allocator>(grid: &Grid<A>, lines: &Lines, row: u16) -> u16
     wrong
 }
 
+// The same of a row inside of its framed regions, where only the first and the last column of each region can be wrong.
+fn wrong_at_sides<A: Allocator>(grid: &Grid<A>, lines: &Lines, row: u16) -> u16
+    requires lines { AreLines grid.now.size lines.now }
+    requires row_in { row < side grid.now.size }
+    requires inside { let h = region grid.now.size in (1 ≤ row % (h + 2)) × (row % (h + 2) ≤ h) }
+    ensures count { result ≡ wrong_among grid.now (row * side grid.now.size) (side grid.now.size) }
+    ensures most { result ≤ side grid.now.size }
+{
+    let size = grid.size();
+    let framed = size.region() + 2;
+    let mut wrong = 0;
+    for b in 0..size.across() {
+        let left = is_wrong_at(grid, lines, row, b * framed);
+        let right = is_wrong_at(grid, lines, row, b * framed + framed - 1);
+        wrong += u16::from(left) + u16::from(right);
+    }
+    wrong
+}
+
+// The same of any row.
+fn wrong_of_row<A: Allocator>(grid: &Grid<A>, lines: &Lines, row: u16) -> u16
+    requires lines { AreLines grid.now.size lines.now }
+    requires row_in { row < side grid.now.size }
+    ensures count { result ≡ wrong_among grid.now (row * side grid.now.size) (side grid.now.size) }
+    ensures most { result ≤ side grid.now.size }
+{
+    let region = grid.size().region();
+    let place = row % (region + 2);
+    if place == 0 || place > region {
+        wrong_in_row(grid, lines, row)
+    } else {
+        wrong_at_sides(grid, lines, row)
+    }
+}
+
 // How many modules of a grid's finder patterns are wrong.
 fn wrong_count<A: Allocator>(grid: &Grid<A>) -> u16
     ensures { result ≡ wrong_frame_modules grid.now }
@@ -61,26 +96,32 @@ fn wrong_count<A: Allocator>(grid: &Grid<A>) -> u16
     let lines = lines_of(grid.size());
     let mut wrong = 0;
     for row in 0..grid.side() {
-        wrong += wrong_in_row(grid, &lines, row);
+        wrong += wrong_of_row(grid, &lines, row);
     }
     wrong
 }
 
-// Takes a row of the mapping matrix from the grid, below those that are taken.
-fn unframe_row<A: Allocator>(grid: &Grid<A>, places: &GridPlaces, row: u16, matrix: &mut Matrix<A>)
-    requires places { AreGridPlaces grid.now.size places.now }
+// Adds a row of the mapping matrix, from the grid.
+fn push_row<A: Allocator>(
+    modules: &mut Vec<bool, A>,
+    grid: &Grid<A>,
+    row: u16,
+) -> Result<(), AllocError>
     requires row_in { row < mapping grid.now.size }
-    requires matrix { matrix.old.side ≡ mapping grid.now.size }
     requires above { let n = mapping grid.now.size in
-        IsFilledTo n (row * n) (matrix_module grid.now) matrix.old.modules }
-    ensures same { matrix.new.side ≡ mapping grid.now.size }
-    ensures so_far { let n = mapping grid.now.size in
-        IsFilledTo n ((row + 1) * n) (matrix_module grid.now) matrix.new.modules }
+        modules.old.items ≡ first_modules n (matrix_module grid.now) (row * n) }
+    ensures { let n = mapping grid.now.size in
+        OnOk result (modules.new.items ≡ first_modules n (matrix_module grid.now) ((row + 1) * n)) }
 {
-    for column in 0..grid.size().mapping() {
-        let dark = grid.module(places[row as usize], places[column as usize]);
-        matrix.set(row, column, dark);
+    let size = grid.size();
+    let region = size.region();
+    let line = grid.row(row / region * (region + 2) + row % region + 1);
+    let width = region as usize;
+    for b in 0..size.across() as usize {
+        let start = b * (width + 2) + 1;
+        modules.extend_from_slice(&line[start..start + width])?;
     }
+    Ok(())
 }
 
 /// The mapping matrix of a grid, whatever its finder patterns are (ISO/IEC 16022:2006, 5.8).
@@ -91,12 +132,12 @@ pub fn matrix_of<A: Allocator>(alloc: A, grid: &Grid<A>) -> Result<Matrix<A>, Al
     ensures { IfOk result (λ matrix. matrix ≡ matrix_of_grid grid.now) }
 {
     let size = grid.size();
-    let places = grid_places_of(size);
-    let mut matrix = Matrix::light(alloc, size)?;
-    for row in 0..size.mapping() {
-        unframe_row(grid, &places, row, &mut matrix);
+    let side = size.mapping();
+    let mut modules = Vec::with_capacity(alloc, side as usize * side as usize)?;
+    for row in 0..side {
+        push_row(&mut modules, grid, row)?;
     }
-    Ok(matrix)
+    Ok(Matrix::from_modules(size, modules))
 }
 
 /// Takes the finder patterns off a grid (ISO/IEC 16022:2006, 5.8).

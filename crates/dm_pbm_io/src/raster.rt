@@ -10,6 +10,7 @@ use crate::fault::{ByteFault, RasterFault};
 use crate::header::{is_hidden, is_white};
 use crate::limits::{GREATEST_SIDE, PLAIN_BYTES};
 use crate::source::{ByteSource, next_byte};
+use dm_placement::bits_of;
 use std::alloc::Allocator;
 
 /// Adds a pixel, for which there is room.
@@ -25,6 +26,20 @@ fn push_pixel<A: Allocator>(pixels: &mut Vec<bool, A>, pixel: bool)
     }
 }
 
+/// Adds pixels, for which there is room.
+#[inline(always)]
+fn push_pixels<A: Allocator>(pixels: &mut Vec<bool, A>, more: &[bool])
+    requires { vec_len pixels.old + length more.now ≤ vec_capacity pixels.old }
+    ensures items { pixels.new.items ≡ pixels.old.items ++ more.now }
+    ensures len { vec_len pixels.new ≡ vec_len pixels.old + length more.now }
+    ensures capacity { vec_capacity pixels.old ≤ vec_capacity pixels.new }
+{
+    match pixels.extend_from_slice(more) {
+        Ok(()) => {}
+        Err(_) => unreachable!(),
+    }
+}
+
 /// Adds the first `count` pixels of a byte, the most significant bit first.
 fn push_bits<A: Allocator>(pixels: &mut Vec<bool, A>, byte: u8, count: usize)
     requires count { count ≤ 8 }
@@ -33,8 +48,11 @@ fn push_bits<A: Allocator>(pixels: &mut Vec<bool, A>, byte: u8, count: usize)
     ensures len { vec_len pixels.new ≡ vec_len pixels.old + count }
     ensures capacity { vec_capacity pixels.old ≤ vec_capacity pixels.new }
 {
-    for k in 0..count {
-        push_pixel(pixels, (byte >> (7 - k)) % 2 == 1);
+    let bits = bits_of(byte);
+    if count == 8 {
+        push_pixels(pixels, &bits);
+    } else {
+        push_pixels(pixels, &bits[..count]);
     }
 }
 

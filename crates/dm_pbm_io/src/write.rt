@@ -52,10 +52,26 @@ fn is_black(row: &[bool], k: usize) -> bool
     k < row.len() && row[k]
 }
 
+/// The byte of the first eight pixels of a row that has at least eight.
+#[inline(always)]
+fn byte_of_eight(row: &[bool]) -> u8
+    requires { 8 ≤ length row.now }
+    ensures { result ≡ number_of_first 0 row.now 8 }
+{
+    let mut byte = 0u16;
+    for k in 0..8usize {
+        byte = 2 * byte + u16::from(row[k]);
+    }
+    byte as u8
+}
+
 /// The byte of the first eight pixels of a row. Past its end they are light.
 fn byte_of(row: &[bool]) -> u8
     ensures { result ≡ number_of_first 0 row.now 8 }
 {
+    if row.len() >= 8 {
+        return byte_of_eight(row);
+    }
     let mut byte = 0u16;
     for k in 0..8 {
         byte = 2 * byte + u16::from(is_black(row, k));

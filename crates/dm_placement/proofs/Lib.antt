@@ -10,6 +10,7 @@ pub mod TakenTable
 pub mod ShapesSound
 pub mod WalkRemains
 pub mod WalkStart
+pub mod WalkedWords
 pub mod WalkTests
 pub mod EachOnce
 pub mod PlacedBits

@@ -225,7 +225,7 @@ AllIn-words n [] a = tt
 AllIn-words n (s ∷ ss) a = AllIn-append n (shape_cells n s) (cells_of_all n ss) a.1 (AllIn-words n ss a.2)
 
 -- each word has eight cells
-length-words : (n : ℕ) (ss : List Shape) → length (cells_of_all n ss) ≡ 8 * length ss
+pub length-words : (n : ℕ) (ss : List Shape) → length (cells_of_all n ss) ≡ 8 * length ss
 length-words n [] = refl
 length-words n (s ∷ ss) =
     let e = length-append (shape_cells n s) (cells_of_all n ss) in

@@ -1,6 +1,6 @@
 //! Squares of modules.
 
-ghost use Rattle.std.specs.Prelude.{◌≡◌, ◌<◌, ◌≤◌, ◌+◌, ◌*◌, IfOk, length};
+ghost use Rattle.std.specs.Prelude.{◌≡◌, ◌<◌, ◌≤◌, ◌+◌, ◌*◌, IfOk, length, slice_range};
 ghost use Rattle.dm_check_blocks.specs.Sizes.{mapping};
 ghost use Rattle.dm_placement.specs.Square.{Square, IsWhole, module_at, light_square, with_module};
 
@@ -50,6 +50,30 @@ impl<A: Allocator> Matrix<A> {
         ensures { result ≡ module_at self.now row column }
     {
         self.modules[self.index(row, column)]
+    }
+
+    /// The matrix of a size and its modules, row by row from the top left; `true` is a dark module. It keeps the
+    /// modules as they are handed in, and takes no memory.
+    pub fn from_modules(size: Size, modules: Vec<bool, A>) -> Matrix<A>
+        requires { length modules.items ≡ mapping size * mapping size }
+        ensures { result ≡ record { side = mapping size; modules = modules.items } }
+    {
+        Matrix {
+            side: size.mapping(),
+            modules,
+        }
+    }
+
+    /// The modules of a row, from 0, from left to right.
+    pub fn row(&self, row: u16) -> &[bool]
+        requires { row < self.now.side }
+        ensures modules { result.now ≡
+            slice_range self.now.modules (row * self.now.side) ((row + 1) * self.now.side) }
+        ensures whole { IsWhole self.now }
+    {
+        let side = self.side as usize;
+        let start = row as usize * side;
+        &self.modules[start..start + side]
     }
 
     // Where the module of a row and a column stands, row by row.

@@ -2,6 +2,7 @@
 //! (ISO/IEC 16022:2006, Annex F).
 
 ghost use Rattle.std.specs.Prelude.{◌≡◌, ◌++◌, IfOk, OnOk};
+ghost use Rattle.std.specs.Option.{option_to_list};
 ghost use Rattle.dm_placement.specs.Cells.{shape_cells, bit_cells};
 ghost use Rattle.dm_placement.specs.Square.{with_dark};
 ghost use Rattle.dm_placement.specs.inner.WalkSteps.{IsSideSound, IsMappingSide, IsPlaceable, AllPlaceable, cells_of_all, next_word, corner_at};
@@ -12,7 +13,7 @@ use std::alloc::{AllocError, Allocator};
 
 /// The walk counts rows and columns from this many above and left of the matrix: it never goes further out on those
 /// sides.
-const MARGIN: u16 = 2;
+pub(crate) const MARGIN: u16 = 2;
 
 // Places a word: its cells are the next ones, and they are taken.
 fn put<A: Allocator>(
@@ -64,8 +65,23 @@ fn visit<A: Allocator>(
     put(cells, taken, side, Shape::Plain(anchor))
 }
 
-// Places the corner shape that an upward sweep from this position begins with, if any.
+/// The corner shape that an upward sweep from this position begins with, if any.
 #[tactic(auto, unfolding(crate::specs::inner::WalkSteps::corner_at))]
+pub(crate) fn corner_at(side: u16, row: u16, column: u16) -> Option<Shape>
+    requires { IsSideSound side }
+    ensures shape { option_to_list result ≡ corner_at side row column }
+    ensures fits { AllPlaceable side (option_to_list result) }
+{
+    if row == side + MARGIN && column == MARGIN {
+        Some(Shape::CornerOne)
+    } else if row == side && column == MARGIN && side % 4 != 0 {
+        Some(Shape::CornerTwo)
+    } else {
+        None
+    }
+}
+
+// Places the corner shape that an upward sweep from this position begins with, if any.
 fn place_corner<A: Allocator>(
     cells: &mut Vec<Cell, A>,
     taken: &mut Matrix<A>,
@@ -79,12 +95,9 @@ fn place_corner<A: Allocator>(
         ≡ cells.old.items ++ cells_of_all side (corner_at side row column)) }
     ensures marked { OnOk result (taken.new ≡ with_dark taken.old (cells_of_all side (corner_at side row column))) }
 {
-    if row == side + MARGIN && column == MARGIN {
-        put(cells, taken, side, Shape::CornerOne)
-    } else if row == side && column == MARGIN && side % 4 != 0 {
-        put(cells, taken, side, Shape::CornerTwo)
-    } else {
-        Ok(())
+    match corner_at(side, row, column) {
+        Some(shape) => put(cells, taken, side, shape),
+        None => Ok(()),
     }
 }
 

@@ -1,21 +1,36 @@
-use Rattle.std.proofs.Common.{◌≢◌, sym, ◌∙◌, ap, inl, inr, arith, below_more}
+use Rattle.std.proofs.Common.{◌≡◌, ◌-◌, ◌*◌, ◌++◌, ◌<◌, ℕ, List, sym, ◌∙◌, ap, arith, length, length-append, length-take, length-drop, take, drop}
+use Rattle.std.proofs.lemmas.List.{append-nil, drop_all}
+use Rattle.std.proofs.lemmas.List.Elements.{All-from_get_or}
 use Rattle.dm_gf256.specs.Field.{power}
 use Rattle.dm_gf256.specs.Polynomial.{value}
-use Rattle.dm_check_blocks.proofs.Interleaving.{block_of_same}
+use Rattle.dm_check_blocks.specs.Sizes.{data_words, all_words, blocks, block_checks}
+use Rattle.dm_check_blocks.proofs.Sound.{sound}
+use Rattle.dm_check_blocks.proofs.Interleaving.{single_block}
 use Rattle.dm_check_blocks.proofs.symbol.complete_blocks.Goals as goal
+use borrow.Rule.Slice.PartMut.{put_mid}
 
-pub loop-block-preserved : goal.loop-block-preserved
-loop-block-preserved c = record {
-  completed =
-      below_more _ _
-      (λ b h k p q.
-      ap (λ t. value t (power 2 k))
-      (block_of_same c.args.size b c.complete_block.new.words c.loop-block.words
-      (let e = c.blocks-block-end.ensures.value in omega arith)
-      (λ at e. c.complete_block.ensures.others at
-      (inr (λ f. let n : b ≢ c.loop-block.block = omega arith in n (sym e ∙ f)))))
-      ∙ c.loop-block.invariant.completed b h k p q)
-      c.complete_block.ensures.completed;
-  bytes = c.complete_block.ensures.bytes;
-  kept = λ p h. c.complete_block.ensures.others p (inl h) ∙ c.loop-block.invariant.kept p h;
-}
+pub returns-then-blocks-eq1-clause-completed : goal.returns-then-blocks-eq1-clause-completed
+returns-then-blocks-eq1-clause-completed c = λ b h k p q.
+    let s = c.args.size in
+    let old : List ℕ = c.args.words.now in
+    let m : ℕ = length c.args.message.now in
+    let new : List ℕ = put_mid m (length old - m) old c.fill.new.checks in
+    let size : m ≡ data_words s = c.requires.data in
+    let one : blocks s ≡ 1 = sym c.blocks-2.ensures.value ∙ c.if-blocks-eq1.true in
+    let rest : length (drop m old) ≡ length old - m = length-drop m old in
+    let long : length c.fill.new.checks ≡ length old - m =
+    c.fill.auto.checks ∙ (let e : length (take (length old - m) (drop m old)) ≡ length old - m =
+    simp length-take (omega arith) in e) in
+    let begins : take m old ≡ c.args.message.now = ap (λ t. take t old) size ∙ c.requires.begins in
+    let is : new ≡ c.args.message.now ++ c.fill.new.checks =
+    ap (λ t. take m old ++ (c.fill.new.checks ++ t)) (drop_all (length old - m) (drop m old) (omega arith))
+    ∙ ap (λ t. take m old ++ t) (append-nil c.fill.new.checks) ∙ ap (λ t. t ++ c.fill.new.checks) begins in
+    let all : length new ≡ all_words s =
+    ap length is ∙ simp length-append (omega (arith, c.requires.count)) in
+    let checks : blocks s * block_checks s ≡ 1 * block_checks s = ap (λ t. t * block_checks s) one in
+    let equal = (sound s).equal_checks in
+    ap (λ t. value t (power 2 k)) (single_block s b new one h all ∙ is) ∙
+    c.fill.ensures k p (omega (arith, c.requires.count, c.fill.auto.checks, long))
+
+pub returns-then-blocks-eq1-clause-bytes : goal.returns-then-blocks-eq1-clause-bytes
+returns-then-blocks-eq1-clause-bytes c = All-from_get_or (λ word. word < 256) _ 0 (λ i h. (c.type_inv.words i).fits)

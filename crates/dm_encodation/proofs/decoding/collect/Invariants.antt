@@ -8,5 +8,5 @@ abbrev pub invariant-loop-at : goal.invariant-loop-at
 invariant-loop-at g l = record {
   mode : IsMode l.mode (l.at + 1);
   so_far : prepend l.out.items (reading l.mode (l.at + 1) (drop l.at l.words)) ≡ reading Ascii
-      (l.from + 1) (drop l.from l.words);
+      (l.fn.from + 1) (drop l.fn.from l.words);
 }

@@ -1,16 +1,24 @@
-use Rattle.std.proofs.Common.{◌≡◌, ap, ◌∙◌, arith, Bool, List}
+use Rattle.std.specs.Prelude.{◌/◌, ◌%◌}
+use Rattle.std.proofs.Common.{◌≡◌, ◌*◌, ℕ, Bool, List, length, ap, ◌∙◌, arith}
+use Rattle.std.proofs.lemmas.List.FromFn.{length-map-range_with_len}
 use Rattle.dm_check_blocks.specs.Sizes.{side}
 use Rattle.dm_finder_frame.specs.Grids.{GridView}
 use Rattle.dm_finder_frame.specs.Frame.{grid_module, grid_modules}
-use Rattle.dm_finder_frame.proofs.Filled.{all_filled}
+use Rattle.dm_finder_frame.specs.inner.Lines.{first_modules}
 use Rattle.dm_finder_frame.proofs.framing.frame.Goals as goal
+
+pub from_modules-requires : goal.from_modules-requires
+from_modules-requires g c =
+    let n = side c.args.size in
+    let end : c.loop-row.row * n ≡ n * n = ap (λ (x : ℕ). x * n) (omega (arith, c.side-side.ensures.value)) in
+    let f : ℕ → Bool = λ k. grid_module c.args.size c.args.matrix.now (k / n) (k % n) in
+    ap length c.loop-row.invariant ∙ length-map-range_with_len f 0 (c.loop-row.row * n) ∙ end
 
 pub returns : goal.returns
 unfolding grid_modules
 returns g c =
     let n = side c.args.size in
     let grid : List Bool → GridView = λ modules. record { size = c.args.size; modules = modules } in
-    let end : c.loop-row.row ≡ n = omega (arith, c.side-side.ensures.value) in
-    c.from_modules.ensures ∙ ap grid
-    (all_filled n c.loop-row.row (grid_module c.args.size c.args.matrix.now) c.loop-row.modules.items end
-    c.loop-row.invariant)
+    let end : c.loop-row.row * n ≡ n * n = ap (λ (x : ℕ). x * n) (omega (arith, c.side-side.ensures.value)) in
+    c.from_modules.ensures ∙ ap grid (c.loop-row.invariant
+    ∙ ap (first_modules n (grid_module c.args.size c.args.matrix.now)) end)

@@ -1,17 +1,32 @@
-use Rattle.std.proofs.Common.{◌≡◌, ap, ◌∙◌, arith, Bool, List, ℕ}
+use Rattle.std.specs.Prelude.{◌/◌, ◌%◌}
+use Rattle.std.proofs.Common.{◌≡◌, ◌*◌, ℕ, Bool, List, length, ap, sym, ◌∙◌, arith}
+use Rattle.std.proofs.lemmas.List.FromFn.{length-map-range_with_len}
+use Rattle.dm_check_blocks.specs.declared.size.Size.{Size}
 use Rattle.dm_check_blocks.specs.Sizes.{mapping}
 use Rattle.dm_placement.specs.Square.{Square}
 use Rattle.dm_finder_frame.specs.Frame.{matrix_module, matrix_modules}
-use Rattle.dm_finder_frame.proofs.Filled.{all_filled}
+use Rattle.dm_finder_frame.specs.inner.Lines.{first_modules}
 use Rattle.dm_finder_frame.proofs.unframing.matrix_of.Goals as goal
+
+-- all rows are made
+all_rows : (s t : Size) (row end : ℕ) → s ≡ t → end ≡ mapping s → row ≡ end → row * mapping t ≡ mapping t * mapping t
+all_rows s t row end e is last = ap (λ (x : ℕ). x * mapping t) (last ∙ is ∙ ap mapping e)
+
+pub from_modules-requires : goal.from_modules-requires
+from_modules-requires g c =
+    let n = mapping c.args.grid.now.size in
+    let end = all_rows c.size-size.result c.args.grid.now.size c.loop-row.row c.mapping-side.result
+    c.size-size.ensures.same c.mapping-side.ensures.value (omega arith) in
+    let f : ℕ → Bool = λ k. matrix_module c.args.grid.now (k / n) (k % n) in
+    ap length c.loop-row.invariant ∙ length-map-range_with_len f 0 (c.loop-row.row * n) ∙ end
+    ∙ ap (λ (s : Size). mapping s * mapping s) (sym c.size-size.ensures.same)
 
 pub returns : goal.returns
 unfolding matrix_modules
 returns g c =
     let n = mapping c.args.grid.now.size in
+    let end = all_rows c.size-size.result c.args.grid.now.size c.loop-row.row c.mapping-side.result
+    c.size-size.ensures.same c.mapping-side.ensures.value (omega arith) in
     let square : ℕ → List Bool → Square = λ side modules. record { side = side; modules = modules } in
-    let i = c.loop-row.invariant in
-    let here : c.loop-row.row ≡ mapping c.size-size.result = omega (arith, c.mapping-row-end.ensures.value) in
-    let end : c.loop-row.row ≡ n = here ∙ ap mapping c.size-size.ensures.same in
-    ap (λ (x : ℕ). square x c.loop-row.matrix.modules) i.side
-    ∙ ap (square n) (all_filled n c.loop-row.row (matrix_module c.args.grid.now) c.loop-row.matrix.modules end i.filled)
+    c.from_modules.ensures ∙ ap (λ (s : Size). square (mapping s) c.loop-row.modules.items) c.size-size.ensures.same
+    ∙ ap (square n) (c.loop-row.invariant ∙ ap (first_modules n (matrix_module c.args.grid.now)) end)

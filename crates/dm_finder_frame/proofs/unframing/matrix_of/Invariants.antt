@@ -1,11 +1,9 @@
 use Rattle.std.proofs.Common.{◌≡◌, ◌*◌}
 use Rattle.dm_check_blocks.specs.Sizes.{mapping}
 use Rattle.dm_finder_frame.specs.Frame.{matrix_module}
-use Rattle.dm_finder_frame.specs.inner.Lines.{IsFilledTo}
+use Rattle.dm_finder_frame.specs.inner.Lines.{first_modules}
 use Rattle.dm_finder_frame.proofs.unframing.matrix_of.Given as goal
 
 abbrev pub invariant-loop-row : goal.invariant-loop-row
-invariant-loop-row g l = record {
-  side : l.matrix.side ≡ mapping l.grid.size;
-  filled : IsFilledTo (mapping l.grid.size) (l.row * mapping l.grid.size) (matrix_module l.grid) l.matrix.modules;
-}
+invariant-loop-row g l = l.modules.items ≡ first_modules (mapping l.grid.size) (matrix_module l.grid)
+    (l.row * mapping l.grid.size)

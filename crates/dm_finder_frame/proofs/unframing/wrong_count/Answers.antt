@@ -2,7 +2,7 @@ use Rattle.std.proofs.Common.{◌≡◌, ◌+◌, ◌*◌, ap, ◌∙◌, arith,
 use Rattle.dm_check_blocks.specs.Sizes.{side}
 use Rattle.dm_finder_frame.specs.Frame.{wrong_frame_modules}
 use Rattle.dm_finder_frame.specs.inner.Lines.{wrong_among}
-use Rattle.dm_finder_frame.proofs.Filled.{joined}
+use Rattle.dm_finder_frame.proofs.WrongCounts.{joined}
 use Rattle.dm_finder_frame.proofs.unframing.wrong_count.Goals as goal
 
 pub loop-row-preserved : goal.loop-row-preserved
@@ -12,7 +12,7 @@ loop-row-preserved g c =
     let both = joined c.args.grid.now (r * n) n in
     let below : (r + 1) * n ≡ r * n + n = omega arith in
     record {
-      counted = omega (arith, both, ap (wrong_among c.args.grid.now 0) below, c.wrong_in_row-wrong.ensures.count);
+      counted = omega (arith, both, ap (wrong_among c.args.grid.now 0) below, c.wrong_of_row-wrong.ensures.count);
       most = omega arith;
     }
 

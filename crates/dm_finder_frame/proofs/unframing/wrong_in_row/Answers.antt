@@ -1,20 +1,11 @@
-use Rattle.std.specs.Prelude.{◌%◌}
-use Rattle.std.proofs.Common.{◌≡◌, ℕ, ◌+◌, ◌*◌, ◌<◌, Bool, true, false, cond, ap, sym, ◌∙◌, arith, add-zero}
-use Rattle.std.proofs.lemmas.Nat.{div-mul-add, mod-mul-add}
+use Rattle.std.proofs.Common.{◌≡◌, ℕ, ◌+◌, ◌*◌, Bool, true, false, cond, ap, sym, ◌∙◌, arith, add-zero}
 use Rattle.dm_check_blocks.specs.Sizes.{side}
-use Rattle.dm_finder_frame.specs.Frame.{is_wrong, is_wrong_at}
+use Rattle.dm_finder_frame.specs.Frame.{is_wrong}
 use Rattle.dm_finder_frame.specs.Grids.{GridView}
 use Rattle.dm_finder_frame.specs.inner.Lines.{wrong_among}
-use Rattle.dm_finder_frame.proofs.Filled.{one_more}
+use Rattle.dm_finder_frame.proofs.WrongCounts.{one_more, is_test}
 use Rattle.dm_finder_frame.proofs.unframing.wrong_in_row.Goals as goal
 use Rattle.dm_finder_frame.proofs.unframing.wrong_in_row.Goals.{then-is_wrong_at, else-is_wrong_at}
-
--- the test of a module by its row and column is that by its place in the list
-is_test : (g : GridView) (r c : ℕ) → c < side g.size → is_wrong_at g r c ≡ is_wrong g (r * side g.size + c)
-is_test g r c hc =
-    let n = side g.size in
-    sym (ap (λ (x : ℕ). is_wrong_at g x ((r * n + c) % n)) (div-mul-add r n c hc) ∙
-    ap (λ (x : ℕ). is_wrong_at g r x) (mod-mul-add r n c hc))
 
 -- one module more is counted
 counts : (g : GridView) (first n a b : ℕ) (t : Bool) → a ≡ wrong_among g first n → t ≡ is_wrong g (first + n) →

@@ -1,0 +1,9 @@
+use Rattle.std.proofs.Common.{◌≡◌, ◌∙◌, ℕ, List, arith, length, length-take, replicate, take}
+use Rattle.dm_check_blocks.proofs.DivisionSteps.{zeros_after}
+use Rattle.dm_check_blocks.proofs.multiples.generator_row.Goals as goal
+
+pub returns-clause-zeros : goal.returns-clause-zeros
+returns-clause-zeros c = λ k h.
+    let long : length (take c.args.checks (let z : List ℕ = replicate 80 0 in z)) ≡ c.args.checks =
+    simp length-take (omega arith) in
+    zeros_after 80 c.copy_from_slice.new.self c.args.checks k (c.copy_from_slice.ensures.len ∙ long) h

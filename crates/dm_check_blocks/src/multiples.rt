@@ -1,0 +1,163 @@
+//! Division by a generator polynomial, a row of words at once.
+//!
+//! A step of the division takes the multiple of the generator polynomial off that makes the first word zero. The
+//! factor, a word, is the sum of its low and of its high four bits, so its multiple is the sum of two rows of a table:
+//! sixteen rows of multiples by the low bits, and sixteen by the high ones.
+
+ghost use Rattle.std.specs.Prelude.{◌≡◌, ◌<◌, ◌≤◌, ◌+◌, ℕ, length, slice_index, take};
+ghost use Rattle.std.specs.Int.Bits.{bit_xor};
+ghost use Rattle.dm_gf256.specs.Field.{product};
+ghost use Rattle.dm_check_blocks.specs.declared.generator.TheConstants.{MOST_CHECKS};
+ghost use Rattle.dm_check_blocks.specs.declared.multiples.TheConstants.{ROW_WORDS};
+ghost use Rattle.dm_check_blocks.specs.Division.{row_at, IsDivided};
+ghost use Rattle.dm_check_blocks.specs.inner.Remainders.{IsGenerator, IsStep, AreMultiples};
+
+use crate::generator::{MOST_CHECKS, coefficients_of};
+
+// The words of a row: room for the most check words, and a whole number of registers of 16.
+const ROW_WORDS: usize = 80;
+
+// One multiple of a generator polynomial, without its highest power, and zeros.
+type Row = [u8; ROW_WORDS];
+
+/// The words of a [`Window`]: a block has at most 255, and a row reaches at most 81 words past one of them.
+pub const WINDOW_WORDS: usize = 336;
+
+/// A block that is divided in place, and room after it.
+pub type Window = [u8; WINDOW_WORDS];
+
+// Twice a row.
+fn doubled(row: &Row) -> Row
+    ensures size { length result ≡ ROW_WORDS }
+    ensures words { (k : ℕ) → k < ROW_WORDS → slice_index result k ≡ product 2 (slice_index row.now k) }
+{
+    let mut twice = *row;
+    for k in 0..ROW_WORDS {
+        twice[k] = if row[k] < 128 {
+            row[k] << 1
+        } else {
+            (row[k] << 1) ^ 45
+        };
+    }
+    twice
+}
+
+// The sum of two rows.
+fn sum(left: &Row, right: &Row) -> Row
+    ensures size { length result ≡ ROW_WORDS }
+    ensures words { (k : ℕ) → k < ROW_WORDS
+        → slice_index result k ≡ bit_xor (slice_index left.now k) (slice_index right.now k) }
+{
+    let mut row = *left;
+    for k in 0..ROW_WORDS {
+        row[k] ^= right[k];
+    }
+    row
+}
+
+// Adds two rows to as many words.
+fn add_rows(words: &mut [u8], low: &Row, high: &Row)
+    requires { length words.old ≡ ROW_WORDS }
+    ensures { (k : ℕ) → k < ROW_WORDS → slice_index words.new k
+        ≡ bit_xor (slice_index words.old k) (bit_xor (slice_index low.now k) (slice_index high.now k)) }
+{
+    for k in 0..ROW_WORDS {
+        words[k] ^= low[k] ^ high[k];
+    }
+}
+
+// The multiples of a row by 0 to 15.
+fn multiples_of(row: &Row) -> [Row; 16]
+    ensures count { length result ≡ 16 }
+    ensures size { (f : ℕ) → f < 16 → length (row_at result f) ≡ ROW_WORDS }
+    ensures itself { row_at result 1 ≡ row.now }
+    ensures multiples { AreMultiples row.now result }
+{
+    let mut rows = [[0; ROW_WORDS]; 16];
+    for factor in 1..16 {
+        rows[factor] = if factor % 2 == 0 {
+            doubled(&rows[factor / 2])
+        } else {
+            sum(&rows[factor - 1], row)
+        };
+    }
+    rows
+}
+
+// The generator polynomial for that many check words as a row.
+fn generator_row(checks: usize) -> Row
+    requires { checks ≤ MOST_CHECKS }
+    ensures size { length result ≡ ROW_WORDS }
+    ensures generator { IsGenerator (take checks result) }
+    ensures zeros { (k : ℕ) → checks ≤ k → slice_index result k ≡ 0 }
+{
+    let coefficients = coefficients_of(checks);
+    let mut row = [0; ROW_WORDS];
+    row[..checks].copy_from_slice(&coefficients[1..checks + 1]);
+    row
+}
+
+/// The multiples of a generator polynomial, by which blocks are divided.
+#[derive(Drop)]
+pub struct Multiples {
+    /// The number of check words, the generator polynomial's degree.
+    pub checks: usize,
+    low: [Row; 16],
+    high: [Row; 16],
+    ghost most: { checks ≤ MOST_CHECKS },
+    ghost size: { length (row_at low 1) ≡ ROW_WORDS },
+    ghost generator: { IsGenerator (take checks (row_at low 1)) },
+    ghost zeros: { (k : ℕ) → checks ≤ k → slice_index (row_at low 1) k ≡ 0 },
+    ghost multiples: { AreMultiples (row_at low 1) low },
+    ghost high_multiples: { (f k : ℕ) → f < 16 → k < ROW_WORDS
+        → slice_index (row_at high f) k ≡ product f (product 16 (slice_index (row_at low 1) k)) },
+}
+
+impl Multiples {
+    /// The multiples of the generator polynomial for that many check words.
+    pub fn of_generator(checks: usize) -> Multiples
+        requires { checks ≤ MOST_CHECKS }
+        ensures { result.checks ≡ checks }
+    {
+        let low = multiples_of(&generator_row(checks));
+        let high = multiples_of(&doubled(&low[8]));
+        Multiples { checks, low, high }
+    }
+
+    // One step of the division: takes the multiple of the generator polynomial off that makes the word at `at` zero.
+    fn step(&self, window: &mut Window, at: usize)
+        requires { at < 256 }
+        ensures { IsStep self.now.checks at window.old window.new }
+    {
+        let factor = window[at] as usize;
+        let low = &self.low[factor % 16];
+        let high = &self.high[factor / 16];
+        add_rows(&mut window[at + 1..at + 1 + ROW_WORDS], low, high);
+    }
+
+    // The same step in each window.
+    fn step_each(&self, windows: &mut [Window], at: usize)
+        requires { at < 256 }
+        ensures { (w : ℕ) → w < length windows.old
+            → IsStep self.now.checks at (row_at windows.old w) (row_at windows.new w) }
+    {
+        for window in 0..windows.len() {
+            self.step(&mut windows[window], at);
+        }
+    }
+
+    /// Divides the block that each window begins with, `count` words and `checks` check words, by the generator
+    /// polynomial. The remainder stands where the check words stood; the words before it are used up.
+    ///
+    /// The windows take turns step by step, since each step reads what the one before it wrote beside.
+    pub fn divide(&self, windows: &mut [Window], count: usize)
+        requires some { 1 ≤ count }
+        requires fits { count + self.now.checks ≤ 255 }
+        ensures { (w : ℕ) → w < length windows.old
+            → IsDivided self.now.checks count (row_at windows.old w) (row_at windows.new w) }
+    {
+        for at in 0..count {
+            self.step_each(windows, at);
+        }
+    }
+}

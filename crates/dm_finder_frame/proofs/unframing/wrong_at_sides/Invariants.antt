@@ -1,0 +1,10 @@
+use Rattle.std.proofs.Common.{◌≡◌, ◌≤◌, ◌+◌, ◌*◌}
+use Rattle.dm_check_blocks.specs.Sizes.{side, region}
+use Rattle.dm_finder_frame.specs.inner.Lines.{wrong_among}
+use Rattle.dm_finder_frame.proofs.unframing.wrong_at_sides.Given as goal
+
+abbrev pub invariant-loop-b : goal.invariant-loop-b
+invariant-loop-b g l = record {
+  counted : l.wrong ≡ wrong_among l.grid (l.fn.row * side l.grid.size) (l.b * (region l.grid.size + 2));
+  most : l.wrong ≤ 2 * l.b;
+}

@@ -1,0 +1,75 @@
+-- The walk over the mapping matrix without its table of taken cells: a position is passed over if it lies outside of
+-- the matrix or is one of the two cells that are left out for the second corner shape (ISO/IEC 16022:2006, Annex F).
+use Rattle.std.specs.Prelude.{ℕ, zero, suc, ◌≡◌, ◌+◌, ◌-◌, ◌*◌, ◌<◌, ◌≤◌, Bool, true, false, nat_lt, nat_le, ◌&&◌, ◌||◌, not, List, [], ◌++◌, Option, Some, None}
+use Rattle.std.specs.Option.{option_map, option_to_list}
+use Rattle.dm_placement.specs.declared.shape.Shape.{Shape}
+use Rattle.dm_placement.specs.declared.stepping.Sweep.{Sweep}
+use Rattle.dm_placement.specs.declared.stepping.Sweep.TheVariants.{Start, Up, Down}
+use Rattle.dm_placement.specs.declared.stepping.Walk.{Walk}
+use Rattle.dm_placement.specs.Cells.{cell_at, is_left_out}
+use Rattle.dm_placement.specs.inner.WalkSteps.{word_at, corner_at}
+
+-- the word at a position of the walk, if any
+abbrev pub word_here : ℕ → ℕ → ℕ → List Shape
+word_here n r c = word_at n r c (is_left_out n (cell_at (r - 2) (c - 2)))
+
+-- the shapes that the walk places from a position on, if it ends within this many steps
+abbrev pub shapes_ahead : ℕ → ℕ → Sweep → ℕ → ℕ → Option (List Shape)
+shapes_ahead zero n sweep r c = None
+shapes_ahead (suc steps) n Start r c =
+    elim (nat_lt r (n + 2) || nat_lt c (n + 2)) [
+      | true ↦ option_map (λ later. corner_at n r c ++ later) (shapes_ahead steps n Up r c)
+      | false ↦ Some []
+    ]
+shapes_ahead (suc steps) n Up r c =
+    elim (nat_le 2 r && nat_lt c (n + 2)) [
+      | true ↦ option_map (λ later. word_here n r c ++ later) (shapes_ahead steps n Up (r - 2) (c + 2))
+      | false ↦ shapes_ahead steps n Down (r + 1) (c + 3)
+    ]
+shapes_ahead (suc steps) n Down r c =
+    elim (nat_lt r (n + 2) && nat_le 2 c) [
+      | true ↦ option_map (λ later. word_here n r c ++ later) (shapes_ahead steps n Down (r + 2) (c - 2))
+      | false ↦ shapes_ahead steps n Start (r + 3) (c + 1)
+    ]
+
+-- these shapes are ahead of the walk
+pub record IsAhead (w : Walk) (shapes : List Shape) : Type 0 where
+  pub steps : ℕ
+  pub walked : shapes_ahead steps w.side w.sweep w.row w.column ≡ Some shapes
+
+-- whether the walk has ended: it is to begin a sweep, and neither its row nor its column is inside of the matrix
+abbrev pub ends : Sweep → Bool → Bool
+ends Start inside = not inside
+ends Up inside = false
+ends Down inside = false
+
+abbrev pub is_over : Walk → Bool
+is_over w = ends w.sweep (nat_lt w.row (w.side + 2) || nat_lt w.column (w.side + 2))
+
+-- how far outside of the matrix the walk may be
+abbrev pub MayStand : ℕ → Sweep → ℕ → ℕ → Type 0
+MayStand n Start r c = (r < n + 2 → c ≤ 2) × (c < n + 2 → r ≤ n + 6)
+MayStand n Up r c = (r ≤ n + 6) × (c ≤ n + 3)
+MayStand n Down r c = (r ≤ n + 7) × (c ≤ n + 6) × (c < n + 2 → r ≤ n + 3)
+
+-- the walk stands near its matrix
+pub record IsNearby (w : Walk) : Type 0 where
+  pub small : w.side ≤ 120
+  pub nearby : MayStand w.side w.sweep w.row w.column
+
+-- more than the steps that the walk has left
+abbrev pub left_in : Sweep → ℕ → ℕ → ℕ
+left_in Start r c = 399
+left_in Up r c = r
+left_in Down r c = c
+
+abbrev pub steps_left : Walk → ℕ
+steps_left w = 400 * (300 - (w.row + w.column)) + left_in w.sweep w.row w.column
+
+-- one step of the walk, with the shape that it places, if any
+pub record Steps (w w' : Walk) (shape : Option Shape) : Type 0 where
+  pub same_side : w'.side ≡ w.side
+  pub stays : IsNearby w'
+  pub nearer : steps_left w' < steps_left w
+  pub ahead : (shapes : List Shape) → IsAhead w shapes
+      → (later : List Shape) × (shapes ≡ option_to_list shape ++ later) × IsAhead w' later
