@@ -1,7 +1,7 @@
 -- A call that is made, and is then told as failed.
 use Rattle.std.proofs.Common.{inl, inr, ⊎_elim, ℕ, List, Result, Ok, Err, refl}
 use Rattle.std.specs.Prelude.{IsOk}
-use Rattle.dm_store.specs.Disk.{DiskState, Writes, Syncs, Renames, SyncsEntry}
+use Rattle.dm_store.specs.Disk.{DiskState, Writes, Syncs, Renames, Removes, SyncsEntry}
 use Rattle.dm_store.specs.declared.disk.DiskFault.{DiskFault}
 use Rattle.dm_store.proofs.Saving.{not_both}
 
@@ -38,4 +38,21 @@ rename_fails (Err e) fault renames = record {
   failed = λ _. renames.failed refl;
   synced = λ on. ⊎_elim (λ ok. not_ok fault ok) (λ to_on. renames.synced on (inr to_on));
   left = renames.left;
+}
+
+pub remove_fails : {old new : DiskState} (made : Result (Unit {0}) DiskFault) (fault : DiskFault) {name : List ℕ} →
+    Removes old name made new → Removes old name {F = DiskFault} (Err fault) new
+remove_fails (Ok done) fault removes = record {
+  others = removes.others;
+  done = λ ok. not_ok fault ok;
+  failed = λ _. inr (removes.done refl);
+  synced = λ _. removes.synced (inl refl);
+  left = removes.left;
+}
+remove_fails (Err e) fault removes = record {
+  others = removes.others;
+  done = λ ok. not_ok fault ok;
+  failed = λ _. removes.failed refl;
+  synced = ⊎_elim (λ ok. not_ok fault ok) (λ on. removes.synced (inr on));
+  left = removes.left;
 }

@@ -7,64 +7,16 @@ use Rattle.std.specs.String.{string_bytes}
 use Rattle.dm_store.specs.declared.disk.DiskFault.{DiskFault}
 use Rattle.dm_store.proofs.Saving.{not_both}
 use Rattle.dm_store.specs.declared.mem_disk.DiskCall.{DiskCall}
-use Rattle.dm_store.specs.declared.mem_disk.DiskCall.TheVariants.{Wrote, Synced, Renamed, SyncedEntry}
+use Rattle.dm_store.specs.declared.mem_disk.DiskCall.TheVariants.{SyncedEntry}
 use Rattle.dm_store.specs.Disk.{Content, Keeps, SyncsEntry}
 use Rattle.dm_store.specs.DiskCalls.{seen_after, synced_after, content_eq, leaves_after, disk_after}
-
-content_eq-same : (content : Content) → content_eq content content ≡ true
-content_eq-same None = refl
-content_eq-same (Some bytes) = (bytes_eq-Decides bytes bytes).1 refl
+use Rattle.dm_store.specs.SeenIsLeft.{leaves_seen}
 
 same_content : (a b : Content) → content_eq a b ≡ true → a ≡ b
 same_content None None is = refl
 same_content None (Some bytes) is = cc
 same_content (Some bytes) None is = cc
 same_content (Some a) (Some b) is = ap (λ (bytes : List ℕ). Some bytes) ((bytes_eq-Decides a b).0 is)
-
-true_or : (a b : Bool) → b ≡ true → (a || b) ≡ true
-true_or true b is = refl
-true_or false b is = is
-
-either : (b p q : Bool) → p ≡ true → q ≡ true → (if b then p else q) ≡ true
-either true p q is_p is_q = is_p
-either false p q is_p is_q = is_q
-
--- a stop may leave what a reader finds
-leaves_seen : {A : Type 0} (calls : List (DiskCall A)) (name : List ℕ) →
-    leaves_after calls name (seen_after calls name) ≡ true
-leaves_seen [] name = refl
-leaves_seen {A} (Wrote written bytes ∷ before) name =
-    elim (bytes_eq (string_bytes written) name) as (λ b. (if b then true else leaves_after before name
-    (if b then Some bytes.items else seen_after before name)) ≡ true) [
-      | true ↦ refl
-      | false ↦ leaves_seen before name
-    ]
-leaves_seen {A} (Synced synced ∷ before) name = leaves_seen before name
-leaves_seen {A} (Renamed from to ∷ before) name =
-    let seen = seen_after before (string_bytes from) in
-    elim (bytes_eq (string_bytes to) name) as (λ b. (
-    if b then (if synced_after before (string_bytes from)
-    then (leaves_after before name
-    (if b then seen else (if bytes_eq (string_bytes from) name then None else seen_after before name))
-    || content_eq (if b then seen else (if bytes_eq
-    (string_bytes from) name then None else seen_after before name)) seen)
-    else true)
-    else (if bytes_eq (string_bytes from) name then true else leaves_after before name
-    (if b then seen else (if bytes_eq (string_bytes from) name then None else seen_after before name)))
-    ) ≡ true) [
-      | true ↦ either (synced_after before (string_bytes from)) _ true
-          (true_or (leaves_after before name seen) _ (content_eq-same seen)) refl
-      | false ↦ elim (bytes_eq (string_bytes from) name) as (λ b. (if b then true else leaves_after before name
-          (if b then None else seen_after before name)) ≡ true) [
-            | true ↦ refl
-            | false ↦ leaves_seen before name
-          ]
-    ]
-leaves_seen {A} (SyncedEntry synced ∷ before) name =
-    let seen = seen_after before name in
-    let on = either (synced_after before name) (content_eq seen seen) (leaves_after before name seen)
-    (content_eq-same seen) (leaves_seen before name) in
-    either (bytes_eq (string_bytes synced) name) _ _ on (leaves_seen before name)
 
 -- the sync of an entry takes nothing in
 left_before : {A : Type 0} (is_it is_synced : Bool) (calls : List (DiskCall A)) (name : List ℕ) (content : Content)

@@ -1,6 +1,6 @@
 -- What contracts see of a disk: what a reader finds under each name, and what a stop of the machine may leave there.
 -- A stop may come at any moment: a call that it cuts short is a call that fails, and so is each later one.
-use Rattle.std.specs.Prelude.{◌≡◌, ◌≢◌, ◌+◌, ◌⊎◌, ℕ, Bool, List, take, Option, None, Some, option_map, Result, IsOk, IsErr, IfOk}
+use Rattle.std.specs.Prelude.{◌≡◌, ◌≢◌, ◌+◌, ◌⊎◌, ◌++◌, ℕ, Bool, List, take, codes, Option, None, Some, option_map, Result, IsOk, IsErr, IfOk}
 use Rattle.dm_store.specs.declared.disk.DiskFault.{DiskFault}
 use Rattle.dm_store.specs.declared.store.LoadFault.{LoadFault}
 
@@ -57,6 +57,15 @@ pub record Renames (old : DiskState) (from to : List ℕ) (answer : Result (Unit
   pub left : old.is_synced from
       → (content : Content) → new.may_leave to content → old.may_leave to content ⊎ (content ≡ old.seen from)
 
+-- No file has the name any longer. A stop leaves under it what it left before, or no file.
+pub record Removes (old : DiskState) (name : List ℕ) {F : Type 0} (answer : Result (Unit {0}) F) (new : DiskState)
+    : Type 0 where
+  pub others : (other : List ℕ) → other ≢ name → Keeps old other new
+  pub done : IsOk answer → new.seen name ≡ None
+  pub failed : IsErr answer → (new.seen name ≡ old.seen name) ⊎ (new.seen name ≡ None)
+  pub synced : IsOk answer ⊎ old.is_synced name → new.is_synced name
+  pub left : (content : Content) → new.may_leave name content → old.may_leave name content ⊎ (content ≡ None)
+
 -- The entry of the name in its folder is brought to the disk, or the want of one. If the file's bytes are there too, a
 -- stop then leaves just what a reader finds.
 pub record SyncsEntry (old : DiskState) (name : List ℕ) (answer : Result (Unit {0}) DiskFault) (new : DiskState)
@@ -68,12 +77,24 @@ pub record SyncsEntry (old : DiskState) (name : List ℕ) (answer : Result (Unit
 abbrev pub IsSettled : DiskState → List ℕ → Type 0
 IsSettled disk name = (content : Content) → disk.may_leave name content → content ≡ disk.seen name
 
--- A save of these bytes under a name, done or not. A stop after it, or in it, leaves what it might have left before, or
--- these bytes; and once the save is done, these bytes alone.
-pub record SavesFile (old : DiskState) (name bytes : List ℕ) {F : Type 0} (answer : Result (Unit {0}) F)
+-- A save of these bytes under a name by way of a draft, done or not. A stop after it, or in it, leaves what it might
+-- have left before, or these bytes; and once the save is done, these bytes alone. No third name is touched.
+pub record SavesFile (old : DiskState) (name draft bytes : List ℕ) {F : Type 0} (answer : Result (Unit {0}) F)
     (new : DiskState) : Type 0 where
+  pub others : (other : List ℕ) → other ≢ name → other ≢ draft → Keeps old other new
   pub done : IsOk answer → new.seen name ≡ Some bytes
   pub failed : IsErr answer → (new.seen name ≡ old.seen name) ⊎ (new.seen name ≡ Some bytes)
   pub left : (content : Content) → new.may_leave name content → old.may_leave name content ⊎ (content ≡ Some bytes)
   pub lasting : IsOk answer → (content : Content) → new.may_leave name content → content ≡ Some bytes
   pub synced : IsOk answer ⊎ old.is_synced name → new.is_synced name
+
+-- A remove of the file under a name, done or not. A stop after it, or in it, leaves what it might have left before, or
+-- no file; and once the remove is done, no file.
+pub record RemovesFile (old : DiskState) (name : List ℕ) {F : Type 0} (answer : Result (Unit {0}) F) (new : DiskState)
+    : Type 0 where
+  pub removes : Removes old name answer new
+  pub lasting : IsOk answer → (content : Content) → new.may_leave name content → content ≡ None
+
+-- the name of the draft that a save under this name is written to first
+abbrev pub draft_of : List ℕ → List ℕ
+draft_of name = name ++ codes ".new"

@@ -1,9 +1,10 @@
--- A disk in memory as the list of its calls that were done, the newest first: the worst disk that keeps the contract.
+-- A disk in memory as the list of its calls that were done, the newest first. A stop may leave there all that the
+-- contract of disks allows after these calls; a reader finds no more and no less than they left.
 use Rattle.std.specs.Prelude.{ℕ, Bool, true, false, ◌||◌, List, [], ◌∷◌, Some, None, is_none, IsTrue, if◌then◌else◌}
 use Rattle.std.specs.Str.{bytes_eq}
 use Rattle.std.specs.String.{string_bytes}
 use Rattle.dm_store.specs.declared.mem_disk.DiskCall.{DiskCall}
-use Rattle.dm_store.specs.declared.mem_disk.DiskCall.TheVariants.{Wrote, Synced, Renamed, SyncedEntry}
+use Rattle.dm_store.specs.declared.mem_disk.DiskCall.TheVariants.{Wrote, Synced, Renamed, Removed, SyncedEntry}
 use Rattle.dm_store.specs.Disk.{DiskState, Content}
 
 -- what a reader finds
@@ -15,6 +16,8 @@ seen_after (Synced synced ∷ before) name = seen_after before name
 seen_after (Renamed from to ∷ before) name =
     if bytes_eq (string_bytes to) name then seen_after before (string_bytes from)
     else (if bytes_eq (string_bytes from) name then None else seen_after before name)
+seen_after (Removed removed ∷ before) name =
+    if bytes_eq (string_bytes removed) name then None else seen_after before name
 seen_after (SyncedEntry synced ∷ before) name = seen_after before name
 
 -- whether the bytes of the file are on the disk
@@ -26,6 +29,8 @@ synced_after (Synced synced ∷ before) name =
     if bytes_eq (string_bytes synced) name then true else synced_after before name
 synced_after (Renamed from to ∷ before) name =
     if bytes_eq (string_bytes to) name then synced_after before (string_bytes from) else synced_after before name
+synced_after (Removed removed ∷ before) name =
+    if bytes_eq (string_bytes removed) name then true else synced_after before name
 synced_after (SyncedEntry synced ∷ before) name = synced_after before name
 
 abbrev pub content_eq : Content → Content → Bool
@@ -46,6 +51,8 @@ leaves_after (Renamed from to ∷ before) name content =
     then (if synced_after before (string_bytes from)
     then (leaves_after before name content || content_eq content (seen_after before (string_bytes from))) else true)
     else (if bytes_eq (string_bytes from) name then true else leaves_after before name content)
+leaves_after (Removed removed ∷ before) name content =
+    leaves_after before name content || (if bytes_eq (string_bytes removed) name then is_none content else false)
 leaves_after (SyncedEntry synced ∷ before) name content =
     if bytes_eq (string_bytes synced) name
     then (if synced_after before name then content_eq content (seen_after before name)

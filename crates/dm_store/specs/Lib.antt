@@ -9,3 +9,5 @@ pub mod Unclaimed
 pub mod Disk
 pub mod DiskCalls
 pub mod Filed
+pub mod SeenIsLeft
+pub mod Folder

@@ -20,7 +20,16 @@ pub enum DiskFault {
 /// The calls of a file system that a save needs. Each may fail. Once the machine has stopped, within a call or between
 /// two, each later call fails and changes nothing.
 pub trait Disk: Drop {
-    ghost use Rattle.dm_store.specs.Disk.{DiskState, KeepsAll, Reads, Writes, Syncs, Renames, SyncsEntry};
+    ghost use Rattle.dm_store.specs.Disk.{
+      DiskState,
+      KeepsAll,
+      Reads,
+      Writes,
+      Syncs,
+      Renames,
+      Removes,
+      SyncsEntry,
+    };
 
     /// What the bytes that a read gives are allocated in.
     type Memory: Allocator;
@@ -42,7 +51,7 @@ pub trait Disk: Drop {
         ensures writes { IsTrue (state self.old).is_honest
             → Writes (state self.old) name.now bytes.now result (state self.new) };
 
-    /// Brings the bytes of the file to the disk.
+    /// Brings the bytes of the file to the disk. A sync that fails may lose those that were not there before.
     fn sync(&mut self, name: &str) -> Result<(), DiskFault>
         ensures honesty { (state self.new).is_honest ≡ (state self.old).is_honest }
         ensures syncs { IsTrue (state self.old).is_honest
@@ -54,10 +63,43 @@ pub trait Disk: Drop {
         ensures renames { IsTrue (state self.old).is_honest
             → Renames (state self.old) from.now to.now result (state self.new) };
 
-    /// Brings the entry of the name in its folder to the disk, or the want of one.
+    /// Takes the name away from the file that has it. It is done, too, if no file has it.
+    fn remove(&mut self, name: &str) -> Result<(), DiskFault>
+        ensures honesty { (state self.new).is_honest ≡ (state self.old).is_honest }
+        ensures removes { IsTrue (state self.old).is_honest
+            → Removes (state self.old) name.now result (state self.new) };
+
+    /// Brings the entry of the name in its folder to the disk, or the want of one. The folder's own entry is not
+    /// brought there.
     fn sync_entry(&mut self, name: &str) -> Result<(), DiskFault>
         ensures honesty { (state self.new).is_honest ≡ (state self.old).is_honest }
         ensures kept { KeepsAll (state self.old) (state self.new) }
         ensures syncs { IsTrue (state self.old).is_honest
             → SyncsEntry (state self.old) name.now result (state self.new) };
+
+    /// What a reader finds, a stop may leave.
+    ghost leaves_seen: { (disk : Self) (name : List ℕ) → IsTrue (state disk).is_honest
+        → (state disk).may_leave name ((state disk).seen name) };
+}
+
+/// The calls that a set in a folder needs beside those of its files.
+pub trait Folders: Disk {
+    ghost use Rattle.std.specs.Prelude.{◌+◌, IfOk, take};
+    ghost use Rattle.std.specs.FinMap as map;
+    ghost use Rattle.dm_store.specs.Disk.{KeepsAll};
+    ghost use Rattle.dm_store.specs.Folder.{set_in};
+
+    /// Makes the folder, if it isn't there, and brings its entry in the folder above it to the disk in either case. What
+    /// is said of the files in it rests on that.
+    fn make_folder(&mut self, folder: &str) -> Result<(), DiskFault>
+        ensures honesty { (Self.state self.new).is_honest ≡ (Self.state self.old).is_honest }
+        ensures kept { KeepsAll (Self.state self.old) (Self.state self.new) };
+
+    /// The keys that have a file in the folder, rising: all, or the first `limit + 1` where there are more. A folder
+    /// that isn't there has none.
+    fn keys(&mut self, folder: &str, limit: usize) -> Result<Vec<u16, Self::Memory>, LoadFault>
+        ensures honesty { (Self.state self.new).is_honest ≡ (Self.state self.old).is_honest }
+        ensures kept { KeepsAll (Self.state self.old) (Self.state self.new) }
+        ensures lists { IsTrue (Self.state self.old).is_honest → IfOk result (λ keys.
+            keys.items ≡ take (limit + 1) (map.keys (set_in (Self.state self.old) folder.now).content)) };
 }

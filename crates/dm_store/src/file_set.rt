@@ -1,192 +1,199 @@
-//! A set of stores in a folder, with a file for each key.
+//! A set of stores in a folder of a disk, with a file for each key.
 
-ghost use Rattle.std.specs.Prelude.{◌≡◌};
+ghost use Rattle.std.specs.Prelude.{◌≡◌, ◌<◌, ◌≢◌, ◌^◌, ℕ, IfOk, IsErrOf, IsSome, IsTrue};
 ghost use Rattle.std.specs.String.{string_bytes};
+ghost use Rattle.dm_store.specs.Disk.{
+  Keeps,
+  KeepsAll,
+  Reads,
+  SavesFile,
+  RemovesFile,
+  IsSettled,
+  draft_of,
+};
+ghost use Rattle.dm_store.specs.Folder.{key_path};
 
-use crate::files::{load_fault_of, load_file, new_path_of, replace_file, sync_folder_of};
+use crate::disk::{Disk, Folders};
+use crate::file_store::{load_settled, remove_file, replace_file};
+use crate::files::new_path_of;
+use crate::key_files::path_of;
 use crate::set::{RemoveFault, StoreSet};
 use crate::store::{LoadFault, ReplaceFault};
-use std::alloc::{AllocError, Allocator, Global};
-use std::fs::read_dir;
-use std::io::ErrorKind;
+use std::alloc::{Allocator, Global};
 use std::marker::Model;
-use std::rt::Files;
-use std::{fs, io};
 
-/// How many names a folder may have.
-const MOST_NAMES: usize = 131_072;
-
-/// A set of stores in a folder, which contracts see as the bytes of the folder's path. It claims nothing of what the
-/// files hold: it is not honest, and its plans are open.
+/// A set of stores in a folder of a disk, which is honest if the disk is.
 ///
 /// The file of a key has the key as its name, in four lower-case hexadecimal digits, and is replaced as that of a
 /// [`FileStore`](crate::FileStore). Files of other names are not looked at. A folder that isn't there has no keys, and
-/// the first `replace` makes it (but not the folders that it lies in). Where the folder has a name that isn't UTF-8, or
-/// more than 131,072 names, `keys` answers `Device`.
+/// the first `replace` makes it (but not the folders that it lies in). Each `replace` brings the folder's own entry to
+/// the disk first, and each `remove` that of the key, also if no file has it.
 #[derive(Drop)]
-pub struct FileSet<'a, R: Files, A: Allocator + Copy = Global> {
+pub struct FileSet<D, A: Allocator + Copy = Global> {
     alloc: A,
-    runtime: &'a R,
+    disk: D,
     folder: String<A>,
 }
 
-impl<'a, R: Files, A: Allocator + Copy> Model for FileSet<'a, R, A> {
-    ghost use Rattle.std.specs.Prelude.{List, ℕ};
+impl<D, A: Allocator + Copy> Model for FileSet<D, A> {
     ghost use Rattle.std.specs.String.{string_bytes};
+    ghost use Rattle.dm_store.specs.Filed.{Filed};
 
-    ghost Value = { List ℕ };
+    ghost Value = { Filed D };
 
-    ghost view = { λ f. string_bytes f.folder };
+    ghost view = { λ f. record { disk = f.disk; path = string_bytes f.folder } };
 }
 
-impl<'a, R: Files, A: Allocator + Copy> FileSet<'a, R, A> {
-    /// A set in the folder `folder`, which need not be there. It takes no memory, and looks at no file.
-    pub fn new(alloc: A, runtime: &'a R, folder: String<A>) -> FileSet<'a, R, A>
-        ensures { result ≡ string_bytes folder }
+impl<D: Folders, A: Allocator + Copy> FileSet<D, A> {
+    /// A set in the folder `folder` of the disk, which need not be there. It takes no memory, and makes no call.
+    pub fn new(alloc: A, disk: D, folder: String<A>) -> FileSet<D, A>
+        ensures { result ≡ record { disk = disk; path = string_bytes folder } }
     {
         FileSet {
             alloc,
-            runtime,
+            disk,
             folder,
         }
     }
-}
 
-// The value of a lower-case hexadecimal digit.
-fn digit_of(byte: u8) -> Option<u16> {
-    match byte {
-        b'0'..=b'9' => Some(u16::from(byte - b'0')),
-        b'a'..=b'f' => Some(u16::from(byte - b'a') + 10),
-        _ => None,
+    /// The disk, as the calls left it.
+    pub fn into_disk(self) -> D
+        ensures { result ≡ self.disk }
+    {
+        self.disk
     }
 }
 
-// The key whose file has this name.
-fn key_of(name: &[u8]) -> Option<u16> {
-    let [a, b, c, d] = name else {
-        return None;
-    };
-    let high = digit_of(*a)?.wrapping_mul(16).wrapping_add(digit_of(*b)?);
-    let low = digit_of(*c)?.wrapping_mul(16).wrapping_add(digit_of(*d)?);
-    Some(high.wrapping_mul(256).wrapping_add(low))
-}
-
-// The path of a key's file.
-fn path_of<A: Allocator>(alloc: A, folder: &str, key: u16) -> Result<String<A>, AllocError> {
-    format!(in alloc; "{folder}/{key:04x}")
-}
-
-// All keys of a folder, in no order.
-fn keys_of<R: Files + Alloc + Clone + Drop, A: Allocator>(
+// Puts the bytes into the file of a key, in a folder that is there then.
+fn replace_key<D: Folders, A: Allocator + Copy>(
     alloc: A,
-    runtime: &R,
+    disk: &mut D,
     folder: &str,
-) -> Result<Vec<u16, A>, LoadFault> {
-    let mut keys = Vec::new(alloc);
-    let entries = match read_dir(runtime, folder) {
-        Ok(entries) => entries,
-        Err(error) => {
-            return match error.kind() {
-                ErrorKind::NotFound => Ok(keys),
-                _ => Err(load_fault_of(&error)),
-            };
-        }
+    key: u16,
+    bytes: &[u8],
+) -> Result<(), ReplaceFault>
+    ensures honesty { (D.state disk.new).is_honest ≡ (D.state disk.old).is_honest }
+    ensures refused { IsErrOf result ReplaceFault.Memory → KeepsAll (D.state disk.old) (D.state disk.new) }
+    ensures saves { IsTrue (D.state disk.old).is_honest
+        → SavesFile (D.state disk.old) (key_path folder.now key) (draft_of (key_path folder.now key)) bytes.now result
+        (D.state disk.new) }
+{
+    let Ok(path) = path_of(alloc, folder, key) else {
+        return Err(ReplaceFault::Memory);
     };
-    let mut names: usize = 0;
-    for entry in entries {
-        let entry = match entry {
-            Ok(entry) => entry,
-            Err(error) => return Err(load_fault_of(&error)),
-        };
-        if names >= MOST_NAMES {
-            return Err(LoadFault::Device);
-        }
-        names += 1;
-        if let Some(key) = key_of(entry.file_name().as_bytes()) {
-            if keys.push(key).is_err() {
-                return Err(LoadFault::Memory);
-            }
-        }
+    let Ok(new_path) = new_path_of(alloc, path.as_str()) else {
+        return Err(ReplaceFault::Memory);
+    };
+    if disk.make_folder(folder).is_err() {
+        return Err(ReplaceFault::Device);
     }
-    Ok(keys)
+    replace_file(disk, path.as_str(), new_path.as_str(), bytes)
 }
 
-// Makes the folder, where it isn't there.
-fn make_folder<R: Files>(runtime: &R, folder: &str) -> io::Result<()> {
-    match fs::create_dir(runtime, folder) {
-        Ok(()) => sync_folder_of(runtime, folder),
-        Err(error) => match error.kind() {
-            ErrorKind::AlreadyExists => Ok(()),
-            _ => Err(error),
-        },
-    }
-}
-
-// Removes the file at `path`, where it is there.
-fn remove_if_there<R: Files>(runtime: &R, path: &str) -> io::Result<()> {
-    match fs::remove_file(runtime, path) {
-        Ok(()) => sync_folder_of(runtime, path),
-        Err(error) => match error.kind() {
-            ErrorKind::NotFound => Ok(()),
-            _ => Err(error),
-        },
+// Takes the file of a key away.
+fn remove_key<D: Disk, A: Allocator + Copy>(
+    alloc: A,
+    disk: &mut D,
+    folder: &str,
+    key: u16,
+) -> Result<(), RemoveFault>
+    ensures honesty { (D.state disk.new).is_honest ≡ (D.state disk.old).is_honest }
+    ensures refused { IsErrOf result RemoveFault.Memory → KeepsAll (D.state disk.old) (D.state disk.new) }
+    ensures removes { IsTrue (D.state disk.old).is_honest
+        → RemovesFile (D.state disk.old) (key_path folder.now key) result (D.state disk.new) }
+{
+    let Ok(path) = path_of(alloc, folder, key) else {
+        return Err(RemoveFault::Memory);
+    };
+    match remove_file(disk, path.as_str()) {
+        Ok(()) => Ok(()),
+        Err(_) => Err(RemoveFault::Device),
     }
 }
 
-impl<R: Files + Alloc + Clone + Drop, A: Allocator + Copy> StoreSet for FileSet<'_, R, A> {
+// The bytes in the file of a key.
+fn load_key<D: Disk, A: Allocator + Copy>(
+    alloc: A,
+    disk: &mut D,
+    folder: &str,
+    key: u16,
+    limit: usize,
+) -> Result<Option<Vec<u8, D::Memory>>, LoadFault>
+    ensures honesty { (D.state disk.new).is_honest ≡ (D.state disk.old).is_honest }
+    ensures kept { KeepsAll (D.state disk.old) (D.state disk.new) }
+    ensures reads { IsTrue (D.state disk.old).is_honest
+        → Reads (λ bytes. bytes.items) (D.state disk.old) (key_path folder.now key) limit result }
+    ensures settles { IsTrue (D.state disk.old).is_honest
+        → (D.state disk.old).is_synced (key_path folder.now key)
+        → IfOk result (λ loaded. IsSome loaded → IsSettled (D.state disk.new) (key_path folder.now key)) }
+{
+    let Ok(path) = path_of(alloc, folder, key) else {
+        return Err(LoadFault::Memory);
+    };
+    load_settled(disk, path.as_str(), limit)
+}
+
+impl<D: Folders, A: Allocator + Copy> StoreSet for FileSet<D, A> {
     ghost use Rattle.dm_store.specs.Sets.{ListsKeys, LoadsKey, ReplacesKey, RemovesKey};
-    ghost use Rattle.dm_store.specs.Unclaimed.{unclaimed_set};
+    ghost use Rattle.dm_store.specs.Folder.{set_in};
 
-    type Memory = A;
+    type Memory = D::Memory;
 
-    ghost state = { λ _. unclaimed_set };
+    ghost state = { λ f. set_in (D.state f.disk) f.path };
 
-    fn keys(&mut self, limit: usize) -> Result<Vec<u16, A>, LoadFault>
-        ensures lists { ListsKeys (λ keys. keys.items) unclaimed_set limit result unclaimed_set }
-        ensures folder { self.new ≡ self.old }
+    fn keys(&mut self, limit: usize) -> Result<Vec<u16, D::Memory>, LoadFault>
+        ensures lists { ListsKeys (λ keys. keys.items) (set_in (D.state self.old.disk) self.old.path) limit result
+            (set_in (D.state self.new.disk) self.new.path) }
+        ensures folder { self.new.path ≡ self.old.path }
+        ensures kept { KeepsAll (D.state self.old.disk) (D.state self.new.disk) }
     {
-        let mut keys = keys_of(self.alloc, self.runtime, self.folder.as_str())?;
-        keys.sort_unstable();
-        keys.truncate(limit.saturating_add(1));
-        Ok(keys)
+        self.disk.keys(self.folder.as_str(), limit)
     }
 
-    fn load(&mut self, key: u16, limit: usize) -> Result<Option<Vec<u8, A>>, LoadFault>
-        ensures loads { LoadsKey (λ bytes. bytes.items) unclaimed_set key limit result unclaimed_set }
-        ensures folder { self.new ≡ self.old }
+    fn load(&mut self, key: u16, limit: usize) -> Result<Option<Vec<u8, D::Memory>>, LoadFault>
+        ensures loads { LoadsKey (λ bytes. bytes.items) (set_in (D.state self.old.disk) self.old.path) key limit result
+            (set_in (D.state self.new.disk) self.new.path) }
+        ensures folder { self.new.path ≡ self.old.path }
+        ensures kept { KeepsAll (D.state self.old.disk) (D.state self.new.disk) }
+        // No stop takes back what is loaded, if the file's bytes are on the disk, as those of a save are.
+        ensures settles { IsTrue (D.state self.old.disk).is_honest
+            → (D.state self.old.disk).is_synced (key_path self.old.path key)
+            → IfOk result (λ loaded.
+            IsSome loaded → IsSettled (D.state self.new.disk) (key_path self.new.path key)) }
     {
-        let Ok(path) = path_of(self.alloc, self.folder.as_str(), key) else {
-            return Err(LoadFault::Memory);
-        };
-        load_file(self.alloc, self.runtime, path.as_str(), limit)
+        load_key(self.alloc, &mut self.disk, self.folder.as_str(), key, limit)
     }
 
     fn replace(&mut self, key: u16, bytes: &[u8]) -> Result<(), ReplaceFault>
-        ensures replaces { ReplacesKey unclaimed_set key bytes.now result unclaimed_set }
-        ensures folder { self.new ≡ self.old }
+        ensures replaces { ReplacesKey (set_in (D.state self.old.disk) self.old.path) key bytes.now result
+            (set_in (D.state self.new.disk) self.new.path) }
+        ensures folder { self.new.path ≡ self.old.path }
+        ensures refused { IsErrOf result ReplaceFault.Memory
+            → KeepsAll (D.state self.old.disk) (D.state self.new.disk) }
+        // Whenever the machine stops, in this save or after it, the old content of the key is left or the new, and the
+        // new once it is done. No file but the key's and its draft is touched.
+        ensures saves { IsTrue (D.state self.old.disk).is_honest
+            → SavesFile (D.state self.old.disk) (key_path self.old.path key)
+            (draft_of (key_path self.old.path key)) bytes.now result (D.state self.new.disk) }
+        ensures others { IsTrue (D.state self.old.disk).is_honest → (other : ℕ) → other < 2 ^ 16 → other ≢ key
+            → Keeps (D.state self.old.disk) (key_path self.old.path other) (D.state self.new.disk) }
     {
-        let Ok(path) = path_of(self.alloc, self.folder.as_str(), key) else {
-            return Err(ReplaceFault::Memory);
-        };
-        let Ok(new_path) = new_path_of(self.alloc, path.as_str()) else {
-            return Err(ReplaceFault::Memory);
-        };
-        if make_folder(self.runtime, self.folder.as_str()).is_err() {
-            return Err(ReplaceFault::Device);
-        }
-        replace_file(self.runtime, path.as_str(), new_path.as_str(), bytes)
+        replace_key(self.alloc, &mut self.disk, self.folder.as_str(), key, bytes)
     }
 
     fn remove(&mut self, key: u16) -> Result<(), RemoveFault>
-        ensures removes { RemovesKey unclaimed_set key result unclaimed_set }
-        ensures folder { self.new ≡ self.old }
+        ensures removes { RemovesKey (set_in (D.state self.old.disk) self.old.path) key result
+            (set_in (D.state self.new.disk) self.new.path) }
+        ensures folder { self.new.path ≡ self.old.path }
+        ensures refused { IsErrOf result RemoveFault.Memory
+            → KeepsAll (D.state self.old.disk) (D.state self.new.disk) }
+        // Whenever the machine stops, in this remove or after it, the old content of the key is left or none, and none
+        // once it is done. No file but the key's is touched.
+        ensures file { IsTrue (D.state self.old.disk).is_honest
+            → RemovesFile (D.state self.old.disk) (key_path self.old.path key) result (D.state self.new.disk) }
+        ensures others { IsTrue (D.state self.old.disk).is_honest → (other : ℕ) → other < 2 ^ 16 → other ≢ key
+            → Keeps (D.state self.old.disk) (key_path self.old.path other) (D.state self.new.disk) }
     {
-        let Ok(path) = path_of(self.alloc, self.folder.as_str(), key) else {
-            return Err(RemoveFault::Memory);
-        };
-        match remove_if_there(self.runtime, path.as_str()) {
-            Ok(()) => Ok(()),
-            Err(_) => Err(RemoveFault::Device),
-        }
+        remove_key(self.alloc, &mut self.disk, self.folder.as_str(), key)
     }
 }

@@ -2,7 +2,14 @@
 
 ghost use Rattle.std.specs.Prelude.{◌≡◌, ◌≢◌, ◌++◌, ℕ, List, Some, IfOk, IsErrOf, IsSome, codes, IsTrue};
 ghost use Rattle.std.specs.String.{string_bytes};
-ghost use Rattle.dm_store.specs.Disk.{KeepsAll, SavesFile};
+ghost use Rattle.dm_store.specs.Disk.{
+  KeepsAll,
+  Reads,
+  SavesFile,
+  RemovesFile,
+  IsSettled,
+  draft_of,
+};
 
 use crate::disk::{Disk, DiskFault};
 use crate::files::new_path_of;
@@ -14,11 +21,12 @@ use std::marker::Model;
 ///
 /// A `replace` writes the bytes to the file `PATH.new`, syncs it, renames it to `PATH`, and syncs the folder. So
 /// whenever the machine stops the file holds the old or the new bytes, and the new ones once the `replace` is done.
-/// The file `PATH.new` is made anew: what stands there, as a link or what a stop has left, is never read or written. So
-/// `PATH` is a plain file after a `replace`, which makes no folder.
+/// The file `PATH.new` is made anew: what is there, as a link or what a stop has left, is never read or written. So
+/// `PATH` is a plain file after a `replace`, which makes no folder. No third file is touched.
 ///
-/// A `load` syncs the folder before it answers, so that no stop takes back what it gives. It answers `None` if the file
-/// or its folder isn't there.
+/// A `load` syncs the folder before it answers, so that no stop takes back what it gives of a file whose bytes are on
+/// the disk, as those of a save are. It does not sync the bytes: those of a file that somebody else put there, and did
+/// not sync, a stop may take back. It answers `None` if the file or its folder isn't there.
 #[derive(Drop)]
 pub struct FileStore<D, A: Allocator + Copy = Global> {
     alloc: A,
@@ -57,7 +65,7 @@ fn put_in_place<D: Disk>(disk: &mut D, path: &str, new_path: &str) -> Result<(),
     ensures honesty { (D.state disk.new).is_honest ≡ (D.state disk.old).is_honest }
     ensures saves { IsTrue (D.state disk.old).is_honest
         → (bytes : List ℕ) → (D.state disk.old).seen new_path.now ≡ Some bytes
-        → SavesFile (D.state disk.old) path.now bytes result (D.state disk.new) }
+        → SavesFile (D.state disk.old) path.now new_path.now bytes result (D.state disk.new) }
 {
     disk.sync(new_path)?;
     disk.rename(new_path, path)?;
@@ -65,7 +73,7 @@ fn put_in_place<D: Disk>(disk: &mut D, path: &str, new_path: &str) -> Result<(),
 }
 
 // Puts the bytes into the file at `path` by way of the file at `new_path`.
-fn replace_file<D: Disk>(
+pub(crate) fn replace_file<D: Disk>(
     disk: &mut D,
     path: &str,
     new_path: &str,
@@ -75,7 +83,7 @@ fn replace_file<D: Disk>(
     ensures honesty { (D.state disk.new).is_honest ≡ (D.state disk.old).is_honest }
     ensures refused { IsErrOf result ReplaceFault.Memory → KeepsAll (D.state disk.old) (D.state disk.new) }
     ensures saves { IsTrue (D.state disk.old).is_honest
-        → SavesFile (D.state disk.old) path.now bytes.now result (D.state disk.new) }
+        → SavesFile (D.state disk.old) path.now new_path.now bytes.now result (D.state disk.new) }
 {
     match disk.write(new_path, bytes) {
         Ok(()) => {}
@@ -85,6 +93,40 @@ fn replace_file<D: Disk>(
     match put_in_place(disk, path, new_path) {
         Ok(()) => Ok(()),
         Err(_) => Err(ReplaceFault::Device),
+    }
+}
+
+// Takes the file at `path` away.
+pub(crate) fn remove_file<D: Disk>(disk: &mut D, path: &str) -> Result<(), DiskFault>
+    ensures honesty { (D.state disk.new).is_honest ≡ (D.state disk.old).is_honest }
+    ensures removes { IsTrue (D.state disk.old).is_honest
+        → RemovesFile (D.state disk.old) path.now result (D.state disk.new) }
+{
+    disk.remove(path)?;
+    disk.sync_entry(path)
+}
+
+// The first `limit + 1` bytes of the file at `path`, whose entry is on the disk then.
+pub(crate) fn load_settled<D: Disk>(
+    disk: &mut D,
+    path: &str,
+    limit: usize,
+) -> Result<Option<Vec<u8, D::Memory>>, LoadFault>
+    ensures honesty { (D.state disk.new).is_honest ≡ (D.state disk.old).is_honest }
+    ensures kept { KeepsAll (D.state disk.old) (D.state disk.new) }
+    ensures reads { IsTrue (D.state disk.old).is_honest
+        → Reads (λ bytes. bytes.items) (D.state disk.old) path.now limit result }
+    ensures settles { IsTrue (D.state disk.old).is_honest
+        → (D.state disk.old).is_synced path.now
+        → IfOk result (λ loaded. IsSome loaded → IsSettled (D.state disk.new) path.now) }
+{
+    match disk.read(path, limit)? {
+        None => Ok(None),
+        Some(bytes) => match disk.sync_entry(path) {
+            Ok(()) => Ok(Some(bytes)),
+            Err(DiskFault::Device) => Err(LoadFault::Device),
+            Err(DiskFault::Memory) => Err(LoadFault::Memory),
+        },
     }
 }
 
@@ -107,14 +149,7 @@ impl<D: Disk, A: Allocator + Copy> Store for FileStore<D, A> {
             → (D.state self.old.disk).is_synced self.old.path
             → IfOk result (λ loaded. IsSome loaded → IsSettled (D.state self.new.disk) self.new.path) }
     {
-        match self.disk.read(self.path.as_str(), limit)? {
-            None => Ok(None),
-            Some(bytes) => match self.disk.sync_entry(self.path.as_str()) {
-                Ok(()) => Ok(Some(bytes)),
-                Err(DiskFault::Device) => Err(LoadFault::Device),
-                Err(DiskFault::Memory) => Err(LoadFault::Memory),
-            },
-        }
+        load_settled(&mut self.disk, self.path.as_str(), limit)
     }
 
     fn replace(&mut self, bytes: &[u8]) -> Result<(), ReplaceFault>
@@ -124,9 +159,10 @@ impl<D: Disk, A: Allocator + Copy> Store for FileStore<D, A> {
         ensures refused { IsErrOf result ReplaceFault.Memory
             → KeepsAll (D.state self.old.disk) (D.state self.new.disk) }
         // Whenever the machine stops, in this save or after it, the old content is left or the new, and the new once it is
-        // done.
+        // done. No file but this one and its draft is touched.
         ensures saves { IsTrue (D.state self.old.disk).is_honest
-            → SavesFile (D.state self.old.disk) self.old.path bytes.now result (D.state self.new.disk) }
+            → SavesFile (D.state self.old.disk) self.old.path (draft_of self.old.path) bytes.now result
+            (D.state self.new.disk) }
     {
         let Ok(new_path) = new_path_of(self.alloc, self.path.as_str()) else {
             return Err(ReplaceFault::Memory);

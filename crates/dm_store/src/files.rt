@@ -1,12 +1,13 @@
-//! One file that is replaced whole: what a store in a file and a set in a folder share.
+//! Calls on the system's files, and the path of a draft.
 
-ghost use Rattle.std.specs.Prelude.{◌≡◌, ◌++◌, IfOk, codes};
+ghost use Rattle.std.specs.Prelude.{◌≡◌, IfOk};
 ghost use Rattle.std.specs.String.{string_bytes};
+ghost use Rattle.dm_store.specs.Disk.{draft_of};
 
-use crate::store::{LoadFault, ReplaceFault};
+use crate::store::LoadFault;
 use std::alloc::{AllocError, Allocator};
 use std::fs::{File, OpenFile};
-use std::io::{ErrorKind, Read, Write};
+use std::io::{ErrorKind, Read};
 use std::path::Path;
 use std::rt::Files;
 use std::{fs, io};
@@ -72,50 +73,30 @@ pub(crate) fn create_anew<R: Files>(runtime: &R, path: &str) -> io::Result<R::Fi
     }
 }
 
-// Writes the bytes to a new file at `path`, and syncs it.
-fn write_file<R: Files>(runtime: &R, path: &str, bytes: &[u8]) -> io::Result<()> {
-    let mut file = create_anew(runtime, path)?;
-    file.write_all(bytes)?;
-    file.sync_all()
-}
-
-// Syncs the folder that has the entry `path`, so that what was renamed, made or removed there stays so.
-pub(crate) fn sync_folder_of<R: Files>(runtime: &R, path: &str) -> io::Result<()> {
-    let folder = match Path::new(path).parent() {
+// The folder that has the entry `path`.
+fn folder_of(path: &str) -> &str {
+    match Path::new(path).parent() {
         Some(parent) if !parent.as_str().is_empty() => parent.as_str(),
         _ => ".",
-    };
-    fs::open(runtime, folder)?.sync_all()
+    }
+}
+
+// Syncs the folder that has the entry `path`, so that what was renamed, made or removed there stays so. If that folder
+// isn't there, the one above it is synced, which hasn't the folder's entry.
+pub(crate) fn sync_folder_of<R: Files>(runtime: &R, path: &str) -> io::Result<()> {
+    let folder = folder_of(path);
+    match fs::open(runtime, folder) {
+        Ok(opened) => opened.sync_all(),
+        Err(error) if error.kind() == ErrorKind::NotFound => {
+            fs::open(runtime, folder_of(folder))?.sync_all()
+        }
+        Err(error) => Err(error),
+    }
 }
 
 // The path of the file that the new bytes go to first.
 pub(crate) fn new_path_of<A: Allocator>(alloc: A, path: &str) -> Result<String<A>, AllocError>
-    ensures { IfOk result (λ new_path. string_bytes new_path ≡ path.now ++ codes ".new") }
+    ensures { IfOk result (λ new_path. string_bytes new_path ≡ draft_of path.now) }
 {
     format!(in alloc; "{path}.new")
-}
-
-// Writes the bytes to `new_path` and renames that file to `path`.
-fn write_and_rename<R: Files>(
-    runtime: &R,
-    path: &str,
-    new_path: &str,
-    bytes: &[u8],
-) -> io::Result<()> {
-    write_file(runtime, new_path, bytes)?;
-    fs::rename(runtime, new_path, path)?;
-    sync_folder_of(runtime, path)
-}
-
-// Puts the bytes into the file at `path` by way of `new_path`. The first holds the old or the new bytes at each moment.
-pub(crate) fn replace_file<R: Files>(
-    runtime: &R,
-    path: &str,
-    new_path: &str,
-    bytes: &[u8],
-) -> Result<(), ReplaceFault> {
-    match write_and_rename(runtime, path, new_path, bytes) {
-        Ok(()) => Ok(()),
-        Err(_) => Err(ReplaceFault::Device),
-    }
 }

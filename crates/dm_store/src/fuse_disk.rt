@@ -2,7 +2,7 @@
 
 ghost use Rattle.std.specs.Prelude.{◌≡◌, Some};
 
-use crate::disk::{Disk, DiskFault};
+use crate::disk::{Disk, DiskFault, Folders};
 use crate::fuse::{Fuse, Kept, Turn};
 use crate::store::LoadFault;
 use std::marker::Model;
@@ -47,6 +47,8 @@ impl<D: Disk> Disk for FuseDisk<D> {
 
     ghost state = { λ f. D.state f.inner };
 
+    ghost leaves_seen = { λ f. D.leaves_seen f.inner };
+
     fn read(&mut self, name: &str, limit: usize) -> Result<Option<Vec<u8, D::Memory>>, LoadFault> {
         match self.fuse.take_load() {
             Turn::Passes => self.inner.read(name, limit),
@@ -87,6 +89,17 @@ impl<D: Disk> Disk for FuseDisk<D> {
         }
     }
 
+    fn remove(&mut self, name: &str) -> Result<(), DiskFault> {
+        match self.fuse.take_save() {
+            Turn::Passes => self.inner.remove(name),
+            Turn::Made => {
+                let _made = self.inner.remove(name);
+                Err(DiskFault::Device)
+            }
+            Turn::Stopped => Err(DiskFault::Device),
+        }
+    }
+
     fn sync_entry(&mut self, name: &str) -> Result<(), DiskFault> {
         match self.fuse.take_save() {
             Turn::Passes => self.inner.sync_entry(name),
@@ -95,6 +108,26 @@ impl<D: Disk> Disk for FuseDisk<D> {
                 Err(DiskFault::Device)
             }
             Turn::Stopped => Err(DiskFault::Device),
+        }
+    }
+}
+
+impl<D: Folders> Folders for FuseDisk<D> {
+    fn make_folder(&mut self, folder: &str) -> Result<(), DiskFault> {
+        match self.fuse.take_save() {
+            Turn::Passes => self.inner.make_folder(folder),
+            Turn::Made => {
+                let _made = self.inner.make_folder(folder);
+                Err(DiskFault::Device)
+            }
+            Turn::Stopped => Err(DiskFault::Device),
+        }
+    }
+
+    fn keys(&mut self, folder: &str, limit: usize) -> Result<Vec<u16, D::Memory>, LoadFault> {
+        match self.fuse.take_load() {
+            Turn::Passes => self.inner.keys(folder, limit),
+            Turn::Made | Turn::Stopped => Err(LoadFault::Device),
         }
     }
 }

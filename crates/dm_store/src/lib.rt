@@ -16,10 +16,14 @@
 //! [`FileStore`] is a store in a file of a [`Disk`], whose contract (`specs/Disk.antt`) says what a reader finds and
 //! what a stop of the machine may leave. Proved over every disk that keeps it: the store is honest if the disk is;
 //! whenever the machine stops in a save, the file holds the old or the new bytes, whole, and the new ones once the save
-//! has answered `Ok` ([`save_until_stop`] says it of a stop at each call); and no stop takes back what a load gave of a
-//! file that was saved. [`MemDisk`] is the worst disk that keeps the contract, and [`FuseDisk`] one that stops after a
-//! number of calls. [`RealDisk`] is the system's own files: it claims nothing, so that its few lines do what the
-//! contract says is trusted, and tested. [`FileSet`] claims nothing of its files either, and has no disk of its own yet.
+//! has answered `Ok` ([`save_until_stop`] says it of a stop at each call); a save touches no file but its own and the
+//! draft beside it; and no stop takes back what a load gave of a file whose bytes are on the disk, as those of a save
+//! are. [`FileSet`] is a set in a folder of a disk that has the calls of [`Folders`], and the same is proved of the file
+//! of each key; a remove leaves the old bytes or none, and none once it has answered `Ok`.
+//!
+//! [`MemDisk`] is a disk of which a stop may leave whatever the contract allows after the calls that were made, and
+//! [`FuseDisk`] one that stops after a number of calls. [`RealDisk`] is the system's own files: it claims nothing, so
+//! that its few lines do what the contract says is trusted, and tested.
 #![tactic(auto)]
 
 mod disk;
@@ -30,6 +34,7 @@ mod fuse;
 mod fuse_disk;
 mod fuse_set;
 mod fuse_store;
+mod key_files;
 mod key_map;
 mod mem_disk;
 mod mem_set;
@@ -39,7 +44,7 @@ mod set;
 mod stopped_save;
 mod store;
 
-pub use disk::{Disk, DiskFault};
+pub use disk::{Disk, DiskFault, Folders};
 pub use file_set::FileSet;
 pub use file_store::FileStore;
 pub use fuse::Kept;

@@ -18,12 +18,15 @@ pub enum DiskCall<A: Allocator = Global> {
     Synced(String<A>),
     /// The file under the first name got the second.
     Renamed(String<A>, String<A>),
+    /// The file under a name, or none, was taken away.
+    Removed(String<A>),
     /// A name's entry was brought to the disk.
     SyncedEntry(String<A>),
 }
 
-/// A disk in memory, which is empty at first. It keeps the calls that were done, the newest first, and is as bad as a
-/// disk may be: it may leave whatever the contract lets it leave.
+/// A disk in memory, which is empty at first. It keeps the calls that were done, the newest first. What a stop may leave
+/// there is all that the contract lets a stop leave after these calls. What a reader finds is no worse than it looks: a
+/// call that fails changes nothing, and nothing has the old name of a file that was renamed.
 #[derive(Drop)]
 pub struct MemDisk<A: Allocator + Copy = Global> {
     alloc: A,
@@ -54,6 +57,13 @@ fn seen_in<'a, A: Allocator>(calls: &'a [DiskCall<A>], name: &str) -> Option<&'a
                 seen_in(before, name)
             }
         }
+        DiskCall::Removed(removed) => {
+            if removed.as_str() == name {
+                None
+            } else {
+                seen_in(before, name)
+            }
+        }
         DiskCall::Synced(_) | DiskCall::SyncedEntry(_) => seen_in(before, name),
     }
 }
@@ -67,7 +77,9 @@ fn is_synced_in<A: Allocator>(calls: &[DiskCall<A>], name: &str) -> bool
     };
     match call {
         DiskCall::Wrote(written, _) => written.as_str() != name && is_synced_in(before, name),
-        DiskCall::Synced(synced) => synced.as_str() == name || is_synced_in(before, name),
+        DiskCall::Synced(taken) | DiskCall::Removed(taken) => {
+            taken.as_str() == name || is_synced_in(before, name)
+        }
         DiskCall::Renamed(from, to) => {
             if to.as_str() == name {
                 is_synced_in(before, from.as_str())
@@ -113,6 +125,9 @@ fn may_leave_in<A: Allocator>(calls: &[DiskCall<A>], name: &str, content: Option
             } else {
                 from.as_str() == name || may_leave_in(before, name, content)
             }
+        }
+        DiskCall::Removed(removed) => {
+            may_leave_in(before, name, content) || removed.as_str() == name && content.is_none()
         }
         DiskCall::SyncedEntry(synced) => {
             if synced.as_str() == name && is_synced_in(before, name) {
@@ -167,10 +182,13 @@ impl<A: Allocator + Copy> MemDisk<A> {
 
 impl<A: Allocator + Copy> Disk for MemDisk<A> {
     ghost use Rattle.dm_store.specs.DiskCalls.{disk_after};
+    ghost use Rattle.dm_store.specs.SeenIsLeft.{leaves_seen as seen_is_left};
 
     type Memory = A;
 
     ghost state = { λ d. disk_after d.calls.items };
+
+    ghost leaves_seen = { λ d name _. seen_is_left d.calls.items name };
 
     fn read(&mut self, name: &str, limit: usize) -> Result<Option<Vec<u8, A>>, LoadFault> {
         let Some(bytes) = seen_in(&self.calls, name) else {
@@ -202,6 +220,11 @@ impl<A: Allocator + Copy> Disk for MemDisk<A> {
         let old = name_of(self.alloc, from)?;
         let new = name_of(self.alloc, to)?;
         note(&mut self.calls, DiskCall::Renamed(old, new))
+    }
+
+    fn remove(&mut self, name: &str) -> Result<(), DiskFault> {
+        let removed = name_of(self.alloc, name)?;
+        note(&mut self.calls, DiskCall::Removed(removed))
     }
 
     fn sync_entry(&mut self, name: &str) -> Result<(), DiskFault> {

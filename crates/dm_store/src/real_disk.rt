@@ -1,14 +1,18 @@
 //! The system's own files. No contract can say what a file holds, so nothing is claimed here: that these calls do what
 //! [`Disk`] says is trusted, and this page is to be read.
 
-use crate::disk::{Disk, DiskFault};
-use crate::files::{create_anew, load_file, sync_folder_of};
+use crate::disk::{Disk, DiskFault, Folders};
+use crate::files::{create_anew, load_fault_of, load_file, sync_folder_of};
+use crate::key_files::key_of;
 use crate::store::LoadFault;
 use std::alloc::{AllocError, Allocator, Global};
-use std::fs::OpenFile;
-use std::io::Write;
+use std::fs::{OpenFile, read_dir};
+use std::io::{ErrorKind, Write};
 use std::rt::Files;
 use std::{fs, io};
+
+// How many names a folder may have.
+const MOST_NAMES: usize = 131_072;
 
 // A file that was written, and is open until the next call. A sync through it sees each fault of its writes.
 #[derive(Drop)]
@@ -55,6 +59,49 @@ fn sync_file<R: Files, A: Allocator>(
     }
 }
 
+// Makes the folder, if it isn't there.
+fn make_folder<R: Files>(runtime: &R, folder: &str) -> io::Result<()> {
+    match fs::create_dir(runtime, folder) {
+        Err(error) if error.kind() == ErrorKind::AlreadyExists => Ok(()),
+        ended => ended,
+    }
+}
+
+// All keys that have a file in a folder, in no order.
+fn keys_of<R: Files + Alloc + Clone + Drop, A: Allocator>(
+    alloc: A,
+    runtime: &R,
+    folder: &str,
+) -> Result<Vec<u16, A>, LoadFault> {
+    let mut keys = Vec::new(alloc);
+    let entries = match read_dir(runtime, folder) {
+        Ok(entries) => entries,
+        Err(error) => {
+            return match error.kind() {
+                ErrorKind::NotFound => Ok(keys),
+                _ => Err(load_fault_of(&error)),
+            };
+        }
+    };
+    let mut names: usize = 0;
+    for entry in entries {
+        let entry = match entry {
+            Ok(entry) => entry,
+            Err(error) => return Err(load_fault_of(&error)),
+        };
+        if names >= MOST_NAMES {
+            return Err(LoadFault::Device);
+        }
+        names += 1;
+        if let Some(key) = key_of(entry.file_name().as_bytes()) {
+            if keys.push(key).is_err() {
+                return Err(LoadFault::Memory);
+            }
+        }
+    }
+    Ok(keys)
+}
+
 // What is answered to an error of the system.
 fn done(ended: io::Result<()>) -> Result<(), DiskFault> {
     match ended {
@@ -69,6 +116,8 @@ impl<R: Files, A: Allocator + Copy> Disk for RealDisk<'_, R, A> {
     type Memory = A;
 
     ghost state = { λ _. unclaimed };
+
+    ghost leaves_seen = { λ _ _ _. tt };
 
     fn read(&mut self, name: &str, limit: usize) -> Result<Option<Vec<u8, A>>, LoadFault> {
         self.written = None;
@@ -99,8 +148,34 @@ impl<R: Files, A: Allocator + Copy> Disk for RealDisk<'_, R, A> {
         done(fs::rename(self.runtime, from, to))
     }
 
+    fn remove(&mut self, name: &str) -> Result<(), DiskFault> {
+        self.written = None;
+        match fs::remove_file(self.runtime, name) {
+            Err(error) if error.kind() == ErrorKind::NotFound => Ok(()),
+            ended => done(ended),
+        }
+    }
+
     fn sync_entry(&mut self, name: &str) -> Result<(), DiskFault> {
         self.written = None;
         done(sync_folder_of(self.runtime, name))
+    }
+}
+
+impl<R: Files + Alloc + Clone + Drop, A: Allocator + Copy> Folders for RealDisk<'_, R, A> {
+    fn make_folder(&mut self, folder: &str) -> Result<(), DiskFault> {
+        self.written = None;
+        if make_folder(self.runtime, folder).is_err() {
+            return Err(DiskFault::Device);
+        }
+        done(sync_folder_of(self.runtime, folder))
+    }
+
+    fn keys(&mut self, folder: &str, limit: usize) -> Result<Vec<u16, A>, LoadFault> {
+        self.written = None;
+        let mut keys = keys_of(self.alloc, self.runtime, folder)?;
+        keys.sort_unstable();
+        keys.truncate(limit.saturating_add(1));
+        Ok(keys)
     }
 }

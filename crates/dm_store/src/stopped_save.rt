@@ -2,7 +2,7 @@
 
 ghost use Rattle.std.specs.Prelude.{◌≡◌, ◌⊎◌, Some, IsTrue};
 ghost use Rattle.std.specs.String.{string_bytes};
-ghost use Rattle.dm_store.specs.Disk.{SavesFile, IsSettled, Content};
+ghost use Rattle.dm_store.specs.Disk.{SavesFile, IsSettled, Content, draft_of};
 
 use crate::disk::Disk;
 use crate::file_store::FileStore;
@@ -23,7 +23,8 @@ pub fn save_until_stop<D: Disk, A: Allocator + Copy>(
 ) -> (Result<(), ReplaceFault>, D)
     // Whatever is left then is what might have been left before the save, or the new bytes; and these once it is done.
     ensures saves { IsTrue (D.state disk).is_honest
-        → SavesFile (D.state disk) (string_bytes path) bytes.now result.0 (D.state result.1) }
+        → SavesFile (D.state disk) (string_bytes path) (draft_of (string_bytes path)) bytes.now result.0
+        (D.state result.1) }
     // If no stop would have taken back what a reader found, that is left, or the new bytes.
     ensures old_or_new { IsTrue (D.state disk).is_honest → IsSettled (D.state disk) (string_bytes path)
         → (content : Content) → (D.state result.1).may_leave (string_bytes path) content

@@ -1,0 +1,70 @@
+-- On a disk in memory a stop may leave what a reader finds: the proof that its `impl` owes the contract of disks.
+-- Nothing here says what a disk does.
+use Rattle.std.specs.Prelude.{◌≡◌, refl, ℕ, Bool, true, false, ◌||◌, List, [], ◌∷◌, Some, None, is_none, if◌then◌else◌}
+use Rattle.std.specs.Str.{bytes_eq}
+use Rattle.std.specs.String.{string_bytes}
+use Rattle.std.proofs.lemmas.Slice.Eq.{bytes_eq-Decides}
+use Rattle.dm_store.specs.declared.mem_disk.DiskCall.{DiskCall}
+use Rattle.dm_store.specs.declared.mem_disk.DiskCall.TheVariants.{Wrote, Synced, Renamed, Removed, SyncedEntry}
+use Rattle.dm_store.specs.Disk.{Content}
+use Rattle.dm_store.specs.DiskCalls.{seen_after, synced_after, content_eq, leaves_after}
+
+content_eq-same : (content : Content) → content_eq content content ≡ true
+content_eq-same None = refl
+content_eq-same (Some bytes) = (bytes_eq-Decides bytes bytes).1 refl
+
+true_or : (a b : Bool) → b ≡ true → (a || b) ≡ true
+true_or true b is = refl
+true_or false b is = is
+
+or_true : (a b : Bool) → a ≡ true → (a || b) ≡ true
+or_true true b is = refl
+or_true false b is = cc
+
+either : (b p q : Bool) → p ≡ true → q ≡ true → (if b then p else q) ≡ true
+either true p q is_p is_q = is_p
+either false p q is_p is_q = is_q
+
+-- a stop may leave what a reader finds
+pub leaves_seen : {A : Type 0} (calls : List (DiskCall A)) (name : List ℕ) →
+    leaves_after calls name (seen_after calls name) ≡ true
+leaves_seen [] name = refl
+leaves_seen {A} (Wrote written bytes ∷ before) name =
+    elim (bytes_eq (string_bytes written) name) as (λ b. (if b then true else leaves_after before name
+    (if b then Some bytes.items else seen_after before name)) ≡ true) [
+      | true ↦ refl
+      | false ↦ leaves_seen before name
+    ]
+leaves_seen {A} (Synced synced ∷ before) name = leaves_seen before name
+leaves_seen {A} (Renamed from to ∷ before) name =
+    let seen = seen_after before (string_bytes from) in
+    elim (bytes_eq (string_bytes to) name) as (λ b. (
+    if b then (if synced_after before (string_bytes from)
+    then (leaves_after before name
+    (if b then seen else (if bytes_eq (string_bytes from) name then None else seen_after before name))
+    || content_eq (if b then seen else (if bytes_eq
+    (string_bytes from) name then None else seen_after before name)) seen)
+    else true)
+    else (if bytes_eq (string_bytes from) name then true else leaves_after before name
+    (if b then seen else (if bytes_eq (string_bytes from) name then None else seen_after before name)))
+    ) ≡ true) [
+      | true ↦ either (synced_after before (string_bytes from)) _ true
+          (true_or (leaves_after before name seen) _ (content_eq-same seen)) refl
+      | false ↦ elim (bytes_eq (string_bytes from) name) as (λ b. (if b then true else leaves_after before name
+          (if b then None else seen_after before name)) ≡ true) [
+            | true ↦ refl
+            | false ↦ leaves_seen before name
+          ]
+    ]
+leaves_seen {A} (Removed removed ∷ before) name =
+    elim (bytes_eq (string_bytes removed) name) as (λ b. (leaves_after before name
+    (if b then None else seen_after before name)
+    || (if b then is_none (if b then None else seen_after before name) else false)) ≡ true) [
+      | true ↦ true_or (leaves_after before name None) true refl
+      | false ↦ or_true (leaves_after before name (seen_after before name)) false (leaves_seen before name)
+    ]
+leaves_seen {A} (SyncedEntry synced ∷ before) name =
+    let seen = seen_after before name in
+    let on = either (synced_after before name) (content_eq seen seen) (leaves_after before name seen)
+    (content_eq-same seen) (leaves_seen before name) in
+    either (bytes_eq (string_bytes synced) name) _ _ on (leaves_seen before name)
