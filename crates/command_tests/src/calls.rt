@@ -4,10 +4,10 @@ use dm_encodation::Scheme;
 use dm_print_ledger::Range;
 use dm_store::{MemSet, MemStore, StoreSet};
 use relay_desk_commands::{
-    deliver_command, export_command, forget_command, import_command, scan_command,
+    deliver_command, export_command, forget_command, held_command, import_command, scan_command,
 };
 use relay_printer_commands::{
-    PrintOptions, give_command, ledger_command, print_command, take_command,
+    PrintOptions, give_command, ledger_command, left_command, print_command, take_command,
 };
 use relay_shared::EndedDesk;
 use relay_streams::{Input, Output};
@@ -28,11 +28,14 @@ pub enum Call {
     Print,
     Give,
     Take,
+    Left,
     Scan,
     Deliver,
     Forget,
     Export,
     Import,
+    Held,
+    HeldOne,
     World,
 }
 
@@ -58,7 +61,7 @@ const SCRIPT: &[u8] =
     ask 0 0101\n";
 
 /// All of them.
-pub const CALLS: [Call; 14] = [
+pub const CALLS: [Call; 17] = [
     Call::Words,
     Call::Draw,
     Call::DrawPlain,
@@ -67,11 +70,14 @@ pub const CALLS: [Call; 14] = [
     Call::Print,
     Call::Give,
     Call::Take,
+    Call::Left,
     Call::Scan,
     Call::Deliver,
     Call::Forget,
     Call::Export,
     Call::Import,
+    Call::Held,
+    Call::HeldOne,
     Call::World,
 ];
 
@@ -79,7 +85,7 @@ impl Call {
     /// What its store holds before, or no bytes for nothing.
     pub fn ledger(self) -> &'static [u8] {
         match self {
-            Call::Print | Call::Give | Call::Take => LEDGER,
+            Call::Print | Call::Give | Call::Take | Call::Left => LEDGER,
             _ => b"",
         }
     }
@@ -87,7 +93,7 @@ impl Call {
     /// What the key 0 of its set holds before, or no bytes for nothing.
     pub fn file(self) -> &'static [u8] {
         match self {
-            Call::Scan | Call::Import => PAGE_2,
+            Call::Scan | Call::Import | Call::Held | Call::HeldOne => PAGE_2,
             Call::Deliver | Call::Forget | Call::Export => BOTH,
             _ => b"",
         }
@@ -157,6 +163,7 @@ fn printer_call<A: Allocator + Copy, R: Read, W: Write>(
         Call::Ledger => ledger_command(memory, store, output, 0, Range { first: 0, last: 9 }),
         Call::Give => give_command(memory, store, output, 0, 1, Range { first: 5, last: 9 }),
         Call::Take => take_command(memory, store, output, 0, "00010000000000140015"),
+        Call::Left => left_command(store, output),
         _ => {
             let options = PrintOptions {
                 number: 0,
@@ -184,6 +191,8 @@ fn desk_call<A: Allocator + Copy, R: Read, W: Write>(
         Call::Deliver => deliver_command(memory, store, set, output, errors, "0101"),
         Call::Forget => forget_command(memory, store, set, output, "0101"),
         Call::Export => export_command(memory, store, set, output, errors, "0101"),
+        Call::Held => held_command(store, set, output, None),
+        Call::HeldOne => held_command(store, set, output, Some("0101")),
         _ => import_command(memory, store, set, input, output, 4),
     }
 }
@@ -223,7 +232,7 @@ pub fn done<A: Allocator + Copy, R: Read + Drop, W: Write + Drop>(
             let status = symbol_call(memory, &mut input, &mut output, &mut errors, call);
             (status, store, set)
         }
-        Call::Ledger | Call::Print | Call::Give | Call::Take => {
+        Call::Ledger | Call::Print | Call::Give | Call::Take | Call::Left => {
             let (status, store) = printer_call(
                 memory,
                 store,

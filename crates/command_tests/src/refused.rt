@@ -61,14 +61,17 @@ fn refusals_of(rt: &impl Abort, alloc: Global, call: Call) -> u64 {
     refusals
 }
 
-// A ledger takes no memory. The growths of a world are refused in a test of another crate.
+// The commands of a ledger but `print`, and `held`, take no memory of their own. The growths of a world are refused in a test of another crate.
 #[test]
 fn commands_are_refused_by_name(rt: HostRuntime) {
     for call in CALLS {
         if call != Call::World {
             let refusals = refusals_of(&rt, rt.alloc(), call);
-            let is_of_ledger = matches!(call, Call::Ledger | Call::Give | Call::Take);
-            assert!(rt; (refusals == 0) == is_of_ledger, "{refusals}");
+            let takes_none = matches!(
+                call,
+                Call::Ledger | Call::Give | Call::Take | Call::Left | Call::Held | Call::HeldOne
+            );
+            assert!(rt; (refusals == 0) == takes_none, "{refusals}");
             assert!(rt; refusals < MOST_GROWTHS, "{refusals}");
         }
     }

@@ -10,11 +10,13 @@ pub mod Reopening
 pub mod OneRefusal
 pub mod Saving
 pub mod Listing
+pub mod SeenFiles
 pub mod Keeping
 pub mod MovingLaws
 pub mod JointEntries
 pub mod MovingSteps
 pub mod JointFileLaws
+pub mod JointDocuments
 pub mod MovingAll
 pub mod MergingLaws
 pub mod AnyFile

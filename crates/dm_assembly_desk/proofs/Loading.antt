@@ -233,11 +233,11 @@ and_lacking : (b : Bool) → (b && false) ≡ false
 and_lacking true = refl
 and_lacking false = refl
 
-none_saved : (n : ℕ) (o : Option (List ℕ)) → None ≡ option_map (take n) o → o ≡ None
+pub none_saved : (n : ℕ) (o : Option (List ℕ)) → None ≡ option_map (take n) o → o ≡ None
 none_saved n None e = refl
 none_saved n (Some bytes) e = absurd cc
 
-some_saved : (n : ℕ) (o : Option (List ℕ)) (loaded : List ℕ) → Some loaded ≡ option_map (take n) o →
+pub some_saved : (n : ℕ) (o : Option (List ℕ)) (loaded : List ℕ) → Some loaded ≡ option_map (take n) o →
     (bytes : List ℕ) × (o ≡ Some bytes) × (loaded ≡ take n bytes)
 some_saved n None loaded e = absurd cc
 some_saved n (Some bytes) loaded e = (bytes, refl, cc)

@@ -33,7 +33,7 @@ module _ {X : Type 0} where
   as_map es = from_entries es
 
   -- maps that have the same at each key are one
-  same : (m n : FinMap nat_cmp X) → ((q : ℕ) → get m q ≡ get n q) → m ≡ n
+  pub same : (m n : FinMap nat_cmp X) → ((q : ℕ) → get m q ≡ get n q) → m ≡ n
   same m n h = same_map nat_cmp_total nat_cmp-IsAntisymmetric m n h
 
   -- entries in order are those of their map

@@ -29,7 +29,7 @@ use Rattle.dm_assembly_desk.proofs.JointFileLaws.{old_again, each_entry, held_ri
 -- ---- a file that is loaded up to its greatest length
 
 module _ (bytes loaded : List ℕ) (is : loaded ≡ take (42636295 + 1) bytes) where
-  whole_old : (held : Documents) → SpellsAll loaded held → SpellsAll bytes held
+  pub whole_old : (held : Documents) → SpellsAll loaded held → SpellsAll bytes held
   whole_old held s =
       let short : length (take (suc 42636295) bytes) ≤ 42636295 =
       omega (arith, ap (λ (bs : List ℕ). length bs) is, s.short) in
@@ -52,7 +52,7 @@ module _ (bytes loaded : List ℕ) (is : loaded ≡ take (42636295 + 1) bytes) w
   to_loaded : IsOfOtherJointVersion bytes → IsOfOtherJointVersion loaded
   to_loaded h = subst (λ (o : Option ℕ). IsSomeAnd o (λ version. version ≢ 1)) (sym same_fifth) h
 
-  fault_of_whole : (fault : MoveFault) → HasJointFileFault loaded fault → HasJointFileFault bytes fault
+  pub fault_of_whole : (fault : MoveFault) → HasJointFileFault loaded fault → HasJointFileFault bytes fault
   fault_of_whole NotPages h = λ m. h (same_front ∙ m)
   fault_of_whole Version h = (sym same_front ∙ h.0, to_whole h.1)
   fault_of_whole Damaged h = (sym same_front ∙ h.0, λ o. h.1 (to_loaded o), λ held s. h.2 held (loaded_old held s))

@@ -4,3 +4,4 @@ pub mod Adding
 pub mod Loading
 pub mod ReadingJoint
 pub mod MovingOn
+pub mod LookingAt

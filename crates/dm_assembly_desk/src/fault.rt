@@ -147,6 +147,26 @@ pub enum MoveFault {
     Memory,
 }
 
+/// Why nobody can say what a key's file holds: the first of these, in this order, that applies.
+#[derive(Clone, Copy, Debug, PartialEq, Eq, Error)]
+pub enum HeldFault {
+    /// The load met a device fault.
+    #[error("the device failed")]
+    Device,
+    /// Memory for the load was refused.
+    #[error("out of memory")]
+    Memory,
+    /// The bytes do not begin as a file of pages.
+    #[error("this is not a file of pages")]
+    NotPages,
+    /// The file is of a version that is not known.
+    #[error("the version of the file of pages is unknown")]
+    Version,
+    /// The bytes are no file of pages, or that of another identification.
+    #[error("the file of pages is damaged")]
+    Damaged,
+}
+
 impl From<LabelFault> for ScanFault {
     ghost from_gives = { λ given fault. fault ≡ scan_fault given };
 
@@ -285,6 +305,23 @@ impl MoveFault {
             MoveFault::Damaged => "Damaged",
             MoveFault::Device => "Device",
             MoveFault::Memory => "Memory",
+        }
+    }
+}
+
+impl HeldFault {
+    ghost use Rattle.dm_assembly_desk.specs.FaultNames.{held_fault_name};
+
+    /// The variant's name.
+    pub fn name(self) -> &'static str
+        ensures { result.now ≡ held_fault_name self }
+    {
+        match self {
+            HeldFault::Device => "Device",
+            HeldFault::Memory => "Memory",
+            HeldFault::NotPages => "NotPages",
+            HeldFault::Version => "Version",
+            HeldFault::Damaged => "Damaged",
         }
     }
 }

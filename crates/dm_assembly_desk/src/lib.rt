@@ -2,16 +2,17 @@
 //!
 //! [`Desk::open`] makes a desk over a set of stores, which holds the documents whose files the set has.
 //! [`Desk::accept`] opens a scanned label and saves its page, [`Desk::pages`] lends what is held of a document,
-//! [`Desk::document`] joins its pages where each of them is held, and [`Desk::forget`] lets it go. [`Desk::export`]
-//! gives the pages held of a document as a file, and [`Desk::import`] adds those of such a file. [`move_pages`] moves
-//! the documents of a file of version 1, in which all stand together, to a set.
+//! [`Desk::held`] lists all documents, [`Desk::document`] joins the pages of one where each of them is held, and
+//! [`Desk::forget`] lets it go. [`Desk::export`] gives the pages held of a document as a file, and [`Desk::import`]
+//! adds those of such a file. [`move_pages`] moves the documents of a file of version 1, in which all stand together,
+//! to a set. [`held_at`] and [`JointFile`] say without a desk what one file holds.
 //!
 //! Proved: each answer is that to what is held, and each refusal the first that applies. A page is saved before it is
 //! answered, and one that is held keeps its bytes until its document is forgotten. A document is given only where each
 //! of its pages is held, and then it is these, joined in order. A call on one document leaves all others. Every
 //! refusal but a failed save leaves the desk and its set as they were; after one that failed the set holds the old or
 //! the new file, and the desk answers `Failed` until it is opened again. A desk that is opened on what an honest set
-//! kept holds exactly that.
+//! kept holds exactly that. What is told of a file without a desk is so of it, or says why it is none.
 #![tactic(auto)]
 
 mod accepting;
@@ -26,6 +27,7 @@ mod importing;
 mod joint_file;
 pub mod laws;
 mod limits;
+mod looking;
 mod merging;
 mod moving;
 mod opening;
@@ -36,8 +38,12 @@ mod reply;
 mod writing;
 
 pub use desk::Desk;
-pub use fault::{AskFault, DeskFault, ExportFault, ForgetFault, ImportFault, MoveFault, ScanFault};
+pub use fault::{
+    AskFault, DeskFault, ExportFault, ForgetFault, HeldFault, ImportFault, MoveFault, ScanFault,
+};
+pub use joint_file::JointFile;
 pub use limits::{MOST_CAPACITY, MOST_FILE_BYTES, MOST_JOINT_FILE_BYTES};
+pub use looking::{held_at, is_listed};
 pub use moving::move_pages;
 pub use opening::DeskRefused;
 pub use pages::Pages;

@@ -66,7 +66,7 @@ pub fn move_pages<O: Store, S: StoreSet, A: Allocator + Copy>(
 }
 
 // Keys are numbers of two bytes.
-fn keys_fit(keys: &[u16])
+pub(crate) fn keys_fit(keys: &[u16])
     ensures { (i : ℕ) → slice_index_or keys.now i 0 < 65536 }
 {}
 

@@ -5,6 +5,7 @@ pub mod InLaws
 pub mod FormatLaws
 pub mod FirstLaws
 pub mod ParseLaws
+pub mod ShownLaws
 pub mod GiverLaws
 pub mod LedgerLaws
 pub mod LabelLaws

@@ -8,6 +8,7 @@ pub mod Opening
 pub mod Printing
 pub mod Ranges
 pub mod Saving
+pub mod Showing
 pub mod Tickets
 pub mod Views
 pub mod inner

@@ -3,6 +3,7 @@
 //! [`Printer::create`] makes a printer over a store, and [`Printer::open`] goes on with what a store holds.
 //! [`Printer::print`] makes the labels of a document as a [`Job`]. [`Printer::give`] hands a [`Range`] of free
 //! identifications to another printer by a [`Ticket`], which that printer's [`Printer::take`] makes free there.
+//! [`Shown::load`] says what a store holds of a printer, and only reads.
 //!
 //! Proved: each call says of every identification whether it is free afterwards. A job has exactly the labels of the
 //! parts of its document, in order, under the least identification that was free. Over an honest store the change is
@@ -26,13 +27,16 @@ mod opening;
 mod printer;
 mod printing;
 mod range;
+mod shown;
 mod ticket;
 
 pub use creating::CreateRefused;
 pub use fault::{CreateFault, GiveFault, OpenFault, PrintFault, TakeFault};
+pub use giver::Giver;
 pub use job::Job;
 pub use limits::{GREATEST, MOST_BYTES, MOST_GIVERS, MOST_RANGES, TICKET_BYTES};
 pub use opening::OpenRefused;
 pub use printer::Printer;
 pub use range::{Range, is_range};
+pub use shown::Shown;
 pub use ticket::Ticket;

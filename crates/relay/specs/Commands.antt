@@ -1,10 +1,11 @@
 -- What a command does, from the store and the set of the file that it names, the input and both outputs to the exit
 -- status, the store, the set, the input and both outputs. What a command does not need it leaves as it was.
 use Rattle.std.specs.Prelude.{◌≡◌, ℕ, List, []}
+use Rattle.std.specs.Option.{option_copied}
 use Rattle.dm_store.specs.Saved.{Saved}
 use Rattle.dm_store.specs.Sets.{SavedSet}
 use Rattle.relay_line.specs.declared.command.Command.{Command}
-use Rattle.relay_line.specs.declared.command.Command.TheVariants.{Words, Draw, Read, Ledger, Print, Give, Take, Scan, Deliver, Forget, Export, Import, World}
+use Rattle.relay_line.specs.declared.command.Command.TheVariants.{Words, Draw, Read, Ledger, Print, Give, Take, Left, Scan, Deliver, Forget, Export, Import, Held, World}
 use Rattle.relay_streams.specs.Streams.{InputView, OutputView, TakesPart}
 use Rattle.relay_shared.specs.declared.document.TheConstants.{DOCUMENT_BYTES}
 use Rattle.relay_desk_commands.specs.declared.import.TheConstants.{IMPORT_BYTES}
@@ -13,8 +14,10 @@ use Rattle.relay_symbol_commands.specs.Words.{EndsWords}
 use Rattle.relay_desk_commands.specs.Desks.{DeskFiles, EndsDeliver, EndsExport, EndsForget, EndsImport}
 use Rattle.relay_symbol_commands.specs.Draw.{EndsDraw}
 use Rattle.relay_symbol_commands.specs.Read.{EndsRead}
+use Rattle.relay_printer_commands.specs.Left.{EndsLeft}
 use Rattle.relay_printer_commands.specs.Print.{EndsPrint}
 use Rattle.relay_printer_commands.specs.Printers.{EndsLedger, EndsGive, EndsTake}
+use Rattle.relay_desk_commands.specs.Held.{EndsHeld}
 use Rattle.relay_desk_commands.specs.Scan.{EndsScan}
 use Rattle.relay_world_command.specs.World.{EndsWorld}
 
@@ -27,11 +30,13 @@ file_of_command (Ledger file number first last) = file.now
 file_of_command (Print file number side scheme) = file.now
 file_of_command (Give file number to first last) = file.now
 file_of_command (Take file number ticket) = file.now
+file_of_command (Left file) = file.now
 file_of_command (Scan file capacity) = file.now
 file_of_command (Deliver file id) = file.now
 file_of_command (Forget file id) = file.now
 file_of_command (Export file id) = file.now
 file_of_command (Import file capacity) = file.now
+file_of_command (Held file id) = file.now
 file_of_command World = []
 
 -- the store at the path that a command names and the set beside it, and the streams of the program
@@ -74,6 +79,9 @@ Does A (Give file number to first last) old status new =
 Does A (Take file number ticket) old status new =
     EndsTake old.saved number ticket.now old.output status new.saved new.output
     × (new.set ≡ old.set) × (new.input ≡ old.input) × (new.errors ≡ old.errors)
+Does A (Left file) old status new =
+    EndsLeft old.saved old.output status new.saved new.output
+    × (new.set ≡ old.set) × (new.input ≡ old.input) × (new.errors ≡ old.errors)
 Does A (Scan file capacity) old status new =
     EndsScan A (desk_files old) capacity old.input new.input old.output status (desk_files new) new.output
     × (new.errors ≡ old.errors)
@@ -89,6 +97,9 @@ Does A (Export file id) old status new =
 Does A (Import file capacity) old status new =
     EndsImport (desk_files old) capacity old.input new.input old.output status (desk_files new) new.output
     × (new.errors ≡ old.errors) × TakesPart old.input.remaining new.input.remaining IMPORT_BYTES
+Does A (Held file id) old status new =
+    EndsHeld (desk_files old) (option_copied id) old.output status new.output
+    × LeavesFiles old new × (new.input ≡ old.input) × (new.errors ≡ old.errors)
 Does A World old status new =
     EndsWorld A old.input new.input old.output status new.output
     × LeavesFiles old new × (new.errors ≡ old.errors) × TakesPart old.input.remaining new.input.remaining INPUT_BYTES

@@ -2,7 +2,7 @@
 use Rattle.std.specs.Prelude.{ℕ, Bool, true, false, not, ◌&&◌, ◌||◌, ◌==◌, nat_lt, List, [], ◌∷◌, Option, Some, None, if◌then◌else◌, codes, string_bytes}
 use Rattle.dm_assembly_desk.specs.declared.limits.TheConstants.{MOST_CAPACITY}
 use Rattle.relay_line.specs.declared.command.Command.{Command}
-use Rattle.relay_line.specs.declared.command.Command.TheVariants.{Words, Draw, Read, Ledger, Print, Give, Take, Scan, Deliver, Forget, Export, Import, World}
+use Rattle.relay_line.specs.declared.command.Command.TheVariants.{Words, Draw, Read, Ledger, Print, Give, Take, Left, Scan, Deliver, Forget, Export, Import, Held, World}
 use Rattle.relay.specs.declared.plan.WorkplaceFault.{WorkplaceFault}
 use Rattle.relay.specs.declared.plan.WorkplaceFault.TheVariants as faults
 use Rattle.relay.specs.declared.plan.Work.{Work}
@@ -33,11 +33,13 @@ work_of_command (Ledger file number first last) = works.MakesLedger
 work_of_command (Print file number side scheme) = works.SavesLedger
 work_of_command (Give file number to first last) = works.SavesLedger
 work_of_command (Take file number ticket) = works.SavesLedger
+work_of_command (Left file) = works.ReadsLedger
 work_of_command (Scan file capacity) = works.Gathers
 work_of_command (Deliver file id) = works.Reads
 work_of_command (Forget file id) = works.Forgets
 work_of_command (Export file id) = works.Reads
 work_of_command (Import file capacity) = works.Gathers
+work_of_command (Held file id) = works.Looks
 work_of_command World = works.Nothing
 
 -- a command is tried up to its save, before anything is locked
@@ -90,18 +92,22 @@ abbrev pub is_desk_work : Work → Bool
 is_desk_work works.Nothing = false
 is_desk_work works.MakesLedger = false
 is_desk_work works.SavesLedger = false
+is_desk_work works.ReadsLedger = false
 is_desk_work works.Gathers = true
 is_desk_work works.Forgets = true
 is_desk_work works.Reads = true
+is_desk_work works.Looks = true
 
 -- such work needs the folder that its path lies in
 abbrev pub needs_folder_above : Work → Bool
 needs_folder_above works.Nothing = false
 needs_folder_above works.MakesLedger = true
 needs_folder_above works.SavesLedger = false
+needs_folder_above works.ReadsLedger = false
 needs_folder_above works.Gathers = true
 needs_folder_above works.Forgets = true
 needs_folder_above works.Reads = true
+needs_folder_above works.Looks = true
 
 -- the first reason that there is
 abbrev pub first_reason : List (Bool × WorkplaceFault) → Option WorkplaceFault
@@ -125,9 +131,11 @@ abbrev pub is_done_over_nothing : Work → (no_room : Bool) → Sight → Bool
 is_done_over_nothing works.Nothing no_room sight = true
 is_done_over_nothing works.MakesLedger no_room sight = false
 is_done_over_nothing works.SavesLedger no_room sight = is_absent sight.file
+is_done_over_nothing works.ReadsLedger no_room sight = is_absent sight.file
 is_done_over_nothing works.Gathers no_room sight = no_room && not (has_documents sight.file)
 is_done_over_nothing works.Forgets no_room sight = is_absent sight.file && is_absent sight.folder
 is_done_over_nothing works.Reads no_room sight = is_absent sight.file && is_absent sight.folder
+is_done_over_nothing works.Looks no_room sight = is_absent sight.file && is_absent sight.folder
 
 -- What is locked for such work: a ledger itself, and of a desk its folder. Work that only reads is locked if it is to
 -- move the documents of a joint file first.
@@ -135,10 +143,12 @@ abbrev pub locked_for : Work → Bool → Option Locked
 locked_for works.Nothing has_joint = None
 locked_for works.MakesLedger has_joint = Some locked.File
 locked_for works.SavesLedger has_joint = Some locked.File
+locked_for works.ReadsLedger has_joint = None
 locked_for works.Gathers has_joint = Some locked.Folder
 locked_for works.Forgets has_joint = Some locked.Folder
 locked_for works.Reads true = Some locked.Folder
 locked_for works.Reads false = None
+locked_for works.Looks has_joint = None
 
 -- the path of what is locked, to which symbolic links have led
 abbrev pub path_of : Workplace → Locked → List ℕ
@@ -167,9 +177,11 @@ refuses_on_errors_by_command (Ledger file number first last) = false
 refuses_on_errors_by_command (Print file number side scheme) = true
 refuses_on_errors_by_command (Give file number to first last) = false
 refuses_on_errors_by_command (Take file number ticket) = false
+refuses_on_errors_by_command (Left file) = false
 refuses_on_errors_by_command (Scan file capacity) = false
 refuses_on_errors_by_command (Deliver file id) = true
 refuses_on_errors_by_command (Forget file id) = false
 refuses_on_errors_by_command (Export file id) = true
 refuses_on_errors_by_command (Import file capacity) = false
+refuses_on_errors_by_command (Held file id) = false
 refuses_on_errors_by_command World = false

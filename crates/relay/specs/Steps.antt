@@ -53,9 +53,11 @@ abbrev pub beginning : Work → Command → Stage
 beginning works.Nothing command = OverNothing
 beginning works.MakesLedger command = Begun command
 beginning works.SavesLedger command = Begun command
+beginning works.ReadsLedger command = Begun command
 beginning works.Gathers command = Begun command
 beginning works.Forgets command = Begun command
 beginning works.Reads command = Begun command
+beginning works.Looks command = Begun command
 
 abbrev pub begins : Command → Stage
 begins command = beginning (work_of_command command) command

@@ -6,11 +6,12 @@ ghost use Rattle.relay.specs.Commands.{Does, file_of_command};
 use dm_print_ledger::Range;
 use dm_store::{Store, StoreSet};
 use relay_desk_commands::{
-    Notes, deliver_command, export_command, forget_command, import_command, scan_with_notes,
+    Notes, deliver_command, export_command, forget_command, held_command, import_command,
+    scan_with_notes,
 };
 use relay_line::Command;
 use relay_printer_commands::{
-    PrintOptions, give_command, ledger_command, print_command, take_command,
+    PrintOptions, give_command, ledger_command, left_command, print_command, take_command,
 };
 use relay_shared::{Ended, EndedDesk};
 use relay_streams::{Input, Output};
@@ -29,11 +30,13 @@ pub fn file_of<'a>(command: Command<'a>) -> &'a str
         | Command::Print { file, .. }
         | Command::Give { file, .. }
         | Command::Take { file, .. }
+        | Command::Left { file }
         | Command::Scan { file, .. }
         | Command::Deliver { file, .. }
         | Command::Forget { file, .. }
         | Command::Export { file, .. }
-        | Command::Import { file, .. } => file,
+        | Command::Import { file, .. }
+        | Command::Held { file, .. } => file,
     }
 }
 
@@ -141,6 +144,7 @@ pub fn do_command<
             number,
             ticket,
         } => with_set(take_command(alloc, store, output, number, ticket), set),
+        Command::Left { file: _ } => with_set(left_command(store, output), set),
         Command::Scan { file: _, capacity } => {
             scan_with_notes(alloc, store, set, input, output, notes, capacity)
         }
@@ -152,6 +156,7 @@ pub fn do_command<
         Command::Import { file: _, capacity } => {
             import_command(alloc, store, set, input, output, capacity)
         }
+        Command::Held { file: _, id } => held_command(store, set, output, id),
         Command::World => {
             let status = world_command(alloc, input, output);
             EndedDesk { status, store, set }

@@ -24,7 +24,8 @@ pub(crate) fn name_odd_place<R: AllocGlobal + Eprint + Files>(rt: &R, command: C
         return;
     };
     match (work_of(command), rt.metadata(folder.as_str())) {
-        (Work::Gathers | Work::Forgets | Work::Reads, Ok(metadata)) if !metadata.is_dir() => {
+        (Work::Gathers | Work::Forgets | Work::Reads | Work::Looks, Ok(metadata))
+            if !metadata.is_dir() => {
             name_file(rt, folder.as_str(), "Device");
         }
         _ => name_file(rt, file, "Device"),
@@ -45,8 +46,13 @@ pub(crate) fn name_lock<R: AllocGlobal + Eprint + Files>(rt: &R, command: Comman
 /// Says on the standard error that a command has found no desk, if it works on one that has to be there.
 pub(crate) fn name_missing_desk<R: Eprint>(rt: &R, command: Command) {
     match work_of(command) {
-        Work::Nothing | Work::MakesLedger | Work::SavesLedger | Work::Gathers => {}
-        Work::Forgets | Work::Reads => name_file(rt, file_of(command), "there is no desk"),
+        Work::Nothing | Work::MakesLedger | Work::SavesLedger | Work::ReadsLedger | Work::Gathers =>
+            {}
+        Work::Forgets | Work::Reads | Work::Looks => name_file(
+            rt,
+            file_of(command),
+            "there is no desk",
+        ),
     }
 }
 
@@ -121,7 +127,8 @@ fn name_pages<R: AllocGlobal + Eprint + Files + Clone + Drop>(
     folder: &str,
 ) -> Result<(), AllocError> {
     let alloc = rt.alloc();
-    let mut set = FileSet::new(alloc, rt, String::from_str(alloc, folder)?);
+    let path = String::from_str(alloc, folder)?;
+    let mut set = FileSet::new(alloc, RealDisk::new(alloc, rt), path);
     let keys = match set.keys(usize::from(u16::MAX)) {
         Ok(keys) => keys,
         Err(LoadFault::Memory) => return Ok(()),
@@ -152,8 +159,10 @@ fn name_files<R: AllocGlobal + Eprint + Files + Clone + Drop>(
 ) -> Result<(), AllocError> {
     match work_of(command) {
         Work::Nothing | Work::MakesLedger => Ok(()),
-        Work::SavesLedger => name_ledger(rt, place.file.as_str(), number_of(command)),
-        Work::Gathers | Work::Forgets | Work::Reads => {
+        Work::SavesLedger | Work::ReadsLedger => {
+            name_ledger(rt, place.file.as_str(), number_of(command))
+        }
+        Work::Gathers | Work::Forgets | Work::Reads | Work::Looks => {
             name_joint_file(rt, place.file.as_str())?;
             name_pages(rt, place.folder.as_str())
         }

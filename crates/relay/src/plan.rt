@@ -77,12 +77,16 @@ pub(crate) enum Work {
     MakesLedger,
     /// It saves to a ledger that is there.
     SavesLedger,
+    /// It reads a ledger that is there.
+    ReadsLedger,
     /// It saves to a desk's files, and makes the desk where it isn't there.
     Gathers,
     /// It saves to the files of a desk that is there.
     Forgets,
     /// It reads a desk's files, and saves to them only where the joint file has documents, which it moves.
     Reads,
+    /// It looks at a desk's files, and never saves to them.
+    Looks,
 }
 
 /// What a command does to the files at its path.
@@ -94,9 +98,11 @@ pub(crate) fn work_of(command: Command) -> Work
             Work::Nothing,
         Command::Ledger { .. } => Work::MakesLedger,
         Command::Print { .. } | Command::Give { .. } | Command::Take { .. } => Work::SavesLedger,
+        Command::Left { .. } => Work::ReadsLedger,
         Command::Scan { .. } | Command::Import { .. } => Work::Gathers,
         Command::Forget { .. } => Work::Forgets,
         Command::Deliver { .. } | Command::Export { .. } => Work::Reads,
+        Command::Held { .. } => Work::Looks,
     }
 }
 
@@ -205,7 +211,10 @@ pub(crate) struct Sight {
 fn is_desk_work(work: Work) -> bool
     ensures { result ≡ is_desk_work work }
 {
-    matches!(work, Work::Gathers | Work::Forgets | Work::Reads)
+    matches!(
+        work,
+        Work::Gathers | Work::Forgets | Work::Reads | Work::Looks
+    )
 }
 
 // Whether such work needs the folder that its path lies in.
@@ -214,7 +223,7 @@ fn needs_folder_above(work: Work) -> bool
 {
     matches!(
         work,
-        Work::MakesLedger | Work::Gathers | Work::Forgets | Work::Reads
+        Work::MakesLedger | Work::Gathers | Work::Forgets | Work::Reads | Work::Looks
     )
 }
 
@@ -245,9 +254,11 @@ fn needs_nothing(work: Work, no_room: bool, sight: Sight) -> bool
     match work {
         Work::Nothing => true,
         Work::MakesLedger => false,
-        Work::SavesLedger => sight.file.is_absent(),
+        Work::SavesLedger | Work::ReadsLedger => sight.file.is_absent(),
         Work::Gathers => no_room && !sight.file.has_documents(),
-        Work::Forgets | Work::Reads => sight.file.is_absent() && sight.folder.is_absent(),
+        Work::Forgets | Work::Reads | Work::Looks => {
+            sight.file.is_absent() && sight.folder.is_absent()
+        }
     }
 }
 
@@ -265,7 +276,7 @@ fn locked_of(work: Work, has_joint: bool) -> Option<Locked>
     ensures { result ≡ locked_for work has_joint }
 {
     match work {
-        Work::Nothing => None,
+        Work::Nothing | Work::ReadsLedger | Work::Looks => None,
         Work::MakesLedger | Work::SavesLedger => Some(Locked::File),
         Work::Gathers | Work::Forgets => Some(Locked::Folder),
         Work::Reads => {

@@ -114,9 +114,11 @@ pub(crate) fn refuses_on_errors(command: Command) -> bool
         | Command::Ledger { .. }
         | Command::Give { .. }
         | Command::Take { .. }
+        | Command::Left { .. }
         | Command::Scan { .. }
         | Command::Forget { .. }
         | Command::Import { .. }
+        | Command::Held { .. }
         | Command::World => false,
     }
 }

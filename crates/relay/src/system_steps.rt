@@ -96,7 +96,11 @@ impl<R: AllocGlobal + Print + Eprint + Files<File = File> + Clone, I: Read, W: W
             RealDisk::new(rt.alloc(), rt),
             place.file.clone()?,
         );
-        let pages = FileSet::new(rt.alloc(), rt, place.folder.clone()?);
+        let pages = FileSet::new(
+            rt.alloc(),
+            RealDisk::new(rt.alloc(), rt),
+            place.folder.clone()?,
+        );
         let ended = do_command(
             rt.alloc(),
             GuardedStore::new(&guard, ledger),

@@ -1,2 +1,4 @@
 pub mod Desks
 pub mod Scan
+pub mod Held
+pub mod inner

@@ -1,8 +1,10 @@
-//! The commands of desks: `scan` gathers labels, `deliver` gives a document back, `forget` lets it go, and `export` and
-//! `import` move pages from one desk to another.
+//! The commands of desks: `scan` gathers labels, `deliver` gives a document back, `forget` lets it go, `export` and
+//! `import` move pages from one desk to another, and `held` says which pages are held.
 //!
-//! Proved: each moves the documents of an old joint file, opens the desk whose files the set holds, does the desk's call,
-//! writes its answer, and leaves the files as the call left them. `scan` does so for each image, in order.
+//! Proved: each but `held` moves the documents of an old joint file, opens the desk whose files the set holds, does the
+//! desk's call, writes its answer, and leaves the files as the call left them. `scan` does so for each image, in order.
+//! `held` opens no desk and leaves the files as they were: it writes a line for each document, by what its file holds,
+//! and for each file that is not sound.
 #![tactic(auto)]
 
 mod deliver;
@@ -11,6 +13,7 @@ mod export;
 mod file_id;
 mod forget;
 mod giving;
+mod held;
 mod import;
 pub mod laws;
 mod notes;
@@ -19,6 +22,7 @@ mod scan;
 pub use deliver::deliver_command;
 pub use export::export_command;
 pub use forget::forget_command;
+pub use held::held_command;
 pub use import::{IMPORT_BYTES, import_command};
 pub use notes::{NoNotes, Notes};
 pub use scan::{scan_command, scan_with_notes};

@@ -3,7 +3,7 @@ use Rattle.std.specs.Prelude.{◌≡◌, ℕ, ◌≤◌, ◌⊎◌, List, codes,
 use Rattle.dm_encodation.specs.declared.scheme.Scheme.{Scheme}
 use Rattle.dm_encodation.specs.declared.scheme.Scheme.TheVariants.{Ascii, C40, Text, Base256}
 use Rattle.relay_line.specs.declared.command.Command.{Command}
-use Rattle.relay_line.specs.declared.command.Command.TheVariants.{Words, Draw, Read, Ledger, Print, Give, Take, Scan, Deliver, Forget, Export, Import, World}
+use Rattle.relay_line.specs.declared.command.Command.TheVariants.{Words, Draw, Read, Ledger, Print, Give, Take, Left, Scan, Deliver, Forget, Export, Import, Held, World}
 use Rattle.relay_line.specs.declared.fault.LineFault.{LineFault}
 use Rattle.relay_line.specs.declared.fault.LineFault.TheVariants.{Line, Memory}
 
@@ -16,11 +16,13 @@ HasNumbersInRange (Ledger file number first last) = Unit {0}
 HasNumbersInRange (Print file number side scheme) = (10 ≤ side) × (side ≤ 132)
 HasNumbersInRange (Give file number to first last) = Unit {0}
 HasNumbersInRange (Take file number ticket) = Unit {0}
+HasNumbersInRange (Left file) = Unit {0}
 HasNumbersInRange (Scan file capacity) = Unit {0}
 HasNumbersInRange (Deliver file id) = Unit {0}
 HasNumbersInRange (Forget file id) = Unit {0}
 HasNumbersInRange (Export file id) = Unit {0}
 HasNumbersInRange (Import file capacity) = Unit {0}
+HasNumbersInRange (Held file id) = Unit {0}
 HasNumbersInRange World = Unit {0}
 
 -- the name by which a command is asked for
@@ -32,11 +34,13 @@ command_name (Ledger file number first last) = codes "ledger"
 command_name (Print file number side scheme) = codes "print"
 command_name (Give file number to first last) = codes "give"
 command_name (Take file number ticket) = codes "take"
+command_name (Left file) = codes "left"
 command_name (Scan file capacity) = codes "scan"
 command_name (Deliver file id) = codes "deliver"
 command_name (Forget file id) = codes "forget"
 command_name (Export file id) = codes "export"
 command_name (Import file capacity) = codes "import"
+command_name (Held file id) = codes "held"
 command_name World = codes "world"
 
 -- The command is the one of this name, the word after the program's own, or `words` with its defaults where there is no

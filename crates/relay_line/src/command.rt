@@ -46,6 +46,10 @@ pub enum Command<'a> {
         number: u16,
         ticket: &'a str,
     },
+    /// Says what a ledger holds.
+    Left {
+        file: &'a str,
+    },
     /// Gathers scanned labels at a desk with room for `capacity` documents.
     Scan {
         file: &'a str,
@@ -70,6 +74,11 @@ pub enum Command<'a> {
     Import {
         file: &'a str,
         capacity: u16,
+    },
+    /// Says what the files of a desk hold: of each document, or of the one of an identification.
+    Held {
+        file: &'a str,
+        id: Option<&'a str>,
     },
     /// Plays a world of printers and desks by a script.
     World,

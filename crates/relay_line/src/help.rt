@@ -87,6 +87,20 @@ standard output.
 Example:
   relay take --file south.ledger --number 2 --ticket 0001000000021388176f";
 
+pub const LEFT: &str = "\
+Prints, a line each:
+  printer P         the printer's number, or `-` for a ledger of version 1
+  left N            how many identifications are free
+  free A B IIII IIII
+                    which: from A to B, and what labels call the two
+  given N           how many tickets were given
+  took P S          the last ticket taken from printer P has the serial S
+Nothing is saved, and another program may save meanwhile. A refusal goes to
+standard output.
+
+Example:
+  relay left --file north.ledger";
+
 pub const SCAN: &str = "\
 An image has one pixel per module, as for `read`. Its page is saved, and then a
 line says what it was:
@@ -133,6 +147,18 @@ output. `relay scan --help` says more of --capacity.
 
 Example:
   relay import --file other-desk < 0101.pages";
+
+pub const HELD: &str = "\
+Prints a line for each document of which a page is held: `IIII N complete`, or
+`IIII N lacks 3 7 12`, its identification, how many pages it has, and which are
+missing. With --id it prints the line of that document alone, or a refusal.
+A file that can't be read doesn't hide the others: in its place stands
+`file NAME FAULT`, and the exit status is 1. NAME is `joint` for the file of an
+older version. Nothing is saved, and another program may gather meanwhile. A
+refusal goes to standard output.
+
+Example:
+  relay held --file desk";
 
 pub const WORLD: &str = "\
 The script names printers, desks, and events: prints, scans, restarts and so on,

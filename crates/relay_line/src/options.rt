@@ -171,6 +171,14 @@ fn take<'a>(alloc: Global) -> Result<Command<'a>, AllocError> {
         .arg(ticket(alloc))
 }
 
+fn left<'a>(alloc: Global) -> Result<Command<'a>, AllocError> {
+    Command::new(alloc, "left")
+        .about("Prints what a ledger holds")
+        .override_usage("relay left --file PATH")
+        .after_help(help::LEFT)
+        .arg(file(alloc))
+}
+
 fn capacity<'a>(alloc: Global) -> Arg<'a> {
     number_option(
         alloc,
@@ -233,6 +241,15 @@ fn import<'a>(alloc: Global) -> Result<Command<'a>, AllocError> {
         .arg(capacity(alloc))
 }
 
+fn held<'a>(alloc: Global) -> Result<Command<'a>, AllocError> {
+    Command::new(alloc, "held")
+        .about("Prints which pages a desk holds")
+        .override_usage("relay held --file PATH [--id IIII]")
+        .after_help(help::HELD)
+        .arg(desk(alloc))?
+        .arg(id(alloc).required(false))
+}
+
 // The commands of desks, added to those of symbols and printers.
 fn with_desks<'a>(alloc: Global, program: Command<'a>) -> Result<Command<'a>, AllocError> {
     program
@@ -241,6 +258,7 @@ fn with_desks<'a>(alloc: Global, program: Command<'a>) -> Result<Command<'a>, Al
         .subcommand(forget(alloc)?)?
         .subcommand(export(alloc)?)?
         .subcommand(import(alloc)?)?
+        .subcommand(held(alloc)?)?
         .subcommand(world(alloc))
 }
 
@@ -268,6 +286,7 @@ pub fn relay<'a>(alloc: Global) -> Result<Command<'a>, AllocError> {
         .subcommand(ledger(alloc)?)?
         .subcommand(print(alloc)?)?
         .subcommand(give(alloc)?)?
-        .subcommand(take(alloc)?)?;
+        .subcommand(take(alloc)?)?
+        .subcommand(left(alloc)?)?;
     with_desks(alloc, program)
 }

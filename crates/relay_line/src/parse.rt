@@ -114,6 +114,19 @@ fn printer_command_of<'a>(name: &str, options: &ArgMatches<'a>) -> Option<Comman
     }
 }
 
+// The commands that ask a printer.
+fn question_of<'a>(name: &str, options: &ArgMatches<'a>) -> Option<Command<'a>>
+    ensures ranges { IfSome result HasNumbersInRange }
+    ensures named { IfSome result (λ command. name.now ≡ command_name command) }
+{
+    match name {
+        "left" => Some(Command::Left {
+            file: options.get_str("file")?,
+        }),
+        _ => None,
+    }
+}
+
 // The commands of desks.
 fn desk_command_of<'a>(name: &str, options: &ArgMatches<'a>) -> Option<Command<'a>>
     ensures ranges { IfSome result HasNumbersInRange }
@@ -141,6 +154,10 @@ fn desk_command_of<'a>(name: &str, options: &ArgMatches<'a>) -> Option<Command<'
             file,
             capacity: options.get_one::<u16>("capacity")?,
         }),
+        "held" => Some(Command::Held {
+            file,
+            id: options.get_str("id"),
+        }),
         _ => None,
     }
 }
@@ -153,6 +170,7 @@ fn command_of<'a>(name: &str, options: &ArgMatches<'a>) -> Option<Command<'a>>
     match name {
         "words" | "draw" | "read" | "world" => symbol_command_of(name, options),
         "ledger" | "print" | "give" | "take" => printer_command_of(name, options),
+        "left" => question_of(name, options),
         _ => desk_command_of(name, options),
     }
 }

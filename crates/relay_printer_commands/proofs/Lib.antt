@@ -1,1 +1,2 @@
 pub mod PrintedLabels
+pub mod ShownLines

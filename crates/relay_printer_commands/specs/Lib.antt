@@ -1,3 +1,4 @@
+pub mod Left
 pub mod Print
 pub mod Printers
 pub mod inner

@@ -1,2 +1,3 @@
 pub mod ImageLoop
 pub mod Telling
+pub mod MissingPages

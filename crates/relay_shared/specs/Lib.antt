@@ -1,8 +1,10 @@
 pub mod DeskLines
 pub mod Documents
 pub mod EachImage
+pub mod HeldLines
 pub mod Hexadecimal
 pub mod Images
+pub mod LedgerLines
 pub mod PrinterLines
 pub mod Refusals
 pub mod Telling

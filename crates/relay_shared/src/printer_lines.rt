@@ -5,7 +5,12 @@ ghost use Rattle.std.specs.Io.KnownBytes.{Appends};
 ghost use Rattle.hex.specs.Hex.{encode_lower};
 ghost use Rattle.dm_append_label.specs.Pages.{id_words};
 ghost use Rattle.relay_streams.specs.Streams.{AppendsPart};
-ghost use Rattle.relay_shared.specs.PrinterLines.{left_line, printed_line, taken_line, ticket_line};
+ghost use Rattle.relay_shared.specs.PrinterLines.{
+  left_line,
+  printed_line,
+  taken_line,
+  ticket_line,
+};
 
 use dm_append_label::FileId;
 use dm_print_ledger::Ticket;

@@ -33,7 +33,7 @@ fn save(rt: &HostRuntime, rounds: u32, file: String, folder: String) -> io::Resu
     let first = vec![in rt.alloc(); b'a'; FIRST_LENGTH]?;
     let second = vec![in rt.alloc(); b'b'; SECOND_LENGTH]?;
     let mut store = FileStore::new(rt.alloc(), RealDisk::new(rt.alloc(), rt), file);
-    let mut set = FileSet::new(rt.alloc(), rt, folder);
+    let mut set = FileSet::new(rt.alloc(), RealDisk::new(rt.alloc(), rt), folder);
     let contents = [first.as_slice(), second.as_slice()];
     Ok(match save_rounds(&mut store, &mut set, rounds, contents) {
         Ok(()) => ExitCode::SUCCESS,
@@ -45,7 +45,7 @@ fn save(rt: &HostRuntime, rounds: u32, file: String, folder: String) -> io::Resu
 }
 
 fn count(rt: &HostRuntime, folder: String) -> io::Result<ExitCode> {
-    let mut set = FileSet::new(rt.alloc(), rt, folder);
+    let mut set = FileSet::new(rt.alloc(), RealDisk::new(rt.alloc(), rt), folder);
     match set.keys(usize::MAX) {
         Ok(keys) => {
             let count = keys.len();

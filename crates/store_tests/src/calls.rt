@@ -101,7 +101,7 @@ fn of_set<A: Allocator + Copy>(
     let Ok(path) = String::from_str(memory, folder) else {
         return "Memory";
     };
-    let mut set = FileSet::new(memory, files, path);
+    let mut set = FileSet::new(memory, RealDisk::new(memory, files), path);
     match call {
         Call::LoadKey(limit) => loaded(set.load(1, *limit)),
         Call::RemoveKey => removed(set.remove(1)),

@@ -39,7 +39,6 @@ const CASES: &[Case] = &[
     LOADS,
     Case {
         call: Call::LoadKey(9),
-        steps: Steps::LoadKey,
         ..LOADS
     },
     Case {
@@ -92,14 +91,14 @@ const CASES: &[Case] = &[
         after: "three",
         answer: "done",
         steps: Steps::ReplaceKey,
-        leaves: 6,
+        leaves: 8,
     },
     Case {
         call: Call::ReplaceKey,
         before: "nothing",
         after: "three",
         answer: "done",
-        steps: Steps::ReplaceFirst,
+        steps: Steps::ReplaceKey,
         leaves: 8,
     },
     Case {

@@ -20,17 +20,15 @@ type Step = (&'static str, &'static str);
 pub enum Steps {
     Any,
     Load,
-    LoadKey,
     LoadNothing,
     Replace,
     ReplaceKey,
-    ReplaceFirst,
     Remove,
     RemoveNothing,
     Keys,
 }
 
-// A load sees first what is there. It takes two bytes at a time, and then none. That of a store then syncs the folder.
+// A load sees first what is there. It takes two bytes at a time, and then none. Then it syncs the folder.
 const LOAD: &[Step] = &[
     ("look", "pages/0001"),
     ("open", "pages/0001"),
@@ -39,14 +37,6 @@ const LOAD: &[Step] = &[
     ("read", ""),
     ("open", "above/pages"),
     ("sync", ""),
-];
-
-const LOAD_KEY: &[Step] = &[
-    ("look", "pages/0001"),
-    ("open", "pages/0001"),
-    ("read", ""),
-    ("read", ""),
-    ("read", ""),
 ];
 
 // The new bytes go to a file beside, two at a time. It is synced, and takes the name; then the folder is synced.
@@ -61,20 +51,8 @@ const REPLACE: &[Step] = &[
     ("sync", ""),
 ];
 
+// A set makes the folder first, whether it is there or not, and syncs the one above it.
 const REPLACE_KEY: &[Step] = &[
-    ("make", "above/pages"),
-    ("open", "pages/0001.new"),
-    ("write", ""),
-    ("write", ""),
-    ("write", ""),
-    ("sync", ""),
-    ("rename", "pages/0001.new"),
-    ("open", "above/pages"),
-    ("sync", ""),
-];
-
-// Where the folder is made, the one above it is synced.
-const REPLACE_FIRST: &[Step] = &[
     ("make", "above/pages"),
     ("open", "above"),
     ("sync", ""),
@@ -94,6 +72,14 @@ const REMOVE: &[Step] = &[
     ("sync", ""),
 ];
 
+// If neither the file nor its folder is there, the folder above is synced.
+const REMOVE_NOTHING: &[Step] = &[
+    ("remove", "pages/0001"),
+    ("open", "above/pages"),
+    ("open", "above"),
+    ("sync", ""),
+];
+
 const KEYS: &[Step] = &[("list", "above/pages/"), ("names", ""), ("names", "")];
 
 impl Steps {
@@ -102,13 +88,11 @@ impl Steps {
         match self {
             Steps::Any => &[],
             Steps::Load => LOAD,
-            Steps::LoadKey => LOAD_KEY,
             Steps::LoadNothing => &[("look", "pages/0001")],
             Steps::Replace => REPLACE,
             Steps::ReplaceKey => REPLACE_KEY,
-            Steps::ReplaceFirst => REPLACE_FIRST,
             Steps::Remove => REMOVE,
-            Steps::RemoveNothing => &[("remove", "pages/0001")],
+            Steps::RemoveNothing => REMOVE_NOTHING,
             Steps::Keys => KEYS,
         }
     }

@@ -1,0 +1,300 @@
+//! `relay held`: what the files of a desk hold, told without a desk.
+
+ghost use Rattle.std.specs.Prelude.{◌≡◌, ◌≤◌, ◌+◌, ◌<◌, true, false, Option, Some, None, is_some, option_map, take, IfOk, IsErr, IfSome, OnErr, OnOk, IsTrue};
+ghost use Rattle.std.specs.FinMap as map;
+ghost use Rattle.std.specs.Io.KnownBytes.{Appends};
+ghost use Rattle.std.specs.Option.{option_copied};
+ghost use Rattle.dm_store.specs.Saved.{Saved};
+ghost use Rattle.dm_assembly_desk.specs.Documents.{Documents};
+ghost use Rattle.dm_assembly_desk.specs.Looking.{IsFirstFrom, SeesKey};
+ghost use Rattle.relay_streams.specs.Streams.{AppendsPart};
+ghost use Rattle.relay_desk_commands.specs.Held.{
+  EndsHeld,
+  SeesJoint,
+  SeesNumber,
+  TellsAll,
+  TellsFound,
+  TellsHeld,
+  TellsOne,
+  joint_line,
+  seen_line,
+};
+ghost use Rattle.relay_desk_commands.specs.inner.SeenJoint.{
+  CutsList,
+  WritesList,
+  documents_in,
+  fault_in,
+};
+
+use crate::file_id::id_of;
+use dm_append_label::FileId;
+use dm_assembly_desk::{
+    AskFault, Held, HeldFault, JointFile, MOST_JOINT_FILE_BYTES, MoveFault, held_at, is_listed,
+};
+use dm_store::{LoadFault, Store, StoreSet};
+use relay_shared::{
+    EndedDesk, Refusal, put_held, put_unsound, put_unsound_joint, refuse, status_after,
+};
+use relay_streams::{Output, WriteFault};
+use std::io::Write;
+
+// What was read of the file of an older version: its documents, if there is one, or why it is not sound.
+type SeenJoint<'a> = Result<Option<JointFile<'a>>, MoveFault>;
+
+// The documents that the bytes are the file of. They may be its first bytes, one more than the greatest has.
+fn read_joint(bytes: &[u8]) -> SeenJoint<'_>
+    ensures { (saved : Saved)
+        → (IsTrue saved.is_honest → Some bytes.entry.now ≡ option_map (take (MOST_JOINT_FILE_BYTES + 1)) saved.content)
+        → SeesJoint saved (documents_in result) (fault_in result) }
+{
+    match JointFile::read(bytes) {
+        Ok(documents) => Ok(Some(documents)),
+        Err(fault) => Err(fault),
+    }
+}
+
+// What is held of the first document in the file of an older version from a number on.
+fn first_from(joint: &SeenJoint<'_>, number: u32) -> Option<Held>
+    ensures first { IsFirstFrom (documents_in joint.now) number result }
+    ensures count { IfSome result (λ held. (2 ≤ held.n) × (held.n ≤ 16)) }
+{
+    match joint {
+        Ok(found) => match found {
+            Some(documents) => documents.first_from(number),
+            None => None,
+        },
+        Err(_) => None,
+    }
+}
+
+// What is seen of the document of a number. `first` is what the file of an older version holds of the first document
+// from the number on; a key that isn't there has no file.
+fn seen_at<T: StoreSet>(
+    set: &mut T,
+    is_there: bool,
+    first: Option<Held>,
+    number: u16,
+) -> Result<Option<Held>, HeldFault>
+    requires absent { is_there ≡ false → IsTrue (T.state set.old).is_honest
+        → map.get (T.state set.old).content number ≡ None }
+    requires count { IfSome first (λ held. (2 ≤ held.n) × (held.n ≤ 16)) }
+    ensures same { T.state set.new ≡ T.state set.old }
+    ensures sees { (joint : Documents) → IsFirstFrom joint number first
+        → SeesNumber (T.state set.old) joint number result }
+    ensures count { IfOk result (λ seen. IfSome seen (λ held. (2 ≤ held.n) × (held.n ≤ 16))) }
+{
+    if is_there {
+        match held_at(set, number) {
+            Ok(None) => {}
+            Ok(Some(held)) => return Ok(Some(held)),
+            Err(fault) => return Err(fault),
+        }
+    }
+    match first {
+        Some(held) if held.id.number() == number => Ok(Some(held)),
+        _ => Ok(None),
+    }
+}
+
+// Writes the line of what was seen of a number, if there is one.
+fn put_seen<W: Write>(
+    output: &mut Output<W>,
+    number: u16,
+    seen: Result<Option<Held>, HeldFault>,
+) -> Result<(), WriteFault>
+    requires { IfOk seen (λ found. IfSome found (λ held. (2 ≤ held.n) × (held.n ≤ 16))) }
+    ensures written { OnOk result (Appends output.old.contents output.new.contents (seen_line number seen)) }
+    ensures part { AppendsPart output.old.contents output.new.contents (seen_line number seen) }
+    ensures failed { OnErr result (output.new.has_failed ≡ true) }
+{
+    match seen {
+        Ok(Some(held)) => put_held(output, held),
+        Ok(None) => Ok(()),
+        Err(fault) => put_unsound(output, number, fault.name()),
+    }
+}
+
+// After a number, what is held of the first document in the file of an older version from the next number on.
+fn next_from(joint: &SeenJoint<'_>, first: Option<Held>, number: u32) -> Option<Held>
+    requires fits { number < 65536 }
+    requires first { IsFirstFrom (documents_in joint.now) number first }
+    requires count { IfSome first (λ held. (2 ≤ held.n) × (held.n ≤ 16)) }
+    ensures first { IsFirstFrom (documents_in joint.now) (number + 1) result }
+    ensures count { IfSome result (λ held. (2 ≤ held.n) × (held.n ≤ 16)) }
+{
+    let Some(held) = first else {
+        return None;
+    };
+    if held.id.number() as u32 == number {
+        return first_from(joint, number + 1);
+    }
+    Some(held)
+}
+
+// Writes the line of the file of an older version, if it is not sound, and says whether it is not.
+fn put_joint<W: Write>(output: &mut Output<W>, joint: &SeenJoint<'_>) -> Result<bool, WriteFault>
+    ensures written { IfOk result (λ unsound. (unsound ≡ is_some (fault_in joint.now))
+        × Appends output.old.contents output.new.contents (joint_line (fault_in joint.now))) }
+    ensures part { AppendsPart output.old.contents output.new.contents (joint_line (fault_in joint.now)) }
+    ensures failed { IsErr result → output.new.has_failed ≡ true }
+{
+    match joint {
+        Ok(_) => Ok(false),
+        Err(fault) => {
+            put_unsound_joint(output, fault.name())?;
+            Ok(true)
+        }
+    }
+}
+
+// Writes the line of each number, as they rise, and says whether one is of a file that is not sound.
+fn put_list<T: StoreSet, W: Write>(
+    set: &mut T,
+    keys: &[u16],
+    output: &mut Output<W>,
+    joint: &SeenJoint<'_>,
+) -> Result<bool, WriteFault>
+    requires { IsTrue (T.state set.old).is_honest
+        → keys.now ≡ take (65536 + 1) (map.keys (T.state set.old).content) }
+    ensures same { T.state set.new ≡ T.state set.old }
+    ensures written { IfOk result (λ unsound.
+        WritesList (T.state set.old) joint.now 65536 unsound output.old output.new) }
+    ensures cut { IsErr result → CutsList (T.state set.old) joint.now output.old output.new }
+{
+    let mut unsound = put_joint(output, joint)?;
+    let mut first = first_from(joint, 0);
+    for number in 0..65_536u32 {
+        let key = number as u16;
+        let seen = seen_at(set, is_listed(keys, key), first, key);
+        unsound |= matches!(seen, Err(_));
+        put_seen(output, key, seen)?;
+        first = next_from(joint, first, number);
+    }
+    Ok(unsound)
+}
+
+// Tells what is held of all documents.
+fn tell_all<T: StoreSet, W: Write>(set: &mut T, output: &mut Output<W>, joint: &SeenJoint<'_>) -> u8
+    ensures same { T.state set.new ≡ T.state set.old }
+    ensures tells { TellsAll (T.state set.old) (documents_in joint.now) (fault_in joint.now) output.old result output.new }
+{
+    let keys = match set.keys(65_536) {
+        Ok(keys) => keys,
+        Err(LoadFault::Device) => return refuse(output, HeldFault::Device.name()),
+        Err(LoadFault::Memory) => return refuse(output, HeldFault::Memory.name()),
+    };
+    match put_list(set, &keys, output, joint) {
+        Ok(unsound) => u8::from(unsound),
+        Err(WriteFault::Write) => 1,
+    }
+}
+
+// Tells what was found of a document.
+fn tell_found<W: Write>(output: &mut Output<W>, joint: &SeenJoint<'_>, found: Option<Held>) -> u8
+    requires { IfSome found (λ held. (2 ≤ held.n) × (held.n ≤ 16)) }
+    ensures { TellsFound (fault_in joint.now) found output.old result output.new }
+{
+    match found {
+        Some(held) => status_after(put_held(output, held)),
+        None => match joint {
+            Ok(_) => refuse(output, AskFault::NotHeld.name()),
+            Err(fault) => {
+                let _ = put_unsound_joint(output, fault.name());
+                1
+            }
+        },
+    }
+}
+
+// Tells what is held of one document.
+fn tell_one<T: StoreSet, W: Write>(
+    set: &mut T,
+    output: &mut Output<W>,
+    joint: &SeenJoint<'_>,
+    id: FileId,
+) -> u8
+    ensures same { T.state set.new ≡ T.state set.old }
+    ensures tells { TellsOne (T.state set.old) (documents_in joint.now) (fault_in joint.now) id output.old result
+        output.new }
+{
+    let number = id.number();
+    let first = first_from(joint, number as u32);
+    match seen_at(set, true, first, number) {
+        Ok(found) => tell_found(output, joint, found),
+        Err(fault) => {
+            let _ = put_unsound(output, number, fault.name());
+            1
+        }
+    }
+}
+
+// Tells what is held of one document, or of all.
+fn tell<T: StoreSet, W: Write>(
+    set: &mut T,
+    output: &mut Output<W>,
+    joint: SeenJoint<'_>,
+    id: Option<FileId>,
+) -> u8
+    ensures same { T.state set.new ≡ T.state set.old }
+    ensures tells { TellsHeld id (T.state set.old) (documents_in joint.entry) (fault_in joint.entry) output.old result
+        output.new }
+{
+    match id {
+        None => tell_all(set, output, &joint),
+        Some(id) => tell_one(set, output, &joint, id),
+    }
+}
+
+// Loads the file of an older version, and tells what is held of one document, or of all.
+fn load_and_tell<S: Store, T: StoreSet, W: Write>(
+    store: &mut S,
+    set: &mut T,
+    output: &mut Output<W>,
+    id: Option<FileId>,
+) -> u8
+    ensures store { S.state store.new ≡ S.state store.old }
+    ensures same { T.state set.new ≡ T.state set.old }
+    ensures tells { (joint : Documents) × (fault : Option MoveFault) × SeesJoint (S.state store.old) joint fault
+        × TellsHeld id (T.state set.old) joint fault output.old result output.new }
+{
+    match store.load(MOST_JOINT_FILE_BYTES) {
+        Ok(Some(bytes)) => tell(set, output, read_joint(&bytes), id),
+        Ok(None) => tell(set, output, Ok(None), id),
+        Err(LoadFault::Device) => tell(set, output, Err(MoveFault::Device), id),
+        Err(LoadFault::Memory) => tell(set, output, Err(MoveFault::Memory), id),
+    }
+}
+
+/// Prints a line for each document of which a page is held, by rising identification: `IIII N complete`, or
+/// `IIII N lacks 3 7 12`, its identification, how many pages it has, and which of them are missing. With the text of an
+/// identification, as for `deliver`, it prints that line alone, or `refused NotHeld`.
+///
+/// In the place of a file that can't be read stands `file NAME FAULT`, and the others are listed all the same; for the
+/// file of an older version that line is the first, and its name is `joint`. The exit status is then 1. No desk is
+/// opened, nothing is saved or moved, and one document is in memory at a time.
+pub fn held_command<S: Store, T: StoreSet, W: Write>(
+    store: S,
+    set: T,
+    output: &mut Output<W>,
+    text: Option<&str>,
+) -> EndedDesk<S, T>
+    ensures store { S.state result.store ≡ S.state store }
+    ensures set { T.state result.set ≡ T.state set }
+    ensures ends { EndsHeld (record { joint = S.state store; set = T.state set }) (option_copied text.entry) output.old
+        result.status output.new }
+{
+    let mut store = store;
+    let mut set = set;
+    let id = match text {
+        None => None,
+        Some(text) => match id_of(text) {
+            Some(id) => Some(id),
+            None => {
+                let status = refuse(output, Refusal::FileId.name());
+                return EndedDesk { status, store, set };
+            }
+        },
+    };
+    let status = load_and_tell(&mut store, &mut set, output, id);
+    EndedDesk { status, store, set }
+}

@@ -1,0 +1,73 @@
+//! `relay left`: what a ledger holds.
+
+ghost use Rattle.std.specs.Prelude.{◌≡◌, true, OnOk, OnErr};
+ghost use Rattle.std.specs.List.{All, flat_map};
+ghost use Rattle.std.specs.Io.KnownBytes.{Appends};
+ghost use Rattle.dm_print_ledger.specs.Ranges.{IsRange};
+ghost use Rattle.relay_streams.specs.Streams.{AppendsPart};
+ghost use Rattle.relay_shared.specs.LedgerLines.{free_line, shown_lines, took_line};
+ghost use Rattle.relay_printer_commands.specs.Left.{EndsLeft};
+
+use dm_print_ledger::{Giver, Range, Shown};
+use dm_store::Store;
+use relay_shared::{
+    Ended, put_free, put_given, put_left, put_number, put_took, refuse, status_after,
+};
+use relay_streams::{Output, WriteFault};
+use std::io::Write;
+
+// Writes the line of each range.
+fn put_ranges<W: Write>(output: &mut Output<W>, ranges: &[Range]) -> Result<(), WriteFault>
+    requires { All IsRange ranges.now }
+    ensures written { OnOk result (Appends output.old.contents output.new.contents (flat_map free_line ranges.now)) }
+    ensures part { AppendsPart output.old.contents output.new.contents (flat_map free_line ranges.now) }
+    ensures failed { OnErr result (output.new.has_failed ≡ true) }
+{
+    for range in ranges {
+        put_free(output, *range)?;
+    }
+    Ok(())
+}
+
+// Writes the line of each giver.
+fn put_givers<W: Write>(output: &mut Output<W>, givers: &[Giver]) -> Result<(), WriteFault>
+    ensures written { OnOk result (Appends output.old.contents output.new.contents (flat_map took_line givers.now)) }
+    ensures part { AppendsPart output.old.contents output.new.contents (flat_map took_line givers.now) }
+    ensures failed { OnErr result (output.new.has_failed ≡ true) }
+{
+    for giver in givers {
+        put_took(output, *giver)?;
+    }
+    Ok(())
+}
+
+// Writes the lines of a ledger.
+fn put_shown<W: Write>(output: &mut Output<W>, shown: &Shown) -> Result<(), WriteFault>
+    ensures written { OnOk result (Appends output.old.contents output.new.contents (shown_lines shown.now)) }
+    ensures part { AppendsPart output.old.contents output.new.contents (shown_lines shown.now) }
+    ensures failed { OnErr result (output.new.has_failed ≡ true) }
+{
+    put_number(output, shown.number())?;
+    put_left(output, shown.left())?;
+    put_ranges(output, shown.free())?;
+    put_given(output, shown.given())?;
+    put_givers(output, shown.givers())
+}
+
+/// Prints what the ledger in a store holds, a line for each fact, or the line `refused NAME`. Nothing is saved, and no
+/// memory is taken but the store's.
+pub fn left_command<S: Store, W: Write>(store: S, output: &mut Output<W>) -> Ended<S>
+    ensures { EndsLeft (S.state store) output.old result.status (S.state result.store) output.new }
+{
+    let mut store = store;
+    match Shown::load(&mut store) {
+        Ok(shown) => {
+            let status = status_after(put_shown(output, &shown));
+            Ended { status, store }
+        }
+        Err(fault) => {
+            let status = refuse(output, fault.name());
+            Ended { status, store }
+        }
+    }
+}

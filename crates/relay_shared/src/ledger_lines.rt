@@ -1,0 +1,93 @@
+//! The lines that say what a ledger holds. They take no memory.
+
+ghost use Rattle.std.specs.Prelude.{◌≡◌, ◌≤◌, true, OnOk, OnErr};
+ghost use Rattle.std.specs.Io.KnownBytes.{Appends};
+ghost use Rattle.hex.specs.Hex.{encode_lower};
+ghost use Rattle.dm_append_label.specs.Pages.{id_words};
+ghost use Rattle.dm_print_ledger.specs.Ranges.{IsRange};
+ghost use Rattle.relay_streams.specs.Streams.{AppendsPart};
+ghost use Rattle.relay_shared.specs.LedgerLines.{free_line, given_line, number_line, took_line};
+
+use crate::printer_lines::id_digits;
+use dm_append_label::FileId;
+use dm_print_ledger::{GREATEST, Giver, Range};
+use itoa::Buffer;
+use relay_streams::{Output, WriteFault};
+use std::io::Write;
+
+// The two words of the identification of a number in hexadecimal.
+fn number_digits(number: u16) -> [u8; 4]
+    requires { number ≤ GREATEST }
+    ensures { result ≡ encode_lower (id_words number) }
+{
+    let Some(id) = FileId::of_number(number) else {
+        unreachable!()
+    };
+    id_digits(id)
+}
+
+/// Writes which printer a ledger is of.
+///
+/// # Errors
+/// Where the output refuses a write.
+pub fn put_number<W: Write>(output: &mut Output<W>, number: Option<u16>) -> Result<(), WriteFault>
+    ensures written { OnOk result (Appends output.old.contents output.new.contents (number_line number)) }
+    ensures part { AppendsPart output.old.contents output.new.contents (number_line number) }
+    ensures failed { OnErr result (output.new.has_failed ≡ true) }
+{
+    match number {
+        Some(number) => {
+            let mut digits = Buffer::new();
+            output.put_all(&[b"printer ", digits.format(number).as_bytes(), b"\n"])
+        }
+        None => output.put(b"printer -\n"),
+    }
+}
+
+/// Writes which identifications are free, in decimal and as a label has them.
+///
+/// # Errors
+/// Where the output refuses a write.
+pub fn put_free<W: Write>(output: &mut Output<W>, range: Range) -> Result<(), WriteFault>
+    requires { IsRange range }
+    ensures written { OnOk result (Appends output.old.contents output.new.contents (free_line range)) }
+    ensures part { AppendsPart output.old.contents output.new.contents (free_line range) }
+    ensures failed { OnErr result (output.new.has_failed ≡ true) }
+{
+    let (mut from, mut to) = (Buffer::new(), Buffer::new());
+    let first = from.format(range.first).as_bytes();
+    let last = to.format(range.last).as_bytes();
+    let first_id = number_digits(range.first);
+    let last_id = number_digits(range.last);
+    output.put_all(&[
+        b"free ", first, b" ", last, b" ", &first_id, b" ", &last_id, b"\n",
+    ])
+}
+
+/// Writes how many tickets were given.
+///
+/// # Errors
+/// Where the output refuses a write.
+pub fn put_given<W: Write>(output: &mut Output<W>, given: u16) -> Result<(), WriteFault>
+    ensures written { OnOk result (Appends output.old.contents output.new.contents (given_line given)) }
+    ensures part { AppendsPart output.old.contents output.new.contents (given_line given) }
+    ensures failed { OnErr result (output.new.has_failed ≡ true) }
+{
+    let mut digits = Buffer::new();
+    output.put_all(&[b"given ", digits.format(given).as_bytes(), b"\n"])
+}
+
+/// Writes which ticket of a printer was taken last.
+///
+/// # Errors
+/// Where the output refuses a write.
+pub fn put_took<W: Write>(output: &mut Output<W>, giver: Giver) -> Result<(), WriteFault>
+    ensures written { OnOk result (Appends output.old.contents output.new.contents (took_line giver)) }
+    ensures part { AppendsPart output.old.contents output.new.contents (took_line giver) }
+    ensures failed { OnErr result (output.new.has_failed ≡ true) }
+{
+    let (mut numbered, mut counted) = (Buffer::new(), Buffer::new());
+    let number = numbered.format(giver.number).as_bytes();
+    let serial = counted.format(giver.serial).as_bytes();
+    output.put_all(&[b"took ", number, b" ", serial, b"\n"])
+}
