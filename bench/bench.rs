@@ -190,9 +190,10 @@ fn print_aim(what: &str, ours: Option<&[f64]>, others: Option<&[f64]>, aim: f64)
     }
 }
 
-/// What is aimed at on the sides 52 and 132: the most of libiec16022's time to make a symbol, of ZXing's to read a clean
+/// What is aimed at on each side: the most of libiec16022's time to make a symbol, of ZXing's to read a clean
 /// one, and, to read one with wrong words, of ZXing's to read a clean one.
-const AIMS: [(u16, [f64; 3]); 2] = [(52, [0.45, 0.18, 0.40]), (132, [0.35, 0.18, 0.40])];
+const AIMS: [(u16, [f64; 3]); 3] =
+    [(10, [0.85, 0.17, 0.28]), (52, [0.20, 0.06, 0.17]), (132, [0.09, 0.03, 0.13])];
 
 fn print_aims(times: &[Times]) {
     for size in SIZES {
