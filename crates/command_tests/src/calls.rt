@@ -4,10 +4,12 @@ use dm_encodation::Scheme;
 use dm_print_ledger::Range;
 use dm_store::{MemSet, MemStore, StoreSet};
 use relay_desk_commands::{
-    deliver_command, export_command, forget_command, held_command, import_command, scan_command,
+    CopyOptions, copy_command, deliver_command, export_command, forget_command, held_command,
+    import_command, scan_command,
 };
 use relay_printer_commands::{
-    PrintOptions, give_command, ledger_command, left_command, print_command, take_command,
+    AutoOptions, PrintOptions, give_command, ledger_command, left_command, plan_command,
+    print_auto_command, print_command, take_command, ticket_command,
 };
 use relay_shared::EndedDesk;
 use relay_streams::{Input, Output};
@@ -24,8 +26,11 @@ pub enum Call {
     Draw,
     DrawPlain,
     Read,
+    Plan,
+    Ticket,
     Ledger,
     Print,
+    PrintAuto,
     Give,
     Take,
     Left,
@@ -36,6 +41,7 @@ pub enum Call {
     Import,
     Held,
     HeldOne,
+    Copy,
     World,
 }
 
@@ -61,13 +67,16 @@ const SCRIPT: &[u8] =
     ask 0 0101\n";
 
 /// All of them.
-pub const CALLS: [Call; 17] = [
+pub const CALLS: [Call; 21] = [
     Call::Words,
     Call::Draw,
     Call::DrawPlain,
     Call::Read,
+    Call::Plan,
+    Call::Ticket,
     Call::Ledger,
     Call::Print,
+    Call::PrintAuto,
     Call::Give,
     Call::Take,
     Call::Left,
@@ -78,6 +87,7 @@ pub const CALLS: [Call; 17] = [
     Call::Import,
     Call::Held,
     Call::HeldOne,
+    Call::Copy,
     Call::World,
 ];
 
@@ -85,7 +95,7 @@ impl Call {
     /// What its store holds before, or no bytes for nothing.
     pub fn ledger(self) -> &'static [u8] {
         match self {
-            Call::Print | Call::Give | Call::Take | Call::Left => LEDGER,
+            Call::Print | Call::PrintAuto | Call::Give | Call::Take | Call::Left => LEDGER,
             _ => b"",
         }
     }
@@ -94,7 +104,7 @@ impl Call {
     pub fn file(self) -> &'static [u8] {
         match self {
             Call::Scan | Call::Import | Call::Held | Call::HeldOne => PAGE_2,
-            Call::Deliver | Call::Forget | Call::Export => BOTH,
+            Call::Deliver | Call::Forget | Call::Export | Call::Copy => BOTH,
             _ => b"",
         }
     }
@@ -104,7 +114,7 @@ impl Call {
         match self {
             Call::Words | Call::Draw | Call::DrawPlain => b"123456",
             Call::Read | Call::Scan => LABEL,
-            Call::Print => b"1234",
+            Call::Plan | Call::Print | Call::PrintAuto => b"1234",
             Call::Import => BOTH,
             Call::World => SCRIPT,
             _ => b"",
@@ -115,7 +125,13 @@ impl Call {
     pub fn writes_no_lines(self) -> bool {
         matches!(
             self,
-            Call::Draw | Call::DrawPlain | Call::Print | Call::Deliver | Call::Export
+            Call::Draw
+                | Call::DrawPlain
+                | Call::Print
+                | Call::PrintAuto
+                | Call::Deliver
+                | Call::Export
+                | Call::Copy
         )
     }
 }
@@ -145,6 +161,8 @@ fn symbol_call<A: Allocator + Copy, R: Read, W: Write>(
     match call {
         Call::Words => words_command(memory, input, output, 10, Scheme::Ascii),
         Call::Read => read_command(memory, input, output),
+        Call::Plan => plan_command(memory, input, output, Scheme::Ascii),
+        Call::Ticket => ticket_command(output, "00010000000000140015"),
         Call::World => world_command(memory, input, output),
         _ => draw_command(memory, input, output, errors, 10, Scheme::Ascii, plain),
     }
@@ -164,6 +182,14 @@ fn printer_call<A: Allocator + Copy, R: Read, W: Write>(
         Call::Give => give_command(memory, store, output, 0, 1, Range { first: 5, last: 9 }),
         Call::Take => take_command(memory, store, output, 0, "00010000000000140015"),
         Call::Left => left_command(store, output),
+        Call::PrintAuto => {
+            let options = AutoOptions {
+                number: 0,
+                most_labels: 2,
+                scheme: Scheme::Ascii,
+            };
+            print_auto_command(memory, store, input, output, errors, options)
+        }
         _ => {
             let options = PrintOptions {
                 number: 0,
@@ -193,6 +219,15 @@ fn desk_call<A: Allocator + Copy, R: Read, W: Write>(
         Call::Export => export_command(memory, store, set, output, errors, "0101"),
         Call::Held => held_command(store, set, output, None),
         Call::HeldOne => held_command(store, set, output, Some("0101")),
+        Call::Copy => {
+            let options = CopyOptions {
+                id: "0101",
+                page: 2,
+                side: 12,
+                scheme: Scheme::Ascii,
+            };
+            copy_command(memory, store, set, output, errors, options)
+        }
         _ => import_command(memory, store, set, input, output, 4),
     }
 }
@@ -228,11 +263,17 @@ pub fn done<A: Allocator + Copy, R: Read + Drop, W: Write + Drop>(
     let store = store_of(alloc, call.ledger());
     let set = set_of(alloc, call.file());
     let (status, store, set) = match call {
-        Call::Words | Call::Draw | Call::DrawPlain | Call::Read | Call::World => {
+        Call::Words
+        | Call::Draw
+        | Call::DrawPlain
+        | Call::Read
+        | Call::Plan
+        | Call::Ticket
+        | Call::World => {
             let status = symbol_call(memory, &mut input, &mut output, &mut errors, call);
             (status, store, set)
         }
-        Call::Ledger | Call::Print | Call::Give | Call::Take | Call::Left => {
+        Call::Ledger | Call::Print | Call::PrintAuto | Call::Give | Call::Take | Call::Left => {
             let (status, store) = printer_call(
                 memory,
                 store,

@@ -33,7 +33,7 @@ fn is_cut_short(ended: &Ended<Vec<u8>>, whole: &Ended<Vec<u8>>) -> bool {
 // std asks for less where its first growth is refused.
 fn is_one_or_the_other(ended: &Ended<Vec<u8>>, whole: &Ended<Vec<u8>>, call: Call) -> bool {
     is_refused(ended, call)
-        || call == Call::Print && is_cut_short(ended, whole)
+        || (call == Call::Print || call == Call::PrintAuto) && is_cut_short(ended, whole)
         || is_whole(ended, whole)
 }
 
@@ -61,7 +61,8 @@ fn refusals_of(rt: &impl Abort, alloc: Global, call: Call) -> u64 {
     refusals
 }
 
-// The commands of a ledger but `print`, and `held`, take no memory of their own. The growths of a world are refused in a test of another crate.
+// The commands of a ledger but `print`, `ticket` and `held` take no memory of their own. The growths of a world are
+// refused in a test of another crate.
 #[test]
 fn commands_are_refused_by_name(rt: HostRuntime) {
     for call in CALLS {
@@ -69,7 +70,13 @@ fn commands_are_refused_by_name(rt: HostRuntime) {
             let refusals = refusals_of(&rt, rt.alloc(), call);
             let takes_none = matches!(
                 call,
-                Call::Ledger | Call::Give | Call::Take | Call::Left | Call::Held | Call::HeldOne
+                Call::Ticket
+                    | Call::Ledger
+                    | Call::Give
+                    | Call::Take
+                    | Call::Left
+                    | Call::Held
+                    | Call::HeldOne
             );
             assert!(rt; (refusals == 0) == takes_none, "{refusals}");
             assert!(rt; refusals < MOST_GROWTHS, "{refusals}");

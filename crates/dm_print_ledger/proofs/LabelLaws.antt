@@ -22,7 +22,7 @@ all_made size scheme id n m from document ends rest labels none so_far =
     subst Q (append-nil labels) (done tt)
 
 -- there are as many parts as ends
-length-parts_from : (document : List ℕ) (from : ℕ) (ends : List ℕ) →
+pub length-parts_from : (document : List ℕ) (from : ℕ) (ends : List ℕ) →
     length (parts_from document from ends) ≡ length ends
 length-parts_from document from [] = refl
 length-parts_from document from (end ∷ ends) = simp (length-parts_from document end ends)

@@ -9,6 +9,7 @@ pub mod ShownLaws
 pub mod GiverLaws
 pub mod LedgerLaws
 pub mod LabelLaws
+pub mod PlanningLaws
 pub mod OpeningLaws
 pub mod PrintingLaws
 pub mod RefusalLaws

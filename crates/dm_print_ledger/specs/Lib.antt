@@ -5,6 +5,7 @@ pub mod Ledger
 pub mod Moving
 pub mod Numbers
 pub mod Opening
+pub mod Planning
 pub mod Printing
 pub mod Ranges
 pub mod Saving

@@ -5,7 +5,7 @@ use Rattle.std.specs.Option.{option_copied}
 use Rattle.dm_store.specs.Saved.{Saved}
 use Rattle.dm_store.specs.Sets.{SavedSet}
 use Rattle.relay_line.specs.declared.command.Command.{Command}
-use Rattle.relay_line.specs.declared.command.Command.TheVariants.{Words, Draw, Read, Ledger, Print, Give, Take, Left, Scan, Deliver, Forget, Export, Import, Held, World}
+use Rattle.relay_line.specs.declared.command.Command.TheVariants.{Words, Draw, Read, Plan, Ticket, Ledger, Print, PrintAuto, Give, Take, Left, Scan, Deliver, Forget, Export, Import, Held, Copy, World}
 use Rattle.relay_streams.specs.Streams.{InputView, OutputView, TakesPart}
 use Rattle.relay_shared.specs.declared.document.TheConstants.{DOCUMENT_BYTES}
 use Rattle.relay_desk_commands.specs.declared.import.TheConstants.{IMPORT_BYTES}
@@ -15,8 +15,12 @@ use Rattle.relay_desk_commands.specs.Desks.{DeskFiles, EndsDeliver, EndsExport, 
 use Rattle.relay_symbol_commands.specs.Draw.{EndsDraw}
 use Rattle.relay_symbol_commands.specs.Read.{EndsRead}
 use Rattle.relay_printer_commands.specs.Left.{EndsLeft}
+use Rattle.relay_printer_commands.specs.Plan.{EndsPlan}
 use Rattle.relay_printer_commands.specs.Print.{EndsPrint}
+use Rattle.relay_printer_commands.specs.PrintAuto.{EndsPrintAuto}
 use Rattle.relay_printer_commands.specs.Printers.{EndsLedger, EndsGive, EndsTake}
+use Rattle.relay_printer_commands.specs.Tickets.{EndsTicket}
+use Rattle.relay_desk_commands.specs.Copy.{EndsCopy}
 use Rattle.relay_desk_commands.specs.Held.{EndsHeld}
 use Rattle.relay_desk_commands.specs.Scan.{EndsScan}
 use Rattle.relay_world_command.specs.World.{EndsWorld}
@@ -26,8 +30,11 @@ abbrev pub file_of_command : Command → List ℕ
 file_of_command (Words side scheme) = []
 file_of_command (Draw side scheme plain) = []
 file_of_command Read = []
+file_of_command (Plan scheme) = []
+file_of_command (Ticket ticket) = []
 file_of_command (Ledger file number first last) = file.now
 file_of_command (Print file number side scheme) = file.now
+file_of_command (PrintAuto file number most scheme) = file.now
 file_of_command (Give file number to first last) = file.now
 file_of_command (Take file number ticket) = file.now
 file_of_command (Left file) = file.now
@@ -37,6 +44,7 @@ file_of_command (Forget file id) = file.now
 file_of_command (Export file id) = file.now
 file_of_command (Import file capacity) = file.now
 file_of_command (Held file id) = file.now
+file_of_command (Copy file id page side scheme) = file.now
 file_of_command World = []
 
 -- the store at the path that a command names and the set beside it, and the streams of the program
@@ -66,11 +74,22 @@ Does A (Draw side scheme plain) old status new =
 Does A Read old status new =
     EndsRead old.input new.input old.output status new.output
     × LeavesFiles old new × (new.errors ≡ old.errors)
+Does A (Plan scheme) old status new =
+    EndsPlan scheme old.input new.input old.output status new.output
+    × LeavesFiles old new × (new.errors ≡ old.errors)
+    × TakesPart old.input.remaining new.input.remaining DOCUMENT_BYTES
+Does A (Ticket ticket) old status new =
+    EndsTicket ticket.now old.output status new.output
+    × LeavesFiles old new × (new.input ≡ old.input) × (new.errors ≡ old.errors)
 Does A (Ledger file number first last) old status new =
     EndsLedger old.saved number (record { first = first; last = last }) old.output status new.saved new.output
     × (new.set ≡ old.set) × (new.input ≡ old.input) × (new.errors ≡ old.errors)
 Does A (Print file number side scheme) old status new =
     EndsPrint old.saved number side scheme old.input new.input old.output old.errors status new.saved new.output
+    new.errors
+    × (new.set ≡ old.set) × TakesPart old.input.remaining new.input.remaining DOCUMENT_BYTES
+Does A (PrintAuto file number most scheme) old status new =
+    EndsPrintAuto old.saved number most scheme old.input new.input old.output old.errors status new.saved new.output
     new.errors
     × (new.set ≡ old.set) × TakesPart old.input.remaining new.input.remaining DOCUMENT_BYTES
 Does A (Give file number to first last) old status new =
@@ -100,6 +119,10 @@ Does A (Import file capacity) old status new =
 Does A (Held file id) old status new =
     EndsHeld (desk_files old) (option_copied id) old.output status new.output
     × LeavesFiles old new × (new.input ≡ old.input) × (new.errors ≡ old.errors)
+Does A (Copy file id page side scheme) old status new =
+    EndsCopy (desk_files old) id.now page side scheme old.output old.errors status (desk_files new) new.output
+    new.errors
+    × (new.input ≡ old.input)
 Does A World old status new =
     EndsWorld A old.input new.input old.output status new.output
     × LeavesFiles old new × (new.errors ≡ old.errors) × TakesPart old.input.remaining new.input.remaining INPUT_BYTES

@@ -6,12 +6,13 @@ ghost use Rattle.relay.specs.Commands.{Does, file_of_command};
 use dm_print_ledger::Range;
 use dm_store::{Store, StoreSet};
 use relay_desk_commands::{
-    Notes, deliver_command, export_command, forget_command, held_command, import_command,
-    scan_with_notes,
+    CopyOptions, Notes, copy_command, deliver_command, export_command, forget_command,
+    held_command, import_command, scan_with_notes,
 };
 use relay_line::Command;
 use relay_printer_commands::{
-    PrintOptions, give_command, ledger_command, left_command, print_command, take_command,
+    AutoOptions, PrintOptions, give_command, ledger_command, left_command, plan_command,
+    print_auto_command, print_command, take_command, ticket_command,
 };
 use relay_shared::{Ended, EndedDesk};
 use relay_streams::{Input, Output};
@@ -25,9 +26,15 @@ pub fn file_of<'a>(command: Command<'a>) -> &'a str
     ensures { result.now ≡ file_of_command command.entry }
 {
     match command {
-        Command::Words { .. } | Command::Draw { .. } | Command::Read | Command::World => "",
+        Command::Words { .. }
+        | Command::Draw { .. }
+        | Command::Read
+        | Command::Plan { .. }
+        | Command::Ticket { .. }
+        | Command::World => "",
         Command::Ledger { file, .. }
         | Command::Print { file, .. }
+        | Command::PrintAuto { file, .. }
         | Command::Give { file, .. }
         | Command::Take { file, .. }
         | Command::Left { file }
@@ -36,7 +43,8 @@ pub fn file_of<'a>(command: Command<'a>) -> &'a str
         | Command::Forget { file, .. }
         | Command::Export { file, .. }
         | Command::Import { file, .. }
-        | Command::Held { file, .. } => file,
+        | Command::Held { file, .. }
+        | Command::Copy { file, .. } => file,
     }
 }
 
@@ -104,6 +112,14 @@ pub fn do_command<
             let status = read_command(alloc, input, output);
             EndedDesk { status, store, set }
         }
+        Command::Plan { scheme } => {
+            let status = plan_command(alloc, input, output, scheme);
+            EndedDesk { status, store, set }
+        }
+        Command::Ticket { ticket } => {
+            let status = ticket_command(output, ticket);
+            EndedDesk { status, store, set }
+        }
         Command::Ledger {
             file: _,
             number,
@@ -126,6 +142,22 @@ pub fn do_command<
             };
             with_set(
                 print_command(alloc, store, input, output, errors, options),
+                set,
+            )
+        }
+        Command::PrintAuto {
+            file: _,
+            number,
+            most_labels,
+            scheme,
+        } => {
+            let options = AutoOptions {
+                number,
+                most_labels,
+                scheme,
+            };
+            with_set(
+                print_auto_command(alloc, store, input, output, errors, options),
                 set,
             )
         }
@@ -157,6 +189,21 @@ pub fn do_command<
             import_command(alloc, store, set, input, output, capacity)
         }
         Command::Held { file: _, id } => held_command(store, set, output, id),
+        Command::Copy {
+            file: _,
+            id,
+            page,
+            side,
+            scheme,
+        } => {
+            let options = CopyOptions {
+                id,
+                page,
+                side,
+                scheme,
+            };
+            copy_command(alloc, store, set, output, errors, options)
+        }
         Command::World => {
             let status = world_command(alloc, input, output);
             EndedDesk { status, store, set }

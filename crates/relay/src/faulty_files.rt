@@ -60,6 +60,7 @@ pub(crate) fn name_missing_desk<R: Eprint>(rt: &R, command: Command) {
 fn number_of(command: Command) -> u16 {
     match command {
         Command::Print { number, .. }
+        | Command::PrintAuto { number, .. }
         | Command::Give { number, .. }
         | Command::Take { number, .. } => number,
         _ => 0,

@@ -5,10 +5,10 @@
 //! Proved, of inputs and outputs whose bytes a contract can name (slices and vectors; of the system's own streams none
 //! can): on status 0 a command has written exactly what it is for. On status 1 it has written a line that names a
 //! refusal for which there was a reason, or an output has refused a write. `read` and `scan` write a line for each
-//! image, `world` one for each event, `left` one for each fact of a ledger, `held` one for each document or file, and
-//! `print` may have written its line and images before a refusal; every other command has then written that line alone.
-//! What a command does to its store and its files is what the call of the printer or of the desk says. `world` plays
-//! printers and desks in memory, and carries the headline.
+//! image, `world` one for each event, `left` one for each fact of a ledger, `held` one for each document or file, `plan`
+//! one for each side, `ticket` two, and `print` may have written its line and images before a refusal; every other
+//! command has then written that line alone. What a command does to its store and its files is what the call of the
+//! printer or of the desk says. `world` plays printers and desks in memory, and carries the headline.
 #![tactic(auto)]
 
 mod commands;
@@ -30,12 +30,13 @@ mod workplace;
 pub use commands::{do_command, file_of};
 pub use program::run;
 pub use relay_desk_commands::{
-    IMPORT_BYTES, NoNotes, Notes, deliver_command, export_command, forget_command, held_command,
-    import_command, scan_command, scan_with_notes,
+    CopyOptions, IMPORT_BYTES, NoNotes, Notes, copy_command, deliver_command, export_command,
+    forget_command, held_command, import_command, scan_command, scan_with_notes,
 };
 pub use relay_line::{Command, LineFault, command_line};
 pub use relay_printer_commands::{
-    PrintOptions, give_command, ledger_command, left_command, print_command, take_command,
+    AutoOptions, PrintOptions, give_command, ledger_command, left_command, plan_command,
+    print_auto_command, print_command, take_command, ticket_command,
 };
 pub use relay_shared::{DOCUMENT_BYTES, Ended, EndedDesk, MOST_IMAGES};
 pub use relay_symbol_commands::{

@@ -94,14 +94,21 @@ pub(crate) fn work_of(command: Command) -> Work
     ensures { result ≡ work_of_command command.entry }
 {
     match command {
-        Command::Words { .. } | Command::Draw { .. } | Command::Read | Command::World =>
-            Work::Nothing,
+        Command::Words { .. }
+        | Command::Draw { .. }
+        | Command::Read
+        | Command::Plan { .. }
+        | Command::Ticket { .. }
+        | Command::World => Work::Nothing,
         Command::Ledger { .. } => Work::MakesLedger,
-        Command::Print { .. } | Command::Give { .. } | Command::Take { .. } => Work::SavesLedger,
+        Command::Print { .. }
+        | Command::PrintAuto { .. }
+        | Command::Give { .. }
+        | Command::Take { .. } => Work::SavesLedger,
         Command::Left { .. } => Work::ReadsLedger,
         Command::Scan { .. } | Command::Import { .. } => Work::Gathers,
         Command::Forget { .. } => Work::Forgets,
-        Command::Deliver { .. } | Command::Export { .. } => Work::Reads,
+        Command::Deliver { .. } | Command::Export { .. } | Command::Copy { .. } => Work::Reads,
         Command::Held { .. } => Work::Looks,
     }
 }

@@ -107,10 +107,14 @@ pub(crate) fn refuses_on_errors(command: Command) -> bool
     match command {
         Command::Draw { .. }
         | Command::Print { .. }
+        | Command::PrintAuto { .. }
         | Command::Deliver { .. }
-        | Command::Export { .. } => true,
+        | Command::Export { .. }
+        | Command::Copy { .. } => true,
         Command::Words { .. }
         | Command::Read
+        | Command::Plan { .. }
+        | Command::Ticket { .. }
         | Command::Ledger { .. }
         | Command::Give { .. }
         | Command::Take { .. }

@@ -1,6 +1,6 @@
 -- The lines of what is held, one number after another: `one_more` adds the line of a number, `cut_before` and `cut_in`
 -- are the two ways in which the output fails, and `told_else` takes the answer of a write to a line with the status 1.
-use Rattle.std.proofs.Common.{◌≡◌, ◌≤◌, ◌+◌, ◌++◌, ◌||◌, ℕ, Bool, true, List, Option, Some, None, Result, Ok, Err, inl, inr, refl, sym, ap, ◌∙◌, append_assoc, arith}
+use Rattle.std.proofs.Common.{◌≡◌, ◌≤◌, ◌+◌, ◌++◌, ◌||◌, ℕ, Bool, true, List, Option, Result, Ok, Err, inl, inr, refl, sym, ap, ◌∙◌, append_assoc, arith}
 use Rattle.std.specs.Prelude.{OnOk, OnErr, is_some}
 use Rattle.std.specs.Io.KnownBytes.{Appends}
 use Rattle.std.proofs.KnownBytes.{Appends-trans}
@@ -12,7 +12,7 @@ use Rattle.dm_assembly_desk.specs.declared.reply.Held.{Held}
 use Rattle.relay_streams.specs.Streams.{AppendsPart, OutputView}
 use Rattle.relay_streams.specs.declared.fault.WriteFault.{WriteFault}
 use Rattle.relay_shared.specs.Telling.{Tells}
-use Rattle.relay_desk_commands.specs.Held.{Lists, SeesNumber, joint_line, seen_line, is_unsound}
+use Rattle.relay_desk_commands.specs.Held.{SeesNumber, joint_line, seen_line, is_unsound}
 use Rattle.relay_desk_commands.specs.Held.Lists.{begun, further}
 use Rattle.relay_desk_commands.specs.inner.SeenJoint.{CutsList, WritesList, documents_in, fault_in}
 

@@ -2,3 +2,5 @@ pub mod Asked
 pub mod ScanLaws
 pub mod LoadedJoint
 pub mod HeldLists
+pub mod CopiedPages
+pub mod WriteFaults

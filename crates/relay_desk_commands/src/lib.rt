@@ -1,12 +1,14 @@
 //! The commands of desks: `scan` gathers labels, `deliver` gives a document back, `forget` lets it go, `export` and
-//! `import` move pages from one desk to another, and `held` says which pages are held.
+//! `import` move pages from one desk to another, `held` says which pages are held, and `copy` gives the label of one
+//! again.
 //!
 //! Proved: each but `held` moves the documents of an old joint file, opens the desk whose files the set holds, does the
 //! desk's call, writes its answer, and leaves the files as the call left them. `scan` does so for each image, in order.
 //! `held` opens no desk and leaves the files as they were: it writes a line for each document, by what its file holds,
-//! and for each file that is not sound.
+//! and for each file that is not sound. What `copy` gives opens as the page that is held.
 #![tactic(auto)]
 
+mod copy;
 mod deliver;
 mod desk_opening;
 mod export;
@@ -19,6 +21,7 @@ pub mod laws;
 mod notes;
 mod scan;
 
+pub use copy::{CopyOptions, copy_command};
 pub use deliver::deliver_command;
 pub use export::export_command;
 pub use forget::forget_command;

@@ -18,6 +18,14 @@ pub enum Command<'a> {
     },
     /// Reads images of symbols, and prints what each carries.
     Read,
+    /// Says for each side how many labels a document takes.
+    Plan {
+        scheme: Scheme,
+    },
+    /// Says what a ticket, in either of its forms, gives.
+    Ticket {
+        ticket: &'a str,
+    },
     /// Makes the ledger of the printer of a number, to which the identifications from first to last are free.
     Ledger {
         file: &'a str,
@@ -32,6 +40,13 @@ pub enum Command<'a> {
         side: u16,
         scheme: Scheme,
     },
+    /// Prints a document as at most that many labels, 2 to 16, of the smallest side that there is for it.
+    PrintAuto {
+        file: &'a str,
+        number: u16,
+        most_labels: u16,
+        scheme: Scheme,
+    },
     /// Gives the identifications from first to last to the printer `to`.
     Give {
         file: &'a str,
@@ -40,7 +55,7 @@ pub enum Command<'a> {
         first: u16,
         last: u16,
     },
-    /// Takes a ticket, which is in hexadecimal.
+    /// Takes a ticket, in either of its forms.
     Take {
         file: &'a str,
         number: u16,
@@ -79,6 +94,14 @@ pub enum Command<'a> {
     Held {
         file: &'a str,
         id: Option<&'a str>,
+    },
+    /// Draws again the label of a page, 1 to 16, that a desk holds.
+    Copy {
+        file: &'a str,
+        id: &'a str,
+        page: u16,
+        side: u16,
+        scheme: Scheme,
     },
     /// Plays a world of printers and desks by a script.
     World,

@@ -4,6 +4,11 @@ pub const SIDE: &str = "modules along a side: 10 to 26 by twos, 32, 36, 40,\n\
     44, 48, 52, 64, 72, 80, 88, 96, 104, 120 or\n\
     132";
 
+pub const LABEL_SIDE: &str = "modules along a side: 10 to 26 by twos, 32, 36, 40,\n\
+    44, 48, 52, 64, 72, 80, 88, 96, 104, 120 or\n\
+    132; or auto:K, the smallest side for which there\n\
+    are at most K labels, 2 to 16";
+
 pub const SCHEME: &str = "how the bytes are encoded: ascii, c40, text or\nbase256";
 
 pub const PROGRAM: &str = "\
@@ -60,15 +65,23 @@ pub const PRINT: &str = "\
 The document is cut into 2 to 16 labels, which carry the least identification
 that is free. It is saved as used, then `printed IIII n left N` goes to standard
 error (the identification, the number of labels, how many are left), and then
-the labels to standard output, as packed PBM images one after another. To
-replace a label that is lost, print the document again: it gets another
-identification.
+the labels to standard output, as packed PBM images one after another. A
+label that is lost can be drawn again by `copy`, at a desk that holds its page;
+a document that is printed again gets another identification.
 
 A label holds four words less than a symbol: at side 18 28 digits or 12 bytes,
 at side 132 2600 digits or 1297 bytes. A refusal goes to standard error.
 
 Example:
   relay print --file north.ledger --number 1 --side 52 < letter > labels.pbm";
+
+pub const PLAN: &str = "\
+Prints a line `side N labels K` for each side for which the document can be cut
+into labels, the smallest side first: `print` with that side prints K labels.
+Nothing is printed or saved. A refusal goes to standard output.
+
+Example:
+  relay plan < letter";
 
 pub const GIVE: &str = "\
 The identifications are saved as gone, and then `ticket HEX` is printed. Only
@@ -87,12 +100,26 @@ standard output.
 Example:
   relay take --file south.ledger --number 2 --ticket 0001000000021388176f";
 
+pub const TICKET: &str = "\
+Prints, a line each:
+  from P to Q serial S first A last B
+                    printer P gives the identifications from A to B to
+                    printer Q, by its ticket with serial S
+  check HEX         the ticket in groups of four digits, to copy by hand: the
+                    last group checks the others, so that a copy with one or
+                    two wrong digits is refused
+`take` takes this form too, in small or capital letters. Nothing is saved. A
+refusal goes to standard output.
+
+Example:
+  relay ticket --ticket 0001000000021388176f";
+
 pub const LEFT: &str = "\
 Prints, a line each:
   printer P         the printer's number, or `-` for a ledger of version 1
   left N            how many identifications are free
   free A B IIII IIII
-                    which: from A to B, and what labels call the two
+                    which: from A to B, in decimal and as labels have them
   given N           how many tickets were given
   took P S          the last ticket taken from printer P has the serial S
 Nothing is saved, and another program may save meanwhile. A refusal goes to
@@ -152,13 +179,26 @@ pub const HELD: &str = "\
 Prints a line for each document of which a page is held: `IIII N complete`, or
 `IIII N lacks 3 7 12`, its identification, how many pages it has, and which are
 missing. With --id it prints the line of that document alone, or a refusal.
-A file that can't be read doesn't hide the others: in its place stands
-`file NAME FAULT`, and the exit status is 1. NAME is `joint` for the file of an
-older version. Nothing is saved, and another program may gather meanwhile. A
-refusal goes to standard output.
+A file that can't be used doesn't hide the others: in its place stands
+`file NAME FAULT`, and the exit status is 1. NAME is that of the file in the
+folder PATH.pages, or `joint` for the file of an older version at PATH, which
+may hold the document that --id asks for. Nothing is saved, and another program
+may gather meanwhile. A refusal goes to standard output.
 
 Example:
   relay held --file desk";
+
+pub const COPY_USAGE: &str =
+    "relay copy --file PATH --id IIII --page M --side SIDE [--scheme SCHEME]\n         > IMAGE";
+
+pub const COPY: &str = "\
+Draws the label of one page that is held, as a packed PBM image: whatever reads
+it gathers the same page of the same document. The side need not be that of the
+label that is lost. An old file of pages at PATH is moved first. A refusal goes
+to standard error.
+
+Example:
+  relay copy --file desk --id 0101 --page 2 --side 52 > label.pbm";
 
 pub const WORLD: &str = "\
 The script names printers, desks, and events: prints, scans, restarts and so on,

@@ -1,8 +1,8 @@
 //! The commands and their options, as the parser knows them.
 
-ghost use Rattle.std.specs.Prelude.{◌≡◌, ◌≢◌, MatchOption};
+ghost use Rattle.std.specs.Prelude.{◌≡◌, ◌≢◌, ◌≤◌, MatchOption, IfSome};
 ghost use Rattle.dm_encodation.specs.declared.scheme.Scheme.{Scheme};
-ghost use Rattle.relay_line.specs.Line.{scheme_name};
+ghost use Rattle.relay_line.specs.Line.{automatic_side, scheme_name};
 
 use crate::help;
 use clap::builder::ValueParser;
@@ -28,12 +28,53 @@ pub fn scheme_of(name: &str) -> Option<Scheme>
     }
 }
 
+/// The sides that the number of labels decides: the smallest side for which there are at most that many.
+static AUTOMATIC_SIDES: [&str; 15] = [
+    "auto:2", "auto:3", "auto:4", "auto:5", "auto:6", "auto:7", "auto:8", "auto:9", "auto:10",
+    "auto:11", "auto:12", "auto:13", "auto:14", "auto:15", "auto:16",
+];
+
+/// How many labels there may be, of a text that is one of `AUTOMATIC_SIDES`.
+pub fn most_labels_of(name: &str) -> Option<u16>
+    ensures ranges { IfSome result (λ most. (2 ≤ most) × (most ≤ 16)) }
+    ensures named { IfSome result (λ most. name.now ≡ automatic_side most) }
+{
+    match name {
+        "auto:2" => Some(2),
+        "auto:3" => Some(3),
+        "auto:4" => Some(4),
+        "auto:5" => Some(5),
+        "auto:6" => Some(6),
+        "auto:7" => Some(7),
+        "auto:8" => Some(8),
+        "auto:9" => Some(9),
+        "auto:10" => Some(10),
+        "auto:11" => Some(11),
+        "auto:12" => Some(12),
+        "auto:13" => Some(13),
+        "auto:14" => Some(14),
+        "auto:15" => Some(15),
+        "auto:16" => Some(16),
+        _ => None,
+    }
+}
+
 fn side<'a>(alloc: Global) -> Arg<'a> {
     Arg::new(alloc, "side")
         .long("side")
         .value_name("SIDE")
         .help(help::SIDE)
         .value_parser(ValueParser::Signed(10, 132))
+}
+
+// The side of the labels of a print, where the line leaves it to their number and where it doesn't.
+fn label_side<'a>(alloc: Global, is_automatic: bool) -> Arg<'a> {
+    let side = side(alloc).help(help::LABEL_SIDE).required(true);
+    if is_automatic {
+        side.value_parser(AUTOMATIC_SIDES.as_slice())
+    } else {
+        side
+    }
 }
 
 fn scheme<'a>(alloc: Global) -> Arg<'a> {
@@ -130,13 +171,21 @@ fn ledger<'a>(alloc: Global) -> Result<Command<'a>, AllocError> {
         .arg(number(alloc).default_value("0"))
 }
 
-fn print<'a>(alloc: Global) -> Result<Command<'a>, AllocError> {
+fn plan<'a>(alloc: Global) -> Result<Command<'a>, AllocError> {
+    Command::new(alloc, "plan")
+        .about("Prints for each side how many labels a document takes")
+        .override_usage("relay plan [--scheme SCHEME] < DOCUMENT")
+        .after_help(help::PLAN)
+        .arg(scheme(alloc))
+}
+
+fn print<'a>(alloc: Global, is_automatic: bool) -> Result<Command<'a>, AllocError> {
     Command::new(alloc, "print")
         .about("Prints a document as labels that carry one identification")
         .override_usage(help::PRINT_USAGE)
         .after_help(help::PRINT)
         .arg(file(alloc))?
-        .arg(side(alloc).required(true))?
+        .arg(label_side(alloc, is_automatic))?
         .arg(scheme(alloc))?
         .arg(number(alloc).default_value("0"))
 }
@@ -157,7 +206,9 @@ fn ticket<'a>(alloc: Global) -> Arg<'a> {
     Arg::new(alloc, "ticket")
         .long("ticket")
         .value_name("HEX")
-        .help("the 20 digits that `give` has printed")
+        .help(
+            "the 20 digits that `give` printed, or the form with\ncheck digits that `ticket` printed",
+        )
         .required(true)
 }
 
@@ -168,6 +219,14 @@ fn take<'a>(alloc: Global) -> Result<Command<'a>, AllocError> {
         .after_help(help::TAKE)
         .arg(file(alloc))?
         .arg(number(alloc).required(true))?
+        .arg(ticket(alloc))
+}
+
+fn what_ticket<'a>(alloc: Global) -> Result<Command<'a>, AllocError> {
+    Command::new(alloc, "ticket")
+        .about("Prints what a ticket gives, and its form to copy by hand")
+        .override_usage("relay ticket --ticket HEX")
+        .after_help(help::TICKET)
         .arg(ticket(alloc))
 }
 
@@ -193,6 +252,15 @@ fn id<'a>(alloc: Global) -> Arg<'a> {
         .long("id")
         .value_name("IIII")
         .help("the identification: 4 hexadecimal digits")
+        .required(true)
+}
+
+fn page<'a>(alloc: Global) -> Arg<'a> {
+    Arg::new(alloc, "page")
+        .long("page")
+        .value_name("M")
+        .help("the page, from 1 to 16")
+        .value_parser(ValueParser::Signed(1, 16))
         .required(true)
 }
 
@@ -250,6 +318,18 @@ fn held<'a>(alloc: Global) -> Result<Command<'a>, AllocError> {
         .arg(id(alloc).required(false))
 }
 
+fn copy<'a>(alloc: Global) -> Result<Command<'a>, AllocError> {
+    Command::new(alloc, "copy")
+        .about("Draws again the label of a page that a desk holds")
+        .override_usage(help::COPY_USAGE)
+        .after_help(help::COPY)
+        .arg(desk(alloc))?
+        .arg(id(alloc))?
+        .arg(page(alloc))?
+        .arg(side(alloc).required(true))?
+        .arg(scheme(alloc))
+}
+
 // The commands of desks, added to those of symbols and printers.
 fn with_desks<'a>(alloc: Global, program: Command<'a>) -> Result<Command<'a>, AllocError> {
     program
@@ -259,6 +339,7 @@ fn with_desks<'a>(alloc: Global, program: Command<'a>) -> Result<Command<'a>, Al
         .subcommand(export(alloc)?)?
         .subcommand(import(alloc)?)?
         .subcommand(held(alloc)?)?
+        .subcommand(copy(alloc)?)?
         .subcommand(world(alloc))
 }
 
@@ -269,11 +350,28 @@ fn world<'a>(alloc: Global) -> Command<'a> {
         .after_help(help::WORLD)
 }
 
-/// The whole program.
+// The commands of printers, added to those of symbols.
+fn with_printers<'a>(
+    alloc: Global,
+    program: Command<'a>,
+    is_automatic: bool,
+) -> Result<Command<'a>, AllocError> {
+    program
+        .subcommand(ledger(alloc)?)?
+        .subcommand(plan(alloc)?)?
+        .subcommand(print(alloc, is_automatic)?)?
+        .subcommand(give(alloc)?)?
+        .subcommand(what_ticket(alloc)?)?
+        .subcommand(take(alloc)?)?
+        .subcommand(left(alloc)?)
+}
+
+/// The whole program; `print` takes the sides that the number of labels decides where the line has one of them, and the
+/// numbers from 10 to 132 where it doesn't.
 ///
 /// # Errors
 /// Where the allocator refuses its memory.
-pub fn relay<'a>(alloc: Global) -> Result<Command<'a>, AllocError> {
+pub fn relay<'a>(alloc: Global, is_automatic: bool) -> Result<Command<'a>, AllocError> {
     let program = Command::new(alloc, "relay")
         .bin_name("relay")?
         .about("Relays documents printed as Data Matrix labels")
@@ -282,11 +380,6 @@ pub fn relay<'a>(alloc: Global) -> Result<Command<'a>, AllocError> {
         .disable_help_subcommand(true)
         .subcommand(words(alloc)?)?
         .subcommand(draw(alloc)?)?
-        .subcommand(read(alloc))?
-        .subcommand(ledger(alloc)?)?
-        .subcommand(print(alloc)?)?
-        .subcommand(give(alloc)?)?
-        .subcommand(take(alloc)?)?
-        .subcommand(left(alloc)?)?;
-    with_desks(alloc, program)
+        .subcommand(read(alloc))?;
+    with_desks(alloc, with_printers(alloc, program, is_automatic)?)
 }

@@ -1,2 +1,8 @@
+pub mod CheckForm
+pub mod CheckWords
+pub mod OpenedPrints
+pub mod PlanSteps
 pub mod PrintedLabels
 pub mod ShownLines
+pub mod Sizes
+pub mod SmallestSteps

@@ -50,11 +50,13 @@ pub data PrintsLabels (labels : List GridView) (line : List ℕ) (old old_errors
       → PrintsLabels labels line old old_errors 1 old errors
   no_memory : {new errors : OutputView} (done : List GridView) (next : GridView) (rest : List GridView)
       → labels ≡ done ++ next ∷ rest
-      → Appends old.contents new.contents (images_of done) → PrintsButRefuses line (refusal_name refusals.Memory) old_errors errors
+      → Appends old.contents new.contents (images_of done)
+      → PrintsButRefuses line (refusal_name refusals.Memory) old_errors errors
       → PrintsLabels labels line old old_errors 1 new errors
   not_written : {new errors : OutputView} → new.has_failed ≡ true
       → AppendsPart old.contents new.contents (images_of labels)
-      → PrintsButRefuses line (write_fault_name Write) old_errors errors → PrintsLabels labels line old old_errors 1 new errors
+      → PrintsButRefuses line (write_fault_name Write) old_errors errors
+      → PrintsLabels labels line old old_errors 1 new errors
 
 -- No image goes out before its line: nothing went to the output, or a line `printed` is out whole on the errors.
 abbrev pub PrintsLineFirst : OutputView → OutputView → OutputView → OutputView → Type 0

@@ -1,13 +1,11 @@
 -- What `ledger`, `give` and `take` do to the store of a ledger, and what they write.
-use Rattle.std.specs.Prelude.{◌≡◌, ℕ, List, Ok, Err}
-use Rattle.hex.specs.Hex.{decode_sized}
+use Rattle.std.specs.Prelude.{ℕ, List, Ok, Err}
 use Rattle.dm_store.specs.Saved.{Saved}
 use Rattle.dm_print_ledger.specs.Creating.{Creates, HasCreateFault}
 use Rattle.dm_print_ledger.specs.FaultNames.{create_fault_name, open_fault_name, give_fault_name, take_fault_name}
 use Rattle.dm_print_ledger.specs.Moving.{Gives, Takes}
 use Rattle.dm_print_ledger.specs.Opening.{Opens, HasOpenFault}
 use Rattle.dm_print_ledger.specs.Ranges.{free_count}
-use Rattle.dm_print_ledger.specs.Tickets.{AreOfTicket, ticket_bytes}
 use Rattle.dm_print_ledger.specs.Views.{PrinterView, TicketView}
 use Rattle.dm_print_ledger.specs.declared.fault.CreateFault.{CreateFault}
 use Rattle.dm_print_ledger.specs.declared.fault.GiveFault.{GiveFault}
@@ -19,6 +17,7 @@ use Rattle.relay_shared.specs.PrinterLines.{left_line, taken_line, ticket_line}
 use Rattle.relay_shared.specs.Refusals.{refusal_name}
 use Rattle.relay_shared.specs.Telling.{Tells, TellsRefusal}
 use Rattle.relay_shared.specs.declared.refusal.Refusal.TheVariants.{Ticket}
+use Rattle.relay_printer_commands.specs.Tickets.{HasTicket, IsTextOf}
 
 -- How `ledger` ends, from a store and an output to its exit status, the store and the output: a printer was created, or
 -- why none was.
@@ -55,14 +54,6 @@ pub data EndsGive (saved : Saved) (number to : ℕ) (range : Range) (old : Outpu
       → TellsGive before to range old status after new → EndsGive saved number to range old status after.saved new
   not_opened : {status : ℕ} {after : Saved} {new : OutputView} → IsNotOpened saved number old status after new
       → EndsGive saved number to range old status after new
-
--- the text is ten bytes in hexadecimal, and they are those of this ticket
-abbrev pub IsTextOf : List ℕ → TicketView → Type 0
-IsTextOf text ticket = decode_sized text 10 ≡ Ok (ticket_bytes ticket)
-
--- the text is ten bytes in hexadecimal, and they are those of a ticket
-abbrev pub HasTicket : List ℕ → Type 0
-HasTicket text = (bytes : List ℕ) × (decode_sized text 10 ≡ Ok bytes) × AreOfTicket bytes
 
 -- what a printer answers to a ticket that it is to take, and the line of it
 pub data TellsTake (before : PrinterView) (ticket : TicketView) (old : OutputView)

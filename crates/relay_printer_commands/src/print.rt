@@ -6,6 +6,7 @@ ghost use Rattle.dm_pbm_io.specs.SymbolImage.{p4};
 ghost use Rattle.relay_streams.specs.Streams.{AppendsPart, TakesPart};
 ghost use Rattle.relay_printer_commands.specs.Print.{EndsPrint, PrintsLabels, PrintsLineFirst, TellsPrint, images_of};
 ghost use Rattle.relay_printer_commands.specs.inner.Images.{LosesImage, LosesImages};
+ghost use Rattle.relay_printer_commands.specs.inner.Opened.{OpensAndPrints};
 ghost use Rattle.relay_shared.specs.PrinterLines.{printed_line};
 
 use crate::opening::open_printer;
@@ -101,6 +102,29 @@ fn print<A: Allocator + Copy, S: Store, W: Write, E: Write>(
     }
 }
 
+/// Opens the printer of a number, prints a document of this size and encodation, and writes what comes of it.
+pub(crate) fn open_and_print<A: Allocator + Copy, S: Store, W: Write, E: Write>(
+    alloc: A,
+    store: S,
+    output: &mut Output<W>,
+    errors: &mut Output<E>,
+    number: u16,
+    document: &[u8],
+    form: (Size, Scheme),
+) -> Ended<S>
+    ensures line_first { PrintsLineFirst output.old errors.old output.new errors.new }
+    ensures ends { OpensAndPrints (S.state store) number form.0 form.1 document.now output.old errors.old
+        result.status (S.state result.store) output.new errors.new }
+{
+    let mut printer = match open_printer(alloc, store, errors, number) {
+        Ok(printer) => printer,
+        Err(ended) => return ended,
+    };
+    let status = print(alloc, &mut printer, output, errors, document, form);
+    let store = printer.close();
+    Ended { status, store }
+}
+
 /// Prints a document as labels under an identification of its own: `printed IIII n left N` goes to `errors`, and then
 /// the labels go to `output` as packed images, one after another. A refusal is a line on `errors`. The side is looked
 /// at first, then the input is read, at most 41,601 bytes of it, then the printer is opened. The identification is
@@ -130,18 +154,14 @@ pub fn print_command<A: Allocator + Copy, S: Store, R: Read, W: Write, E: Write>
             return Ended { status, store };
         }
     };
-    let mut printer = match open_printer(alloc, store, errors, options.number) {
-        Ok(printer) => printer,
-        Err(ended) => return ended,
-    };
-    let status = print(
+    let form = (size, options.scheme);
+    open_and_print(
         alloc,
-        &mut printer,
+        store,
         output,
         errors,
+        options.number,
         &document,
-        (size, options.scheme),
-    );
-    let store = printer.close();
-    Ended { status, store }
+        form,
+    )
 }

@@ -1,26 +1,15 @@
 //! `relay take`: identifications from another printer.
 
-ghost use Rattle.std.specs.Prelude.{MatchOption};
-ghost use Rattle.relay_printer_commands.specs.Printers.{EndsTake, HasTicket, IsTextOf, TellsTake};
+ghost use Rattle.relay_printer_commands.specs.Printers.{EndsTake, TellsTake};
 
 use crate::opening::open_printer;
+use crate::ticket_text::ticket_of;
 use dm_print_ledger::{Printer, Ticket};
 use dm_store::Store;
 use relay_shared::{Ended, Refusal, put_taken, refuse, status_after};
 use relay_streams::Output;
 use std::alloc::Allocator;
 use std::io::Write;
-
-// The ticket of a text.
-fn ticket_of(text: &str) -> Option<Ticket>
-    ensures { MatchOption result (¬ HasTicket text.now) (λ ticket. HasTicket text.now × IsTextOf text.now ticket) }
-{
-    let mut bytes = [0u8; 10];
-    match hex::decode_to_slice(text, &mut bytes) {
-        Ok(()) => Ticket::of_bytes(&bytes),
-        Err(_) => None,
-    }
-}
 
 // Takes a ticket, and writes the line of it.
 fn take<A: Allocator + Copy, S: Store, W: Write>(
@@ -36,8 +25,8 @@ fn take<A: Allocator + Copy, S: Store, W: Write>(
     }
 }
 
-/// Takes the ticket of a text, ten bytes in hexadecimal, and prints `taken left N`, how many identifications are free
-/// then, or the line `refused NAME`. The text is looked at before the store.
+/// Takes the ticket of a text, in either form, and prints `taken left N`, how many identifications are free then, or
+/// the line `refused NAME`. The text is looked at before the store.
 pub fn take_command<A: Allocator + Copy, S: Store, W: Write>(
     alloc: A,
     store: S,

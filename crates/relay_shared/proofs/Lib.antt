@@ -1,3 +1,4 @@
 pub mod ImageLoop
 pub mod Telling
+pub mod Groups
 pub mod MissingPages

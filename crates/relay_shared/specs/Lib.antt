@@ -5,7 +5,9 @@ pub mod HeldLines
 pub mod Hexadecimal
 pub mod Images
 pub mod LedgerLines
+pub mod PlanLines
 pub mod PrinterLines
 pub mod Refusals
 pub mod Telling
+pub mod TicketLines
 pub mod inner

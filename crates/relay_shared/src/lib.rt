@@ -13,8 +13,10 @@ mod image_loop;
 mod images;
 pub mod laws;
 mod ledger_lines;
+mod plan_lines;
 mod printer_lines;
 mod refusal;
+mod ticket_lines;
 
 pub use desk_lines::{mask_digits, put_accepted, put_forgotten, put_imported};
 pub use document::{DOCUMENT_BYTES, read_document};
@@ -23,5 +25,7 @@ pub use held_lines::{put_held, put_unsound, put_unsound_joint};
 pub use image_loop::{OnImages, each_image};
 pub use images::{Answered, MOST_IMAGES};
 pub use ledger_lines::{put_free, put_given, put_number, put_took};
+pub use plan_lines::{PlannedSide, put_side};
 pub use printer_lines::{id_digits, put_left, put_printed, put_taken, put_ticket};
 pub use refusal::Refusal;
+pub use ticket_lines::{put_check, put_from};

@@ -1,6 +1,6 @@
-use Rattle.std.proofs.Common.{Some, None, Ok, Err, ap, refl, ◌∙◌}
+use Rattle.std.proofs.Common.{Some, None, Err, ap, refl, ◌∙◌}
 use Rattle.std.specs.FinMap as map
-use Rattle.dm_assembly_desk.specs.declared.fault.MoveFault.TheVariants.{Device, Memory}
+use Rattle.dm_assembly_desk.specs.declared.fault.MoveFault.TheVariants.{Device}
 use Rattle.relay_desk_commands.specs.inner.SeenJoint.{documents_in, fault_in}
 use Rattle.relay_desk_commands.proofs.LoadedJoint.{none_there}
 use Rattle.relay_desk_commands.proofs.held.load_and_tell.Goals as goal

@@ -1,5 +1,5 @@
 -- Each turn adds the line of one number; the set stays as it was, so what is seen is seen of the set at first.
-use Rattle.std.proofs.Common.{◌≡◌, ◌∙◌, ◌≤◌, refl, sym, subst, arith}
+use Rattle.std.proofs.Common.{◌≡◌, ◌∙◌, refl, subst, arith}
 use Rattle.std.specs.Prelude.{IsTrue}
 use Rattle.dm_store.specs.Sets.{SavedSet}
 use Rattle.relay_desk_commands.specs.Held.{SeesNumber, is_unsound}

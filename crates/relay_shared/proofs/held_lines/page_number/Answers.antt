@@ -1,5 +1,5 @@
 -- At each number the text is what `decimal` writes, by computing.
-use Rattle.std.proofs.Common.{◌≡◌, ◌∷◌, ◌≤◌, ℕ, ap, sym, arith}
+use Rattle.std.proofs.Common.{◌≡◌, ◌∷◌, ℕ, ap, sym, arith}
 use Rattle.std.specs.Fmt.{decimal, digits}
 use Rattle.relay_shared.proofs.held_lines.page_number.Goals as goal
 

@@ -1,0 +1,232 @@
+//! `relay copy`: the label of a page that a desk holds, again.
+
+ghost use Rattle.std.specs.Prelude.{◌≡◌, ◌≤◌, ◌*◌, true, false, length, IfOk, MatchResult};
+ghost use Rattle.dm_append_label.specs.Labels.{Fits, IsTooLong};
+ghost use Rattle.dm_append_label.specs.declared.opening.TheConstants.{MOST_PAGE_BYTES};
+ghost use Rattle.dm_assembly_desk.specs.Pages.{lent_bytes, page};
+ghost use Rattle.dm_finder_frame.specs.Grids.{GridView};
+ghost use Rattle.dm_pbm_io.specs.Shown.{picture};
+ghost use Rattle.dm_pbm_io.specs.SymbolImage.{image_with_quiet_zone};
+ghost use Rattle.dm_pbm_io.specs.Writing.{written};
+ghost use Rattle.relay_desk_commands.specs.Copy.{Copies, EndsCopy, HasCopyFault, IsLabelOf, copy_fault_name};
+ghost use Rattle.relay_desk_commands.specs.Desks.{TellsBytes};
+ghost use Rattle.relay_desk_commands.specs.declared.copy.CopyFault.TheVariants as copy_faults;
+
+use crate::desk_opening::open_desk;
+use crate::file_id::id_of;
+use dm_append_label::{FileId, Page, SealFault, seal};
+use dm_assembly_desk::{Desk, MOST_CAPACITY, Pages};
+use dm_check_blocks::Size;
+use dm_encodation::{Scheme, need};
+use dm_finder_frame::Grid;
+use dm_pbm_io::{Image, image_of};
+use dm_store::{Store, StoreSet};
+use relay_shared::{EndedDesk, Refusal, refuse};
+use relay_streams::Output;
+use std::alloc::{AllocError, Allocator};
+use std::io::Write;
+
+/// Which page is copied, and in what form.
+#[derive(Clone, Copy, Debug, PartialEq, Eq)]
+pub struct CopyOptions<'a> {
+    /// The identification of the document: the text of its two words in hexadecimal.
+    pub id: &'a str,
+    /// Which page of the document, from 1.
+    pub page: u16,
+    /// The side of the label, a number from 10 to 132 that need not be one of the sizes.
+    pub side: u16,
+    /// The encodation of the label.
+    pub scheme: Scheme,
+}
+
+/// Why a page isn't copied: the first of these, in this order, that applies.
+#[derive(Clone, Copy, Debug, PartialEq, Eq)]
+pub(crate) enum CopyFault {
+    /// No page of the document is held.
+    NotHeld,
+    /// The page isn't held.
+    Incomplete,
+    /// A label of this size has no room for the page in this encodation.
+    TooLong,
+    /// Memory was refused for the label or its image.
+    Memory,
+}
+
+impl CopyFault {
+    /// The variant's name.
+    pub(crate) fn name(self) -> &'static str
+        ensures { result.now ≡ copy_fault_name self }
+    {
+        match self {
+            CopyFault::NotHeld => "NotHeld",
+            CopyFault::Incomplete => "Incomplete",
+            CopyFault::TooLong => "TooLong",
+            CopyFault::Memory => "Memory",
+        }
+    }
+}
+
+impl From<AllocError> for CopyFault {
+    ghost from_gives = { λ _ fault. fault ≡ copy_faults.Memory };
+
+    fn from(_: AllocError) -> Self {
+        CopyFault::Memory
+    }
+}
+
+// The words of the head of a label.
+const HEAD_WORDS: usize = 4;
+
+// Whether a label of this size has room for a page.
+fn has_room(size: Size, scheme: Scheme, bytes: &[u8]) -> bool
+    requires { length bytes.now ≤ MOST_PAGE_BYTES }
+    ensures room { result ≡ true → Fits size scheme bytes.now }
+    ensures none { result ≡ false → IsTooLong size scheme bytes.now }
+{
+    let words = size.data_words();
+    if words < HEAD_WORDS {
+        return false;
+    }
+    need(scheme, bytes) <= words - HEAD_WORDS
+}
+
+// Page m, if it is held. There is none above the last.
+fn held_page<'a, A: Allocator>(pages: &Pages<'a, A>, m: u16) -> Option<&'a [u8]>
+    ensures { lent_bytes result ≡ page pages.now m }
+{
+    if m > pages.n() as u16 {
+        return None;
+    }
+    pages.get(m as u8)
+}
+
+// Page m of the n pages of a document.
+#[derive(Clone, Copy)]
+struct PageNumber {
+    id: FileId,
+    m: u8,
+    n: u8,
+}
+
+// The label of a page, which has room for it.
+fn label_of<A: Allocator + Copy>(
+    alloc: A,
+    bytes: &[u8],
+    number: PageNumber,
+    form: (Size, Scheme),
+) -> Result<Grid<A>, AllocError>
+    requires fits { Fits form.0 form.1 bytes.now }
+    requires least { 2 ≤ number.n }
+    requires most { number.n ≤ 16 }
+    requires first { 1 ≤ number.m }
+    requires last { number.m ≤ number.n }
+    ensures { IfOk result (IsLabelOf form.0 form.1
+        (record { id = number.id; m = number.m; n = number.n; bytes = bytes.now })) }
+{
+    let bytes = bytes.to_vec(alloc)?;
+    let Some(page) = Page::new(number.id, number.m, number.n, bytes) else {
+        unreachable!()
+    };
+    match seal(alloc, &page, form.0, form.1) {
+        Ok(grid) => Ok(grid),
+        Err(SealFault::TooLong) => unreachable!(),
+        Err(SealFault::Memory) => Err(AllocError),
+    }
+}
+
+// The label of page m of a document, as the desk holds it.
+fn copy_of<A: Allocator + Copy, T: StoreSet>(
+    alloc: A,
+    desk: &Desk<T, A>,
+    id: FileId,
+    m: u16,
+    form: (Size, Scheme),
+) -> Result<Grid<A>, CopyFault>
+    ensures { MatchResult result
+        (λ grid. Copies desk.now.held id m form.0 form.1 grid)
+        (λ fault. HasCopyFault desk.now.held id m form.0 form.1 fault) }
+{
+    let Some(pages) = desk.pages(id) else {
+        return Err(CopyFault::NotHeld);
+    };
+    let Some(bytes) = held_page(&pages, m) else {
+        return Err(CopyFault::Incomplete);
+    };
+    if !has_room(form.0, form.1, bytes) {
+        return Err(CopyFault::TooLong);
+    }
+    let number = PageNumber {
+        id,
+        m: m as u8,
+        n: pages.n(),
+    };
+    Ok(label_of(alloc, bytes, number, form)?)
+}
+
+// The packed image of that label.
+fn image_of_copy<A: Allocator + Copy, T: StoreSet>(
+    alloc: A,
+    desk: &Desk<T, A>,
+    id: FileId,
+    m: u16,
+    form: (Size, Scheme),
+) -> Result<Image<A>, CopyFault>
+    ensures result { MatchResult result
+        (λ image. (grid : GridView) × Copies desk.now.held id m form.0 form.1 grid
+        × (picture image ≡ image_with_quiet_zone grid false))
+        (λ fault. HasCopyFault desk.now.held id m form.0 form.1 fault) }
+    ensures count { IfOk result (λ image. length image.pixels.items ≡ image.width * image.height) }
+{
+    let grid = copy_of(alloc, desk, id, m, form)?;
+    Ok(image_of(alloc, &grid, false)?)
+}
+
+// Writes an image, and gives the exit status; where the output has refused it, the line of that goes to `errors`.
+fn put_image<A: Allocator, W: Write, E: Write>(
+    output: &mut Output<W>,
+    errors: &mut Output<E>,
+    image: &Image<A>,
+) -> u8
+    requires { length image.now.pixels.items ≡ image.now.width * image.now.height }
+    ensures { TellsBytes (written (picture image.now)) output.old errors.old result output.new errors.new }
+{
+    match image.write(output) {
+        Ok(()) => 0,
+        Err(fault) => refuse(errors, fault.name()),
+    }
+}
+
+/// Writes the label of a page again, as a packed image, and nothing else: that of the page that the desk holds, so that
+/// whatever opens it gathers the same document. A refusal is a line on `errors`. The identification's text is looked at
+/// first, then the side, then the files.
+pub fn copy_command<A: Allocator + Copy, S: Store, T: StoreSet, W: Write, E: Write>(
+    alloc: A,
+    store: S,
+    set: T,
+    output: &mut Output<W>,
+    errors: &mut Output<E>,
+    options: CopyOptions,
+) -> EndedDesk<S, T>
+    ensures { EndsCopy (record { joint = S.state store; set = T.state set }) options.entry.id.now options.entry.page
+        options.entry.side options.entry.scheme output.old errors.old result.status
+        (record { joint = S.state result.store; set = T.state result.set }) output.new errors.new }
+{
+    let Some(id) = id_of(options.id) else {
+        let status = refuse(errors, Refusal::FileId.name());
+        return EndedDesk { status, store, set };
+    };
+    let Some(size) = Size::of_side(options.side) else {
+        let status = refuse(errors, Refusal::Side.name());
+        return EndedDesk { status, store, set };
+    };
+    let opened = match open_desk(alloc, store, set, errors, MOST_CAPACITY) {
+        Ok(opened) => opened,
+        Err(ended) => return ended,
+    };
+    let form = (size, options.scheme);
+    let status = match image_of_copy(alloc, &opened.desk, id, options.page, form) {
+        Ok(image) => put_image(output, errors, &image),
+        Err(reason) => refuse(errors, reason.name()),
+    };
+    opened.end(status)
+}

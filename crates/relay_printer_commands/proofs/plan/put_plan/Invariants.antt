@@ -1,0 +1,10 @@
+use Rattle.std.proofs.Common.{take}
+use Rattle.std.specs.List.{flat_map}
+use Rattle.std.specs.Io.KnownBytes.{Appends}
+use Rattle.relay_shared.specs.PlanLines.{side_line}
+use Rattle.relay_printer_commands.proofs.plan.put_plan.Given as goal
+
+-- the lines so far are out
+abbrev pub invariant-loop-planned : goal.invariant-loop-planned
+invariant-loop-planned g l =
+    Appends l.initial.output.contents l.output.contents (flat_map side_line (take l.planned-index l.plan))

@@ -1,0 +1,14 @@
+use Rattle.relay_printer_commands.specs.inner.Opened.OpensAndPrints.{not_opened, opened}
+use Rattle.relay_printer_commands.proofs.PrintedLabels.{line_first}
+use Rattle.relay_printer_commands.proofs.print.open_and_print.Goals as goal
+
+pub returns-in-Err-clause-ends : goal.returns-in-Err-clause-ends
+returns-in-Err-clause-ends g c = not_opened c.in-Err.ensures
+
+pub returns-clause-ends : goal.returns-clause-ends
+returns-clause-ends g c =
+    rw c.close-store.ensures (opened c.in-Ok.printer c.print-status.new.printer c.in-Ok.ensures.0
+    (rw c.in-Ok.ensures.1 at c.print-status.ensures))
+
+pub returns-clause-line_first : goal.returns-clause-line_first
+returns-clause-line_first g c = rw c.in-Ok.ensures.1 at (line_first _ _ _ _ _ _ _ _ _ _ c.print-status.ensures)

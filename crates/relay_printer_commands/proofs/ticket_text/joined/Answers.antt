@@ -1,0 +1,19 @@
+use Rattle.std.proofs.Common.{◌<◌, ◌∙◌, ◌++◌, ℕ, List, length, ap}
+use Rattle.std.proofs.lemmas.List.Elements.{All-append, All-from_get_or}
+use Rattle.relay_printer_commands.proofs.CheckWords.{put_at_end}
+use Rattle.relay_printer_commands.proofs.ticket_text.joined.Goals as goal
+
+pub returns-clause-joined : goal.returns-clause-joined
+returns-clause-joined c =
+    put_at_end c.copy_from_slice.new.self c.copy_from_slice-2.new.self
+    (ap length c.copy_from_slice.ensures.after ∙ c.requires.ten)
+    (ap length c.copy_from_slice-2.ensures.after ∙ c.requires.two)
+    ∙ ap (λ (t : List ℕ). t ++ c.copy_from_slice-2.new.self) c.copy_from_slice.ensures.after
+    ∙ ap (λ (t : List ℕ). c.args.bytes.now ++ t) c.copy_from_slice-2.ensures.after
+
+pub returns-clause-words : goal.returns-clause-words
+returns-clause-words c =
+    let byte : ℕ → Type 0 = λ word. word < 256 in
+    All-append byte c.args.bytes.now c.args.checks.now
+    (All-from_get_or byte c.args.bytes.now 0 (λ i below. (c.type_inv.bytes i).fits))
+    (All-from_get_or byte c.args.checks.now 0 (λ i below. (c.type_inv.checks i).fits))

@@ -1,0 +1,40 @@
+-- What `plan` writes: each side of which a document has labels, and how many.
+use Rattle.std.specs.Prelude.{◌≡◌, ◌≢◌, ◌<◌, ℕ, List, []}
+use Rattle.std.specs.List.{All, AllPairs, Contains, flat_map}
+use Rattle.dm_check_blocks.specs.declared.size.Size.{Size}
+use Rattle.dm_check_blocks.specs.Sizes.{side}
+use Rattle.dm_encodation.specs.declared.scheme.Scheme.{Scheme}
+use Rattle.dm_print_ledger.specs.FaultNames.{print_fault_name}
+use Rattle.dm_print_ledger.specs.Planning.{HasLabels, HasNoLabels}
+use Rattle.dm_print_ledger.specs.declared.fault.PrintFault.TheVariants.{TooLong}
+use Rattle.relay_streams.specs.FaultNames.{input_fault_name}
+use Rattle.relay_streams.specs.Streams.{InputView, OutputView}
+use Rattle.relay_streams.specs.declared.fault.InputFault.{InputFault}
+use Rattle.relay_shared.specs.Documents.{HasInputFault, ReadsDocument}
+use Rattle.relay_shared.specs.PlanLines.{side_line}
+use Rattle.relay_shared.specs.Telling.{Tells, TellsRefusal}
+use Rattle.relay_shared.specs.declared.plan_lines.PlannedSide.{PlannedSide}
+
+-- the document has this many labels of this side
+abbrev pub IsPlanned : Scheme → List ℕ → PlannedSide → Type 0
+IsPlanned scheme document planned =
+    (size : Size) × (side size ≡ planned.side) × HasLabels size scheme document planned.count
+
+-- each side of which the document has labels, and no other, the smallest first
+pub record IsPlan (scheme : Scheme) (document : List ℕ) (plan : List PlannedSide) : Type 0 where
+  pub all : (planned : PlannedSide) → IsPlanned scheme document planned → Contains plan planned
+  pub only : All (IsPlanned scheme document) plan
+  pub rising : AllPairs (λ before after. before.side < after.side) plan
+
+-- How `plan` ends, from an input and an output to the exit status and the output: the lines of the plan of the document
+-- that was read were written; or there is no line, since the document has labels of no side; or the input could not be
+-- read.
+pub data EndsPlan (scheme : Scheme) (input rest : InputView) (old : OutputView) : ℕ → OutputView → Type 0 where
+  planned : {status : ℕ} {new : OutputView} (document : List ℕ) (plan : List PlannedSide)
+      → ReadsDocument input rest document → IsPlan scheme document plan → plan ≢ []
+      → Tells (flat_map side_line plan) 0 old new status → EndsPlan scheme input rest old status new
+  too_long : {status : ℕ} {new : OutputView} (document : List ℕ) → ReadsDocument input rest document
+      → ((size : Size) → HasNoLabels size scheme document) → TellsRefusal (print_fault_name TooLong) old new status
+      → EndsPlan scheme input rest old status new
+  not_read : {status : ℕ} {new : OutputView} (fault : InputFault) → HasInputFault rest fault
+      → TellsRefusal (input_fault_name fault) old new status → EndsPlan scheme input rest old status new

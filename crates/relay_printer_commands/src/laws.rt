@@ -1,0 +1,22 @@
+//! Laws of the texts of tickets. The functions do nothing: their contracts are the laws.
+
+ghost use Rattle.std.specs.Prelude.{◌≡◌, ◌≢◌, ◌≤◌, List, ℕ};
+ghost use Rattle.dm_gf256.specs.Polynomial.{differ};
+ghost use Rattle.relay_shared.specs.TicketLines.{check_text};
+ghost use Rattle.relay_printer_commands.specs.Tickets.{
+  HasTicket,
+  IsCheckText,
+  IsChecked,
+  IsGroupedText,
+};
+
+/// If one or two of the twelve bytes that a text in the check form spells are changed, the new text is no ticket's.
+pub fn changed_bytes_are_refused()
+    ensures { (text bytes other changed : List ℕ) (check : IsCheckText text bytes) → IsGroupedText other changed
+        → differ check.whole changed ≤ 2 → check.whole ≢ changed → ¬ HasTicket other }
+{}
+
+/// The check form that `ticket` prints is read as that ticket.
+pub fn check_text_is_read()
+    ensures { (bytes whole : List ℕ) → IsChecked bytes whole → IsCheckText (check_text whole) bytes }
+{}

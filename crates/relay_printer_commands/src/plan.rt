@@ -1,0 +1,51 @@
+//! `relay plan`: the sides at which a document can be cut into labels.
+
+ghost use Rattle.std.specs.Prelude.{◌≡◌, true, OnOk, OnErr};
+ghost use Rattle.std.specs.List.{flat_map};
+ghost use Rattle.std.specs.Io.KnownBytes.{Appends};
+ghost use Rattle.relay_streams.specs.Streams.{AppendsPart, TakesPart};
+ghost use Rattle.relay_shared.specs.PlanLines.{side_line};
+ghost use Rattle.relay_printer_commands.specs.Plan.{EndsPlan};
+
+use crate::sides::plan_of;
+use dm_encodation::Scheme;
+use dm_print_ledger::PrintFault;
+use relay_shared::{DOCUMENT_BYTES, PlannedSide, put_side, read_document, refuse, status_after};
+use relay_streams::{Input, Output, WriteFault};
+use std::alloc::Allocator;
+use std::io::{Read, Write};
+
+// Writes the line of each side.
+fn put_plan<W: Write>(output: &mut Output<W>, plan: &[PlannedSide]) -> Result<(), WriteFault>
+    ensures written { OnOk result (Appends output.old.contents output.new.contents (flat_map side_line plan.now)) }
+    ensures part { AppendsPart output.old.contents output.new.contents (flat_map side_line plan.now) }
+    ensures failed { OnErr result (output.new.has_failed ≡ true) }
+{
+    for planned in plan {
+        put_side(output, *planned)?;
+    }
+    Ok(())
+}
+
+/// Prints a line `side N labels K` for each side for which a document can be cut, the smallest first, where K is the
+/// number of its labels; or the line `refused NAME`, `TooLong` where there is no such side. At most 41,601 bytes of the
+/// input are read. No memory is taken but the document's.
+pub fn plan_command<A: Allocator + Copy, R: Read, W: Write>(
+    alloc: A,
+    input: &mut Input<R>,
+    output: &mut Output<W>,
+    scheme: Scheme,
+) -> u8
+    ensures part { TakesPart input.old.remaining input.new.remaining DOCUMENT_BYTES }
+    ensures ends { EndsPlan scheme input.old input.new output.old result output.new }
+{
+    let document = match read_document(alloc, input) {
+        Ok(document) => document,
+        Err(fault) => return refuse(output, fault.name()),
+    };
+    let plan = plan_of(&document, scheme);
+    if plan.is_empty() {
+        return refuse(output, PrintFault::TooLong.name());
+    }
+    status_after(put_plan(output, plan.as_slice()))
+}

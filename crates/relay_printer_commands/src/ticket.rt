@@ -1,0 +1,37 @@
+//! `relay ticket`: what a ticket says.
+
+ghost use Rattle.std.specs.Prelude.{◌≡◌, true, OnOk, OnErr};
+ghost use Rattle.std.specs.Io.KnownBytes.{Appends};
+ghost use Rattle.relay_streams.specs.Streams.{AppendsPart};
+ghost use Rattle.relay_printer_commands.specs.Tickets.{EndsTicket, ticket_lines};
+
+use crate::ticket_text::{checked, ticket_of};
+use dm_print_ledger::Ticket;
+use relay_shared::{Refusal, put_check, put_from, refuse, status_after};
+use relay_streams::{Output, WriteFault};
+use std::io::Write;
+
+// Writes the two lines of a ticket, of whose bytes and check words there are twelve.
+fn put_lines<W: Write>(
+    output: &mut Output<W>,
+    ticket: Ticket,
+    whole: [u8; 12],
+) -> Result<(), WriteFault>
+    ensures written { OnOk result (Appends output.old.contents output.new.contents (ticket_lines ticket whole)) }
+    ensures part { AppendsPart output.old.contents output.new.contents (ticket_lines ticket whole) }
+    ensures failed { OnErr result (output.new.has_failed ≡ true) }
+{
+    put_from(output, ticket)?;
+    put_check(output, whole)
+}
+
+/// Prints what the ticket of a text says, in either form of text: the line `from P to Q serial S first A last B`, and
+/// the line `check`, the check form of its text. Or it prints the line `refused Ticket`.
+pub fn ticket_command<W: Write>(output: &mut Output<W>, text: &str) -> u8
+    ensures { EndsTicket text.now output.old result output.new }
+{
+    match ticket_of(text) {
+        Some(ticket) => status_after(put_lines(output, ticket, checked(ticket.bytes()))),
+        None => refuse(output, Refusal::Ticket.name()),
+    }
+}

@@ -1,0 +1,73 @@
+//! The lines that say what a ticket is. They take no memory.
+
+ghost use Rattle.std.specs.Prelude.{◌≡◌, true, OnOk, OnErr};
+ghost use Rattle.std.specs.Io.KnownBytes.{Appends};
+ghost use Rattle.relay_streams.specs.Streams.{AppendsPart};
+ghost use Rattle.relay_shared.specs.TicketLines.{check_line, from_line};
+
+use dm_print_ledger::Ticket;
+use itoa::Buffer;
+use relay_streams::{Output, WriteFault};
+use std::io::Write;
+
+/// Writes which printer gave a ticket, to which, its serial, and its first and last number, in decimal.
+///
+/// # Errors
+/// Where the output refuses a write.
+pub fn put_from<W: Write>(output: &mut Output<W>, ticket: Ticket) -> Result<(), WriteFault>
+    ensures written { OnOk result (Appends output.old.contents output.new.contents (from_line ticket)) }
+    ensures part { AppendsPart output.old.contents output.new.contents (from_line ticket) }
+    ensures failed { OnErr result (output.new.has_failed ≡ true) }
+{
+    let (mut gave, mut gets, mut counted) = (Buffer::new(), Buffer::new(), Buffer::new());
+    let (mut lowest, mut highest) = (Buffer::new(), Buffer::new());
+    let from = gave.format(ticket.giver).as_bytes();
+    let to = gets.format(ticket.receiver).as_bytes();
+    let serial = counted.format(ticket.serial).as_bytes();
+    let first = lowest.format(ticket.range.first).as_bytes();
+    let last = highest.format(ticket.range.last).as_bytes();
+    output.put_all(&[
+        b"from ",
+        from,
+        b" to ",
+        to,
+        b" serial ",
+        serial,
+        b" first ",
+        first,
+        b" last ",
+        last,
+        b"\n",
+    ])
+}
+
+/// Writes twelve bytes, those of a ticket and their check words, as they can be copied by hand: in hexadecimal, in
+/// groups of four digits, which hyphens join.
+///
+/// # Errors
+/// Where the output refuses a write.
+pub fn put_check<W: Write>(output: &mut Output<W>, bytes: [u8; 12]) -> Result<(), WriteFault>
+    ensures written { OnOk result (Appends output.old.contents output.new.contents (check_line bytes)) }
+    ensures part { AppendsPart output.old.contents output.new.contents (check_line bytes) }
+    ensures failed { OnErr result (output.new.has_failed ≡ true) }
+{
+    let mut digits = [0u8; 24];
+    let Ok(()) = hex::encode_to_slice(bytes, &mut digits) else {
+        unreachable!()
+    };
+    output.put_all(&[
+        b"check ",
+        &digits[..4],
+        b"-",
+        &digits[4..8],
+        b"-",
+        &digits[8..12],
+        b"-",
+        &digits[12..16],
+        b"-",
+        &digits[16..20],
+        b"-",
+        &digits[20..24],
+        b"\n",
+    ])
+}
