@@ -9,7 +9,7 @@ TOP = pathlib.Path(__file__).resolve().parent.parent
 RELAY = str(TOP / "relay")
 PROGRAM = str(TOP / "crates" / "relay_main" / "out" / "relay_main")
 LETTER = b"Softcairn joins no wrong pages."
-REFUSED_ON_ERRORS = {"draw", "print", "deliver", "export"}
+REFUSED_ON_ERRORS = {"draw", "print", "deliver", "export", "copy"}
 
 
 def fail(what):
