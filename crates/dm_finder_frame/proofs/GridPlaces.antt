@@ -1,16 +1,14 @@
 -- Rows and columns of a grid and of its mapping matrix.
 use Rattle.std.specs.Prelude.{◌/◌, ◌%◌}
-use Rattle.std.proofs.Common.{◌≡◌, ℕ, ◌+◌, ◌-◌, ◌*◌, ◌<◌, ◌≤◌, refl, false, eqb, ◌||◌, List, get_or, ap, sym, ◌∙◌, subst, arith, lit≤}
+use Rattle.std.proofs.Common.{◌≡◌, ℕ, ◌+◌, ◌-◌, ◌*◌, ◌<◌, ◌≤◌, refl, false, eqb, ◌||◌, ap, ◌∙◌, arith, lit≤}
 use Rattle.std.proofs.lemmas.Nat.{mul-add-lt, div_below, mod_below, div-mul-add, mod-mul-add, div-add-mod'}
 use Rattle.std.proofs.Math.Nat.{mul_comm}
 use Rattle.std.proofs.lemmas.Bool.{eqb-false, or_parts}
 use Rattle.std.proofs.lemmas.Bool.Decides.{nat_tests}
 use Rattle.dm_check_blocks.specs.declared.size.Size.{Size}
 use Rattle.dm_check_blocks.specs.declared.size.Size.TheVariants.{Side10}
-use Rattle.dm_check_blocks.specs.Sizes.{row, side, region, across, mapping}
-use Rattle.dm_finder_frame.specs.declared.line.Line.{Line}
+use Rattle.dm_check_blocks.specs.Sizes.{row, side, region, across}
 use Rattle.dm_finder_frame.specs.Frame.{is_on_frame, mapping_place, grid_place}
-use Rattle.dm_finder_frame.specs.inner.Lines.{AreLines}
 
 pub fills_side : (s : Size) → across s * (region s + 2) ≡ side s
 unfolding row
@@ -31,6 +29,12 @@ pub most_side : (s : Size) → side s ≤ 132
 unfolding row
 most_side Side10 = lit≤ tt
 most_side _ = lit≤ tt
+
+-- framed regions have even sides, so the parity of a column in its region is its parity in the grid
+pub even_columns : (s : Size) (c : ℕ) → c % (region s + 2) % 2 ≡ c % 2
+unfolding row
+even_columns Side10 c = omega arith
+even_columns _ c = omega arith
 
 -- a place of the mapping matrix in the grid, and back
 grid_place_sum : (h r : ℕ) → grid_place h r ≡ r / h * (h + 2) + (r % h + 1)
@@ -99,19 +103,3 @@ no_frame_inside h a b k l e =
     let b0 = eqb-false b 0 y.0 in
     let b1 = eqb-false b (h + 1) y.1 in
     (omega (arith, a0), omega (arith, a1), omega (arith, b0), omega (arith, b1))
-
--- a line of a grid that is not all on the finder pattern
-pub inner_line : (s : Size) (lines : List Line) (k n : ℕ) (other : Line) → AreLines s lines → k < side s → n ≡ mapping s
-    → (get_or lines k other).on_frame ≡ false → (get_or lines k other).mapping < n
-inner_line s lines k n other are l e inside =
-    let h = region s in
-    let a = k % (h + 2) in
-    let it = are.line k other l in
-    let f : (eqb a 0 || eqb a (h + 1)) ≡ false = sym (ap (λ (line : Line). line.on_frame) it) ∙ inside in
-    let x = or_parts (eqb a 0) (eqb a (h + 1)) f in
-    let first = eqb-false a 0 x.0 in
-    let last = eqb-false a (h + 1) x.1 in
-    let rest = mod_below k (h + 2) (omega arith) in
-    let fits : k < across s * (h + 2) = subst (λ (x : ℕ). k < x) (sym (fills_side s)) l in
-    let below = mapping_place_below h (across s) k (omega (arith, first)) (omega (arith, last, rest)) fits in
-    subst (λ (x : ℕ). x < n) (sym (ap (λ (line : Line). line.mapping) it)) (omega (arith, below, e))

@@ -11,7 +11,7 @@ use Rattle.dm_placement.specs.Square.{Square, IsWhole}
 use Rattle.dm_finder_frame.specs.declared.framing.TheConstants.{TOP, BOTTOM}
 use Rattle.dm_finder_frame.specs.Frame.{mapping_place, grid_place, grid_module, matrix_module}
 use Rattle.dm_finder_frame.specs.Grids.{GridView, IsWholeGrid, square_of}
-use Rattle.dm_finder_frame.specs.inner.Lines.{first_modules}
+use Rattle.dm_finder_frame.specs.inner.Filled.{first_modules}
 use Rattle.dm_finder_frame.proofs.Begun.{piece_more, in_row, row_length}
 use Rattle.dm_finder_frame.proofs.FramedGrids.{place_within}
 use Rattle.dm_finder_frame.proofs.FramedRows.{inner_piece, top_piece, bottom_piece, matrix_piece}

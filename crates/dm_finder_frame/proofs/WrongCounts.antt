@@ -1,7 +1,8 @@
 -- Counts of wrong modules over a row and then the next.
 use Rattle.std.specs.Prelude.{◌%◌, not}
 use mir.Val.{bool_byte}
-use Rattle.std.proofs.Common.{◌≡◌, ℕ, zero, suc, ◌+◌, ◌-◌, ◌*◌, ◌<◌, ◌≤◌, Bool, false, ◌&&◌, cond, refl, true, ap, sym, ◌∙◌, arith, add-zero, zero-add}
+use Rattle.std.proofs.Common.{◌≡◌, ◌⊎◌, inl, inr, ℕ, zero, suc, ◌+◌, ◌-◌, ◌*◌, ◌<◌, ◌≤◌, Bool, false, ◌&&◌, ◌||◌, eqb, cond, refl, true, ap, sym, ◌∙◌, arith, add-zero, zero-add}
+use Rattle.std.proofs.lemmas.Bool.Decides.{nat_tests}
 use Rattle.std.proofs.lemmas.List.FromFn.{sum_by-map-range_with_len_more}
 use Rattle.std.proofs.Math.Nat.{mul-le-mul_right}
 use Rattle.std.proofs.lemmas.Nat.{div-mul-add, mod-mul-add}
@@ -9,7 +10,7 @@ use Rattle.dm_check_blocks.specs.Sizes.{side, region, across}
 use Rattle.dm_finder_frame.specs.Frame.{is_wrong, is_wrong_at, wrong_module, is_on_frame, frame_value}
 use Rattle.dm_finder_frame.specs.Grids.{GridView, grid_module_at}
 use Rattle.dm_finder_frame.proofs.GridPlaces.{fills_side, inside_no_frame}
-use Rattle.dm_finder_frame.specs.inner.Lines.{wrong_among}
+use Rattle.dm_finder_frame.specs.inner.Filled.{wrong_among}
 
 -- one module more is looked at
 pub one_more : (g : GridView) (first n : ℕ) →
@@ -59,6 +60,68 @@ not_wrong h p k dark low high below =
     ∙ ap (is_on_frame h (p - 1 + 1)) b ∙ inside_no_frame h (p - 1) k (omega arith) below in
     ap (λ x. x && cond dark (not (frame_value h p (1 + k))) (frame_value h p (1 + k))) inside
 
+-- a module of the finder pattern is wrong if it is not what it is to be
+pub wrong_is : (h r c : ℕ) (dark wanted : Bool) → is_on_frame h r c ≡ true → frame_value h r c ≡ wanted
+    → wrong_module h dark r c ≡ cond dark (not wanted) wanted
+wrong_is h r c dark wanted on value =
+    ap (λ x. x && cond dark (not (frame_value h r c)) (frame_value h r c)) on
+    ∙ ap (λ v. cond dark (not v) v) value
+
+-- a module that was compared with what it is to be
+pub differs_is : (x dark at wanted is : Bool) → x ≡ cond dark (not wanted) wanted → dark ≡ at → wanted ≡ is
+    → x ≡ cond at (not is) is
+differs_is x dark at wanted is e d w = e ∙ ap (λ y. cond y (not wanted) wanted) d ∙ ap (λ v. cond at (not v) v) w
+
+-- the first and the last row of a framed region are on its frame, and so are the first and the last column
+pub on_ends : (h p c : ℕ) → (p ≡ 0) ⊎ (p ≡ h + 1) → is_on_frame h p c ≡ true
+on_ends h p c (inl first) = grind (arith, nat_tests, first)
+on_ends h p c (inr last) = grind (arith, nat_tests, last)
+
+pub on_first_column : (h p : ℕ) → is_on_frame h p 0 ≡ true
+on_first_column h p = grind (arith, nat_tests)
+
+pub on_last_column : (h p : ℕ) → is_on_frame h p (h + 1) ≡ true
+on_last_column h p = grind (arith, nat_tests)
+
+-- what a module of the first or the last row is to be
+pub ends_value : (h p c : ℕ) → (p ≡ 0) ⊎ (p ≡ h + 1) → frame_value h p c ≡ (eqb p (h + 1) || eqb (c % 2) 0)
+ends_value h p zero (inl first) = grind (arith, nat_tests, first)
+ends_value h p (suc c) (inl first) = grind (arith, nat_tests, first)
+ends_value h p c (inr last) = grind (arith, nat_tests, last)
+
+-- what a module of the last column is to be, in a row inside of its region
+pub last_column_value : (h p : ℕ) → 1 ≤ p → p ≤ h → frame_value h p (h + 1) ≡ eqb (p % 2) 1
+last_column_value h p low high = grind (arith, nat_tests, low, high)
+
+-- the module of the first column of a region, and that of the last, in a row inside of it
+pub first_column : (g : GridView) (r b h : ℕ) (x dark : Bool) → h ≡ region g.size
+    → dark ≡ grid_module_at g r (b * (h + 2)) → x ≡ cond dark false true → x ≡ is_wrong_at g r (b * (region g.size + 2))
+first_column g r b h x dark same at is =
+    let s = region g.size in
+    let p = r % (s + 2) in
+    let there = grid_module_at g r (b * (s + 2)) in
+    let rest : b * (s + 2) % (s + 2) ≡ 0 =
+    ap (λ i. i % (s + 2)) (sym (add-zero (b * (s + 2)))) ∙ mod-mul-add b (s + 2) 0 (omega arith) in
+    differs_is x dark there true true is (at ∙ ap (λ n. grid_module_at g r (b * (n + 2))) same) refl
+    ∙ sym (wrong_is s p 0 there true (on_first_column s p) refl) ∙ ap (wrong_module s there p) (sym rest)
+
+pub last_column : (g : GridView) (r b h : ℕ) (x dark : Bool) → h ≡ region g.size → 1 ≤ r % (region g.size + 2)
+    → r % (region g.size + 2) ≤ region g.size → dark ≡ grid_module_at g r (b * (h + 2) + (h + 2) - 1)
+    → x ≡ cond dark (not (eqb (r % (h + 2) % 2) 1)) (eqb (r % (h + 2) % 2) 1)
+    → x ≡ is_wrong_at g r (b * (region g.size + 2) + (region g.size + 1))
+last_column g r b h x dark same low high at is =
+    let s = region g.size in
+    let p = r % (s + 2) in
+    let last = b * (s + 2) + (s + 1) in
+    let there = grid_module_at g r last in
+    let one : b * (s + 2) + (s + 2) - 1 ≡ last = omega arith in
+    let rest : last % (s + 2) ≡ s + 1 = mod-mul-add b (s + 2) (s + 1) (omega arith) in
+    differs_is x dark there _ (eqb (p % 2) 1) is
+    (at ∙ ap (λ n. grid_module_at g r (b * (n + 2) + (n + 2) - 1)) same ∙ ap (grid_module_at g r) one)
+    (ap (λ n. eqb (r % (n + 2) % 2) 1) same)
+    ∙ sym (wrong_is s p (s + 1) there _ (on_last_column s p) (last_column_value s p low high))
+    ∙ ap (wrong_module s there p) (sym rest)
+
 -- the modules of one framed region in a row inside of it
 pub region_more : (g : GridView) (r b : ℕ) (x y : Bool) (wrong more : ℕ) → r < side g.size
     → 1 ≤ r % (region g.size + 2) → r % (region g.size + 2) ≤ region g.size → b < across g.size
@@ -101,3 +164,8 @@ region_more g r b x y wrong more row_in low high b_in so_far left right sum =
 pub test_number : (x : Bool) → bool_byte x ≡ cond x 1 0
 test_number true = refl
 test_number false = refl
+
+-- a test counts at most one
+pub at_most_one : (x : Bool) → cond x 1 0 ≤ 1
+at_most_one true = omega arith
+at_most_one false = omega arith

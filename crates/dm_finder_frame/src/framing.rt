@@ -3,7 +3,7 @@
 ghost use Rattle.std.specs.Prelude.{◌≡◌, ◌<◌, ◌≤◌, ◌+◌, ◌*◌, ◌%◌, IfOk, OnOk};
 ghost use Rattle.dm_check_blocks.specs.Sizes.{mapping, region, side};
 ghost use Rattle.dm_finder_frame.specs.Frame.{grid_module, grid_of_matrix};
-ghost use Rattle.dm_finder_frame.specs.inner.Lines.{first_modules};
+ghost use Rattle.dm_finder_frame.specs.inner.Filled.{first_modules};
 
 use crate::grid::Grid;
 use dm_check_blocks::Size;

@@ -12,7 +12,6 @@ mod fault;
 mod framing;
 mod grid;
 pub mod laws;
-mod line;
 mod region;
 mod unframing;
 

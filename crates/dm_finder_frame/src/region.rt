@@ -1,8 +1,8 @@
 //! Places of a symbol within its framed data regions.
 
-ghost use Rattle.std.specs.Prelude.{◌≡◌, ◌<◌, ◌≤◌, IfSome};
+ghost use Rattle.std.specs.Prelude.{◌≡◌, ◌<◌, IfSome};
 ghost use Rattle.dm_check_blocks.specs.Sizes.{mapping, side};
-ghost use Rattle.dm_finder_frame.specs.Frame.{frame_value, mapping_cell};
+ghost use Rattle.dm_finder_frame.specs.Frame.{mapping_cell};
 
 use dm_check_blocks::Size;
 
@@ -25,18 +25,4 @@ pub fn cell_of(size: Size, row: u16, column: u16) -> Option<(u16, u16)>
         row / framed * region + r - 1,
         column / framed * region + c - 1,
     ))
-}
-
-/// Whether the finder pattern is dark at a place of a framed region.
-pub(crate) fn frame_value(region: u16, r: u16, c: u16) -> bool
-    requires { region ≤ 24 }
-    ensures { result ≡ frame_value region r c }
-{
-    if c == 0 || r == region + 1 {
-        true
-    } else if r == 0 {
-        c % 2 == 0
-    } else {
-        r % 2 == 1
-    }
 }

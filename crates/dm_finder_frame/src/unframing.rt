@@ -1,15 +1,13 @@
 //! From the grid to the mapping matrix.
 
-ghost use Rattle.std.specs.Prelude.{◌≡◌, ◌<◌, ◌≤◌, ◌+◌, ◌*◌, ◌%◌, IfOk, OnOk};
+ghost use Rattle.std.specs.Prelude.{◌≡◌, ◌<◌, ◌≤◌, ◌+◌, ◌*◌, ◌%◌, ◌⊎◌, ◌||◌, ◌==◌, IfOk, OnOk, if◌then◌else◌, not};
 ghost use Rattle.dm_check_blocks.specs.Sizes.{mapping, region, side};
-ghost use Rattle.dm_finder_frame.specs.Frame.{is_wrong_at as is_wrong_module, matrix_module, matrix_of_grid, wrong_frame_modules};
-ghost use Rattle.dm_finder_frame.specs.inner.Lines.{AreLines, first_modules, wrong_among};
+ghost use Rattle.dm_finder_frame.specs.Frame.{matrix_module, matrix_of_grid, wrong_frame_modules};
+ghost use Rattle.dm_finder_frame.specs.inner.Filled.{first_modules, wrong_among};
 ghost use Rattle.dm_finder_frame.specs.UnframeOutcome.{Unframes};
 
 use crate::fault::FrameFault;
 use crate::grid::Grid;
-use crate::line::{Lines, lines_of};
-use crate::region::frame_value;
 use dm_check_blocks::Size;
 use dm_placement::Matrix;
 use std::alloc::{AllocError, Allocator, Global};
@@ -25,38 +23,42 @@ pub struct Framed<A: Allocator = Global> {
     pub wrong: u16,
 }
 
-// Whether a module is one of the finder pattern with the wrong value.
-fn is_wrong_at<A: Allocator>(grid: &Grid<A>, lines: &Lines, row: u16, column: u16) -> bool
-    requires lines { AreLines grid.now.size lines.now }
-    requires row_in { row < side grid.now.size }
-    requires column_in { column < side grid.now.size }
-    ensures { result ≡ is_wrong_module grid.now row column }
+// Whether a module is not what it is to be.
+#[inline(always)]
+fn differs(dark: bool, wanted: bool) -> bool
+    ensures { result ≡ (if dark then not wanted else wanted) }
 {
-    let r = lines[row as usize];
-    let c = lines[column as usize];
-    (r.on_frame || c.on_frame)
-        && grid.module(row, column) != frame_value(grid.size().region(), r.place, c.place)
+    if dark { !wanted } else { wanted }
 }
 
-// How many modules of the finder patterns are wrong in a row of a grid.
-fn wrong_in_row<A: Allocator>(grid: &Grid<A>, lines: &Lines, row: u16) -> u16
-    requires lines { AreLines grid.now.size lines.now }
+// Whether a module of the first or the last row of a framed region is to be dark. Framed regions have even sides, so
+// the parity of a column in its region is its parity in the grid.
+#[inline(always)]
+fn is_dark_at_end(is_last: bool, column: u16) -> bool
+    ensures { result ≡ (is_last || (column % 2 == 0)) }
+{
+    is_last || column % 2 == 0
+}
+
+// How many modules of the finder patterns are wrong in the first or the last row of framed regions.
+fn wrong_in_row<A: Allocator>(grid: &Grid<A>, row: u16) -> u16
     requires row_in { row < side grid.now.size }
+    requires at_end { let h = region grid.now.size in (row % (h + 2) ≡ 0) ⊎ (row % (h + 2) ≡ h + 1) }
     ensures count { result ≡ wrong_among grid.now (row * side grid.now.size) (side grid.now.size) }
     ensures most { result ≤ side grid.now.size }
 {
+    let framed = grid.size().region() + 2;
+    let is_last = row % framed == framed - 1;
     let mut wrong = 0;
     for column in 0..grid.side() {
-        if is_wrong_at(grid, lines, row, column) {
-            wrong += 1;
-        }
+        let wanted = is_dark_at_end(is_last, column);
+        wrong += u16::from(differs(grid.module(row, column), wanted));
     }
     wrong
 }
 
 // The same of a row inside of its framed regions, where only the first and the last column of each region can be wrong.
-fn wrong_at_sides<A: Allocator>(grid: &Grid<A>, lines: &Lines, row: u16) -> u16
-    requires lines { AreLines grid.now.size lines.now }
+fn wrong_at_sides<A: Allocator>(grid: &Grid<A>, row: u16) -> u16
     requires row_in { row < side grid.now.size }
     requires inside { let h = region grid.now.size in (1 ≤ row % (h + 2)) × (row % (h + 2) ≤ h) }
     ensures count { result ≡ wrong_among grid.now (row * side grid.now.size) (side grid.now.size) }
@@ -64,18 +66,18 @@ fn wrong_at_sides<A: Allocator>(grid: &Grid<A>, lines: &Lines, row: u16) -> u16
 {
     let size = grid.size();
     let framed = size.region() + 2;
+    let is_odd = row % framed % 2 == 1;
     let mut wrong = 0;
     for b in 0..size.across() {
-        let left = is_wrong_at(grid, lines, row, b * framed);
-        let right = is_wrong_at(grid, lines, row, b * framed + framed - 1);
+        let left = differs(grid.module(row, b * framed), true);
+        let right = differs(grid.module(row, b * framed + framed - 1), is_odd);
         wrong += u16::from(left) + u16::from(right);
     }
     wrong
 }
 
 // The same of any row.
-fn wrong_of_row<A: Allocator>(grid: &Grid<A>, lines: &Lines, row: u16) -> u16
-    requires lines { AreLines grid.now.size lines.now }
+fn wrong_of_row<A: Allocator>(grid: &Grid<A>, row: u16) -> u16
     requires row_in { row < side grid.now.size }
     ensures count { result ≡ wrong_among grid.now (row * side grid.now.size) (side grid.now.size) }
     ensures most { result ≤ side grid.now.size }
@@ -83,9 +85,9 @@ fn wrong_of_row<A: Allocator>(grid: &Grid<A>, lines: &Lines, row: u16) -> u16
     let region = grid.size().region();
     let place = row % (region + 2);
     if place == 0 || place > region {
-        wrong_in_row(grid, lines, row)
+        wrong_in_row(grid, row)
     } else {
-        wrong_at_sides(grid, lines, row)
+        wrong_at_sides(grid, row)
     }
 }
 
@@ -93,10 +95,9 @@ fn wrong_of_row<A: Allocator>(grid: &Grid<A>, lines: &Lines, row: u16) -> u16
 fn wrong_count<A: Allocator>(grid: &Grid<A>) -> u16
     ensures { result ≡ wrong_frame_modules grid.now }
 {
-    let lines = lines_of(grid.size());
     let mut wrong = 0;
     for row in 0..grid.side() {
-        wrong += wrong_of_row(grid, &lines, row);
+        wrong += wrong_of_row(grid, row);
     }
     wrong
 }

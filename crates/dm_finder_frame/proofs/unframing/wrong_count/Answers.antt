@@ -1,7 +1,7 @@
 use Rattle.std.proofs.Common.{◌≡◌, ◌+◌, ◌*◌, ap, ◌∙◌, arith, ℕ}
 use Rattle.dm_check_blocks.specs.Sizes.{side}
 use Rattle.dm_finder_frame.specs.Frame.{wrong_frame_modules}
-use Rattle.dm_finder_frame.specs.inner.Lines.{wrong_among}
+use Rattle.dm_finder_frame.specs.inner.Filled.{wrong_among}
 use Rattle.dm_finder_frame.proofs.WrongCounts.{joined}
 use Rattle.dm_finder_frame.proofs.unframing.wrong_count.Goals as goal
 
