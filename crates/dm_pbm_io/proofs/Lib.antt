@@ -11,3 +11,4 @@ pub mod QuietZone
 pub mod Insides
 pub mod Shapes
 pub mod TakenBack
+pub mod Eight

@@ -13,7 +13,7 @@ use crate::fault::HeaderFault;
 use crate::limits::HEADER_BYTES;
 use crate::source::{ByteSource, next_byte};
 
-/// What every width and height above the greatest is read as.
+// What every width and height above the greatest is read as.
 const ABOVE_SIDES: u16 = 1025;
 
 /// How far the reader is in the text after the magic number; with the numbers that it has read.
@@ -45,7 +45,7 @@ pub(crate) fn is_hidden(inside: bool, byte: u8) -> bool
     }
 }
 
-/// The number with one more digit. Above the greatest side it stays.
+// The number with one more digit. Above the greatest side it stays.
 fn with_digit(number: u16, digit: u8) -> u16
     requires number { number ≤ 1025 }
     requires digit { IsTrue (is_ascii_digit digit) }

@@ -28,7 +28,7 @@ pub struct Image<A: Allocator = Global> {
     pub plain: bool,
 }
 
-/// Whether the two bytes begin an image of a plain raster.
+// Whether the two bytes begin an image of a plain raster.
 fn magic_of(first: u8, second: u8) -> Option<bool>
     ensures { MatchOption result (IsNoMagic first second) (λ plain. first ∷ second ∷ [] ≡ magic plain) }
 {
@@ -42,7 +42,7 @@ fn magic_of(first: u8, second: u8) -> Option<bool>
     }
 }
 
-/// Whether an image of a plain raster begins, or `None` at the end of the input.
+// Whether an image of a plain raster begins, or `None` at the end of the input.
 fn read_magic<M, S: ByteSource<M>>(source: &mut S) -> Result<Option<bool>, PbmFault>
     ensures { MatchResult result
         (λ found. MatchOption found (FindsEnd (S.view source.old) (S.view source.new))
@@ -62,7 +62,7 @@ fn read_magic<M, S: ByteSource<M>>(source: &mut S) -> Result<Option<bool>, PbmFa
     }
 }
 
-/// The pixels of an image, for which there is room.
+// The pixels of an image, for which there is room.
 fn read_raster<M, S: ByteSource<M>, A: Allocator>(
     source: &mut S,
     pixels: &mut Vec<bool, A>,
@@ -88,7 +88,7 @@ fn read_raster<M, S: ByteSource<M>, A: Allocator>(
     }
 }
 
-/// The image after its magic number.
+// The image after its magic number.
 fn read_after_magic<M, S: ByteSource<M>, A: Allocator + Copy>(
     alloc: A,
     source: &mut S,
@@ -117,7 +117,7 @@ fn read_after_magic<M, S: ByteSource<M>, A: Allocator + Copy>(
     })
 }
 
-/// The next image of a source, or `None` at its end. No byte after the image is taken.
+// The next image of a source, or `None` at its end. No byte after the image is taken.
 fn read_from<M, S: ByteSource<M>, A: Allocator + Copy>(
     alloc: A,
     source: &mut S,

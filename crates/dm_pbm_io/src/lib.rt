@@ -1,10 +1,10 @@
 //! Images of symbols in Netpbm's PBM: packed (`P4`) and plain (`P1`).
 //!
-//! [`Image::read`] reads one image from an [`Input`](relay_streams::Input), one byte at a time and no byte past it, so
-//! that several images may follow one another; [`Image::write`] writes one to an [`Output`](relay_streams::Output),
-//! row by row. [`read_image`] and [`write_image`] do the same over any reader and writer. [`image_of`] draws a grid
-//! inside its quiet zone, [`grid_of`] takes the grid out of an image. Where this project is more lenient than Netpbm's
-//! manual pages, the definitions in `specs/` say so.
+//! [`Image::read`] reads one image from an [`Input`](relay_streams::Input), a packed raster row by row and all else one
+//! byte at a time, and no byte past it, so that several images may follow one another; [`Image::write`] writes one to
+//! an [`Output`](relay_streams::Output), row by row. [`read_image`] and [`write_image`] do the same over any reader and
+//! writer. [`image_of`] draws a grid inside its quiet zone, [`grid_of`] takes the grid out of an image. Where this
+//! project is more lenient than Netpbm's manual pages, the definitions in `specs/` say so.
 //!
 //! Proved: the bytes taken spell the image that was read, and no other; each refusal comes exactly where the
 //! definitions put it; what is written is the definition's text, and reads back as the image; `Image::read` answers

@@ -1,7 +1,7 @@
 //! The rasters of packed and plain images.
 
-ghost use Rattle.std.specs.Prelude.{◌≡◌, ℕ, ◌+◌, ◌*◌, ◌<◌, ◌≤◌, List, [], ◌∷◌, ◌++◌, length, take, vec_len, vec_capacity, MatchResult, MatchOption, false};
-ghost use Rattle.dm_pbm_io.specs.Raster.{bits, stride, row_of, digit_of, is_pixel_digit, IsPackedRaster, IsPlainRaster};
+ghost use Rattle.std.specs.Prelude.{◌≡◌, ℕ, ◌+◌, ◌*◌, ◌<◌, ◌≤◌, List, [], ◌∷◌, ◌++◌, length, replicate, vec_len, vec_capacity, MatchResult, MatchOption, false};
+ghost use Rattle.dm_pbm_io.specs.Raster.{stride, row_of, digit_of, is_pixel_digit, IsPackedRaster, IsPlainRaster};
 ghost use Rattle.dm_pbm_io.specs.Stops.{HasNoByte, StopsInPlain, StopsInPacked};
 ghost use Rattle.dm_pbm_io.specs.inner.Narrow.{byte_fault, raster_fault};
 ghost use Rattle.dm_pbm_io.specs.inner.Streaming.{Takes, TakesUntil};
@@ -9,11 +9,11 @@ ghost use Rattle.dm_pbm_io.specs.inner.Streaming.{Takes, TakesUntil};
 use crate::fault::{ByteFault, RasterFault};
 use crate::header::{is_hidden, is_white};
 use crate::limits::{GREATEST_SIDE, PLAIN_BYTES};
-use crate::source::{ByteSource, next_byte};
+use crate::source::{ByteSource, next_byte, next_row};
 use dm_placement::bits_of;
 use std::alloc::Allocator;
 
-/// Adds a pixel, for which there is room.
+// Adds a pixel, for which there is room.
 fn push_pixel<A: Allocator>(pixels: &mut Vec<bool, A>, pixel: bool)
     requires { vec_len pixels.old < vec_capacity pixels.old }
     ensures items { pixels.new.items ≡ pixels.old.items ++ pixel ∷ [] }
@@ -26,37 +26,7 @@ fn push_pixel<A: Allocator>(pixels: &mut Vec<bool, A>, pixel: bool)
     }
 }
 
-/// Adds pixels, for which there is room.
-#[inline(always)]
-fn push_pixels<A: Allocator>(pixels: &mut Vec<bool, A>, more: &[bool])
-    requires { vec_len pixels.old + length more.now ≤ vec_capacity pixels.old }
-    ensures items { pixels.new.items ≡ pixels.old.items ++ more.now }
-    ensures len { vec_len pixels.new ≡ vec_len pixels.old + length more.now }
-    ensures capacity { vec_capacity pixels.old ≤ vec_capacity pixels.new }
-{
-    match pixels.extend_from_slice(more) {
-        Ok(()) => {}
-        Err(_) => unreachable!(),
-    }
-}
-
-/// Adds the first `count` pixels of a byte, the most significant bit first.
-fn push_bits<A: Allocator>(pixels: &mut Vec<bool, A>, byte: u8, count: usize)
-    requires count { count ≤ 8 }
-    requires room { vec_len pixels.old + count ≤ vec_capacity pixels.old }
-    ensures items { pixels.new.items ≡ pixels.old.items ++ take count (bits byte) }
-    ensures len { vec_len pixels.new ≡ vec_len pixels.old + count }
-    ensures capacity { vec_capacity pixels.old ≤ vec_capacity pixels.new }
-{
-    let bits = bits_of(byte);
-    if count == 8 {
-        push_pixels(pixels, &bits);
-    } else {
-        push_pixels(pixels, &bits[..count]);
-    }
-}
-
-/// The pixel that a digit stands for.
+// The pixel that a digit stands for.
 fn pixel_of(sign: u8) -> Option<bool>
     ensures { MatchOption result (is_pixel_digit sign ≡ false) (λ pixel. sign ≡ digit_of pixel) }
 {
@@ -103,7 +73,50 @@ pub(crate) fn read_plain<M, S: ByteSource<M>, A: Allocator>(
     Err(RasterFault::TooLarge)
 }
 
-/// One row of a packed raster.
+// Draws the pixels of the bytes of a row.
+fn draw_row(pixels: &mut [bool], row: &[u8])
+    requires { length row.now ≡ stride (length pixels.old) }
+    ensures { pixels.new ≡ row_of (length pixels.old) row.now }
+{
+    let whole = pixels.len() / 8;
+    for at in 0..whole {
+        pixels[8 * at..8 * at + 8].copy_from_slice(&bits_of(row[at]));
+    }
+    let rest = pixels.len() % 8;
+    if rest != 0 {
+        let bits = bits_of(row[whole]);
+        pixels[8 * whole..].copy_from_slice(&bits[..rest]);
+    }
+}
+
+// Adds light pixels, for which there is room.
+fn push_light<A: Allocator>(pixels: &mut Vec<bool, A>, count: usize)
+    requires { vec_len pixels.old + count ≤ vec_capacity pixels.old }
+    ensures items { pixels.new.items ≡ pixels.old.items ++ replicate count false }
+    ensures capacity { vec_capacity pixels.old ≤ vec_capacity pixels.new }
+{
+    match pixels.resize(pixels.len() + count, false) {
+        Ok(()) => {}
+        Err(_) => unreachable!(),
+    }
+}
+
+// Adds the pixels of the bytes of a row, for which there is room.
+fn push_row<A: Allocator>(pixels: &mut Vec<bool, A>, row: &[u8], width: usize)
+    requires bytes { length row.now ≡ stride width }
+    requires room { vec_len pixels.old + width ≤ vec_capacity pixels.old }
+    ensures items { pixels.new.items ≡ pixels.old.items ++ row_of width row.now }
+    ensures capacity { vec_capacity pixels.old ≤ vec_capacity pixels.new }
+{
+    let start = pixels.len();
+    push_light(pixels, width);
+    draw_row(&mut pixels[start..], row);
+}
+
+// The most bytes of a row of a packed raster.
+const ROW_BYTES: usize = 128;
+
+// One row of a packed raster.
 fn read_packed_row<M, S: ByteSource<M>, A: Allocator>(
     source: &mut S,
     pixels: &mut Vec<bool, A>,
@@ -118,10 +131,10 @@ fn read_packed_row<M, S: ByteSource<M>, A: Allocator>(
         × (length part < stride width) × HasNoByte (S.view source.new).remaining (byte_fault fault)) }
     ensures capacity { vec_capacity pixels.old ≤ vec_capacity pixels.new }
 {
-    for at in 0..width.div_ceil(8) {
-        let byte = next_byte(source)?;
-        push_bits(pixels, byte, (width - 8 * at).min(8));
-    }
+    let mut bytes = [0u8; ROW_BYTES];
+    let row = &mut bytes[..width.div_ceil(8)];
+    next_row(source, row)?;
+    push_row(pixels, row, width);
     Ok(())
 }
 

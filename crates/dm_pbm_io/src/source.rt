@@ -1,14 +1,14 @@
 //! Where the bytes of an image come from: a reader that remembers whether it has failed, or any reader.
 
-ghost use Rattle.std.specs.Prelude.{◌≡◌, [], ◌∷◌, true, IfOk, OnErr, MatchResult};
+ghost use Rattle.std.specs.Prelude.{◌≡◌, ◌<◌, List, ℕ, [], ◌∷◌, true, length, IfOk, OnErr, MatchResult};
 ghost use Rattle.std.specs.Io.KnownBytes.{Keeps};
-ghost use Rattle.relay_streams.specs.Streams.{InputView};
+ghost use Rattle.relay_streams.specs.Streams.{InputView, TakesFewer};
 ghost use Rattle.dm_pbm_io.specs.Stops.{HasNoByte};
 ghost use Rattle.dm_pbm_io.specs.inner.Narrow.{byte_fault};
-ghost use Rattle.dm_pbm_io.specs.inner.Streaming.{Takes, TakesNext, TakesUntil};
+ghost use Rattle.dm_pbm_io.specs.inner.Streaming.{Takes, TakesFront, TakesNext, TakesUntil};
 
 use crate::fault::ByteFault;
-use relay_streams::{Input, ReadFault, next_byte_of};
+use relay_streams::{Input, ReadFault, fill_from, next_byte_of};
 use std::io::Read;
 
 /// Marks the source that remembers whether a read has failed.
@@ -26,6 +26,13 @@ pub(crate) trait ByteSource<M> {
         ensures taken { IfOk result (TakesNext (view self.old) (view self.new)) }
         ensures failed { OnErr result ((view self.new).has_failed ≡ true) }
         ensures none_taken { OnErr result (Keeps (view self.old).remaining (view self.new).remaining) };
+
+    /// Fills the buffer, and gives the number of bytes that it got: fewer than there is room for only at the end.
+    fn fill_buffer(&mut self, buffer: &mut [u8]) -> Result<usize, ReadFault>
+        ensures taken { IfOk result (TakesFront (view self.old) (view self.new) buffer.new) }
+        ensures failed { OnErr result ((view self.new).has_failed ≡ true) }
+        ensures part { OnErr result
+            (TakesFewer (view self.old).remaining (view self.new).remaining (length buffer.new)) };
 }
 
 impl<R: Read> ByteSource<Remembering> for Input<R> {
@@ -34,6 +41,10 @@ impl<R: Read> ByteSource<Remembering> for Input<R> {
     fn next(&mut self) -> Result<Option<u8>, ReadFault> {
         self.next_byte()
     }
+
+    fn fill_buffer(&mut self, buffer: &mut [u8]) -> Result<usize, ReadFault> {
+        self.fill(buffer)
+    }
 }
 
 impl<R: Read> ByteSource<Bare> for R {
@@ -41,6 +52,10 @@ impl<R: Read> ByteSource<Bare> for R {
 
     fn next(&mut self) -> Result<Option<u8>, ReadFault> {
         next_byte_of(self)
+    }
+
+    fn fill_buffer(&mut self, buffer: &mut [u8]) -> Result<usize, ReadFault> {
+        fill_from(self, buffer)
     }
 }
 
@@ -67,5 +82,19 @@ pub(crate) fn next_byte<M, S: ByteSource<M>>(source: &mut S) -> Result<u8, ByteF
     match read_byte(source)? {
         Some(byte) => Ok(byte),
         None => Err(ByteFault::Cut),
+    }
+}
+
+/// Fills a row with the next bytes. The image needs all of them.
+pub(crate) fn next_row<M, S: ByteSource<M>>(source: &mut S, row: &mut [u8]) -> Result<(), ByteFault>
+    ensures { MatchResult result
+        (λ _. Takes (S.view source.old) (S.view source.new) row.new)
+        (λ fault. (part : List ℕ) × TakesUntil (S.view source.old) (S.view source.new) part (byte_fault fault)
+        × (length part < length row.new) × HasNoByte (S.view source.new).remaining (byte_fault fault)) }
+{
+    match source.fill_buffer(row) {
+        Ok(count) if count < row.len() => Err(ByteFault::Cut),
+        Ok(_) => Ok(()),
+        Err(ReadFault::Read) => Err(ByteFault::Read),
     }
 }

@@ -1,5 +1,5 @@
 -- What contracts see of a reader and of a writer: the bytes, where they are known, and whether it has failed.
-use Rattle.std.specs.Prelude.{◌≡◌, ◌≤◌, ℕ, Bool, true, List, [], ◌∷◌, ◌++◌, length, take, Option, IfSome, MatchOption, Result, Err}
+use Rattle.std.specs.Prelude.{◌≡◌, ◌<◌, ◌≤◌, ℕ, Bool, true, List, [], ◌∷◌, ◌++◌, length, take, Option, IfSome, MatchOption, Result, Err}
 use Rattle.std.specs.Io.KnownBytes.{Keeps, Consumes, Appends, IsAtEnd}
 use Rattle.relay_streams.specs.declared.fault.WriteFault.{WriteFault}
 use Rattle.relay_streams.specs.declared.fault.WriteFault.TheVariants as write_faults
@@ -28,6 +28,16 @@ pub record TakesFirst (old new : Option (List ℕ)) (limit : ℕ) (bytes : List 
 -- some of the bytes that were left, at most `limit`, are taken
 abbrev pub TakesPart : Option (List ℕ) → Option (List ℕ) → ℕ → Type 0
 TakesPart old new limit = (part : List ℕ) × Consumes old new part × (length part ≤ limit)
+
+-- the first `count` bytes of a buffer, and no other, are taken: as many as it has room for, or all that were left
+pub record Fills (old new : Option (List ℕ)) (buffer : List ℕ) (count : ℕ) : Type 0 where
+  pub bound : count ≤ length buffer
+  pub consumed : Consumes old new (take count buffer)
+  pub ended : count < length buffer → IsAtEnd new
+
+-- a first part of the bytes that were left, perhaps none, was taken, fewer than there was room for
+abbrev pub TakesFewer : Option (List ℕ) → Option (List ℕ) → ℕ → Type 0
+TakesFewer old new room = (part : List ℕ) × Consumes old new part × (length part < room)
 
 -- a text begins with this part, which may be nothing or the whole
 abbrev pub IsFirstPart : List ℕ → List ℕ → Type 0

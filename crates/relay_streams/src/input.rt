@@ -1,10 +1,10 @@
 //! Readers that remember whether a read has failed.
 
 ghost use Rattle.std.specs.IoError.{error_kind};
-ghost use Rattle.std.specs.Prelude.{◌≢◌, IfOk, IfErr, OnErr};
+ghost use Rattle.std.specs.Prelude.{◌≢◌, length, IfOk, IfErr, OnErr};
 ghost use Rattle.std.specs.Io.{ReadsAtMost};
 ghost use Rattle.std.specs.Io.KnownBytes.{Keeps, ReadConsumes};
-ghost use Rattle.relay_streams.specs.Streams.{GivesNext, TakesFirst, TakesPart};
+ghost use Rattle.relay_streams.specs.Streams.{Fills, GivesNext, TakesFewer, TakesFirst, TakesPart};
 
 use crate::fault::{InputFault, ReadFault};
 use std::alloc::Allocator;
@@ -27,8 +27,8 @@ impl<R: Read> Model for Input<R> {
     ghost view = { λ input. record { remaining = R.remaining input.reader; has_failed = input.failed } };
 }
 
-/// Reads some bytes, at least one where there is room for one and the input has not ended. A read that a signal
-/// interrupts is made again, so its error is never handed on.
+// Reads some bytes, at least one where there is room for one and the input has not ended. A read that a signal
+// interrupts is made again, so its error is never handed on.
 fn read_some<R: Read>(reader: &mut R, buffer: &mut [u8]) -> io::Result<usize>
     ensures bound { ReadsAtMost result buffer.new }
     ensures bytes { ReadConsumes (R.remaining reader.old) (R.remaining reader.new) result buffer.new }
@@ -47,7 +47,7 @@ fn read_some<R: Read>(reader: &mut R, buffer: &mut [u8]) -> io::Result<usize>
     Err(Error::from(ErrorKind::Other))
 }
 
-/// Reads some bytes, with this crate's fault.
+// Reads some bytes, with this crate's fault.
 fn read_piece<R: Read>(reader: &mut R, buffer: &mut [u8]) -> Result<usize, ReadFault>
     ensures bound { ReadsAtMost result buffer.new }
     ensures bytes { ReadConsumes (R.remaining reader.old) (R.remaining reader.new) result buffer.new }
@@ -74,10 +74,31 @@ pub fn next_byte_of<R: Read>(reader: &mut R) -> Result<Option<u8>, ReadFault>
     Ok(Some(one[0]))
 }
 
-/// The most bytes that one read asks for.
+/// Fills the buffer from any reader, and gives the number of bytes that it got: fewer than there is room for only at
+/// the end. It takes no byte for which there is no room. A read that a signal interrupts is made again. Of a bare
+/// reader no contract says that a read has failed: [`Input::fill`] says it.
+///
+/// # Errors
+/// `Read` where the reader has failed. The bytes that were taken until then are lost.
+pub fn fill_from<R: Read>(reader: &mut R, buffer: &mut [u8]) -> Result<usize, ReadFault>
+    ensures filled { IfOk result (Fills (R.remaining reader.old) (R.remaining reader.new) buffer.new) }
+    ensures part { OnErr result (TakesFewer (R.remaining reader.old) (R.remaining reader.new) (length buffer.new)) }
+{
+    let mut filled = 0;
+    while filled < buffer.len() {
+        let count = read_piece(reader, &mut buffer[filled..])?;
+        if count == 0 {
+            return Ok(filled);
+        }
+        filled += count;
+    }
+    Ok(filled)
+}
+
+// The most bytes that one read asks for.
 const PIECE: usize = 1024;
 
-/// The first `limit` bytes that a reader has left, or all where they are fewer.
+// The first `limit` bytes that a reader has left, or all where they are fewer.
 fn read_first<R: Read, A: Allocator>(
     reader: &mut R,
     alloc: A,
@@ -104,9 +125,9 @@ fn read_first<R: Read, A: Allocator>(
 }
 
 impl<R: Read> Input<R> {
-    ghost use Rattle.std.specs.Prelude.{◌≡◌, ◌⊎◌, true, false, IfOk, OnOk, OnErr, IsErrOf};
+    ghost use Rattle.std.specs.Prelude.{◌≡◌, ◌⊎◌, true, false, length, IfOk, OnOk, OnErr, IsErrOf};
     ghost use Rattle.std.specs.Io.KnownBytes.{Keeps};
-    ghost use Rattle.relay_streams.specs.Streams.{GivesNext, TakesFirst, TakesPart};
+    ghost use Rattle.relay_streams.specs.Streams.{Fills, GivesNext, TakesFewer, TakesFirst, TakesPart};
 
     /// The reader, of which no read has failed.
     pub fn new(reader: R) -> Self
@@ -149,6 +170,24 @@ impl<R: Read> Input<R> {
             self.failed = true;
         }
         next
+    }
+
+    /// Fills the buffer, and gives the number of bytes that it got: fewer than there is room for only at the end. It
+    /// takes no byte for which there is no room. A read that a signal interrupts is made again.
+    ///
+    /// # Errors
+    /// `Read` where the reader failed. The bytes that were taken until then are lost.
+    pub fn fill(&mut self, buffer: &mut [u8]) -> Result<usize, ReadFault>
+        ensures filled { IfOk result (Fills self.old.remaining self.new.remaining buffer.new) }
+        ensures kept { OnOk result (self.new.has_failed ≡ self.old.has_failed) }
+        ensures failed { OnErr result (self.new.has_failed ≡ true) }
+        ensures part { OnErr result (TakesFewer self.old.remaining self.new.remaining (length buffer.new)) }
+    {
+        let filled = fill_from(&mut self.reader, buffer);
+        if filled.is_err() {
+            self.failed = true;
+        }
+        filled
     }
 
     /// The first `limit` bytes that are left, or all where they are fewer. A read that a signal interrupts is made

@@ -24,8 +24,8 @@ impl<W: Write> Model for Output<W> {
     ghost view = { λ output. record { contents = W.contents output.writer; has_failed = output.failed } };
 }
 
-/// Writes some bytes of a text, at least one if it has any. A write that a signal interrupts is made again, and one that
-/// takes no byte has failed.
+// Writes some bytes of a text, at least one if it has any. A write that a signal interrupts is made again, and one that
+// takes no byte has failed.
 fn write_some<W: Write>(writer: &mut W, text: &[u8]) -> Result<usize, WriteFault>
     ensures bound { WritesAtMost result text.now }
     ensures some { IfOk result (λ count. 0 < count) }

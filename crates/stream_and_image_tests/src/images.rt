@@ -10,7 +10,7 @@ use std::io::Read;
 use std::test::Fail;
 use test_helpers::{FailingReader, FailingWriter, InterruptedReader};
 
-/// The fault of an input, and whether its reader has failed.
+// The fault of an input, and whether its reader has failed.
 fn fault_of<R: Read + Drop>(alloc: Global, reader: R) -> (Option<PbmFault>, bool) {
     let mut input = Input::new(reader);
     (Image::read(alloc, &mut input).err(), input.has_failed())

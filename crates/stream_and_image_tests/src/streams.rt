@@ -47,6 +47,17 @@ fn the_first_bytes_are_read(rt: HostRuntime) -> Result<(), Fail> {
     Ok(())
 }
 
+#[test]
+fn a_buffer_is_filled(rt: HostRuntime) {
+    let mut buffer = [0u8; 2];
+    let mut input = Input::new(TEXT);
+    assert!(rt; input.fill(&mut buffer) == Ok(2) && buffer == *b"re");
+    assert!(rt; input.fill(&mut buffer) == Ok(2) && buffer == *b"la");
+    assert!(rt; input.fill(&mut buffer) == Ok(1) && input.fill(&mut buffer) == Ok(0));
+    let mut failing = Input::new(FailingReader::new(TEXT, 1));
+    assert!(rt; failing.fill(&mut buffer) == Err(ReadFault::Read) && failing.has_failed());
+}
+
 // The writer takes bytes again after it has failed: none comes.
 #[test]
 fn a_failed_write_is_remembered(rt: HostRuntime) {

@@ -1,7 +1,7 @@
 -- What a call does to a source of bytes and to a taker of bytes, and to the memory that one of them has of its failure.
 use Rattle.std.specs.Prelude.{◌≡◌, ◌≢◌, ℕ, true, List, [], ◌∷◌, Option, MatchOption}
 use Rattle.std.specs.Io.KnownBytes.{Appends, Consumes, IsAtEnd, Keeps}
-use Rattle.relay_streams.specs.Streams.{InputView, OutputView}
+use Rattle.relay_streams.specs.Streams.{Fills, InputView, OutputView}
 use Rattle.dm_pbm_io.specs.declared.fault.PbmFault.{PbmFault}
 use Rattle.dm_pbm_io.specs.declared.fault.PbmFault.TheVariants.{Read}
 
@@ -19,6 +19,11 @@ pub record FindsEnd (old new : InputView) : Type 0 where
 -- the next byte or the end
 abbrev pub TakesNext : InputView → InputView → Option ℕ → Type 0
 TakesNext old new found = MatchOption found (FindsEnd old new) (λ byte. Takes old new (byte ∷ []))
+
+-- the first `count` bytes of the buffer were taken, and whether a read has failed stays as it was
+pub record TakesFront (old new : InputView) (buffer : List ℕ) (count : ℕ) : Type 0 where
+  pub filled : Fills old.remaining new.remaining buffer count
+  pub kept : new.has_failed ≡ old.has_failed
 
 -- a read has failed where the fault is `Read`, and else none
 pub record Remembers (old new : InputView) (fault : PbmFault) : Type 0 where
