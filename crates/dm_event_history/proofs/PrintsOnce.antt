@@ -1,13 +1,16 @@
 -- A legal history prints no identification twice: said of its events and replies alone.
-use Rattle.std.proofs.Common.{◌≡◌, inl, inr, ℕ, Option, Some, List, [], ◌∷◌, length, slice_get, refl, ap, sym, ◌∙◌, subst, arith}
+use Rattle.std.proofs.Common.{◌≡◌, ◌<◌, inl, inr, ℕ, false, Option, Some, List, [], ◌∷◌, length, slice_get, refl, ap, sym, ◌∙◌, subst, arith}
 use Rattle.dm_print_ledger.specs.declared.range.Range.{Range}
+use Rattle.dm_event_history.specs.declared.event.Event.{Event}
 use Rattle.dm_event_history.specs.declared.reply.Reply.TheVariants.{Printed}
-use Rattle.dm_event_history.specs.Actors.{DeskAt}
+use Rattle.dm_event_history.specs.Actors.{DeskAt, actor_of}
 use Rattle.dm_event_history.specs.History.{Entry, History, events_of, replies_of}
+use Rattle.dm_event_history.specs.Running.{is_failed}
 use Rattle.dm_event_history.specs.Legal.{IsLegal, Fits, NeverTwice}
+use Rattle.dm_event_history.specs.Replying.{has_failed_before}
 use Rattle.dm_event_history.specs.Headline.{Batch, LeftBy, labels_of, AllLeft, PrintsOnceBy}
 use Rattle.dm_event_history.proofs.Batches.{all_of, count_all, batch_of, batches_of, events_count, replies_count, batches_count, before_or_last, take_keeps, batch_means, out_is, left_more, last_prints, told_is, unused_is_none, last_batch, whole_before}
-use Rattle.dm_event_history.proofs.Replied.{actor_within, are_replies}
+use Rattle.dm_event_history.proofs.Replied.{actor_within, failed_before, failed_at_last, saved_unfailed, are_replies}
 use Rattle.dm_event_history.proofs.ScannedLabels.{there_had_left, not_there_had_not}
 use Rattle.dm_event_history.proofs.Gotten.{get_more, get_beyond}
 
@@ -21,9 +24,11 @@ once_first {A} = record {
     no_such = λ i event asked answered there alone. absurd (cc (asked));
     down = λ i event reply asked answered is_such. absurd (cc (asked));
     failed = λ i event reply asked answered tells. absurd (cc (asked));
+    fails = λ i event reply asked answered failed. absurd (cc (asked));
   };
   told = λ i id first count is. absurd (cc (is));
   printed = λ i batch is. absurd (cc (is));
+  unfailed = λ i batch event is asked. absurd (cc (is));
   once = λ i j one other a b same. absurd (cc (a));
   there = λ i desk label flips stop reply a b such. absurd (cc (a));
   not_there = λ i desk label flips stop a b desk_there small. absurd (cc (a));
@@ -39,6 +44,7 @@ once_next {A} ranges desks h e legal never f = record {
   replied = are_replies ranges desks (e ∷ h) legal;
   told = tells;
   printed = prints;
+  unfailed = runs;
   once = one;
   there = λ i desk label flips stop reply. there_had_left ranges desks (e ∷ h) i desk label flips stop reply legal;
   not_there = λ i desk label flips stop asked answered there small.
@@ -88,6 +94,32 @@ once_next {A} ranges desks h e legal never f = record {
               subst (λ (k : ℕ). LeftBy (events_of (e ∷ h)) (replies_of (e ∷ h)) k batch) (sym last.0)
               (subst (λ (b : Batch). LeftBy (events_of (e ∷ h)) (replies_of (e ∷ h)) (length h) b) t.1
               (last_prints ranges desks h e fits t.0)))
+        ]
+
+    -- labels left by the last entry, so it saved
+    last_runs : 0 < e.left → is_failed h (actor_of e.event) ≡ false
+    last_runs some = saved_unfailed ranges desks h e fits (fits.left_saved some)
+
+    runs : (i : ℕ) (batch : Batch) (event : Event A) → slice_get (batches_of (e ∷ h)) i ≡ Some (Some batch) →
+        slice_get (events_of (e ∷ h)) i ≡ Some event →
+        has_failed_before (events_of (e ∷ h)) (replies_of (e ∷ h)) i (actor_of event) ≡ false
+    runs i batch event is asked =
+        let all = batches_count h in
+        let each = events_count h in
+        elim (before_or_last (batches_of h) (batch_of e) (Some batch) (length h) i (batches_count h) is) [
+          | inl before ↦
+              (let below = get_beyond (batches_of h) i (Some batch) before in
+              elim (before_or_last (events_of h) e.event event (length h) i (events_count h) asked) [
+                | inl first ↦ failed_before h e i (actor_of event) (omega arith) ∙ f.unfailed i batch event before first
+                | inr last ↦ absurd (let at = last.0 in omega arith)
+              ])
+          | inr here ↦ elim (before_or_last (events_of h) e.event event (length h) i (events_count h) asked) [
+            | inl first ↦ absurd (let below = get_beyond (events_of h) i event first in let at = here.0 in omega arith)
+            | inr last ↦ subst (λ (k : ℕ). has_failed_before (events_of (e ∷ h)) (replies_of (e ∷ h)) k
+                (actor_of event) ≡ false) (sym last.0)
+                (failed_at_last h e (actor_of event) ∙ ap (λ (v : Event A). is_failed h (actor_of v)) (sym last.1) ∙
+                last_runs (batch_means e batch here.1).0)
+          ]
         ]
 
     new : (i : ℕ) (was now : Batch) → slice_get (batches_of h) i ≡ Some (Some was) → batch_of e ≡ Some now →

@@ -12,18 +12,21 @@ use Rattle.dm_append_label.proofs.CutParts.{each_cut_is}
 use Rattle.dm_event_history.specs.declared.event.Event.{Event}
 use Rattle.dm_event_history.specs.declared.event.Event.TheVariants.{Print, Scan, RestartPrinter, Ask, Forget, Give, Take, Export}
 use Rattle.dm_event_history.specs.declared.reply.Reply.{Reply}
-use Rattle.dm_event_history.specs.declared.reply.Reply.TheVariants.{Scanned, ScanRefused, Document, Forgotten, Taken, Exported, Restarted, PrinterRefused, Stopped, Down, Memory}
+use Rattle.dm_event_history.specs.declared.reply.Reply.TheVariants.{Scanned, ScanRefused, Document, Forgotten, Given, Taken, TakeRefused, Exported, Restarted, PrinterRefused, Stopped, Down, Memory}
 use Rattle.dm_event_history.specs.declared.stop.Stop.{Stop}
 use Rattle.dm_event_history.specs.declared.stop.Stop.TheVariants as stops
 use Rattle.dm_event_history.specs.History.{LabelName, names_from}
 use Rattle.dm_event_history.specs.Headline.{Batch, count_of, LeftBy, labels_of, IsScanOf, MayHaveSaved, WasScanned, WasPrinted, PrintsOnceBy, IsFaithfulBy}
 use Rattle.dm_print_ledger.specs.declared.range.Range.{Range}
+use Rattle.dm_print_ledger.specs.declared.fault.TakeFault.TheVariants as take_fault
+use Rattle.dm_event_history.specs.Actors.{PrinterAt}
+use Rattle.dm_event_history.specs.Replying.{has_failed_before}
 use Rattle.dm_print_ledger.specs.Views.{TicketView}
 use Rattle.dm_event_history.specs.Masks.{HasPage}
 use Rattle.dm_event_history.specs.Saving.{may_save}
 use Rattle.dm_event_history.specs.Tickets.{WasGiven, WasReached}
-use Rattle.dm_event_history.specs.Worked.{digits, first_ticket}
-use Rattle.dm_event_history.specs.Unfaithful.{IsFaithfulRun, PrintsOnceRun, AreRepliesRun, TakesOnceRun, ImportsExportsRun, other_digits, scan, page, another_call, stopped_unasked, forgotten_with_a_fault, scanned_though_stopped, failed_without_a_fault, damaged_by_itself, answered_while_down, down_unstopped, failed_before_a_fault, missing_printer, numbered_above, second_ticket, taken_falling, old_at_first, old_after_a_lower, old_unsaved, refused_ungiven, missing_ticket, exported_above, refused_unexported, missing_export, never_saved, conflicting, refused_import, shown_not_left, shown_left, begun_unscanned, exported_unscanned, printed_after_forgotten, one_serial, taken_though_old, never_exported, imported_another_page, exported_twice, half_printed, printed_unseen, unseen_labels, print, never_printed, wrong_document, another_document, never_scanned, two_documents, printed_twice, told_twice, never_left, numbered_twice, taken_twice, taken_elsewhere, overlaps, AreUnfaithful}
+use Rattle.dm_event_history.specs.Worked.{digits, range, first_ticket}
+use Rattle.dm_event_history.specs.Unfaithful.{IsFaithfulRun, PrintsOnceRun, AreRepliesRun, TakesOnceRun, ImportsExportsRun, other_digits, scan, page, ticket, another_call, stopped_unasked, forgotten_with_a_fault, scanned_though_stopped, failed_without_a_fault, damaged_by_itself, answered_while_down, down_unstopped, failed_before_a_fault, given_though_failed, missing_printer, numbered_above, second_ticket, taken_falling, old_at_first, old_after_a_lower, old_unsaved, old_though_failed, refused_ungiven, missing_ticket, exported_above, refused_unexported, missing_export, never_saved, conflicting, refused_import, shown_not_left, shown_left, begun_unscanned, exported_unscanned, printed_after_forgotten, one_serial, given_falling, taken_though_old, imported_another_document, imported_another_page, exported_twice, half_printed, printed_unseen, unseen_labels, print, never_printed, wrong_document, another_document, never_scanned, two_documents, printed_twice, told_twice, left_though_failed, never_left, numbered_twice, taken_twice, taken_elsewhere, overlaps, AreUnfaithful}
 
 -- ---- what an event lets out
 
@@ -314,7 +317,7 @@ import_of_no_pages_is : (A : Type 0) → ¬ IsFaithfulRun (refused_import A impo
 import_of_no_pages_is A (batches, f) = f.not_imported 3 import_fault.NotPages refl
 
 two_documents_is : (A : Type 0) → ¬ IsFaithfulRun (two_documents A)
-two_documents_is A (batches, f) = digits_differ (f.same 0 1 0 1 0 digits other_digits refl refl refl refl)
+two_documents_is A (batches, f) = digits_differ (f.same 3 4 0 0 0 digits other_digits refl refl refl refl)
 
 -- ---- prints
 
@@ -467,7 +470,7 @@ shown_left_is A (batches, f) = by_batches batches f
     by_batches : (batches : List (Option Batch)) → IsFaithfulBy batches events replies → ⊥
     by_batches [] f = (let t = f.prints.each_batch in cc (t))
     by_batches (None ∷ rest) f =
-        let below : 0 < 0 = f.prints.there 1 0 0 [] stops.BeforeSave Stopped refl refl (λ x. cc (x)) in omega arith
+        let below : 0 < 0 = f.prints.there 1 1 0 [] stops.BeforeSave Stopped refl refl (λ x. cc (x)) in omega arith
     by_batches (Some batch ∷ rest) f =
         let p = f.prints.printed 0 batch refl in
         let s : IsScanOf (Some batch ∷ rest) events 3 (record { id = 10; number = 1; count = 2 }) =
@@ -507,7 +510,7 @@ printed_after_forgotten_is A (batches, f) = by_batches batches f
     replies : List (Reply A)
     replies = map (λ one. one.1) (printed_after_forgotten A)
 
-    by_scan : (batch : Batch) (rest : List (Option Batch)) (m n k : ℕ) → 1 ≤ batch.left → k < 2 →
+    by_scan : (batch : Batch) (rest : List (Option Batch)) (m n k : ℕ) → 1 ≤ batch.left → k < 3 →
         IsScanOf (Some batch ∷ rest) events k (record { id = 0; number = m; count = n }) → batch.id ≡ 0
     by_scan batch rest m n zero some before s = absurd (let x = s.event in cc (x))
     by_scan batch rest m n (suc zero) some before s =
@@ -516,7 +519,8 @@ printed_after_forgotten_is A (batches, f) = by_batches batches f
         first_label batch [] (record { id = 0; number = m; count = n }) some
         (subst (λ (i : ℕ). slice_get (labels_of (Some batch ∷ [])) i ≡ Some (record { id = 0; number = m; count = n }))
         (sym label_is) s.had_left)
-    by_scan batch rest m n (suc (suc k)) some before s = absurd (omega arith)
+    by_scan batch rest m n (suc (suc zero)) some before s = absurd (let x = s.event in cc (x))
+    by_scan batch rest m n (suc (suc (suc k))) some before s = absurd (omega arith)
 
     by_batches : (batches : List (Option Batch)) → IsFaithfulBy batches events replies → ⊥
     by_batches [] f = (let t = f.prints.each_batch in cc (t))
@@ -524,10 +528,10 @@ printed_after_forgotten_is A (batches, f) = by_batches batches f
         let below : 0 < 0 = f.prints.there 1 0 0 [] (stops.AfterLabels 0) Stopped refl refl (λ x. cc (x)) in omega arith
     by_batches (Some batch ∷ rest) f =
         let p = f.prints.printed 0 batch refl in
-        let w = f.forgotten 2 0 0 stops.None refl refl in
+        let w = f.forgotten 3 0 0 stops.None refl refl in
         let own : batch.id ≡ 0 = by_scan batch rest w.0 w.1 w.2.k p.not_none w.2.before w.2.scan in
-        let t = f.prints.told 3 0 1 2 refl in
-        let place : ◌≡◌ {A = ℕ} 0 3 = f.prints.once 0 3 batch t.batch refl t.there (own ∙ sym t.id_is) in omega arith
+        let t = f.prints.told 4 0 1 2 refl in
+        let place : ◌≡◌ {A = ℕ} 0 4 = f.prints.once 0 4 batch t.batch refl t.there (own ∙ sym t.id_is) in omega arith
 
 -- ---- replies
 
@@ -566,6 +570,11 @@ failed_before_a_fault_is : (A : Type 0) → ¬ AreRepliesRun (failed_before_a_fa
 failed_before_a_fault_is A r =
     (let x : false ≡ true = r.failed 0 (scan 0) (ScanRefused scan_fault.Failed) refl refl tt in cc (x))
 
+given_though_failed_is : (A : Type 0) → ¬ AreRepliesRun (given_though_failed A)
+given_though_failed_is A r =
+    elim (r.fails 1 (Give 0 1 (range 0 0) stops.None) (Given 0 (ticket 0 (range 0 0))) refl refl refl refl)
+    [ inl tells ↦ tells | inr none ↦ none ]
+
 missing_printer_is : (A : Type 0) → ¬ AreRepliesRun (missing_printer A)
 missing_printer_is A r = r.no_such 0 (print 0 digits stops.None) refl refl (record {
   i = 1;
@@ -582,7 +591,7 @@ missing_printer_is A r = r.no_such 0 (print 0 digits stops.None) refl refl (reco
 -- ---- tickets
 
 numbered_twice_is : (A : Type 0) → ¬ TakesOnceRun (numbered_twice A)
-numbered_twice_is A t = (let place : ◌≡◌ {A = ℕ} 0 1 = t.numbered 0 1 0 first_ticket first_ticket refl refl in
+numbered_twice_is A t = (let place : ◌≡◌ {A = ℕ} 0 1 = t.numbered 0 1 0 first_ticket second_ticket refl refl in
     omega arith)
 
 taken_twice_is : (A : Type 0) → ¬ TakesOnceRun (taken_twice A)
@@ -596,6 +605,11 @@ overlaps_is A t = t.no_overlap 1 refl
 one_serial_is : (A : Type 0) → ¬ TakesOnceRun (one_serial A)
 one_serial_is A t = (let place : ◌≡◌ {A = ℕ} 0 1 = t.serials 0 1 0 1 first_ticket first_ticket refl refl refl refl in
     omega arith)
+
+given_falling_is : (A : Type 0) → ¬ TakesOnceRun (given_falling A)
+given_falling_is A t =
+    let rise : 5 < 3 = t.given_rising 0 1 0 1 (ticket 5 (range 0 4)) (ticket 3 (range 5 9)) refl refl refl
+    (omega arith) in omega arith
 
 taken_though_old_is : (A : Type 0) → ¬ TakesOnceRun (taken_though_old A)
 taken_though_old_is A t =
@@ -684,6 +698,33 @@ old_unsaved_is A t =
     by_place (suc (suc zero)) before is answered saves = cc (is)
     by_place (suc (suc (suc j))) before is answered saves = omega arith
 
+old_though_failed_is : (A : Type 0) → ¬ TakesOnceRun (old_though_failed A)
+old_though_failed_is A t =
+    (let w = t.reached 4 1 0 stops.None first_ticket refl refl refl in
+    by_place w.j w.before w.event w.answered w.saves w.unfailed)
+  where
+    events : List (Event A)
+    events = map (λ one. one.0) (old_though_failed A)
+
+    replies : List (Reply A)
+    replies = map (λ one. one.1) (old_though_failed A)
+
+    by_place : (j : ℕ) → j < 4 → {number : ℕ} {stop : Stop} {reply : Reply A} →
+        slice_get events j ≡ Some (Take 1 number stop) → slice_get replies j ≡ Some reply →
+        may_save (Take 1 number stop) reply ≡ true → has_failed_before events replies j (PrinterAt 1) ≡ false → ⊥
+    by_place zero before is answered saves unfailed = cc (is)
+    by_place (suc zero) before {number} {stop} {reply} is answered saves unfailed =
+        let e : Some (Take 1 0 (stops.SaveFault kept.Old)) ≡ Some (Take 1 number stop) = is in
+        let r : Some (TakeRefused take_fault.Save) ≡ Some reply = answered in
+        let event_is : ◌≡◌ {A = Event A} (Take 1 0 (stops.SaveFault kept.Old)) (Take 1 number stop) = cc (e) in
+        let reply_is : TakeRefused take_fault.Save ≡ reply = cc (r) in
+        let x : may_save {A = A} (Take 1 0 (stops.SaveFault kept.Old)) (TakeRefused take_fault.Save) ≡ true =
+        subst (λ (v : Event A). may_save v (TakeRefused take_fault.Save) ≡ true) (sym event_is)
+        (subst (λ (p : Reply A). may_save (Take 1 number stop) p ≡ true) (sym reply_is) saves) in cc (x)
+    by_place (suc (suc zero)) before is answered saves unfailed = (let x : true ≡ false = unfailed in cc (x))
+    by_place (suc (suc (suc zero))) before is answered saves unfailed = cc (is)
+    by_place (suc (suc (suc (suc j)))) before is answered saves unfailed = omega arith
+
 refused_ungiven_is : (A : Type 0) → ¬ TakesOnceRun (refused_ungiven A)
 refused_ungiven_is A t =
     (let below : 0 < 0 = t.there 0 1 0 stops.None Memory refl refl (λ x. cc (x)) in omega arith)
@@ -702,6 +743,36 @@ missing_ticket_is A t =
       is_such = λ x. cc (x);
     }) in omega arith
 
+left_though_failed_is : (A : Type 0) → ¬ IsFaithfulRun (left_though_failed A)
+left_though_failed_is A (batches, f) = by_batches batches f
+  where
+    events : List (Event A)
+    events = map (λ one. one.0) (left_though_failed A)
+
+    replies : List (Reply A)
+    replies = map (λ one. one.1) (left_though_failed A)
+
+    told : (batches : List (Option Batch)) → IsFaithfulBy batches events replies →
+        slice_get (labels_of (take 2 batches)) 0 ≡ Some (record { id = 0; number = 1; count = 2 })
+    told batches f =
+        let s : IsScanOf batches events 2 (record { id = 0; number = 1; count = 2 }) =
+        f.scanned 2 (record { id = 0; m = 1; n = 2; kind = New }) refl in
+        let e : Some (Scan 0 0 [] stops.None) ≡ Some (Scan s.desk s.label s.flips s.stop) = s.event in
+        let label_is : 0 ≡ s.label = cc (e) in
+        subst (λ (i : ℕ). slice_get (labels_of (take 2 batches)) i ≡ Some (record { id = 0; number = 1; count = 2 }))
+        (sym label_is) s.had_left
+
+    by_batches : (batches : List (Option Batch)) → IsFaithfulBy batches events replies → ⊥
+    by_batches [] f = (let t = told [] f in cc (t))
+    by_batches (None ∷ []) f = (let t = told (None ∷ []) f in cc (t))
+    by_batches (None ∷ None ∷ rest) f = (let t = told (None ∷ None ∷ rest) f in cc (t))
+    by_batches (None ∷ Some batch ∷ rest) f =
+        let x : true ≡ false = f.prints.unfailed 1 batch (print 0 digits (stops.AfterLabels 2)) refl refl in cc (x)
+    by_batches (Some batch ∷ rest) f = elim (f.prints.printed 0 batch refl).ends [
+      | inl told ↦ (let x = told.reply in cc (x))
+      | inr stopped ↦ (let x = stopped.reply in cc (x))
+    ]
+
 never_left_is : (A : Type 0) → ¬ IsFaithfulRun (never_left A)
 never_left_is A (batches, f) = by_batches batches f
   where
@@ -711,20 +782,22 @@ never_left_is A (batches, f) = by_batches batches f
     replies : List (Reply A)
     replies = map (λ one. one.1) (never_left A)
 
-    -- of one label or none there is no second
-    no_second : (batch : Batch) (left : ℕ) (name : LabelName) → left ≤ 1 →
-        slice_get (names_from batch.id (count_of batch) 1 left ++ []) 1 ≡ Some name → ⊥
-    no_second batch zero name few is = cc (is)
-    no_second batch (suc zero) name few is = cc (is)
-    no_second batch (suc (suc left)) name few is = omega arith
+    -- the first label is number 1
+    first_number : (batch : Batch) (left : ℕ) (name : LabelName) → 1 ≤ left →
+        slice_get (names_from batch.id (count_of batch) 1 left ++ []) 0 ≡ Some name → 1 ≡ name.number
+    first_number batch zero name some is = absurd (omega arith)
+    first_number batch (suc left) name some is =
+        let e : Some (record { id = batch.id; number = 1; count = count_of batch }) ≡ Some name = is in
+        let same : record { id = batch.id; number = 1; count = count_of batch } ≡ name = cc (e) in
+        ap (λ (l : LabelName). l.number) same
 
     told : (batches : List (Option Batch)) → IsFaithfulBy batches events replies →
-        slice_get (labels_of (take 1 batches)) 1 ≡ Some (record { id = 0; number = 2; count = 2 })
+        slice_get (labels_of (take 1 batches)) 0 ≡ Some (record { id = 0; number = 2; count = 2 })
     told batches f =
         let s : IsScanOf batches events 1 (record { id = 0; number = 2; count = 2 }) =
         f.scanned 1 (record { id = 0; m = 2; n = 2; kind = New }) refl in
-        let e : Some (Scan 0 1 [] stops.None) ≡ Some (Scan s.desk s.label s.flips s.stop) = s.event in
-        let label_is : 1 ≡ s.label = cc (e) in
+        let e : Some (Scan 0 0 [] stops.None) ≡ Some (Scan s.desk s.label s.flips s.stop) = s.event in
+        let label_is : 0 ≡ s.label = cc (e) in
         subst (λ (i : ℕ). slice_get (labels_of (take 1 batches)) i ≡ Some (record { id = 0; number = 2; count = 2 }))
         (sym label_is) s.had_left
 
@@ -733,15 +806,22 @@ never_left_is A (batches, f) = by_batches batches f
     by_batches (None ∷ rest) f = (let t = told (None ∷ rest) f in cc (t))
     by_batches (Some batch ∷ rest) f =
         let p = f.prints.printed 0 batch refl in
-        no_second batch batch.left (record { id = 0; number = 2; count = 2 })
-        (most_left events replies 0 0 1 batch digits refl p) (told (Some batch ∷ rest) f)
+        let number : ◌≡◌ {A = ℕ} 1 2 = first_number batch batch.left (record { id = 0; number = 2; count = 2 })
+        p.not_none (told (Some batch ∷ rest) f) in omega arith
 
 -- ---- exports
 
-never_exported_is : (A : Type 0) → ¬ ImportsExportsRun (never_exported A)
-never_exported_is A t =
-    (let w = (t.exported 0 (record { id = 0; n = 2; added = 1; kind = New }) refl).4 in
-    let before : w.j < 0 = w.before in omega arith)
+imported_another_document_is : (A : Type 0) → ¬ ImportsExportsRun (imported_another_document A)
+imported_another_document_is A t =
+    (let w = (t.exported 1 (record { id = 1; n = 2; added = 1; kind = New }) refl).4 in
+    by_place w.j w.before w.mask w.reply)
+  where
+    by_place : (j : ℕ) → j < 1 → {export : ℕ} (mask : ℕ) →
+        slice_get (map (λ one. one.1) (imported_another_document A)) j ≡ Some (Exported export 1 2 mask) → ⊥
+    by_place zero before {export} mask is =
+        let e : ◌≡◌ {A = Option (Reply A)} (Some (Exported 0 0 2 1)) (Some (Exported export 1 2 mask)) = is in
+        let same : ◌≡◌ {A = ℕ} 0 1 = cc (e) in omega arith
+    by_place (suc j) before mask is = omega arith
 
 imported_another_page_is : (A : Type 0) → ¬ ImportsExportsRun (imported_another_page A)
 imported_another_page_is A t =
@@ -803,6 +883,7 @@ are_unfaithful A = record {
   printed_twice_is = printed_twice_is A;
   printed_unseen_is = printed_unseen_is A;
   told_twice_is = told_twice_is A;
+  left_though_failed_is = left_though_failed_is A;
   never_left_is = never_left_is A;
   another_call_is = another_call_is A;
   stopped_unasked_is = stopped_unasked_is A;
@@ -813,21 +894,24 @@ are_unfaithful A = record {
   answered_while_down_is = answered_while_down_is A;
   down_unstopped_is = down_unstopped_is A;
   failed_before_a_fault_is = failed_before_a_fault_is A;
+  given_though_failed_is = given_though_failed_is A;
   missing_printer_is = missing_printer_is A;
   numbered_twice_is = numbered_twice_is A;
   taken_twice_is = taken_twice_is A;
   taken_elsewhere_is = taken_elsewhere_is A;
   overlaps_is = overlaps_is A;
   one_serial_is = one_serial_is A;
+  given_falling_is = given_falling_is A;
   taken_though_old_is = taken_though_old_is A;
   numbered_above_is = numbered_above_is A;
   taken_falling_is = taken_falling_is A;
   old_at_first_is = old_at_first_is A;
   old_after_a_lower_is = old_after_a_lower_is A;
   old_unsaved_is = old_unsaved_is A;
+  old_though_failed_is = old_though_failed_is A;
   refused_ungiven_is = refused_ungiven_is A;
   missing_ticket_is = missing_ticket_is A;
-  never_exported_is = never_exported_is A;
+  imported_another_document_is = imported_another_document_is A;
   imported_another_page_is = imported_another_page_is A;
   exported_twice_is = exported_twice_is A;
   exported_above_is = exported_above_is A;

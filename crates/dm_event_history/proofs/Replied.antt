@@ -15,11 +15,11 @@ use Rattle.dm_event_history.specs.declared.reply.Reply.{Reply}
 use Rattle.dm_event_history.specs.declared.reply.Reply.TheVariants.{Printed, PrintRefused, Scanned, ScanRefused, Document, AskRefused, Forgotten, ForgetRefused, Given, GiveRefused, Taken, TakeRefused, Exported, ExportRefused, Imported, ImportRefused, Restarted, PrinterRefused, DeskRefused, Stopped, Down, NoSuch, Memory}
 use Rattle.dm_event_history.specs.Actors.{Actor, PrinterAt, DeskAt, actor_of, is_same}
 use Rattle.dm_event_history.specs.History.{Entry, History, events_of, replies_of}
-use Rattle.dm_event_history.specs.Running.{down_after, is_down, failed_after, is_failed}
+use Rattle.dm_event_history.specs.Running.{down_after, is_down, failed_after, is_failed, TellsFailed, IsNoAnswer, IsOfFailed}
 use Rattle.dm_event_history.specs.Legal.{IsThere, IsStopped, IsReply, NeedsRunning, IsLegal, Fits}
-use Rattle.dm_event_history.specs.Replying.{MayReply, IsNoAnswer, IsReplyTo, IsShown, IsActorThere, NamesNoMore, goes_on, is_down_before, has_failed_before, TellsFailed, AreReplies}
+use Rattle.dm_event_history.specs.Replying.{MayReply, IsReplyTo, IsShown, IsActorThere, NamesNoMore, goes_on, is_down_before, has_failed_before, AreReplies}
 use Rattle.dm_event_history.proofs.Batches.{events_count, replies_count, before_or_last, take_keeps, take_whole}
-use Rattle.dm_event_history.proofs.Deciding.{decided}
+use Rattle.dm_event_history.proofs.Deciding.{decided, true_false}
 use Rattle.dm_event_history.proofs.Gotten.{get_beyond}
 
 -- an event and its reply stand before the last ones, or are these
@@ -327,6 +327,45 @@ failed_each {A} ranges desks (e ∷ h) legal i event reply asked answered tells 
           ap (λ (v : Event A). is_failed h (actor_of v)) (sym last.1) ∙ own))
     ]
 
+-- who had failed before an earlier event, and before the last
+pub failed_before : {A : Type 0} (h : History A) (e : Entry A) (i : ℕ) (actor : Actor) → i < length h →
+    has_failed_before (events_of (e ∷ h)) (replies_of (e ∷ h)) i actor ≡
+    has_failed_before (events_of h) (replies_of h) i actor
+failed_before h e i actor below = so_before failed_after h e i actor below
+
+pub failed_at_last : {A : Type 0} (h : History A) (e : Entry A) (actor : Actor) →
+    has_failed_before (events_of (e ∷ h)) (replies_of (e ∷ h)) (length h) actor ≡ is_failed h actor
+failed_at_last h e actor = so_at_last failed_after h e actor ∙ failed_is h actor
+
+-- what saved had not failed
+pub saved_unfailed : {A : Type 0} (ranges : List Range) (desks : ℕ) (h : History A) (e : Entry A) →
+    Fits ranges desks h e → e.saved ≡ true → is_failed h (actor_of e.event) ≡ false
+saved_unfailed ranges desks h e fits saved = elim (decided (is_failed h (actor_of e.event))) [
+  | inl failed ↦ absurd (true_false e.saved saved (fits.failed failed).1)
+  | inr none ↦ none
+]
+
+fails_each : {A : Type 0} (ranges : List Range) (desks : ℕ) (h : History A) → IsLegal ranges desks h →
+    (i : ℕ) (event : Event A) (reply : Reply A) → slice_get (events_of h) i ≡ Some event →
+    slice_get (replies_of h) i ≡ Some reply →
+    has_failed_before (events_of h) (replies_of h) i (actor_of event) ≡ true → IsOfFailed event reply
+fails_each ranges desks [] legal i event reply asked answered failed = absurd (cc (asked))
+fails_each {A} ranges desks (e ∷ h) legal i event reply asked answered failed =
+    elim (asked_before_or_last h e i event reply asked answered) [
+      | inl before ↦ fails_each ranges desks h legal.1 i event reply before.1 before.2
+          (sym (so_before failed_after h e i (actor_of event) before.0) ∙ failed)
+      | inr last ↦
+          (let fits : Fits ranges desks h e = legal.0 in
+          let at : is_failed h (actor_of event) ≡ true =
+          sym (so_at_last failed_after h e (actor_of event) ∙ failed_is h (actor_of event)) ∙
+          subst (λ (k : ℕ). has_failed_before (events_of (e ∷ h)) (replies_of (e ∷ h)) k (actor_of event) ≡ true)
+          last.0 failed in
+          let own : is_failed h (actor_of e.event) ≡ true =
+          ap (λ (v : Event A). is_failed h (actor_of v)) last.1 ∙ at in
+          subst (λ (v : Event A). IsOfFailed v reply) last.1
+          (subst (λ (r : Reply A). IsOfFailed e.event r) last.2 (fits.failed own).0))
+    ]
+
 pub are_replies : {A : Type 0} (ranges : List Range) (desks : ℕ) (h : History A) → IsLegal ranges desks h →
     AreReplies (events_of h) (replies_of h)
 are_replies ranges desks h legal = record {
@@ -335,4 +374,5 @@ are_replies ranges desks h legal = record {
       such ranges desks h legal i event asked answered (actor_within ranges desks h (actor_of event) legal there);
   down = down_each ranges desks h legal;
   failed = failed_each ranges desks h legal;
+  fails = fails_each ranges desks h legal;
 }

@@ -19,7 +19,8 @@ use Rattle.dm_event_history.specs.declared.reply.Reply.TheVariants.{Printed, Sca
 use Rattle.dm_event_history.specs.declared.stop.Stop.{Stop}
 use Rattle.dm_event_history.specs.declared.stop.Stop.TheVariants as stops
 use Rattle.dm_event_history.specs.History.{CutDocument}
-use Rattle.dm_event_history.specs.Replying.{IsReplyTo, TellsFailed, is_down_before}
+use Rattle.dm_event_history.specs.Running.{TellsFailed}
+use Rattle.dm_event_history.specs.Replying.{IsReplyTo, is_down_before, has_failed_before}
 use Rattle.dm_event_history.specs.Actors.{actor_of}
 use Rattle.dm_event_history.specs.Legal.{NeedsRunning}
 use Rattle.dm_event_history.proofs.Deciding.{true_false}
@@ -70,9 +71,11 @@ right_document_is A = (
         no_such = λ i event asked answered there alone. absurd (none_missing i answered);
         down = λ i event reply asked answered is_such. none_down i event reply asked answered;
         failed = λ i event reply asked answered tells. absurd (none_failed i event reply asked answered tells);
+        fails = λ i event reply asked answered failed. absurd (none_fails i event reply asked answered failed);
       };
       told = none_told;
       printed = one_printed;
+      unfailed = one_unfailed;
       once = one;
       there = are_there;
       not_there = λ i desk label flips stop asked answered there small. absurd (none_missing i answered);
@@ -209,6 +212,30 @@ right_document_is A = (
         only (λ v r. TellsFailed r → ⊥) {p = Document other_digits} asked answered (λ tells. tells)
     none_failed (suc (suc (suc (suc (suc i))))) event reply asked answered = absurd (cc (asked))
 
+    none_fails : (i : ℕ) (event : Event A) (reply : Reply A) → slice_get events i ≡ Some event →
+        slice_get replies i ≡ Some reply → has_failed_before events replies i (actor_of event) ≡ true → ⊥
+    none_fails zero event reply asked answered =
+        only (λ v r. has_failed_before events replies 0 (actor_of v) ≡ true → ⊥)
+        {x = print 0 digits (stops.AfterLabels 0)} {p = Stopped} asked answered
+        (λ failed. (let x : false ≡ true = failed in cc (x)))
+    none_fails (suc zero) event reply asked answered =
+        only (λ v r. has_failed_before events replies 1 (actor_of v) ≡ true → ⊥)
+        {x = print 1 other_digits (stops.AfterLabels 2)} {p = Stopped} asked answered
+        (λ failed. (let x : false ≡ true = failed in cc (x)))
+    none_fails (suc (suc zero)) event reply asked answered =
+        only (λ v r. has_failed_before events replies 2 (actor_of v) ≡ true → ⊥)
+        {x = scan 0} {p = Scanned (page 10 1 New)} asked answered
+        (λ failed. (let x : false ≡ true = failed in cc (x)))
+    none_fails (suc (suc (suc zero))) event reply asked answered =
+        only (λ v r. has_failed_before events replies 3 (actor_of v) ≡ true → ⊥)
+        {x = scan 1} {p = Scanned (page 10 2 Complete)} asked answered
+        (λ failed. (let x : false ≡ true = failed in cc (x)))
+    none_fails (suc (suc (suc (suc zero)))) event reply asked answered =
+        only (λ v r. has_failed_before events replies 4 (actor_of v) ≡ true → ⊥)
+        {x = Ask 0 10} {p = Document other_digits} asked answered
+        (λ failed. (let x : false ≡ true = failed in cc (x)))
+    none_fails (suc (suc (suc (suc (suc i))))) event reply asked answered = absurd (cc (asked))
+
     none_begun : (i missing : ℕ) → slice_get replies i ≡ Some (AskRefused (Incomplete missing)) → ⊥
     none_begun zero missing is = cc (is)
     none_begun (suc zero) missing is = cc (is)
@@ -277,6 +304,18 @@ right_document_is A = (
         let t = only_batch i other is in
         subst (λ (k : ℕ). LeftBy events replies k other) (sym t.0)
         (subst (λ (b : Batch). LeftBy events replies 1 b) t.1 left)
+
+    one_unfailed : (i : ℕ) (other : Batch) (event : Event A) → slice_get batches i ≡ Some (Some other) →
+        slice_get events i ≡ Some event → has_failed_before events replies i (actor_of event) ≡ false
+    one_unfailed zero other event is asked = absurd (cc (is))
+    one_unfailed (suc zero) other event is asked =
+        let e : Some (print 1 other_digits (stops.AfterLabels 2)) ≡ Some event = asked in
+        let same : print 1 other_digits (stops.AfterLabels 2) ≡ event = cc (e) in
+        subst (λ (v : Event A). has_failed_before events replies 1 (actor_of v) ≡ false) same refl
+    one_unfailed (suc (suc zero)) other event is asked = absurd (cc (is))
+    one_unfailed (suc (suc (suc zero))) other event is asked = absurd (cc (is))
+    one_unfailed (suc (suc (suc (suc zero)))) other event is asked = absurd (cc (is))
+    one_unfailed (suc (suc (suc (suc (suc i))))) other event is asked = absurd (cc (is))
 
     one : (i j : ℕ) (first second : Batch) → slice_get batches i ≡ Some (Some first) →
         slice_get batches j ≡ Some (Some second) →

@@ -1,5 +1,5 @@
 -- In a legal history a printer takes the tickets of a giver by rising serials, and refuses as old what it overtook.
-use Rattle.std.proofs.Common.{◌≡◌, ◌<◌, ◌≤◌, ◌==◌, ◌&&◌, ◌⊎◌, inl, inr, ℕ, true, IfSome, Option, Some, None, List, [], ◌∷◌, length, slice_get, refl, ap, sym, ◌∙◌, subst, arith, eq-eqb}
+use Rattle.std.proofs.Common.{◌≡◌, ◌<◌, ◌≤◌, ◌==◌, ◌&&◌, ◌⊎◌, inl, inr, ℕ, true, false, IfSome, Option, Some, None, List, [], ◌∷◌, length, slice_get, refl, ap, sym, ◌∙◌, subst, arith, eq-eqb}
 use Rattle.dm_print_ledger.specs.declared.range.Range.{Range}
 use Rattle.dm_print_ledger.specs.declared.fault.TakeFault.TheVariants.{Old}
 use Rattle.dm_print_ledger.specs.Views.{TicketView}
@@ -14,12 +14,14 @@ use Rattle.dm_event_history.specs.Legal.{IsLegal, Fits, IsReply, MayMove, MayBeT
 use Rattle.dm_event_history.specs.Places.{takes_ticket, is_taken}
 use Rattle.dm_event_history.specs.Numbers.{is_of, saved_at, taken_by, serial_after, last_serial}
 use Rattle.dm_event_history.specs.Saving.{may_save, tells_of_save}
+use Rattle.dm_event_history.specs.Running.{is_failed}
+use Rattle.dm_event_history.specs.Replying.{has_failed_before}
 use Rattle.dm_event_history.specs.Tickets.{TakesTicket, WasReached, tickets_in}
 use Rattle.dm_event_history.proofs.Batches.{events_count, replies_count, at_last, before_or_last}
 use Rattle.dm_event_history.proofs.Deciding.{and_so, or_left, or_right, both, decided, if_not, if_so, same_number, true_false}
 use Rattle.dm_event_history.proofs.Gotten.{get_more, get_beyond}
 use Rattle.dm_event_history.proofs.NumberedTickets.{tickets_are}
-use Rattle.dm_event_history.proofs.Replied.{asked_before_or_last}
+use Rattle.dm_event_history.proofs.Replied.{asked_before_or_last, failed_before, failed_at_last, saved_unfailed}
 use Rattle.dm_event_history.proofs.TakenTickets.{WasTaken}
 use Rattle.dm_event_history.proofs.TakenTickets as taken_tickets
 use Rattle.dm_event_history.proofs.WhoActs.{printer_is, same_means}
@@ -171,24 +173,29 @@ record Reaches {A : Type 0} (h : History A) (j printer giver last : ℕ) : Type 
   pub event_is : slice_get (events_of h) j ≡ Some (Take printer k stop)
   pub reply_is : slice_get (replies_of h) j ≡ Some reply
   pub saves : may_save (Take printer k stop) reply ≡ true
+  pub unfailed : has_failed_before (events_of h) (replies_of h) j (PrinterAt printer) ≡ false
   pub there : slice_get (tickets h) k ≡ Some ticket
   pub giver_is : ticket.giver ≡ giver
   pub serial_is : ticket.serial ≡ last
 
 reaches_more : {A : Type 0} (h : History A) (e : Entry A) (j printer giver last : ℕ) → Reaches h j printer giver last →
     Reaches (e ∷ h) j printer giver last
-reaches_more h e j printer giver last r = record {
-  k = r.k;
-  stop = r.stop;
-  reply = r.reply;
-  ticket = r.ticket;
-  event_is = get_more (events_of h) (e.event ∷ []) j (Take printer r.k r.stop) r.event_is;
-  reply_is = get_more (replies_of h) (e.reply ∷ []) j r.reply r.reply_is;
-  saves = r.saves;
-  there = get_more (tickets h) (given e.reply) r.k r.ticket r.there;
-  giver_is = r.giver_is;
-  serial_is = r.serial_is;
-}
+reaches_more h e j printer giver last r =
+    let below = get_beyond (events_of h) j (Take printer r.k r.stop) r.event_is in
+    let all = events_count h in
+    record {
+      k = r.k;
+      stop = r.stop;
+      reply = r.reply;
+      ticket = r.ticket;
+      event_is = get_more (events_of h) (e.event ∷ []) j (Take printer r.k r.stop) r.event_is;
+      reply_is = get_more (replies_of h) (e.reply ∷ []) j r.reply r.reply_is;
+      saves = r.saves;
+      unfailed = failed_before h e j (PrinterAt printer) (omega arith) ∙ r.unfailed;
+      there = get_more (tickets h) (given e.reply) r.k r.ticket r.there;
+      giver_is = r.giver_is;
+      serial_is = r.serial_is;
+    }
 
 -- some event did
 abbrev IsLast : {A : Type 0} → History A → ℕ → ℕ → ℕ → Type 0
@@ -233,6 +240,9 @@ last_next {A} ranges desks h e printer giver last fits before is = elim (decided
             event_is = at_last (events_of h) e.event (length h) (events_count h) ∙ ap (λ (v : Event A). Some v) at;
             reply_is = at_last (replies_of h) e.reply (length h) (replies_count h);
             saves = subst (λ (v : Event A). may_save v e.reply ≡ true) at (fits.saved own.0);
+            unfailed = failed_at_last h e (PrinterAt printer) ∙
+                ap (λ (v : Event A). is_failed h (actor_of v)) (sym at) ∙
+                saved_unfailed ranges desks h e fits own.0;
             there = get_more (tickets h) (given e.reply) number ticket there;
             giver_is = from;
             serial_is = serial;
@@ -336,6 +346,7 @@ was_reached {A} ranges desks h i printer k stop ticket legal asked answered ther
       event = r.by.event_is;
       answered = r.by.reply_is;
       saves = r.by.saves;
+      unfailed = r.by.unfailed;
       taken = r.by.ticket;
       there = ap (λ (l : List TicketView). slice_get l r.by.k) (tickets_are h) ∙ r.by.there;
       giver_is = r.by.giver_is ∙ ap (λ (t : TicketView). t.giver) same;

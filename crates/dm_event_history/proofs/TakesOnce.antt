@@ -174,6 +174,7 @@ old_was_taken {A} ranges desks (e ∷ h) i printer ticket stop legal asked answe
 takes_first : {A : Type 0} → (let none : History A = [] in TakesOnce (events_of none) (replies_of none))
 takes_first {A} = record {
   numbered = λ i j ticket one other a b. absurd (cc (a));
+  given_rising = λ i j ticket number one other a b giver order. absurd (cc (a));
   serials = λ i j ticket number one other a b giver serial. absurd (cc (a));
   old = λ i j printer ticket stop a b t. absurd (cc (a));
   once = λ i j printer other ticket a b. absurd (let x = a.reply in cc (x));
@@ -191,6 +192,22 @@ takes_next : {A : Type 0} (ranges : List Range) (desks : ℕ) (h : History A) (e
     TakesOnce (events_of h) (replies_of h) → TakesOnce (events_of (e ∷ h)) (replies_of (e ∷ h))
 takes_next {A} ranges desks h e fits legal f = record {
   numbered = number;
+  given_rising = λ i j ticket number one other a b giver order.
+      (let gives : numbers.gives h one.giver ≡ numbers.gives h other.giver = ap (numbers.gives h) giver in
+      elim (before_or_last (replies_of h) e.reply (Given ticket one) (length h) i (replies_count h) a) [
+        | inl first ↦ elim (before_or_last (replies_of h) e.reply (Given number other) (length h) j
+            (replies_count h) b) [
+              | inl second ↦ f.given_rising i j ticket number one other first second giver order
+              | inr last ↦ (let below = serial_below ranges desks h i ticket one legal first in
+                  let next = (next_serial ranges desks h e number other fits last.1).0 in omega arith)
+            ]
+        | inr here ↦ absurd (elim (before_or_last (replies_of h) e.reply (Given number other) (length h) j
+            (replies_count h) b) [
+              | inl second ↦ (let below = get_beyond (replies_of h) j (Given number other) second in
+                  let all = replies_count h in let at = here.0 in omega arith)
+              | inr last ↦ (let at = here.0 in let same = last.0 in omega arith)
+            ])
+      ]);
   serials = serial;
   once = one;
   old = old;

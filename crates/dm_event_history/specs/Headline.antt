@@ -1,6 +1,6 @@
 -- The headline, said of the events and the replies of a run alone, both from the first on: whatever document any desk
 -- gives for an identification is the one document printed under it, and no identification is ever printed twice.
-use Rattle.std.specs.Prelude.{◌≡◌, ◌≢◌, ◌<◌, ◌≤◌, ◌⊎◌, ℕ, Option, None, Some, List, [], ◌∷◌, ◌++◌, length, slice_get, take, min, All, true}
+use Rattle.std.specs.Prelude.{◌≡◌, ◌≢◌, ◌<◌, ◌≤◌, ◌⊎◌, ℕ, Option, None, Some, List, [], ◌∷◌, ◌++◌, length, slice_get, take, min, All, true, false}
 use Rattle.dm_append_label.specs.Parts.{AreParts}
 use Rattle.dm_assembly_desk.specs.declared.fault.AskFault.TheVariants.{Incomplete}
 use Rattle.dm_assembly_desk.specs.declared.fault.ScanFault.TheVariants.{Conflict}
@@ -14,10 +14,10 @@ use Rattle.dm_event_history.specs.declared.reply.Reply.{Reply}
 use Rattle.dm_event_history.specs.declared.reply.Reply.TheVariants.{Printed, Scanned, ScanRefused, Document, AskRefused, Forgotten, Exported, ImportRefused, Stopped, NoSuch}
 use Rattle.dm_event_history.specs.declared.stop.Stop.{Stop}
 use Rattle.dm_event_history.specs.declared.stop.Stop.TheVariants as stops
-use Rattle.dm_event_history.specs.Actors.{DeskAt}
+use Rattle.dm_event_history.specs.Actors.{DeskAt, actor_of}
 use Rattle.dm_event_history.specs.History.{CutDocument, LabelName, names_from}
 use Rattle.dm_event_history.specs.Saving.{may_save}
-use Rattle.dm_event_history.specs.Replying.{IsActorThere, AreReplies}
+use Rattle.dm_event_history.specs.Replying.{IsActorThere, has_failed_before, AreReplies}
 
 -- ---- the labels that left
 
@@ -88,6 +88,9 @@ pub record PrintsOnceBy {A : Type 0} (batches : List (Option Batch)) (events : L
       AllLeft batches i id first count
   -- each batch left by a print of its document
   pub printed : (i : ℕ) (batch : Batch) → slice_get batches i ≡ Some (Some batch) → LeftBy events replies i batch
+  -- none left by a printer that had answered `Save`, and was not restarted since
+  pub unfailed : (i : ℕ) (batch : Batch) (event : Event A) → slice_get batches i ≡ Some (Some batch) →
+      slice_get events i ≡ Some event → has_failed_before events replies i (actor_of event) ≡ false
   -- no identification is ever printed twice
   pub once : (i j : ℕ) (one other : Batch) → slice_get batches i ≡ Some (Some one) →
       slice_get batches j ≡ Some (Some other) → one.id ≡ other.id → i ≡ j
@@ -149,7 +152,7 @@ pub record WasPrinted {A : Type 0} (batches : List (Option Batch)) (events : Lis
   pub bytes_are : batch.document.bytes ≡ bytes
   pub scanned : (m : ℕ) → 1 ≤ m → m ≤ count_of batch → WasScanned batches events replies i id m (count_of batch)
 
--- The same of a document that is not whole: it lacks some of its pages, and not all. Each other was scanned before.
+-- The document was begun: it lacks some of its pages, and not all, and the label of each other was scanned before.
 pub record WasBegun {A : Type 0} (batches : List (Option Batch)) (events : List (Event A)) (replies : List (Reply A))
     (i id missing : ℕ) : Type 0 where
   pub batch : Batch
@@ -194,9 +197,9 @@ pub record IsFaithfulBy {A : Type 0} (batches : List (Option Batch)) (events : L
   pub exported : (i index id n mask : ℕ) → slice_get replies i ≡ Some (Exported index id n mask) →
       (desk : ℕ) × (slice_get events i ≡ Some (Export desk id))
       × ((m : ℕ) → HasPage mask m → WasScanned batches events replies i id m n)
-  -- no label disagrees with the pages that a desk holds
+  -- no scan is refused for a conflict
   pub no_conflict : (i : ℕ) → slice_get replies i ≢ Some (ScanRefused Conflict)
-  -- nor does an export, and each is a file of pages
+  -- nor is an import, nor is it refused for the bytes of its export
   pub not_imported : (i : ℕ) (fault : ImportFault) → slice_get replies i ≡ Some (ImportRefused fault) → IsOfDesk fault
 
 -- the headline

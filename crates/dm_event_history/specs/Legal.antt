@@ -31,7 +31,7 @@ use Rattle.dm_assembly_desk.specs.declared.reply.Imported as imported_type
 use Rattle.dm_event_history.specs.Masks.{HasPage}
 use Rattle.dm_event_history.specs.Actors.{PrinterAt, DeskAt, actor_of}
 use Rattle.dm_event_history.specs.History.{Entry, History, CutDocument, LabelName, ExportName, printed_by, out, docs, tickets, exports}
-use Rattle.dm_event_history.specs.Running.{is_down, is_failed}
+use Rattle.dm_event_history.specs.Running.{is_down, is_failed, IsOfFailed}
 use Rattle.dm_event_history.specs.Saving.{stop_of, may_save, tells_of_save}
 use Rattle.dm_event_history.specs.Numbers.{free_at, gives, last_serial, opening_count, gone, came}
 
@@ -266,6 +266,10 @@ pub record Fits {A : Type 0} (ranges : List Range) (desks : ℕ) (before : Histo
   pub stopped : entry.reply ≡ Stopped → IsStopped entry.event
   pub stops : IsThere (length ranges) desks before entry.event → is_down before (actor_of entry.event) ≡ false →
       IsStopped entry.event → (entry.reply ≡ Stopped) ⊎ (entry.reply ≡ Memory)
+  -- what answered `Save` since it was last restarted tells so at a call that may save, or doesn't answer, and a printer
+  -- saves nothing then
+  pub failed : is_failed before (actor_of entry.event) ≡ true →
+      IsOfFailed entry.event entry.reply × (entry.saved ≡ false)
   -- it saved where the reply tells so or a label left, and only where it may have
   pub told : tells_of_save entry.reply ≡ true → entry.saved ≡ true
   pub left_saved : 0 < entry.left → entry.saved ≡ true

@@ -15,7 +15,7 @@ use Rattle.dm_event_history.specs.declared.reply.Reply.{Reply}
 use Rattle.dm_event_history.specs.declared.reply.Reply.TheVariants.{Printed, PrintRefused, Scanned, ScanRefused, Document, AskRefused, Forgotten, ForgetRefused, Given, GiveRefused, Taken, TakeRefused, Exported, ExportRefused, Imported, ImportRefused, Restarted, PrinterRefused, DeskRefused, Stopped, Down, NoSuch, Memory}
 use Rattle.dm_event_history.specs.declared.stop.Stop.TheVariants as stops
 use Rattle.dm_event_history.specs.Actors.{Actor, PrinterAt, DeskAt, actor_of, is_same}
-use Rattle.dm_event_history.specs.Running.{down_after, failed_after}
+use Rattle.dm_event_history.specs.Running.{down_after, failed_after, TellsFailed, IsNoAnswer, IsOfFailed}
 use Rattle.dm_event_history.specs.Legal.{IsSaveFault, IsStopped, NeedsRunning}
 
 -- ---- one event
@@ -55,14 +55,6 @@ MayReply event Down = NeedsRunning event
 MayReply event NoSuch = Unit {0}
 MayReply event Memory = Unit {0}
 MayReply event reply = ⊥
-
--- the reply tells nothing of what the call would have answered
-abbrev pub IsNoAnswer : {A : Type 0} → Reply A → Type 0
-IsNoAnswer Stopped = Unit {0}
-IsNoAnswer Down = Unit {0}
-IsNoAnswer NoSuch = Unit {0}
-IsNoAnswer Memory = Unit {0}
-IsNoAnswer reply = ⊥
 
 -- the reply is one to the event, and a call that is to end before its reply doesn't answer
 pub record IsReplyTo {A : Type 0} (event : Event A) (reply : Reply A) : Type 0 where
@@ -114,16 +106,6 @@ is_down_before events replies i actor = goes_on down_after (take i events) (take
 abbrev pub has_failed_before : {A : Type 0} → List (Event A) → List (Reply A) → ℕ → Actor → Bool
 has_failed_before events replies i actor = goes_on failed_after (take i events) (take i replies) actor false
 
--- the reply tells that a save failed before
-abbrev pub TellsFailed : {A : Type 0} → Reply A → Type 0
-TellsFailed (PrintRefused print_fault.Failed) = Unit {0}
-TellsFailed (ScanRefused scan_fault.Failed) = Unit {0}
-TellsFailed (ForgetRefused forget_fault.Failed) = Unit {0}
-TellsFailed (GiveRefused give_fault.Failed) = Unit {0}
-TellsFailed (TakeRefused take_fault.Failed) = Unit {0}
-TellsFailed (ImportRefused import_fault.Failed) = Unit {0}
-TellsFailed reply = ⊥
-
 -- ---- all events
 
 -- each reply is one to its event
@@ -141,3 +123,7 @@ pub record AreReplies {A : Type 0} (events : List (Event A)) (replies : List (Re
   pub failed : (i : ℕ) (event : Event A) (reply : Reply A) → slice_get events i ≡ Some event →
       slice_get replies i ≡ Some reply → TellsFailed reply →
       has_failed_before events replies i (actor_of event) ≡ true
+  -- and what did, and was not restarted since, tells so at each call that may save, or doesn't answer
+  pub fails : (i : ℕ) (event : Event A) (reply : Reply A) → slice_get events i ≡ Some event →
+      slice_get replies i ≡ Some reply → has_failed_before events replies i (actor_of event) ≡ true →
+      IsOfFailed event reply

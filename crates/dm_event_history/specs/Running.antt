@@ -1,15 +1,18 @@
--- Which printers and desks are down, and which answered `Save` since they were last restarted.
-use Rattle.std.specs.Prelude.{Bool, true, false, if◌then◌else◌, [], ◌∷◌}
+-- What a reply tells of a call; and which printers and desks are down, and which answered `Save` since they were last
+-- restarted.
+use Rattle.std.specs.Prelude.{◌⊎◌, Bool, true, false, if◌then◌else◌, IsSome, [], ◌∷◌}
 use Rattle.dm_print_ledger.specs.declared.fault.PrintFault.TheVariants as print_fault
 use Rattle.dm_print_ledger.specs.declared.fault.GiveFault.TheVariants as give_fault
 use Rattle.dm_print_ledger.specs.declared.fault.TakeFault.TheVariants as take_fault
 use Rattle.dm_assembly_desk.specs.declared.fault.ScanFault.TheVariants as scan_fault
 use Rattle.dm_assembly_desk.specs.declared.fault.ForgetFault.TheVariants as forget_fault
 use Rattle.dm_assembly_desk.specs.declared.fault.ImportFault.TheVariants as import_fault
+use Rattle.dm_event_history.specs.declared.event.Event.{Event}
 use Rattle.dm_event_history.specs.declared.reply.Reply.{Reply}
 use Rattle.dm_event_history.specs.declared.reply.Reply.TheVariants.{PrintRefused, ScanRefused, ForgetRefused, GiveRefused, TakeRefused, ImportRefused, Restarted, PrinterRefused, DeskRefused, Stopped, Down, NoSuch, Memory}
 use Rattle.dm_event_history.specs.Actors.{Actor, actor_of, is_same}
 use Rattle.dm_event_history.specs.History.{History}
+use Rattle.dm_event_history.specs.Saving.{stop_of}
 
 -- whether the one that answers so is down then, if it was before
 abbrev pub down_after : {A : Type 0} → Reply A → Bool → Bool
@@ -45,3 +48,28 @@ is_failed (entry ∷ before) actor =
     if is_same (actor_of entry.event) actor
     then failed_after entry.reply (is_failed before actor)
     else is_failed before actor
+
+-- ---- what is told of a call
+
+-- the reply tells nothing of what the call would have answered
+abbrev pub IsNoAnswer : {A : Type 0} → Reply A → Type 0
+IsNoAnswer Stopped = Unit {0}
+IsNoAnswer Down = Unit {0}
+IsNoAnswer NoSuch = Unit {0}
+IsNoAnswer Memory = Unit {0}
+IsNoAnswer reply = ⊥
+
+-- the reply tells that a save failed before
+abbrev pub TellsFailed : {A : Type 0} → Reply A → Type 0
+TellsFailed (PrintRefused print_fault.Failed) = Unit {0}
+TellsFailed (ScanRefused scan_fault.Failed) = Unit {0}
+TellsFailed (ForgetRefused forget_fault.Failed) = Unit {0}
+TellsFailed (GiveRefused give_fault.Failed) = Unit {0}
+TellsFailed (TakeRefused take_fault.Failed) = Unit {0}
+TellsFailed (ImportRefused import_fault.Failed) = Unit {0}
+TellsFailed reply = ⊥
+
+-- The reply is one of a printer or a desk that failed, and was not restarted since: to a call that may save, which is
+-- one that can be stopped, it tells that a save failed, or nothing of the call.
+abbrev pub IsOfFailed : {A : Type 0} → Event A → Reply A → Type 0
+IsOfFailed event reply = IsSome (stop_of event) → TellsFailed reply ⊎ IsNoAnswer reply

@@ -1,5 +1,5 @@
 -- No ticket is taken twice, said of the events and the replies of a run alone, both from the first on.
-use Rattle.std.specs.Prelude.{◌≡◌, ◌≢◌, ◌<◌, ◌≤◌, ℕ, true, Some, List, [], ◌∷◌, ◌++◌, length, slice_get, take}
+use Rattle.std.specs.Prelude.{◌≡◌, ◌≢◌, ◌<◌, ◌≤◌, ℕ, true, false, Some, List, [], ◌∷◌, ◌++◌, length, slice_get, take}
 use Rattle.dm_print_ledger.specs.declared.range.Range.{Range}
 use Rattle.dm_print_ledger.specs.declared.fault.TakeFault.TheVariants.{Old, Overlap}
 use Rattle.dm_print_ledger.specs.Views.{TicketView}
@@ -11,7 +11,7 @@ use Rattle.dm_event_history.specs.declared.stop.Stop.{Stop}
 use Rattle.dm_event_history.specs.Actors.{PrinterAt}
 use Rattle.dm_event_history.specs.History.{given}
 use Rattle.dm_event_history.specs.Saving.{may_save}
-use Rattle.dm_event_history.specs.Replying.{IsActorThere}
+use Rattle.dm_event_history.specs.Replying.{IsActorThere, has_failed_before}
 
 -- the tickets that these replies tell, the first of them first
 abbrev pub tickets_in : {A : Type 0} → List (Reply A) → List TicketView
@@ -39,7 +39,8 @@ pub record WasGiven {A : Type 0} (events : List (Event A)) (replies : List (Repl
       ≡ Some (Given ticket (record { giver = giver; serial = serial; receiver = printer; range = range }))
 
 -- The ticket is for this printer, and before event number i it may have taken one of the same giver with a serial that
--- is not below: event number j tells so, or was stopped or failed with the new content kept.
+-- is not below: event number j tells so, or was stopped or failed with the new content kept, and no save had failed
+-- since the last restart.
 pub record WasReached {A : Type 0} (events : List (Event A)) (replies : List (Reply A)) (i printer : ℕ)
     (ticket : TicketView) : Type 0 where
   pub is_for : ticket.receiver ≡ printer
@@ -51,6 +52,7 @@ pub record WasReached {A : Type 0} (events : List (Event A)) (replies : List (Re
   pub event : slice_get events j ≡ Some (Take printer number stop)
   pub answered : slice_get replies j ≡ Some reply
   pub saves : may_save (Take printer number stop) reply ≡ true
+  pub unfailed : has_failed_before events replies j (PrinterAt printer) ≡ false
   pub taken : TicketView
   pub there : slice_get (tickets_in replies) number ≡ Some taken
   pub giver_is : taken.giver ≡ ticket.giver
@@ -64,7 +66,10 @@ pub record TakesOnce {A : Type 0} (events : List (Event A)) (replies : List (Rep
   -- so no two tickets have one number
   pub numbered : (i j ticket : ℕ) (one other : TicketView) → slice_get replies i ≡ Some (Given ticket one) →
       slice_get replies j ≡ Some (Given ticket other) → i ≡ j
-  -- nor have two of one giver one serial
+  -- of two tickets of one giver the one that is given later has the higher serial
+  pub given_rising : (i j ticket number : ℕ) (one other : TicketView) → slice_get replies i ≡ Some (Given ticket one) →
+      slice_get replies j ≡ Some (Given number other) → one.giver ≡ other.giver → i < j → one.serial < other.serial
+  -- so no two of one giver have one serial
   pub serials : (i j ticket number : ℕ) (one other : TicketView) → slice_get replies i ≡ Some (Given ticket one) →
       slice_get replies j ≡ Some (Given number other) → one.giver ≡ other.giver → one.serial ≡ other.serial → i ≡ j
   -- no ticket is taken twice, by whichever printers

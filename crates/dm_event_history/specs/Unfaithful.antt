@@ -1,10 +1,12 @@
--- Runs that are not faithful, each one step from a run that is, and runs whose tickets or exports are not as they
--- should be: the definitions of the headline alone refuse them. Documents of four digits are printed in labels of side
--- 12.
+-- Runs that are not as they should be, each one step from a run that is: the definitions of the headline alone refuse
+-- them. Each would be allowed without the field that its comment names; if that field follows from others, without
+-- these too. Documents of four digits are printed in labels of side 12.
 use Rattle.std.specs.Prelude.{◌≡◌, ℕ, Option, List, [], ◌∷◌, map}
 use Rattle.dm_check_blocks.specs.declared.size.Size.TheVariants.{Side12}
 use Rattle.dm_encodation.specs.declared.scheme.Scheme.TheVariants.{Ascii}
-use Rattle.dm_print_ledger.specs.declared.fault.TakeFault.TheVariants.{Old, Overlap}
+use Rattle.dm_print_ledger.specs.declared.fault.PrintFault.TheVariants as print_fault
+use Rattle.dm_print_ledger.specs.declared.fault.TakeFault.TheVariants.{Old, Overlap, Save}
+use Rattle.dm_print_ledger.specs.declared.range.Range.{Range}
 use Rattle.dm_print_ledger.specs.Views.{TicketView}
 use Rattle.dm_assembly_desk.specs.declared.fault.ScanFault.TheVariants.{Conflict}
 use Rattle.dm_assembly_desk.specs.declared.fault.ScanFault.TheVariants as scan_fault
@@ -17,9 +19,9 @@ use Rattle.dm_assembly_desk.specs.declared.reply.Kind.TheVariants.{New, Again, C
 use Rattle.dm_assembly_desk.specs.declared.reply.Kind.{Kind}
 use Rattle.dm_assembly_desk.specs.declared.reply.Accepted.{Accepted}
 use Rattle.dm_event_history.specs.declared.event.Event.{Event}
-use Rattle.dm_event_history.specs.declared.event.Event.TheVariants.{Print, Scan, RestartPrinter, Ask, Forget, Give, Take, Export, Import}
+use Rattle.dm_event_history.specs.declared.event.Event.TheVariants.{Print, Scan, RestartPrinter, RestartDesk, Ask, Forget, Give, Take, Export, Import}
 use Rattle.dm_event_history.specs.declared.reply.Reply.{Reply}
-use Rattle.dm_event_history.specs.declared.reply.Reply.TheVariants.{Printed, Scanned, ScanRefused, Document, AskRefused, Forgotten, Given, Taken, TakeRefused, Exported, Imported, ImportRefused, Restarted, PrinterRefused, Stopped, Down, NoSuch, Memory}
+use Rattle.dm_event_history.specs.declared.reply.Reply.TheVariants.{Printed, PrintRefused, Scanned, ScanRefused, Document, AskRefused, Forgotten, Given, Taken, TakeRefused, Exported, Imported, ImportRefused, Restarted, PrinterRefused, Stopped, Down, NoSuch, Memory}
 use Rattle.dm_event_history.specs.declared.stop.Stop.{Stop}
 use Rattle.dm_event_history.specs.declared.stop.Stop.TheVariants.{None, BeforeSave, SaveFault, AfterLabels}
 use Rattle.dm_event_history.specs.History.{LabelName}
@@ -27,7 +29,7 @@ use Rattle.dm_event_history.specs.Headline.{Batch, labels_of, PrintsOnceBy, IsFa
 use Rattle.dm_event_history.specs.Replying.{AreReplies}
 use Rattle.dm_event_history.specs.Tickets.{TakesOnce}
 use Rattle.dm_event_history.specs.Imports.{ImportsExports}
-use Rattle.dm_event_history.specs.Worked.{digits, first_ticket}
+use Rattle.dm_event_history.specs.Worked.{digits, range, first_ticket}
 
 -- events, each with its reply
 abbrev pub Run : Type 0 → Type 0
@@ -63,6 +65,10 @@ scan label = Scan 0 label [] None
 abbrev pub page : ℕ → ℕ → Kind → Accepted
 page id m kind = record { id = id; m = m; n = 2; kind = kind }
 
+-- a ticket of printer 0 for printer 1
+abbrev pub ticket : ℕ → Range → TicketView
+ticket serial range = record { giver = 0; serial = serial; receiver = 1; range = range }
+
 -- ---- documents
 
 -- this run is faithful: of two stopped prints the labels of the second left, and its document is given for them
@@ -74,11 +80,11 @@ right_document A =
     (scan 1, Scanned (page 10 2 Complete)) ∷
     (Ask 0 10, Document other_digits) ∷ []
 
--- a document is given under an identification under which no label left
+-- `given`: a document is given under an identification under which no label left
 abbrev pub never_printed : (A : Type 0) → Run A
 never_printed A = (print 0 digits (AfterLabels 0), Stopped) ∷ (Ask 0 77, Document digits) ∷ []
 
--- the document of the first is given for the labels of the second
+-- `given`: the document of the first is given for the labels of the second
 abbrev pub wrong_document : (A : Type 0) → Run A
 wrong_document A =
     (print 0 digits (AfterLabels 0), Stopped) ∷
@@ -87,7 +93,7 @@ wrong_document A =
     (scan 1, Scanned (page 10 2 Complete)) ∷
     (Ask 0 10, Document digits) ∷ []
 
--- another document is given than was printed
+-- `given`: another document is given than was printed
 abbrev pub another_document : (A : Type 0) → Run A
 another_document A =
     (print 0 digits None, Printed 0 0 2) ∷
@@ -95,26 +101,30 @@ another_document A =
     (scan 1, Scanned (page 0 2 Complete)) ∷
     (Ask 0 0, Document other_digits) ∷ []
 
--- a document is given of which just the first label left, and was scanned
+-- `given`: a document is given of which just the first label left, and was scanned
 abbrev pub half_printed : (A : Type 0) → Run A
 half_printed A =
     (print 0 digits (AfterLabels 1), Stopped) ∷ (scan 0, Scanned (page 0 1 New)) ∷ (Ask 0 0, Document digits) ∷ []
 
--- a document is given of which no label was scanned
+-- `given`: a document is given of which no label was scanned
 abbrev pub never_scanned : (A : Type 0) → Run A
 never_scanned A = (print 0 digits None, Printed 0 0 2) ∷ (Ask 0 0, Document digits) ∷ []
 
--- each label was scanned, but each scan was answered as memory was refused, so that no page was saved
+-- `given`: each label was scanned, but each scan was answered as memory was refused, so that no page was saved
 abbrev pub never_saved : (A : Type 0) → Run A
 never_saved A =
     (print 0 digits None, Printed 0 0 2) ∷ (scan 0, Memory) ∷ (scan 1, Memory) ∷ (Ask 0 0, Document digits) ∷ []
 
--- two documents are given for one identification
+-- `same`, which follows from `given` and `once`: two documents are given for one identification
 abbrev pub two_documents : (A : Type 0) → Run A
-two_documents A = (Ask 0 0, Document digits) ∷ (Ask 1 0, Document other_digits) ∷ []
+two_documents A =
+    (print 0 digits None, Printed 0 0 2) ∷
+    (scan 0, Scanned (page 0 1 New)) ∷
+    (scan 1, Scanned (page 0 2 Complete)) ∷
+    (Ask 0 0, Document digits) ∷ (Ask 0 0, Document other_digits) ∷ []
 
--- the first print let no label out, as label 0 was not there after it, at a desk below one that is there; but its
--- document is given for the labels of the second
+-- `not_there`: the first print let no label out, as label 0 was not there after it, at a desk below one that is there;
+-- but its document is given for the labels of the second
 abbrev pub shown_not_left : (A : Type 0) → Run A
 shown_not_left A =
     (print 0 digits (AfterLabels 2), Stopped) ∷
@@ -124,21 +134,21 @@ shown_not_left A =
     (Scan 1 1 [] None, Scanned (page 10 2 Complete)) ∷
     (Ask 1 10, Document digits) ∷ []
 
--- the first print let label 0 out, as it was there after it; but the document of the second is given for it
+-- `there`: the first print let label 0 out, as it was there after it; but the document of the second is given for it
 abbrev pub shown_left : (A : Type 0) → Run A
 shown_left A =
     (print 0 digits (AfterLabels 2), Stopped) ∷
-    (Scan 0 0 [] BeforeSave, Stopped) ∷
+    (Scan 1 0 [] BeforeSave, Stopped) ∷
     (print 1 other_digits (AfterLabels 2), Stopped) ∷
     (scan 0, Scanned (page 10 1 New)) ∷
     (scan 1, Scanned (page 10 2 Complete)) ∷
     (Ask 0 10, Document other_digits) ∷ []
 
--- a label disagrees with what a desk holds
+-- `no_conflict`: a label disagrees with what a desk holds
 abbrev pub conflicting : (A : Type 0) → Run A
 conflicting A = (print 0 digits None, Printed 0 0 2) ∷ (scan 0, ScanRefused Conflict) ∷ []
 
--- an export is refused at a desk that holds nothing, for this
+-- `not_imported`: an export is refused at a desk that holds nothing, for this
 abbrev pub refused_import : (A : Type 0) → ImportFault → Run A
 refused_import A fault =
     (print 0 digits None, Printed 0 0 2) ∷
@@ -147,25 +157,26 @@ refused_import A fault =
 
 -- ---- pages
 
--- some pages are missing of a document of which no label was scanned
+-- `begun`: some pages are missing of a document of which no label was scanned
 abbrev pub begun_unscanned : (A : Type 0) → Run A
 begun_unscanned A = (print 0 digits None, Printed 0 0 2) ∷ (Ask 0 0, AskRefused (Incomplete 2)) ∷ []
 
--- a page is exported whose label was not scanned
+-- `exported`: a page is exported whose label was not scanned
 abbrev pub exported_unscanned : (A : Type 0) → Run A
 exported_unscanned A = (print 0 digits None, Printed 0 0 2) ∷ (Export 0 0, Exported 0 0 2 1) ∷ []
 
--- what was forgotten shows that a label left under an identification that is then printed again
+-- `forgotten`: what was forgotten shows that a label left under an identification that is then printed again
 abbrev pub printed_after_forgotten : (A : Type 0) → Run A
 printed_after_forgotten A =
     (print 0 digits (AfterLabels 1), Stopped) ∷
     (Scan 0 0 [] (AfterLabels 0), Stopped) ∷
+    (RestartDesk 0, Restarted) ∷
     (Forget 0 0 None, Forgotten) ∷
     (print 1 other_digits None, Printed 0 1 2) ∷ []
 
 -- ---- prints
 
--- the labels of a stopped print and of a later one have one identification
+-- `once`: the labels of a stopped print and of a later one have one identification
 abbrev pub printed_twice : (A : Type 0) → Run A
 printed_twice A =
     (print 0 digits (AfterLabels 1), Stopped) ∷
@@ -173,7 +184,7 @@ printed_twice A =
     (print 0 other_digits None, Printed 0 1 2) ∷
     (scan 0, Scanned (page 0 1 New)) ∷ []
 
--- the same, where no label is scanned: just these labels left
+-- `once`: the same, where no label is scanned, and just these labels left
 abbrev pub printed_unseen : (A : Type 0) → Run A
 printed_unseen A =
     (print 0 digits (AfterLabels 1), Stopped) ∷
@@ -185,17 +196,23 @@ unseen_labels =
     record { id = 0; number = 1; count = 2 } ∷
     record { id = 0; number = 1; count = 2 } ∷ record { id = 0; number = 2; count = 2 } ∷ []
 
--- two prints that are told have one identification
+-- `once`: two prints that are told have one identification
 abbrev pub told_twice : (A : Type 0) → Run A
 told_twice A = (print 0 digits None, Printed 0 0 2) ∷ (print 1 other_digits None, Printed 0 2 2) ∷ []
 
--- a label is told that never left
+-- `unfailed`: a label is told that left by a printer whose last save failed
+abbrev pub left_though_failed : (A : Type 0) → Run A
+left_though_failed A =
+    (print 0 digits (SaveFault kept.Old), PrintRefused print_fault.Save) ∷
+    (print 0 digits (AfterLabels 2), Stopped) ∷ (scan 0, Scanned (page 0 1 New)) ∷ []
+
+-- `scanned`: the second label is told, which never left, although the first was scanned
 abbrev pub never_left : (A : Type 0) → Run A
-never_left A = (print 0 digits (AfterLabels 1), Stopped) ∷ (scan 1, Scanned (page 0 2 New)) ∷ []
+never_left A = (print 0 digits (AfterLabels 1), Stopped) ∷ (scan 0, Scanned (page 0 2 New)) ∷ []
 
 -- ---- replies
 
--- each of these replies is to another call, or tells what its stop doesn't let happen
+-- `each`: each of these replies is to another call, or tells what its stop doesn't let happen
 abbrev pub another_call : (A : Type 0) → Run A
 another_call A = (Ask 0 0, Taken) ∷ []
 
@@ -214,18 +231,24 @@ failed_without_a_fault A = (scan 0, ScanRefused scan_fault.Save) ∷ []
 abbrev pub damaged_by_itself : (A : Type 0) → Run A
 damaged_by_itself A = (RestartPrinter 0, PrinterRefused open_fault.Damaged) ∷ []
 
--- a desk answers although it is down, and one that was never stopped doesn't
+-- `down`: a desk answers although it is down, and one that was never stopped doesn't
 abbrev pub answered_while_down : (A : Type 0) → Run A
 answered_while_down A = (Forget 0 0 BeforeSave, Stopped) ∷ (Forget 0 0 None, Forgotten) ∷ []
 
 abbrev pub down_unstopped : (A : Type 0) → Run A
 down_unstopped A = (Ask 0 0, Down) ∷ []
 
--- a desk tells of a save that failed before although none did
+-- `failed`: a desk tells of a save that failed before although none did
 abbrev pub failed_before_a_fault : (A : Type 0) → Run A
 failed_before_a_fault A = (scan 0, ScanRefused scan_fault.Failed) ∷ []
 
--- a printer is missing that is there
+-- `fails`: a printer gives a number although its last save failed, by which it may have used that number
+abbrev pub given_though_failed : (A : Type 0) → Run A
+given_though_failed A =
+    (print 0 digits (SaveFault kept.New), PrintRefused print_fault.Save) ∷
+    (Give 0 1 (range 0 0) None, Given 0 (ticket 0 (range 0 0))) ∷ []
+
+-- `no_such`: a printer is missing that is there
 abbrev pub missing_printer : (A : Type 0) → Run A
 missing_printer A = (print 0 digits None, NoSuch) ∷ (RestartPrinter 1, Restarted) ∷ []
 
@@ -234,18 +257,30 @@ missing_printer A = (print 0 digits None, NoSuch) ∷ (RestartPrinter 1, Restart
 abbrev pub give : {A : Type 0} → Event A × Reply A
 give = (Give 0 1 first_ticket.range None, Given 0 first_ticket)
 
+-- `once`, which follows from `given`, `rising` and `next`: a ticket is taken twice
 abbrev pub taken_twice : (A : Type 0) → Run A
 taken_twice A = give ∷ (Take 1 0 None, Taken) ∷ (Take 1 0 None, Taken) ∷ []
 
--- two tickets have one number
-abbrev pub numbered_twice : (A : Type 0) → Run A
-numbered_twice A = give ∷ give ∷ []
+-- the next ticket of the same giver
+abbrev pub second_ticket : TicketView
+second_ticket = ticket 1 first_ticket.range
 
--- two tickets of one giver have one serial
+-- `numbered`, which follows from `next`: two tickets have one number
+abbrev pub numbered_twice : (A : Type 0) → Run A
+numbered_twice A = give ∷ (Give 0 1 second_ticket.range None, Given 0 second_ticket) ∷ []
+
+-- `serials`, which follows from `given_rising`: two tickets of one giver have one serial
 abbrev pub one_serial : (A : Type 0) → Run A
 one_serial A = give ∷ (Give 0 1 first_ticket.range None, Given 1 first_ticket) ∷ []
 
--- a ticket is taken that was taken by a take that was stopped, as the printer has told
+-- `given_rising`: of two tickets of one giver the second has a lower serial, so that the first overtakes it
+abbrev pub given_falling : (A : Type 0) → Run A
+given_falling A =
+    (Give 0 1 (range 0 4) None, Given 0 (ticket 5 (range 0 4))) ∷
+    (Give 0 1 (range 5 9) None, Given 1 (ticket 3 (range 5 9))) ∷
+    (Take 1 0 None, Taken) ∷ (Take 1 1 None, TakeRefused Old) ∷ []
+
+-- `old`: a ticket is taken that was taken by a take that was stopped, as the printer has told
 abbrev pub taken_though_old : (A : Type 0) → Run A
 taken_though_old A =
     give ∷
@@ -253,46 +288,52 @@ taken_though_old A =
     (RestartPrinter 1, Restarted) ∷
     (Take 1 0 None, TakeRefused Old) ∷ (Take 1 0 None, Taken) ∷ []
 
--- a ticket is taken by another printer than the one to which it was given
+-- `given`: a ticket is taken by another printer than the one to which it was given
 abbrev pub taken_elsewhere : (A : Type 0) → Run A
 taken_elsewhere A = give ∷ (Take 2 0 None, Taken) ∷ []
 
+-- `no_overlap`: a ticket is refused as one of its numbers is free at its receiver
 abbrev pub overlaps : (A : Type 0) → Run A
 overlaps A = give ∷ (Take 1 0 None, TakeRefused Overlap) ∷ []
 
--- a first ticket is not numbered 0
+-- `next`: a first ticket is not numbered 0
 abbrev pub numbered_above : (A : Type 0) → Run A
 numbered_above A = (Give 0 1 first_ticket.range None, Given 1 first_ticket) ∷ []
 
--- of two tickets of one giver the second is taken first
-abbrev pub second_ticket : TicketView
-second_ticket = record { giver = 0; serial = 1; receiver = 1; range = first_ticket.range }
-
+-- `rising`: of two tickets of one giver the second is taken first
 abbrev pub taken_falling : (A : Type 0) → Run A
 taken_falling A =
     give ∷
     (Give 0 1 second_ticket.range None, Given 1 second_ticket) ∷
     (Take 1 1 None, Taken) ∷ (Take 1 0 None, Taken) ∷ []
 
--- a ticket is old although its receiver took none
+-- `reached`: a ticket is old although its receiver took none
 abbrev pub old_at_first : (A : Type 0) → Run A
 old_at_first A = give ∷ (Take 1 0 None, TakeRefused Old) ∷ []
 
--- a ticket is old although its receiver took just one of a lower serial
+-- `reached`: a ticket is old although its receiver took just one of a lower serial
 abbrev pub old_after_a_lower : (A : Type 0) → Run A
 old_after_a_lower A =
     give ∷
     (Give 0 1 second_ticket.range None, Given 1 second_ticket) ∷
     (Take 1 0 None, Taken) ∷ (Take 1 1 None, TakeRefused Old) ∷ []
 
--- a ticket is old although the one take of it was stopped before its save
+-- `reached`: a ticket is old although the one take of it was stopped before its save
 abbrev pub old_unsaved : (A : Type 0) → Run A
 old_unsaved A =
     give ∷
     (Take 1 0 BeforeSave, Stopped) ∷
     (RestartPrinter 1, Restarted) ∷ (Take 1 0 None, TakeRefused Old) ∷ []
 
--- a ticket is refused that was not given, and one is missing that was
+-- `reached`: a ticket is old although the one take of it that might have saved was of a printer that had failed
+abbrev pub old_though_failed : (A : Type 0) → Run A
+old_though_failed A =
+    give ∷
+    (Take 1 0 (SaveFault kept.Old), TakeRefused Save) ∷
+    (Take 1 0 (AfterLabels 0), Stopped) ∷
+    (RestartPrinter 1, Restarted) ∷ (Take 1 0 None, TakeRefused Old) ∷ []
+
+-- `there` and `not_there`: a ticket is refused that was not given, and one is missing that was
 abbrev pub refused_ungiven : (A : Type 0) → Run A
 refused_ungiven A = (Take 1 0 None, Memory) ∷ []
 
@@ -301,25 +342,25 @@ missing_ticket A = give ∷ (Take 1 0 None, NoSuch) ∷ (RestartPrinter 1, Resta
 
 -- ---- exports
 
-abbrev pub import : {A : Type 0} → ℕ → Event A × Reply A
-import added = (Import 1 0 None, Imported (record { id = 0; n = 2; added = added; kind = New }))
+abbrev pub import : {A : Type 0} → ℕ → ℕ → Event A × Reply A
+import id added = (Import 1 0 None, Imported (record { id = id; n = 2; added = added; kind = New }))
 
-abbrev pub never_exported : (A : Type 0) → Run A
-never_exported A = import 1 ∷ []
+-- `exported`: another document is imported than was exported, and page 2 is from an export of page 1
+abbrev pub imported_another_document : (A : Type 0) → Run A
+imported_another_document A = (Export 0 0, Exported 0 0 2 1) ∷ import 1 1 ∷ []
 
--- page 2 is imported from an export of page 1
 abbrev pub imported_another_page : (A : Type 0) → Run A
-imported_another_page A = (Export 0 0, Exported 0 0 2 1) ∷ import 2 ∷ []
+imported_another_page A = (Export 0 0, Exported 0 0 2 1) ∷ import 0 2 ∷ []
 
--- two exports have one number
+-- `numbered`, which follows from `next`: two exports have one number
 abbrev pub exported_twice : (A : Type 0) → Run A
 exported_twice A = (Export 0 0, Exported 0 0 2 1) ∷ (Export 0 0, Exported 0 0 2 1) ∷ []
 
--- a first export is not numbered 0
+-- `next`: a first export is not numbered 0
 abbrev pub exported_above : (A : Type 0) → Run A
 exported_above A = (Export 0 0, Exported 1 0 2 1) ∷ []
 
--- an export is refused that was not answered, and one is missing that was
+-- `there` and `not_there`: an export is refused that was not answered, and one is missing that was
 abbrev pub refused_unexported : (A : Type 0) → Run A
 refused_unexported A = (Import 0 0 None, Memory) ∷ []
 
@@ -352,6 +393,7 @@ pub record AreUnfaithful (A : Type 0) : Type 0 where
   pub printed_twice_is : ¬ IsFaithfulRun (printed_twice A)
   pub printed_unseen_is : ¬ PrintsOnceRun unseen_labels (printed_unseen A)
   pub told_twice_is : ¬ IsFaithfulRun (told_twice A)
+  pub left_though_failed_is : ¬ IsFaithfulRun (left_though_failed A)
   pub never_left_is : ¬ IsFaithfulRun (never_left A)
   pub another_call_is : ¬ AreRepliesRun (another_call A)
   pub stopped_unasked_is : ¬ AreRepliesRun (stopped_unasked A)
@@ -362,21 +404,24 @@ pub record AreUnfaithful (A : Type 0) : Type 0 where
   pub answered_while_down_is : ¬ AreRepliesRun (answered_while_down A)
   pub down_unstopped_is : ¬ AreRepliesRun (down_unstopped A)
   pub failed_before_a_fault_is : ¬ AreRepliesRun (failed_before_a_fault A)
+  pub given_though_failed_is : ¬ AreRepliesRun (given_though_failed A)
   pub missing_printer_is : ¬ AreRepliesRun (missing_printer A)
   pub numbered_twice_is : ¬ TakesOnceRun (numbered_twice A)
   pub taken_twice_is : ¬ TakesOnceRun (taken_twice A)
   pub taken_elsewhere_is : ¬ TakesOnceRun (taken_elsewhere A)
   pub overlaps_is : ¬ TakesOnceRun (overlaps A)
   pub one_serial_is : ¬ TakesOnceRun (one_serial A)
+  pub given_falling_is : ¬ TakesOnceRun (given_falling A)
   pub taken_though_old_is : ¬ TakesOnceRun (taken_though_old A)
   pub numbered_above_is : ¬ TakesOnceRun (numbered_above A)
   pub taken_falling_is : ¬ TakesOnceRun (taken_falling A)
   pub old_at_first_is : ¬ TakesOnceRun (old_at_first A)
   pub old_after_a_lower_is : ¬ TakesOnceRun (old_after_a_lower A)
   pub old_unsaved_is : ¬ TakesOnceRun (old_unsaved A)
+  pub old_though_failed_is : ¬ TakesOnceRun (old_though_failed A)
   pub refused_ungiven_is : ¬ TakesOnceRun (refused_ungiven A)
   pub missing_ticket_is : ¬ TakesOnceRun (missing_ticket A)
-  pub never_exported_is : ¬ ImportsExportsRun (never_exported A)
+  pub imported_another_document_is : ¬ ImportsExportsRun (imported_another_document A)
   pub imported_another_page_is : ¬ ImportsExportsRun (imported_another_page A)
   pub exported_twice_is : ¬ ImportsExportsRun (exported_twice A)
   pub exported_above_is : ¬ ImportsExportsRun (exported_above A)

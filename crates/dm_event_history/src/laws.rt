@@ -42,8 +42,8 @@ pub fn legal_prints_once<A: Allocator>()
     ensures { LegalPrintsOnce A }
 {}
 
-/// In such a history each ticket that is taken was given to that printer, and none is taken twice or refused for an
-/// overlap: said of the events and replies alone.
+/// In such a history each ticket that is taken was given to that printer, none is taken twice or refused for an
+/// overlap, and the serials of a giver's tickets rise: said of the events and replies alone.
 pub fn legal_takes_once<A: Allocator>()
     ensures { LegalTakesOnce A }
 {}

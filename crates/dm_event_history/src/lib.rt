@@ -1,14 +1,16 @@
 //! Histories of printers and desks: what happened, what was answered, and what follows from that alone.
 //!
-//! An [`Event`] is one call on one printer or one desk, and a [`Reply`] is its answer; a [`Stop`] says where the call
-//! ends before its time. A history is a list of events and replies (`specs/History`). From it alone stands which labels
-//! left, what was printed under an identification, who is down, where each identification is, and which pages a desk
-//! surely and possibly holds. Which histories are legal is said by `specs/Legal`, which are safe by `specs/Safe`.
+//! An [`Event`] is one call on one printer or one desk, of ten kinds: print, give, take or restart a printer; scan,
+//! ask, forget, export, import or restart a desk. A [`Reply`] is its answer. A [`Stop`] says what is to happen to the
+//! call: it ends early, or its save meets a fault. A history is a list of events and replies (`specs/History`). It
+//! alone says which labels left, what was printed under an identification, who is down, where each identification is,
+//! and which pages a desk surely and possibly holds. `specs/Legal` says which histories are legal, `specs/Safe` which
+//! are safe.
 //!
-//! Proved ([`laws`]): in a legal history of printers that begin with disjoint ranges each identification is in just one
-//! place, none is printed twice and no ticket is taken twice. In a safe one what is surely held is possibly held. And
-//! of a history that is legal and safe the headline stands, which speaks of events and replies alone
-//! (`specs/Headline`).
+//! Proved ([`laws`]): in a legal history of printers that begin with disjoint ranges each identification is in just
+//! one place, none is printed twice and no ticket is taken twice. In a safe one what is surely held is possibly held.
+//! And of a history that is legal and safe, with disjoint ranges and honest replies, the headline stands, which
+//! speaks of events and replies alone (`specs/Headline`).
 #![tactic(auto)]
 
 mod bytes;

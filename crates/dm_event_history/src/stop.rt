@@ -1,8 +1,8 @@
-//! Where calls are stopped.
+//! What is to happen to calls.
 
 use dm_store::Kept;
 
-/// What happens to a call before its time. A call that never reaches a save takes no notice of `SaveFault`, and every
+/// What is to happen to a call. A call that never reaches a save takes no notice of `SaveFault`, and every
 /// other stop ends it where it would end; but one whose memory is refused before that is not stopped.
 #[derive(Clone, Copy, Debug, PartialEq, Eq)]
 pub enum Stop {

@@ -246,6 +246,7 @@ ask_goes {A} ranges capacities grids h d id capacity view reply state legal ther
       stopped = λ x. cc;
       stops = λ _ x. absurd x;
       is_reply = (refl, tt);
+      failed = λ _ saves. absurd (let x : false ≡ true = saves in cc (x));
       untold = λ x. cc;
     }) refl refl asks missing
     by_answer (Err fault) asks missing = goes (Err fault) (record {
@@ -257,6 +258,7 @@ ask_goes {A} ranges capacities grids h d id capacity view reply state legal ther
       stopped = λ x. cc;
       stops = λ _ x. absurd x;
       is_reply = (refl, tt);
+      failed = λ _ saves. absurd (let x : false ≡ true = saves in cc (x));
       untold = λ x. cc;
     }) refl refl asks missing
 
@@ -298,6 +300,7 @@ restart_desk_goes {A} ranges capacities grids h d capacity Restarted was state t
         stopped = λ x. cc;
         stops = λ _ x. absurd x;
         is_reply = (refl, tt);
+        failed = λ _ saves. absurd (let x : false ≡ true = saves in cc (x));
         untold = λ x. cc;
       });
       stands = (
@@ -331,6 +334,7 @@ restart_desk_goes {A} ranges capacities grids h d capacity (DeskRefused fault) w
         stopped = λ x. cc;
         stops = λ _ x. absurd x;
         is_reply = (refl, acts.1 t.0 t.1.holds t.1.few);
+        failed = λ _ saves. absurd (let x : false ≡ true = saves in cc (x));
         untold = λ x. cc;
       });
       stands = (

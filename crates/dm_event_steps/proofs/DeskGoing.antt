@@ -21,7 +21,7 @@ use Rattle.dm_event_history.specs.declared.stop.Stop.TheVariants.{BeforeSave, In
 use Rattle.dm_event_history.specs.declared.stop.Stop.TheVariants as stops
 use Rattle.dm_event_history.specs.Actors.{DeskAt, actor_of}
 use Rattle.dm_event_history.specs.History.{Entry, History, docs}
-use Rattle.dm_event_history.specs.Running.{down_after, is_down, failed_after, is_failed}
+use Rattle.dm_event_history.specs.Running.{down_after, is_down, failed_after, is_failed, IsOfFailed}
 use Rattle.dm_event_history.specs.Saving.{tells_of_save}
 use Rattle.dm_event_history.specs.Holding.{Takes, Forgets}
 use Rattle.dm_event_history.specs.Legal.{Fits, IsThere, IsStopped, IsStopping, NeedsRunning}
@@ -53,6 +53,7 @@ pub record IsTold {A : Type 0} (ranges : List Range) (desks : ℕ) (h : History 
   pub stopped : reply ≡ Stopped → IsStopped event
   pub stops : is_down h (DeskAt d) ≡ false → IsStopped event → (reply ≡ Stopped) ⊎ (reply ≡ Memory)
   pub is_reply : IsFine ranges h 0 event reply
+  pub failed : is_failed h (DeskAt d) ≡ true → IsOfFailed event reply
   pub untold : ¬ (tells_of_save reply ≡ true)
 
 pub desk_fits : {A : Type 0} (ranges : List Range) (desks : ℕ) (h : History A) (event : Event A) (reply : Reply A)
@@ -70,11 +71,17 @@ desk_fits ranges desks h event reply d c = record {
   );
   stopped = c.stopped;
   stops = λ _ up is. c.stops (sym (ap (is_down h) c.named) ∙ up) is;
+  failed = λ was. (c.failed (sym (ap (is_failed h) c.named) ∙ was), refl);
   told = λ tells. absurd (c.untold tells);
   left_saved = λ none. absurd (omega arith);
   saved = λ x. cc;
   moves = λ x. cc;
 }
+
+-- a running desk that has not failed did not answer `Save` since its last restart
+pub not_failed : {A : Type 0} (grids : List GridView) (h : History A) (d capacity : ℕ) (view : DeskView) →
+    DeskRuns grids h d capacity view → view.is_failed ≡ false → (P : Type 0) → is_failed h (DeskAt d) ≡ true → P
+not_failed grids h d capacity view s was P failed = absurd (let x = s.failed in cc (was, failed, x))
 
 -- ---- what is held
 
@@ -326,6 +333,7 @@ desk_down {A} ranges capacities grids h event reply d capacity saved state room 
         stopped = λ x. cc;
         stops = λ up _. let t = s.down in cc;
         is_reply = is_reply;
+        failed = λ _ _. inr tt;
         untold = λ x. cc;
       });
       stands = (
@@ -367,6 +375,7 @@ memory_goes {A} ranges capacities grids h event d capacity view reply state room
       stopped = λ x. cc;
       stops = λ _ _. inr refl;
       is_reply = fine;
+      failed = λ _ _. inr tt;
       untold = λ x. cc;
     }) refl refl (λ id m t. absurd (takes id m t)) stays (λ honest. safe) (λ honest. answers)))
 
@@ -385,9 +394,9 @@ pub call_told : {A : Type 0} (ranges : List Range) (desks : ℕ) (h : History A)
     (d : ℕ) (stop : Stop) →
     actor_of event ≡ DeskAt d → IsThere (length ranges) desks h event → is_down h (DeskAt d) ≡ false → IsCalled stop →
     (IsStopped event → IsStopping stop) → reply ≢ NoSuch → reply ≢ Down → reply ≢ Stopped →
-    IsFine ranges h 0 event reply →
+    IsFine ranges h 0 event reply → (is_failed h (DeskAt d) ≡ true → IsOfFailed event reply) →
     ¬ (tells_of_save reply ≡ true) → IsTold ranges desks h event reply d
-call_told ranges desks h event reply d stop named there up called at some down unstopped fine untold = record {
+call_told ranges desks h event reply d stop named there up called at some down unstopped fine failed untold = record {
   named = named;
   there = there;
   some_such = some;
@@ -396,6 +405,7 @@ call_told ranges desks h event reply d stop named there up called at some down u
   stopped = λ x. absurd (unstopped x);
   stops = λ _ is. absurd (not_both stop called (at is));
   is_reply = fine;
+  failed = failed;
   untold = untold;
 }
 
@@ -413,5 +423,6 @@ stop_told ranges desks h event d named there up stopping fine = record {
   stopped = λ _. stopping;
   stops = λ _ _. inl refl;
   is_reply = fine;
+  failed = λ _ _. inr tt;
   untold = λ x. cc;
 }

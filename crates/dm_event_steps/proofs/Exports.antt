@@ -125,6 +125,7 @@ export_goes {A} ranges capacities grids h d id capacity reply view state old new
           stopped = λ x. absurd (unstopped x);
           stops = λ _ x. absurd x;
           is_reply = fine;
+          failed = λ _ saves. absurd (let x : false ≡ true = saves in cc (x));
           untold = untold;
         }) up (failed (is_failed h (DeskAt d))) (λ i m t. absurd t) stays (λ honest. safe (s.gathered honest.1))
         (λ honest. tt))

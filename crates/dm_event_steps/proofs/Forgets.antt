@@ -28,7 +28,7 @@ use Rattle.dm_event_history.specs.declared.stop.Stop.TheVariants.{BeforeSave, In
 use Rattle.dm_event_history.specs.declared.stop.Stop.TheVariants as stops
 use Rattle.dm_event_history.specs.Actors.{DeskAt}
 use Rattle.dm_event_history.specs.History.{Entry, History}
-use Rattle.dm_event_history.specs.Running.{failed_after, is_failed}
+use Rattle.dm_event_history.specs.Running.{failed_after, is_failed, IsOfFailed}
 use Rattle.dm_event_history.specs.Saving.{may_save}
 use Rattle.dm_event_history.specs.Holding.{Forgets, IsPossiblyHeld}
 use Rattle.dm_event_history.specs.Legal.{IsForgetRefused}
@@ -44,7 +44,7 @@ use Rattle.dm_event_steps.specs.Goes.{quiet, DeskGoes}
 use Rattle.dm_event_steps.proofs.DeskFacts.{some_page}
 use Rattle.dm_event_steps.proofs.Asks.{not_surely, page_is}
 use Rattle.dm_event_steps.proofs.Gathering.{HoldsWithout, gathered_keeps, gathered_without}
-use Rattle.dm_event_steps.proofs.DeskGoing.{none_leaves, memory_goes, lacks_same, set_keeps, fine_desk, done_with_none, faulted_with, desk_kept, set_saved, desk_saves, kept_held, desk_fails, desk_stopped, call_told, stop_told}
+use Rattle.dm_event_steps.proofs.DeskGoing.{none_leaves, not_failed, memory_goes, lacks_same, set_keeps, fine_desk, done_with_none, faulted_with, desk_kept, set_saved, desk_saves, kept_held, desk_fails, desk_stopped, call_told, stop_told}
 
 -- ---- what is held without a document
 
@@ -117,17 +117,19 @@ refused_goes : {A : Type 0} (ranges : List Range) (capacities : List ℕ) (grids
     DeskRuns grids h d capacity view → IsCalled stop →
     mid ≡ desk_planned view (next_save_of stop) →
     ((b : Bool) → (let reply : Reply A = ForgetRefused fault in failed_after reply b ≡ b)) →
+    (let reply : Reply A = ForgetRefused fault in is_failed h (DeskAt d) ≡ true → IsOfFailed (Forget d id stop) reply) →
     IsForgetRefused h d stop fault → (IsHonest grids (quiet (Forget d id stop) (ForgetRefused fault) ∷ h) →
     IsForgetSafe h d id fault) →
     DeskGoes ranges capacities grids h (Forget d id stop) (ForgetRefused fault) d capacity
     (desks.Running (desk_planned mid next_save.Fine))
-refused_goes {A} ranges capacities grids h d id capacity stop view mid fault there room s called same failed why safe =
+refused_goes {A} ranges capacities grids h d id capacity stop view mid fault there room s called same failed refuses why
+    safe =
     desk_kept ranges capacities grids h (Forget d id stop) (ForgetRefused fault) d capacity view
     (desk_planned mid next_save.Fine) room s
     (ap (λ (v : DeskView). desk_planned v next_save.Fine) same ∙ fine_desk view (next_save_of stop) s.store.ready)
     (call_told ranges (length capacities) h (Forget d id stop) (ForgetRefused fault) d stop refl there s.up called
     (λ x. x) (λ x. cc) (λ x. cc) (λ x. cc)
-    (refl, why) (λ x. cc))
+    (refl, why) refuses (λ x. cc))
     refl (failed (is_failed h (DeskAt d))) (λ i m t. absurd t) (λ i x. x) safe (λ honest. tt)
 
 few_kept : (k : Kept) (view : DeskView) (id : ℕ) → finite.len view.held ≤ view.capacity →
@@ -166,7 +168,7 @@ running_goes {A} ranges capacities grids h d id capacity stop view mid (Ok done)
     (subst (λ (c : ℕ). finite.len (finite.remove view.held id) ≤ c) s.capacity_is
     (few_remove view.held id view.capacity order.few))
     (call_told ranges (length capacities) h event Forgotten d stop refl there s.up called
-    (λ x. x) (λ x. cc) (λ x. cc) (λ x. cc) (refl, none) (λ x. cc))
+    (λ x. x) (λ x. cc) (λ x. cc) (λ x. cc) (refl, none) (not_failed grids h d capacity view s was _) (λ x. cc))
     refl refl
     (gathered_less grids h d id capacity stop Forgotten view s refl (λ other away x. away (sym x.1)))
     (λ honest. some_possibly h d id view.held (s.gathered honest.1) order.entries acts.was_held)
@@ -174,12 +176,12 @@ running_goes {A} ranges capacities grids h d id capacity stop view mid (Ok done)
 running_goes ranges capacities grids h d id capacity stop view mid
     (Err forget_fault.NotHeld) there room s called order was acts =
     refused_goes ranges capacities grids h d id capacity stop view mid forget_fault.NotHeld there room s called acts.1
-    (λ b. refl) tt
+    (λ b. refl) (not_failed grids h d capacity view s was _) tt
     (λ honest. not_surely h d id view.held (s.gathered honest.1) acts.0)
 running_goes ranges capacities grids h d id capacity stop view mid
     (Err forget_fault.Memory) there room s called order was acts =
     refused_goes ranges capacities grids h d id capacity stop view mid forget_fault.Memory there room s called acts.1
-    (λ b. refl) tt (λ honest. tt)
+    (λ b. refl) (not_failed grids h d capacity view s was _) tt (λ honest. tt)
 running_goes {A} ranges capacities grids h d id capacity stop view mid
     (Err forget_fault.Save) there room s called order was acts =
     let saves = acts.removed.there (kept_file grids h d id capacity view s was acts.was_held) in
@@ -199,7 +201,7 @@ running_goes {A} ranges capacities grids h d id capacity stop view mid
         (subst (λ (c : ℕ). finite.len (kept_held k view.held (finite.remove view.held id)) ≤ c) s.capacity_is
         (few_kept k view id order.few))
         (call_told ranges (length capacities) h event reply d (SaveFault k) refl there s.up tt
-        (λ x. x) (λ x. cc) (λ x. cc) (λ x. cc) (refl, (k, refl)) (λ x. cc))
+        (λ x. x) (λ x. cc) (λ x. cc) (λ x. cc) (refl, (k, refl)) (not_failed grids h d capacity view s was _) (λ x. cc))
         refl refl (gathered_kept grids h d id capacity k view s)
         (λ honest. gathered_keeps (quiet event reply) h d view.held (λ x. none_leaves event reply _ x)
         (λ i m t. absurd t) (λ i x. x) (s.gathered honest.1))
@@ -235,7 +237,7 @@ called_goes {A} ranges capacities grids h d id capacity stop view mid given ther
         (forget_reply r) d capacity
         (desks.Running (desk_planned mid next_save.Fine))) (sym x.0)
         (refused_goes ranges capacities grids h d id capacity stop view mid forget_fault.Failed there room s called x.1
-        (λ b. refl)
+        (λ b. refl) (λ _ _. inl tt)
         (sym s.failed ∙ was) (λ honest. tt)))
     by_failed false was =
         running_goes ranges capacities grids h d id capacity stop view mid given there room s called

@@ -37,7 +37,7 @@ use Rattle.dm_event_history.specs.declared.stop.Stop.TheVariants.{BeforeSave, In
 use Rattle.dm_event_history.specs.declared.stop.Stop.TheVariants as stops
 use Rattle.dm_event_history.specs.Actors.{DeskAt}
 use Rattle.dm_event_history.specs.History.{Entry, History, CutDocument, ExportName, docs, exports}
-use Rattle.dm_event_history.specs.Running.{failed_after, is_failed}
+use Rattle.dm_event_history.specs.Running.{failed_after, is_failed, IsOfFailed}
 use Rattle.dm_event_history.specs.Saving.{may_save}
 use Rattle.dm_event_history.specs.Masks.{HasPage}
 use Rattle.dm_event_history.specs.Holding.{Takes, Forgets}
@@ -58,7 +58,7 @@ use Rattle.dm_event_steps.proofs.Asks.{counted_is, page_is, some_none}
 use Rattle.dm_event_steps.proofs.Scans.{other_held}
 use Rattle.dm_event_steps.proofs.Exports.{named_there, there_named}
 use Rattle.dm_event_steps.proofs.Gathering.{HoldsFileToo, gathered_keeps, gathered_with_file}
-use Rattle.dm_event_steps.proofs.DeskGoing.{none_leaves, memory_goes, lacks_same, set_keeps, fine_desk, done_with_none, faulted_with, desk_kept, set_saved, desk_saves, kept_held, desk_fails, desk_stopped, call_told, stop_told}
+use Rattle.dm_event_steps.proofs.DeskGoing.{none_leaves, not_failed, memory_goes, lacks_same, set_keeps, fine_desk, done_with_none, faulted_with, desk_kept, set_saved, desk_saves, kept_held, desk_fails, desk_stopped, call_told, stop_told}
 
 -- an export that left is imported at a desk that runs
 pub record IsBrought {A : Type 0} (capacities : List ℕ) (grids : List GridView) (h : History A) (d number capacity : ℕ)
@@ -272,19 +272,21 @@ refused_goes : {A : Type 0} (ranges : List Range) (capacities : List ℕ) (grids
     IsBrought capacities grids h d number capacity view export → IsCalled stop →
     mid ≡ desk_planned view (next_save_of stop) →
     ((b : Bool) → (let reply : Reply A = ImportRefused fault in failed_after reply b ≡ b)) →
+    (let reply : Reply A = ImportRefused fault in
+    is_failed h (DeskAt d) ≡ true → IsOfFailed (Import d number stop) reply) →
     IsImportRefused h d stop fault →
     (IsHonest grids (quiet (Import d number stop) (ImportRefused fault) ∷ h) →
     IsHonestlyNotImported capacities h d number fault) →
     DeskGoes ranges capacities grids h (Import d number stop) (ImportRefused fault) d capacity
     (desks.Running (desk_planned mid next_save.Fine))
-refused_goes {A} ranges capacities grids h d number capacity stop view mid export fault s called same failed why
-    answers =
+refused_goes {A} ranges capacities grids h d number capacity stop view mid export fault s called same failed refuses
+    why answers =
     desk_kept ranges capacities grids h (Import d number stop) (ImportRefused fault) d capacity view
     (desk_planned mid next_save.Fine) s.room s.runs
     (ap (λ (v : DeskView). desk_planned v next_save.Fine) same ∙ fine_desk view (next_save_of stop) s.runs.store.ready)
     (call_told ranges (length capacities) h (Import d number stop)
     (ImportRefused fault) d stop refl s.there s.runs.up called (λ x. x) (λ x. cc) (λ x. cc)
-    (λ x. cc) (refl, why) (λ x. cc))
+    (λ x. cc) (refl, why) refuses (λ x. cc))
     refl (failed (is_failed h (DeskAt d))) (λ i m t. absurd t) (λ i x. x) (λ honest. tt) answers
 
 -- all pages of the export are held already
@@ -315,7 +317,7 @@ again_goes {A} ranges capacities grids h d number capacity stop view mid export 
       refl,
       imported_is capacities grids h d number capacity stop view export i s names_are
           (λ other. absurd (other again)),
-    ) (λ x. cc))
+    ) (not_failed grids h d capacity view s.runs was _) (λ x. cc))
     refl refl
     (λ id m t. (at id m t, subst (λ (x : Documents). IsSome (page_at x id m)) (s.runs.shows was) (at id m t)))
     (λ id x. x)
@@ -343,7 +345,8 @@ took_goes {A} ranges capacities grids h d number capacity stop view mid export i
     (few_with view.capacity view.held export.id s.shows.pages i.kind order.few is))
     (call_told ranges (length capacities) h event (Imported i) d stop refl s.there s.runs.up called
     (λ x. x) (λ x. cc) (λ x. cc) (λ x. cc)
-    (refl, imported_is capacities grids h d number capacity stop view export i s names_are (λ _. none)) (λ x. cc))
+    (refl, imported_is capacities grids h d number capacity stop view export i s names_are (λ _. none))
+    (not_failed grids h d capacity view s.runs keeps.holding.was_running _) (λ x. cc))
     refl refl
     (gathered_file capacities grids h d number capacity stop (Imported i) view export i.kind s is refl
     (takes_pages capacities grids h d number capacity stop i view export s) (λ id x. x))
@@ -396,7 +399,7 @@ failed_goes {A} ranges capacities grids h d number capacity k view mid export s 
     (few_kept k view export.id s.shows.pages order.few needs))
     (call_told ranges (length capacities) h event reply d (SaveFault k) refl s.there s.runs.up tt
     (λ x. x) (λ x. cc) (λ x. cc) (λ x. cc)
-    (refl, (k, refl)) (λ x. cc))
+    (refl, (k, refl)) (not_failed grids h d capacity view s.runs fails.failing.was_running _) (λ x. cc))
     refl refl (gathered_kept capacities grids h d number capacity k view export s needs)
     (λ honest. gathered_keeps (quiet event reply) h d view.held (λ x. none_leaves event reply _ x) (λ i m t. absurd t)
     (λ i x. x)
@@ -429,14 +432,14 @@ file_goes {A} ranges capacities grids h d number capacity stop view mid export (
 file_goes ranges capacities grids h d number capacity stop view mid export
     (Err import_fault.Conflict) s called order was acts =
     refused_goes ranges capacities grids h d number capacity stop view mid export import_fault.Conflict s called acts.1
-    (λ b. refl) tt
+    (λ b. refl) (not_failed grids h d capacity view s.runs was _) tt
     (λ honest. let c = import_conflict view.capacity view.held export.id s.shows.pages acts.0 in
     no_conflict h d export.id view.held c.0 s.shows.pages (s.runs.gathered honest.1) (s.shows.parts honest.1) c.1 c.2)
 file_goes ranges capacities grids h d number capacity stop view mid export
     (Err import_fault.Full) s called order was acts =
     let full = import_full view.capacity view.held export.id s.shows.pages acts.0 in
     refused_goes ranges capacities grids h d number capacity stop view mid export import_fault.Full s called acts.1
-    (λ b. refl) tt
+    (λ b. refl) (not_failed grids h d capacity view s.runs was _) tt
     (λ honest. record {
       name = export_name_of export;
       has_left = s.named;
@@ -447,7 +450,7 @@ file_goes ranges capacities grids h d number capacity stop view mid export
 file_goes ranges capacities grids h d number capacity stop view mid export
     (Err import_fault.Memory) s called order was acts =
     refused_goes ranges capacities grids h d number capacity stop view mid export import_fault.Memory s called acts.1
-    (λ b. refl) tt (λ honest. tt)
+    (λ b. refl) (not_failed grids h d capacity view s.runs was _) tt (λ honest. tt)
 file_goes {A} ranges capacities grids h d number capacity stop view mid export
     (Err import_fault.Save) s called order was acts =
     let k : (k : Kept) × (stop ≡ SaveFault k) = faulted_with stop view mid _ called acts.1.replaced in
@@ -487,7 +490,7 @@ called_goes {A} ranges capacities grids h d number capacity stop view mid export
         (Import d number stop) (import_reply r) d capacity
         (desks.Running (desk_planned mid next_save.Fine))) (sym x.0)
         (refused_goes ranges capacities grids h d number capacity stop view mid export import_fault.Failed s called x.1
-        (λ b. refl)
+        (λ b. refl) (λ _ _. inl tt)
         (sym s.runs.failed ∙ was) (λ honest. tt)))
     by_failed false was =
         file_goes ranges capacities grids h d number capacity stop view mid export given s called order was

@@ -23,7 +23,7 @@ use Rattle.dm_event_history.specs.declared.stop.Stop.TheVariants.{BeforeSave, In
 use Rattle.dm_event_history.specs.declared.stop.Stop.TheVariants as stops
 use Rattle.dm_event_history.specs.Actors.{PrinterAt}
 use Rattle.dm_event_history.specs.History.{Entry, History, tickets}
-use Rattle.dm_event_history.specs.Running.{failed_after, is_failed}
+use Rattle.dm_event_history.specs.Running.{failed_after, is_failed, IsOfFailed}
 use Rattle.dm_event_history.specs.Saving.{may_save}
 use Rattle.dm_event_history.specs.Numbers.{free_at, gives}
 use Rattle.dm_event_history.specs.Places.{ArePlaced}
@@ -36,7 +36,7 @@ use Rattle.dm_event_steps.specs.Stands.{IsLedgerOf, Runs}
 use Rattle.dm_event_steps.specs.Acts.{Left, IsCalled, next_save_of, planned, StopsPrinter, TellsGive, GiveActs, take_reply, TakeActs}
 use Rattle.dm_event_steps.specs.Goes.{PrinterGoes}
 use Rattle.dm_event_steps.proofs.Ledgers.{numbers_quiet, numbers_keep, ledger_gave, ledger_took, comes_at_most}
-use Rattle.dm_event_steps.proofs.PrinterGoing.{plain, plain_goes, no_ticket, ledger_now, fine_printer, saved_with_none, failed_with_fault, store_saved, runs_saved, runs_failed, IsOutcome, none_saved, none_changed, outcome_goes, kept_goes, refused_goes}
+use Rattle.dm_event_steps.proofs.PrinterGoing.{plain, plain_goes, no_ticket, not_failed, ledger_now, fine_printer, saved_with_none, failed_with_fault, store_saved, runs_saved, runs_failed, IsOutcome, none_saved, none_changed, outcome_goes, kept_goes, refused_goes}
 
 -- the numbers of a range that can be given are free
 were_free : {A : Type 0} (ranges : List Range) (h : History A) (p receiver : ℕ) (range : Range) (view : PrinterView) →
@@ -76,6 +76,7 @@ given_goes {A} ranges desks h p receiver range stop view mid ticket reply old ne
       stopped = λ x. cc;
       stops = λ _ x. absurd (subst (λ (t : Stop). IsStopping t) none x);
       is_reply = (refl, record { no_stop = none; index_is = ap length had; ticket_is = ticket_is });
+      failed = not_failed ranges h p view s gave.0.0 _;
       told = λ _. refl;
       may = λ _. refl;
       moves = λ _. were_free ranges h p receiver range view s gave.0;
@@ -112,6 +113,7 @@ give_failed {A} ranges desks h p receiver range k view mid unsaved old new there
           stopped = λ x. cc;
           stops = λ _ is. absurd is;
           is_reply = (refl, (_, refl));
+          failed = not_failed ranges h p view s can.0 _;
           told = λ x. cc;
           may = λ x. cc;
           moves = λ x. cc;
@@ -132,6 +134,7 @@ give_failed {A} ranges desks h p receiver range k view mid unsaved old new there
           stopped = λ x. cc;
           stops = λ _ is. absurd is;
           is_reply = (refl, (_, refl));
+          failed = not_failed ranges h p view s can.0 _;
           told = λ x. cc;
           may = λ _. refl;
           moves = λ _. were_free ranges h p receiver range view s can;
@@ -161,24 +164,26 @@ give_called {A} ranges desks h p receiver range stop view mid
   where
     none_given : (f : GiveFault) → mid ≡ planned view (next_save_of stop) →
         (let r : Reply A = GiveRefused f in failed_after r (is_failed h (PrinterAt p)) ≡ is_failed h (PrinterAt p)) →
+        (let event : Event A = Give p receiver range stop in let r : Reply A = GiveRefused f in
+        is_failed h (PrinterAt p) ≡ true → IsOfFailed event r) →
         IsGiveRefused h p stop f →
         PrinterGoes ranges desks h (Give p receiver range stop) (GiveRefused f) p
         (actors.Running (planned mid next_save.Fine)) old new
-    none_given f same failed why =
+    none_given f same failed refuses why =
         refused_goes ranges desks h (Give p receiver range stop)
         (GiveRefused f) p stop view mid old new refl there s same called (λ x. x)
-        (λ x. cc) (λ x. cc) (λ x. cc) refl failed (λ x. cc) refl (refl, why) labels tells.1
+        (λ x. cc) (λ x. cc) (λ x. cc) refl failed refuses (λ x. cc) refl (refl, why) labels tells.1
 
     by_fault : (f : GiveFault) → Gives (planned view (next_save_of stop)) receiver range (Err f) mid →
         PrinterGoes ranges desks h (Give p receiver range stop) (GiveRefused f) p
         (actors.Running (planned mid next_save.Fine)) old new
-    by_fault give_fault.Failed x = none_given give_fault.Failed x.1 refl (sym s.failed ∙ x.0)
-    by_fault give_fault.Range x = none_given give_fault.Range x.1 refl tt
-    by_fault give_fault.Receiver x = none_given give_fault.Receiver x.1 refl tt
-    by_fault give_fault.NotFree x = none_given give_fault.NotFree x.1 refl tt
-    by_fault give_fault.Serials x = none_given give_fault.Serials x.1 refl tt
-    by_fault give_fault.Ranges x = none_given give_fault.Ranges x.1 refl tt
-    by_fault give_fault.Memory x = none_given give_fault.Memory x.1 refl tt
+    by_fault give_fault.Failed x = none_given give_fault.Failed x.1 refl (λ _ _. inl tt) (sym s.failed ∙ x.0)
+    by_fault give_fault.Range x = none_given give_fault.Range x.1 refl (not_failed ranges h p view s x.0.0 _) tt
+    by_fault give_fault.Receiver x = none_given give_fault.Receiver x.1 refl (not_failed ranges h p view s x.0.0 _) tt
+    by_fault give_fault.NotFree x = none_given give_fault.NotFree x.1 refl (not_failed ranges h p view s x.0.0 _) tt
+    by_fault give_fault.Serials x = none_given give_fault.Serials x.1 refl (not_failed ranges h p view s x.0.0 _) tt
+    by_fault give_fault.Ranges x = none_given give_fault.Ranges x.1 refl (not_failed ranges h p view s x.0.0 _) tt
+    by_fault give_fault.Memory x = none_given give_fault.Memory x.1 refl (not_failed ranges h p view s x.0.0 _) tt
     by_fault give_fault.Save x =
         let k : (k : Kept) × (stop ≡ SaveFault k) = failed_with_fault stop view mid x.1 called x.3 in
         subst (λ (t : Stop). PrinterGoes ranges desks h (Give p receiver range t) (GiveRefused give_fault.Save) p
@@ -204,6 +209,7 @@ give_outcome {A} ranges h p receiver range stop view mid (Ok ticket) s may gave 
       store = store_saved ranges e h p view mid next_save.Fine mid.ledger s.store.ready gave.3
           (ledger_gave ranges h p receiver range stop Stopped 0 [] 0 view.ledger mid.ledger may refl gave.2
           (ledger_now ranges h p view s gave.0.0));
+      failed = not_failed ranges h p view s gave.0.0 _;
       may = λ _. may;
       moves = λ _. were_free ranges h p receiver range view s gave.0;
     }
@@ -264,7 +270,7 @@ give_goes {A} ranges desks h p receiver range stop reply view actor old new ther
     (subst (λ (a : PrinterActor A). PrinterGoes ranges desks h (Give p receiver range stop) Memory p a old new)
     (sym none.1)
     (kept_goes ranges desks h (Give p receiver range stop) Memory p view view old new refl there s refl
-    (λ x. cc) (λ x. cc) (λ x. cc) (λ _. refl) refl refl (λ x. cc) refl (refl, tt) labels none.2))
+    (λ x. cc) (λ x. cc) (λ x. cc) (λ _. refl) refl refl (λ _ _. inr tt) (λ x. cc) refl (refl, tt) labels none.2))
 give_goes {A} ranges desks h p receiver range stop reply view actor old new there s had labels (inr (inl called)) =
     subst (λ (a : PrinterActor A). PrinterGoes ranges desks h (Give p receiver range stop) reply p a old new)
     (sym (called.1 ∙ ap actors.Running called.3.after_is))
@@ -329,6 +335,7 @@ take_called {A} ranges desks h p number ticket stop view mid
       stopped = λ x. cc;
       stops = λ _ x. absurd (subst (λ (t : Stop). IsStopping t) none x);
       is_reply = (refl, none);
+      failed = not_failed ranges h p view s took.0.0 _;
       told = λ _. refl;
       may = λ _. refl;
       moves = λ _. may_be_taken ranges h p number ticket view s is took.0.0 took.0.1 took.0.2;
@@ -344,13 +351,16 @@ take_called {A} ranges desks h p number ticket stop view mid
   where
     none_taken : (f : TakeFault) → mid ≡ planned view (next_save_of stop) →
         (let r : Reply A = TakeRefused f in failed_after r (is_failed h (PrinterAt p)) ≡ is_failed h (PrinterAt p)) →
+        (let event : Event A = Take p number stop in let r : Reply A = TakeRefused f in
+        is_failed h (PrinterAt p) ≡ true → IsOfFailed event r) →
         IsTakeRefused h p number stop f →
         PrinterGoes ranges desks h (Take p number stop) (TakeRefused f) p
         (actors.Running (planned mid next_save.Fine)) old new
-    none_taken f at failed why =
+    none_taken f at failed refuses why =
         refused_goes ranges desks h (Take p number stop) (TakeRefused f) p stop view mid old new refl
         (there, within) s at called (λ x. x)
-        (λ x. cc) (λ x. cc) (λ x. cc) refl failed (λ x. cc) refl (refl, why) (ap (λ (l : Left A). l.labels) same)
+        (λ x. cc) (λ x. cc) (λ x. cc) refl failed refuses (λ x. cc) refl (refl, why)
+        (ap (λ (l : Left A). l.labels) same)
         (ap (λ (l : Left A). l.tickets) same)
 
     by_kept : (k : Kept) (unsaved : LedgerView) → CanTake view ticket → TakesIn view.ledger ticket unsaved →
@@ -370,6 +380,7 @@ take_called {A} ranges desks h p number ticket stop view mid
           stopped = λ x. cc;
           stops = λ _ x. absurd x;
           is_reply = (refl, (_, refl));
+          failed = not_failed ranges h p view s can.0 _;
           told = λ x. cc;
           may = λ x. cc;
           moves = λ x. cc;
@@ -390,6 +401,7 @@ take_called {A} ranges desks h p number ticket stop view mid
           stopped = λ x. cc;
           stops = λ _ x. absurd x;
           is_reply = (refl, (_, refl));
+          failed = not_failed ranges h p view s can.0 _;
           told = λ x. cc;
           may = λ _. refl;
           moves = λ _. may_be_taken ranges h p number ticket view s is can.0 can.1 can.2;
@@ -403,9 +415,9 @@ take_called {A} ranges desks h p number ticket stop view mid
     by_fault : (f : TakeFault) → Takes (planned view (next_save_of stop)) ticket (Err f) mid →
         PrinterGoes ranges desks h (Take p number stop) (TakeRefused f) p
         (actors.Running (planned mid next_save.Fine)) old new
-    by_fault take_fault.Failed x = none_taken take_fault.Failed x.1 refl (sym s.failed ∙ x.0)
-    by_fault take_fault.Receiver x = none_taken take_fault.Receiver x.1 refl tt
-    by_fault take_fault.Old x = none_taken take_fault.Old x.1 refl
+    by_fault take_fault.Failed x = none_taken take_fault.Failed x.1 refl (λ _ _. inl tt) (sym s.failed ∙ x.0)
+    by_fault take_fault.Receiver x = none_taken take_fault.Receiver x.1 refl (not_failed ranges h p view s x.0.0 _) tt
+    by_fault take_fault.Old x = none_taken take_fault.Old x.1 refl (not_failed ranges h p view s x.0.0 _)
         (is_old ranges h p number ticket view (ledger_now ranges h p view s x.0.0) is x.0.1
         (last_taken view.ledger.givers ticket.giver) refl x.0.2)
     -- a number that is free here would be in two places
@@ -418,9 +430,9 @@ take_called {A} ranges desks h p number ticket stop view mid
         let away : free_at ranges h p n ≡ false = ticket_is_elsewhere ranges desks h p number n legal placed m
         (subst (λ (t : TicketView). is_in t.range n ≡ true) one x.0.3.1) p in
         absurd (cc (free, away))
-    by_fault take_fault.Ranges x = none_taken take_fault.Ranges x.1 refl tt
-    by_fault take_fault.Givers x = none_taken take_fault.Givers x.1 refl tt
-    by_fault take_fault.Memory x = none_taken take_fault.Memory x.1 refl tt
+    by_fault take_fault.Ranges x = none_taken take_fault.Ranges x.1 refl (not_failed ranges h p view s x.0.0 _) tt
+    by_fault take_fault.Givers x = none_taken take_fault.Givers x.1 refl (not_failed ranges h p view s x.0.0 _) tt
+    by_fault take_fault.Memory x = none_taken take_fault.Memory x.1 refl (not_failed ranges h p view s x.0.0 _) tt
     by_fault take_fault.Save x =
         let k : (k : Kept) × (stop ≡ SaveFault k) = failed_with_fault stop view mid x.1 called x.3 in
         subst (λ (t : Stop). PrinterGoes ranges desks h (Take p number t) (TakeRefused take_fault.Save) p
@@ -446,6 +458,7 @@ take_outcome {A} ranges h p number ticket stop view mid (Ok done) s is may took 
           (ledger_took ranges h p number stop Stopped 0 [] 0 ticket view.ledger mid.ledger is
           (comes_at_most {A = A} (tickets h) p number stop Stopped ticket is)
           took.1 (ledger_now ranges h p view s took.0.0));
+      failed = not_failed ranges h p view s took.0.0 _;
       may = λ _. may;
       moves = λ _. may_be_taken ranges h p number ticket view s is took.0.0 took.0.1 took.0.2;
     }
@@ -526,5 +539,5 @@ take_goes {A} ranges desks h p number ticket stop reply view actor old new legal
     (kept_goes ranges desks h (Take p number stop) Memory p view (planned lacks.1.mid next_save.Fine) old new refl
     (there, within) s
     (ap (λ (v : PrinterView). planned v next_save.Fine) lacks.1.call.1 ∙ fine_printer view next_save.Fine s.store.ready)
-    (λ x. cc) (λ x. cc) (λ x. cc) (λ _. refl) refl refl (λ x. cc) refl (refl, tt)
+    (λ x. cc) (λ x. cc) (λ x. cc) (λ _. refl) refl refl (λ _ _. inr tt) (λ x. cc) refl (refl, tt)
     (ap (λ (l : Left A). l.labels) same) (ap (λ (l : Left A). l.tickets) same)))

@@ -270,6 +270,7 @@ none_goes {A} ranges capacities world h event s away =
         down = ((λ x. cc), (λ x. absurd (absent x.0)));
         stopped = λ x. cc;
         stops = λ there. absurd (absent there);
+        failed = λ _. ((λ _. inr tt), refl);
         told = λ x. cc;
         left_saved = λ some. none_leaves {A = A} event NoSuch _ some;
         saved = λ x. cc;

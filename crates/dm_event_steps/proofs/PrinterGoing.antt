@@ -19,7 +19,7 @@ use Rattle.dm_event_history.specs.declared.stop.Stop.TheVariants.{BeforeSave, In
 use Rattle.dm_event_history.specs.declared.stop.Stop.TheVariants as stops
 use Rattle.dm_event_history.specs.Actors.{PrinterAt, actor_of}
 use Rattle.dm_event_history.specs.History.{Entry, History, tickets, given}
-use Rattle.dm_event_history.specs.Running.{down_after, is_down, failed_after, is_failed}
+use Rattle.dm_event_history.specs.Running.{down_after, is_down, failed_after, is_failed, IsOfFailed}
 use Rattle.dm_event_history.specs.Saving.{may_save, tells_of_save}
 use Rattle.dm_event_history.specs.Legal.{IsReply, LetsOut, MayMove, NeedsRunning, IsThere, IsStopped, IsStopping}
 use Rattle.dm_event_history.proofs.WhoActs.{is_down_same, is_failed_same}
@@ -53,6 +53,7 @@ pub record IsPlain {A : Type 0} (ranges : List Range) (desks : ℕ) (h : History
   pub stopped : reply ≡ Stopped → IsStopped event
   pub stops : is_down h (PrinterAt p) ≡ false → IsStopped event → (reply ≡ Stopped) ⊎ (reply ≡ Memory)
   pub is_reply : IsFine ranges h id event reply
+  pub failed : is_failed h (PrinterAt p) ≡ true → IsOfFailed event reply × (saved ≡ false)
   pub told : tells_of_save reply ≡ true → saved ≡ true
   pub may : saved ≡ true → may_save event reply ≡ true
   pub moves : saved ≡ true → MayMove ranges h id event
@@ -82,6 +83,7 @@ plain_goes {A} ranges desks h event reply p id saved actor old new c stands same
     );
     stopped = c.stopped;
     stops = λ _ up is. c.stops (sym (ap (is_down h) c.named) ∙ up) is;
+    failed = λ was. c.failed (sym (ap (is_failed h) c.named) ∙ was);
     told = c.told;
     left_saved = λ none. absurd (omega arith);
     saved = c.may;
@@ -98,6 +100,11 @@ plain_goes {A} ranges desks h event reply p id saved actor old new c stands same
 -- the same as before, with no ticket
 pub no_ticket : {A : Type 0} (old new : Left A) → new ≡ old → new.tickets ≡ old.tickets ++ []
 no_ticket {A} old new same = ap (λ (l : Left A). l.tickets) same ∙ sym (append-nil old.tickets)
+
+-- a running printer that has not failed did not answer `Save` since its last restart
+pub not_failed : {A : Type 0} (ranges : List Range) (h : History A) (p : ℕ) (view : PrinterView) →
+    Runs ranges h p view → view.is_failed ≡ false → (P : Type 0) → is_failed h (PrinterAt p) ≡ true → P
+not_failed ranges h p view s was P failed = absurd (let x = s.failed in cc (was, failed, x))
 
 -- a running printer's ledger, unless its save failed
 pub ledger_now : {A : Type 0} (ranges : List Range) (h : History A) (p : ℕ) (view : PrinterView) →
@@ -225,6 +232,7 @@ pub record IsOutcome {A : Type 0} (ranges : List Range) (h : History A) (event :
   pub did : Bool
   pub stored : LedgerView
   pub store : StoreStands ranges (plain event Stopped id did ∷ h) p saved stored
+  pub failed : is_failed h (PrinterAt p) ≡ true → did ≡ false
   pub may : did ≡ true → (let reply : Reply A = Stopped in may_save event reply ≡ true)
   pub moves : did ≡ true → MayMove ranges h id event
 
@@ -242,6 +250,7 @@ none_saved {A} ranges h event p view saved s same = record {
     is = numbers_keep ranges (plain event Stopped 0 false) h p s.stored
         (numbers_quiet (plain event Stopped 0 false) h p refl (λ x. cc)) s.store.is;
   });
+  failed = λ _. refl;
   may = λ x. cc;
   moves = λ x. cc;
 }
@@ -276,6 +285,7 @@ outcome_goes {A} ranges desks h event p view saved actor old new named there s s
       stopped = λ _. stopping;
       stops = λ _ _. inl refl;
       is_reply = is_reply o.id;
+      failed = λ was. ((λ _. inr tt), o.failed was);
       told = λ x. cc;
       may = o.may;
       moves = o.moves;
@@ -304,6 +314,7 @@ down_goes {A} ranges desks h event p saved reply actor old new named there needs
       stopped = λ x. cc;
       stops = λ up _. let d = s.down in cc;
       is_reply = is_reply;
+      failed = λ _. ((λ _. inr tt), refl);
       told = λ x. cc;
       may = λ x. cc;
       moves = λ x. cc;
@@ -324,12 +335,13 @@ pub kept_goes : {A : Type 0} (ranges : List Range) (desks : ℕ) (h : History A)
     after ≡ view →
     reply ≢ NoSuch → reply ≢ Down → reply ≢ Stopped → (IsStopped event → reply ≡ Memory) →
     down_after reply false ≡ false →
-    failed_after reply (is_failed h (PrinterAt p)) ≡ is_failed h (PrinterAt p) → ¬ (tells_of_save reply ≡ true) →
+    failed_after reply (is_failed h (PrinterAt p)) ≡ is_failed h (PrinterAt p) →
+    (is_failed h (PrinterAt p) ≡ true → IsOfFailed event reply) → ¬ (tells_of_save reply ≡ true) →
     given reply ≡ [] →
     IsFine ranges h 0 event reply → new.labels ≡ old.labels → new.tickets ≡ old.tickets →
     PrinterGoes ranges desks h event reply p (actors.Running after) old new
 kept_goes {A} ranges desks h event reply p view after old new named there s same some up unstopped stops_so down failed
-    untold none is_reply labels tickets =
+    refuses untold none is_reply labels tickets =
     let e : Entry A = plain event reply 0 false in
     plain_goes ranges desks h event reply p 0 false (actors.Running after) old new (record {
       named = named;
@@ -340,6 +352,7 @@ kept_goes {A} ranges desks h event reply p view after old new named there s same
       stopped = λ x. absurd (unstopped x);
       stops = λ _ is. inr (stops_so is);
       is_reply = is_reply;
+      failed = λ was. (refuses was, refl);
       told = λ x. absurd (untold x);
       may = λ x. cc;
       moves = λ x. cc;
@@ -355,12 +368,14 @@ pub refused_goes : {A : Type 0} (ranges : List Range) (desks : ℕ) (h : History
     Runs ranges h p view →
     mid ≡ planned view (next_save_of stop) → IsCalled stop → (IsStopped event → IsStopping stop) →
     reply ≢ NoSuch → reply ≢ Down → reply ≢ Stopped → down_after reply false ≡ false →
-    failed_after reply (is_failed h (PrinterAt p)) ≡ is_failed h (PrinterAt p) → ¬ (tells_of_save reply ≡ true) →
+    failed_after reply (is_failed h (PrinterAt p)) ≡ is_failed h (PrinterAt p) →
+    (is_failed h (PrinterAt p) ≡ true → IsOfFailed event reply) → ¬ (tells_of_save reply ≡ true) →
     given reply ≡ [] →
     IsFine ranges h 0 event reply → new.labels ≡ old.labels → new.tickets ≡ old.tickets →
     PrinterGoes ranges desks h event reply p (actors.Running (planned mid next_save.Fine)) old new
 refused_goes ranges desks h event reply p stop view mid old new named there s same called at some up unstopped down
-    failed untold none is_reply labels tickets =
+    failed refuses untold none is_reply labels tickets =
     kept_goes ranges desks h event reply p view (planned mid next_save.Fine) old new named there s
     (ap (λ (v : PrinterView). planned v next_save.Fine) same ∙ fine_printer view (next_save_of stop) s.store.ready)
-    some up unstopped (λ is. absurd (not_both stop called (at is))) down failed untold none is_reply labels tickets
+    some up unstopped (λ is. absurd (not_both stop called (at is))) down failed refuses untold none is_reply labels
+    tickets

@@ -20,7 +20,7 @@ use Rattle.dm_event_history.specs.declared.stop.Stop.TheVariants.{BeforeSave, In
 use Rattle.dm_event_history.specs.declared.stop.Stop.TheVariants as stops
 use Rattle.dm_event_history.specs.Actors.{PrinterAt}
 use Rattle.dm_event_history.specs.History.{Entry, History, CutDocument, names_from, out, tickets}
-use Rattle.dm_event_history.specs.Running.{failed_after, is_failed}
+use Rattle.dm_event_history.specs.Running.{failed_after, is_failed, IsOfFailed}
 use Rattle.dm_event_history.specs.Saving.{may_save}
 use Rattle.dm_event_history.specs.Numbers.{free_at}
 use Rattle.dm_event_history.specs.Legal.{IsStopping, IsPrintRefused}
@@ -33,7 +33,7 @@ use Rattle.dm_event_steps.specs.Stands.{Runs, PrinterStands}
 use Rattle.dm_event_steps.specs.Acts.{Left, IsCalled, next_save_of, planned, StopsPrinter, TellsPrint, stopped_labels, PrintActs}
 use Rattle.dm_event_steps.specs.Goes.{PrinterGoes}
 use Rattle.dm_event_steps.proofs.Ledgers.{numbers_quiet, numbers_keep, ledger_used}
-use Rattle.dm_event_steps.proofs.PrinterGoing.{plain, plain_goes, no_ticket, ledger_now, saved_with_none, failed_with_fault, store_saved, runs_saved, runs_failed, IsOutcome, none_saved, none_changed, outcome_goes, kept_goes, refused_goes}
+use Rattle.dm_event_steps.proofs.PrinterGoing.{plain, plain_goes, no_ticket, not_failed, ledger_now, saved_with_none, failed_with_fault, store_saved, runs_saved, runs_failed, IsOutcome, none_saved, none_changed, outcome_goes, kept_goes, refused_goes}
 use Rattle.dm_event_steps.proofs.JobLabels.{names_left, length-AreLabels, left_goes, length_take, take_left, some_there}
 
 -- the identification of a print is free
@@ -74,6 +74,7 @@ printed_goes {A} ranges desks h p document size scheme stop view mid job reply o
         down = ((λ x. cc), (λ d. let u = s.up in let v = d.2 in cc));
         stopped = λ x. cc;
         stops = λ _ _ x. absurd (subst (λ (t : Stop). IsStopping t) none x);
+        failed = not_failed ranges h p view s was _;
         told = λ _. refl;
         left_saved = λ _. refl;
         saved = λ _. refl;
@@ -155,6 +156,7 @@ failed_goes {A} ranges desks h p document size scheme k view mid old new there s
           stopped = λ x. cc;
           stops = λ _ is. absurd is;
           is_reply = (refl, (_, refl));
+          failed = not_failed ranges h p view s f.failed.was_running _;
           told = λ x. cc;
           may = λ x. cc;
           moves = λ x. cc;
@@ -176,6 +178,7 @@ failed_goes {A} ranges desks h p document size scheme k view mid old new there s
           stopped = λ x. cc;
           stops = λ _ is. absurd is;
           is_reply = (refl, (_, refl));
+          failed = not_failed ranges h p view s f.failed.was_running _;
           told = λ x. cc;
           may = λ _. refl;
           moves = λ _. sym ((ledger_now ranges h p view s f.failed.was_running).free f.id) ∙ f.used.least.free;
@@ -212,22 +215,27 @@ called_goes {A} ranges desks h p document size scheme stop view mid
   where
     none_printed : (f : PrintFault) → mid ≡ planned view (next_save_of stop) →
         (let r : Reply A = PrintRefused f in failed_after r (is_failed h (PrinterAt p)) ≡ is_failed h (PrinterAt p)) →
+        (let event : Event A = Print p document size scheme stop in let r : Reply A = PrintRefused f in
+        is_failed h (PrinterAt p) ≡ true → IsOfFailed event r) →
         IsPrintRefused ranges h p (record { bytes = document; size = size; scheme = scheme; parts = [] }) stop f →
         PrinterGoes ranges desks h (Print p document size scheme stop) (PrintRefused f) p
         (actors.Running (planned mid next_save.Fine)) old new
-    none_printed f same failed why =
+    none_printed f same failed refuses why =
         refused_goes ranges desks h (Print p document size scheme stop)
         (PrintRefused f) p stop view mid old new refl there s same called (λ x. x)
-        (λ x. cc) (λ x. cc) (λ x. cc) refl failed (λ x. cc) refl (refl, why) tells.1 tickets
+        (λ x. cc) (λ x. cc) (λ x. cc) refl failed refuses (λ x. cc) refl (refl, why) tells.1 tickets
 
     by_fault : (f : PrintFault) → Prints (planned view (next_save_of stop)) size scheme document (Err f) mid →
         PrinterGoes ranges desks h (Print p document size scheme stop) (PrintRefused f) p
         (actors.Running (planned mid next_save.Fine)) old new
-    by_fault print_fault.Failed x = none_printed print_fault.Failed x.1 refl (sym s.failed ∙ x.0)
-    by_fault print_fault.TooLong x = none_printed print_fault.TooLong x.1 refl x.0.1
+    by_fault print_fault.Failed x = none_printed print_fault.Failed x.1 refl (λ _ _. inl tt) (sym s.failed ∙ x.0)
+    by_fault print_fault.TooLong x = none_printed print_fault.TooLong x.1 refl
+        (not_failed ranges h p view s x.0.0 _) x.0.1
     by_fault print_fault.Exhausted x = none_printed print_fault.Exhausted x.1 refl
+        (not_failed ranges h p view s x.0.0 _)
         (let b = (ledger_now ranges h p view s x.0.0).bounded in let z = x.0.2 in omega arith)
-    by_fault print_fault.Memory x = none_printed print_fault.Memory x.1 refl tt
+    by_fault print_fault.Memory x = none_printed print_fault.Memory x.1 refl
+        (not_failed ranges h p view s x.0.0 _) tt
     by_fault print_fault.Save x =
         let k : (k : Kept) × (stop ≡ SaveFault k) = failed_with_fault stop view mid x.1.unsaved called x.1.failed in
         subst (λ (t : Stop). PrinterGoes ranges desks h (Print p document size scheme t)
@@ -259,6 +267,7 @@ stopped_outcome {A} ranges desks h p document size scheme stop view mid (Ok job)
           (ledger_used ranges h p document size scheme stop Stopped job.id [] 0 view.ledger mid.ledger
           (record { named = refl; saved = refl; may = may })
           refl prints.3.used (ledger_now ranges h p view s was));
+      failed = not_failed ranges h p view s was _;
       may = λ _. may;
       moves = λ _. sym ((ledger_now ranges h p view s was).free job.id) ∙ prints.3.used.least.free;
     }
@@ -297,6 +306,7 @@ some_goes {A} ranges desks h p document size scheme most view mid job actor old 
         down = ((λ x. cc), (λ d. let u = s.up in let v = d.2 in cc));
         stopped = λ _. tt;
         stops = λ _ _ _. inl refl;
+        failed = not_failed ranges h p view s was _;
         told = λ x. cc;
         left_saved = λ _. refl;
         saved = λ _. refl;
@@ -406,7 +416,7 @@ print_goes {A} ranges desks h p document size scheme stop reply view actor old n
     (subst (λ (a : PrinterActor A). PrinterGoes ranges desks h (Print p document size scheme stop) Memory p a old new)
     (sym none.1)
     (kept_goes ranges desks h (Print p document size scheme stop) Memory p view view old new refl there s refl
-    (λ x. cc) (λ x. cc) (λ x. cc) (λ _. refl) refl refl (λ x. cc) refl (refl, tt) none.2 tickets))
+    (λ x. cc) (λ x. cc) (λ x. cc) (λ _. refl) refl refl (λ _ _. inr tt) (λ x. cc) refl (refl, tt) none.2 tickets))
 print_goes {A} ranges desks h p document size scheme stop reply view actor old new there s outs tickets
     (inr (inl called)) =
     subst (λ (a : PrinterActor A). PrinterGoes ranges desks h (Print p document size scheme stop) reply p a old new)

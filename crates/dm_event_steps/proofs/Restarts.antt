@@ -1,5 +1,5 @@
 -- A restart of a printer gives an entry that fits the history.
-use Rattle.std.proofs.Common.{◌≡◌, ◌<◌, ℕ, false, List, ◌∷◌, length, refl, ap, sym, ◌∙◌, subst}
+use Rattle.std.proofs.Common.{◌≡◌, ◌<◌, ℕ, true, false, List, ◌∷◌, length, refl, ap, sym, ◌∙◌, subst}
 use Rattle.dm_store.specs.Saved.{Saved}
 use Rattle.dm_print_ledger.specs.declared.range.Range.{Range}
 use Rattle.dm_print_ledger.specs.Views.{LedgerView}
@@ -54,6 +54,7 @@ restart_goes {A} ranges desks h p Restarted was actor old new there s same acts 
       stopped = λ x. cc;
       stops = λ _ x. absurd x;
       is_reply = (refl, tt);
+      failed = λ _. ((λ saves. absurd (let x : false ≡ true = saves in cc (x))), refl);
       told = λ x. cc;
       may = λ x. cc;
       moves = λ x. cc;
@@ -81,6 +82,7 @@ restart_goes {A} ranges desks h p (PrinterRefused fault) was actor old new there
       stopped = λ x. cc;
       stops = λ _ x. absurd x;
       is_reply = (refl, acts.1 t.0 t.1.holds t.1.is.number);
+      failed = λ _. ((λ saves. absurd (let x : false ≡ true = saves in cc (x))), refl);
       told = λ x. cc;
       may = λ x. cc;
       moves = λ x. cc;

@@ -40,7 +40,7 @@ use Rattle.dm_event_history.specs.declared.stop.Stop.TheVariants.{BeforeSave, In
 use Rattle.dm_event_history.specs.declared.stop.Stop.TheVariants as stops
 use Rattle.dm_event_history.specs.Actors.{DeskAt}
 use Rattle.dm_event_history.specs.History.{Entry, History, LabelName, CutDocument, out, docs}
-use Rattle.dm_event_history.specs.Running.{is_down, failed_after, is_failed}
+use Rattle.dm_event_history.specs.Running.{is_down, failed_after, is_failed, IsOfFailed}
 use Rattle.dm_event_history.specs.Saving.{may_save, tells_of_save}
 use Rattle.dm_event_history.specs.Holding.{Takes, MayTake, Forgets, IsPossiblyHeld}
 use Rattle.dm_event_history.specs.Legal.{IsScanRefused, HasModules, IsStopping}
@@ -59,7 +59,7 @@ use Rattle.dm_event_steps.specs.Goes.{quiet, DeskGoes}
 use Rattle.dm_event_steps.proofs.PrinterGoing.{IsFine, not_both}
 use Rattle.dm_event_steps.proofs.DeskFacts.{HoldsPage, is_free, holds_also, holds_all_others, lacks_another, Disagrees, holds_again, disagrees, is_full, some_page}
 use Rattle.dm_event_steps.proofs.Gathering.{gathered_keeps, gathered_with}
-use Rattle.dm_event_steps.proofs.DeskGoing.{none_leaves, memory_goes, lacks_same, IsTold, set_keeps, fine_desk, done_with_none, faulted_with, desk_kept, set_saved, desk_saves, kept_held, desk_fails, desk_stopped}
+use Rattle.dm_event_steps.proofs.DeskGoing.{none_leaves, not_failed, memory_goes, lacks_same, IsTold, set_keeps, fine_desk, done_with_none, faulted_with, desk_kept, set_saved, desk_saves, kept_held, desk_fails, desk_stopped}
 
 -- a label that left is scanned at a desk that runs
 pub record IsScanned {A : Type 0} (capacities : List ℕ) (grids : List GridView) (h : History A) (d number capacity : ℕ)
@@ -223,18 +223,21 @@ made_told : {A : Type 0} (ranges : List Range) (capacities : List ℕ) (h : Hist
     (reply : Reply A) → (d < length capacities) × HasModules h number flips → is_down h (DeskAt d) ≡ false →
     IsCalled stop →
     reply ≢ NoSuch → reply ≢ replies.Down → reply ≢ Stopped → IsFine ranges h 0 (Scan d number flips stop) reply →
+    (is_failed h (DeskAt d) ≡ true → IsOfFailed (Scan d number flips stop) reply) →
     ¬ (tells_of_save reply ≡ true) → IsTold ranges (length capacities) h (Scan d number flips stop) reply d
-made_told ranges capacities h d number flips stop reply there up called some down unstopped fine untold = record {
-  named = refl;
-  there = there;
-  some_such = some;
-  down = λ x. absurd (down x);
-  down_so = λ _ x. cc (x, up);
-  stopped = λ x. absurd (unstopped x);
-  stops = λ _ is. absurd (not_both stop called is);
-  is_reply = fine;
-  untold = untold;
-}
+made_told ranges capacities h d number flips stop reply there up called some down unstopped fine failed
+    untold = record {
+      named = refl;
+      there = there;
+      some_such = some;
+      down = λ x. absurd (down x);
+      down_so = λ _ x. cc (x, up);
+      stopped = λ x. absurd (unstopped x);
+      stops = λ _ is. absurd (not_both stop called is);
+      is_reply = fine;
+      failed = failed;
+      untold = untold;
+    }
 
 -- no more documents are held once a page is that needs a save
 few_with : (capacity : ℕ) (held : Documents) (p : PageView) → finite.len held ≤ capacity →
@@ -287,18 +290,20 @@ refused_goes : {A : Type 0} (ranges : List Range) (capacities : List ℕ) (grids
     IsScanned capacities grids h d number capacity flips view label → IsCalled stop →
     mid ≡ desk_planned view (next_save_of stop) →
     ((b : Bool) → (let reply : Reply A = ScanRefused fault in failed_after reply b ≡ b)) →
+    (let reply : Reply A = ScanRefused fault in
+    is_failed h (DeskAt d) ≡ true → IsOfFailed (Scan d number flips stop) reply) →
     IsScanRefused h d stop fault →
     (IsHonest grids (quiet (Scan d number flips stop) (ScanRefused fault) ∷ h) →
     IsHonestlyRefused grids capacities h d number flips fault) →
     DeskGoes ranges capacities grids h (Scan d number flips stop) (ScanRefused fault) d capacity
     (desks.Running (desk_planned mid next_save.Fine))
-refused_goes {A} ranges capacities grids h d number capacity flips stop view mid label fault s called same failed why
-    answers =
+refused_goes {A} ranges capacities grids h d number capacity flips stop view mid label fault s called same failed
+    refuses why answers =
     desk_kept ranges capacities grids h (Scan d number flips stop) (ScanRefused fault) d capacity view
     (desk_planned mid next_save.Fine) s.room s.runs
     (ap (λ (v : DeskView). desk_planned v next_save.Fine) same ∙ fine_desk view (next_save_of stop) s.runs.store.ready)
     (made_told ranges capacities h d number flips stop (ScanRefused fault) s.there s.runs.up called
-    (λ x. cc) (λ x. cc) (λ x. cc) (refl, why) (λ x. cc))
+    (λ x. cc) (λ x. cc) (λ x. cc) (refl, why) refuses (λ x. cc))
     refl (failed (is_failed h (DeskAt d))) (λ id m t. absurd t) (λ id x. x) (λ honest. tt) answers
 
 -- a page that is held already
@@ -326,7 +331,7 @@ again_goes {A} ranges capacities grids h d number capacity flips stop view mid l
     desk_kept ranges capacities grids h event reply d capacity view (desk_planned mid next_save.Fine) s.room s.runs
     (ap (λ (v : DeskView). desk_planned v next_save.Fine) same ∙ fine_desk view (next_save_of stop) s.runs.store.ready)
     (made_told ranges capacities h d number flips stop reply s.there s.runs.up called (λ x. cc) (λ x. cc) (λ x. cc)
-    (refl, (λ other. absurd (other again))) (λ x. cc))
+    (refl, (λ other. absurd (other again))) (not_failed grids h d capacity view s.runs runs _) (λ x. cc))
     refl refl
     (λ id m t. (
       at id m t.1 t.2,
@@ -361,7 +366,8 @@ took_goes {A} ranges capacities grids h d number capacity flips stop view mid la
     (subst (λ (c : ℕ). finite.len (with_page view.held opened.page) ≤ c) s.runs.capacity_is
     (few_with view.capacity view.held opened.page order.few needs))
     (made_told ranges capacities h d number flips stop reply s.there s.runs.up called
-    (λ x. cc) (λ x. cc) (λ x. cc) (refl, (λ _. none)) (λ x. cc))
+    (λ x. cc) (λ x. cc) (λ x. cc) (refl, (λ _. none))
+    (not_failed grids h d capacity view s.runs keeps.holding.was_running _) (λ x. cc))
     refl refl
     (gathered_page capacities grids h d number capacity flips stop reply view label opened a.kind s
     (λ x. cc) opens other answered refl
@@ -420,7 +426,8 @@ failed_goes {A} ranges capacities grids h d number capacity flips k view mid lab
     (subst (λ (c : ℕ). finite.len (kept_held k view.held (with_page view.held opened.page)) ≤ c) s.runs.capacity_is
     (few_kept k view opened.page order.few needs))
     (made_told ranges capacities h d number flips (SaveFault k) reply s.there s.runs.up tt
-    (λ x. cc) (λ x. cc) (λ x. cc) (refl, (k, refl)) (λ x. cc))
+    (λ x. cc) (λ x. cc) (λ x. cc) (refl, (k, refl))
+    (not_failed grids h d capacity view s.runs fails.failing.was_running _) (λ x. cc))
     refl refl
     (gathered_kept capacities grids h d number capacity flips k view label opened s opens needs)
     (λ honest. gathered_keeps (quiet event reply) h d view.held (λ x. none_leaves event reply _ x) (λ id m t. absurd t)
@@ -463,7 +470,7 @@ page_goes {A} ranges capacities grids h d number capacity flips stop view mid la
 page_goes ranges capacities grids h d number capacity flips stop view mid label opened
     (Err scan_fault.Conflict) s called opens order runs acts =
     refused_goes ranges capacities grids h d number capacity flips stop view mid label scan_fault.Conflict s called
-    acts.1 (λ b. refl) tt
+    acts.1 (λ b. refl) (not_failed grids h d capacity view s.runs runs _) tt
     (λ honest.
     let is = honest_page grids h d number flips stop (ScanRefused scan_fault.Conflict) label opened
     (λ x. cc) s.left s.shows opens honest in
@@ -473,7 +480,7 @@ page_goes {A} ranges capacities grids h d number capacity flips stop view mid la
     (Err scan_fault.Full) s called opens order runs acts =
     let full = is_full view.capacity view.held opened.page acts.0 in
     refused_goes ranges capacities grids h d number capacity flips stop view mid label scan_fault.Full s called acts.1
-    (λ b. refl) tt
+    (λ b. refl) (not_failed grids h d capacity view s.runs runs _) tt
     (λ honest.
     let is = honest_page grids h d number flips stop (ScanRefused scan_fault.Full) label opened
     (λ x. cc) s.left s.shows opens honest in (
@@ -489,7 +496,7 @@ page_goes {A} ranges capacities grids h d number capacity flips stop view mid la
 page_goes ranges capacities grids h d number capacity flips stop view mid label opened
     (Err scan_fault.Memory) s called opens order runs acts =
     refused_goes ranges capacities grids h d number capacity flips stop view mid label scan_fault.Memory s called acts.1
-    (λ b. refl) tt
+    (λ b. refl) (not_failed grids h d capacity view s.runs runs _) tt
     (λ honest. framed grids number flips label.grid s.left opens.opens.read.frame)
 page_goes {A} ranges capacities grids h d number capacity flips stop view mid label opened
     (Err scan_fault.Save) s called opens order runs acts =
@@ -510,19 +517,19 @@ unopened_goes : {A : Type 0} (ranges : List Range) (capacities : List ℕ) (grid
     (d number capacity : ℕ) (flips : List (ℕ × ℕ)) (stop : Stop) (view mid : DeskView) (label : LeftLabel A)
     (fault : LabelFault)
     (given : Result Accepted ScanFault) → IsScanned capacities grids h d number capacity flips view label →
-    IsCalled stop →
+    IsCalled stop → view.is_failed ≡ false →
     given ≡ Err (scan_fault.Label fault) → mid ≡ desk_planned view (next_save_of stop) →
     (IsHonest grids (quiet (Scan d number flips stop) (ScanRefused (scan_fault.Label fault)) ∷ h) →
     IsBeyond grids number flips fault) →
     DeskGoes ranges capacities grids h (Scan d number flips stop) (scan_reply given) d capacity
     (desks.Running (desk_planned mid next_save.Fine))
-unopened_goes {A} ranges capacities grids h d number capacity flips stop view mid label fault given s called is same
-    answers =
+unopened_goes {A} ranges capacities grids h d number capacity flips stop view mid label fault given s called runs is
+    same answers =
     subst (λ (r : Result Accepted ScanFault). DeskGoes ranges capacities grids h (Scan d number flips stop)
     (scan_reply r) d capacity
     (desks.Running (desk_planned mid next_save.Fine))) (sym is)
     (refused_goes ranges capacities grids h d number capacity flips stop view mid label
-    (scan_fault.Label fault) s called same (λ b. refl) tt answers)
+    (scan_fault.Label fault) s called same (λ b. refl) (not_failed grids h d capacity view s.runs runs _) tt answers)
 
 -- no honest scan is refused so
 never_so : {A : Type 0} (grids : List GridView) (h : History A) (d number : ℕ) (flips : List (ℕ × ℕ)) (stop : Stop)
@@ -554,41 +561,41 @@ opened_goes {A} ranges capacities grids h d number capacity flips stop view mid 
     (scan_reply r) d capacity
     (desks.Running (desk_planned mid next_save.Fine))) (sym acts.0)
     (refused_goes ranges capacities grids h d number capacity flips stop view mid label scan_fault.Memory s called
-    acts.1 (λ b. refl) tt
+    acts.1 (λ b. refl) (not_failed grids h d capacity view s.runs runs _) tt
     (λ honest. framed grids number flips label.grid s.left opens.opens))
 opened_goes ranges capacities grids h d number capacity flips stop view mid label
     (Err (labels.Border wrong)) given s called opens order runs acts =
     unopened_goes ranges capacities grids h d number capacity flips stop view mid label
-    (labels.Border wrong) given s called acts.0 acts.1
+    (labels.Border wrong) given s called runs acts.0 acts.1
     (λ honest. record { grid = label.grid; has_left = s.left; frame = opens.opens })
 opened_goes ranges capacities grids h d number capacity flips stop view mid label
     (Err (labels.Block block)) given s called opens order runs acts =
     unopened_goes ranges capacities grids h d number capacity flips stop view mid label
-    (labels.Block block) given s called acts.0 acts.1
+    (labels.Block block) given s called runs acts.0 acts.1
     (λ honest. absurd (never_so grids h d number flips stop label (labels.Block block)
     (Err (labels.Block block)) refl s.left s.shows opens honest))
 opened_goes ranges capacities grids h d number capacity flips stop view mid label
     (Err labels.NotAppended) given s called opens order runs acts =
     unopened_goes ranges capacities grids h d number capacity flips stop view mid label labels.NotAppended given s
-    called acts.0 acts.1
+    called runs acts.0 acts.1
     (λ honest. absurd (never_so grids h d number flips stop label labels.NotAppended
     (Err labels.NotAppended) refl s.left s.shows opens honest))
 opened_goes ranges capacities grids h d number capacity flips stop view mid label
     (Err (labels.Sequence word)) given s called opens order runs acts =
     unopened_goes ranges capacities grids h d number capacity flips stop view mid label
-    (labels.Sequence word) given s called acts.0 acts.1
+    (labels.Sequence word) given s called runs acts.0 acts.1
     (λ honest. absurd (never_so grids h d number flips stop label (labels.Sequence word)
     (Err (labels.Sequence word)) refl s.left s.shows opens honest))
 opened_goes ranges capacities grids h d number capacity flips stop view mid label
     (Err labels.FileId) given s called opens order runs acts =
     unopened_goes ranges capacities grids h d number capacity flips stop view mid label labels.FileId given s called
-    acts.0 acts.1
+    runs acts.0 acts.1
     (λ honest. absurd (never_so grids h d number flips stop label labels.FileId
     (Err labels.FileId) refl s.left s.shows opens honest))
 opened_goes ranges capacities grids h d number capacity flips stop view mid label
     (Err (labels.Content fault)) given s called opens order runs acts =
     unopened_goes ranges capacities grids h d number capacity flips stop view mid label
-    (labels.Content fault) given s called acts.0 acts.1
+    (labels.Content fault) given s called runs acts.0 acts.1
     (λ honest. absurd (never_so grids h d number flips stop label (labels.Content fault)
     (Err (labels.Content fault)) refl s.left s.shows opens honest))
 
@@ -620,7 +627,7 @@ called_goes {A} ranges capacities grids h d number capacity flips stop view mid 
         (scan_reply r) d capacity
         (desks.Running (desk_planned mid next_save.Fine))) (sym f.0)
         (refused_goes ranges capacities grids h d number capacity flips stop view mid label scan_fault.Failed s called
-        f.1 (λ b. refl)
+        f.1 (λ b. refl) (λ _ _. inl tt)
         (sym s.runs.failed ∙ was) (λ honest. tt)))
     by_failed false was =
         (let x = accepts.scanned was in
@@ -741,6 +748,7 @@ stopped_goes {A} ranges capacities grids h d number capacity flips stop view lab
       stopped = λ _. stopping;
       stops = λ _ _. inl refl;
       is_reply = (refl, tt);
+      failed = λ _ _. inr tt;
       untold = λ x. cc;
     }
 

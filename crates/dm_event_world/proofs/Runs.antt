@@ -1,14 +1,17 @@
 -- Runs of worlds: one event more at their end, and the headline.
-use Rattle.std.proofs.Common.{◌≡◌, ℕ, Bool, List, [], ◌∷◌, ◌++◌, length, refl, ap, subst, zero, suc, take}
+use Rattle.std.proofs.Common.{◌≡◌, ℕ, Bool, true, false, Some, List, [], ◌∷◌, ◌++◌, length, slice_get, refl, ap, subst, zero, suc, take, arith}
 use Rattle.dm_event_history.specs.declared.event.Event.{Event}
+use Rattle.dm_event_history.specs.declared.event.Event.TheVariants.{Scan}
 use Rattle.dm_event_history.specs.declared.reply.Reply.{Reply}
+use Rattle.dm_event_history.specs.declared.reply.Reply.TheVariants.{NoSuch}
 use Rattle.dm_event_history.specs.History.{History}
 use Rattle.dm_event_history.specs.Headline.{IsFaithfulBy}
-use Rattle.dm_event_steps.specs.Worlds.{WorldView, Steps, Runs, RunsMarked, AreMarked, HasBeenFaithful}
+use Rattle.dm_event_steps.specs.Worlds.{WorldView, Steps, IsFairIn, Runs, RunsMarked, AreMarked, HasBeenFaithful}
 use Rattle.dm_event_world.specs.declared.answers.Answer.{Answer}
 use Rattle.dm_event_world.specs.declared.answers.Answer.TheVariants.{Given, NotGiven}
 use Rattle.dm_event_world.specs.Runs.{Continues, GoesOn, GoesOnByAll}
-use Rattle.dm_event_world.specs.Watched.{given, replies, AreHonest, IsFaithfulIfHonestBy, Answers, AnswersAll}
+use Rattle.dm_event_world.specs.Watched.{given, replies, AreHonest, IsScan, HasFlips, IsFaithfulIfHonestBy, IsLookedAt, Answers, AnswersAll}
+use Rattle.dm_event_world.proofs.ScannedLabels.{near_itself, not_named}
 
 -- one event more
 pub runs_more : {A : Type 0} (old mid new : WorldView A) (events : List (Event A)) (all : List (Reply A))
@@ -100,12 +103,70 @@ first_given (suc k) old new (event ∷ events) (NotGiven ∷ answers) runs =
 first_given (suc k) old new [] (answer ∷ answers) runs = absurd runs
 first_given (suc k) old new (event ∷ events) [] runs = absurd runs
 
+-- each answer is one to its event
+record IsAnswered {A : Type 0} (event : Event A) (answer : Answer A) : Type 0 where
+  pub was : WorldView A
+  pub is : WorldView A
+  pub answers : Answers was event answer is
+
+each_answered : {A : Type 0} (old new : WorldView A) (events : List (Event A)) (answers : List (Answer A)) →
+    AnswersAll old events answers new → (i : ℕ) (event : Event A) (answer : Answer A) →
+    slice_get events i ≡ Some event → slice_get answers i ≡ Some answer → IsAnswered event answer
+each_answered old new [] [] runs i event answer asked answered = absurd (cc (asked))
+each_answered {A} old new (own ∷ events) (told ∷ answers) runs zero event answer asked answered =
+    let e : Some own ≡ Some event = asked in
+    let a : Some told ≡ Some answer = answered in
+    let event_is : own ≡ event = cc (e) in
+    let answer_is : told ≡ answer = cc (a) in
+    record {
+      was = old;
+      is = runs.0;
+      answers = subst (λ (v : Event A). Answers old v answer runs.0) event_is
+          (subst (λ (x : Answer A). Answers old own x runs.0) answer_is runs.1);
+    }
+each_answered old new (own ∷ events) (told ∷ answers) runs (suc i) event answer asked answered =
+    each_answered runs.0 new events answers runs.2 i event answer asked answered
+each_answered old new [] (told ∷ answers) runs i event answer asked answered = absurd runs
+each_answered old new (own ∷ events) [] runs i event answer asked answered = absurd runs
+
+as_many : {A : Type 0} (old new : WorldView A) (events : List (Event A)) (answers : List (Answer A)) →
+    AnswersAll old events answers new → length answers ≡ length events
+as_many old new [] [] runs = refl
+as_many old new (event ∷ events) (answer ∷ answers) runs =
+    (let t = as_many runs.0 new events answers runs.2 in omega arith)
+as_many old new [] (answer ∷ answers) runs = absurd runs
+as_many old new (event ∷ events) [] runs = absurd runs
+
+-- of which event a copy is looked at, and which may not be fair
+is_scan : {A : Type 0} (world : WorldView A) (event : Event A) → IsLookedAt world event → IsScan event
+is_scan world (Scan desk label flips stop) looked = tt
+is_scan world event looked = absurd looked
+
+has_flips : {A : Type 0} (world : WorldView A) (event : Event A) → ¬ IsFairIn world event → HasFlips event
+has_flips world (Scan desk label [] stop) unfair = absurd (unfair (λ named grid there. near_itself grid))
+has_flips world (Scan desk label (flip ∷ flips) stop) unfair = omega arith
+has_flips world event unfair = absurd (unfair (λ named. tt))
+
+is_there : {A : Type 0} (old new : WorldView A) (event : Event A) (reply : Reply A) → ¬ IsFairIn old event →
+    Steps old event reply new → reply ≡ NoSuch → ⊥
+is_there old new (Scan desk label flips stop) reply unfair steps none =
+    unfair (λ named. absurd (not_named old new desk label flips stop reply none steps named))
+is_there old new event reply unfair steps none = unfair (λ named. tt)
+
 -- the headline, by the batches of the run
 pub faithful_by : {A : Type 0} (old new : WorldView A) (events : List (Event A)) (answers : List (Answer A)) →
     AnswersAll old events answers new →
     (f : HasBeenFaithful new (given events answers) (marks answers) (replies answers)) →
     IsFaithfulIfHonestBy f.batches events answers
 faithful_by {A} old new events answers runs f = record {
+  each_answer = (let t = as_many old new events answers runs in omega arith);
+  not_given = λ i event asked answered.
+      (let t = each_answered old new events answers runs i event NotGiven asked answered in
+      is_scan t.was event t.answers.0);
+  dishonest = λ i event reply asked answered.
+      (let t = each_answered old new events answers runs i event (Given false reply) asked answered in
+      let unfair : ¬ IsFairIn t.was event = (λ fair. let x : false ≡ true = t.answers.0.1 fair in cc (x)) in
+      (has_flips t.was event unfair, λ none. is_there t.was t.is event reply unfair t.answers.1 none));
   once = f.prints;
   faithful = λ k honest.
       (let n = length (replies (take k answers)) in

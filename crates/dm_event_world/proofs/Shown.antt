@@ -1,11 +1,14 @@
 -- The run is refused: the first batches of its one list are those of the first events.
-use Rattle.std.proofs.Common.{◌≡◌, ℕ, Option, Some, None, List, [], ◌∷◌, take, refl, sym, ◌∙◌, subst, arith, slice_get}
+use Rattle.std.proofs.Common.{◌≡◌, ◌<◌, ℕ, Option, Some, None, List, [], ◌∷◌, take, refl, sym, ◌∙◌, subst, arith, slice_get}
 use Rattle.dm_assembly_desk.specs.declared.reply.Kind.TheVariants.{New}
-use Rattle.dm_event_history.specs.declared.event.Event.TheVariants.{Scan}
+use Rattle.dm_event_history.specs.declared.event.Event.TheVariants.{Scan, RestartPrinter}
+use Rattle.dm_event_history.specs.declared.reply.Reply.TheVariants.{Scanned, Restarted, NoSuch}
 use Rattle.dm_event_history.specs.declared.stop.Stop.TheVariants as stops
 use Rattle.dm_event_history.specs.Headline.{Batch, labels_of, IsScanOf}
 use Rattle.dm_event_history.proofs.Refuted.{first_label}
-use Rattle.dm_event_world.specs.Shown.{IsShownForGood, shown_events, shown_answers}
+use Rattle.dm_event_history.specs.Worked.{digits}
+use Rattle.dm_event_history.specs.Unfaithful.{page, print, scan}
+use Rattle.dm_event_world.specs.Shown.{IsShownForGood, shown_events, shown_answers, AreAnsweredWrongly}
 use Rattle.dm_event_world.specs.Watched.{IsFaithfulIfHonestBy, given}
 
 pub is_shown_for_good : (A : Type 0) → IsShownForGood A
@@ -36,3 +39,13 @@ is_shown_for_good A (batches, f) = by_batches batches f
         first_label batch [] (record { id = 7; number = 1; count = 2 }) p.not_none (had (Some batch ∷ rest) f) in
         let t = f.once.told 3 7 1 2 refl in
         let place : ◌≡◌ {A = ℕ} 0 3 = f.once.once 0 3 batch t.batch refl t.there (own ∙ sym t.id_is) in omega arith
+
+pub are_answered_wrongly : (A : Type 0) → AreAnsweredWrongly A
+are_answered_wrongly A = record {
+  unanswered = λ t. (let f = t.1 in let x : ◌≡◌ {A = ℕ} 0 1 = f.each_answer in omega arith);
+  print_not_given = λ t. t.1.not_given 0 (print 0 digits stops.None) refl refl;
+  dishonest_restart = λ t. (t.1.dishonest 0 (RestartPrinter 0) Restarted refl refl).0;
+  dishonest_scan = λ t. (let few : 0 < 0 = (t.1.dishonest 1 (scan 0) (Scanned (page 0 1 New)) refl refl).0 in
+      omega arith);
+  dishonest_of_none = λ t. (t.1.dishonest 0 (Scan 0 0 ((0, 0) ∷ []) stops.None) NoSuch refl refl).1 refl;
+}

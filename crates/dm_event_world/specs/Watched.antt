@@ -1,9 +1,10 @@
 -- Runs in which each event is looked at first, and what is so of their answers: the headline.
-use Rattle.std.specs.Prelude.{◌≡◌, ◌↔◌, ℕ, true, Option, List, [], ◌∷◌, length, take}
+use Rattle.std.specs.Prelude.{◌≡◌, ◌≢◌, ◌↔◌, ◌<◌, ℕ, true, false, Option, Some, List, [], ◌∷◌, length, slice_get, take}
 use Rattle.dm_print_ledger.specs.declared.range.Range.{Range}
 use Rattle.dm_event_history.specs.declared.event.Event.{Event}
 use Rattle.dm_event_history.specs.declared.event.Event.TheVariants.{Scan}
 use Rattle.dm_event_history.specs.declared.reply.Reply.{Reply}
+use Rattle.dm_event_history.specs.declared.reply.Reply.TheVariants.{NoSuch}
 use Rattle.dm_event_history.specs.Headline.{Batch, PrintsOnceBy, IsFaithfulBy}
 use Rattle.dm_event_steps.specs.Worlds.{WorldView, IsNamed, IsFairIn, Steps, AreItsBatches, AreItsLabels}
 use Rattle.dm_event_world.specs.Openings.{Begins}
@@ -30,12 +31,30 @@ AreHonest [] = Unit {0}
 AreHonest (Given is_honest reply ∷ answers) = (is_honest ≡ true) × AreHonest answers
 AreHonest (NotGiven ∷ answers) = AreHonest answers
 
+-- the event is a scan
+abbrev pub IsScan : {A : Type 0} → Event A → Type 0
+IsScan (Scan desk label flips stop) = Unit {0}
+IsScan event = ⊥
+
+-- the event is a scan of a copy in which modules were flipped
+abbrev pub HasFlips : {A : Type 0} → Event A → Type 0
+HasFlips (Scan desk label flips stop) = 0 < length flips
+HasFlips event = ⊥
+
 -- No identification was printed twice, and as long as each event was found honest, the replies are faithful, whatever
 -- comes later: whatever document any desk gave for an identification is the one document printed under it. One list of
 -- batches serves for both, and for each k: the batches of the first events are the first of it.
 pub record IsFaithfulIfHonestBy {A : Type 0} (batches : List (Option Batch)) (events : List (Event A))
     (answers : List (Answer A))
     : Type 0 where
+  -- each event has an answer
+  pub each_answer : length answers ≡ length events
+  -- only a scan is not given to the world
+  pub not_given : (i : ℕ) (event : Event A) → slice_get events i ≡ Some event → slice_get answers i ≡ Some NotGiven →
+      IsScan event
+  -- only a scan with flips, of what is there, is found dishonest
+  pub dishonest : (i : ℕ) (event : Event A) (reply : Reply A) → slice_get events i ≡ Some event →
+      slice_get answers i ≡ Some (Given false reply) → HasFlips event × (reply ≢ NoSuch)
   pub once : PrintsOnceBy batches (given events answers) (replies answers)
   pub faithful : (k : ℕ) → AreHonest (take k answers) →
       IsFaithfulBy (take (length (replies (take k answers))) batches) (given (take k events) (take k answers))
@@ -53,7 +72,8 @@ IsLookedAt world (Scan desk label flips stop) = IsNamed world (Scan desk label f
 IsLookedAt world event = ⊥
 
 -- An event that is given to the world is one step of it, and found honest exactly where it is fair, or names what is
--- not there. Only a scan of what is there may not be given, as memory for the look is refused; it changes nothing.
+-- not there. Only a scan of what is there can go without being given, if memory for the look is refused; it changes
+-- nothing.
 abbrev pub Answers : {A : Type 0} → WorldView A → Event A → Answer A → WorldView A → Type 0
 Answers old event (Given is_honest reply) new = ((is_honest ≡ true) ↔ IsFairIn old event) × Steps old event reply new
 Answers old event NotGiven new = IsLookedAt old event × (new ≡ old)

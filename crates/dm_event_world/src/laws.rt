@@ -1,11 +1,18 @@
-//! A law of the headline: its contract is the law. It speaks of definitions alone, so the function does nothing.
+//! Laws of the headline: each function's contract is the law. They speak of definitions alone, so the functions do
+//! nothing.
 
-ghost use Rattle.dm_event_world.specs.Shown.{IsShownForGood};
+ghost use Rattle.dm_event_world.specs.Shown.{AreAnsweredWrongly, IsShownForGood};
 
 use std::alloc::Allocator;
 
-/// What honest scans showed of stopped prints holds after a scan that is not honest too: a run in which a label is
-/// shown to have left under an identification that is told as printed later is refused.
+/// What honest scans showed of stopped prints holds after a scan that is not honest too: a run in which a later
+/// print is told under the identification of a label that an honest scan showed is refused.
 pub fn shown_for_good<A: Allocator>()
     ensures { IsShownForGood A }
+{}
+
+/// Each event has an answer, only a scan is not given, and only a scan of what is there, of a copy in which modules
+/// were flipped, is found dishonest: runs that are answered otherwise are refused.
+pub fn answered_rightly<A: Allocator>()
+    ensures { AreAnsweredWrongly A }
 {}
