@@ -3,6 +3,5 @@ pub mod CheckWords
 pub mod OpenedPrints
 pub mod PlanSteps
 pub mod PrintedLabels
-pub mod ShownLines
 pub mod Sizes
 pub mod SmallestSteps

@@ -1,4 +1,5 @@
 pub mod ImageLoop
+pub mod Lines
 pub mod Telling
 pub mod Groups
 pub mod MissingPages

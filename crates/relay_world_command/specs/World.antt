@@ -11,7 +11,7 @@ use Rattle.dm_event_world.specs.Watched.{IsFaithfulIfHonest, RunsFromTheStart, g
 use Rattle.dm_event_world.specs.declared.answers.Answer.{Answer}
 use Rattle.dm_event_world.specs.declared.fault.WorldFault.{WorldFault}
 use Rattle.relay_streams.specs.FaultNames.{input_fault_name}
-use Rattle.relay_streams.specs.Streams.{InputView, OutputView, TakesFirst}
+use Rattle.relay_streams.specs.Streams.{AppendsPart, InputView, OutputView, TakesFirst}
 use Rattle.relay_streams.specs.declared.fault.InputFault.{InputFault}
 use Rattle.relay_script.specs.Scripts.{IsScript}
 use Rattle.relay_script.specs.Words.{IsRead, script_fault_name}
@@ -28,12 +28,14 @@ pub record ReadsScript (input rest : InputView) (bytes : List ℕ) : Type 0 wher
   pub taken : TakesFirst input.remaining rest.remaining (SCRIPT_BYTES + 1) bytes
   pub whole : rest.has_failed ≡ input.has_failed
 
--- the line of each answer was written, and the status is 1 where one is of a refusal; or the output has refused a write
+-- The line of each answer was written, and the status is 1 if one is of a refusal. Or the output has refused a write,
+-- and a part of these lines is out, from their first byte on.
 abbrev pub TellsAnswers : {A : Type 0} → List (Answer A) → OutputView → OutputView → ℕ → Type 0
 TellsAnswers answers old new status =
     (Appends old.contents new.contents (flat_map answer_line answers)
     × (status ≡ (if has_refusal answers then 1 else 0)))
-    ⊎ ((new.has_failed ≡ true) × (status ≡ 1))
+    ⊎ ((new.has_failed ≡ true) × AppendsPart old.contents new.contents (flat_map answer_line answers)
+    × (status ≡ 1))
 
 -- How `world` ends: the input was read, it was a script, its world began and answered each event, and the line of each
 -- answer was written. No identification was printed twice, no ticket taken twice and nothing imported that was not

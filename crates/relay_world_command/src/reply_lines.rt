@@ -21,6 +21,7 @@ use std::io::Write;
 // Writes bytes in hexadecimal.
 fn put_hex<W: Write>(output: &mut Output<W>, bytes: &[u8]) -> Result<(), WriteFault>
     ensures written { OnOk result (Appends output.old.contents output.new.contents (encode_lower bytes.now)) }
+    ensures part { AppendsPart output.old.contents output.new.contents (encode_lower bytes.now) }
     ensures failed { OnErr result (output.new.has_failed ≡ true) }
 {
     let mut digits = [0u8; 2];
@@ -36,6 +37,7 @@ fn put_hex<W: Write>(output: &mut Output<W>, bytes: &[u8]) -> Result<(), WriteFa
 // Writes the line of a document.
 fn put_document<W: Write>(output: &mut Output<W>, bytes: &[u8]) -> Result<(), WriteFault>
     ensures written { OnOk result (Appends output.old.contents output.new.contents (document_line bytes.now)) }
+    ensures part { AppendsPart output.old.contents output.new.contents (document_line bytes.now) }
     ensures failed { OnErr result (output.new.has_failed ≡ true) }
 {
     if bytes.is_empty() {
@@ -110,6 +112,7 @@ fn put_reply<A: Allocator, W: Write>(
     reply: &Reply<A>,
 ) -> Result<(), WriteFault>
     ensures written { OnOk result (Appends output.old.contents output.new.contents (reply_line reply.now)) }
+    ensures part { AppendsPart output.old.contents output.new.contents (reply_line reply.now) }
     ensures failed { OnErr result (output.new.has_failed ≡ true) }
 {
     match reply {
@@ -176,6 +179,7 @@ pub(crate) fn put_answer<A: Allocator, W: Write>(
     answer: &Answer<A>,
 ) -> Result<(), WriteFault>
     ensures written { OnOk result (Appends output.old.contents output.new.contents (answer_line answer.now)) }
+    ensures part { AppendsPart output.old.contents output.new.contents (answer_line answer.now) }
     ensures failed { OnErr result (output.new.has_failed ≡ true) }
 {
     let Answer::Given { is_honest, reply } = answer else {

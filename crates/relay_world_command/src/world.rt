@@ -3,7 +3,7 @@
 ghost use Rattle.std.specs.Prelude.{◌≡◌, true, IfOk, OnOk, OnErr};
 ghost use Rattle.std.specs.List.{flat_map};
 ghost use Rattle.std.specs.Io.KnownBytes.{Appends};
-ghost use Rattle.relay_streams.specs.Streams.{TakesPart};
+ghost use Rattle.relay_streams.specs.Streams.{AppendsPart, TakesPart};
 ghost use Rattle.relay_world_command.specs.ReplyLines.{answer_line, has_refusal};
 ghost use Rattle.relay_world_command.specs.World.{EndsWorld, TellsAnswers};
 
@@ -24,6 +24,7 @@ fn put_answers<A: Allocator, W: Write>(
     answers: &[Answer<A>],
 ) -> Result<bool, WriteFault>
     ensures written { OnOk result (Appends output.old.contents output.new.contents (flat_map answer_line answers.now)) }
+    ensures part { AppendsPart output.old.contents output.new.contents (flat_map answer_line answers.now) }
     ensures refused { IfOk result (λ refused. refused ≡ has_refusal answers.now) }
     ensures failed { OnErr result (output.new.has_failed ≡ true) }
 {

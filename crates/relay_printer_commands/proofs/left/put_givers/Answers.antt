@@ -1,5 +1,5 @@
 use Rattle.relay_shared.specs.LedgerLines.{took_line}
-use Rattle.relay_printer_commands.proofs.ShownLines.{part_of_line}
+use Rattle.relay_shared.proofs.Lines.{part_of_line}
 use Rattle.relay_printer_commands.proofs.left.put_givers.Goals as goal
 
 pub returns-in_err-put_took-clause-part : goal.returns-in_err-put_took-clause-part

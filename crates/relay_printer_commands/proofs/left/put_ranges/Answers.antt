@@ -1,5 +1,5 @@
 use Rattle.relay_shared.specs.LedgerLines.{free_line}
-use Rattle.relay_printer_commands.proofs.ShownLines.{part_of_line}
+use Rattle.relay_shared.proofs.Lines.{part_of_line}
 use Rattle.relay_printer_commands.proofs.left.put_ranges.Goals as goal
 
 pub returns-in_err-put_free-clause-part : goal.returns-in_err-put_free-clause-part

@@ -1,6 +1,6 @@
 use Rattle.std.proofs.KnownBytes.{Appends-trans}
 use Rattle.relay_streams.proofs.Parts.{part_after, part_more}
-use Rattle.relay_printer_commands.proofs.ShownLines.{on_ok}
+use Rattle.relay_shared.proofs.Lines.{on_ok}
 use Rattle.relay_printer_commands.proofs.left.put_shown.Goals as goal
 
 pub returns-in_err-put_number-clause-part : goal.returns-in_err-put_number-clause-part

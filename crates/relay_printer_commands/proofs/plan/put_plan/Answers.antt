@@ -1,5 +1,5 @@
 use Rattle.relay_shared.specs.PlanLines.{side_line}
-use Rattle.relay_printer_commands.proofs.ShownLines.{part_of_line}
+use Rattle.relay_shared.proofs.Lines.{part_of_line}
 use Rattle.relay_printer_commands.proofs.plan.put_plan.Goals as goal
 
 pub returns-in_err-put_side-clause-part : goal.returns-in_err-put_side-clause-part

@@ -1,7 +1,7 @@
 use Rattle.std.proofs.Common.{◌<◌, length, take, arith}
 use Rattle.std.proofs.KnownBytes.{Appends-nil, Appends-trans}
 use Rattle.std.proofs.lemmas.List.{take_more}
-use Rattle.relay_world_command.proofs.Hexadecimal.{hex_more, hex_none}
+use Rattle.relay_world_command.proofs.Hexadecimal.{hex_append, hex_none, part_of_hex}
 use Rattle.relay_world_command.proofs.reply_lines.put_hex.Goals as goal
 
 pub loop-byte-init : goal.loop-byte-init
@@ -11,6 +11,11 @@ pub loop-byte-preserved : goal.loop-byte-preserved
 loop-byte-preserved g c =
     let i = c.loop-byte.byte-index in
     let there : i < length c.args.bytes.now = omega arith in
-    rw (take_more c.args.bytes.now i 0 there, hex_more (take i c.args.bytes.now) _)
+    rw (take_more c.args.bytes.now i 0 there, hex_append (take i c.args.bytes.now) _)
     (Appends-trans _ _ _ _ _ c.loop-byte.invariant
     (rw c.in-Ok.ensures.written at c.in_ok-put.ensures.written))
+
+pub returns-in_err-put-clause-part : goal.returns-in_err-put-clause-part
+returns-in_err-put-clause-part g c =
+    part_of_hex c.args.bytes.now c.loop-byte.byte-index _ c.loop-byte.output.contents _ c.loop-byte-test.true
+    c.loop-byte.invariant (rw c.in-Ok.ensures.written at c.put.ensures.part)
