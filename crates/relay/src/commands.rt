@@ -1,7 +1,7 @@
 //! The table of commands.
 
 ghost use Rattle.std.specs.Prelude.{◌≡◌};
-ghost use Rattle.relay.specs.Commands.{Does, file_of_command};
+ghost use Rattle.relay.specs.Commands.{Does, DoesOnDesk, DoesOnLedger, DoesOnStreams, file_of_command, group_of_command};
 
 use dm_print_ledger::Range;
 use dm_store::{Store, StoreSet};
@@ -48,14 +48,199 @@ pub fn file_of<'a>(command: Command<'a>) -> &'a str
     }
 }
 
-// How a command over a store ends, with the set beside it.
-fn with_set<S: Store, T: StoreSet>(ended: Ended<S>, set: T) -> EndedDesk<S, T>
-    ensures status { result.status ≡ ended.status }
-    ensures store { S.state result.store ≡ S.state ended.store }
-    ensures set { T.state result.set ≡ T.state set }
+// What a command works on.
+#[derive(Clone, Copy)]
+enum Group {
+    /// The input and the outputs alone; it names no file.
+    Streams,
+    /// The ledger of a printer.
+    Ledger,
+    /// The files of a desk.
+    Desk,
+}
+
+// What a command works on.
+fn group_of(command: Command) -> Group
+    ensures { result ≡ group_of_command command.entry }
 {
-    let Ended { status, store } = ended;
-    EndedDesk { status, store, set }
+    match command {
+        Command::Words { .. }
+        | Command::Draw { .. }
+        | Command::Read
+        | Command::Plan { .. }
+        | Command::Ticket { .. }
+        | Command::World => Group::Streams,
+        Command::Ledger { .. }
+        | Command::Print { .. }
+        | Command::PrintAuto { .. }
+        | Command::Give { .. }
+        | Command::Take { .. }
+        | Command::Left { .. } => Group::Ledger,
+        Command::Scan { .. }
+        | Command::Deliver { .. }
+        | Command::Forget { .. }
+        | Command::Export { .. }
+        | Command::Import { .. }
+        | Command::Held { .. }
+        | Command::Copy { .. } => Group::Desk,
+    }
+}
+
+// Does a command that names no file.
+fn do_stream_command<A: Allocator + Copy, R: Read, W: Write, E: Write>(
+    alloc: A,
+    input: &mut Input<R>,
+    output: &mut Output<W>,
+    errors: &mut Output<E>,
+    command: Command,
+) -> u8
+    requires { group_of_command command ≡ Group.Streams }
+    ensures { DoesOnStreams A command.entry
+        (record { input = input.old; output = output.old; errors = errors.old })
+        result
+        (record { input = input.new; output = output.new; errors = errors.new }) }
+{
+    match command {
+        Command::Words { side, scheme } => words_command(alloc, input, output, side, scheme),
+        Command::Draw {
+            side,
+            scheme,
+            plain,
+        } => draw_command(alloc, input, output, errors, side, scheme, plain),
+        Command::Read => read_command(alloc, input, output),
+        Command::Plan { scheme } => plan_command(alloc, input, output, scheme),
+        Command::Ticket { ticket } => ticket_command(output, ticket),
+        Command::World => world_command(alloc, input, output),
+        _ => unreachable!(),
+    }
+}
+
+// Does a command over the store of a ledger.
+fn do_ledger_command<A: Allocator + Copy, S: Store, R: Read, W: Write, E: Write>(
+    alloc: A,
+    store: S,
+    input: &mut Input<R>,
+    output: &mut Output<W>,
+    errors: &mut Output<E>,
+    command: Command,
+) -> Ended<S>
+    requires { group_of_command command ≡ Group.Ledger }
+    ensures { DoesOnLedger command.entry
+        (record {
+          saved = S.state store;
+          streams = record { input = input.old; output = output.old; errors = errors.old };
+        })
+        result.status
+        (record {
+          saved = S.state result.store;
+          streams = record { input = input.new; output = output.new; errors = errors.new };
+        }) }
+{
+    match command {
+        Command::Ledger {
+            number,
+            first,
+            last,
+            ..
+        } => ledger_command(alloc, store, output, number, Range { first, last }),
+        Command::Print {
+            number,
+            side,
+            scheme,
+            ..
+        } => {
+            let options = PrintOptions {
+                number,
+                side,
+                scheme,
+            };
+            print_command(alloc, store, input, output, errors, options)
+        }
+        Command::PrintAuto {
+            number,
+            most_labels,
+            scheme,
+            ..
+        } => {
+            let options = AutoOptions {
+                number,
+                most_labels,
+                scheme,
+            };
+            print_auto_command(alloc, store, input, output, errors, options)
+        }
+        Command::Give {
+            number,
+            to,
+            first,
+            last,
+            ..
+        } => give_command(alloc, store, output, number, to, Range { first, last }),
+        Command::Take { number, ticket, .. } => take_command(alloc, store, output, number, ticket),
+        Command::Left { .. } => left_command(store, output),
+        _ => unreachable!(),
+    }
+}
+
+// Does a command of a desk over the store of its joint file and the set of its pages.
+fn do_desk_command<
+    A: Allocator + Copy,
+    S: Store,
+    T: StoreSet,
+    R: Read,
+    W: Write,
+    E: Write,
+    N: Notes,
+>(
+    alloc: A,
+    store: S,
+    set: T,
+    input: &mut Input<R>,
+    output: &mut Output<W>,
+    errors: &mut Output<E>,
+    notes: &mut N,
+    command: Command,
+) -> EndedDesk<S, T>
+    requires { group_of_command command ≡ Group.Desk }
+    ensures { DoesOnDesk A command.entry
+        (record {
+          files = record { joint = S.state store; set = T.state set };
+          streams = record { input = input.old; output = output.old; errors = errors.old };
+        })
+        result.status
+        (record {
+          files = record { joint = S.state result.store; set = T.state result.set };
+          streams = record { input = input.new; output = output.new; errors = errors.new };
+        }) }
+{
+    match command {
+        Command::Scan { capacity, .. } => {
+            scan_with_notes(alloc, store, set, input, output, notes, capacity)
+        }
+        Command::Deliver { id, .. } => deliver_command(alloc, store, set, output, errors, id),
+        Command::Forget { id, .. } => forget_command(alloc, store, set, output, id),
+        Command::Export { id, .. } => export_command(alloc, store, set, output, errors, id),
+        Command::Import { capacity, .. } => {
+            import_command(alloc, store, set, input, output, capacity)
+        }
+        Command::Held { id, .. } => held_command(store, set, output, id),
+        Command::Copy {
+            id,
+            page,
+            side,
+            scheme,
+            ..
+        } => {
+            let options = CopyOptions {
+                id,
+                page,
+                side,
+                scheme,
+            };
+            copy_command(alloc, store, set, output, errors, options)
+        }
+        _ => unreachable!(),
+    }
 }
 
 /// Does a command over the store at the path that it names and the set beside it, an input, and outputs for what it
@@ -82,131 +267,26 @@ pub fn do_command<
         (record {
           saved = S.state store;
           set = T.state set;
-          input = input.old;
-          output = output.old;
-          errors = errors.old;
+          streams = record { input = input.old; output = output.old; errors = errors.old };
         })
         result.status
         (record {
           saved = S.state result.store;
           set = T.state result.set;
-          input = input.new;
-          output = output.new;
-          errors = errors.new;
+          streams = record { input = input.new; output = output.new; errors = errors.new };
         }) }
 {
-    match command {
-        Command::Words { side, scheme } => {
-            let status = words_command(alloc, input, output, side, scheme);
+    match group_of(command) {
+        Group::Streams => {
+            let status = do_stream_command(alloc, input, output, errors, command);
             EndedDesk { status, store, set }
         }
-        Command::Draw {
-            side,
-            scheme,
-            plain,
-        } => {
-            let status = draw_command(alloc, input, output, errors, side, scheme, plain);
+        Group::Ledger => {
+            let Ended { status, store } = do_ledger_command(
+                alloc, store, input, output, errors, command,
+            );
             EndedDesk { status, store, set }
         }
-        Command::Read => {
-            let status = read_command(alloc, input, output);
-            EndedDesk { status, store, set }
-        }
-        Command::Plan { scheme } => {
-            let status = plan_command(alloc, input, output, scheme);
-            EndedDesk { status, store, set }
-        }
-        Command::Ticket { ticket } => {
-            let status = ticket_command(output, ticket);
-            EndedDesk { status, store, set }
-        }
-        Command::Ledger {
-            file: _,
-            number,
-            first,
-            last,
-        } => {
-            let range = Range { first, last };
-            with_set(ledger_command(alloc, store, output, number, range), set)
-        }
-        Command::Print {
-            file: _,
-            number,
-            side,
-            scheme,
-        } => {
-            let options = PrintOptions {
-                number,
-                side,
-                scheme,
-            };
-            with_set(
-                print_command(alloc, store, input, output, errors, options),
-                set,
-            )
-        }
-        Command::PrintAuto {
-            file: _,
-            number,
-            most_labels,
-            scheme,
-        } => {
-            let options = AutoOptions {
-                number,
-                most_labels,
-                scheme,
-            };
-            with_set(
-                print_auto_command(alloc, store, input, output, errors, options),
-                set,
-            )
-        }
-        Command::Give {
-            file: _,
-            number,
-            to,
-            first,
-            last,
-        } => {
-            let range = Range { first, last };
-            with_set(give_command(alloc, store, output, number, to, range), set)
-        }
-        Command::Take {
-            file: _,
-            number,
-            ticket,
-        } => with_set(take_command(alloc, store, output, number, ticket), set),
-        Command::Left { file: _ } => with_set(left_command(store, output), set),
-        Command::Scan { file: _, capacity } => {
-            scan_with_notes(alloc, store, set, input, output, notes, capacity)
-        }
-        Command::Deliver { file: _, id } => {
-            deliver_command(alloc, store, set, output, errors, id)
-        }
-        Command::Forget { file: _, id } => forget_command(alloc, store, set, output, id),
-        Command::Export { file: _, id } => export_command(alloc, store, set, output, errors, id),
-        Command::Import { file: _, capacity } => {
-            import_command(alloc, store, set, input, output, capacity)
-        }
-        Command::Held { file: _, id } => held_command(store, set, output, id),
-        Command::Copy {
-            file: _,
-            id,
-            page,
-            side,
-            scheme,
-        } => {
-            let options = CopyOptions {
-                id,
-                page,
-                side,
-                scheme,
-            };
-            copy_command(alloc, store, set, output, errors, options)
-        }
-        Command::World => {
-            let status = world_command(alloc, input, output);
-            EndedDesk { status, store, set }
-        }
+        Group::Desk => do_desk_command(alloc, store, set, input, output, errors, notes, command),
     }
 }

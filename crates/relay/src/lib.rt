@@ -3,12 +3,14 @@
 //! own streams and files.
 //!
 //! Proved, of inputs and outputs whose bytes a contract can name (slices and vectors; of the system's own streams none
-//! can): on status 0 a command has written exactly what it is for. On status 1 it has written a line that names a
-//! refusal for which there was a reason, or an output has refused a write. `read` and `scan` write a line for each
-//! image, `world` one for each event, `left` one for each fact of a ledger, `held` one for each document or file, `plan`
-//! one for each side, `ticket` two, and `print` may have written its line and images before a refusal; every other
-//! command has then written that line alone. What a command does to its store and its files is what the call of the
-//! printer or of the desk says. `world` plays printers and desks in memory, and carries the headline.
+//! can): on status 0 a command has written exactly what it is for: `read` and `scan` a line for each image, `world` one
+//! for each event, `left` one for each fact of a ledger, `held` one for each document, `plan` one for each side,
+//! `ticket` two. On status 1 an output has refused a write, or the command has written the line of a refusal for which
+//! there was a reason, and nothing else, but for five commands: `read` and `scan` have answered to the images before,
+//! and go on to those after a refusal that is of one image alone; `world` goes on to the next event; `held` names the
+//! files that can't be used among its lines; and `print` may have written its line and images. What a command does to
+//! its store and its files is what the call of the printer or of the desk says. `world` plays printers and desks in
+//! memory, and carries the headline.
 #![tactic(auto)]
 
 mod commands;

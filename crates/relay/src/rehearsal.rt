@@ -21,8 +21,8 @@ pub(crate) struct Rehearsal {
     pub(crate) errors: Vec<u8>,
 }
 
-/// Does a command over a store that lets this many calls through, and over a set that lets none. What goes on was about
-/// to look at a file, or to save to it, and has changed nothing.
+// Does a command over a store that lets this many calls through, and over a set that lets none. What goes on was about
+// to look at a file, or to save to it, and has changed nothing.
 fn rehearse<S: Store, R: Read>(
     alloc: Global,
     store: S,

@@ -10,7 +10,7 @@ use clap::{Arg, ArgAction, Command, value_parser};
 use dm_encodation::Scheme;
 use std::alloc::{AllocError, Global};
 
-/// The names of the encodations.
+// The names of the encodations.
 static SCHEMES: [&str; 4] = ["ascii", "c40", "text", "base256"];
 
 /// The encodation of a name, if it is one of `SCHEMES`.
@@ -28,7 +28,7 @@ pub fn scheme_of(name: &str) -> Option<Scheme>
     }
 }
 
-/// The sides that the number of labels decides: the smallest side for which there are at most that many.
+// The sides that the number of labels decides: the smallest side for which there are at most that many.
 static AUTOMATIC_SIDES: [&str; 15] = [
     "auto:2", "auto:3", "auto:4", "auto:5", "auto:6", "auto:7", "auto:8", "auto:9", "auto:10",
     "auto:11", "auto:12", "auto:13", "auto:14", "auto:15", "auto:16",
@@ -135,22 +135,25 @@ fn last<'a>(alloc: Global) -> Arg<'a> {
 }
 
 fn words<'a>(alloc: Global) -> Result<Command<'a>, AllocError> {
+    let args = vec![in alloc; side(alloc).default_value("10"), scheme(alloc)]?;
     Command::new(alloc, "words")
         .about("Prints the words of a document's symbol, in decimal")
         .override_usage("relay words [--side SIDE] [--scheme SCHEME] < DOCUMENT")
         .after_help(help::WORDS)
-        .arg(side(alloc).default_value("10"))?
-        .arg(scheme(alloc))
+        .args(args)
 }
 
 fn draw<'a>(alloc: Global) -> Result<Command<'a>, AllocError> {
+    let args = vec![in alloc;
+        side(alloc).default_value("10"),
+        scheme(alloc),
+        plain(alloc),
+    ]?;
     Command::new(alloc, "draw")
         .about("Draws a document's symbol as a PBM image")
         .override_usage("relay draw [--side SIDE] [--scheme SCHEME] [--plain] < DOCUMENT > IMAGE")
         .after_help(help::DRAW)
-        .arg(side(alloc).default_value("10"))?
-        .arg(scheme(alloc))?
-        .arg(plain(alloc))
+        .args(args)
 }
 
 fn read<'a>(alloc: Global) -> Command<'a> {
@@ -161,14 +164,17 @@ fn read<'a>(alloc: Global) -> Command<'a> {
 }
 
 fn ledger<'a>(alloc: Global) -> Result<Command<'a>, AllocError> {
+    let args = vec![in alloc;
+        file(alloc),
+        first(alloc),
+        last(alloc),
+        number(alloc).default_value("0"),
+    ]?;
     Command::new(alloc, "ledger")
         .about("Makes the ledger of a printer")
         .override_usage("relay ledger --file PATH --first N --last N [--number N]")
         .after_help(help::LEDGER)
-        .arg(file(alloc))?
-        .arg(first(alloc))?
-        .arg(last(alloc))?
-        .arg(number(alloc).default_value("0"))
+        .args(args)
 }
 
 fn plan<'a>(alloc: Global) -> Result<Command<'a>, AllocError> {
@@ -180,26 +186,28 @@ fn plan<'a>(alloc: Global) -> Result<Command<'a>, AllocError> {
 }
 
 fn print<'a>(alloc: Global, is_automatic: bool) -> Result<Command<'a>, AllocError> {
+    let args = vec![in alloc;
+        file(alloc),
+        label_side(alloc, is_automatic),
+        scheme(alloc),
+        number(alloc).default_value("0"),
+    ]?;
     Command::new(alloc, "print")
         .about("Prints a document as labels that carry one identification")
         .override_usage(help::PRINT_USAGE)
         .after_help(help::PRINT)
-        .arg(file(alloc))?
-        .arg(label_side(alloc, is_automatic))?
-        .arg(scheme(alloc))?
-        .arg(number(alloc).default_value("0"))
+        .args(args)
 }
 
 fn give<'a>(alloc: Global) -> Result<Command<'a>, AllocError> {
+    let to = number_option(alloc, "to", "the number of the other printer").required(true);
+    let number = number(alloc).required(true);
+    let args = vec![in alloc; file(alloc), number, to, first(alloc), last(alloc)]?;
     Command::new(alloc, "give")
         .about("Gives free identifications to another printer, by a ticket")
         .override_usage("relay give --file PATH --number N --to N --first N --last N")
         .after_help(help::GIVE)
-        .arg(file(alloc))?
-        .arg(number(alloc).required(true))?
-        .arg(number_option(alloc, "to", "the number of the other printer").required(true))?
-        .arg(first(alloc))?
-        .arg(last(alloc))
+        .args(args)
 }
 
 fn ticket<'a>(alloc: Global) -> Arg<'a> {
@@ -213,13 +221,12 @@ fn ticket<'a>(alloc: Global) -> Arg<'a> {
 }
 
 fn take<'a>(alloc: Global) -> Result<Command<'a>, AllocError> {
+    let args = vec![in alloc; file(alloc), number(alloc).required(true), ticket(alloc)]?;
     Command::new(alloc, "take")
         .about("Takes the identifications of a ticket")
         .override_usage("relay take --file PATH --number N --ticket HEX")
         .after_help(help::TAKE)
-        .arg(file(alloc))?
-        .arg(number(alloc).required(true))?
-        .arg(ticket(alloc))
+        .args(args)
 }
 
 fn what_ticket<'a>(alloc: Global) -> Result<Command<'a>, AllocError> {
@@ -265,82 +272,91 @@ fn page<'a>(alloc: Global) -> Arg<'a> {
 }
 
 fn scan<'a>(alloc: Global) -> Result<Command<'a>, AllocError> {
+    let args = vec![in alloc; desk(alloc), capacity(alloc)]?;
     Command::new(alloc, "scan")
         .about("Gathers the pages of scanned labels at a desk")
         .override_usage("relay scan --file PATH [--capacity N] < IMAGES")
         .after_help(help::SCAN)
-        .arg(desk(alloc))?
-        .arg(capacity(alloc))
+        .args(args)
 }
 
 fn deliver<'a>(alloc: Global) -> Result<Command<'a>, AllocError> {
+    let args = vec![in alloc; desk(alloc), id(alloc)]?;
     Command::new(alloc, "deliver")
         .about("Gives back a document when all its pages are held")
         .override_usage("relay deliver --file PATH --id IIII > DOCUMENT")
         .after_help(help::DELIVER)
-        .arg(desk(alloc))?
-        .arg(id(alloc))
+        .args(args)
 }
 
 fn forget<'a>(alloc: Global) -> Result<Command<'a>, AllocError> {
+    let args = vec![in alloc; desk(alloc), id(alloc)]?;
     Command::new(alloc, "forget")
         .about("Forgets a document")
         .override_usage("relay forget --file PATH --id IIII")
         .after_help(help::FORGET)
-        .arg(desk(alloc))?
-        .arg(id(alloc))
+        .args(args)
 }
 
 fn export<'a>(alloc: Global) -> Result<Command<'a>, AllocError> {
+    let args = vec![in alloc; desk(alloc), id(alloc)]?;
     Command::new(alloc, "export")
         .about("Writes the pages of a document for another desk")
         .override_usage("relay export --file PATH --id IIII > PAGES")
         .after_help(help::EXPORT)
-        .arg(desk(alloc))?
-        .arg(id(alloc))
+        .args(args)
 }
 
 fn import<'a>(alloc: Global) -> Result<Command<'a>, AllocError> {
+    let args = vec![in alloc; desk(alloc), capacity(alloc)]?;
     Command::new(alloc, "import")
         .about("Takes in the pages that another desk has exported")
         .override_usage("relay import --file PATH [--capacity N] < PAGES")
         .after_help(help::IMPORT)
-        .arg(desk(alloc))?
-        .arg(capacity(alloc))
+        .args(args)
 }
 
 fn held<'a>(alloc: Global) -> Result<Command<'a>, AllocError> {
+    let args = vec![in alloc; desk(alloc), id(alloc).required(false)]?;
     Command::new(alloc, "held")
         .about("Prints which pages a desk holds")
         .override_usage("relay held --file PATH [--id IIII]")
         .after_help(help::HELD)
-        .arg(desk(alloc))?
-        .arg(id(alloc).required(false))
+        .args(args)
 }
 
 fn copy<'a>(alloc: Global) -> Result<Command<'a>, AllocError> {
+    let args = vec![in alloc;
+        desk(alloc),
+        id(alloc),
+        page(alloc),
+        side(alloc).required(true),
+        scheme(alloc),
+    ]?;
     Command::new(alloc, "copy")
         .about("Draws again the label of a page that a desk holds")
         .override_usage(help::COPY_USAGE)
         .after_help(help::COPY)
-        .arg(desk(alloc))?
-        .arg(id(alloc))?
-        .arg(page(alloc))?
-        .arg(side(alloc).required(true))?
-        .arg(scheme(alloc))
+        .args(args)
+}
+
+// Adds a command, if it could be made.
+fn with<'a>(
+    program: Command<'a>,
+    command: Result<Command<'a>, AllocError>,
+) -> Result<Command<'a>, AllocError> {
+    program.subcommand(command?)
 }
 
 // The commands of desks, added to those of symbols and printers.
 fn with_desks<'a>(alloc: Global, program: Command<'a>) -> Result<Command<'a>, AllocError> {
-    program
-        .subcommand(scan(alloc)?)?
-        .subcommand(deliver(alloc)?)?
-        .subcommand(forget(alloc)?)?
-        .subcommand(export(alloc)?)?
-        .subcommand(import(alloc)?)?
-        .subcommand(held(alloc)?)?
-        .subcommand(copy(alloc)?)?
-        .subcommand(world(alloc))
+    let program = with(program, scan(alloc))?;
+    let program = with(program, deliver(alloc))?;
+    let program = with(program, forget(alloc))?;
+    let program = with(program, export(alloc))?;
+    let program = with(program, import(alloc))?;
+    let program = with(program, held(alloc))?;
+    with(program, copy(alloc))
 }
 
 fn world<'a>(alloc: Global) -> Command<'a> {
@@ -356,14 +372,20 @@ fn with_printers<'a>(
     program: Command<'a>,
     is_automatic: bool,
 ) -> Result<Command<'a>, AllocError> {
-    program
-        .subcommand(ledger(alloc)?)?
-        .subcommand(plan(alloc)?)?
-        .subcommand(print(alloc, is_automatic)?)?
-        .subcommand(give(alloc)?)?
-        .subcommand(what_ticket(alloc)?)?
-        .subcommand(take(alloc)?)?
-        .subcommand(left(alloc)?)
+    let program = with(program, ledger(alloc))?;
+    let program = with(program, plan(alloc))?;
+    let program = with(program, print(alloc, is_automatic))?;
+    let program = with(program, give(alloc))?;
+    let program = with(program, what_ticket(alloc))?;
+    let program = with(program, take(alloc))?;
+    with(program, left(alloc))
+}
+
+// The commands of symbols.
+fn with_symbols<'a>(alloc: Global, program: Command<'a>) -> Result<Command<'a>, AllocError> {
+    let program = with(program, words(alloc))?;
+    let program = with(program, draw(alloc))?;
+    program.subcommand(read(alloc))
 }
 
 /// The whole program; `print` takes the sides that the number of labels decides where the line has one of them, and the
@@ -377,9 +399,8 @@ pub fn relay<'a>(alloc: Global, is_automatic: bool) -> Result<Command<'a>, Alloc
         .about("Relays documents printed as Data Matrix labels")
         .override_usage("relay [COMMAND] [OPTIONS]")
         .after_help(help::PROGRAM)
-        .disable_help_subcommand(true)
-        .subcommand(words(alloc)?)?
-        .subcommand(draw(alloc)?)?
-        .subcommand(read(alloc))?;
-    with_desks(alloc, with_printers(alloc, program, is_automatic)?)
+        .disable_help_subcommand(true);
+    let program = with_symbols(alloc, program)?;
+    let program = with_printers(alloc, program, is_automatic)?;
+    with_desks(alloc, program)?.subcommand(world(alloc))
 }
