@@ -10,7 +10,7 @@ use crate::file_id::FileId;
 /// The words of a head.
 pub(crate) const HEAD_WORDS: usize = 4;
 
-/// The word of Structured Append, the first of a head.
+// The word of Structured Append, the first of a head.
 const APPENDED: u8 = 233;
 
 /// What a head says: label m of n of the document of an identification.

@@ -10,7 +10,7 @@ use crate::page_bytes::PageBytes;
 use std::alloc::{AllocError, Allocator, Global};
 use std::marker::Model;
 
-/// Appends the bytes of a page that is held.
+// Appends the bytes of a page that is held.
 fn append_held<A: Allocator>(
     out: &mut Vec<u8, A>,
     page: &Option<PageBytes<A>>,
@@ -23,7 +23,7 @@ fn append_held<A: Allocator>(
     }
 }
 
-/// A copy of a page, if it is held.
+// A copy of a page, if it is held.
 fn copy_of_page<A: Allocator>(
     alloc: A,
     page: Option<&[u8]>,

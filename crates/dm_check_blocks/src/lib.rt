@@ -1,7 +1,8 @@
 //! The sizes of Data Matrix ECC 200 symbols, and the check words that complete them: ISO/IEC 16022:2006,
-//! clauses 5.5 and 5.7, Annexes A and E. [`Size`] is one of the 23 square sizes 10 to 132, [`checks_of`]
-//! fills in the check words of one block, and [`complete`] gives all words of a symbol, its blocks interleaved
-//! as [`block_word`] says. [`Multiples`] divides blocks by a generator polynomial, a row of words at once.
+//! clauses 5.5 and 5.7, Annexes A and E. [`Size`] is one of the 23 square sizes 10 to 132; in each of them all
+//! blocks have one length, and side 144, where they have two, is left out. [`checks_of`] fills in the check words
+//! of one block, and [`complete`] gives all words of a symbol, its blocks interleaved as [`block_word`] says.
+//! [`Multiples`] divides blocks by a generator polynomial, a row of words at once.
 //!
 //! Proved: each reader of a size gives what the standard's table says; the blocks of what `complete` gives are
 //! block words, and no other list that begins with the message has block words; the same of `checks_of`; a division

@@ -3,8 +3,7 @@
 ghost use Rattle.std.specs.Prelude.{◌≡◌};
 
 // Where a size is listed: in this enum, in `Size::of_side` and `Size::row` below, and in specs/Sizes.antt; above this
-// crate in EachSize.antt of dm_placement, with its tests, in the sides of dm_corrector's tests, in the help of
-// relay_line, and in docs/RECIPES.md and the benchmark.
+// crate in what docs/CONTRIBUTING.md says of a new size.
 
 /// A square ECC 200 symbol of one data region or more, by its side in modules, finder patterns included:
 /// the sides 10 to 132 of ISO/IEC 16022:2006, 5.5. Side 144, whose blocks are unequal, is left out.

@@ -16,7 +16,7 @@ use crate::syndromes::MOST_WORDS;
 use dm_check_blocks::{MOST_CHECKS, Multiples, Size, WINDOW_WORDS, Window};
 use thiserror::Error;
 
-/// The most words of a symbol: those of side 132.
+// The most words of a symbol: those of side 132.
 const MOST_SYMBOL_WORDS: usize = 1800;
 
 // The most blocks of a symbol: those of side 132.

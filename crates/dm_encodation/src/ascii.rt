@@ -6,8 +6,8 @@ ghost use Rattle.dm_encodation.specs.Written.{ascii};
 
 use std::alloc::{AllocError, Allocator};
 
-/// What stands at the front of a text: two digits, by their number, a byte below 128, or another
-/// byte.
+// What stands at the front of a text: two digits, by their number, a byte below 128, or another
+// byte.
 #[derive(Clone, Copy)]
 enum Piece {
     Digits(u8),
@@ -15,14 +15,14 @@ enum Piece {
     Upper(u8),
 }
 
-/// Whether a text begins with two digits.
+// Whether a text begins with two digits.
 fn begins_with_digits(bytes: &[u8]) -> bool
     ensures { result ≡ has_digits bytes.now }
 {
     bytes.len() >= 2 && bytes[0].is_ascii_digit() && bytes[1].is_ascii_digit()
 }
 
-/// The piece at the front of a text, and the bytes after it.
+// The piece at the front of a text, and the bytes after it.
 fn first_piece(bytes: &[u8]) -> Option<(Piece, &[u8])>
     ensures words { MatchOption result (bytes.now ≡ [])
         (λ r. ascii bytes.now ≡ piece_words r.0 ++ ascii r.1.now) }
@@ -43,7 +43,7 @@ fn first_piece(bytes: &[u8]) -> Option<(Piece, &[u8])>
     }
 }
 
-/// Writes the words of a piece.
+// Writes the words of a piece.
 fn push_piece<A: Allocator>(out: &mut Vec<u8, A>, piece: Piece) -> Result<(), AllocError>
     requires { IsPiece piece }
     ensures { OnOk result (out.new.items ≡ out.old.items ++ piece_words piece) }
@@ -59,7 +59,7 @@ fn push_piece<A: Allocator>(out: &mut Vec<u8, A>, piece: Piece) -> Result<(), Al
     Ok(())
 }
 
-/// Writes the words of the pairs of digits that a text begins with, and gives the text after them.
+// Writes the words of the pairs of digits that a text begins with, and gives the text after them.
 fn push_digits<'a, A: Allocator>(
     out: &mut Vec<u8, A>,
     bytes: &'a [u8],

@@ -6,7 +6,7 @@ ghost use Rattle.dm_encodation.specs.Written.{base_256, length_words};
 
 use std::alloc::{AllocError, Allocator};
 
-/// A value as it stands at a position (the 255-state algorithm of Annex B).
+// A value as it stands at a position (the 255-state algorithm of Annex B).
 #[tactic(auto, unfolding(crate::specs::Words::state_255))]
 fn randomise(position: usize, value: u8) -> u8
     requires { position < 2 ^ 32 }
@@ -20,7 +20,7 @@ fn randomise(position: usize, value: u8) -> u8
     }
 }
 
-/// Writes values, the first at the position after what was written.
+// Writes values, the first at the position after what was written.
 fn push_values<A: Allocator>(out: &mut Vec<u8, A>, values: &[u8]) -> Result<(), AllocError>
     requires { vec_len out.old + length values.now < 2 ^ 31 }
     ensures values { OnOk result (out.new.items
@@ -34,7 +34,7 @@ fn push_values<A: Allocator>(out: &mut Vec<u8, A>, values: &[u8]) -> Result<(), 
     Ok(())
 }
 
-/// Writes the length of a text, the first word at the position after what was written.
+// Writes the length of a text, the first word at the position after what was written.
 fn push_length<A: Allocator>(out: &mut Vec<u8, A>, count: usize) -> Result<(), AllocError>
     requires place { vec_len out.old < 2 ^ 30 }
     requires short { count ≤ 1555 }

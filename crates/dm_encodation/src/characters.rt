@@ -35,7 +35,7 @@ pub(crate) fn spelled(letters: Letters, byte: u8) -> (Option<u8>, u8)
     }
 }
 
-/// The number of values that spell a byte below 128.
+// The number of values that spell a byte below 128.
 fn low_values_in(letters: Letters, byte: u8) -> u8
     requires { byte < 128 }
     ensures exact { result ≡ length (values_below_128 letters byte) }

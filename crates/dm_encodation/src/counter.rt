@@ -18,7 +18,7 @@ pub(crate) struct AsciiCounter {
     lone_digit: bool,
 }
 
-/// The words of a byte that stands alone in ASCII.
+// The words of a byte that stands alone in ASCII.
 fn words_of_byte(byte: u8) -> u128
     ensures exact { result ≡ length (ascii_byte byte) }
     ensures few { result ≤ 2 }
@@ -27,7 +27,7 @@ fn words_of_byte(byte: u8) -> u128
 }
 
 impl AsciiCounter {
-    /// The counter of no bytes.
+    // The counter of no bytes.
     fn start() -> AsciiCounter
         ensures { CountsAscii [] result }
     {
@@ -37,7 +37,7 @@ impl AsciiCounter {
         }
     }
 
-    /// The counter after one more byte.
+    // The counter after one more byte.
     fn with(self, byte: u8) -> AsciiCounter
         requires { self.words < 2 ^ 100 }
         ensures { (bytes : List ℕ) → CountsAscii bytes self
@@ -69,7 +69,7 @@ pub(crate) struct RunCounter {
 }
 
 impl RunCounter {
-    /// The counter of no bytes.
+    // The counter of no bytes.
     fn start() -> RunCounter
         ensures { (letters : Letters) → CountsRun letters [] result }
     {
@@ -80,7 +80,7 @@ impl RunCounter {
         }
     }
 
-    /// The counter after one more byte.
+    // The counter after one more byte.
     fn with(self, letters: Letters, byte: u8) -> RunCounter
         requires { IsSmallRun self }
         ensures { (bytes : List ℕ) → CountsRun letters bytes self
@@ -101,7 +101,7 @@ impl RunCounter {
         }
     }
 
-    /// The number of words that the bytes take.
+    // The number of words that the bytes take.
     fn words(self) -> u128
         requires { IsSmallRun self }
         ensures { result ≡ run_need self.run self.after.words }
@@ -118,7 +118,7 @@ impl RunCounter {
     }
 }
 
-/// The number of words that this many bytes take in Base 256.
+// The number of words that this many bytes take in Base 256.
 fn base_256_words(count: u128) -> u128
     requires { count < 2 ^ 100 }
     ensures { result ≡ base_256_need count }

@@ -13,7 +13,7 @@ use crate::mode::Mode;
 use crate::reader::{Decoded, finish, step};
 use std::alloc::{AllocError, Allocator};
 
-/// The end of the words of two digits each that stand from an index on.
+// The end of the words of two digits each that stand from an index on.
 fn pairs_end(words: &[u8], from: usize) -> usize
     requires { from ≤ length words.now }
     ensures after { from ≤ result }
@@ -28,7 +28,7 @@ fn pairs_end(words: &[u8], from: usize) -> usize
     words.len()
 }
 
-/// Writes the digits of words of two digits each.
+// Writes the digits of words of two digits each.
 fn push_pairs<A: Allocator>(
     out: &mut Vec<u8, A>,
     words: &[u8],
@@ -48,8 +48,8 @@ fn push_pairs<A: Allocator>(
     Ok(())
 }
 
-/// Whether the words are a text; no memory is asked for. Gives the number of its bytes, by which
-/// memory is then asked for once; no contract rests on that number.
+// Whether the words are a text; no memory is asked for. Gives the number of its bytes, by which
+// memory is then asked for once; no contract rests on that number.
 fn check(words: &[u8], from: usize) -> Result<usize, DecodeFault>
     requires { from ≤ length words.now }
     ensures { Checks result (reading Ascii (from + 1) (drop from words.now)) }
@@ -66,7 +66,7 @@ fn check(words: &[u8], from: usize) -> Result<usize, DecodeFault>
     Ok(count.saturating_add(output.len()))
 }
 
-/// Writes the bytes that a word gives.
+// Writes the bytes that a word gives.
 fn push_output<A: Allocator>(out: &mut Vec<u8, A>, output: Decoded) -> Result<(), AllocError>
     ensures { OnOk result (out.new.items ≡ out.old.items ++ bytes_of output) }
 {
@@ -86,7 +86,7 @@ fn push_output<A: Allocator>(out: &mut Vec<u8, A>, output: Decoded) -> Result<()
     Ok(())
 }
 
-/// The bytes of the words, with memory for `count` of them asked for at first.
+// The bytes of the words, with memory for `count` of them asked for at first.
 fn collect<A: Allocator + Copy>(
     alloc: A,
     words: &[u8],

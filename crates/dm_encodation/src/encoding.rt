@@ -17,8 +17,8 @@ use crate::scheme::Scheme;
 use dm_check_blocks::Size;
 use std::alloc::{AllocError, Allocator};
 
-/// Writes the words of a text, the first at the position after what was written. Gives whether the
-/// text ends in a run, so that the words after it would be read in the run's encodation.
+// Writes the words of a text, the first at the position after what was written. Gives whether the
+// text ends in a run, so that the words after it would be read in the run's encodation.
 fn push_text<A: Allocator>(
     out: &mut Vec<u8, A>,
     scheme: Scheme,
@@ -44,7 +44,7 @@ fn push_text<A: Allocator>(
     }
 }
 
-/// The data words of a symbol that has room for the head and the text.
+// The data words of a symbol that has room for the head and the text.
 fn fill<A: Allocator + Copy>(
     alloc: A,
     scheme: Scheme,

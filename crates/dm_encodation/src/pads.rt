@@ -6,7 +6,7 @@ ghost use Rattle.dm_encodation.specs.Written.{words_after_text};
 
 use std::alloc::{AllocError, Allocator};
 
-/// A pad other than the first, by its position (the 253-state algorithm of Annex B).
+// A pad other than the first, by its position (the 253-state algorithm of Annex B).
 #[tactic(auto, unfolding(crate::specs::Words::state_253))]
 fn later_pad(position: usize) -> u8
     requires { position < 2 ^ 32 }
@@ -20,7 +20,7 @@ fn later_pad(position: usize) -> u8
     }
 }
 
-/// Fills the symbol up to `capacity` words with pads.
+// Fills the symbol up to `capacity` words with pads.
 fn push_pads<A: Allocator>(out: &mut Vec<u8, A>, capacity: usize) -> Result<(), AllocError>
     requires { capacity < 2 ^ 16 }
     ensures { OnOk result (out.new.items

@@ -31,7 +31,7 @@ impl Decoded {
     }
 }
 
-/// A word in ASCII.
+// A word in ASCII.
 #[tactic(auto, unfolding(crate::specs::inner::Reading::ascii_step))]
 fn ascii_step(position: usize, word: u8) -> Result<(Mode, Decoded), DecodeFault>
     ensures step { seen result ≡ Reading.ascii_step position word }
@@ -57,7 +57,7 @@ fn ascii_step(position: usize, word: u8) -> Result<(Mode, Decoded), DecodeFault>
     }
 }
 
-/// The word after Upper Shift.
+// The word after Upper Shift.
 #[tactic(auto, unfolding(crate::specs::inner::Reading::upper_step))]
 fn upper_step(position: usize, word: u8) -> Result<(Mode, Decoded), DecodeFault>
     ensures step { seen result ≡ Reading.upper_step position word }
@@ -69,7 +69,7 @@ fn upper_step(position: usize, word: u8) -> Result<(Mode, Decoded), DecodeFault>
     }
 }
 
-/// A word taken out of the 255-state algorithm.
+// A word taken out of the 255-state algorithm.
 #[tactic(auto, unfolding(crate::specs::inner::Reading::value_255))]
 fn value_255(position: usize, word: u8) -> u8
     ensures { result ≡ Reading.value_255 position word }
@@ -82,7 +82,7 @@ fn value_255(position: usize, word: u8) -> u8
     }
 }
 
-/// The mode in which this many bytes of Base 256 are left.
+// The mode in which this many bytes of Base 256 are left.
 fn bytes_left(count: usize, at: usize) -> Mode
     ensures mode { result ≡ Reading.bytes_left count at }
     ensures fits { (p : ℕ) → IsMode result p }
@@ -94,7 +94,7 @@ fn bytes_left(count: usize, at: usize) -> Mode
     }
 }
 
-/// The first word of a length.
+// The first word of a length.
 #[tactic(auto, unfolding(crate::specs::inner::Reading::step))]
 fn length_step(position: usize, word: u8) -> (Mode, Decoded)
     requires { 1 < position }
@@ -112,7 +112,7 @@ fn length_step(position: usize, word: u8) -> (Mode, Decoded)
     (next, Decoded::Nothing)
 }
 
-/// The second word of a length whose first is 250 or more.
+// The second word of a length whose first is 250 or more.
 #[tactic(auto, unfolding(crate::specs::inner::Reading::step))]
 fn long_length_step(first: u8, position: usize, word: u8) -> Result<(Mode, Decoded), DecodeFault>
     requires place { 2 < position }
@@ -164,7 +164,7 @@ pub(crate) fn step(mode: Mode, position: usize, word: u8) -> Result<(Mode, Decod
     }
 }
 
-/// The end of the words, where the mode isn't `Half`.
+// The end of the words, where the mode isn't `Half`.
 fn ended(mode: Mode, position: usize) -> Result<(), DecodeFault>
     requires { IsMode mode position }
     ensures { seen_unit result ≡ Reading.ended mode position }

@@ -12,7 +12,7 @@ use crate::characters::{spelled, values_in};
 use crate::letters::Letters;
 use std::alloc::{AllocError, Allocator};
 
-/// Values that wait until they are three.
+// Values that wait until they are three.
 #[derive(Clone, Copy)]
 enum Held {
     Nothing,
@@ -20,7 +20,7 @@ enum Held {
     Two(u8, u8),
 }
 
-/// Takes one more value; three of them are two words.
+// Takes one more value; three of them are two words.
 fn push_value<A: Allocator>(out: &mut Vec<u8, A>, held: Held, value: u8) -> Result<Held, AllocError>
     requires value { value < 40 }
     requires held { AreValues held }
@@ -39,7 +39,7 @@ fn push_value<A: Allocator>(out: &mut Vec<u8, A>, held: Held, value: u8) -> Resu
     }
 }
 
-/// Takes the values of a byte below 128.
+// Takes the values of a byte below 128.
 fn push_low<A: Allocator>(
     out: &mut Vec<u8, A>,
     letters: Letters,
@@ -60,7 +60,7 @@ fn push_low<A: Allocator>(
     push_value(out, shifted, value)
 }
 
-/// Takes the values of a byte.
+// Takes the values of a byte.
 #[tactic(auto, unfolding(crate::specs::Characters::values_of))]
 fn push_byte<A: Allocator>(
     out: &mut Vec<u8, A>,
@@ -81,7 +81,7 @@ fn push_byte<A: Allocator>(
     push_low(out, letters, upper, byte - 128)
 }
 
-/// Writes the pairs of a run.
+// Writes the pairs of a run.
 fn push_pairs<A: Allocator>(
     out: &mut Vec<u8, A>,
     letters: Letters,
@@ -97,7 +97,7 @@ fn push_pairs<A: Allocator>(
     Ok(())
 }
 
-/// The number of bytes of the run: the longest front whose values are whole triples.
+// The number of bytes of the run: the longest front whose values are whole triples.
 fn run_bytes(letters: Letters, bytes: &[u8]) -> usize
     ensures exact { result ≡ run_length letters bytes.now }
     ensures within { result ≤ length bytes.now }
@@ -113,7 +113,7 @@ fn run_bytes(letters: Letters, bytes: &[u8]) -> usize
     whole
 }
 
-/// The word that latches to the encodation.
+// The word that latches to the encodation.
 fn latch_word(letters: Letters) -> u8
     ensures { result ≡ latch letters }
 {

@@ -10,7 +10,7 @@ use crate::letters::Letters;
 use crate::mode::{Mode, NO_PENDING, Pending, Set, ValueFault};
 use crate::reader::Decoded;
 
-/// The end of a character.
+// The end of a character.
 fn end_character(upper: bool, byte: Option<u8>) -> Result<(Pending, Option<u8>), ValueFault>
     requires { IfSome byte (λ b. b < 128) }
     ensures { seen_value result ≡ Reading.character_ended upper byte }
@@ -21,7 +21,7 @@ fn end_character(upper: bool, byte: Option<u8>) -> Result<(Pending, Option<u8>),
     }
 }
 
-/// One value of a run.
+// One value of a run.
 #[tactic(auto, unfolding(crate::specs::inner::Reading::value_step))]
 fn value_step(
     letters: Letters,
@@ -65,7 +65,7 @@ fn value_step(
     }
 }
 
-/// The fault of a pair that begins with this word.
+// The fault of a pair that begins with this word.
 fn pair_fault(fault: ValueFault, position: usize, word: u8) -> DecodeFault
     ensures { result ≡ fault_of fault position word }
 {
@@ -75,7 +75,7 @@ fn pair_fault(fault: ValueFault, position: usize, word: u8) -> DecodeFault
     }
 }
 
-/// The bytes of up to three characters.
+// The bytes of up to three characters.
 fn joined(first: Option<u8>, second: Option<u8>, third: Option<u8>) -> Decoded
     ensures { bytes_of result
         ≡ option_bytes first ++ (option_bytes second ++ (option_bytes third ++ [])) }
@@ -89,7 +89,7 @@ fn joined(first: Option<u8>, second: Option<u8>, third: Option<u8>) -> Decoded
     }
 }
 
-/// Three values of a run.
+// Three values of a run.
 fn values_step(
     letters: Letters,
     pending: Pending,

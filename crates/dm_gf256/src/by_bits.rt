@@ -3,7 +3,7 @@
 ghost use Rattle.std.specs.Prelude.{◌≡◌};
 ghost use Rattle.dm_gf256.specs.Field.{product};
 
-/// Twice an element.
+// Twice an element.
 fn double(a: u8) -> u8
     ensures { result ≡ product 2 a }
 {

@@ -21,9 +21,10 @@
 //! are. [`FileSet`] is a set in a folder of a disk that has the calls of [`Folders`], and the same is proved of the file
 //! of each key; a remove leaves the old bytes or none, and none once it has answered `Ok`.
 //!
-//! [`MemDisk`] is a disk of which a stop may leave whatever the contract allows after the calls that were made, and
-//! [`FuseDisk`] one that stops after a number of calls. [`RealDisk`] is the system's own files: it claims nothing, so
-//! that its few lines do what the contract says is trusted, and tested.
+//! [`MemDisk`] is a disk in memory of which a stop may leave whatever the contract allows after calls that were done;
+//! a call that fails changes nothing there. [`FuseDisk`] is one that stops after a number of calls. [`RealDisk`] is
+//! the system's own files: it claims nothing. That its few lines do what the contract says is trusted, and tested; so
+//! is the sync by which a folder that was made is kept, which no clause speaks of.
 #![tactic(auto)]
 
 mod disk;

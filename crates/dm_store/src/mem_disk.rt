@@ -24,9 +24,9 @@ pub enum DiskCall<A: Allocator = Global> {
     SyncedEntry(String<A>),
 }
 
-/// A disk in memory, which is empty at first. It keeps the calls that were done, the newest first. What a stop may leave
-/// there is all that the contract lets a stop leave after these calls. What a reader finds is no worse than it looks: a
-/// call that fails changes nothing, and nothing has the old name of a file that was renamed.
+/// A disk in memory, which is empty at first. It keeps the calls that were done, the newest first. A stop may leave
+/// there all that the contract lets a stop leave after calls that were done. Of a call that fails the contract allows
+/// more: here it changes nothing. And after a rename nothing has the file's old name here.
 #[derive(Drop)]
 pub struct MemDisk<A: Allocator + Copy = Global> {
     alloc: A,

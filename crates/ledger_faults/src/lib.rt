@@ -1,5 +1,6 @@
 //! Tests of printers: over an allocator that refuses each growth in turn, over stores that stop after each device call,
-//! and over ledgers and tickets of which a byte is spoiled, which a reader of its own reads by the table of the format.
+//! and over ledgers and tickets of which a byte is spoiled. What is expected of these comes from a second reader, in
+//! `table` and `tickets`, that shares no code with `dm_print_ledger`.
 #![tactic(auto)]
 
 #[cfg(test)]

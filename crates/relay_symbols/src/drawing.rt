@@ -7,7 +7,7 @@ use dm_finder_frame::Grid;
 use dm_pbm_io::{image_of, write_image};
 use std::alloc::{AllocError, Allocator};
 
-/// More than the bytes of a header, with its widths of three digits.
+// More than the bytes of a header, with its widths of three digits.
 const HEADER_ROOM: usize = 16;
 
 // Room for the bytes of the image of a grid of this side.

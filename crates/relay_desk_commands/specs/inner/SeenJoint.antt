@@ -29,4 +29,5 @@ WritesList set seen number unsound old new =
 abbrev pub CutsList : SavedSet → Result (Option Documents) MoveFault → OutputView → OutputView → Type 0
 CutsList set seen old new =
     (number : ℕ) × (text : List ℕ) × (unsound : Bool)
-    × Lists set (documents_in seen) (fault_in seen) number text unsound × (number ≤ 65536) × (new.has_failed ≡ true) × AppendsPart old.contents new.contents text
+    × Lists set (documents_in seen) (fault_in seen) number text unsound × (number ≤ 65536)
+    × (new.has_failed ≡ true) × AppendsPart old.contents new.contents text
