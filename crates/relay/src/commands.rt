@@ -244,7 +244,7 @@ fn do_desk_command<
 }
 
 /// Does a command over the store at the path that it names and the set beside it, an input, and outputs for what it
-/// writes and for what the standard error is for. Which image of a `scan` was refused is told to `notes`.
+/// writes and for what the standard error is for. `notes` learns which image of a `scan` was refused.
 pub fn do_command<
     A: Allocator + Copy,
     S: Store,
