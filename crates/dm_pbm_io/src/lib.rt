@@ -11,8 +11,8 @@
 //! `Read`, and `Image::write` its fault, only where the input or the output has failed; of an image that was not
 //! written whole a part went out from its first byte on, and nothing if a write had failed before; the image of a grid
 //! is the definition's picture, and gives that grid back; `grid_of` refuses exactly the images that have not the shape
-//! of a symbol. Only tested: that `read_image` and `write_image` answer those faults only where the reader or the writer
-//! failed.
+//! of a symbol. Only tested: that `read_image` and `write_image` answer those faults only where the reader or the
+//! writer failed.
 #![tactic(auto)]
 
 mod fault;

@@ -15,11 +15,11 @@
 //!
 //! [`FileStore`] is a store in a file of a [`Disk`], whose contract (`specs/Disk.antt`) says what a reader finds and
 //! what a stop of the machine may leave. Proved over every disk that keeps it: the store is honest if the disk is;
-//! whenever the machine stops in a save, the file holds the old or the new bytes, whole, and the new ones once the save
-//! has answered `Ok` ([`save_until_stop`] says it of a stop at each call); a save touches no file but its own and the
-//! draft beside it; and no stop takes back what a load gave of a file whose bytes are on the disk, as those of a save
-//! are. [`FileSet`] is a set in a folder of a disk that has the calls of [`Folders`], and the same is proved of the file
-//! of each key; a remove leaves the old bytes or none, and none once it has answered `Ok`.
+//! whenever the machine stops in a save, the file holds the old or the new bytes, whole, and the new ones once the
+//! save has answered `Ok` ([`save_until_stop`] says it of a stop at each call); a save touches no file but its own and
+//! the draft beside it; and no stop takes back what a load gave of a file whose bytes are on the disk, as those of a
+//! save are. [`FileSet`] is a set in a folder of a disk that has the calls of [`Folders`], and the same is proved of
+//! the file of each key; a remove leaves the old bytes or none, and none once it has answered `Ok`.
 //!
 //! [`MemDisk`] is a disk in memory of which a stop may leave whatever the contract allows after calls that were done;
 //! a call that fails changes nothing there. [`FuseDisk`] is one that stops after a number of calls. [`RealDisk`] is
