@@ -4,18 +4,17 @@ use Rattle.std.proofs.Common.{◌≡◌, ◌<◌, inl, inr, ℕ, Option, Some, L
 use Rattle.dm_finder_frame.specs.Grids.{GridView}
 use Rattle.dm_print_ledger.specs.declared.range.Range.{Range}
 use Rattle.dm_assembly_desk.specs.declared.fault.AskFault.TheVariants.{Incomplete}
-use Rattle.dm_assembly_desk.specs.declared.fault.ScanFault.TheVariants.{Conflict}
 use Rattle.dm_assembly_desk.specs.declared.fault.ImportFault.{ImportFault}
 use Rattle.dm_assembly_desk.specs.declared.fault.ImportFault.TheVariants as import_fault
 use Rattle.dm_event_history.specs.declared.stop.Stop.{Stop}
 use Rattle.dm_event_history.specs.declared.event.Event.{Event}
 use Rattle.dm_event_history.specs.declared.event.Event.TheVariants.{Scan, Ask, Forget, Import, Export}
 use Rattle.dm_event_history.specs.declared.reply.Reply.{Reply}
-use Rattle.dm_event_history.specs.declared.reply.Reply.TheVariants.{Scanned, ScanRefused, Document, AskRefused, Forgotten, Exported, ImportRefused}
+use Rattle.dm_event_history.specs.declared.reply.Reply.TheVariants.{Scanned, Document, AskRefused, Forgotten, Exported, ImportRefused}
 use Rattle.dm_event_history.specs.History.{Entry, History, CutDocument, LabelName, ExportName, out, exports, exported, printed_by, prints_as, docs, events_of, replies_of}
 use Rattle.dm_event_history.specs.Legal.{IsLegal, IsReply, NeverTwice}
 use Rattle.dm_event_history.specs.Safe.{IsSafe, IsReplySafe, IsTrueDocument, IsTrulyMissing, IsExportSafe}
-use Rattle.dm_event_history.specs.Honest.{IsHonestlyNotImported, IsHonestReply, AreHonestReplies}
+use Rattle.dm_event_history.specs.Honest.{IsFair, IsHonestlyNotImported, IsHonestReply, AreHonestReplies}
 use Rattle.dm_event_history.specs.Masks.{HasPage}
 use Rattle.dm_event_history.specs.Holding.{MayTake, IsPossiblyHeld}
 use Rattle.dm_event_history.specs.Headline.{Batch, count_of, labels_of, IsScanOf, MayHaveSaved, WasScanned, LeftBefore, WasPrinted, WasBegun, IsOfDesk, PrintsOnceBy, IsFaithfulBy}
@@ -365,7 +364,6 @@ Tells batches events replies i Forgotten =
 Tells batches events replies i (Exported index id n mask) =
     (desk : ℕ) × (slice_get events i ≡ Some (Export desk id)) ×
     ((m : ℕ) → HasPage mask m → WasScanned batches events replies i id m n)
-Tells batches events replies i (ScanRefused Conflict) = ⊥
 Tells batches events replies i (ImportRefused fault) = IsOfDesk fault
 Tells batches events replies i reply = Unit {0}
 
@@ -402,7 +400,6 @@ tells_more batches more events replies event answer i (Exported index id n mask)
   get_more events (event ∷ []) i (Export t.0 id) t.1,
   λ m named. scanned_more batches more events replies event answer i id m n within (t.2 m named),
 )
-tells_more batches more events replies event answer i (ScanRefused Conflict) within t = absurd t
 tells_more batches more events replies event answer i (ImportRefused fault) within t = t
 tells_more batches more events replies event answer i reply within t = tt
 
@@ -418,7 +415,8 @@ of_desk capacities h desk export fault honest = tt
 -- so it is of the last reply
 tells_last : {A : Type 0} (ranges : List Range) (desks : ℕ) (h : History A) (e : Entry A) (grids : List GridView)
     (capacities : List ℕ) →
-    IsLegal ranges desks (e ∷ h) → IsSafe (e ∷ h) → IsHonestReply grids capacities h e.event e.reply →
+    IsLegal ranges desks (e ∷ h) → IsSafe (e ∷ h) →
+    (IsFair grids e.event → IsHonestReply grids capacities h e.event e.reply) →
     PrintsOnceBy (batches_of h) (events_of h) (replies_of h) →
     Tells (batches_of (e ∷ h)) (events_of (e ∷ h)) (replies_of (e ∷ h)) (length h) e.reply
 tells_last {A} ranges desks h e grids capacities legal safe honest once =
@@ -432,7 +430,7 @@ tells_last {A} ranges desks h e grids capacities legal safe honest once =
 
     by_reply : (event : Event A) (reply : Reply A) → e.event ≡ event → IsReply ranges h e.id e.left event reply →
         IsReplySafe h event reply →
-        IsHonestReply grids capacities h event reply →
+        (IsFair grids event → IsHonestReply grids capacities h event reply) →
         Tells (batches_of (e ∷ h)) (events_of (e ∷ h)) (replies_of (e ∷ h)) (length h) reply
     by_reply (Scan desk label flips stop) (Scanned accepted) is fine s honest =
         subst (λ (name : LabelName). IsScanOf (batches_of (e ∷ h)) (events_of (e ∷ h)) (length h) name)
@@ -474,10 +472,8 @@ tells_last {A} ranges desks h e grids capacities legal safe honest once =
               (subst (λ (k : ℕ). WasScanned (batches_of h) (events_of h) (replies_of h) (length h) k m n) (sym same)
               (pages_scanned ranges desks h desk name n mask legal.1 safe.1 once s m named)),
         ))
-    by_reply (Scan desk label flips stop) (ScanRefused Conflict) is fine s honest = absurd honest
-    by_reply event (ScanRefused Conflict) is fine s honest = absurd fine
     by_reply (Import desk export stop) (ImportRefused fault) is fine s honest =
-        of_desk capacities h desk export fault honest
+        of_desk capacities h desk export fault (honest tt)
     by_reply event (ImportRefused fault) is fine s honest = absurd fine
     by_reply event (Scanned accepted) is fine s honest = absurd fine
     by_reply event (Document bytes) is fine s honest = absurd fine
@@ -545,7 +541,6 @@ is_faithful {A} ranges desks h grids capacities legal never safe honest = record
       let same : t.1 ≡ id = cc (e) in
       (t.4, t.5, subst (λ (k : ℕ). WasScanned (batches_of h) (events_of h) (replies_of h) i k t.4 t.5) same t.6));
   exported = λ i index id n mask answered. tells i (Exported index id n mask) answered;
-  no_conflict = λ i answered. tells i (ScanRefused Conflict) answered;
   not_imported = λ i fault answered. tells i (ImportRefused fault) answered;
 }
   where

@@ -26,7 +26,7 @@ use Rattle.dm_event_history.specs.Masks.{HasPage}
 use Rattle.dm_event_history.specs.Saving.{may_save}
 use Rattle.dm_event_history.specs.Tickets.{WasGiven, WasReached}
 use Rattle.dm_event_history.specs.Worked.{digits, range, first_ticket}
-use Rattle.dm_event_history.specs.Unfaithful.{IsFaithfulRun, PrintsOnceRun, AreRepliesRun, TakesOnceRun, ImportsExportsRun, other_digits, scan, page, ticket, another_call, stopped_unasked, forgotten_with_a_fault, scanned_though_stopped, failed_without_a_fault, damaged_by_itself, answered_while_down, down_unstopped, failed_before_a_fault, given_though_failed, missing_printer, numbered_above, second_ticket, taken_falling, old_at_first, old_after_a_lower, old_unsaved, old_though_failed, refused_ungiven, missing_ticket, exported_above, refused_unexported, missing_export, never_saved, conflicting, refused_import, shown_not_left, shown_left, begun_unscanned, exported_unscanned, printed_after_forgotten, one_serial, given_falling, taken_though_old, imported_another_document, imported_another_page, exported_twice, half_printed, printed_unseen, unseen_labels, print, never_printed, wrong_document, another_document, never_scanned, two_documents, printed_twice, told_twice, left_though_failed, never_left, numbered_twice, taken_twice, taken_elsewhere, overlaps, AreUnfaithful}
+use Rattle.dm_event_history.specs.Unfaithful.{IsFaithfulRun, PrintsOnceRun, AreRepliesRun, TakesOnceRun, ImportsExportsRun, other_digits, scan, page, ticket, another_call, stopped_unasked, forgotten_with_a_fault, scanned_though_stopped, failed_without_a_fault, damaged_by_itself, answered_while_down, down_unstopped, failed_before_a_fault, given_though_failed, missing_printer, numbered_above, second_ticket, taken_falling, old_at_first, old_after_a_lower, old_unsaved, old_though_failed, refused_ungiven, missing_ticket, exported_above, refused_unexported, missing_export, never_saved, refused_import, shown_not_left, shown_left, begun_unscanned, exported_unscanned, printed_after_forgotten, one_serial, given_falling, taken_though_old, imported_another_document, imported_another_page, exported_twice, half_printed, printed_unseen, unseen_labels, print, never_printed, wrong_document, another_document, never_scanned, two_documents, printed_twice, told_twice, left_though_failed, never_left, numbered_twice, taken_twice, taken_elsewhere, overlaps, AreUnfaithful}
 
 -- ---- what an event lets out
 
@@ -300,9 +300,6 @@ never_saved_is A (batches, f) =
         let r : Some Memory ≡ Some saved.reply = saved.answered in
         unsaved 1 saved.event saved.reply (cc (e)) (cc (r)) saved.saves
     by_scan (suc (suc (suc k))) before is saved = omega arith
-
-conflicting_is : (A : Type 0) → ¬ IsFaithfulRun (conflicting A)
-conflicting_is A (batches, f) = f.no_conflict 1 refl
 
 import_conflicting_is : (A : Type 0) → ¬ IsFaithfulRun (refused_import A import_fault.Conflict)
 import_conflicting_is A (batches, f) = f.not_imported 3 import_fault.Conflict refl
@@ -869,7 +866,6 @@ are_unfaithful A = record {
   half_printed_is = half_printed_is A;
   never_scanned_is = never_scanned_is A;
   never_saved_is = never_saved_is A;
-  conflicting_is = conflicting_is A;
   import_conflicting_is = import_conflicting_is A;
   import_damaged_is = import_damaged_is A;
   import_of_a_version_is = import_of_a_version_is A;

@@ -9,13 +9,12 @@ use Rattle.dm_encodation.specs.Written as written
 use Rattle.dm_append_label.specs.Parts.{AreParts}
 use Rattle.dm_assembly_desk.specs.declared.reply.Kind.TheVariants.{New, Complete}
 use Rattle.dm_assembly_desk.specs.declared.fault.AskFault.TheVariants.{Incomplete}
-use Rattle.dm_assembly_desk.specs.declared.fault.ScanFault.TheVariants.{Conflict}
 use Rattle.dm_assembly_desk.specs.declared.fault.ImportFault.{ImportFault}
 use Rattle.dm_assembly_desk.specs.declared.reply.Accepted.{Accepted}
 use Rattle.dm_event_history.specs.declared.event.Event.{Event}
 use Rattle.dm_event_history.specs.declared.event.Event.TheVariants.{Scan, Ask}
 use Rattle.dm_event_history.specs.declared.reply.Reply.{Reply}
-use Rattle.dm_event_history.specs.declared.reply.Reply.TheVariants.{Printed, Scanned, ScanRefused, Document, AskRefused, Forgotten, Exported, ImportRefused, Stopped, Down, NoSuch}
+use Rattle.dm_event_history.specs.declared.reply.Reply.TheVariants.{Printed, Scanned, Document, AskRefused, Forgotten, Exported, ImportRefused, Stopped, Down, NoSuch}
 use Rattle.dm_event_history.specs.declared.stop.Stop.{Stop}
 use Rattle.dm_event_history.specs.declared.stop.Stop.TheVariants as stops
 use Rattle.dm_event_history.specs.History.{CutDocument}
@@ -87,7 +86,6 @@ right_document_is A = (
     begun = λ i desk id missing asked answered. absurd (none_begun i missing answered);
     forgotten = λ i desk id stop asked answered. absurd (none_forgotten i answered);
     exported = λ i index id n mask answered. absurd (none_exported i index id n mask answered);
-    no_conflict = none_conflicts;
     not_imported = λ i fault answered. absurd (none_imported i fault answered);
   },
 )
@@ -259,14 +257,6 @@ right_document_is A = (
     none_exported (suc (suc (suc zero))) index id n mask is = cc (is)
     none_exported (suc (suc (suc (suc zero)))) index id n mask is = cc (is)
     none_exported (suc (suc (suc (suc (suc i))))) index id n mask is = cc (is)
-
-    none_conflicts : (i : ℕ) → slice_get replies i ≢ Some (ScanRefused Conflict)
-    none_conflicts zero is = cc (is)
-    none_conflicts (suc zero) is = cc (is)
-    none_conflicts (suc (suc zero)) is = cc (is)
-    none_conflicts (suc (suc (suc zero))) is = cc (is)
-    none_conflicts (suc (suc (suc (suc zero)))) is = cc (is)
-    none_conflicts (suc (suc (suc (suc (suc i))))) is = cc (is)
 
     none_imported : (i : ℕ) (fault : ImportFault) → slice_get replies i ≡ Some (ImportRefused fault) → ⊥
     none_imported zero fault is = cc (is)

@@ -3,7 +3,6 @@
 use Rattle.std.specs.Prelude.{◌≡◌, ◌≢◌, ◌<◌, ◌≤◌, ◌⊎◌, ℕ, Option, None, Some, List, [], ◌∷◌, ◌++◌, length, slice_get, take, min, All, true, false}
 use Rattle.dm_append_label.specs.Parts.{AreParts}
 use Rattle.dm_assembly_desk.specs.declared.fault.AskFault.TheVariants.{Incomplete}
-use Rattle.dm_assembly_desk.specs.declared.fault.ScanFault.TheVariants.{Conflict}
 use Rattle.dm_assembly_desk.specs.declared.fault.ImportFault.{ImportFault}
 use Rattle.dm_assembly_desk.specs.declared.fault.ImportFault.TheVariants as import_fault
 use Rattle.dm_assembly_desk.specs.declared.reply.Accepted.{Accepted}
@@ -11,7 +10,7 @@ use Rattle.dm_event_history.specs.Masks.{HasPage}
 use Rattle.dm_event_history.specs.declared.event.Event.{Event}
 use Rattle.dm_event_history.specs.declared.event.Event.TheVariants.{Print, Scan, Ask, Forget, Export}
 use Rattle.dm_event_history.specs.declared.reply.Reply.{Reply}
-use Rattle.dm_event_history.specs.declared.reply.Reply.TheVariants.{Printed, Scanned, ScanRefused, Document, AskRefused, Forgotten, Exported, ImportRefused, Stopped, NoSuch}
+use Rattle.dm_event_history.specs.declared.reply.Reply.TheVariants.{Printed, Scanned, Document, AskRefused, Forgotten, Exported, ImportRefused, Stopped, NoSuch}
 use Rattle.dm_event_history.specs.declared.stop.Stop.{Stop}
 use Rattle.dm_event_history.specs.declared.stop.Stop.TheVariants as stops
 use Rattle.dm_event_history.specs.Actors.{DeskAt, actor_of}
@@ -197,9 +196,7 @@ pub record IsFaithfulBy {A : Type 0} (batches : List (Option Batch)) (events : L
   pub exported : (i index id n mask : ℕ) → slice_get replies i ≡ Some (Exported index id n mask) →
       (desk : ℕ) × (slice_get events i ≡ Some (Export desk id))
       × ((m : ℕ) → HasPage mask m → WasScanned batches events replies i id m n)
-  -- no scan is refused for a conflict
-  pub no_conflict : (i : ℕ) → slice_get replies i ≢ Some (ScanRefused Conflict)
-  -- nor is an import, nor is it refused for the bytes of its export
+  -- no import is refused for a conflict, nor for the bytes of its export
   pub not_imported : (i : ℕ) (fault : ImportFault) → slice_get replies i ≡ Some (ImportRefused fault) → IsOfDesk fault
 
 -- the headline

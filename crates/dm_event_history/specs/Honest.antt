@@ -1,6 +1,6 @@
--- Which scans are honest, and how honest scans, and imports in an honest history, are refused. `grids` are the labels
--- that left, in their order.
-use Rattle.std.specs.Prelude.{◌≡◌, ◌≢◌, ◌≤◌, ℕ, Some, List, [], ◌∷◌, length, slice_get, IsSomeAnd}
+-- Which histories are honest, and how fair scans, and imports, are refused after an honest history. `grids` are the
+-- labels that left, in their order.
+use Rattle.std.specs.Prelude.{◌≡◌, ◌≢◌, ◌≤◌, ℕ, true, Some, List, [], ◌∷◌, length, slice_get, IsSomeAnd}
 use Rattle.std.specs.Ordering.{nat_cmp}
 use Rattle.std.specs.List.Sorted.{IsStrictlySortedBy}
 use Rattle.dm_finder_frame.specs.Grids.{GridView, flipped}
@@ -15,8 +15,9 @@ use Rattle.dm_assembly_desk.specs.declared.fault.ImportFault.TheVariants as impo
 use Rattle.dm_event_history.specs.declared.event.Event.{Event}
 use Rattle.dm_event_history.specs.declared.event.Event.TheVariants.{Scan, Import}
 use Rattle.dm_event_history.specs.declared.reply.Reply.{Reply}
-use Rattle.dm_event_history.specs.declared.reply.Reply.TheVariants.{Scanned, ScanRefused, ImportRefused, NoSuch}
+use Rattle.dm_event_history.specs.declared.reply.Reply.TheVariants.{Scanned, ScanRefused, ImportRefused}
 use Rattle.dm_event_history.specs.History.{History, LabelName, ExportName, out, exports}
+use Rattle.dm_event_history.specs.Saving.{may_save}
 use Rattle.dm_event_history.specs.Holding.{IsPossiblyHeld}
 
 -- a scan's copy of a label, with the modules flipped, is near the label
@@ -25,12 +26,13 @@ IsFair grids (Scan desk label flips stop) =
     (grid : GridView) → slice_get grids label ≡ Some grid → IsNear (flipped grid flips) grid
 IsFair grids event = Unit {0}
 
--- each event is fair, other than those that were answered `NoSuch`
+-- each scan that may have saved its page is fair
 abbrev pub IsHonest : {A : Type 0} → List GridView → History A → Type 0
 IsHonest grids [] = Unit {0}
-IsHonest grids (entry ∷ before) = (entry.reply ≢ NoSuch → IsFair grids entry.event) × IsHonest grids before
+IsHonest grids (entry ∷ before) =
+    (may_save entry.event entry.reply ≡ true → IsFair grids entry.event) × IsHonest grids before
 
--- ---- how honest scans are answered
+-- ---- how fair scans are answered after an honest history
 
 -- the scanned copy of the label has such finder patterns
 pub record IsScannedWith (Frame : GridView → Type 0) (grids : List GridView) (label : ℕ) (flips : List (ℕ × ℕ))
@@ -68,7 +70,7 @@ pub record IsFullForExport {A : Type 0} (capacities : List ℕ) (before : Histor
   pub has_left : slice_get (exports before) export ≡ Some name
   pub full : IsSomeAnd (slice_get capacities desk) (MayHoldOthers before desk name.id)
 
--- why a scan is refused in an honest history: never for a conflict
+-- why a fair scan is refused after an honest history: never for a conflict
 abbrev pub IsHonestlyRefused : {A : Type 0} → List GridView → List ℕ → History A →
     ℕ → ℕ → List (ℕ × ℕ) → ScanFault → Type 0
 IsHonestlyRefused grids capacities before desk label flips scan_fault.Failed = Unit {0}
@@ -79,7 +81,7 @@ IsHonestlyRefused grids capacities before desk label flips scan_fault.Full =
 IsHonestlyRefused grids capacities before desk label flips scan_fault.Memory = IsFramed grids label flips
 IsHonestlyRefused grids capacities before desk label flips scan_fault.Save = IsFramed grids label flips
 
--- why an import is refused in an honest history: never for its bytes
+-- why an import is refused after an honest history: never for its bytes
 abbrev pub IsHonestlyNotImported : {A : Type 0} → List ℕ → History A → ℕ → ℕ → ImportFault → Type 0
 IsHonestlyNotImported capacities before desk export import_fault.NotPages = ⊥
 IsHonestlyNotImported capacities before desk export import_fault.Version = ⊥
@@ -88,7 +90,7 @@ IsHonestlyNotImported capacities before desk export import_fault.Conflict = ⊥
 IsHonestlyNotImported capacities before desk export import_fault.Full = IsFullForExport capacities before desk export
 IsHonestlyNotImported capacities before desk export other = Unit {0}
 
--- what is so of a reply in an honest history
+-- what is so of the reply to a fair event after an honest history
 abbrev pub IsHonestReply : {A : Type 0} → List GridView → List ℕ → History A → Event A → Reply A → Type 0
 IsHonestReply grids capacities before (Scan desk label flips stop) (Scanned accepted) = IsFramed grids label flips
 IsHonestReply grids capacities before (Scan desk label flips stop) (ScanRefused fault) =
@@ -97,7 +99,9 @@ IsHonestReply grids capacities before (Import desk export stop) (ImportRefused f
     IsHonestlyNotImported capacities before desk export fault
 IsHonestReply grids capacities before event reply = Unit {0}
 
+-- so it is of each reply to a fair event
 abbrev pub AreHonestReplies : {A : Type 0} → List GridView → List ℕ → History A → Type 0
 AreHonestReplies grids capacities [] = Unit {0}
 AreHonestReplies grids capacities (entry ∷ before) =
-    IsHonestReply grids capacities before entry.event entry.reply × AreHonestReplies grids capacities before
+    (IsFair grids entry.event → IsHonestReply grids capacities before entry.event entry.reply)
+    × AreHonestReplies grids capacities before

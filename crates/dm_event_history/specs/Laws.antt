@@ -63,7 +63,7 @@ LegalTakesOnce A = InLegal A (λ ranges h. TakesOnce (events_of h) (replies_of h
 abbrev pub LegalImportsExports : Type 0 → Type 0
 LegalImportsExports A = InLegal A (λ ranges h. ImportsExports (events_of h) (replies_of h))
 
--- the headline: legal and safe histories, in which labels and exports are refused as in an honest one, are faithful
+-- the headline: legal and safe histories, in which what is fair is refused as in an honest one, are faithful
 abbrev pub LegalAndSafeIsFaithful : Type 0 → Type 0
 LegalAndSafeIsFaithful A = InLegal A (λ ranges h. (grids : List GridView) (capacities : List ℕ) →
     IsSafe h → AreHonestReplies grids capacities h → IsFaithful (events_of h) (replies_of h))

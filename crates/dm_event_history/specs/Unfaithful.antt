@@ -8,7 +8,6 @@ use Rattle.dm_print_ledger.specs.declared.fault.PrintFault.TheVariants as print_
 use Rattle.dm_print_ledger.specs.declared.fault.TakeFault.TheVariants.{Old, Overlap, Save}
 use Rattle.dm_print_ledger.specs.declared.range.Range.{Range}
 use Rattle.dm_print_ledger.specs.Views.{TicketView}
-use Rattle.dm_assembly_desk.specs.declared.fault.ScanFault.TheVariants.{Conflict}
 use Rattle.dm_assembly_desk.specs.declared.fault.ScanFault.TheVariants as scan_fault
 use Rattle.dm_print_ledger.specs.declared.fault.OpenFault.TheVariants as open_fault
 use Rattle.dm_store.specs.declared.fuse.Kept.TheVariants as kept
@@ -143,10 +142,6 @@ shown_left A =
     (scan 0, Scanned (page 10 1 New)) ∷
     (scan 1, Scanned (page 10 2 Complete)) ∷
     (Ask 0 10, Document other_digits) ∷ []
-
--- `no_conflict`: a label disagrees with what a desk holds
-abbrev pub conflicting : (A : Type 0) → Run A
-conflicting A = (print 0 digits None, Printed 0 0 2) ∷ (scan 0, ScanRefused Conflict) ∷ []
 
 -- `not_imported`: an export is refused at a desk that holds nothing, for this
 abbrev pub refused_import : (A : Type 0) → ImportFault → Run A
@@ -379,7 +374,6 @@ pub record AreUnfaithful (A : Type 0) : Type 0 where
   pub half_printed_is : ¬ IsFaithfulRun (half_printed A)
   pub never_scanned_is : ¬ IsFaithfulRun (never_scanned A)
   pub never_saved_is : ¬ IsFaithfulRun (never_saved A)
-  pub conflicting_is : ¬ IsFaithfulRun (conflicting A)
   pub import_conflicting_is : ¬ IsFaithfulRun (refused_import A import_fault.Conflict)
   pub import_damaged_is : ¬ IsFaithfulRun (refused_import A import_fault.Damaged)
   pub import_of_a_version_is : ¬ IsFaithfulRun (refused_import A import_fault.Version)

@@ -53,9 +53,9 @@ pub fn legal_imports_exports<A: Allocator>()
     ensures { LegalImportsExports A }
 {}
 
-/// The headline: in a legal and safe history of printers that begin with disjoint ranges, where labels and exports are
-/// refused as in an honest one, whatever document any desk
-/// gives for an identification is the one document printed under it, and no identification is ever printed twice.
+/// The headline: in a legal and safe history of printers that begin with disjoint ranges, where fair scans and imports
+/// are refused as in an honest one, whatever document any desk gives for an identification is the one document printed
+/// under it, and no identification is ever printed twice.
 pub fn legal_and_safe_is_faithful<A: Allocator>()
     ensures { LegalAndSafeIsFaithful A }
 {}

@@ -232,7 +232,7 @@ ask_goes {A} ranges capacities grids h d id capacity view reply state legal ther
         (λ i m t. absurd t) (λ i x. x)
         (λ honest. ask_safe ranges (length capacities) h d id view.held (finite.get view.held id) given legal
         (s.gathered honest.1) acts.order.entries refl asks missing)
-        (λ honest. tt)
+        (λ fair honest. tt)
 
     by_answer : (given : Result (List ℕ) AskFault) → Asks (λ bytes. bytes) (finite.get view.held id) given →
         NamesMissing (finite.get view.held id) given →
@@ -316,7 +316,7 @@ restart_desk_goes {A} ranges capacities grids h d capacity Restarted was state t
         },
       );
       safe = λ _. tt;
-      answers = λ _. tt;
+      answers = λ _ _. tt;
     })
 restart_desk_goes {A} ranges capacities grids h d capacity (DeskRefused fault) was state there s acts =
     let event : Event A = RestartDesk d in
@@ -347,6 +347,6 @@ restart_desk_goes {A} ranges capacities grids h d capacity (DeskRefused fault) w
         },
       );
       safe = λ _. tt;
-      answers = λ _. tt;
+      answers = λ _ _. tt;
     })
 restart_desk_goes ranges capacities grids h d capacity reply was state there s acts = absurd acts

@@ -25,7 +25,7 @@ use Rattle.dm_event_history.specs.Running.{down_after, is_down, failed_after, is
 use Rattle.dm_event_history.specs.Saving.{tells_of_save}
 use Rattle.dm_event_history.specs.Holding.{Takes, Forgets}
 use Rattle.dm_event_history.specs.Legal.{Fits, IsThere, IsStopped, IsStopping, NeedsRunning}
-use Rattle.dm_event_history.specs.Honest.{IsHonest, IsHonestReply}
+use Rattle.dm_event_history.specs.Honest.{IsFair, IsHonest, IsHonestReply}
 use Rattle.dm_event_history.specs.Safe.{IsReplySafe}
 use Rattle.dm_event_history.proofs.WhoActs.{is_down_same, is_failed_same}
 use Rattle.dm_event_steps.specs.declared.actor.DeskState.{DeskState}
@@ -167,7 +167,7 @@ pub desk_kept : {A : Type 0} (ranges : List Range) (capacities : List ℕ) (grid
     ((id m : ℕ) → Takes h event reply d id m → IsSome (page_at view.held id m) × IsSome (page_at s.stored id m)) →
     ((id : ℕ) → ¬ Forgets event reply d id) →
     (IsHonest grids (quiet event reply ∷ h) → IsReplySafe h event reply) →
-    (IsHonest grids (quiet event reply ∷ h) → IsHonestReply grids capacities h event reply) →
+    (IsFair grids event → IsHonest grids h → IsHonestReply grids capacities h event reply) →
     DeskGoes ranges capacities grids h event reply d capacity (desks.Running after)
 desk_kept {A} ranges capacities grids h event reply d capacity view after room s same told up failed takes stays safe
     answers =
@@ -211,7 +211,7 @@ pub desk_saves : {A : Type 0} (ranges : List Range) (capacities : List ℕ) (gri
     failed_after reply (is_failed h (DeskAt d)) ≡ is_failed h (DeskAt d) →
     (IsHonest grids (quiet event reply ∷ h) → IsGathered (quiet event reply ∷ h) d held) →
     (IsHonest grids (quiet event reply ∷ h) → IsReplySafe h event reply) →
-    (IsHonest grids (quiet event reply ∷ h) → IsHonestReply grids capacities h event reply) →
+    (IsFair grids event → IsHonest grids h → IsHonestReply grids capacities h event reply) →
     DeskGoes ranges capacities grids h event reply d capacity (desks.Running (desk_planned mid next_save.Fine))
 desk_saves {A} ranges capacities grids h event reply d capacity view mid plan content held room s saves holding few told
     up failed gathered safe answers =
@@ -259,7 +259,7 @@ pub desk_fails : {A : Type 0} (ranges : List Range) (capacities : List ℕ) (gri
     (IsHonest grids (quiet event reply ∷ h) → IsGathered (quiet event reply ∷ h) d (kept_held k view.held held)) →
     (IsHonest grids (quiet event reply ∷ h) → IsGathered (quiet event reply ∷ h) d view.held) →
     (IsHonest grids (quiet event reply ∷ h) → IsReplySafe h event reply) →
-    (IsHonest grids (quiet event reply ∷ h) → IsHonestReply grids capacities h event reply) →
+    (IsFair grids event → IsHonest grids h → IsHonestReply grids capacities h event reply) →
     DeskGoes ranges capacities grids h event reply d capacity (desks.Running (desk_planned mid next_save.Fine))
 desk_fails {A} ranges capacities grids h event reply d capacity view mid k content held room s saves fails few told up
     failed stored shown safe answers =
@@ -304,7 +304,7 @@ desk_stopped {A} ranges capacities grids h event d capacity saved stored state r
       fits = desk_fits ranges (length capacities) h event Stopped d told;
       stands = (room, record { down = is_down_same e h (DeskAt d) told.named; stored = stored; store = store });
       safe = λ _. safe;
-      answers = λ _. answers;
+      answers = λ _ _. answers;
     })
 
 -- a desk that answers `Down`
@@ -347,7 +347,7 @@ desk_down {A} ranges capacities grids h event reply d capacity saved state room 
         },
       );
       safe = λ _. safe;
-      answers = λ _. answers;
+      answers = λ _ _. answers;
     }))
 
 -- a running desk that answers `Memory` is as it was
@@ -377,7 +377,7 @@ memory_goes {A} ranges capacities grids h event d capacity view reply state room
       is_reply = fine;
       failed = λ _ _. inr tt;
       untold = λ x. cc;
-    }) refl refl (λ id m t. absurd (takes id m t)) stays (λ honest. safe) (λ honest. answers)))
+    }) refl refl (λ id m t. absurd (takes id m t)) stays (λ honest. safe) (λ fair honest. answers)))
 
 -- a call that lacked memory changed nothing, so the desk is as it was
 pub lacks_same : {A : Type 0} (stop : Stop) (Call : DeskView → Type 0) (view : DeskView) (state : DeskState A) →

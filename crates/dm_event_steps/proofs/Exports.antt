@@ -128,7 +128,7 @@ export_goes {A} ranges capacities grids h d id capacity reply view state old new
           failed = λ _ saves. absurd (let x : false ≡ true = saves in cc (x));
           untold = untold;
         }) up (failed (is_failed h (DeskAt d))) (λ i m t. absurd t) stays (λ honest. safe (s.gathered honest.1))
-        (λ honest. tt))
+        (λ fair honest. tt))
 
     shown : (tells : Reply A) (r : Reply A) → (x : ExportsPages view id old r new) →
         ShowsPages grids (quiet (Export d id) tells ∷ h) x.export

@@ -130,7 +130,7 @@ refused_goes {A} ranges capacities grids h d id capacity stop view mid fault the
     (call_told ranges (length capacities) h (Forget d id stop) (ForgetRefused fault) d stop refl there s.up called
     (λ x. x) (λ x. cc) (λ x. cc) (λ x. cc)
     (refl, why) refuses (λ x. cc))
-    refl (failed (is_failed h (DeskAt d))) (λ i m t. absurd t) (λ i x. x) safe (λ honest. tt)
+    refl (failed (is_failed h (DeskAt d))) (λ i m t. absurd t) (λ i x. x) safe (λ fair honest. tt)
 
 few_kept : (k : Kept) (view : DeskView) (id : ℕ) → finite.len view.held ≤ view.capacity →
     finite.len (kept_held k view.held (finite.remove view.held id)) ≤ view.capacity
@@ -172,7 +172,7 @@ running_goes {A} ranges capacities grids h d id capacity stop view mid (Ok done)
     refl refl
     (gathered_less grids h d id capacity stop Forgotten view s refl (λ other away x. away (sym x.1)))
     (λ honest. some_possibly h d id view.held (s.gathered honest.1) order.entries acts.was_held)
-    (λ honest. tt)
+    (λ fair honest. tt)
 running_goes ranges capacities grids h d id capacity stop view mid
     (Err forget_fault.NotHeld) there room s called order was acts =
     refused_goes ranges capacities grids h d id capacity stop view mid forget_fault.NotHeld there room s called acts.1
@@ -205,7 +205,7 @@ running_goes {A} ranges capacities grids h d id capacity stop view mid
         refl refl (gathered_kept grids h d id capacity k view s)
         (λ honest. gathered_keeps (quiet event reply) h d view.held (λ x. none_leaves event reply _ x)
         (λ i m t. absurd t) (λ i x. x) (s.gathered honest.1))
-        (λ honest. tt) (λ honest. tt)
+        (λ honest. tt) (λ fair honest. tt)
 running_goes ranges capacities grids h d id capacity stop view mid
     (Err forget_fault.Failed) there room s called order was acts = absurd acts
 

@@ -275,8 +275,7 @@ refused_goes : {A : Type 0} (ranges : List Range) (capacities : List ℕ) (grids
     (let reply : Reply A = ImportRefused fault in
     is_failed h (DeskAt d) ≡ true → IsOfFailed (Import d number stop) reply) →
     IsImportRefused h d stop fault →
-    (IsHonest grids (quiet (Import d number stop) (ImportRefused fault) ∷ h) →
-    IsHonestlyNotImported capacities h d number fault) →
+    (IsHonest grids h → IsHonestlyNotImported capacities h d number fault) →
     DeskGoes ranges capacities grids h (Import d number stop) (ImportRefused fault) d capacity
     (desks.Running (desk_planned mid next_save.Fine))
 refused_goes {A} ranges capacities grids h d number capacity stop view mid export fault s called same failed refuses
@@ -287,7 +286,7 @@ refused_goes {A} ranges capacities grids h d number capacity stop view mid expor
     (call_told ranges (length capacities) h (Import d number stop)
     (ImportRefused fault) d stop refl s.there s.runs.up called (λ x. x) (λ x. cc) (λ x. cc)
     (λ x. cc) (refl, why) refuses (λ x. cc))
-    refl (failed (is_failed h (DeskAt d))) (λ i m t. absurd t) (λ i x. x) (λ honest. tt) answers
+    refl (failed (is_failed h (DeskAt d))) (λ i m t. absurd t) (λ i x. x) (λ honest. tt) (λ fair. answers)
 
 -- all pages of the export are held already
 again_goes : {A : Type 0} (ranges : List Range) (capacities : List ℕ) (grids : List GridView) (h : History A)
@@ -323,7 +322,7 @@ again_goes {A} ranges capacities grids h d number capacity stop view mid export 
     (λ id x. x)
     (λ honest. imported_safe capacities grids h d number capacity view export i s
     (s.runs.gathered honest.1) names_are is)
-    (λ honest. tt)
+    (λ fair honest. tt)
 
 -- pages that were not held
 took_goes : {A : Type 0} (ranges : List Range) (capacities : List ℕ) (grids : List GridView) (h : History A)
@@ -352,7 +351,7 @@ took_goes {A} ranges capacities grids h d number capacity stop view mid export i
     (takes_pages capacities grids h d number capacity stop i view export s) (λ id x. x))
     (λ honest. imported_safe capacities grids h d number capacity view export i s
     (s.runs.gathered honest.1) names_are is)
-    (λ honest. tt)
+    (λ fair honest. tt)
 
 gathered_kept : {A : Type 0} (capacities : List ℕ) (grids : List GridView) (h : History A) (d number capacity : ℕ)
     (k : Kept) (view : DeskView)
@@ -404,7 +403,7 @@ failed_goes {A} ranges capacities grids h d number capacity k view mid export s 
     (λ honest. gathered_keeps (quiet event reply) h d view.held (λ x. none_leaves event reply _ x) (λ i m t. absurd t)
     (λ i x. x)
     (s.runs.gathered honest.1))
-    (λ honest. tt) (λ honest. tt)
+    (λ honest. tt) (λ fair honest. tt)
 
 -- ---- an import that is made
 
@@ -434,7 +433,7 @@ file_goes ranges capacities grids h d number capacity stop view mid export
     refused_goes ranges capacities grids h d number capacity stop view mid export import_fault.Conflict s called acts.1
     (λ b. refl) (not_failed grids h d capacity view s.runs was _) tt
     (λ honest. let c = import_conflict view.capacity view.held export.id s.shows.pages acts.0 in
-    no_conflict h d export.id view.held c.0 s.shows.pages (s.runs.gathered honest.1) (s.shows.parts honest.1) c.1 c.2)
+    no_conflict h d export.id view.held c.0 s.shows.pages (s.runs.gathered honest) (s.shows.parts honest) c.1 c.2)
 file_goes ranges capacities grids h d number capacity stop view mid export
     (Err import_fault.Full) s called order was acts =
     let full = import_full view.capacity view.held export.id s.shows.pages acts.0 in
@@ -445,7 +444,7 @@ file_goes ranges capacities grids h d number capacity stop view mid export
       has_left = s.named;
       full = subst (λ (o : Option ℕ). IsSomeAnd o (MayHoldOthers h d export.id)) (sym s.at)
           (subst (λ (c : ℕ). MayHoldOthers h d export.id c) s.runs.capacity_is
-          (other_held h d export.id view order (s.runs.gathered honest.1) full.0 full.1));
+          (other_held h d export.id view order (s.runs.gathered honest) full.0 full.1));
     })
 file_goes ranges capacities grids h d number capacity stop view mid export
     (Err import_fault.Memory) s called order was acts =

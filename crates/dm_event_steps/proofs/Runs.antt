@@ -1,16 +1,19 @@
--- Honest histories stay honest by fair events, and what a fair run answers is faithful.
-use Rattle.std.proofs.Common.{◌≡◌, inl, inr, ◌<◌, ◌≤◌, ℕ, zero, suc, List, [], ◌∷◌, ◌++◌, Bool, true, nat_le, Option, length, map, take, slice_get, refl, ap, sym, ◌∙◌, subst, arith}
+-- Honest histories stay honest by events that are fair or can't have saved, and what such a run answers is faithful.
+use Rattle.std.proofs.Common.{◌≡◌, ◌≢◌, inl, inr, ◌<◌, ◌≤◌, ℕ, zero, suc, Some, List, [], ◌∷◌, ◌++◌, Bool, true, false, nat_le, Option, length, map, take, slice_get, refl, ap, sym, ◌∙◌, subst, arith}
 use Rattle.std.proofs.lemmas.List.{length-append, length-map, append-nil, take_all}
 use Rattle.std.proofs.lemmas.Bool.Decides.{nat_tests}
 use Rattle.std.proofs.Common.{append_assoc}
 use Rattle.dm_finder_frame.specs.Grids.{GridView}
 use Rattle.dm_print_ledger.specs.declared.range.Range.{Range}
+use Rattle.dm_assembly_desk.specs.declared.fault.ScanFault.TheVariants.{Conflict}
 use Rattle.dm_event_history.specs.declared.event.Event.{Event}
 use Rattle.dm_event_history.specs.declared.event.Event.TheVariants.{Print, Scan, RestartPrinter, RestartDesk, Ask, Forget, Give, Take, Export, Import}
 use Rattle.dm_event_history.specs.declared.reply.Reply.{Reply}
+use Rattle.dm_event_history.specs.declared.reply.Reply.TheVariants.{ScanRefused, NoSuch}
 use Rattle.dm_event_history.specs.History.{Entry, History, CutDocument, out, names_from, events_of, replies_of}
-use Rattle.dm_event_history.specs.Legal.{IsLegal, IsThere, NeverTwice, IsNoLabelTwice}
-use Rattle.dm_event_history.specs.Honest.{IsFair, IsHonest}
+use Rattle.dm_event_history.specs.Legal.{IsLegal, IsReply, IsThere, NeverTwice, IsNoLabelTwice}
+use Rattle.dm_event_history.specs.Saving.{may_save}
+use Rattle.dm_event_history.specs.Honest.{IsFair, IsHonest, IsHonestReply}
 use Rattle.dm_event_history.specs.Headline.{Batch, PrintsOnceBy, IsFaithfulBy}
 use Rattle.dm_event_history.specs.Places.{AreOpened}
 use Rattle.dm_event_history.specs.Tickets.{TakesOnce}
@@ -19,7 +22,7 @@ use Rattle.dm_event_history.proofs.Gotten.{get_beyond}
 use Rattle.std.proofs.lemmas.Option.{slice_get_within}
 use Rattle.dm_event_history.proofs.Fresh.{all_placed, never_twice}
 use Rattle.dm_event_history.proofs.LeftOnce.{labels_once, labels_opened}
-use Rattle.dm_event_history.proofs.Batches.{batch_of, batches_of, batches_count, events_count, replies_count, take_keeps, out_is}
+use Rattle.dm_event_history.proofs.Batches.{batch_of, batches_of, batches_count, events_count, replies_count, at_last, before_or_last, take_keeps, out_is}
 use Rattle.dm_event_history.proofs.Deciding.{decided}
 use Rattle.dm_event_history.proofs.PrintsOnce.{prints_once}
 use Rattle.dm_event_history.proofs.ImportsExports.{imports_exports}
@@ -60,6 +63,11 @@ fair_more ranges desks h (Import d export stop) grids more few there fair = tt
 out_grows : {A : Type 0} (e : Entry A) (h : History A) → length (out h) ≤ length (out (e ∷ h))
 out_grows e h = (let l = length-append (out h) (names_from e.id (length e.parts) 1 e.left) in omega arith)
 
+-- what may have saved was there
+some_saves : {A : Type 0} (event : Event A) (reply : Reply A) → may_save event reply ≡ true → reply ≢ NoSuch
+some_saves {A} event reply may none =
+    let x : false ≡ true = subst (λ (r : Reply A). may_save event r ≡ true) none may in cc (x)
+
 -- a legal history that is honest stays so over more labels than had left
 honest_more : {A : Type 0} (ranges : List Range) (desks : ℕ) (h : History A) (grids more : List GridView) →
     IsLegal ranges desks h →
@@ -67,7 +75,8 @@ honest_more : {A : Type 0} (ranges : List Range) (desks : ℕ) (h : History A) (
 honest_more ranges desks [] grids more legal few honest = tt
 honest_more ranges desks (e ∷ h) grids more legal few honest =
     let less : length (out h) ≤ length grids = (let g = out_grows e h in omega arith) in (
-      (λ other. fair_more ranges desks h e.event grids more less (legal.0.there other) (honest.0 other)),
+      (λ may. fair_more ranges desks h e.event grids more less
+          (legal.0.there (some_saves e.event e.reply may)) (honest.0 may)),
       honest_more ranges desks h grids more legal.1 less honest.1,
     )
 
@@ -97,32 +106,95 @@ more_of {A} ranges capacities h old new event reply s (inr (inl at)) =
 more_of {A} ranges capacities h old new event reply s (inr (inr at)) =
     ([], ap (map grid_of) at.labels ∙ sym (append-nil (grids_of old)))
 
+-- an event that was fair in the world is fair over the labels that have left after it, if what it names was there
+fair_after : {A : Type 0} (ranges : List Range) (capacities : List ℕ) (h : History A) (old new : WorldView A)
+    (event : Event A) (entry : Entry A) → StandsFor ranges capacities old h → entry.event ≡ event →
+    StandsFor ranges capacities new (entry ∷ h) → ((more : List GridView) × (grids_of new ≡ grids_of old ++ more)) →
+    entry.reply ≢ NoSuch → IsFairIn old event → IsFair (grids_of new) entry.event
+fair_after {A} ranges capacities h old new event entry s event_is stands more some fair =
+    let few : length (out h) ≤ length (grids_of old) = (let c = grids_count ranges capacities old h s in
+    omega arith) in
+    let there : IsThere (length ranges) (length capacities) h entry.event = stands.legal.0.there some in
+    subst (λ (l : List GridView). IsFair l entry.event) (sym more.1)
+    (fair_more ranges (length capacities) h entry.event (grids_of old) more.0 few there
+    (subst (λ (v : Event A). IsFair (grids_of old) v) (sym event_is)
+    (fair (named_of ranges capacities old h event s
+    (subst (λ (v : Event A). IsThere (length ranges) (length capacities) h v) event_is there)))))
+
+-- a scan that is refused for a conflict was not fair, or the history was not honest
+is_unfair : {A : Type 0} (ranges : List Range) (grids : List GridView) (capacities : List ℕ) (h : History A)
+    (id left : ℕ) (event : Event A) →
+    (let reply : Reply A = ScanRefused Conflict in IsReply ranges h id left event reply) →
+    (let reply : Reply A = ScanRefused Conflict in ¬ IsHonestReply grids capacities h event reply)
+is_unfair ranges grids capacities h id left (Scan d number flips stop) legal honest = honest
+is_unfair ranges grids capacities h id left event legal honest = absurd legal
+
+-- what one step leaves
+record HasStepped {A : Type 0} (ranges : List Range) (capacities : List ℕ) (h : History A) (old new : WorldView A)
+    (event : Event A) (reply : Reply A) : Type 0 where
+  pub entry : Entry A
+  pub event_is : entry.event ≡ event
+  pub reply_is : entry.reply ≡ reply
+  pub stands : StandsFor ranges capacities new (entry ∷ h)
+  pub honest : (may_save event reply ≡ true → IsFairIn old event) → IsHonest (grids_of old) h →
+      IsHonest (grids_of new) (entry ∷ h)
+  pub no_conflict : IsFairIn old event → IsHonest (grids_of old) h → reply ≢ ScanRefused Conflict
+
+has_stepped : {A : Type 0} (ranges : List Range) (capacities : List ℕ) (h : History A) (old new : WorldView A)
+    (event : Event A) (reply : Reply A) →
+    StandsFor ranges capacities old h → Steps old event reply new →
+    HasStepped ranges capacities h old new event reply
+has_stepped {A} ranges capacities h old new event reply s steps = record {
+  entry = t.0;
+  event_is = t.1;
+  reply_is = t.2;
+  stands = t.3;
+  honest = honest;
+  no_conflict = no_conflict;
+}
+  where
+    t : (entry : Entry A) × (entry.event ≡ event) × (entry.reply ≡ reply)
+        × StandsFor ranges capacities new (entry ∷ h)
+    t = steps_on ranges capacities h old new event reply s steps
+
+    more : (more : List GridView) × (grids_of new ≡ grids_of old ++ more)
+    more = more_of ranges capacities h old new event reply s steps
+
+    few : length (out h) ≤ length (grids_of old)
+    few = (let c = grids_count ranges capacities old h s in omega arith)
+
+    fair_now : t.0.reply ≢ NoSuch → IsFairIn old event → IsFair (grids_of new) t.0.event
+    fair_now some fair = fair_after ranges capacities h old new event t.0 s t.1 t.3 more some fair
+
+    honest : (may_save event reply ≡ true → IsFairIn old event) → IsHonest (grids_of old) h →
+        IsHonest (grids_of new) (t.0 ∷ h)
+    honest fair was = (
+      (λ may. fair_now (some_saves t.0.event t.0.reply may)
+          (fair (subst (λ (r : Reply A). may_save event r ≡ true) t.2
+          (subst (λ (v : Event A). may_save v t.0.reply ≡ true) t.1 may)))),
+      subst (λ (l : List GridView). IsHonest l h) (sym more.1)
+          (honest_more ranges (length capacities) h (grids_of old) more.0 s.legal few was),
+    )
+
+    no_conflict : IsFairIn old event → IsHonest (grids_of old) h → reply ≢ ScanRefused Conflict
+    no_conflict fair was is =
+        let told : t.0.reply ≡ ScanRefused Conflict = t.2 ∙ is in
+        let refused : IsHonestReply (grids_of new) capacities h t.0.event t.0.reply =
+        (t.3.answers (honest (λ may. fair) was)).0 (fair_now (λ none. cc (none, told)) fair) in
+        is_unfair ranges (grids_of new) capacities h t.0.id t.0.left t.0.event
+        (subst (λ (r : Reply A). IsReply ranges h t.0.id t.0.left t.0.event r) told t.3.legal.0.reply)
+        (subst (λ (r : Reply A). IsHonestReply (grids_of new) capacities h t.0.event r) told refused)
+
 -- the law of one step
 pub step_stands : {A : Type 0} (ranges : List Range) (capacities : List ℕ) (h : History A) (old new : WorldView A)
     (event : Event A) (reply : Reply A) →
     StandsFor ranges capacities old h → Steps old event reply new →
     (entry : Entry A) × (entry.event ≡ event) × (entry.reply ≡ reply) × StandsFor ranges capacities new (entry ∷ h)
-    × (IsFairIn old event → IsHonest (grids_of old) h → IsHonest (grids_of new) (entry ∷ h))
-step_stands {A} ranges capacities h old new event reply s steps =
-    let t = steps_on ranges capacities h old new event reply s steps in
-    (t.0, t.1, t.2, t.3, honest t.0 t.1 t.3 (more_of ranges capacities h old new event reply s steps))
-  where
-    honest : (entry : Entry A) → entry.event ≡ event → StandsFor ranges capacities new (entry ∷ h) →
-        ((more : List GridView) × (grids_of new ≡ grids_of old ++ more)) → IsFairIn old event →
-        IsHonest (grids_of old) h →
-        IsHonest (grids_of new) (entry ∷ h)
-    honest entry event_is stands more fair was =
-        let few : length (out h) ≤ length (grids_of old) = (let c = grids_count ranges capacities old h s in
-        omega arith) in
-        subst (λ (l : List GridView). IsHonest l (entry ∷ h)) (sym more.1) (
-          (λ other.
-              let there : IsThere (length ranges) (length capacities) h entry.event = stands.legal.0.there other in
-              fair_more ranges (length capacities) h entry.event (grids_of old) more.0 few there
-              (subst (λ (v : Event A). IsFair (grids_of old) v) (sym event_is)
-              (fair (named_of ranges capacities old h event s
-              (subst (λ (v : Event A). IsThere (length ranges) (length capacities) h v) event_is there))))),
-          honest_more ranges (length capacities) h (grids_of old) more.0 s.legal few was,
-        )
+    × ((may_save event reply ≡ true → IsFairIn old event) → IsHonest (grids_of old) h →
+        IsHonest (grids_of new) (entry ∷ h))
+step_stands ranges capacities h old new event reply s steps =
+    let t = has_stepped ranges capacities h old new event reply s steps in
+    (t.entry, t.event_is, t.reply_is, t.stands, t.honest)
 
 -- ---- runs
 
@@ -244,21 +316,39 @@ run_imports {A} ranges capacities old new events replies s runs =
 take_first : {X : Type 0} (xs ys : List X) (n k : ℕ) → length xs ≡ n → k ≤ n → take k (xs ++ ys) ≡ take k xs
 take_first xs ys n k count below = take_keeps xs ys k (omega arith)
 
--- the first of more marks
-marked_before : (marks : List Bool) (mark : Bool) → AreMarked (marks ++ mark ∷ []) → AreMarked marks × (mark ≡ true)
-marked_before [] mark marked = (tt, marked.0)
-marked_before (first ∷ marks) mark marked =
-    (let t = marked_before marks mark marked.1 in ((marked.0, t.0), t.1))
+-- the first events of more, of as many marks and replies
+marked_before : {A : Type 0} (events : List (Event A)) (marks : List Bool) (replies : List (Reply A))
+    (event : Event A) (mark : Bool) (reply : Reply A) → length marks ≡ length events → length replies ≡ length events →
+    AreMarked (events ++ event ∷ []) (marks ++ mark ∷ []) (replies ++ reply ∷ []) →
+    AreMarked events marks replies × (may_save event reply ≡ true → mark ≡ true)
+marked_before [] [] [] event mark reply one other marked = (tt, marked.0)
+marked_before (e ∷ events) (m ∷ marks) (r ∷ replies) event mark reply one other marked =
+    (let t = marked_before events marks replies event mark reply (omega arith) (omega arith) marked.1 in
+    ((marked.0, t.0), t.1))
+marked_before [] (m ∷ marks) replies event mark reply one other marked = absurd (omega arith)
+marked_before [] [] (r ∷ replies) event mark reply one other marked = absurd (omega arith)
+marked_before (e ∷ events) [] replies event mark reply one other marked = absurd (omega arith)
+marked_before (e ∷ events) (m ∷ marks) [] event mark reply one other marked = absurd (omega arith)
 
--- as long as the entries are marked, the replies are faithful
+-- the first k entries that may have saved are marked
+abbrev FirstMarked : {A : Type 0} → ℕ → History A → List Bool → Type 0
+FirstMarked k h marks = AreMarked (take k (events_of h)) (take k marks) (take k (replies_of h))
+
+-- as long as what may have saved is marked, the replies are faithful
 abbrev IsFaithfulWhile : {A : Type 0} → History A → List Bool → Type 0
-IsFaithfulWhile h marks = (k : ℕ) → AreMarked (take k marks) →
+IsFaithfulWhile h marks = (k : ℕ) → FirstMarked k h marks →
     IsFaithfulBy (take k (batches_of h)) (take k (events_of h)) (take k (replies_of h))
+
+-- and no scan that is marked is refused for a conflict
+abbrev NoConflictWhile : {A : Type 0} → History A → List Bool → Type 0
+NoConflictWhile h marks = (i : ℕ) → FirstMarked i h marks → slice_get marks i ≡ Some true →
+    slice_get (replies_of h) i ≢ Some (ScanRefused Conflict)
 
 record IsMarked {A : Type 0} (world : WorldView A) (h : History A) (marks : List Bool) : Type 0 where
   pub count : length marks ≡ length h
-  pub honest : AreMarked marks → IsHonest (grids_of world) h
+  pub honest : AreMarked (events_of h) marks (replies_of h) → IsHonest (grids_of world) h
   pub faithful : IsFaithfulWhile h marks
+  pub no_conflict : NoConflictWhile h marks
 
 -- an honest history is faithful
 whole_faithful : {A : Type 0} (ranges : List Range) (capacities : List ℕ) (world : WorldView A) (h : History A) →
@@ -302,32 +392,89 @@ no_marks {A} ranges capacities world s =
       count = refl;
       honest = λ marked. tt;
       faithful = λ k marked. all_faithful none k (omega arith) (whole_faithful ranges capacities world none s tt);
+      no_conflict = λ i marked mark. absurd (cc (mark));
     }
+
+-- the first entries of more are marked as they were
+first_marked : {A : Type 0} (h : History A) (e : Entry A) (marks : List Bool) (mark : Bool) (k : ℕ) →
+    length marks ≡ length h → k ≤ length h → FirstMarked k (e ∷ h) (marks ++ mark ∷ []) → FirstMarked k h marks
+first_marked {A} h e marks mark k count below marked =
+    subst (λ (l : List (Event A)). AreMarked l (take k marks) (take k (replies_of h)))
+    (take_first (events_of h) (e.event ∷ []) (length h) k (events_count h) below)
+    (subst (λ (l : List Bool). AreMarked (take k (events_of (e ∷ h))) l (take k (replies_of h)))
+    (take_first marks (mark ∷ []) (length h) k count below)
+    (subst (λ (l : List (Reply A)). AreMarked (take k (events_of (e ∷ h))) (take k (marks ++ mark ∷ [])) l)
+    (take_first (replies_of h) (e.reply ∷ []) (length h) k (replies_count h) below) marked))
+
+-- and all of a history's entries are among the first
+all_marked : {A : Type 0} (h : History A) (marks : List Bool) (k : ℕ) → length marks ≡ length h → length h ≤ k →
+    FirstMarked k h marks → AreMarked (events_of h) marks (replies_of h)
+all_marked {A} h marks k count all marked =
+    let b = events_count h in
+    let c = replies_count h in
+    subst (λ (l : List (Event A)). AreMarked l marks (replies_of h)) (take_all k (events_of h) (omega arith))
+    (subst (λ (l : List Bool). AreMarked (take k (events_of h)) l (replies_of h))
+    (take_all k marks (omega arith))
+    (subst (λ (l : List (Reply A)). AreMarked (take k (events_of h)) (take k marks) l)
+    (take_all k (replies_of h) (omega arith)) marked))
 
 -- one entry more
 marked_next : {A : Type 0} (ranges : List Range) (capacities : List ℕ) (old new : WorldView A) (h : History A)
-    (e : Entry A) (marks : List Bool) (mark : Bool) → StandsFor ranges capacities new (e ∷ h) → IsMarked old h marks →
-    (mark ≡ true → IsHonest (grids_of old) h → IsHonest (grids_of new) (e ∷ h)) →
-    IsMarked new (e ∷ h) (marks ++ mark ∷ [])
-marked_next {A} ranges capacities old new h e marks mark s m fair = record {
-  count = (let l = length-append marks (mark ∷ []) in let c = m.count in omega arith);
+    (event : Event A) (reply : Reply A) (marks : List Bool) (mark : Bool) →
+    (g : HasStepped ranges capacities h old new event reply) → IsMarked old h marks →
+    (mark ≡ true → IsFairIn old event) → IsMarked new (g.entry ∷ h) (marks ++ mark ∷ [])
+marked_next {A} ranges capacities old new h event reply marks mark g m fair = record {
+  count = count;
   honest = honest;
   faithful = λ k marked. elim (decided (nat_le k (length h))) [
     | inl below ↦
         (let within : k ≤ length h = grind (arith, nat_tests, below) in
-        first_faithful h e k within
-        (m.faithful k (subst AreMarked (take_first marks (mark ∷ []) (length h) k m.count within) marked)))
+        first_faithful h g.entry k within
+        (m.faithful k (first_marked h g.entry marks mark k m.count within marked)))
     | inr beyond ↦
-        (let all : length (e ∷ h) ≤ k = grind (arith, nat_tests, beyond) in
-        let l = length-append marks (mark ∷ []) in
+        (let all : length (g.entry ∷ h) ≤ k = grind (arith, nat_tests, beyond) in
+        all_faithful (g.entry ∷ h) k all (whole_faithful ranges capacities new (g.entry ∷ h) g.stands
+        (honest (all_marked (g.entry ∷ h) (marks ++ mark ∷ []) k count all marked))))
+  ];
+  no_conflict = λ i marked is told. elim (before_or_last (replies_of h) g.entry.reply (ScanRefused Conflict)
+      (length h) i (replies_count h) told) [
+    | inl before ↦
+        (let b = get_beyond (replies_of h) i (ScanRefused Conflict) before in
+        let n = replies_count h in
         let c = m.count in
-        all_faithful (e ∷ h) k all (whole_faithful ranges capacities new (e ∷ h) s
-        (honest (subst AreMarked (take_all k (marks ++ mark ∷ []) (omega arith)) marked))))
+        let within : i ≤ length h = (omega arith) in
+        m.no_conflict i (first_marked h g.entry marks mark i m.count within marked)
+        (sym (get_within marks (mark ∷ []) i (omega arith)) ∙ is) before)
+    | inr last ↦
+        (let at : i ≡ length h = last.0 in
+        let within : i ≤ length h = (omega arith) in
+        let was : IsHonest (grids_of old) h = m.honest (all_marked h marks i m.count (omega arith)
+        (first_marked h g.entry marks mark i m.count within marked)) in
+        let own : mark ≡ true = last_mark i at is in
+        g.no_conflict (fair own) was (sym g.reply_is ∙ last.1))
   ];
 }
   where
-    honest : AreMarked (marks ++ mark ∷ []) → IsHonest (grids_of new) (e ∷ h)
-    honest marked = (let t = marked_before marks mark marked in fair t.1 (m.honest t.0))
+    count : length (marks ++ mark ∷ []) ≡ length (g.entry ∷ h)
+    count = (let l = length-append marks (mark ∷ []) in let c = m.count in omega arith)
+
+    honest : AreMarked (events_of (g.entry ∷ h)) (marks ++ mark ∷ []) (replies_of (g.entry ∷ h)) →
+        IsHonest (grids_of new) (g.entry ∷ h)
+    honest marked =
+        let b = events_count h in
+        let c = replies_count h in
+        let k = m.count in
+        let t = marked_before (events_of h) marks (replies_of h) g.entry.event mark g.entry.reply
+        (omega arith) (omega arith) marked in
+        g.honest (λ may. fair (t.1 (subst (λ (r : Reply A). may_save g.entry.event r ≡ true) (sym g.reply_is)
+        (subst (λ (v : Event A). may_save v reply ≡ true) (sym g.event_is) may)))) (m.honest t.0)
+
+    last_mark : (i : ℕ) → i ≡ length h → slice_get (marks ++ mark ∷ []) i ≡ Some true → mark ≡ true
+    last_mark i at is =
+        let there : slice_get (marks ++ mark ∷ []) (length h) ≡ Some true =
+        subst (λ (k : ℕ). slice_get (marks ++ mark ∷ []) k ≡ Some true) at is in
+        let own : slice_get (marks ++ mark ∷ []) (length h) ≡ Some mark = at_last marks mark (length h) m.count in
+        cc (own, there)
 
 -- what a run leaves, with its marks
 record HasRunMarked {A : Type 0} (ranges : List Range) (capacities : List ℕ) (h : History A) (was : List Bool)
@@ -345,13 +492,14 @@ marked_on {A} ranges capacities h was old new [] [] [] s m runs = record {
       (subst (λ (l : List Bool). IsMarked old h l) (sym (append-nil was)) m);
 }
 marked_on {A} ranges capacities h was old new (event ∷ events) (mark ∷ marks) (reply ∷ replies) s m runs =
-    let t = step_stands ranges capacities h old runs.0 event reply s runs.2 in
-    let next : IsMarked runs.0 (t.0 ∷ h) (was ++ mark ∷ []) =
-    marked_next ranges capacities old runs.0 h t.0 was mark t.3 m (λ is honest. t.4 (runs.1 is) honest) in
+    let g = has_stepped ranges capacities h old runs.0 event reply s runs.2 in
+    let next : IsMarked runs.0 (g.entry ∷ h) (was ++ mark ∷ []) =
+    marked_next ranges capacities old runs.0 h event reply was mark g m runs.1 in
     let rest =
-    marked_on ranges capacities (t.0 ∷ h) (was ++ mark ∷ []) runs.0 new events marks replies t.3 next runs.3 in
+    marked_on ranges capacities (g.entry ∷ h) (was ++ mark ∷ []) runs.0 new events marks replies g.stands next
+    runs.3 in
     record {
-      run = run_with ranges capacities h new t.0 event reply events replies t.1 t.2 rest.run;
+      run = run_with ranges capacities h new g.entry event reply events replies g.event_is g.reply_is rest.run;
       marked = subst (λ (l : List Bool). IsMarked new rest.run.after l) (append_assoc was (mark ∷ []) marks)
           rest.marked;
     }
@@ -373,9 +521,16 @@ fair_run {A} ranges capacities old new events marks replies s runs =
       prints = subst (λ (l : List (Event A)). PrintsOnceBy (batches_of r.after) l replies) r.events_are
           (subst (λ (l : List (Reply A)). PrintsOnceBy (batches_of r.after) (events_of r.after) l) r.replies_are
           (prints_once ranges (length capacities) r.after legal never));
-      faithful = λ k marked.
-          subst (λ (l : List (Event A)). IsFaithfulBy (take k (batches_of r.after)) (take k l) (take k replies))
-          r.events_are
-          (subst (λ (l : List (Reply A)). IsFaithfulBy (take k (batches_of r.after)) (take k (events_of r.after))
-          (take k l)) r.replies_are (f.marked.faithful k marked));
+      faithful = λ k.
+          subst (λ (l : List (Event A)). AreMarked (take k l) (take k marks) (take k replies) →
+          IsFaithfulBy (take k (batches_of r.after)) (take k l) (take k replies)) r.events_are
+          (subst (λ (l : List (Reply A)). AreMarked (take k (events_of r.after)) (take k marks) (take k l) →
+          IsFaithfulBy (take k (batches_of r.after)) (take k (events_of r.after)) (take k l)) r.replies_are
+          (f.marked.faithful k));
+      no_conflict = λ i.
+          subst (λ (l : List (Event A)). AreMarked (take i l) (take i marks) (take i replies) →
+          slice_get marks i ≡ Some true → slice_get replies i ≢ Some (ScanRefused Conflict)) r.events_are
+          (subst (λ (l : List (Reply A)). AreMarked (take i (events_of r.after)) (take i marks) (take i l) →
+          slice_get marks i ≡ Some true → slice_get l i ≢ Some (ScanRefused Conflict)) r.replies_are
+          (f.marked.no_conflict i));
     }

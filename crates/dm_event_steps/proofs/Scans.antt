@@ -8,6 +8,7 @@ use Rattle.std.specs.List.{list_any}
 use Rattle.std.specs.Ordering.{nat_cmp, eq_by_cmp}
 use Rattle.dm_finder_frame.specs.Grids.{GridView, flipped}
 use Rattle.dm_finder_frame.specs.UnframeOutcome.{HasGoodFrame}
+use Rattle.dm_symbol.specs.Symbols.{IsNear}
 use Rattle.dm_append_label.specs.Pages.{PageView}
 use Rattle.dm_append_label.specs.Heads.{IsHead, head_of}
 use Rattle.dm_append_label.specs.Opening.{LabelOpens, OpensNear}
@@ -72,12 +73,12 @@ pub record IsScanned {A : Type 0} (capacities : List ℕ) (grids : List GridView
   pub shows : ShowsDocument h label
   pub there : (d < length capacities) × HasModules h number flips
 
--- ---- the page of an honest scan
+-- ---- the page of a fair scan
 
 abbrev page_name : PageView → LabelName
 page_name p = record { id = p.id; number = p.m; count = p.n }
 
--- what the page of an honest scan is: the label's, of a document that was printed
+-- what the page of a fair scan is: the label's, of a document that was printed
 record IsLabels {A : Type 0} (h : History A) (label : LeftLabel A) (p : PageView) (cut : CutDocument) : Type 0 where
   pub name_is : page_name p ≡ name_of label
   pub printed : docs h p.id ≡ Some cut
@@ -91,15 +92,19 @@ is_labels {A} h label p s is =
     subst (λ (q : PageView). IsLabels h label q s.document) (sym is)
     (record { name_is = refl; printed = s.printed; n_is = s.count_is; part = s.part; head = s.carries.is_head })
 
-honest_page : {A : Type 0} (grids : List GridView) (h : History A) (d number : ℕ) (flips : List (ℕ × ℕ)) (stop : Stop)
-    (reply : Reply A) (label : LeftLabel A) (opened : Opened A) → reply ≢ NoSuch →
-    slice_get grids number ≡ Some label.grid →
+-- the scanned copy is near its label
+abbrev IsFairScan : List GridView → ℕ → List (ℕ × ℕ) → Type 0
+IsFairScan grids number flips =
+    (grid : GridView) → slice_get grids number ≡ Some grid → IsNear (flipped grid flips) grid
+
+fair_page : {A : Type 0} (grids : List GridView) (h : History A) (number : ℕ) (flips : List (ℕ × ℕ))
+    (label : LeftLabel A) (opened : Opened A) → slice_get grids number ≡ Some label.grid →
     (s : ShowsDocument h label) → LabelOpens (flipped label.grid flips) (Ok opened) →
-    IsHonest grids (quiet (Scan d number flips stop) reply ∷ h) → IsLabels h label opened.page s.document
-honest_page grids h d number flips stop reply label opened some left s opens honest =
+    IsFairScan grids number flips → IsLabels h label opened.page s.document
+fair_page grids h number flips label opened left s opens fair =
     is_labels h label opened.page s
     (opens.near label.grid (record { id = label.id; m = label.number; n = label.count; bytes = s.bytes }) s.carries
-    (honest.0 some label.grid left))
+    (fair label.grid left))
 
 -- the scanned copy has such finder patterns
 framed : (grids : List GridView) (number : ℕ) (flips : List (ℕ × ℕ)) (grid : GridView) →
@@ -255,11 +260,11 @@ may_take : {A : Type 0} (h : History A) (d number : ℕ) (flips : List (ℕ × �
 may_take h d number flips stop reply label p cut named is may =
     (refl, may, (page_name p, named ∙ ap Some (sym is.name_is), refl, refl))
 
--- what is gathered with the page of an honest scan
+-- what is gathered with the page of a fair scan
 gathered_page : {A : Type 0} (capacities : List ℕ) (grids : List GridView) (h : History A) (d number capacity : ℕ)
     (flips : List (ℕ × ℕ)) (stop : Stop)
     (reply : Reply A) (view : DeskView) (label : LeftLabel A) (opened : Opened A) (kind : Kind) →
-    IsScanned capacities grids h d number capacity flips view label → reply ≢ NoSuch →
+    IsScanned capacities grids h d number capacity flips view label →
     LabelOpens (flipped label.grid flips) (Ok opened) →
     kind ≢ Again → answer view.capacity view.held opened.page ≡ Ok kind →
     may_save (Scan d number flips stop) reply ≡ true →
@@ -267,11 +272,11 @@ gathered_page : {A : Type 0} (capacities : List ℕ) (grids : List GridView) (h 
     ((id : ℕ) → ¬ Forgets (Scan d number flips stop) reply d id) →
     IsHonest grids (quiet (Scan d number flips stop) reply ∷ h) →
     IsGathered (quiet (Scan d number flips stop) reply ∷ h) d (with_page view.held opened.page)
-gathered_page {A} capacities grids h d number capacity flips stop reply view label opened kind s some opens other
-    answered may takes stays honest =
+gathered_page {A} capacities grids h d number capacity flips stop reply view label opened kind s opens other answered
+    may takes stays honest =
     let event : Event A = Scan d number flips stop in
     let e : Entry A = quiet event reply in
-    let is = honest_page grids h d number flips stop reply label opened some s.left s.shows opens honest in
+    let is = fair_page grids h number flips label opened s.left s.shows opens (honest.0 may) in
     gathered_with e h d view.held (with_page view.held opened.page) opened.page s.shows.document
     (λ x. none_leaves event reply _ x)
     is.printed is.n_is is.part
@@ -293,8 +298,7 @@ refused_goes : {A : Type 0} (ranges : List Range) (capacities : List ℕ) (grids
     (let reply : Reply A = ScanRefused fault in
     is_failed h (DeskAt d) ≡ true → IsOfFailed (Scan d number flips stop) reply) →
     IsScanRefused h d stop fault →
-    (IsHonest grids (quiet (Scan d number flips stop) (ScanRefused fault) ∷ h) →
-    IsHonestlyRefused grids capacities h d number flips fault) →
+    (IsFairScan grids number flips → IsHonest grids h → IsHonestlyRefused grids capacities h d number flips fault) →
     DeskGoes ranges capacities grids h (Scan d number flips stop) (ScanRefused fault) d capacity
     (desks.Running (desk_planned mid next_save.Fine))
 refused_goes {A} ranges capacities grids h d number capacity flips stop view mid label fault s called same failed
@@ -340,9 +344,9 @@ again_goes {A} ranges capacities grids h d number capacity flips stop view mid l
     ))
     (λ id x. x)
     (λ honest. accepted_safe h d number view.capacity label view.held opened.page s.shows.document a s.named
-    (honest_page grids h d number flips stop reply label opened (λ x. cc) s.left s.shows opens honest) names
+    (fair_page grids h number flips label opened s.left s.shows opens (honest.0 refl)) names
     (s.runs.gathered honest.1) answered)
-    (λ honest. framed grids number flips label.grid s.left opens.opens.read.frame)
+    (λ fair honest. framed grids number flips label.grid s.left opens.opens.read.frame)
 
 -- a page that was not held
 took_goes : {A : Type 0} (ranges : List Range) (capacities : List ℕ) (grids : List GridView) (h : History A)
@@ -369,13 +373,13 @@ took_goes {A} ranges capacities grids h d number capacity flips stop view mid la
     (λ x. cc) (λ x. cc) (λ x. cc) (refl, (λ _. none))
     (not_failed grids h d capacity view s.runs keeps.holding.was_running _) (λ x. cc))
     refl refl
-    (gathered_page capacities grids h d number capacity flips stop reply view label opened a.kind s
-    (λ x. cc) opens other answered refl
+    (gathered_page capacities grids h d number capacity flips stop reply view label opened a.kind s opens other answered
+    refl
     (λ id m t. (sym t.1 ∙ names.id_is, sym t.2 ∙ names.m_is)) (λ id x. x))
     (λ honest. accepted_safe h d number view.capacity label view.held opened.page s.shows.document a s.named
-    (honest_page grids h d number flips stop reply label opened (λ x. cc) s.left s.shows opens honest) names
+    (fair_page grids h number flips label opened s.left s.shows opens (honest.0 refl)) names
     (s.runs.gathered honest.1) answered)
-    (λ honest. framed grids number flips label.grid s.left opens.opens.read.frame)
+    (λ fair honest. framed grids number flips label.grid s.left opens.opens.read.frame)
 
 -- what is gathered once a page whose save failed may be held
 gathered_kept : {A : Type 0} (capacities : List ℕ) (grids : List GridView) (h : History A) (d number capacity : ℕ)
@@ -394,12 +398,12 @@ gathered_kept {A} capacities grids h d number capacity flips kept.Old view label
     (s.runs.gathered honest.1)
 gathered_kept {A} capacities grids h d number capacity flips kept.New view label opened s opens (inl new) honest =
     gathered_page capacities grids h d number capacity flips (SaveFault kept.New)
-    (ScanRefused scan_fault.Save) view label opened New s (λ x. cc) opens
-    (λ x. cc) new refl (λ id m t. absurd t) (λ id x. x) honest
+    (ScanRefused scan_fault.Save) view label opened New s opens (λ x. cc) new refl (λ id m t. absurd t) (λ id x. x)
+    honest
 gathered_kept {A} capacities grids h d number capacity flips kept.New view label opened s opens (inr complete) honest =
     gathered_page capacities grids h d number capacity flips (SaveFault kept.New)
-    (ScanRefused scan_fault.Save) view label opened Complete s (λ x. cc) opens
-    (λ x. cc) complete refl (λ id m t. absurd t) (λ id x. x) honest
+    (ScanRefused scan_fault.Save) view label opened Complete s opens (λ x. cc) complete refl (λ id m t. absurd t)
+    (λ id x. x) honest
 
 few_kept : (k : Kept) (view : DeskView) (p : PageView) → finite.len view.held ≤ view.capacity →
     NeedsSave (answer view.capacity view.held p) →
@@ -434,7 +438,7 @@ failed_goes {A} ranges capacities grids h d number capacity flips k view mid lab
     (λ id x. x)
     (s.runs.gathered honest.1))
     (λ honest. tt)
-    (λ honest. framed grids number flips label.grid s.left opens.opens.read.frame)
+    (λ fair honest. framed grids number flips label.grid s.left opens.opens.read.frame)
 
 -- ---- a call that is made
 
@@ -471,33 +475,31 @@ page_goes ranges capacities grids h d number capacity flips stop view mid label 
     (Err scan_fault.Conflict) s called opens order runs acts =
     refused_goes ranges capacities grids h d number capacity flips stop view mid label scan_fault.Conflict s called
     acts.1 (λ b. refl) (not_failed grids h d capacity view s.runs runs _) tt
-    (λ honest.
-    let is = honest_page grids h d number flips stop (ScanRefused scan_fault.Conflict) label opened
-    (λ x. cc) s.left s.shows opens honest in
-    no_conflict h d view.held opened.page s.shows.document (s.runs.gathered honest.1) is.printed is.n_is is.part
+    (λ fair honest.
+    let is = fair_page grids h number flips label opened s.left s.shows opens fair in
+    no_conflict h d view.held opened.page s.shows.document (s.runs.gathered honest) is.printed is.n_is is.part
     (disagrees view.capacity view.held opened.page acts.0))
 page_goes {A} ranges capacities grids h d number capacity flips stop view mid label opened
     (Err scan_fault.Full) s called opens order runs acts =
     let full = is_full view.capacity view.held opened.page acts.0 in
     refused_goes ranges capacities grids h d number capacity flips stop view mid label scan_fault.Full s called acts.1
     (λ b. refl) (not_failed grids h d capacity view s.runs runs _) tt
-    (λ honest.
-    let is = honest_page grids h d number flips stop (ScanRefused scan_fault.Full) label opened
-    (λ x. cc) s.left s.shows opens honest in (
+    (λ fair honest.
+    let is = fair_page grids h number flips label opened s.left s.shows opens fair in (
       framed grids number flips label.grid s.left opens.opens.read.frame,
       record {
         name = page_name opened.page;
         has_left = s.named ∙ ap Some (sym is.name_is);
         full = subst (λ (o : Option ℕ). IsSomeAnd o (MayHoldOthers h d opened.page.id)) (sym s.at)
             (subst (λ (c : ℕ). MayHoldOthers h d opened.page.id c) s.runs.capacity_is
-            (other_held h d opened.page.id view order (s.runs.gathered honest.1) full.0 full.1));
+            (other_held h d opened.page.id view order (s.runs.gathered honest) full.0 full.1));
       },
     ))
 page_goes ranges capacities grids h d number capacity flips stop view mid label opened
     (Err scan_fault.Memory) s called opens order runs acts =
     refused_goes ranges capacities grids h d number capacity flips stop view mid label scan_fault.Memory s called acts.1
     (λ b. refl) (not_failed grids h d capacity view s.runs runs _) tt
-    (λ honest. framed grids number flips label.grid s.left opens.opens.read.frame)
+    (λ fair honest. framed grids number flips label.grid s.left opens.opens.read.frame)
 page_goes {A} ranges capacities grids h d number capacity flips stop view mid label opened
     (Err scan_fault.Save) s called opens order runs acts =
     let k : (k : Kept) × (stop ≡ SaveFault k) = faulted_with stop view mid _ called acts.1.replaced in
@@ -519,8 +521,7 @@ unopened_goes : {A : Type 0} (ranges : List Range) (capacities : List ℕ) (grid
     (given : Result Accepted ScanFault) → IsScanned capacities grids h d number capacity flips view label →
     IsCalled stop → view.is_failed ≡ false →
     given ≡ Err (scan_fault.Label fault) → mid ≡ desk_planned view (next_save_of stop) →
-    (IsHonest grids (quiet (Scan d number flips stop) (ScanRefused (scan_fault.Label fault)) ∷ h) →
-    IsBeyond grids number flips fault) →
+    (IsFairScan grids number flips → IsBeyond grids number flips fault) →
     DeskGoes ranges capacities grids h (Scan d number flips stop) (scan_reply given) d capacity
     (desks.Running (desk_planned mid next_save.Fine))
 unopened_goes {A} ranges capacities grids h d number capacity flips stop view mid label fault given s called runs is
@@ -529,18 +530,18 @@ unopened_goes {A} ranges capacities grids h d number capacity flips stop view mi
     (scan_reply r) d capacity
     (desks.Running (desk_planned mid next_save.Fine))) (sym is)
     (refused_goes ranges capacities grids h d number capacity flips stop view mid label
-    (scan_fault.Label fault) s called same (λ b. refl) (not_failed grids h d capacity view s.runs runs _) tt answers)
+    (scan_fault.Label fault) s called same (λ b. refl) (not_failed grids h d capacity view s.runs runs _) tt
+    (λ fair honest. answers fair))
 
--- no honest scan is refused so
-never_so : {A : Type 0} (grids : List GridView) (h : History A) (d number : ℕ) (flips : List (ℕ × ℕ)) (stop : Stop)
+-- no fair scan is refused so
+never_so : {A : Type 0} (grids : List GridView) (h : History A) (number : ℕ) (flips : List (ℕ × ℕ))
     (label : LeftLabel A) (fault : LabelFault) (opened : Result (Opened A) LabelFault) → opened ≡ Err fault →
     slice_get grids number ≡ Some label.grid →
-    (s : ShowsDocument h label) → LabelOpens (flipped label.grid flips) opened →
-    IsHonest grids (quiet (Scan d number flips stop) (ScanRefused (scan_fault.Label fault)) ∷ h) →
+    (s : ShowsDocument h label) → LabelOpens (flipped label.grid flips) opened → IsFairScan grids number flips →
     OpensNear (record { id = label.id; m = label.number; n = label.count; bytes = s.bytes }) opened
-never_so grids h d number flips stop label fault opened is left s opens honest =
+never_so grids h number flips label fault opened is left s opens fair =
     opens.near label.grid (record { id = label.id; m = label.number; n = label.count; bytes = s.bytes }) s.carries
-    (honest.0 (λ x. cc) label.grid left)
+    (fair label.grid left)
 
 -- what is answered to what the grid is opened as
 opened_goes : {A : Type 0} (ranges : List Range) (capacities : List ℕ) (grids : List GridView) (h : History A)
@@ -562,42 +563,42 @@ opened_goes {A} ranges capacities grids h d number capacity flips stop view mid 
     (desks.Running (desk_planned mid next_save.Fine))) (sym acts.0)
     (refused_goes ranges capacities grids h d number capacity flips stop view mid label scan_fault.Memory s called
     acts.1 (λ b. refl) (not_failed grids h d capacity view s.runs runs _) tt
-    (λ honest. framed grids number flips label.grid s.left opens.opens))
+    (λ fair honest. framed grids number flips label.grid s.left opens.opens))
 opened_goes ranges capacities grids h d number capacity flips stop view mid label
     (Err (labels.Border wrong)) given s called opens order runs acts =
     unopened_goes ranges capacities grids h d number capacity flips stop view mid label
     (labels.Border wrong) given s called runs acts.0 acts.1
-    (λ honest. record { grid = label.grid; has_left = s.left; frame = opens.opens })
+    (λ fair. record { grid = label.grid; has_left = s.left; frame = opens.opens })
 opened_goes ranges capacities grids h d number capacity flips stop view mid label
     (Err (labels.Block block)) given s called opens order runs acts =
     unopened_goes ranges capacities grids h d number capacity flips stop view mid label
     (labels.Block block) given s called runs acts.0 acts.1
-    (λ honest. absurd (never_so grids h d number flips stop label (labels.Block block)
-    (Err (labels.Block block)) refl s.left s.shows opens honest))
+    (λ fair. absurd (never_so grids h number flips label (labels.Block block) (Err (labels.Block block)) refl
+    s.left s.shows opens fair))
 opened_goes ranges capacities grids h d number capacity flips stop view mid label
     (Err labels.NotAppended) given s called opens order runs acts =
     unopened_goes ranges capacities grids h d number capacity flips stop view mid label labels.NotAppended given s
     called runs acts.0 acts.1
-    (λ honest. absurd (never_so grids h d number flips stop label labels.NotAppended
-    (Err labels.NotAppended) refl s.left s.shows opens honest))
+    (λ fair. absurd (never_so grids h number flips label labels.NotAppended (Err labels.NotAppended) refl
+    s.left s.shows opens fair))
 opened_goes ranges capacities grids h d number capacity flips stop view mid label
     (Err (labels.Sequence word)) given s called opens order runs acts =
     unopened_goes ranges capacities grids h d number capacity flips stop view mid label
     (labels.Sequence word) given s called runs acts.0 acts.1
-    (λ honest. absurd (never_so grids h d number flips stop label (labels.Sequence word)
-    (Err (labels.Sequence word)) refl s.left s.shows opens honest))
+    (λ fair. absurd (never_so grids h number flips label (labels.Sequence word) (Err (labels.Sequence word)) refl
+    s.left s.shows opens fair))
 opened_goes ranges capacities grids h d number capacity flips stop view mid label
     (Err labels.FileId) given s called opens order runs acts =
     unopened_goes ranges capacities grids h d number capacity flips stop view mid label labels.FileId given s called
     runs acts.0 acts.1
-    (λ honest. absurd (never_so grids h d number flips stop label labels.FileId
-    (Err labels.FileId) refl s.left s.shows opens honest))
+    (λ fair. absurd (never_so grids h number flips label labels.FileId (Err labels.FileId) refl
+    s.left s.shows opens fair))
 opened_goes ranges capacities grids h d number capacity flips stop view mid label
     (Err (labels.Content fault)) given s called opens order runs acts =
     unopened_goes ranges capacities grids h d number capacity flips stop view mid label
     (labels.Content fault) given s called runs acts.0 acts.1
-    (λ honest. absurd (never_so grids h d number flips stop label (labels.Content fault)
-    (Err (labels.Content fault)) refl s.left s.shows opens honest))
+    (λ fair. absurd (never_so grids h number flips label (labels.Content fault) (Err (labels.Content fault)) refl
+    s.left s.shows opens fair))
 
 -- a scan that is made
 called_goes : {A : Type 0} (ranges : List Range) (capacities : List ℕ) (grids : List GridView) (h : History A)
@@ -628,7 +629,7 @@ called_goes {A} ranges capacities grids h d number capacity flips stop view mid 
         (desks.Running (desk_planned mid next_save.Fine))) (sym f.0)
         (refused_goes ranges capacities grids h d number capacity flips stop view mid label scan_fault.Failed s called
         f.1 (λ b. refl) (λ _ _. inl tt)
-        (sym s.runs.failed ∙ was) (λ honest. tt)))
+        (sym s.runs.failed ∙ was) (λ fair honest. tt)))
     by_failed false was =
         (let x = accepts.scanned was in
         opened_goes ranges capacities grids h d number capacity flips stop view mid label x.opened given s called
@@ -687,8 +688,8 @@ stored_stopped {A} capacities grids h d number capacity flips stop view mid labe
               (with_page view.held opened.page) s.runs.store.ready keeps.replaced keeps.holding
               (subst (λ (c : ℕ). finite.len (with_page view.held opened.page) ≤ c) s.runs.capacity_is
               (few_with view.capacity view.held opened.page order.few needs))
-              (gathered_page capacities grids h d number capacity flips stop Stopped view label opened kind s
-              (λ x. cc) opens other answered may
+              (gathered_page capacities grids h d number capacity flips stop Stopped view label opened kind s opens
+              other answered may
               (λ id m t. absurd t) (λ id x. x)),
         )
 

@@ -13,7 +13,7 @@ use Rattle.dm_event_history.specs.declared.reply.Reply.TheVariants.{Given, Expor
 use Rattle.dm_event_history.specs.Actors.{PrinterAt, DeskAt, actor_of}
 use Rattle.dm_event_history.specs.History.{Entry, History, LabelName, ExportName, CutDocument, out, docs, given, exports, exported}
 use Rattle.dm_event_history.specs.Legal.{IsReply, IsThere}
-use Rattle.dm_event_history.specs.Honest.{IsHonest, IsHonestReply}
+use Rattle.dm_event_history.specs.Honest.{IsFair, IsHonest, IsHonestReply}
 use Rattle.dm_event_history.specs.Safe.{IsReplySafe}
 use Rattle.dm_event_history.proofs.Deciding.{same_or_other}
 use Rattle.dm_event_steps.specs.declared.actor.PrinterActor.{PrinterActor}
@@ -191,7 +191,7 @@ printer_steps {A} ranges capacities world new h event reply p actor after s name
       names = g.names;
       shows = g.shows;
       safe = λ honest. printer_safe h g.entry.event g.entry.reply p own;
-      answers = λ honest. printer_answers (grids_of new) capacities h g.entry.event g.entry.reply p own;
+      answers = λ fair honest. printer_answers (grids_of new) capacities h g.entry.event g.entry.reply p own;
       tickets_are = g.tickets_are;
       exports_more = [];
       exports_are = exports_same ∙ sym (append-nil world.exports);
@@ -261,8 +261,9 @@ desk_steps {A} ranges capacities world new h event reply d capacity actor after 
       names = refl;
       shows = λ i label here. cc;
       safe = λ honest. g.safe (subst (λ (l : List GridView). IsHonest l (e ∷ h)) grids honest);
-      answers = λ honest. subst (λ (l : List GridView). IsHonestReply l capacities h event reply) (sym grids)
-          (g.answers (subst (λ (l : List GridView). IsHonest l (e ∷ h)) grids honest));
+      answers = λ fair honest. subst (λ (l : List GridView). IsHonestReply l capacities h event reply) (sym grids)
+          (g.answers (subst (λ (l : List GridView). IsFair l event) grids fair)
+          (subst (λ (l : List GridView). IsHonest l h) grids honest));
       tickets_are = tickets_same ∙ sym (append-nil world.tickets) ∙
           ap (λ (l : List TicketView). world.tickets ++
           l) (sym (desk_gives_none ranges h event reply d named g.fits.reply));

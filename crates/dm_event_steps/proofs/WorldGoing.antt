@@ -105,7 +105,7 @@ fair_less grids more (Import d export stop) is = tt
 honest_less : {A : Type 0} (grids more : List GridView) (h : History A) → IsHonest (grids ++ more) h → IsHonest grids h
 honest_less grids more [] is = tt
 honest_less grids more (e ∷ h) is =
-    ((λ there. fair_less grids more e.event (is.0 there)), honest_less grids more h is.1)
+    ((λ may. fair_less grids more e.event (is.0 may)), honest_less grids more h is.1)
 
 -- an honest history was honest before its last entry
 pub honest_before : {A : Type 0} (grids all more : List GridView) (e : Entry A) (h : History A) → all ≡ grids ++ more →
@@ -154,7 +154,10 @@ replies_more : {A : Type 0} (grids more : List GridView) (capacities : List ℕ)
     AreHonestReplies grids capacities h → AreHonestReplies (grids ++ more) capacities h
 replies_more grids more capacities [] is = tt
 replies_more grids more capacities (e ∷ h) is =
-    (reply_more grids more capacities h e.event e.reply is.0, replies_more grids more capacities h is.1)
+    (
+      (λ fair. reply_more grids more capacities h e.event e.reply (is.0 (fair_less grids more e.event fair))),
+      replies_more grids more capacities h is.1,
+    )
 
 -- ---- who is not named
 
@@ -259,7 +262,8 @@ pub record IsAdded {A : Type 0} (ranges : List Range) (capacities : List ℕ) (w
   pub names : map name_of more ≡ names_from entry.id (length entry.parts) 1 entry.left
   pub shows : (i : ℕ) (label : LeftLabel A) → slice_get more i ≡ Some label → ShowsDocument (entry ∷ h) label
   pub safe : IsHonest (grids_of new) (entry ∷ h) → IsReplySafe h entry.event entry.reply
-  pub answers : IsHonest (grids_of new) (entry ∷ h) → IsHonestReply (grids_of new) capacities h entry.event entry.reply
+  pub answers : IsFair (grids_of new) entry.event → IsHonest (grids_of new) h →
+      IsHonestReply (grids_of new) capacities h entry.event entry.reply
   pub tickets_are : new.tickets ≡ world.tickets ++ given entry.reply
   pub exports_more : List (LeftExport A)
   pub exports_are : new.exports ≡ world.exports ++ exports_more
@@ -304,7 +308,7 @@ goes_on {A} ranges capacities world new h entry s g =
         s.safe (honest_before (grids_of world) (grids_of new) (map grid_of g.more) entry h grids honest),
       );
       answers = λ honest. (
-        g.answers honest,
+        (λ fair. g.answers fair honest.1),
         subst (λ (l : List GridView). AreHonestReplies l capacities h) (sym grids)
             (replies_more (grids_of world) (map grid_of g.more) capacities h
             (s.answers (honest_before (grids_of world) (grids_of new) (map grid_of g.more) entry h grids honest))),

@@ -9,7 +9,7 @@ use Rattle.dm_event_history.specs.History.{Entry, History, names_from, out, tick
 use Rattle.dm_event_history.specs.Legal.{AreDisjoint, IsLegal, Fits, IsThere}
 use Rattle.dm_event_steps.specs.declared.actor.PrinterActor.{PrinterActor}
 use Rattle.dm_event_history.specs.Safe.{IsReplySafe}
-use Rattle.dm_event_history.specs.Honest.{IsHonest, IsHonestReply}
+use Rattle.dm_event_history.specs.Honest.{IsFair, IsHonest, IsHonestReply}
 use Rattle.dm_event_steps.specs.declared.actor.LeftLabel.{LeftLabel}
 use Rattle.dm_event_steps.specs.declared.actor.DeskState.{DeskState}
 use Rattle.dm_event_steps.specs.DeskStands.{DeskStands}
@@ -55,13 +55,14 @@ abbrev pub quiet : {A : Type 0} → Event A → Reply A → Entry A
 quiet event reply = record { event = event; reply = reply; id = 0; parts = []; left = 0; saved = false }
 
 -- The entry of an event at a desk, with this event and this reply, fits the history, and the desk stands for the longer
--- one. If that is honest, the reply is safe, and one of an honest history.
+-- one. If that is honest, the reply is safe. If the history was honest and the event is fair, it is refused as in an
+-- honest one.
 pub record DeskGoes {A : Type 0} (ranges : List Range) (capacities : List ℕ) (grids : List GridView) (h : History A)
     (event : Event A) (reply : Reply A) (desk capacity : ℕ) (state : DeskState A) : Type 0 where
   pub fits : Fits ranges (length capacities) h (quiet event reply)
   pub stands : DeskStands grids (quiet event reply ∷ h) desk capacity state
   pub safe : IsHonest grids (quiet event reply ∷ h) → IsReplySafe h event reply
-  pub answers : IsHonest grids (quiet event reply ∷ h) → IsHonestReply grids capacities h event reply
+  pub answers : IsFair grids event → IsHonest grids h → IsHonestReply grids capacities h event reply
 
 -- the exports that left by an event are those of its reply, and show their pages
 pub record ExportsGo {A : Type 0} (grids : List GridView) (h : History A) (event : Event A) (reply : Reply A)

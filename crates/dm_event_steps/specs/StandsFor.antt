@@ -1,10 +1,11 @@
 -- Which histories a world stands for, and what follows of its runs.
-use Rattle.std.specs.Prelude.{◌≡◌, ℕ, Some, List, [], ◌∷◌, length, map, slice_get, Bool}
+use Rattle.std.specs.Prelude.{◌≡◌, ℕ, true, Some, List, [], ◌∷◌, length, map, slice_get, Bool}
 use Rattle.dm_print_ledger.specs.declared.range.Range.{Range}
 use Rattle.dm_event_history.specs.declared.event.Event.{Event}
 use Rattle.dm_event_history.specs.declared.reply.Reply.{Reply}
 use Rattle.dm_event_history.specs.History.{Entry, History, exports}
 use Rattle.dm_event_history.specs.Legal.{AreDisjoint, IsLegal}
+use Rattle.dm_event_history.specs.Saving.{may_save}
 use Rattle.dm_event_history.specs.Honest.{IsHonest, AreHonestReplies}
 use Rattle.dm_event_history.specs.Safe.{IsSafe}
 use Rattle.dm_event_history.specs.Tickets.{TakesOnce}
@@ -25,7 +26,7 @@ pub record StandsFor {A : Type 0} (ranges : List Range) (capacities : List ℕ) 
     : Type 0 where
   pub disjoint : AreDisjoint ranges
   pub legal : IsLegal ranges (length capacities) h
-  -- in an honest history what desks answer is safe, and what is honest is refused for these reasons alone
+  -- in an honest history what desks answer is safe, and what is fair is refused for these reasons alone
   pub safe : IsHonest (grids_of world) h → IsSafe h
   pub answers : IsHonest (grids_of world) h → AreHonestReplies (grids_of world) capacities h
   -- the labels, tickets and exports that left are the history's
@@ -46,12 +47,13 @@ pub record StandsFor {A : Type 0} (ranges : List Range) (capacities : List ℕ) 
 -- ---- laws
 
 -- A world that stands for a history stands, after a step, for it with one entry more, of that event and that reply. If
--- the history was honest and the event is fair, the longer one is honest.
+-- the history was honest, and the event is fair or can't have saved, the longer one is honest.
 abbrev pub EachStepStands : Type 0 → Type 0
 EachStepStands A = (ranges : List Range) (capacities : List ℕ) (h : History A) (old new : WorldView A)
     (event : Event A) (reply : Reply A) → StandsFor ranges capacities old h → Steps old event reply new →
     (entry : Entry A) × (entry.event ≡ event) × (entry.reply ≡ reply) × StandsFor ranges capacities new (entry ∷ h)
-    × (IsFairIn old event → IsHonest (grids_of old) h → IsHonest (grids_of new) (entry ∷ h))
+    × ((may_save event reply ≡ true → IsFairIn old event) → IsHonest (grids_of old) h →
+        IsHonest (grids_of new) (entry ∷ h))
 
 -- a world that begins prints no identification twice, and lets no label out twice, whatever its events are
 abbrev pub EachRunPrintsOnce : Type 0 → Type 0
@@ -72,7 +74,7 @@ EachRunImportsExports A = (ranges : List Range) (capacities : List ℕ) (old new
     (events : List (Event A)) (replies : List (Reply A)) →
     StandsFor ranges capacities old [] → Runs old events replies new → ImportsExports events replies
 
--- the headline: a world that begins is faithful as long as it runs fairly
+-- the headline: a world that begins is faithful as long as what may have saved was fair
 abbrev pub EachFairRunIsFaithful : Type 0 → Type 0
 EachFairRunIsFaithful A = (ranges : List Range) (capacities : List ℕ) (old new : WorldView A)
     (events : List (Event A)) (marks : List Bool) (replies : List (Reply A)) →

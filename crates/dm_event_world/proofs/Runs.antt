@@ -1,9 +1,10 @@
 -- Runs of worlds: one event more at their end, and the headline.
 use Rattle.std.proofs.Common.{◌≡◌, ℕ, Bool, true, false, Some, List, [], ◌∷◌, ◌++◌, length, slice_get, refl, ap, subst, zero, suc, take, arith}
+use Rattle.dm_assembly_desk.specs.declared.fault.ScanFault.TheVariants.{Conflict}
 use Rattle.dm_event_history.specs.declared.event.Event.{Event}
 use Rattle.dm_event_history.specs.declared.event.Event.TheVariants.{Scan}
 use Rattle.dm_event_history.specs.declared.reply.Reply.{Reply}
-use Rattle.dm_event_history.specs.declared.reply.Reply.TheVariants.{NoSuch}
+use Rattle.dm_event_history.specs.declared.reply.Reply.TheVariants.{ScanRefused, NoSuch}
 use Rattle.dm_event_history.specs.History.{History}
 use Rattle.dm_event_history.specs.Headline.{IsFaithfulBy}
 use Rattle.dm_event_steps.specs.Worlds.{WorldView, Steps, IsFairIn, Runs, RunsMarked, AreMarked, HasBeenFaithful}
@@ -75,13 +76,41 @@ runs_marked {A} old new (event ∷ events) (NotGiven ∷ answers) runs =
 runs_marked old new [] (answer ∷ answers) runs = absurd runs
 runs_marked old new (event ∷ events) [] runs = absurd runs
 
+-- how many of the first answers are replies
+abbrev count : {A : Type 0} → ℕ → List (Answer A) → ℕ
+count k answers = length (replies (take k answers))
+
+nothing_marked : {A : Type 0} (n : ℕ) (marks : List Bool) (replies : List (Reply A)) →
+    AreMarked {A = A} (take n []) (take n marks) (take n replies)
+nothing_marked zero marks replies = tt
+nothing_marked (suc n) marks replies = tt
+
 -- the first answers, the replies among them, and the events that were given
-first_marked : {A : Type 0} (k : ℕ) (answers : List (Answer A)) → AreHonest (take k answers) →
-    AreMarked (take (length (replies (take k answers))) (marks answers))
-first_marked zero answers honest = tt
-first_marked (suc k) [] honest = tt
-first_marked (suc k) (Given is_honest reply ∷ answers) honest = (honest.0, first_marked k answers honest.1)
-first_marked (suc k) (NotGiven ∷ answers) honest = first_marked k answers honest
+first_marked : {A : Type 0} (k : ℕ) (events : List (Event A)) (answers : List (Answer A)) →
+    AreHonest (take k events) (take k answers) →
+    AreMarked (take (count k answers) (given events answers)) (take (count k answers) (marks answers))
+    (take (count k answers) (replies answers))
+first_marked zero events answers honest = tt
+first_marked (suc k) [] [] honest = tt
+first_marked (suc k) (event ∷ events) [] honest = tt
+first_marked (suc k) (event ∷ events) (Given is_honest reply ∷ answers) honest =
+    (honest.0, first_marked k events answers honest.1)
+first_marked (suc k) (event ∷ events) (NotGiven ∷ answers) honest = first_marked k events answers honest
+first_marked (suc k) [] (Given is_honest reply ∷ answers) honest = tt
+first_marked (suc k) [] (NotGiven ∷ answers) honest = nothing_marked (count k answers) (marks answers) (replies answers)
+
+-- the answer to an event that was given is its mark and its reply
+given_at : {A : Type 0} (k : ℕ) (answers : List (Answer A)) (is_honest : Bool) (reply : Reply A) →
+    slice_get answers k ≡ Some (Given is_honest reply) →
+    (slice_get (marks answers) (count k answers) ≡ Some is_honest)
+    × (slice_get (replies answers) (count k answers) ≡ Some reply)
+given_at k [] is_honest reply is = absurd (cc (is))
+given_at zero (Given own told ∷ answers) is_honest reply is =
+    (let e : Some (Given own told) ≡ Some (Given is_honest reply) = is in
+    (let same : own ≡ is_honest = cc (e) in ap Some same, let same : told ≡ reply = cc (e) in ap Some same))
+given_at zero (NotGiven ∷ answers) is_honest reply is = absurd (cc (is))
+given_at (suc k) (Given own told ∷ answers) is_honest reply is = given_at k answers is_honest reply is
+given_at (suc k) (NotGiven ∷ answers) is_honest reply is = given_at k answers is_honest reply is
 
 first_replies : {A : Type 0} (k : ℕ) (answers : List (Answer A)) →
     take (length (replies (take k answers))) (replies answers) ≡ replies (take k answers)
@@ -173,7 +202,10 @@ faithful_by {A} old new events answers runs f = record {
       subst (λ (l : List (Event A)). IsFaithfulBy (take n f.batches) l (replies (take k answers)))
       (first_given k old new events answers runs)
       (subst (λ (l : List (Reply A)). IsFaithfulBy (take n f.batches) (take n (given events answers)) l)
-      (first_replies k answers) (f.faithful n (first_marked k answers honest))));
+      (first_replies k answers) (f.faithful n (first_marked k events answers honest))));
+  no_conflict = λ k honest refused.
+      (let at = given_at k answers true (ScanRefused Conflict) refused in
+      f.no_conflict (count k answers) (first_marked k events answers honest) at.0 at.1);
 }
 
 -- the events that were given are a run

@@ -1,15 +1,22 @@
 -- The run is refused: the first batches of its one list are those of the first events.
-use Rattle.std.proofs.Common.{◌≡◌, ◌<◌, ℕ, Option, Some, None, List, [], ◌∷◌, take, refl, sym, ◌∙◌, subst, arith, slice_get}
+use Rattle.std.proofs.Common.{◌≡◌, ◌<◌, ℕ, zero, suc, true, false, Option, Some, None, List, [], ◌∷◌, ◌++◌, take, refl, sym, ◌∙◌, subst, arith, slice_get}
+use Rattle.dm_append_label.specs.declared.fault.LabelFault.TheVariants.{Block}
 use Rattle.dm_assembly_desk.specs.declared.reply.Kind.TheVariants.{New}
-use Rattle.dm_event_history.specs.declared.event.Event.TheVariants.{Scan, RestartPrinter}
-use Rattle.dm_event_history.specs.declared.reply.Reply.TheVariants.{Scanned, Restarted, NoSuch}
+use Rattle.dm_assembly_desk.specs.declared.fault.ScanFault.TheVariants.{Label}
+use Rattle.dm_event_history.specs.declared.event.Event.{Event}
+use Rattle.dm_event_history.specs.declared.event.Event.TheVariants.{Scan, RestartPrinter, Forget}
+use Rattle.dm_event_history.specs.declared.reply.Reply.{Reply}
+use Rattle.dm_event_history.specs.declared.reply.Reply.TheVariants.{Scanned, ScanRefused, Forgotten, Restarted, NoSuch}
+use Rattle.dm_event_history.specs.declared.stop.Stop.{Stop}
 use Rattle.dm_event_history.specs.declared.stop.Stop.TheVariants as stops
-use Rattle.dm_event_history.specs.Headline.{Batch, labels_of, IsScanOf}
+use Rattle.dm_event_history.specs.Saving.{may_save}
+use Rattle.dm_event_history.specs.Headline.{Batch, labels_of, IsScanOf, MayHaveSaved}
 use Rattle.dm_event_history.proofs.Refuted.{first_label}
 use Rattle.dm_event_history.specs.Worked.{digits}
 use Rattle.dm_event_history.specs.Unfaithful.{page, print, scan}
-use Rattle.dm_event_world.specs.Shown.{IsShownForGood, shown_events, shown_answers, AreAnsweredWrongly}
-use Rattle.dm_event_world.specs.Watched.{IsFaithfulIfHonestBy, given}
+use Rattle.dm_event_world.specs.Shown.{IsShownForGood, shown_events, shown_answers, worn, refused, AreAnsweredWrongly}
+use Rattle.dm_event_world.specs.declared.answers.Answer.TheVariants.{Given}
+use Rattle.dm_event_world.specs.Watched.{IsFaithfulIfHonestBy, given, replies}
 
 pub is_shown_for_good : (A : Type 0) → IsShownForGood A
 is_shown_for_good A (batches, f) = by_batches batches f
@@ -20,7 +27,7 @@ is_shown_for_good A (batches, f) = by_batches batches f
     had batches f =
         let s : IsScanOf (take 2 batches) (given (take 2 (shown_events A)) (take 2 (shown_answers A))) 1
         (record { id = 7; number = 1; count = 2 }) =
-        (f.faithful 2 (refl, (refl, tt))).scanned 1 (record { id = 7; m = 1; n = 2; kind = New }) refl in
+        (f.faithful 2 ((λ may. refl), ((λ may. refl), tt))).scanned 1 (record { id = 7; m = 1; n = 2; kind = New }) refl in
         let e : Some (Scan 0 0 [] stops.None) ≡ Some (Scan s.desk s.label s.flips s.stop) = s.event in
         let label_is : 0 ≡ s.label = cc (e) in
         subst (λ (i : ℕ). slice_get (labels_of (take 1 (take 2 batches))) i ≡ Some (record {
@@ -48,4 +55,23 @@ are_answered_wrongly A = record {
   dishonest_scan = λ t. (let few : 0 < 0 = (t.1.dishonest 1 (scan 0) (Scanned (page 0 1 New)) refl refl).0 in
       omega arith);
   dishonest_of_none = λ t. (t.1.dishonest 0 (Scan 0 0 ((0, 0) ∷ []) stops.None) NoSuch refl refl).1 refl;
+  conflicting = λ t. t.1.no_conflict 1 ((λ may. refl), tt) refl;
+  conflicting_after_refused = λ t. t.1.no_conflict 2 ((λ may. refl), ((λ may. cc (may)), tt)) refl;
+  forgotten_after_refused = λ t. (let f = t.1.faithful 3 ((λ may. refl), ((λ may. cc (may)), ((λ may. refl), tt))) in
+      let w = f.forgotten 2 0 0 stops.None refl refl in by_scan w.2.k w.2.before w.2.scan.event w.2.saved);
 }
+  where
+    events : List (Event A)
+    events = worn ++ Forget 0 0 stops.None ∷ []
+
+    told : List (Reply A)
+    told = replies (refused ++ Given true Forgotten ∷ [])
+
+    by_scan : (k : ℕ) → k < 2 → {desk label : ℕ} {flips : List (ℕ × ℕ)} {stop : Stop} →
+        slice_get events k ≡ Some (Scan desk label flips stop) → MayHaveSaved events told k → ⊥
+    by_scan zero before is saved = cc (is)
+    by_scan (suc zero) before is saved =
+        let own : Some (ScanRefused (Label (Block 0))) ≡ Some saved.reply = saved.answered in
+        let same : saved.reply ≡ ScanRefused (Label (Block 0)) = cc (own) in
+        let x : false ≡ true = subst (λ (r : Reply A). may_save saved.event r ≡ true) same saved.saves in cc (x)
+    by_scan (suc (suc k)) before is saved = omega arith

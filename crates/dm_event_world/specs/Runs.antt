@@ -1,20 +1,22 @@
 -- Events of a world, one after another.
-use Rattle.std.specs.Prelude.{◌≡◌, ℕ, List, [], ◌∷◌}
+use Rattle.std.specs.Prelude.{◌≡◌, ℕ, true, List, [], ◌∷◌}
 use Rattle.dm_print_ledger.specs.declared.range.Range.{Range}
 use Rattle.dm_event_history.specs.declared.event.Event.{Event}
 use Rattle.dm_event_history.specs.declared.reply.Reply.{Reply}
 use Rattle.dm_event_history.specs.History.{Entry, History}
+use Rattle.dm_event_history.specs.Saving.{may_save}
 use Rattle.dm_event_history.specs.Honest.{IsHonest}
 use Rattle.dm_event_steps.specs.Worlds.{WorldView, IsFairIn, grids_of}
 use Rattle.dm_event_steps.specs.StandsFor.{StandsFor}
 
 -- a history that the world stood for goes on with an entry of this event and this reply, and the world now stands for
--- the longer one; if it was honest and the event is fair, that is honest
+-- the longer one; if it was honest, and the event is fair or can't have saved, that is honest
 abbrev pub GoesOn : {A : Type 0} → WorldView A → Event A → Reply A → WorldView A → Type 0
 GoesOn {A} old event reply new = (ranges : List Range) (capacities : List ℕ) (h : History A) →
     StandsFor ranges capacities old h →
     (entry : Entry A) × (entry.event ≡ event) × (entry.reply ≡ reply) × StandsFor ranges capacities new (entry ∷ h)
-    × (IsFairIn old event → IsHonest (grids_of old) h → IsHonest (grids_of new) (entry ∷ h))
+    × ((may_save event reply ≡ true → IsFairIn old event) → IsHonest (grids_of old) h →
+        IsHonest (grids_of new) (entry ∷ h))
 
 -- the longer history has an entry more for each of these events, with its reply
 abbrev pub Continues : {A : Type 0} → History A → List (Event A) → List (Reply A) → History A → Type 0

@@ -1,9 +1,11 @@
 -- Runs that the headline refuses for their answers.
-use Rattle.std.specs.Prelude.{List, [], ◌∷◌, true, false}
+use Rattle.std.specs.Prelude.{List, [], ◌∷◌, ◌++◌, true, false}
+use Rattle.dm_append_label.specs.declared.fault.LabelFault.TheVariants.{Block}
 use Rattle.dm_assembly_desk.specs.declared.reply.Kind.TheVariants.{New}
+use Rattle.dm_assembly_desk.specs.declared.fault.ScanFault.TheVariants.{Label, Conflict}
 use Rattle.dm_event_history.specs.declared.event.Event.{Event}
-use Rattle.dm_event_history.specs.declared.event.Event.TheVariants.{Scan, RestartPrinter, Ask}
-use Rattle.dm_event_history.specs.declared.reply.Reply.TheVariants.{Printed, Scanned, Restarted, Stopped, NoSuch, Memory}
+use Rattle.dm_event_history.specs.declared.event.Event.TheVariants.{Scan, RestartPrinter, Ask, Forget}
+use Rattle.dm_event_history.specs.declared.reply.Reply.TheVariants.{Printed, Scanned, ScanRefused, Forgotten, Restarted, Stopped, NoSuch}
 use Rattle.dm_event_history.specs.declared.stop.Stop.TheVariants.{None, AfterLabels}
 use Rattle.dm_event_history.specs.Worked.{digits}
 use Rattle.dm_event_history.specs.Unfaithful.{other_digits, page, print, scan}
@@ -14,8 +16,8 @@ use Rattle.dm_event_world.specs.Watched.{IsFaithfulIfHonest}
 -- ---- one list of batches
 
 -- A scan that was honest shows that a label of the first print left under identification 7. After one that was not,
--- the second is told to be printed under 7 too. This run would not be refused if the two parts of the headline might
--- each have batches of their own.
+-- and told of another page, the second is told to be printed under 7 too. This run would not be refused if the two
+-- parts of the headline might each have batches of their own.
 abbrev pub shown_events : (A : Type 0) → List (Event A)
 shown_events A =
     print 0 digits (AfterLabels 1) ∷ scan 0 ∷ Scan 0 0 ((0, 0) ∷ []) None ∷ print 1 other_digits None ∷ []
@@ -24,13 +26,20 @@ abbrev pub shown_answers : (A : Type 0) → List (Answer A)
 shown_answers A =
     Given true Stopped ∷
     Given true (Scanned (page 7 1 New)) ∷
-    Given false Memory ∷ Given true (Printed 7 1 2) ∷ []
+    Given false (Scanned (page 9 1 New)) ∷ Given true (Printed 7 1 2) ∷ []
 
 -- what was shown while the scans were honest is shown for good
 abbrev pub IsShownForGood : Type 0 → Type 0
 IsShownForGood A = ¬ IsFaithfulIfHonest (shown_events A) (shown_answers A)
 
 -- ---- answers that no world gives
+
+-- a scan of a copy with too many wrong codewords, which is refused for them
+abbrev pub worn : {A : Type 0} → List (Event A)
+worn = print 0 digits None ∷ Scan 0 0 ((0, 0) ∷ []) None ∷ []
+
+abbrev pub refused : {A : Type 0} → List (Answer A)
+refused = Given true (Printed 0 0 2) ∷ Given false (ScanRefused (Label (Block 0))) ∷ []
 
 -- Each of these would be allowed without the field that its comment names.
 pub record AreAnsweredWrongly (A : Type 0) : Type 0 where
@@ -43,3 +52,12 @@ pub record AreAnsweredWrongly (A : Type 0) : Type 0 where
   pub dishonest_scan : ¬ IsFaithfulIfHonest {A = A} (print 0 digits None ∷ scan 0 ∷ [])
       (Given true (Printed 0 0 2) ∷ Given false (Scanned (page 0 1 New)) ∷ [])
   pub dishonest_of_none : ¬ IsFaithfulIfHonest {A = A} (Scan 0 0 ((0, 0) ∷ []) None ∷ []) (Given false NoSuch ∷ [])
+  -- `no_conflict`: an honest scan is refused for a conflict
+  pub conflicting : ¬ IsFaithfulIfHonest {A = A} (print 0 digits None ∷ scan 0 ∷ [])
+      (Given true (Printed 0 0 2) ∷ Given true (ScanRefused Conflict) ∷ [])
+  -- `no_conflict` and `faithful` go on to hold after a scan that was not honest, if it was refused: an honest one is
+  -- refused for a conflict, and a document is forgotten of which no other label was scanned
+  pub conflicting_after_refused : ¬ IsFaithfulIfHonest {A = A} (worn ++ scan 0 ∷ [])
+      (refused ++ Given true (ScanRefused Conflict) ∷ [])
+  pub forgotten_after_refused : ¬ IsFaithfulIfHonest {A = A} (worn ++ Forget 0 0 None ∷ [])
+      (refused ++ Given true Forgotten ∷ [])

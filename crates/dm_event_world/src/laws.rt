@@ -12,7 +12,9 @@ pub fn shown_for_good<A: Allocator>()
 {}
 
 /// Each event has an answer, only a scan is not given, and only a scan of what is there, of a copy in which modules
-/// were flipped, is found dishonest: runs that are answered otherwise are refused.
+/// were flipped, is found dishonest: runs that are answered otherwise are refused. So are those in which an honest scan
+/// is refused for a conflict, or a document is forgotten of which no label was scanned, and a scan that is not honest,
+/// but is refused, makes no difference to that.
 pub fn answered_rightly<A: Allocator>()
     ensures { AreAnsweredWrongly A }
 {}
