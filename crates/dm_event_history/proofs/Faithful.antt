@@ -258,11 +258,11 @@ printed_at {A} ranges desks (e ∷ h) id cut legal had = elim (decided (prints_a
 ]
 
 -- the page of a label that was scanned is one of the batch under its identification
-scan_of : {A : Type 0} (h : History A) (id m n : ℕ) (batch : Batch) →
-    PrintsOnceBy (batches_of h) (events_of h) (replies_of h) →
+scan_of : {A : Type 0} (ranges : List Range) (desks : ℕ) (h : History A) (id m n : ℕ) (batch : Batch) →
+    PrintsOnceBy ranges desks (batches_of h) (events_of h) (replies_of h) →
     LeftBefore (batches_of h) (length h) id batch → n ≡ count_of batch → Scans h id m →
     WasScanned (batches_of h) (events_of h) (replies_of h) (length h) id m n
-scan_of {A} h id m n batch once left n_is t = record {
+scan_of {A} ranges desks h id m n batch once left n_is t = record {
   k = t.k;
   before = t.before;
   scan = subst (λ (name : LabelName). IsScanOf (batches_of h) (events_of h) t.k name)
@@ -291,7 +291,7 @@ count_is h id cut p = ap (λ (c : CutDocument). length c.parts) p.document_is
 -- a document that may be held whole was printed, and all its labels were scanned
 true_document : {A : Type 0} (ranges : List Range) (desks : ℕ) (h : History A) (desk id : ℕ) (bytes : List ℕ) →
     IsLegal ranges desks h → IsSafe h →
-    PrintsOnceBy (batches_of h) (events_of h) (replies_of h) → IsTrueDocument h desk id bytes →
+    PrintsOnceBy ranges desks (batches_of h) (events_of h) (replies_of h) → IsTrueDocument h desk id bytes →
     WasPrinted (batches_of h) (events_of h) (replies_of h) (length h) id bytes
 true_document {A} ranges desks h desk id bytes legal safe once s =
     let p : IsPrintedBy h id s.document = printed_at ranges desks h id s.document legal s.printed in
@@ -299,14 +299,14 @@ true_document {A} ranges desks h desk id bytes legal safe once s =
       batch = p.batch;
       printed = p.printed;
       bytes_are = ap (λ (c : CutDocument). c.bytes) p.document_is ∙ sym s.same;
-      scanned = λ m first last. scan_of h id m (count_of p.batch) p.batch once p.printed refl
+      scanned = λ m first last. scan_of ranges desks h id m (count_of p.batch) p.batch once p.printed refl
           ((held_scanned ranges desks h legal safe).held desk id m (s.possibly m first (omega arith)));
     }
 
 -- a document that lacks pages was printed, and the labels of the other pages were scanned
 truly_missing : {A : Type 0} (ranges : List Range) (desks : ℕ) (h : History A) (desk id missing : ℕ) →
     IsLegal ranges desks h → IsSafe h →
-    PrintsOnceBy (batches_of h) (events_of h) (replies_of h) → IsTrulyMissing h desk id missing →
+    PrintsOnceBy ranges desks (batches_of h) (events_of h) (replies_of h) → IsTrulyMissing h desk id missing →
     WasBegun (batches_of h) (events_of h) (replies_of h) (length h) id missing
 truly_missing {A} ranges desks h desk id missing legal safe once s =
     let p : IsPrintedBy h id s.document = printed_at ranges desks h id s.document legal s.printed in
@@ -322,18 +322,18 @@ truly_missing {A} ranges desks h desk id missing legal safe once s =
         s.not_all.3,
       );
       nothing_else = λ m named. (let t = s.nothing_else m named in let last = t.1 in (t.0, omega arith));
-      scanned = λ m first last held. scan_of h id m (count_of p.batch) p.batch once p.printed refl
+      scanned = λ m first last held. scan_of ranges desks h id m (count_of p.batch) p.batch once p.printed refl
           ((held_scanned ranges desks h legal safe).held desk id m (s.possibly m first (omega arith) held));
     }
 
 -- the pages of an export are of a document that was printed, and their labels were scanned
 pages_scanned : {A : Type 0} (ranges : List Range) (desks : ℕ) (h : History A) (desk id n mask : ℕ) →
     IsLegal ranges desks h → IsSafe h →
-    PrintsOnceBy (batches_of h) (events_of h) (replies_of h) → IsExportSafe h desk id n mask →
+    PrintsOnceBy ranges desks (batches_of h) (events_of h) (replies_of h) → IsExportSafe h desk id n mask →
     (m : ℕ) → HasPage mask m → WasScanned (batches_of h) (events_of h) (replies_of h) (length h) id m n
 pages_scanned {A} ranges desks h desk id n mask legal safe once s m named =
     let p : IsPrintedBy h id s.document = printed_at ranges desks h id s.document legal s.printed in
-    scan_of h id m n p.batch once p.printed (s.n_is ∙ sym (count_is h id s.document p))
+    scan_of ranges desks h id m n p.batch once p.printed (s.n_is ∙ sym (count_is h id s.document p))
     ((held_scanned ranges desks h legal safe).held desk id m (s.possibly m named))
 
 -- what is forgotten was begun
@@ -417,7 +417,7 @@ tells_last : {A : Type 0} (ranges : List Range) (desks : ℕ) (h : History A) (e
     (capacities : List ℕ) →
     IsLegal ranges desks (e ∷ h) → IsSafe (e ∷ h) →
     (IsFair grids e.event → IsHonestReply grids capacities h e.event e.reply) →
-    PrintsOnceBy (batches_of h) (events_of h) (replies_of h) →
+    PrintsOnceBy ranges desks (batches_of h) (events_of h) (replies_of h) →
     Tells (batches_of (e ∷ h)) (events_of (e ∷ h)) (replies_of (e ∷ h)) (length h) e.reply
 tells_last {A} ranges desks h e grids capacities legal safe honest once =
     by_reply e.event e.reply refl legal.0.reply safe.0 honest
@@ -506,11 +506,11 @@ each_tells {A} ranges desks (e ∷ h) grids capacities legal never safe honest i
     ]
 
 -- two documents of one identification are the same
-one_document : {A : Type 0} (batches : List (Option Batch)) (events : List (Event A)) (replies : List (Reply A))
-    (i j id : ℕ) (one other : List ℕ) →
-    PrintsOnceBy batches events replies → WasPrinted batches events replies i id one →
+one_document : {A : Type 0} (ranges : List Range) (desks : ℕ) (batches : List (Option Batch))
+    (events : List (Event A)) (replies : List (Reply A)) (i j id : ℕ) (one other : List ℕ) →
+    PrintsOnceBy ranges desks batches events replies → WasPrinted batches events replies i id one →
     WasPrinted batches events replies j id other → one ≡ other
-one_document {A} batches events replies i j id one other f a b =
+one_document {A} ranges desks batches events replies i j id one other f a b =
     let p = a.printed in
     let q = b.printed in
     let place : p.j ≡ q.j = f.once p.j q.j a.batch b.batch p.there q.there (p.id_is ∙ sym q.id_is) in
@@ -522,13 +522,13 @@ one_document {A} batches events replies i j id one other f a b =
 pub is_faithful : {A : Type 0} (ranges : List Range) (desks : ℕ) (h : History A) (grids : List GridView)
     (capacities : List ℕ) → IsLegal ranges desks h →
     NeverTwice h → IsSafe h → AreHonestReplies grids capacities h →
-    IsFaithfulBy (batches_of h) (events_of h) (replies_of h)
+    IsFaithfulBy ranges desks (batches_of h) (events_of h) (replies_of h)
 is_faithful {A} ranges desks h grids capacities legal never safe honest = record {
   prints = once;
   scanned = λ i accepted answered. tells i (Scanned accepted) answered;
   given = λ i bytes answered. tells i (Document bytes) answered;
   same = λ i j desk at id one other asked answered asked_too answered_too.
-      one_document (batches_of h) (events_of h) (replies_of h) i j id one other once
+      one_document ranges desks (batches_of h) (events_of h) (replies_of h) i j id one other once
       (printed i desk id one asked answered)
       (printed j at id other asked_too answered_too);
   begun = λ i desk id missing asked answered.
@@ -544,7 +544,7 @@ is_faithful {A} ranges desks h grids capacities legal never safe honest = record
   not_imported = λ i fault answered. tells i (ImportRefused fault) answered;
 }
   where
-    once : PrintsOnceBy (batches_of h) (events_of h) (replies_of h)
+    once : PrintsOnceBy ranges desks (batches_of h) (events_of h) (replies_of h)
     once = prints_once ranges desks h legal never
 
     tells : (i : ℕ) (reply : Reply A) → slice_get (replies_of h) i ≡ Some reply →

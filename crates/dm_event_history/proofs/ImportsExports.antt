@@ -14,7 +14,6 @@ use Rattle.dm_event_history.specs.Imports.{WasExported, ImportsExports}
 use Rattle.dm_event_history.proofs.Batches.{events_count, replies_count, at_last, before_or_last, in_either}
 use Rattle.dm_event_history.proofs.Gotten.{get_more}
 use Rattle.dm_event_history.proofs.NumberedTickets.{next_export, export_numbered, export_there, export_not_there}
-use Rattle.dm_event_history.proofs.Replied.{actor_within}
 use Rattle.dm_event_history.specs.Actors.{DeskAt}
 
 -- ---- numbers of exports
@@ -153,7 +152,7 @@ exported_before {A} ranges desks (e ∷ h) legal i imported answered =
     now event is fine = absurd fine
 
 pub imports_exports : {A : Type 0} (ranges : List Range) (desks : ℕ) (h : History A) → IsLegal ranges desks h →
-    ImportsExports (events_of h) (replies_of h)
+    ImportsExports desks (events_of h) (replies_of h)
 imports_exports ranges desks h legal = record {
   next = λ i index id n mask answered. export_numbered ranges desks h i index id n mask legal answered;
   numbered = numbered ranges desks h legal;
@@ -161,6 +160,5 @@ imports_exports ranges desks h legal = record {
   there = λ i desk export stop reply asked answered is_such.
       export_there ranges desks h i desk export stop reply legal asked answered is_such;
   not_there = λ i desk export stop asked answered there.
-      export_not_there ranges desks h i desk export stop legal (actor_within ranges desks h (DeskAt desk) legal there)
-      asked answered;
+      export_not_there ranges desks h i desk export stop legal there asked answered;
 }

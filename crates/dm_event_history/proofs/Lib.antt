@@ -12,8 +12,9 @@ pub mod LeftOnce
 pub mod Batches
 pub mod Replied
 pub mod ScannedLabels
-pub mod PrintsOnce
 pub mod NumberedTickets
+pub mod Counts
+pub mod PrintsOnce
 pub mod RisingTickets
 pub mod TakesOnce
 pub mod ImportsExports

@@ -1,27 +1,37 @@
 -- A legal history prints no identification twice: said of its events and replies alone.
-use Rattle.std.proofs.Common.{◌≡◌, ◌<◌, inl, inr, ℕ, false, Option, Some, List, [], ◌∷◌, length, slice_get, refl, ap, sym, ◌∙◌, subst, arith}
+use Rattle.std.proofs.Common.{◌≡◌, ◌<◌, ◌≤◌, ◌+◌, inl, inr, ℕ, false, Option, Some, List, [], ◌∷◌, length, slice_get, take, refl, ap, sym, ◌∙◌, subst, arith}
+use Rattle.dm_check_blocks.specs.declared.size.Size.{Size}
+use Rattle.dm_encodation.specs.declared.scheme.Scheme.{Scheme}
+use Rattle.dm_append_label.specs.Parts.{AreParts}
 use Rattle.dm_print_ledger.specs.declared.range.Range.{Range}
 use Rattle.dm_event_history.specs.declared.event.Event.{Event}
-use Rattle.dm_event_history.specs.declared.reply.Reply.TheVariants.{Printed}
-use Rattle.dm_event_history.specs.Actors.{DeskAt, actor_of}
+use Rattle.dm_event_history.specs.declared.event.Event.TheVariants.{Print}
+use Rattle.dm_event_history.specs.declared.reply.Reply.{Reply}
+use Rattle.dm_event_history.specs.declared.reply.Reply.TheVariants.{Printed, Stopped}
+use Rattle.dm_event_history.specs.declared.stop.Stop.TheVariants.{AfterLabels}
+use Rattle.dm_event_history.specs.Actors.{PrinterAt, actor_of}
 use Rattle.dm_event_history.specs.History.{Entry, History, events_of, replies_of}
 use Rattle.dm_event_history.specs.Running.{is_failed}
-use Rattle.dm_event_history.specs.Legal.{IsLegal, Fits, NeverTwice}
+use Rattle.dm_event_history.specs.Legal.{IsReply, IsLegal, Fits, NeverTwice}
+use Rattle.dm_event_history.specs.Numbers.{opening_count, gone, came}
 use Rattle.dm_event_history.specs.Replying.{has_failed_before}
+use Rattle.dm_event_history.specs.Counts.{HasNumber}
 use Rattle.dm_event_history.specs.Headline.{Batch, LeftBy, labels_of, AllLeft, PrintsOnceBy}
 use Rattle.dm_event_history.proofs.Batches.{all_of, count_all, batch_of, batches_of, events_count, replies_count, batches_count, before_or_last, take_keeps, batch_means, out_is, left_more, last_prints, told_is, unused_is_none, last_batch, whole_before}
-use Rattle.dm_event_history.proofs.Replied.{actor_within, failed_before, failed_at_last, saved_unfailed, are_replies}
+use Rattle.dm_event_history.proofs.Replied.{asked_before_or_last, failed_before, failed_at_last, saved_unfailed, are_replies}
 use Rattle.dm_event_history.proofs.ScannedLabels.{there_had_left, not_there_had_not}
+use Rattle.dm_event_history.proofs.Counts.{number_before, number_at_last}
 use Rattle.dm_event_history.proofs.Gotten.{get_more, get_beyond}
 
-once_first : {A : Type 0} → (let none : History A = [] in
-    PrintsOnceBy (batches_of none) (events_of none) (replies_of none))
-once_first {A} = record {
+once_first : {A : Type 0} (ranges : List Range) (desks : ℕ) → (let none : History A = [] in
+    PrintsOnceBy ranges desks (batches_of none) (events_of none) (replies_of none))
+once_first {A} ranges desks = record {
   each_reply = refl;
   each_batch = refl;
   replied = record {
     each = λ i event reply asked answered. absurd (cc (asked));
     no_such = λ i event asked answered there alone. absurd (cc (asked));
+    there = λ i event reply asked answered such. absurd (cc (asked));
     down = λ i event reply asked answered is_such. absurd (cc (asked));
     failed = λ i event reply asked answered tells. absurd (cc (asked));
     fails = λ i event reply asked answered failed. absurd (cc (asked));
@@ -29,6 +39,7 @@ once_first {A} = record {
   told = λ i id first count is. absurd (cc (is));
   printed = λ i batch is. absurd (cc (is));
   unfailed = λ i batch event is asked. absurd (cc (is));
+  let_out = λ i printer document size scheme most parts asked some answered are unfailed has. absurd (cc (asked));
   once = λ i j one other a b same. absurd (cc (a));
   there = λ i desk label flips stop reply a b such. absurd (cc (a));
   not_there = λ i desk label flips stop a b desk_there small. absurd (cc (a));
@@ -36,8 +47,8 @@ once_first {A} = record {
 
 once_next : {A : Type 0} (ranges : List Range) (desks : ℕ) (h : History A) (e : Entry A) →
     IsLegal ranges desks (e ∷ h) → NeverTwice (e ∷ h) →
-    PrintsOnceBy (batches_of h) (events_of h) (replies_of h) →
-    PrintsOnceBy (batches_of (e ∷ h)) (events_of (e ∷ h)) (replies_of (e ∷ h))
+    PrintsOnceBy ranges desks (batches_of h) (events_of h) (replies_of h) →
+    PrintsOnceBy ranges desks (batches_of (e ∷ h)) (events_of (e ∷ h)) (replies_of (e ∷ h))
 once_next {A} ranges desks h e legal never f = record {
   each_reply = replies_count (e ∷ h) ∙ sym (events_count (e ∷ h));
   each_batch = batches_count (e ∷ h) ∙ sym (events_count (e ∷ h));
@@ -45,11 +56,11 @@ once_next {A} ranges desks h e legal never f = record {
   told = tells;
   printed = prints;
   unfailed = runs;
+  let_out = lets;
   once = one;
   there = λ i desk label flips stop reply. there_had_left ranges desks (e ∷ h) i desk label flips stop reply legal;
   not_there = λ i desk label flips stop asked answered there small.
-      not_there_had_not ranges desks (e ∷ h) i desk label flips stop legal
-      (actor_within ranges desks (e ∷ h) (DeskAt desk) legal there) small asked answered;
+      not_there_had_not ranges desks (e ∷ h) i desk label flips stop legal there small asked answered;
 }
   where
     fits : Fits ranges desks h e
@@ -122,6 +133,45 @@ once_next {A} ranges desks h e legal never f = record {
           ]
         ]
 
+    -- the last entry is a print that was stopped after a label or more
+    last_lets : (printer : ℕ) (document : List ℕ) (size : Size) (scheme : Scheme) (most : ℕ)
+        (parts : List (List ℕ)) → e.event ≡ Print printer document size scheme (AfterLabels most) → 1 ≤ most →
+        e.reply ≡ Stopped → AreParts size scheme document parts → is_failed h (PrinterAt printer) ≡ false →
+        gone h printer < opening_count ranges printer + came h printer → 1 ≤ e.left
+    last_lets printer document size scheme most parts event_is some reply_is are unfailed has =
+        let fine : IsReply ranges h e.id e.left (Print printer document size scheme (AfterLabels most)) Stopped =
+        subst (λ (v : Event A). IsReply ranges h e.id e.left v Stopped) event_is
+        (subst (λ (r : Reply A). IsReply ranges h e.id e.left e.event r) reply_is fits.reply) in
+        fine some parts are unfailed has
+
+    lets : (i printer : ℕ) (document : List ℕ) (size : Size) (scheme : Scheme) (most : ℕ) (parts : List (List ℕ)) →
+        slice_get (events_of (e ∷ h)) i ≡ Some (Print printer document size scheme (AfterLabels most)) → 1 ≤ most →
+        slice_get (replies_of (e ∷ h)) i ≡ Some Stopped → AreParts size scheme document parts →
+        has_failed_before (events_of (e ∷ h)) (replies_of (e ∷ h)) i (PrinterAt printer) ≡ false →
+        HasNumber ranges (take i (events_of (e ∷ h))) (take i (replies_of (e ∷ h))) printer →
+        (batch : Batch) × (slice_get (batches_of (e ∷ h)) i ≡ Some (Some batch))
+    lets i printer document size scheme most parts asked some answered are unfailed has =
+        elim (asked_before_or_last h e i (Print printer document size scheme (AfterLabels most)) Stopped asked
+        answered) [
+          | inl before ↦
+              (let below : i < length h = before.0 in
+              let t = f.let_out i printer document size scheme most parts before.1 some before.2 are
+              (sym (failed_before h e i (PrinterAt printer) before.0) ∙ unfailed)
+              (number_before ranges h e i printer (omega arith) has) in
+              (t.0, get_more (batches_of h) (batch_of e ∷ []) i (Some t.0) t.1))
+          | inr last ↦
+              (let now : has_failed_before (events_of (e ∷ h)) (replies_of (e ∷ h)) (length h) (PrinterAt printer)
+              ≡ false = subst (λ (k : ℕ). has_failed_before (events_of (e ∷ h)) (replies_of (e ∷ h)) k
+              (PrinterAt printer) ≡ false) last.0 unfailed in
+              let left : 1 ≤ e.left = last_lets printer document size scheme most parts last.1 some last.2 are
+              (sym (failed_at_last h e (PrinterAt printer)) ∙ now)
+              (number_at_last ranges h e printer (subst (λ (k : ℕ). HasNumber ranges (take k (events_of (e ∷ h)))
+              (take k (replies_of (e ∷ h))) printer) last.0 has)) in (
+                all_of e,
+                ap (slice_get (batches_of (e ∷ h))) last.0 ∙ last_batch h e (omega arith),
+              ))
+        ]
+
     new : (i : ℕ) (was now : Batch) → slice_get (batches_of h) i ≡ Some (Some was) → batch_of e ≡ Some now →
         was.id ≡ now.id → ⊥
     new i was now before last same = (let t = batch_means e now last in
@@ -144,7 +194,7 @@ once_next {A} ranges desks h e legal never f = record {
 
 pub prints_once : {A : Type 0} (ranges : List Range) (desks : ℕ) (h : History A) → IsLegal ranges desks h →
     NeverTwice h →
-    PrintsOnceBy (batches_of h) (events_of h) (replies_of h)
-prints_once ranges desks [] legal never = once_first
+    PrintsOnceBy ranges desks (batches_of h) (events_of h) (replies_of h)
+prints_once ranges desks [] legal never = once_first ranges desks
 prints_once ranges desks (e ∷ h) legal never =
     once_next ranges desks h e legal never (prints_once ranges desks h legal.1 never.1)

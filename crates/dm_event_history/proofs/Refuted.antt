@@ -10,7 +10,7 @@ use Rattle.dm_store.specs.declared.fuse.Kept.TheVariants as kept
 use Rattle.dm_append_label.specs.Parts.{parts_from}
 use Rattle.dm_append_label.proofs.CutParts.{each_cut_is}
 use Rattle.dm_event_history.specs.declared.event.Event.{Event}
-use Rattle.dm_event_history.specs.declared.event.Event.TheVariants.{Print, Scan, RestartPrinter, Ask, Forget, Give, Take, Export}
+use Rattle.dm_event_history.specs.declared.event.Event.TheVariants.{Print, Scan, RestartPrinter, RestartDesk, Ask, Forget, Give, Take, Export}
 use Rattle.dm_event_history.specs.declared.reply.Reply.{Reply}
 use Rattle.dm_event_history.specs.declared.reply.Reply.TheVariants.{Scanned, ScanRefused, Document, Forgotten, Given, Taken, TakeRefused, Exported, Restarted, PrinterRefused, Stopped, Down, Memory}
 use Rattle.dm_event_history.specs.declared.stop.Stop.{Stop}
@@ -21,12 +21,14 @@ use Rattle.dm_print_ledger.specs.declared.range.Range.{Range}
 use Rattle.dm_print_ledger.specs.declared.fault.TakeFault.TheVariants as take_fault
 use Rattle.dm_event_history.specs.Actors.{PrinterAt}
 use Rattle.dm_event_history.specs.Replying.{has_failed_before}
+use Rattle.dm_event_history.specs.Counts.{HasNumber}
+use Rattle.dm_event_history.proofs.Right.{are_parts}
 use Rattle.dm_print_ledger.specs.Views.{TicketView}
 use Rattle.dm_event_history.specs.Masks.{HasPage}
 use Rattle.dm_event_history.specs.Saving.{may_save}
 use Rattle.dm_event_history.specs.Tickets.{WasGiven, WasReached}
-use Rattle.dm_event_history.specs.Worked.{digits, range, first_ticket}
-use Rattle.dm_event_history.specs.Unfaithful.{IsFaithfulRun, PrintsOnceRun, AreRepliesRun, TakesOnceRun, ImportsExportsRun, other_digits, scan, page, ticket, another_call, stopped_unasked, forgotten_with_a_fault, scanned_though_stopped, failed_without_a_fault, damaged_by_itself, answered_while_down, down_unstopped, failed_before_a_fault, given_though_failed, missing_printer, numbered_above, second_ticket, taken_falling, old_at_first, old_after_a_lower, old_unsaved, old_though_failed, refused_ungiven, missing_ticket, exported_above, refused_unexported, missing_export, never_saved, refused_import, shown_not_left, shown_left, begun_unscanned, exported_unscanned, printed_after_forgotten, one_serial, given_falling, taken_though_old, imported_another_document, imported_another_page, exported_twice, half_printed, printed_unseen, unseen_labels, print, never_printed, wrong_document, another_document, never_scanned, two_documents, printed_twice, told_twice, left_though_failed, never_left, numbered_twice, taken_twice, taken_elsewhere, overlaps, AreUnfaithful}
+use Rattle.dm_event_history.specs.Worked.{digits, range, two_ranges, first_ticket}
+use Rattle.dm_event_history.specs.Unfaithful.{IsFaithfulRun, PrintsOnceRun, AreRepliesRun, TakesOnceRun, ImportsExportsRun, other_digits, scan, page, ticket, another_call, stopped_unasked, forgotten_with_a_fault, scanned_though_stopped, failed_without_a_fault, damaged_by_itself, answered_while_down, down_unstopped, failed_before_a_fault, given_though_failed, missing_printer, numbered_above, second_ticket, taken_falling, old_at_first, old_after_a_lower, old_unsaved, old_though_failed, refused_ungiven, missing_ticket, exported_above, refused_unexported, missing_export, never_saved, refused_import, wrong_of_two, refused_unprinted, missing_label, third_desk, begun_unscanned, exported_unscanned, printed_after_forgotten, one_serial, given_falling, taken_though_old, imported_another_document, imported_another_page, exported_twice, half_printed, printed_unseen, unseen_labels, print, never_printed, wrong_document, another_document, never_scanned, two_documents, printed_twice, told_twice, left_though_failed, never_left, numbered_twice, taken_twice, taken_elsewhere, overlaps, AreUnfaithful}
 
 -- ---- what an event lets out
 
@@ -89,7 +91,7 @@ document_is {A} events replies i printer batch printed stop is left =
 -- what left before an event is a batch of one of the events before it
 printed_before : {A : Type 0} (batches : List (Option Batch)) (events : List (Event A)) (replies : List (Reply A))
     (i id : ℕ) (bytes : List ℕ) →
-    PrintsOnceBy batches events replies → WasPrinted batches events replies i id bytes →
+    PrintsOnceBy two_ranges 2 batches events replies → WasPrinted batches events replies i id bytes →
     (j : ℕ) × (batch : Batch) × (j < i) × LeftBy events replies j batch × (batch.document.bytes ≡ bytes)
 printed_before batches events replies i id bytes f w =
     (w.printed.j, w.batch, w.printed.before, f.printed w.printed.j w.batch w.printed.there, w.bytes_are)
@@ -258,7 +260,7 @@ half_printed_is A (batches, f) = by_batches batches f
     by_print (first ∷ rest) (suc zero) id batch before there left w = (let x = left.is_print.event in cc (x))
     by_print (first ∷ rest) (suc (suc j)) id batch before there left w = omega arith
 
-    by_batches : (batches : List (Option Batch)) → IsFaithfulBy batches events replies → ⊥
+    by_batches : (batches : List (Option Batch)) → IsFaithfulBy two_ranges 2 batches events replies → ⊥
     by_batches batches f =
         let g = f.given 2 digits refl in
         let w = g.3 in
@@ -340,7 +342,7 @@ printed_twice_is A (batches, f) = by_batches batches f
     replies : List (Reply A)
     replies = map (λ one. one.1) (printed_twice A)
 
-    by_batches : (batches : List (Option Batch)) → IsFaithfulBy batches events replies → ⊥
+    by_batches : (batches : List (Option Batch)) → IsFaithfulBy two_ranges 2 batches events replies → ⊥
     by_batches [] f = (let t = (f.prints.told 2 0 1 2 refl).there in cc (t))
     by_batches (None ∷ []) f = (let t = (f.prints.told 2 0 1 2 refl).there in cc (t))
     by_batches (None ∷ None ∷ rest) f = (let t : ◌≡◌ {A = ℕ} 1 0 = (f.prints.told 2 0 1 2 refl).first_is in omega arith)
@@ -372,7 +374,7 @@ printed_unseen_is A (batches, labels_are, p) = by_batches batches labels_are p
     replies = map (λ one. one.1) (printed_unseen A)
 
     by_batches : (batches : List (Option Batch)) → labels_of batches ≡ unseen_labels →
-        PrintsOnceBy batches events replies → ⊥
+        PrintsOnceBy two_ranges 2 batches events replies → ⊥
     by_batches [] are p = (let t = (p.told 2 0 1 2 refl).there in cc (t))
     by_batches (None ∷ []) are p = (let t = (p.told 2 0 1 2 refl).there in cc (t))
     by_batches (None ∷ None ∷ rest) are p = (let t : ◌≡◌ {A = ℕ} 1 0 = (p.told 2 0 1 2 refl).first_is in omega arith)
@@ -387,106 +389,51 @@ printed_unseen_is A (batches, labels_are, p) = by_batches batches labels_are p
 
 told_twice_is : (A : Type 0) → ¬ IsFaithfulRun (told_twice A)
 told_twice_is A (batches, f) =
-    let p : PrintsOnceBy batches (map (λ one. one.0) (told_twice A)) (map (λ one. one.1) (told_twice A)) = f.prints in
+    let p = f.prints in
     let a = p.told 0 0 0 2 refl in
     let b = p.told 1 0 2 2 refl in
     let place : ◌≡◌ {A = ℕ} 0 1 = p.once 0 1 a.batch b.batch a.there b.there (a.id_is ∙ sym b.id_is) in omega arith
 
--- ---- labels that replies show to have left, or not
+-- ---- labels that left, or not
 
--- no label of the first batch had left
-none_first : (batch : Batch) → 1 ≤ batch.left → length (names_from batch.id (count_of batch) 1 batch.left ++ []) ≤ 0 → ⊥
-none_first batch some few = by_count batch.left some few
-  where
-    by_count : (left : ℕ) → 1 ≤ left → length (names_from batch.id (count_of batch) 1 left ++ []) ≤ 0 → ⊥
-    by_count zero some few = omega arith
-    by_count (suc left) some few = omega arith
-
-shown_not_left_is : (A : Type 0) → ¬ IsFaithfulRun (shown_not_left A)
-shown_not_left_is A (batches, f) =
-    let w = (f.given 5 digits refl).3 in
-    by_print w.printed.j w.batch w.printed.before w.printed.there
-    (f.prints.printed w.printed.j w.batch w.printed.there) w.bytes_are
+-- of two documents the first left, as its printer had identifications left, and then the labels told are its own
+wrong_of_two_is : (A : Type 0) → ¬ IsFaithfulRun (wrong_of_two A)
+wrong_of_two_is A (batches, f) = by_batches batches f
   where
     events : List (Event A)
-    events = map (λ one. one.0) (shown_not_left A)
+    events = map (λ one. one.0) (wrong_of_two A)
 
     replies : List (Reply A)
-    replies = map (λ one. one.1) (shown_not_left A)
+    replies = map (λ one. one.1) (wrong_of_two A)
 
-    -- the module is in each grid
-    small : All {X = ℕ × ℕ} (λ flip. (flip.0 < 10) × (flip.1 < 10)) ((0, 0) ∷ [])
-    small zero flip below = (omega arith, omega arith)
-    small (suc k) flip below = absurd (omega arith)
+    -- nothing had gone
+    has : HasNumber {A = A} two_ranges [] [] 0
+    has = (let below : 0 < 10 = omega arith in below)
 
-    -- desk 0 is there, as desk 1 is, which gives the document
-    few : length (labels_of (take 1 batches)) ≤ 0
-    few = f.prints.not_there 1 0 0 ((0, 0) ∷ []) stops.None refl refl (record {
-      i = 5;
-      event = Ask 1 10;
-      asked = refl;
-      at = 1;
-      of_actor = refl;
-      not_above = omega arith;
-      reply = Document digits;
-      answered = refl;
-      is_such = λ x. cc (x);
-    }) small
-
-    first : (batches : List (Option Batch)) (batch : Batch) → slice_get batches 0 ≡ Some (Some batch) → 1 ≤ batch.left →
-        length (labels_of (take 1 batches)) ≤ 0 → ⊥
-    first [] batch there some few = cc (there)
-    first (None ∷ rest) batch there some few = cc (there)
-    first (Some own ∷ rest) batch there some few =
-        let x : Some (Some own) ≡ Some (Some batch) = there in
-        let same : own ≡ batch = cc (x) in
-        let counts : own.left ≡ batch.left = ap (λ (b : Batch). b.left) same in
-        none_first own (omega arith) few
-
-    by_print : (j : ℕ) (batch : Batch) → j < 5 → slice_get batches j ≡ Some (Some batch) →
-        LeftBy events replies j batch →
-        batch.document.bytes ≡ digits → ⊥
-    by_print zero batch before there left bytes = first batches batch there left.not_none few
-    by_print (suc zero) batch before there left bytes = (let x = left.is_print.event in cc (x))
-    by_print (suc (suc zero)) batch before there left bytes =
-        digits_differ (sym bytes ∙ document_is events replies 2 1 batch other_digits (stops.AfterLabels 2) refl left)
-    by_print (suc (suc (suc zero))) batch before there left bytes = (let x = left.is_print.event in cc (x))
-    by_print (suc (suc (suc (suc zero)))) batch before there left bytes = (let x = left.is_print.event in cc (x))
-    by_print (suc (suc (suc (suc (suc j))))) batch before there left bytes = omega arith
-
--- of two documents the first left, if label 0 had left before the second, and then the labels told are its own
-shown_left_is : (A : Type 0) → ¬ IsFaithfulRun (shown_left A)
-shown_left_is A (batches, f) = by_batches batches f
-  where
-    events : List (Event A)
-    events = map (λ one. one.0) (shown_left A)
-
-    replies : List (Reply A)
-    replies = map (λ one. one.1) (shown_left A)
-
-    by_batches : (batches : List (Option Batch)) → IsFaithfulBy batches events replies → ⊥
+    by_batches : (batches : List (Option Batch)) → IsFaithfulBy two_ranges 2 batches events replies → ⊥
     by_batches [] f = (let t = f.prints.each_batch in cc (t))
     by_batches (None ∷ rest) f =
-        let below : 0 < 0 = f.prints.there 1 1 0 [] stops.BeforeSave Stopped refl refl (λ x. cc (x)) in omega arith
+        let t = f.prints.let_out 0 0 other_digits Side12 Ascii 2 _ refl (omega arith) refl are_parts refl has in
+        let x : Some None ≡ Some (Some t.0) = t.1 in cc (x)
     by_batches (Some batch ∷ rest) f =
         let p = f.prints.printed 0 batch refl in
-        let s : IsScanOf (Some batch ∷ rest) events 3 (record { id = 10; number = 1; count = 2 }) =
-        f.scanned 3 (record { id = 10; m = 1; n = 2; kind = New }) refl in
+        let s : IsScanOf (Some batch ∷ rest) events 2 (record { id = 10; number = 1; count = 2 }) =
+        f.scanned 2 (record { id = 10; m = 1; n = 2; kind = New }) refl in
         let e : Some (Scan 0 0 [] stops.None) ≡ Some (Scan s.desk s.label s.flips s.stop) = s.event in
         let label_is : 0 ≡ s.label = cc (e) in
-        let had : slice_get (labels_of (Some batch ∷ take 2 rest)) 0 ≡ Some (record {
+        let had : slice_get (labels_of (Some batch ∷ take 1 rest)) 0 ≡ Some (record {
           id = 10;
           number = 1;
           count = 2;
         }) =
-        subst (λ (i : ℕ). slice_get (labels_of (Some batch ∷ take 2 rest)) i ≡ Some (record {
+        subst (λ (i : ℕ). slice_get (labels_of (Some batch ∷ take 1 rest)) i ≡ Some (record {
           id = 10;
           number = 1;
           count = 2;
         })) (sym label_is) s.had_left in
-        let own : batch.id ≡ 10 = first_label batch (take 2 rest)
+        let own : batch.id ≡ 10 = first_label batch (take 1 rest)
         (record { id = 10; number = 1; count = 2 }) p.not_none had in
-        let g = f.given 5 other_digits refl in
+        let g = f.given 4 digits refl in
         let w = g.3 in
         let asked : Some (Ask 0 10) ≡ Some (Ask g.0 g.1) = g.2 in
         let id_is : 10 ≡ g.1 = cc (asked) in
@@ -495,8 +442,38 @@ shown_left_is A (batches, f) = by_batches batches f
         let x : Some (Some batch) ≡ Some (Some w.batch) =
         subst (λ (j : ℕ). slice_get (Some batch ∷ rest) j ≡ Some (Some w.batch)) (sym place) w.printed.there in
         let same : batch ≡ w.batch = cc (x) in
-        digits_differ (sym (document_is events replies 0 0 batch digits (stops.AfterLabels 2) refl p) ∙
-        ap (λ (b : Batch). b.document.bytes) same ∙ w.bytes_are)
+        digits_differ (sym (sym (document_is events replies 0 0 batch other_digits (stops.AfterLabels 2) refl p) ∙
+        ap (λ (b : Batch). b.document.bytes) same ∙ w.bytes_are))
+
+refused_unprinted_is : (A : Type 0) → ¬ IsFaithfulRun (refused_unprinted A)
+refused_unprinted_is A (batches, f) =
+    (let below : 0 < 0 = f.prints.there 0 0 0 [] stops.None Memory refl refl (λ x. cc (x)) in omega arith)
+
+missing_label_is : (A : Type 0) → ¬ IsFaithfulRun (missing_label A)
+missing_label_is A (batches, f) = by_batches batches f
+  where
+    events : List (Event A)
+    events = map (λ one. one.0) (missing_label A)
+
+    replies : List (Reply A)
+    replies = map (λ one. one.1) (missing_label A)
+
+    -- the module is in each grid
+    small : All {X = ℕ × ℕ} (λ flip. (flip.0 < 10) × (flip.1 < 10)) ((0, 0) ∷ [])
+    small zero flip below = (omega arith, omega arith)
+    small (suc k) flip below = absurd (omega arith)
+
+    -- of one label or more there are some
+    some : (batch : Batch) (left : ℕ) → 1 ≤ left → length (names_from batch.id (count_of batch) 1 left ++ []) ≤ 0 → ⊥
+    some batch zero least few = omega arith
+    some batch (suc left) least few = omega arith
+
+    by_batches : (batches : List (Option Batch)) → IsFaithfulBy two_ranges 2 batches events replies → ⊥
+    by_batches [] f = (let t = f.prints.each_batch in cc (t))
+    by_batches (None ∷ rest) f = (let t = f.prints.told 0 0 0 2 refl in let x = t.there in cc (x))
+    by_batches (Some batch ∷ rest) f =
+        some batch batch.left (f.prints.printed 0 batch refl).not_none
+        (f.prints.not_there 1 1 0 ((0, 0) ∷ []) stops.None refl refl (omega arith) small)
 
 printed_after_forgotten_is : (A : Type 0) → ¬ IsFaithfulRun (printed_after_forgotten A)
 printed_after_forgotten_is A (batches, f) = by_batches batches f
@@ -519,7 +496,7 @@ printed_after_forgotten_is A (batches, f) = by_batches batches f
     by_scan batch rest m n (suc (suc zero)) some before s = absurd (let x = s.event in cc (x))
     by_scan batch rest m n (suc (suc (suc k))) some before s = absurd (omega arith)
 
-    by_batches : (batches : List (Option Batch)) → IsFaithfulBy batches events replies → ⊥
+    by_batches : (batches : List (Option Batch)) → IsFaithfulBy two_ranges 2 batches events replies → ⊥
     by_batches [] f = (let t = f.prints.each_batch in cc (t))
     by_batches (None ∷ rest) f =
         let below : 0 < 0 = f.prints.there 1 0 0 [] (stops.AfterLabels 0) Stopped refl refl (λ x. cc (x)) in omega arith
@@ -573,17 +550,11 @@ given_though_failed_is A r =
     [ inl tells ↦ tells | inr none ↦ none ]
 
 missing_printer_is : (A : Type 0) → ¬ AreRepliesRun (missing_printer A)
-missing_printer_is A r = r.no_such 0 (print 0 digits stops.None) refl refl (record {
-  i = 1;
-  event = RestartPrinter 1;
-  asked = refl;
-  at = 1;
-  of_actor = refl;
-  not_above = omega arith;
-  reply = Restarted;
-  answered = refl;
-  is_such = λ x. cc (x);
-}) tt
+missing_printer_is A r =
+    let below : 1 < 2 = omega arith in r.no_such 0 (print 1 digits stops.None) refl refl below tt
+
+third_desk_is : (A : Type 0) → ¬ AreRepliesRun (third_desk A)
+third_desk_is A r = (let below : 2 < 2 = r.there 0 (RestartDesk 2) Restarted refl refl (λ x. cc (x)) in omega arith)
 
 -- ---- tickets
 
@@ -728,17 +699,7 @@ refused_ungiven_is A t =
 
 missing_ticket_is : (A : Type 0) → ¬ TakesOnceRun (missing_ticket A)
 missing_ticket_is A t =
-    let few : 1 ≤ 0 = t.not_there 1 1 0 stops.None refl refl (record {
-      i = 2;
-      event = RestartPrinter 1;
-      asked = refl;
-      at = 1;
-      of_actor = refl;
-      not_above = omega arith;
-      reply = Restarted;
-      answered = refl;
-      is_such = λ x. cc (x);
-    }) in omega arith
+    let few : 1 ≤ 0 = t.not_there 1 1 0 stops.None refl refl (omega arith) in omega arith
 
 left_though_failed_is : (A : Type 0) → ¬ IsFaithfulRun (left_though_failed A)
 left_though_failed_is A (batches, f) = by_batches batches f
@@ -749,7 +710,7 @@ left_though_failed_is A (batches, f) = by_batches batches f
     replies : List (Reply A)
     replies = map (λ one. one.1) (left_though_failed A)
 
-    told : (batches : List (Option Batch)) → IsFaithfulBy batches events replies →
+    told : (batches : List (Option Batch)) → IsFaithfulBy two_ranges 2 batches events replies →
         slice_get (labels_of (take 2 batches)) 0 ≡ Some (record { id = 0; number = 1; count = 2 })
     told batches f =
         let s : IsScanOf batches events 2 (record { id = 0; number = 1; count = 2 }) =
@@ -759,7 +720,7 @@ left_though_failed_is A (batches, f) = by_batches batches f
         subst (λ (i : ℕ). slice_get (labels_of (take 2 batches)) i ≡ Some (record { id = 0; number = 1; count = 2 }))
         (sym label_is) s.had_left
 
-    by_batches : (batches : List (Option Batch)) → IsFaithfulBy batches events replies → ⊥
+    by_batches : (batches : List (Option Batch)) → IsFaithfulBy two_ranges 2 batches events replies → ⊥
     by_batches [] f = (let t = told [] f in cc (t))
     by_batches (None ∷ []) f = (let t = told (None ∷ []) f in cc (t))
     by_batches (None ∷ None ∷ rest) f = (let t = told (None ∷ None ∷ rest) f in cc (t))
@@ -788,7 +749,7 @@ never_left_is A (batches, f) = by_batches batches f
         let same : record { id = batch.id; number = 1; count = count_of batch } ≡ name = cc (e) in
         ap (λ (l : LabelName). l.number) same
 
-    told : (batches : List (Option Batch)) → IsFaithfulBy batches events replies →
+    told : (batches : List (Option Batch)) → IsFaithfulBy two_ranges 2 batches events replies →
         slice_get (labels_of (take 1 batches)) 0 ≡ Some (record { id = 0; number = 2; count = 2 })
     told batches f =
         let s : IsScanOf batches events 1 (record { id = 0; number = 2; count = 2 }) =
@@ -798,7 +759,7 @@ never_left_is A (batches, f) = by_batches batches f
         subst (λ (i : ℕ). slice_get (labels_of (take 1 batches)) i ≡ Some (record { id = 0; number = 2; count = 2 }))
         (sym label_is) s.had_left
 
-    by_batches : (batches : List (Option Batch)) → IsFaithfulBy batches events replies → ⊥
+    by_batches : (batches : List (Option Batch)) → IsFaithfulBy two_ranges 2 batches events replies → ⊥
     by_batches [] f = (let t = told [] f in cc (t))
     by_batches (None ∷ rest) f = (let t = told (None ∷ rest) f in cc (t))
     by_batches (Some batch ∷ rest) f =
@@ -846,17 +807,7 @@ refused_unexported_is A t =
 
 missing_export_is : (A : Type 0) → ¬ ImportsExportsRun (missing_export A)
 missing_export_is A t =
-    let few : 1 ≤ 0 = t.not_there 1 0 0 stops.None refl refl (record {
-      i = 0;
-      event = Export 0 0;
-      asked = refl;
-      at = 0;
-      of_actor = refl;
-      not_above = omega arith;
-      reply = Exported 0 0 2 1;
-      answered = refl;
-      is_such = λ x. cc (x);
-    }) in omega arith
+    let few : 1 ≤ 0 = t.not_there 1 0 0 stops.None refl refl (omega arith) in omega arith
 
 pub are_unfaithful : (A : Type 0) → AreUnfaithful A
 are_unfaithful A = record {
@@ -871,8 +822,9 @@ are_unfaithful A = record {
   import_of_a_version_is = import_of_a_version_is A;
   import_of_no_pages_is = import_of_no_pages_is A;
   two_documents_is = two_documents_is A;
-  shown_not_left_is = shown_not_left_is A;
-  shown_left_is = shown_left_is A;
+  wrong_of_two_is = wrong_of_two_is A;
+  refused_unprinted_is = refused_unprinted_is A;
+  missing_label_is = missing_label_is A;
   begun_unscanned_is = begun_unscanned_is A;
   exported_unscanned_is = exported_unscanned_is A;
   printed_after_forgotten_is = printed_after_forgotten_is A;
@@ -892,6 +844,7 @@ are_unfaithful A = record {
   failed_before_a_fault_is = failed_before_a_fault_is A;
   given_though_failed_is = given_though_failed_is A;
   missing_printer_is = missing_printer_is A;
+  third_desk_is = third_desk_is A;
   numbered_twice_is = numbered_twice_is A;
   taken_twice_is = taken_twice_is A;
   taken_elsewhere_is = taken_elsewhere_is A;

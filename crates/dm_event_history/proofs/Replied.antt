@@ -17,7 +17,7 @@ use Rattle.dm_event_history.specs.Actors.{Actor, PrinterAt, DeskAt, actor_of, is
 use Rattle.dm_event_history.specs.History.{Entry, History, events_of, replies_of}
 use Rattle.dm_event_history.specs.Running.{down_after, is_down, failed_after, is_failed, TellsFailed, IsNoAnswer, IsOfFailed}
 use Rattle.dm_event_history.specs.Legal.{IsThere, IsStopped, IsReply, NeedsRunning, IsLegal, Fits}
-use Rattle.dm_event_history.specs.Replying.{MayReply, IsReplyTo, IsShown, IsActorThere, NamesNoMore, goes_on, is_down_before, has_failed_before, AreReplies}
+use Rattle.dm_event_history.specs.Replying.{MayReply, IsReplyTo, IsActorThere, NamesNoMore, goes_on, is_down_before, has_failed_before, AreReplies}
 use Rattle.dm_event_history.proofs.Batches.{events_count, replies_count, before_or_last, take_keeps, take_whole}
 use Rattle.dm_event_history.proofs.Deciding.{decided, true_false}
 use Rattle.dm_event_history.proofs.Gotten.{get_beyond}
@@ -130,14 +130,9 @@ reply_each {A} ranges desks (e ∷ h) legal i event reply asked answered =
 
 -- ---- what is there
 
--- there are so many printers and desks, and this is one of them
-abbrev pub IsWithin : ℕ → ℕ → Actor → Type 0
-IsWithin printers desks (PrinterAt printer) = printer < printers
-IsWithin printers desks (DeskAt desk) = desk < desks
-
 -- if all that an event names is there, its printer or desk is
 actor_of_there : {A : Type 0} (printers desks : ℕ) (h : History A) (event : Event A) → IsThere printers desks h event →
-    IsWithin printers desks (actor_of event)
+    IsActorThere printers desks (actor_of event)
 actor_of_there printers desks h (Scan d label flips stop) there = there.0
 actor_of_there printers desks h (Take p ticket stop) there = there.0
 actor_of_there printers desks h (Import d export stop) there = there.0
@@ -145,56 +140,16 @@ actor_of_there printers desks h event there = there
 
 -- and if it names no more, that is all
 there_of_actor : {A : Type 0} (printers desks : ℕ) (h : History A) (event : Event A) → NamesNoMore event →
-    IsWithin printers desks (actor_of event) → IsThere printers desks h event
+    IsActorThere printers desks (actor_of event) → IsThere printers desks h event
 there_of_actor printers desks h (Scan d label flips stop) alone within = absurd alone
 there_of_actor printers desks h (Take p ticket stop) alone within = absurd alone
 there_of_actor printers desks h (Import d export stop) alone within = absurd alone
 there_of_actor printers desks h event alone within = within
 
--- of which number a reply shows that it is there, there is one with no lower number
-shown_within : {A : Type 0} (ranges : List Range) (desks : ℕ) (h : History A) (actor_at : ℕ → Actor) (number : ℕ) →
-    IsLegal ranges desks h → IsShown (events_of h) (replies_of h) actor_at number →
-    (at : ℕ) × (number ≤ at) × IsWithin (length ranges) desks (actor_at at)
-shown_within ranges desks [] actor_at number legal t = absurd (let x = t.asked in cc (x))
-shown_within {A} ranges desks (e ∷ h) actor_at number legal t =
-    elim (asked_before_or_last h e t.i t.event t.reply t.asked t.answered) [
-      | inl before ↦ shown_within ranges desks h actor_at number legal.1 (record {
-        i = t.i;
-        event = t.event;
-        asked = before.1;
-        at = t.at;
-        of_actor = t.of_actor;
-        not_above = t.not_above;
-        reply = t.reply;
-        answered = before.2;
-        is_such = t.is_such;
-      })
-      | inr last ↦
-          (let fits : Fits ranges desks h e = legal.0 in (
-            t.at,
-            t.not_above,
-            subst (λ (a : Actor). IsWithin (length ranges) desks a) (ap actor_of last.1 ∙ t.of_actor)
-                (actor_of_there (length ranges) desks h e.event
-                (fits.there (λ none. t.is_such (sym last.2 ∙ none)))),
-          ))
-    ]
-
--- a printer or a desk that a reply shows to be there is one of so many
-pub actor_within : {A : Type 0} (ranges : List Range) (desks : ℕ) (h : History A) (actor : Actor) →
-    IsLegal ranges desks h → IsActorThere (events_of h) (replies_of h) actor → IsWithin (length ranges) desks actor
-actor_within ranges desks h (PrinterAt p) legal t =
-    let s = shown_within ranges desks h PrinterAt p legal t in
-    let least : p ≤ s.0 = s.1 in
-    let below : s.0 < length ranges = s.2 in omega arith
-actor_within ranges desks h (DeskAt d) legal t =
-    let s = shown_within ranges desks h DeskAt d legal t in
-    let least : d ≤ s.0 = s.1 in
-    let below : s.0 < desks = s.2 in omega arith
-
 -- a printer or a desk that is there is not told as missing
 such : {A : Type 0} (ranges : List Range) (desks : ℕ) (h : History A) → IsLegal ranges desks h →
     (i : ℕ) (event : Event A) → slice_get (events_of h) i ≡ Some event → slice_get (replies_of h) i ≡ Some NoSuch →
-    IsWithin (length ranges) desks (actor_of event) → ¬ NamesNoMore event
+    IsActorThere (length ranges) desks (actor_of event) → ¬ NamesNoMore event
 such ranges desks [] legal i event asked answered within alone = absurd (cc (asked))
 such {A} ranges desks (e ∷ h) legal i event asked answered within alone =
     elim (asked_before_or_last h e i event NoSuch asked answered) [
@@ -203,6 +158,21 @@ such {A} ranges desks (e ∷ h) legal i event asked answered within alone =
           (let fits : Fits ranges desks h e = legal.0 in
           fits.no_such last.2 (subst (λ (v : Event A). IsThere (length ranges) desks h v) (sym last.1)
           (there_of_actor (length ranges) desks h event alone within)))
+    ]
+
+-- and one that is not there is
+is_there : {A : Type 0} (ranges : List Range) (desks : ℕ) (h : History A) → IsLegal ranges desks h →
+    (i : ℕ) (event : Event A) (reply : Reply A) → slice_get (events_of h) i ≡ Some event →
+    slice_get (replies_of h) i ≡ Some reply → reply ≢ NoSuch →
+    IsActorThere (length ranges) desks (actor_of event)
+is_there ranges desks [] legal i event reply asked answered such = absurd (cc (asked))
+is_there {A} ranges desks (e ∷ h) legal i event reply asked answered such =
+    elim (asked_before_or_last h e i event reply asked answered) [
+      | inl before ↦ is_there ranges desks h legal.1 i event reply before.1 before.2 such
+      | inr last ↦
+          (let fits : Fits ranges desks h e = legal.0 in
+          subst (λ (v : Event A). IsActorThere (length ranges) desks (actor_of v)) last.1
+          (actor_of_there (length ranges) desks h e.event (fits.there (λ none. such (sym last.2 ∙ none)))))
     ]
 
 -- ---- who is down, and who failed
@@ -367,11 +337,11 @@ fails_each {A} ranges desks (e ∷ h) legal i event reply asked answered failed 
     ]
 
 pub are_replies : {A : Type 0} (ranges : List Range) (desks : ℕ) (h : History A) → IsLegal ranges desks h →
-    AreReplies (events_of h) (replies_of h)
+    AreReplies (length ranges) desks (events_of h) (replies_of h)
 are_replies ranges desks h legal = record {
   each = reply_each ranges desks h legal;
-  no_such = λ i event asked answered there.
-      such ranges desks h legal i event asked answered (actor_within ranges desks h (actor_of event) legal there);
+  no_such = such ranges desks h legal;
+  there = is_there ranges desks h legal;
   down = down_each ranges desks h legal;
   failed = failed_each ranges desks h legal;
   fails = fails_each ranges desks h legal;

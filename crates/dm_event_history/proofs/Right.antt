@@ -1,8 +1,10 @@
 -- A run of two stopped prints that is faithful.
 use Rattle.std.proofs.Common.{◌≡◌, ◌<◌, ◌≤◌, ℕ, zero, suc, Option, Some, None, List, [], ◌∷◌, length, map, slice_get, take, refl, ap, sym, ◌∙◌, subst, arith, inr}
 use Rattle.std.specs.Prelude.{◌≢◌, ◌↔◌, true, false}
+use Rattle.dm_check_blocks.specs.declared.size.Size.{Size}
 use Rattle.dm_check_blocks.specs.declared.size.Size.TheVariants.{Side12}
 use Rattle.dm_check_blocks.specs.Sizes.{row}
+use Rattle.dm_encodation.specs.declared.scheme.Scheme.{Scheme}
 use Rattle.dm_encodation.specs.declared.scheme.Scheme.TheVariants.{Ascii}
 use Rattle.dm_encodation.specs.Written.{IsGreatestPrefix, need_of}
 use Rattle.dm_encodation.specs.Written as written
@@ -12,18 +14,19 @@ use Rattle.dm_assembly_desk.specs.declared.fault.AskFault.TheVariants.{Incomplet
 use Rattle.dm_assembly_desk.specs.declared.fault.ImportFault.{ImportFault}
 use Rattle.dm_assembly_desk.specs.declared.reply.Accepted.{Accepted}
 use Rattle.dm_event_history.specs.declared.event.Event.{Event}
-use Rattle.dm_event_history.specs.declared.event.Event.TheVariants.{Scan, Ask}
+use Rattle.dm_event_history.specs.declared.event.Event.TheVariants.{Print, Scan, Ask}
 use Rattle.dm_event_history.specs.declared.reply.Reply.{Reply}
 use Rattle.dm_event_history.specs.declared.reply.Reply.TheVariants.{Printed, Scanned, Document, AskRefused, Forgotten, Exported, ImportRefused, Stopped, Down, NoSuch}
 use Rattle.dm_event_history.specs.declared.stop.Stop.{Stop}
 use Rattle.dm_event_history.specs.declared.stop.Stop.TheVariants as stops
 use Rattle.dm_event_history.specs.History.{CutDocument}
 use Rattle.dm_event_history.specs.Running.{TellsFailed}
-use Rattle.dm_event_history.specs.Replying.{IsReplyTo, is_down_before, has_failed_before}
-use Rattle.dm_event_history.specs.Actors.{actor_of}
+use Rattle.dm_event_history.specs.Replying.{IsReplyTo, IsActorThere, is_down_before, has_failed_before}
+use Rattle.dm_event_history.specs.Counts.{HasNumber}
+use Rattle.dm_event_history.specs.Actors.{PrinterAt, actor_of}
 use Rattle.dm_event_history.specs.Legal.{NeedsRunning}
 use Rattle.dm_event_history.proofs.Deciding.{true_false}
-use Rattle.dm_event_history.specs.Worked.{digits}
+use Rattle.dm_event_history.specs.Worked.{digits, two_ranges}
 use Rattle.dm_event_history.specs.Headline.{Batch, LeftBy, labels_of, AllLeft, IsScanOf, MayHaveSaved, WasScanned, WasPrinted}
 use Rattle.dm_event_history.specs.Unfaithful.{IsFaithfulRun, other_digits, page, print, scan, right_document}
 
@@ -44,7 +47,7 @@ last_fit : IsGreatestPrefix Ascii 1 (50 ∷ 49 ∷ []) 2
 unfolding need_of written.text written.ascii
 last_fit = record { within = omega arith; fits = omega arith; greatest = λ j within fits. within }
 
-are_parts : AreParts Side12 Ascii other_digits ((52 ∷ 51 ∷ []) ∷ (50 ∷ 49 ∷ []) ∷ [])
+pub are_parts : AreParts Side12 Ascii other_digits ((52 ∷ 51 ∷ []) ∷ (50 ∷ 49 ∷ []) ∷ [])
 unfolding row
 are_parts = record {
   ends = 2 ∷ 4 ∷ [];
@@ -68,6 +71,7 @@ right_document_is A = (
       replied = record {
         each = each_replied;
         no_such = λ i event asked answered there alone. absurd (none_missing i answered);
+        there = λ i event reply asked answered such. all_there i event asked;
         down = λ i event reply asked answered is_such. none_down i event reply asked answered;
         failed = λ i event reply asked answered tells. absurd (none_failed i event reply asked answered tells);
         fails = λ i event reply asked answered failed. absurd (none_fails i event reply asked answered failed);
@@ -75,6 +79,7 @@ right_document_is A = (
       told = none_told;
       printed = one_printed;
       unfailed = one_unfailed;
+      let_out = one_let_out;
       once = one;
       there = are_there;
       not_there = λ i desk label flips stop asked answered there small. absurd (none_missing i answered);
@@ -117,6 +122,47 @@ right_document_is A = (
       ends = inr (record { most = 2; stopped_so = refl; reply = refl; some = refl });
       not_none = omega arith;
     }
+
+    all_there : (i : ℕ) (event : Event A) → slice_get events i ≡ Some event → IsActorThere 2 2 (actor_of event)
+    all_there zero event is =
+        let e : print {A = A} 0 digits (stops.AfterLabels 0) ≡ event = cc (is) in
+        let below : 0 < 2 = omega arith in subst (λ (v : Event A). IsActorThere 2 2 (actor_of v)) e below
+    all_there (suc zero) event is =
+        let e : print {A = A} 1 other_digits (stops.AfterLabels 2) ≡ event = cc (is) in
+        let below : 1 < 2 = omega arith in subst (λ (v : Event A). IsActorThere 2 2 (actor_of v)) e below
+    all_there (suc (suc zero)) event is =
+        let e : scan {A = A} 0 ≡ event = cc (is) in
+        let below : 0 < 2 = omega arith in subst (λ (v : Event A). IsActorThere 2 2 (actor_of v)) e below
+    all_there (suc (suc (suc zero))) event is =
+        let e : scan {A = A} 1 ≡ event = cc (is) in
+        let below : 0 < 2 = omega arith in subst (λ (v : Event A). IsActorThere 2 2 (actor_of v)) e below
+    all_there (suc (suc (suc (suc zero)))) event is =
+        let e : Ask 0 10 ≡ event = cc (is) in
+        let below : 0 < 2 = omega arith in subst (λ (v : Event A). IsActorThere 2 2 (actor_of v)) e below
+    all_there (suc (suc (suc (suc (suc i))))) event is = absurd (cc (is))
+
+    -- only the second print was to be stopped after a label or more
+    one_let_out : (i printer : ℕ) (document : List ℕ) (size : Size) (scheme : Scheme) (most : ℕ)
+        (parts : List (List ℕ)) →
+        slice_get events i ≡ Some (Print printer document size scheme (stops.AfterLabels most)) → 1 ≤ most →
+        slice_get replies i ≡ Some Stopped → AreParts size scheme document parts →
+        has_failed_before events replies i (PrinterAt printer) ≡ false →
+        HasNumber two_ranges (take i events) (take i replies) printer →
+        (one : Batch) × (slice_get batches i ≡ Some (Some one))
+    one_let_out zero printer document size scheme most parts asked some answered are unfailed has =
+        let e : Some (print {A = A} 0 digits (stops.AfterLabels 0))
+        ≡ Some (Print printer document size scheme (stops.AfterLabels most)) = asked in
+        let same : stops.AfterLabels 0 ≡ stops.AfterLabels most = cc (e) in
+        let none : 0 ≡ most = cc (same) in absurd (omega arith)
+    one_let_out (suc zero) printer document size scheme most parts asked some answered are unfailed has = (batch, refl)
+    one_let_out (suc (suc zero)) printer document size scheme most parts asked some answered are unfailed has =
+        absurd (cc (asked))
+    one_let_out (suc (suc (suc zero))) printer document size scheme most parts asked some answered are unfailed has =
+        absurd (cc (asked))
+    one_let_out (suc (suc (suc (suc zero)))) printer document size scheme most parts asked some answered are unfailed
+        has = absurd (cc (asked))
+    one_let_out (suc (suc (suc (suc (suc i))))) printer document size scheme most parts asked some answered are
+        unfailed has = absurd (cc (asked))
 
     none_told : (i id first count : ℕ) → slice_get replies i ≡ Some (Printed id first count) →
         AllLeft batches i id first count

@@ -19,7 +19,7 @@ use Rattle.dm_event_history.specs.Actors.{PrinterAt, actor_of}
 use Rattle.dm_event_history.specs.Numbers.{last_serial}
 use Rattle.dm_event_history.proofs.Deciding.{and_so, if_so, true_false}
 use Rattle.dm_event_history.proofs.WhoActs.{same_so}
-use Rattle.dm_event_history.proofs.Replied.{actor_within, asked_before_or_last}
+use Rattle.dm_event_history.proofs.Replied.{asked_before_or_last}
 use Rattle.dm_event_history.proofs.Gotten.{get_more, get_beyond}
 use Rattle.dm_event_history.proofs.TakenTickets.{WasTaken, taken_more, taken_once, not_taken}
 use Rattle.dm_event_history.proofs.NumberedTickets.{tickets_are, next_ticket, ticket_numbered, ticket_there, ticket_not_there}
@@ -171,8 +171,9 @@ old_was_taken {A} ranges desks (e ∷ h) i printer ticket stop legal asked answe
 
 -- ---- histories
 
-takes_first : {A : Type 0} → (let none : History A = [] in TakesOnce (events_of none) (replies_of none))
-takes_first {A} = record {
+takes_first : {A : Type 0} (printers : ℕ) →
+    (let none : History A = [] in TakesOnce printers (events_of none) (replies_of none))
+takes_first {A} printers = record {
   numbered = λ i j ticket one other a b. absurd (cc (a));
   given_rising = λ i j ticket number one other a b giver order. absurd (cc (a));
   serials = λ i j ticket number one other a b giver serial. absurd (cc (a));
@@ -189,7 +190,8 @@ takes_first {A} = record {
 
 takes_next : {A : Type 0} (ranges : List Range) (desks : ℕ) (h : History A) (e : Entry A) → Fits ranges desks h e →
     IsLegal ranges desks h →
-    TakesOnce (events_of h) (replies_of h) → TakesOnce (events_of (e ∷ h)) (replies_of (e ∷ h))
+    TakesOnce (length ranges) (events_of h) (replies_of h) →
+    TakesOnce (length ranges) (events_of (e ∷ h)) (replies_of (e ∷ h))
 takes_next {A} ranges desks h e fits legal f = record {
   numbered = number;
   given_rising = λ i j ticket number one other a b giver order.
@@ -220,8 +222,7 @@ takes_next {A} ranges desks h e fits legal f = record {
   there = λ i printer ticket stop reply asked answered is_such.
       ticket_there ranges desks (e ∷ h) i printer ticket stop reply both asked answered is_such;
   not_there = λ i printer ticket stop asked answered printer_there.
-      ticket_not_there ranges desks (e ∷ h) i printer ticket stop both
-      (actor_within ranges desks (e ∷ h) (PrinterAt printer) both printer_there) asked answered;
+      ticket_not_there ranges desks (e ∷ h) i printer ticket stop both printer_there asked answered;
   given = λ i printer ticket t. elim (taken_either h e i printer ticket t) [
     | inl before ↦
         (let below = get_beyond (events_of h) i (Take printer ticket before.stop) before.event in
@@ -334,6 +335,6 @@ takes_next {A} ranges desks h e fits legal f = record {
     ]
 
 pub takes_once : {A : Type 0} (ranges : List Range) (desks : ℕ) (h : History A) → IsLegal ranges desks h →
-    TakesOnce (events_of h) (replies_of h)
-takes_once ranges desks [] legal = takes_first
+    TakesOnce (length ranges) (events_of h) (replies_of h)
+takes_once ranges desks [] legal = takes_first (length ranges)
 takes_once ranges desks (e ∷ h) legal = takes_next ranges desks h e legal.0 legal.1 (takes_once ranges desks h legal.1)

@@ -1,7 +1,10 @@
 -- The headline, said of the events and the replies of a run alone, both from the first on: whatever document any desk
 -- gives for an identification is the one document printed under it, and no identification is ever printed twice.
 use Rattle.std.specs.Prelude.{◌≡◌, ◌≢◌, ◌<◌, ◌≤◌, ◌⊎◌, ℕ, Option, None, Some, List, [], ◌∷◌, ◌++◌, length, slice_get, take, min, All, true, false}
+use Rattle.dm_check_blocks.specs.declared.size.Size.{Size}
+use Rattle.dm_encodation.specs.declared.scheme.Scheme.{Scheme}
 use Rattle.dm_append_label.specs.Parts.{AreParts}
+use Rattle.dm_print_ledger.specs.declared.range.Range.{Range}
 use Rattle.dm_assembly_desk.specs.declared.fault.AskFault.TheVariants.{Incomplete}
 use Rattle.dm_assembly_desk.specs.declared.fault.ImportFault.{ImportFault}
 use Rattle.dm_assembly_desk.specs.declared.fault.ImportFault.TheVariants as import_fault
@@ -13,10 +16,11 @@ use Rattle.dm_event_history.specs.declared.reply.Reply.{Reply}
 use Rattle.dm_event_history.specs.declared.reply.Reply.TheVariants.{Printed, Scanned, Document, AskRefused, Forgotten, Exported, ImportRefused, Stopped, NoSuch}
 use Rattle.dm_event_history.specs.declared.stop.Stop.{Stop}
 use Rattle.dm_event_history.specs.declared.stop.Stop.TheVariants as stops
-use Rattle.dm_event_history.specs.Actors.{DeskAt, actor_of}
+use Rattle.dm_event_history.specs.Actors.{PrinterAt, actor_of}
 use Rattle.dm_event_history.specs.History.{CutDocument, LabelName, names_from}
 use Rattle.dm_event_history.specs.Saving.{may_save}
-use Rattle.dm_event_history.specs.Replying.{IsActorThere, has_failed_before, AreReplies}
+use Rattle.dm_event_history.specs.Replying.{has_failed_before, AreReplies}
+use Rattle.dm_event_history.specs.Counts.{HasNumber}
 
 -- ---- the labels that left
 
@@ -74,14 +78,15 @@ pub record AllLeft (batches : List (Option Batch)) (i id first count : ℕ) : Ty
   pub all : batch.left ≡ count
   pub first_is : first ≡ length (labels_of (take i batches))
 
--- Each event has a reply, and its batch in `batches`, if labels left by it. No identification comes twice.
-pub record PrintsOnceBy {A : Type 0} (batches : List (Option Batch)) (events : List (Event A))
-    (replies : List (Reply A))
+-- Each event has a reply, and its batch in `batches`, if labels left by it. No identification comes twice. The printers
+-- began with these ranges, and there are that many desks.
+pub record PrintsOnceBy {A : Type 0} (ranges : List Range) (desks : ℕ) (batches : List (Option Batch))
+    (events : List (Event A)) (replies : List (Reply A))
     : Type 0 where
   pub each_reply : length replies ≡ length events
   pub each_batch : length batches ≡ length events
   -- each reply is one to its event
-  pub replied : AreReplies events replies
+  pub replied : AreReplies (length ranges) desks events replies
   -- what a reply says was printed was printed
   pub told : (i id first count : ℕ) → slice_get replies i ≡ Some (Printed id first count) →
       AllLeft batches i id first count
@@ -90,6 +95,15 @@ pub record PrintsOnceBy {A : Type 0} (batches : List (Option Batch)) (events : L
   -- none left by a printer that had answered `Save`, and was not restarted since
   pub unfailed : (i : ℕ) (batch : Batch) (event : Event A) → slice_get batches i ≡ Some (Some batch) →
       slice_get events i ≡ Some event → has_failed_before events replies i (actor_of event) ≡ false
+  -- one left by a print that was stopped after a label or more, if its document can be cut, and its printer had not
+  -- failed and had an identification left
+  pub let_out : (i printer : ℕ) (document : List ℕ) (size : Size) (scheme : Scheme) (most : ℕ)
+      (parts : List (List ℕ)) →
+      slice_get events i ≡ Some (Print printer document size scheme (stops.AfterLabels most)) → 1 ≤ most →
+      slice_get replies i ≡ Some Stopped → AreParts size scheme document parts →
+      has_failed_before events replies i (PrinterAt printer) ≡ false →
+      HasNumber ranges (take i events) (take i replies) printer →
+      (batch : Batch) × (slice_get batches i ≡ Some (Some batch))
   -- no identification is ever printed twice
   pub once : (i j : ℕ) (one other : Batch) → slice_get batches i ≡ Some (Some one) →
       slice_get batches j ≡ Some (Some other) → one.id ≡ other.id → i ≡ j
@@ -100,12 +114,13 @@ pub record PrintsOnceBy {A : Type 0} (batches : List (Option Batch)) (events : L
   -- one that is not there, although the desk is, and the modules are in each grid, as the least has side 10, had not
   pub not_there : (i desk label : ℕ) (flips : List (ℕ × ℕ)) (stop : Stop) →
       slice_get events i ≡ Some (Scan desk label flips stop) → slice_get replies i ≡ Some NoSuch →
-      IsActorThere events replies (DeskAt desk) → All (λ flip. (flip.0 < 10) × (flip.1 < 10)) flips →
+      desk < desks → All (λ flip. (flip.0 < 10) × (flip.1 < 10)) flips →
       length (labels_of (take i batches)) ≤ label
 
 -- no identification is ever printed twice
-abbrev pub PrintsOnce : {A : Type 0} → List (Event A) → List (Reply A) → Type 0
-PrintsOnce events replies = (batches : List (Option Batch)) × PrintsOnceBy batches events replies
+abbrev pub PrintsOnce : {A : Type 0} → List Range → ℕ → List (Event A) → List (Reply A) → Type 0
+PrintsOnce ranges desks events replies =
+    (batches : List (Option Batch)) × PrintsOnceBy ranges desks batches events replies
 
 -- ---- what desks tell
 
@@ -172,10 +187,10 @@ IsOfDesk import_fault.Conflict = ⊥
 IsOfDesk other = Unit {0}
 
 -- what desks tell of labels, documents and pages is as they were printed and scanned
-pub record IsFaithfulBy {A : Type 0} (batches : List (Option Batch)) (events : List (Event A))
-    (replies : List (Reply A))
+pub record IsFaithfulBy {A : Type 0} (ranges : List Range) (desks : ℕ) (batches : List (Option Batch))
+    (events : List (Event A)) (replies : List (Reply A))
     : Type 0 where
-  pub prints : PrintsOnceBy batches events replies
+  pub prints : PrintsOnceBy ranges desks batches events replies
   -- the page that a desk tells of a scanned label is that of the label, which had left
   pub scanned : (i : ℕ) (accepted : Accepted) → slice_get replies i ≡ Some (Scanned accepted) →
       IsScanOf batches events i (record { id = accepted.id; number = accepted.m; count = accepted.n })
@@ -200,5 +215,6 @@ pub record IsFaithfulBy {A : Type 0} (batches : List (Option Batch)) (events : L
   pub not_imported : (i : ℕ) (fault : ImportFault) → slice_get replies i ≡ Some (ImportRefused fault) → IsOfDesk fault
 
 -- the headline
-abbrev pub IsFaithful : {A : Type 0} → List (Event A) → List (Reply A) → Type 0
-IsFaithful events replies = (batches : List (Option Batch)) × IsFaithfulBy batches events replies
+abbrev pub IsFaithful : {A : Type 0} → List Range → ℕ → List (Event A) → List (Reply A) → Type 0
+IsFaithful ranges desks events replies =
+    (batches : List (Option Batch)) × IsFaithfulBy ranges desks batches events replies

@@ -8,9 +8,7 @@ use Rattle.dm_event_history.specs.declared.event.Event.TheVariants.{Import}
 use Rattle.dm_event_history.specs.declared.reply.Reply.{Reply}
 use Rattle.dm_event_history.specs.declared.reply.Reply.TheVariants.{Exported, Imported, NoSuch}
 use Rattle.dm_event_history.specs.declared.stop.Stop.{Stop}
-use Rattle.dm_event_history.specs.Actors.{DeskAt}
 use Rattle.dm_event_history.specs.History.{ExportName, exported}
-use Rattle.dm_event_history.specs.Replying.{IsActorThere}
 
 -- the exports that these replies tell, the first of them first
 abbrev pub exports_in : {A : Type 0} → List (Reply A) → List ExportName
@@ -27,8 +25,8 @@ pub record WasExported {A : Type 0} (replies : List (Reply A)) (i export : ℕ) 
   pub reply : slice_get replies j ≡ Some (Exported export imported.id imported.n mask)
   pub added : (m : ℕ) → HasPage imported.added m → HasPage mask m
 
--- desks import what was exported
-pub record ImportsExports {A : Type 0} (events : List (Event A)) (replies : List (Reply A)) : Type 0 where
+-- desks import what was exported; there are that many desks
+pub record ImportsExports {A : Type 0} (desks : ℕ) (events : List (Event A)) (replies : List (Reply A)) : Type 0 where
   -- an export is numbered by how many were answered before
   pub next : (i index id n mask : ℕ) → slice_get replies i ≡ Some (Exported index id n mask) →
       index ≡ length (exports_in (take i replies))
@@ -46,5 +44,5 @@ pub record ImportsExports {A : Type 0} (events : List (Event A)) (replies : List
       export < length (exports_in (take i replies))
   -- and one that is not there, although the desk is, was not
   pub not_there : (i desk export : ℕ) (stop : Stop) → slice_get events i ≡ Some (Import desk export stop) →
-      slice_get replies i ≡ Some NoSuch → IsActorThere events replies (DeskAt desk) →
+      slice_get replies i ≡ Some NoSuch → desk < desks →
       length (exports_in (take i replies)) ≤ export

@@ -1,5 +1,5 @@
 -- What follows from what a history is: laws of histories, which hold whatever printers and desks do otherwise.
-use Rattle.std.specs.Prelude.{◌≡◌, ℕ, true, false, None, List}
+use Rattle.std.specs.Prelude.{◌≡◌, ℕ, true, false, None, List, length}
 use Rattle.dm_finder_frame.specs.Grids.{GridView}
 use Rattle.dm_print_ledger.specs.declared.range.Range.{Range}
 use Rattle.dm_print_ledger.specs.Ranges.{is_in}
@@ -15,26 +15,26 @@ use Rattle.dm_event_history.specs.Tickets.{TakesOnce}
 use Rattle.dm_event_history.specs.Imports.{ImportsExports}
 
 -- so it is of each legal history of printers that begin with disjoint ranges
-abbrev pub InLegal : (A : Type 0) → (List Range → History A → Type 0) → Type 0
+abbrev pub InLegal : (A : Type 0) → (List Range → ℕ → History A → Type 0) → Type 0
 InLegal A Holds = (ranges : List Range) (desks : ℕ) (h : History A) →
-    AreDisjoint ranges → IsLegal ranges desks h → Holds ranges h
+    AreDisjoint ranges → IsLegal ranges desks h → Holds ranges desks h
 
 -- each number is in just one place
 abbrev pub EachNumberHasAPlace : Type 0 → Type 0
-EachNumberHasAPlace A = InLegal A (λ ranges h. ArePlaced ranges h)
+EachNumberHasAPlace A = InLegal A (λ ranges desks h. ArePlaced ranges h)
 
 -- a number that is free was not printed
 abbrev pub FreeIsFresh : Type 0 → Type 0
-FreeIsFresh A = InLegal A (λ ranges h.
+FreeIsFresh A = InLegal A (λ ranges desks h.
     (printer number : ℕ) → free_at ranges h printer number ≡ true → docs h number ≡ None)
 
 -- no identification is printed twice, and no ticket is taken twice
 abbrev pub NothingTwice : Type 0 → Type 0
-NothingTwice A = InLegal A (λ ranges h. NeverTwice h × IsNoTicketTakenTwice h)
+NothingTwice A = InLegal A (λ ranges desks h. NeverTwice h × IsNoTicketTakenTwice h)
 
 -- of a ticket that a printer may take no number is free anywhere
 abbrev pub TicketsAreElsewhere : Type 0 → Type 0
-TicketsAreElsewhere A = InLegal A (λ ranges h.
+TicketsAreElsewhere A = InLegal A (λ ranges desks h.
     (printer k : ℕ) (may : MayBeTaken h printer k) (number : ℕ) → is_in may.ticket.range number ≡ true →
     (other : ℕ) → free_at ranges h other number ≡ false)
 
@@ -45,25 +45,25 @@ SurelyIsPossibly A = (h : History A) → IsSafe h →
 
 -- no label leaves twice, of whichever print
 abbrev pub NoLabelTwice : Type 0 → Type 0
-NoLabelTwice A = InLegal A (λ ranges h. IsNoLabelTwice (out h))
+NoLabelTwice A = InLegal A (λ ranges desks h. IsNoLabelTwice (out h))
 
 -- each label that left has an identification that a printer began with
 abbrev pub LabelsAreOpened : Type 0 → Type 0
-LabelsAreOpened A = InLegal A (λ ranges h. AreOpened ranges (out h))
+LabelsAreOpened A = InLegal A (λ ranges desks h. AreOpened ranges (out h))
 
 -- no identification is printed twice, said of the events and replies alone
 abbrev pub LegalPrintsOnce : Type 0 → Type 0
-LegalPrintsOnce A = InLegal A (λ ranges h. PrintsOnce (events_of h) (replies_of h))
+LegalPrintsOnce A = InLegal A (λ ranges desks h. PrintsOnce ranges desks (events_of h) (replies_of h))
 
 -- no ticket is taken twice, said of the events and replies alone
 abbrev pub LegalTakesOnce : Type 0 → Type 0
-LegalTakesOnce A = InLegal A (λ ranges h. TakesOnce (events_of h) (replies_of h))
+LegalTakesOnce A = InLegal A (λ ranges desks h. TakesOnce (length ranges) (events_of h) (replies_of h))
 
 -- what is imported was exported, said of the events and replies alone
 abbrev pub LegalImportsExports : Type 0 → Type 0
-LegalImportsExports A = InLegal A (λ ranges h. ImportsExports (events_of h) (replies_of h))
+LegalImportsExports A = InLegal A (λ ranges desks h. ImportsExports desks (events_of h) (replies_of h))
 
 -- the headline: legal and safe histories, in which what is fair is refused as in an honest one, are faithful
 abbrev pub LegalAndSafeIsFaithful : Type 0 → Type 0
-LegalAndSafeIsFaithful A = InLegal A (λ ranges h. (grids : List GridView) (capacities : List ℕ) →
-    IsSafe h → AreHonestReplies grids capacities h → IsFaithful (events_of h) (replies_of h))
+LegalAndSafeIsFaithful A = InLegal A (λ ranges desks h. (grids : List GridView) (capacities : List ℕ) →
+    IsSafe h → AreHonestReplies grids capacities h → IsFaithful ranges desks (events_of h) (replies_of h))

@@ -123,6 +123,15 @@ IsPrintRefused ranges before printer cut stop print_fault.Exhausted =
 IsPrintRefused ranges before printer cut stop print_fault.Memory = Unit {0}
 IsPrintRefused ranges before printer cut stop print_fault.Save = IsSaveFault stop
 
+-- A print is stopped. If that was after a label or more, one left, unless its printer had failed, its document can't be
+-- cut, or as many numbers may have gone as the printer began with and as came.
+abbrev pub IsPrintStopped : {A : Type 0} → List Range → History A → ℕ → CutDocument → Stop → ℕ → Type 0
+IsPrintStopped ranges before printer cut (stops.AfterLabels most) left =
+    1 ≤ most → (parts : List (List ℕ)) → AreParts cut.size cut.scheme cut.bytes parts →
+    is_failed before (PrinterAt printer) ≡ false →
+    gone before printer < opening_count ranges printer + came before printer → 1 ≤ left
+IsPrintStopped ranges before printer cut stop left = Unit {0}
+
 -- the ticket that the reply names is the printer's next, with the receiver and the range asked for
 pub record IsGiven {A : Type 0} (before : History A) (printer receiver : ℕ) (range : Range) (stop : Stop)
     (index : ℕ) (ticket : TicketView) : Type 0 where
@@ -192,7 +201,9 @@ IsReply ranges before id left (Print printer document size scheme stop) (Printed
 IsReply ranges before id left (Print printer document size scheme stop) (PrintRefused fault) =
     IsPrintRefused ranges before printer (record { bytes = document; size = size; scheme = scheme; parts = [] }) stop
     fault
-IsReply ranges before id left (Print printer document size scheme stop) Stopped = Unit {0}
+IsReply ranges before id left (Print printer document size scheme stop) Stopped =
+    IsPrintStopped ranges before printer (record { bytes = document; size = size; scheme = scheme; parts = [] }) stop
+    left
 IsReply ranges before id left (Scan desk label flips stop) (Scanned accepted) =
     accepted.kind ≢ Again → stop ≡ stops.None
 IsReply ranges before id left (Scan desk label flips stop) (ScanRefused fault) = IsScanRefused before desk stop fault

@@ -9,6 +9,7 @@ pub mod Holding
 pub mod Legal
 pub mod Honest
 pub mod Safe
+pub mod Counts
 pub mod Replying
 pub mod Headline
 pub mod Tickets

@@ -1,5 +1,5 @@
 -- Which replies events may have, said of events and replies alone.
-use Rattle.std.specs.Prelude.{◌≡◌, ◌≢◌, ◌≤◌, ◌↔◌, ℕ, Bool, true, false, if◌then◌else◌, Some, List, ◌∷◌, slice_get, take}
+use Rattle.std.specs.Prelude.{◌≡◌, ◌≢◌, ◌<◌, ◌↔◌, ℕ, Bool, true, false, if◌then◌else◌, Some, List, ◌∷◌, slice_get, take}
 use Rattle.dm_print_ledger.specs.declared.fault.PrintFault.TheVariants as print_fault
 use Rattle.dm_print_ledger.specs.declared.fault.GiveFault.TheVariants as give_fault
 use Rattle.dm_print_ledger.specs.declared.fault.TakeFault.TheVariants as take_fault
@@ -63,24 +63,10 @@ pub record IsReplyTo {A : Type 0} (event : Event A) (reply : Reply A) : Type 0 w
 
 -- ---- what is there
 
--- a reply other than `NoSuch` to an event at a printer, or at a desk, shows that it is there, and so is each of a
--- lower number
-pub record IsShown {A : Type 0} (events : List (Event A)) (replies : List (Reply A)) (actor_at : ℕ → Actor)
-    (number : ℕ) : Type 0 where
-  pub i : ℕ
-  pub event : Event A
-  pub asked : slice_get events i ≡ Some event
-  pub at : ℕ
-  pub of_actor : actor_of event ≡ actor_at at
-  pub not_above : number ≤ at
-  pub reply : Reply A
-  pub answered : slice_get replies i ≡ Some reply
-  pub is_such : reply ≢ NoSuch
-
--- a reply shows that this printer or desk is there
-abbrev pub IsActorThere : {A : Type 0} → List (Event A) → List (Reply A) → Actor → Type 0
-IsActorThere events replies (PrinterAt printer) = IsShown events replies PrinterAt printer
-IsActorThere events replies (DeskAt desk) = IsShown events replies DeskAt desk
+-- the printer or the desk is one of that many
+abbrev pub IsActorThere : ℕ → ℕ → Actor → Type 0
+IsActorThere printers desks (PrinterAt printer) = printer < printers
+IsActorThere printers desks (DeskAt desk) = desk < desks
 
 -- the event names a printer or a desk, and no label, ticket or export
 abbrev pub NamesNoMore : {A : Type 0} → Event A → Type 0
@@ -108,13 +94,17 @@ has_failed_before events replies i actor = goes_on failed_after (take i events) 
 
 -- ---- all events
 
--- each reply is one to its event
-pub record AreReplies {A : Type 0} (events : List (Event A)) (replies : List (Reply A)) : Type 0 where
+-- each reply is one to its event, of that many printers and desks
+pub record AreReplies {A : Type 0} (printers desks : ℕ) (events : List (Event A)) (replies : List (Reply A))
+    : Type 0 where
   pub each : (i : ℕ) (event : Event A) (reply : Reply A) → slice_get events i ≡ Some event →
       slice_get replies i ≡ Some reply → IsReplyTo event reply
   -- a printer or a desk that is there is not told as missing
   pub no_such : (i : ℕ) (event : Event A) → slice_get events i ≡ Some event → slice_get replies i ≡ Some NoSuch →
-      IsActorThere events replies (actor_of event) → ¬ NamesNoMore event
+      IsActorThere printers desks (actor_of event) → ¬ NamesNoMore event
+  -- and one that is not there is
+  pub there : (i : ℕ) (event : Event A) (reply : Reply A) → slice_get events i ≡ Some event →
+      slice_get replies i ≡ Some reply → reply ≢ NoSuch → IsActorThere printers desks (actor_of event)
   -- what is down, and there, answers nothing but `Down`, unless it is restarted, and nothing else answers that
   pub down : (i : ℕ) (event : Event A) (reply : Reply A) → slice_get events i ≡ Some event →
       slice_get replies i ≡ Some reply → reply ≢ NoSuch →

@@ -11,7 +11,7 @@ use Rattle.dm_event_history.specs.declared.stop.Stop.{Stop}
 use Rattle.dm_event_history.specs.Actors.{PrinterAt}
 use Rattle.dm_event_history.specs.History.{given}
 use Rattle.dm_event_history.specs.Saving.{may_save}
-use Rattle.dm_event_history.specs.Replying.{IsActorThere, has_failed_before}
+use Rattle.dm_event_history.specs.Replying.{has_failed_before}
 
 -- the tickets that these replies tell, the first of them first
 abbrev pub tickets_in : {A : Type 0} → List (Reply A) → List TicketView
@@ -58,8 +58,8 @@ pub record WasReached {A : Type 0} (events : List (Event A)) (replies : List (Re
   pub giver_is : taken.giver ≡ ticket.giver
   pub reached : ticket.serial ≤ taken.serial
 
--- tickets are taken once, by the printers to which they were given
-pub record TakesOnce {A : Type 0} (events : List (Event A)) (replies : List (Reply A)) : Type 0 where
+-- tickets are taken once, by the printers to which they were given; there are that many printers
+pub record TakesOnce {A : Type 0} (printers : ℕ) (events : List (Event A)) (replies : List (Reply A)) : Type 0 where
   -- a ticket is numbered by how many were given before
   pub next : (i index : ℕ) (ticket : TicketView) → slice_get replies i ≡ Some (Given index ticket) →
       index ≡ length (tickets_in (take i replies))
@@ -96,7 +96,7 @@ pub record TakesOnce {A : Type 0} (events : List (Event A)) (replies : List (Rep
       ticket < length (tickets_in (take i replies))
   -- and one that is not there, although the printer is, was not
   pub not_there : (i printer ticket : ℕ) (stop : Stop) → slice_get events i ≡ Some (Take printer ticket stop) →
-      slice_get replies i ≡ Some NoSuch → IsActorThere events replies (PrinterAt printer) →
+      slice_get replies i ≡ Some NoSuch → printer < printers →
       length (tickets_in (take i replies)) ≤ ticket
   -- no take is refused since a number of the ticket is free at the printer
   pub no_overlap : (i : ℕ) → slice_get replies i ≢ Some (TakeRefused Overlap)

@@ -1,6 +1,7 @@
 -- Runs that are not as they should be, each one step from a run that is: the definitions of the headline alone refuse
 -- them. Each would be allowed without the field that its comment names; if that field follows from others, without
--- these too. Documents of four digits are printed in labels of side 12.
+-- these too. There are two printers, which begin with 0 to 9 and with 10 to 19, and two desks. Documents of four digits
+-- are printed in labels of side 12.
 use Rattle.std.specs.Prelude.{◌≡◌, ℕ, Option, List, [], ◌∷◌, map}
 use Rattle.dm_check_blocks.specs.declared.size.Size.TheVariants.{Side12}
 use Rattle.dm_encodation.specs.declared.scheme.Scheme.TheVariants.{Ascii}
@@ -28,29 +29,29 @@ use Rattle.dm_event_history.specs.Headline.{Batch, labels_of, PrintsOnceBy, IsFa
 use Rattle.dm_event_history.specs.Replying.{AreReplies}
 use Rattle.dm_event_history.specs.Tickets.{TakesOnce}
 use Rattle.dm_event_history.specs.Imports.{ImportsExports}
-use Rattle.dm_event_history.specs.Worked.{digits, range, first_ticket}
+use Rattle.dm_event_history.specs.Worked.{digits, range, two_ranges, first_ticket}
 
 -- events, each with its reply
 abbrev pub Run : Type 0 → Type 0
 Run A = List (Event A × Reply A)
 
 abbrev pub IsFaithfulRun : {A : Type 0} → Run A → Type 0
-IsFaithfulRun run = IsFaithful (map (λ one. one.0) run) (map (λ one. one.1) run)
+IsFaithfulRun run = IsFaithful two_ranges 2 (map (λ one. one.0) run) (map (λ one. one.1) run)
 
 -- no identification is printed twice, where just these labels left, in this order
 abbrev pub PrintsOnceRun : {A : Type 0} → List LabelName → Run A → Type 0
 PrintsOnceRun labels run =
     (batches : List (Option Batch)) × (labels_of batches ≡ labels)
-    × PrintsOnceBy batches (map (λ one. one.0) run) (map (λ one. one.1) run)
+    × PrintsOnceBy two_ranges 2 batches (map (λ one. one.0) run) (map (λ one. one.1) run)
 
 abbrev pub AreRepliesRun : {A : Type 0} → Run A → Type 0
-AreRepliesRun run = AreReplies (map (λ one. one.0) run) (map (λ one. one.1) run)
+AreRepliesRun run = AreReplies 2 2 (map (λ one. one.0) run) (map (λ one. one.1) run)
 
 abbrev pub TakesOnceRun : {A : Type 0} → Run A → Type 0
-TakesOnceRun run = TakesOnce (map (λ one. one.0) run) (map (λ one. one.1) run)
+TakesOnceRun run = TakesOnce 2 (map (λ one. one.0) run) (map (λ one. one.1) run)
 
 abbrev pub ImportsExportsRun : {A : Type 0} → Run A → Type 0
-ImportsExportsRun run = ImportsExports (map (λ one. one.0) run) (map (λ one. one.1) run)
+ImportsExportsRun run = ImportsExports 2 (map (λ one. one.0) run) (map (λ one. one.1) run)
 
 abbrev pub other_digits : List ℕ
 other_digits = 52 ∷ 51 ∷ 50 ∷ 49 ∷ []
@@ -122,26 +123,22 @@ two_documents A =
     (scan 1, Scanned (page 0 2 Complete)) ∷
     (Ask 0 0, Document digits) ∷ (Ask 0 0, Document other_digits) ∷ []
 
--- `not_there`: the first print let no label out, as label 0 was not there after it, at a desk below one that is there;
--- but its document is given for the labels of the second
-abbrev pub shown_not_left : (A : Type 0) → Run A
-shown_not_left A =
-    (print 0 digits (AfterLabels 2), Stopped) ∷
-    (Scan 0 0 ((0, 0) ∷ []) None, NoSuch) ∷
-    (print 1 other_digits (AfterLabels 2), Stopped) ∷
-    (Scan 1 0 [] None, Scanned (page 10 1 New)) ∷
-    (Scan 1 1 [] None, Scanned (page 10 2 Complete)) ∷
-    (Ask 1 10, Document digits) ∷ []
-
--- `there`: the first print let label 0 out, as it was there after it; but the document of the second is given for it
-abbrev pub shown_left : (A : Type 0) → Run A
-shown_left A =
-    (print 0 digits (AfterLabels 2), Stopped) ∷
-    (Scan 1 0 [] BeforeSave, Stopped) ∷
-    (print 1 other_digits (AfterLabels 2), Stopped) ∷
+-- `let_out`: of two stopped prints the first let its labels out, as its printer had identifications left; but the
+-- document of the second is given for them
+abbrev pub wrong_of_two : (A : Type 0) → Run A
+wrong_of_two A =
+    (print 0 other_digits (AfterLabels 2), Stopped) ∷
+    (print 1 digits (AfterLabels 2), Stopped) ∷
     (scan 0, Scanned (page 10 1 New)) ∷
     (scan 1, Scanned (page 10 2 Complete)) ∷
-    (Ask 0 10, Document other_digits) ∷ []
+    (Ask 0 10, Document digits) ∷ []
+
+-- `there` and `not_there`: a label is refused that had not left, and one is missing that had
+abbrev pub refused_unprinted : (A : Type 0) → Run A
+refused_unprinted A = (scan 0, Memory) ∷ []
+
+abbrev pub missing_label : (A : Type 0) → Run A
+missing_label A = (print 0 digits None, Printed 0 0 2) ∷ (Scan 1 0 ((0, 0) ∷ []) None, NoSuch) ∷ []
 
 -- `not_imported`: an export is refused at a desk that holds nothing, for this
 abbrev pub refused_import : (A : Type 0) → ImportFault → Run A
@@ -243,9 +240,12 @@ given_though_failed A =
     (print 0 digits (SaveFault kept.New), PrintRefused print_fault.Save) ∷
     (Give 0 1 (range 0 0) None, Given 0 (ticket 0 (range 0 0))) ∷ []
 
--- `no_such`: a printer is missing that is there
+-- `no_such` and `there`: a printer is missing that is there, and a desk answers that is not
 abbrev pub missing_printer : (A : Type 0) → Run A
-missing_printer A = (print 0 digits None, NoSuch) ∷ (RestartPrinter 1, Restarted) ∷ []
+missing_printer A = (print 1 digits None, NoSuch) ∷ []
+
+abbrev pub third_desk : (A : Type 0) → Run A
+third_desk A = (RestartDesk 2, Restarted) ∷ []
 
 -- ---- tickets
 
@@ -333,7 +333,7 @@ abbrev pub refused_ungiven : (A : Type 0) → Run A
 refused_ungiven A = (Take 1 0 None, Memory) ∷ []
 
 abbrev pub missing_ticket : (A : Type 0) → Run A
-missing_ticket A = give ∷ (Take 1 0 None, NoSuch) ∷ (RestartPrinter 1, Restarted) ∷ []
+missing_ticket A = give ∷ (Take 1 0 None, NoSuch) ∷ []
 
 -- ---- exports
 
@@ -379,8 +379,9 @@ pub record AreUnfaithful (A : Type 0) : Type 0 where
   pub import_of_a_version_is : ¬ IsFaithfulRun (refused_import A import_fault.Version)
   pub import_of_no_pages_is : ¬ IsFaithfulRun (refused_import A import_fault.NotPages)
   pub two_documents_is : ¬ IsFaithfulRun (two_documents A)
-  pub shown_not_left_is : ¬ IsFaithfulRun (shown_not_left A)
-  pub shown_left_is : ¬ IsFaithfulRun (shown_left A)
+  pub wrong_of_two_is : ¬ IsFaithfulRun (wrong_of_two A)
+  pub refused_unprinted_is : ¬ IsFaithfulRun (refused_unprinted A)
+  pub missing_label_is : ¬ IsFaithfulRun (missing_label A)
   pub begun_unscanned_is : ¬ IsFaithfulRun (begun_unscanned A)
   pub exported_unscanned_is : ¬ IsFaithfulRun (exported_unscanned A)
   pub printed_after_forgotten_is : ¬ IsFaithfulRun (printed_after_forgotten A)
@@ -400,6 +401,7 @@ pub record AreUnfaithful (A : Type 0) : Type 0 where
   pub failed_before_a_fault_is : ¬ AreRepliesRun (failed_before_a_fault A)
   pub given_though_failed_is : ¬ AreRepliesRun (given_though_failed A)
   pub missing_printer_is : ¬ AreRepliesRun (missing_printer A)
+  pub third_desk_is : ¬ AreRepliesRun (third_desk A)
   pub numbered_twice_is : ¬ TakesOnceRun (numbered_twice A)
   pub taken_twice_is : ¬ TakesOnceRun (taken_twice A)
   pub taken_elsewhere_is : ¬ TakesOnceRun (taken_elsewhere A)

@@ -1,8 +1,9 @@
 -- Each kind of answer to a print gives an entry that fits the history.
-use Rattle.std.proofs.Common.{◌≡◌, ◌≢◌, inl, inr, ◌<◌, ℕ, true, false, Result, Ok, Err, List, [], ◌∷◌, ◌++◌, length, map, take, min, refl, ap, sym, ◌∙◌, subst, arith}
+use Rattle.std.proofs.Common.{◌≡◌, ◌≢◌, inl, inr, ◌<◌, ◌≤◌, ◌+◌, ℕ, true, false, Result, Ok, Err, List, [], ◌∷◌, ◌++◌, length, map, take, min, refl, ap, sym, ◌∙◌, subst, arith}
 use Rattle.std.proofs.lemmas.List.{length-map, append-nil}
 use Rattle.dm_check_blocks.specs.declared.size.Size.{Size}
 use Rattle.dm_encodation.specs.declared.scheme.Scheme.{Scheme}
+use Rattle.dm_append_label.specs.Parts.{AreParts}
 use Rattle.dm_store.specs.declared.fuse.Kept.{Kept}
 use Rattle.dm_store.specs.declared.fuse.Kept.TheVariants.{Old, New}
 use Rattle.dm_store.specs.declared.mem_store.NextSave.TheVariants as next_save
@@ -22,7 +23,7 @@ use Rattle.dm_event_history.specs.Actors.{PrinterAt}
 use Rattle.dm_event_history.specs.History.{Entry, History, CutDocument, names_from, out, tickets}
 use Rattle.dm_event_history.specs.Running.{failed_after, is_failed, IsOfFailed}
 use Rattle.dm_event_history.specs.Saving.{may_save}
-use Rattle.dm_event_history.specs.Numbers.{free_at}
+use Rattle.dm_event_history.specs.Numbers.{free_at, opening_count, gone, came}
 use Rattle.dm_event_history.specs.Legal.{IsStopping, IsPrintRefused}
 use Rattle.dm_event_history.proofs.WhoActs.{is_down_same, is_failed_same}
 use Rattle.dm_event_steps.specs.declared.actor.PrinterActor.{PrinterActor}
@@ -298,7 +299,7 @@ some_goes {A} ranges desks h p document size scheme most view mid job actor old 
       event_is = refl;
       reply_is = refl;
       fits = record {
-        reply = tt;
+        reply = λ some parts are unfailed has. lets some;
         lets_out = inr (most, refl, left_is);
         parts = λ _. prints.2;
         no_such = λ x. cc;
@@ -362,6 +363,28 @@ some_goes {A} ranges desks h p document size scheme most view mid job actor old 
     left_is : length (take most job.labels) ≡ min most (length prints.1)
     left_is = length_take most job.labels ∙ ap (min most) (length-AreLabels _ _ _ _ _ prints.1 job.labels made.labels)
 
+    -- a document has a label at least
+    lets : 1 ≤ most → 1 ≤ length (take most job.labels)
+    lets some = (let least = made.least in let count : job.count ≡ length prints.1 = made.count_is in
+        let n = left_is in omega arith)
+
+-- a printer that has not failed and has a number left prints a document that can be cut, unless memory is refused
+can_print : {A : Type 0} (ranges : List Range) (h : History A) (p : ℕ) (document : List ℕ) (size : Size)
+    (scheme : Scheme) (view mid : PrinterView) (fault : PrintFault) → Runs ranges h p view →
+    (let answer : Result JobView PrintFault = Err fault in
+    (answer ≢ Err print_fault.Memory) × Prints (planned view next_save.Fine) size scheme document answer mid) →
+    (parts : List (List ℕ)) → AreParts size scheme document parts → is_failed h (PrinterAt p) ≡ false →
+    gone h p < opening_count ranges p + came h p → ⊥
+can_print ranges h p document size scheme view mid print_fault.Failed s acts parts are unfailed has =
+    (let failed : view.is_failed ≡ true = acts.1.0 in let same = s.failed in cc (failed, same, unfailed))
+can_print ranges h p document size scheme view mid print_fault.TooLong s acts parts are unfailed has =
+    acts.1.0.1 are.ends are.are_ends
+can_print ranges h p document size scheme view mid print_fault.Exhausted s acts parts are unfailed has =
+    (let b = (ledger_now ranges h p view s acts.1.0.0).bounded in let z = acts.1.0.2 in omega arith)
+can_print ranges h p document size scheme view mid print_fault.Memory s acts parts are unfailed has = acts.0 refl
+can_print ranges h p document size scheme view mid print_fault.Save s acts parts are unfailed has =
+    absurd acts.1.1.failed.replaced.follows
+
 -- a print that is stopped
 stop_goes : {A : Type 0} (ranges : List Range) (desks : ℕ) (h : History A) (p : ℕ) (document : List ℕ) (size : Size)
     (scheme : Scheme)
@@ -395,7 +418,8 @@ stop_goes {A} ranges desks h p document size scheme (AfterLabels most) view
     (Err fault) actor old new there s labels tickets acts =
     outcome_goes ranges desks h (Print p document size scheme (AfterLabels most)) p view
     (planned acts.0 next_save.Fine).saved actor old new refl there s tt
-    (λ id. (inl refl, tt)) acts.2 (labels ∙ append-nil old.labels) tickets
+    (λ id. (inl refl, λ some parts are unfailed has. absurd (can_print ranges h p document size scheme view acts.0 fault
+    s acts.1 parts are unfailed has))) acts.2 (labels ∙ append-nil old.labels) tickets
     (stopped_outcome ranges desks h p document size scheme (AfterLabels most) view acts.0 (Err fault) s refl acts.1.1)
 stop_goes ranges desks h p document size scheme stops.None view answer actor old new there s labels tickets acts =
     absurd acts

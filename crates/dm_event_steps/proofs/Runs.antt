@@ -266,8 +266,8 @@ its_batches {A} ranges capacities world h s = record {
 
 pub run_once : {A : Type 0} (ranges : List Range) (capacities : List ℕ) (old new : WorldView A)
     (events : List (Event A)) (replies : List (Reply A)) →
-    StandsFor ranges capacities old [] → Runs old events replies new → HasPrintedOnce new events replies ×
-    AreItsLabels ranges new
+    StandsFor ranges capacities old [] → Runs old events replies new →
+    HasPrintedOnce ranges (length capacities) new events replies × AreItsLabels ranges new
 run_once {A} ranges capacities old new events replies s runs =
     let none : History A = [] in
     let r : HasRun ranges capacities none events replies new =
@@ -277,8 +277,8 @@ run_once {A} ranges capacities old new events replies s runs =
       (
         batches_of r.after,
         its_batches ranges capacities new r.after r.stands,
-        subst (λ (l : List (Event A)). PrintsOnceBy (batches_of r.after) l replies) r.events_are
-            (subst (λ (l : List (Reply A)). PrintsOnceBy (batches_of r.after) (events_of r.after) l) r.replies_are
+        subst (λ (l : List (Event A)). PrintsOnceBy ranges (length capacities) (batches_of r.after) l replies) r.events_are
+            (subst (λ (l : List (Reply A)). PrintsOnceBy ranges (length capacities) (batches_of r.after) (events_of r.after) l) r.replies_are
             (prints_once ranges (length capacities) r.after legal never)),
       ),
       (
@@ -290,24 +290,24 @@ run_once {A} ranges capacities old new events replies s runs =
 
 pub run_takes : {A : Type 0} (ranges : List Range) (capacities : List ℕ) (old new : WorldView A)
     (events : List (Event A)) (replies : List (Reply A)) →
-    StandsFor ranges capacities old [] → Runs old events replies new → TakesOnce events replies
+    StandsFor ranges capacities old [] → Runs old events replies new → TakesOnce (length ranges) events replies
 run_takes {A} ranges capacities old new events replies s runs =
     let none : History A = [] in
     let r : HasRun ranges capacities none events replies new =
     runs_on ranges capacities none old new events replies s runs in
-    subst (λ (l : List (Event A)). TakesOnce l replies) r.events_are
-    (subst (λ (l : List (Reply A)). TakesOnce (events_of r.after) l) r.replies_are
+    subst (λ (l : List (Event A)). TakesOnce (length ranges) l replies) r.events_are
+    (subst (λ (l : List (Reply A)). TakesOnce (length ranges) (events_of r.after) l) r.replies_are
     (takes_once ranges (length capacities) r.after r.stands.legal))
 
 pub run_imports : {A : Type 0} (ranges : List Range) (capacities : List ℕ) (old new : WorldView A)
     (events : List (Event A)) (replies : List (Reply A)) →
-    StandsFor ranges capacities old [] → Runs old events replies new → ImportsExports events replies
+    StandsFor ranges capacities old [] → Runs old events replies new → ImportsExports (length capacities) events replies
 run_imports {A} ranges capacities old new events replies s runs =
     let none : History A = [] in
     let r : HasRun ranges capacities none events replies new =
     runs_on ranges capacities none old new events replies s runs in
-    subst (λ (l : List (Event A)). ImportsExports l replies) r.events_are
-    (subst (λ (l : List (Reply A)). ImportsExports (events_of r.after) l) r.replies_are
+    subst (λ (l : List (Event A)). ImportsExports (length capacities) l replies) r.events_are
+    (subst (λ (l : List (Reply A)). ImportsExports (length capacities) (events_of r.after) l) r.replies_are
     (imports_exports ranges (length capacities) r.after r.stands.legal))
 
 -- ---- runs that are fair at first
@@ -335,63 +335,64 @@ abbrev FirstMarked : {A : Type 0} → ℕ → History A → List Bool → Type 0
 FirstMarked k h marks = AreMarked (take k (events_of h)) (take k marks) (take k (replies_of h))
 
 -- as long as what may have saved is marked, the replies are faithful
-abbrev IsFaithfulWhile : {A : Type 0} → History A → List Bool → Type 0
-IsFaithfulWhile h marks = (k : ℕ) → FirstMarked k h marks →
-    IsFaithfulBy (take k (batches_of h)) (take k (events_of h)) (take k (replies_of h))
+abbrev IsFaithfulWhile : {A : Type 0} → List Range → ℕ → History A → List Bool → Type 0
+IsFaithfulWhile ranges desks h marks = (k : ℕ) → FirstMarked k h marks →
+    IsFaithfulBy ranges desks (take k (batches_of h)) (take k (events_of h)) (take k (replies_of h))
 
 -- and no scan that is marked is refused for a conflict
 abbrev NoConflictWhile : {A : Type 0} → History A → List Bool → Type 0
 NoConflictWhile h marks = (i : ℕ) → FirstMarked i h marks → slice_get marks i ≡ Some true →
     slice_get (replies_of h) i ≢ Some (ScanRefused Conflict)
 
-record IsMarked {A : Type 0} (world : WorldView A) (h : History A) (marks : List Bool) : Type 0 where
+record IsMarked {A : Type 0} (ranges : List Range) (desks : ℕ) (world : WorldView A) (h : History A)
+    (marks : List Bool) : Type 0 where
   pub count : length marks ≡ length h
   pub honest : AreMarked (events_of h) marks (replies_of h) → IsHonest (grids_of world) h
-  pub faithful : IsFaithfulWhile h marks
+  pub faithful : IsFaithfulWhile ranges desks h marks
   pub no_conflict : NoConflictWhile h marks
 
 -- an honest history is faithful
 whole_faithful : {A : Type 0} (ranges : List Range) (capacities : List ℕ) (world : WorldView A) (h : History A) →
     StandsFor ranges capacities world h → IsHonest (grids_of world) h →
-    IsFaithfulBy (batches_of h) (events_of h) (replies_of h)
+    IsFaithfulBy ranges (length capacities) (batches_of h) (events_of h) (replies_of h)
 whole_faithful ranges capacities world h s honest =
     is_faithful ranges (length capacities) h (grids_of world) capacities s.legal
     (never_twice ranges (length capacities) h s.disjoint s.legal) (s.safe honest) (s.answers honest)
 
 -- and so are the first entries of a history, all of it
-all_faithful : {A : Type 0} (h : History A) (k : ℕ) → length h ≤ k →
-    IsFaithfulBy (batches_of h) (events_of h) (replies_of h) →
-    IsFaithfulBy (take k (batches_of h)) (take k (events_of h)) (take k (replies_of h))
-all_faithful {A} h k all f =
+all_faithful : {A : Type 0} (ranges : List Range) (desks : ℕ) (h : History A) (k : ℕ) → length h ≤ k →
+    IsFaithfulBy ranges desks (batches_of h) (events_of h) (replies_of h) →
+    IsFaithfulBy ranges desks (take k (batches_of h)) (take k (events_of h)) (take k (replies_of h))
+all_faithful {A} ranges desks h k all f =
     let a = batches_count h in
     let b = events_count h in
     let c = replies_count h in
-    subst (λ (l : List (Option Batch)). IsFaithfulBy l (take k (events_of h)) (take k (replies_of h)))
+    subst (λ (l : List (Option Batch)). IsFaithfulBy ranges desks l (take k (events_of h)) (take k (replies_of h)))
     (sym (take_all k (batches_of h) (omega arith)))
-    (subst (λ (l : List (Event A)). IsFaithfulBy (batches_of h) l (take k (replies_of h)))
+    (subst (λ (l : List (Event A)). IsFaithfulBy ranges desks (batches_of h) l (take k (replies_of h)))
     (sym (take_all k (events_of h) (omega arith)))
-    (subst (λ (l : List (Reply A)). IsFaithfulBy (batches_of h) (events_of h) l)
+    (subst (λ (l : List (Reply A)). IsFaithfulBy ranges desks (batches_of h) (events_of h) l)
     (sym (take_all k (replies_of h) (omega arith))) f))
 
 -- the first entries are faithful among more
-first_faithful : {A : Type 0} (h : History A) (e : Entry A) (k : ℕ) → k ≤ length h →
-    IsFaithfulBy (take k (batches_of h)) (take k (events_of h)) (take k (replies_of h)) →
-    IsFaithfulBy (take k (batches_of (e ∷ h))) (take k (events_of (e ∷ h))) (take k (replies_of (e ∷ h)))
-first_faithful {A} h e k below f =
-    subst (λ (l : List (Option Batch)). IsFaithfulBy l (take k (events_of (e ∷ h))) (take k (replies_of (e ∷ h))))
+first_faithful : {A : Type 0} (ranges : List Range) (desks : ℕ) (h : History A) (e : Entry A) (k : ℕ) → k ≤ length h →
+    IsFaithfulBy ranges desks (take k (batches_of h)) (take k (events_of h)) (take k (replies_of h)) →
+    IsFaithfulBy ranges desks (take k (batches_of (e ∷ h))) (take k (events_of (e ∷ h))) (take k (replies_of (e ∷ h)))
+first_faithful {A} ranges desks h e k below f =
+    subst (λ (l : List (Option Batch)). IsFaithfulBy ranges desks l (take k (events_of (e ∷ h))) (take k (replies_of (e ∷ h))))
     (sym (take_first (batches_of h) (batch_of e ∷ []) (length h) k (batches_count h) below))
-    (subst (λ (l : List (Event A)). IsFaithfulBy (take k (batches_of h)) l (take k (replies_of (e ∷ h))))
+    (subst (λ (l : List (Event A)). IsFaithfulBy ranges desks (take k (batches_of h)) l (take k (replies_of (e ∷ h))))
     (sym (take_first (events_of h) (e.event ∷ []) (length h) k (events_count h) below))
-    (subst (λ (l : List (Reply A)). IsFaithfulBy (take k (batches_of h)) (take k (events_of h)) l)
+    (subst (λ (l : List (Reply A)). IsFaithfulBy ranges desks (take k (batches_of h)) (take k (events_of h)) l)
     (sym (take_first (replies_of h) (e.reply ∷ []) (length h) k (replies_count h) below)) f))
 
 no_marks : {A : Type 0} (ranges : List Range) (capacities : List ℕ) (world : WorldView A) →
-    StandsFor ranges capacities world [] → IsMarked world [] []
+    StandsFor ranges capacities world [] → IsMarked ranges (length capacities) world [] []
 no_marks {A} ranges capacities world s =
     let none : History A = [] in record {
       count = refl;
       honest = λ marked. tt;
-      faithful = λ k marked. all_faithful none k (omega arith) (whole_faithful ranges capacities world none s tt);
+      faithful = λ k marked. all_faithful ranges (length capacities) none k (omega arith) (whole_faithful ranges capacities world none s tt);
       no_conflict = λ i marked mark. absurd (cc (mark));
     }
 
@@ -421,19 +422,19 @@ all_marked {A} h marks k count all marked =
 -- one entry more
 marked_next : {A : Type 0} (ranges : List Range) (capacities : List ℕ) (old new : WorldView A) (h : History A)
     (event : Event A) (reply : Reply A) (marks : List Bool) (mark : Bool) →
-    (g : HasStepped ranges capacities h old new event reply) → IsMarked old h marks →
-    (mark ≡ true → IsFairIn old event) → IsMarked new (g.entry ∷ h) (marks ++ mark ∷ [])
+    (g : HasStepped ranges capacities h old new event reply) → IsMarked ranges (length capacities) old h marks →
+    (mark ≡ true → IsFairIn old event) → IsMarked ranges (length capacities) new (g.entry ∷ h) (marks ++ mark ∷ [])
 marked_next {A} ranges capacities old new h event reply marks mark g m fair = record {
   count = count;
   honest = honest;
   faithful = λ k marked. elim (decided (nat_le k (length h))) [
     | inl below ↦
         (let within : k ≤ length h = grind (arith, nat_tests, below) in
-        first_faithful h g.entry k within
+        first_faithful ranges (length capacities) h g.entry k within
         (m.faithful k (first_marked h g.entry marks mark k m.count within marked)))
     | inr beyond ↦
         (let all : length (g.entry ∷ h) ≤ k = grind (arith, nat_tests, beyond) in
-        all_faithful (g.entry ∷ h) k all (whole_faithful ranges capacities new (g.entry ∷ h) g.stands
+        all_faithful ranges (length capacities) (g.entry ∷ h) k all (whole_faithful ranges capacities new (g.entry ∷ h) g.stands
         (honest (all_marked (g.entry ∷ h) (marks ++ mark ∷ []) k count all marked))))
   ];
   no_conflict = λ i marked is told. elim (before_or_last (replies_of h) g.entry.reply (ScanRefused Conflict)
@@ -480,35 +481,36 @@ marked_next {A} ranges capacities old new h event reply marks mark g m fair = re
 record HasRunMarked {A : Type 0} (ranges : List Range) (capacities : List ℕ) (h : History A) (was : List Bool)
     (events : List (Event A)) (marks : List Bool) (replies : List (Reply A)) (new : WorldView A) : Type 0 where
   pub run : HasRun ranges capacities h events replies new
-  pub marked : IsMarked new run.after (was ++ marks)
+  pub marked : IsMarked ranges (length capacities) new run.after (was ++ marks)
 
 marked_on : {A : Type 0} (ranges : List Range) (capacities : List ℕ) (h : History A) (was : List Bool)
     (old new : WorldView A) (events : List (Event A)) (marks : List Bool) (replies : List (Reply A)) →
-    StandsFor ranges capacities old h → IsMarked old h was → RunsMarked old events marks replies new →
+    StandsFor ranges capacities old h → IsMarked ranges (length capacities) old h was →
+    RunsMarked old events marks replies new →
     HasRunMarked ranges capacities h was events marks replies new
 marked_on {A} ranges capacities h was old new [] [] [] s m runs = record {
   run = no_run ranges capacities h old new s runs;
-  marked = subst (λ (w : WorldView A). IsMarked w h (was ++ [])) (sym runs)
-      (subst (λ (l : List Bool). IsMarked old h l) (sym (append-nil was)) m);
+  marked = subst (λ (w : WorldView A). IsMarked ranges (length capacities) w h (was ++ [])) (sym runs)
+      (subst (λ (l : List Bool). IsMarked ranges (length capacities) old h l) (sym (append-nil was)) m);
 }
 marked_on {A} ranges capacities h was old new (event ∷ events) (mark ∷ marks) (reply ∷ replies) s m runs =
     let g = has_stepped ranges capacities h old runs.0 event reply s runs.2 in
-    let next : IsMarked runs.0 (g.entry ∷ h) (was ++ mark ∷ []) =
+    let next : IsMarked ranges (length capacities) runs.0 (g.entry ∷ h) (was ++ mark ∷ []) =
     marked_next ranges capacities old runs.0 h event reply was mark g m runs.1 in
     let rest =
     marked_on ranges capacities (g.entry ∷ h) (was ++ mark ∷ []) runs.0 new events marks replies g.stands next
     runs.3 in
     record {
       run = run_with ranges capacities h new g.entry event reply events replies g.event_is g.reply_is rest.run;
-      marked = subst (λ (l : List Bool). IsMarked new rest.run.after l) (append_assoc was (mark ∷ []) marks)
-          rest.marked;
+      marked = subst (λ (l : List Bool). IsMarked ranges (length capacities) new rest.run.after l)
+          (append_assoc was (mark ∷ []) marks) rest.marked;
     }
 marked_on ranges capacities h was old new events marks replies s m runs = absurd runs
 
 pub fair_run : {A : Type 0} (ranges : List Range) (capacities : List ℕ) (old new : WorldView A)
     (events : List (Event A)) (marks : List Bool) (replies : List (Reply A)) →
     StandsFor ranges capacities old [] → RunsMarked old events marks replies new →
-    HasBeenFaithful new events marks replies
+    HasBeenFaithful ranges (length capacities) new events marks replies
 fair_run {A} ranges capacities old new events marks replies s runs =
     let none : History A = [] in
     let f : HasRunMarked ranges capacities none [] events marks replies new =
@@ -518,14 +520,14 @@ fair_run {A} ranges capacities old new events marks replies s runs =
     let never : NeverTwice r.after = never_twice ranges (length capacities) r.after r.stands.disjoint legal in record {
       batches = batches_of r.after;
       its = its_batches ranges capacities new r.after r.stands;
-      prints = subst (λ (l : List (Event A)). PrintsOnceBy (batches_of r.after) l replies) r.events_are
-          (subst (λ (l : List (Reply A)). PrintsOnceBy (batches_of r.after) (events_of r.after) l) r.replies_are
+      prints = subst (λ (l : List (Event A)). PrintsOnceBy ranges (length capacities) (batches_of r.after) l replies) r.events_are
+          (subst (λ (l : List (Reply A)). PrintsOnceBy ranges (length capacities) (batches_of r.after) (events_of r.after) l) r.replies_are
           (prints_once ranges (length capacities) r.after legal never));
       faithful = λ k.
           subst (λ (l : List (Event A)). AreMarked (take k l) (take k marks) (take k replies) →
-          IsFaithfulBy (take k (batches_of r.after)) (take k l) (take k replies)) r.events_are
+          IsFaithfulBy ranges (length capacities) (take k (batches_of r.after)) (take k l) (take k replies)) r.events_are
           (subst (λ (l : List (Reply A)). AreMarked (take k (events_of r.after)) (take k marks) (take k l) →
-          IsFaithfulBy (take k (batches_of r.after)) (take k (events_of r.after)) (take k l)) r.replies_are
+          IsFaithfulBy ranges (length capacities) (take k (batches_of r.after)) (take k (events_of r.after)) (take k l)) r.replies_are
           (f.marked.faithful k));
       no_conflict = λ i.
           subst (λ (l : List (Event A)). AreMarked (take i l) (take i marks) (take i replies) →

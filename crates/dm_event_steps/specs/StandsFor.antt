@@ -60,23 +60,24 @@ abbrev pub EachRunPrintsOnce : Type 0 → Type 0
 EachRunPrintsOnce A = (ranges : List Range) (capacities : List ℕ) (old new : WorldView A)
     (events : List (Event A)) (replies : List (Reply A)) →
     StandsFor ranges capacities old [] → Runs old events replies new →
-    HasPrintedOnce new events replies × AreItsLabels ranges new
+    HasPrintedOnce ranges (length capacities) new events replies × AreItsLabels ranges new
 
 -- nor is a ticket taken twice in it
 abbrev pub EachRunTakesOnce : Type 0 → Type 0
 EachRunTakesOnce A = (ranges : List Range) (capacities : List ℕ) (old new : WorldView A)
     (events : List (Event A)) (replies : List (Reply A)) →
-    StandsFor ranges capacities old [] → Runs old events replies new → TakesOnce events replies
+    StandsFor ranges capacities old [] → Runs old events replies new → TakesOnce (length ranges) events replies
 
 -- and what is imported in it was exported
 abbrev pub EachRunImportsExports : Type 0 → Type 0
 EachRunImportsExports A = (ranges : List Range) (capacities : List ℕ) (old new : WorldView A)
     (events : List (Event A)) (replies : List (Reply A)) →
-    StandsFor ranges capacities old [] → Runs old events replies new → ImportsExports events replies
+    StandsFor ranges capacities old [] → Runs old events replies new →
+    ImportsExports (length capacities) events replies
 
 -- the headline: a world that begins is faithful as long as what may have saved was fair
 abbrev pub EachFairRunIsFaithful : Type 0 → Type 0
 EachFairRunIsFaithful A = (ranges : List Range) (capacities : List ℕ) (old new : WorldView A)
     (events : List (Event A)) (marks : List Bool) (replies : List (Reply A)) →
     StandsFor ranges capacities old [] → RunsMarked old events marks replies new →
-    HasBeenFaithful new events marks replies
+    HasBeenFaithful ranges (length capacities) new events marks replies

@@ -137,10 +137,10 @@ pub record AreItsBatches {A : Type 0} (world : WorldView A) (batches : List (Opt
   pub labels : labels_of batches ≡ map name_of world.labels
   pub shown : (i : ℕ) (label : LeftLabel A) → slice_get world.labels i ≡ Some label → ShowsBatch batches label
 
--- no identification was printed twice, and just the world's labels left
-abbrev pub HasPrintedOnce : {A : Type 0} → WorldView A → List (Event A) → List (Reply A) → Type 0
-HasPrintedOnce world events replies =
-    (batches : List (Option Batch)) × AreItsBatches world batches × PrintsOnceBy batches events replies
+-- no identification was printed twice, by printers that began with these ranges, and just the world's labels left
+abbrev pub HasPrintedOnce : {A : Type 0} → List Range → ℕ → WorldView A → List (Event A) → List (Reply A) → Type 0
+HasPrintedOnce ranges desks world events replies =
+    (batches : List (Option Batch)) × AreItsBatches world batches × PrintsOnceBy ranges desks batches events replies
 
 -- no label left the world twice, and each has an identification that a printer began with
 abbrev pub AreItsLabels : {A : Type 0} → List Range → WorldView A → Type 0
@@ -149,13 +149,13 @@ AreItsLabels ranges world = IsNoLabelTwice (map name_of world.labels) × AreOpen
 -- No identification was printed twice; and as long as each event that may have saved is marked, the replies are
 -- faithful, and no scan that is marked is refused for a conflict. One list of batches serves for all, and for each
 -- number of first events; just the world's labels left.
-pub record HasBeenFaithful {A : Type 0} (world : WorldView A) (events : List (Event A)) (marks : List Bool)
-    (replies : List (Reply A))
+pub record HasBeenFaithful {A : Type 0} (ranges : List Range) (desks : ℕ) (world : WorldView A)
+    (events : List (Event A)) (marks : List Bool) (replies : List (Reply A))
     : Type 0 where
   pub batches : List (Option Batch)
   pub its : AreItsBatches world batches
-  pub prints : PrintsOnceBy batches events replies
+  pub prints : PrintsOnceBy ranges desks batches events replies
   pub faithful : (k : ℕ) → AreMarked (take k events) (take k marks) (take k replies) →
-      IsFaithfulBy (take k batches) (take k events) (take k replies)
+      IsFaithfulBy ranges desks (take k batches) (take k events) (take k replies)
   pub no_conflict : (i : ℕ) → AreMarked (take i events) (take i marks) (take i replies) →
       slice_get marks i ≡ Some true → slice_get replies i ≢ Some (ScanRefused Conflict)

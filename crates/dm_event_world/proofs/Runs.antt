@@ -1,6 +1,7 @@
 -- Runs of worlds: one event more at their end, and the headline.
 use Rattle.std.proofs.Common.{◌≡◌, ℕ, Bool, true, false, Some, List, [], ◌∷◌, ◌++◌, length, slice_get, refl, ap, subst, zero, suc, take, arith}
 use Rattle.dm_assembly_desk.specs.declared.fault.ScanFault.TheVariants.{Conflict}
+use Rattle.dm_print_ledger.specs.declared.range.Range.{Range}
 use Rattle.dm_event_history.specs.declared.event.Event.{Event}
 use Rattle.dm_event_history.specs.declared.event.Event.TheVariants.{Scan}
 use Rattle.dm_event_history.specs.declared.reply.Reply.{Reply}
@@ -183,11 +184,11 @@ is_there old new (Scan desk label flips stop) reply unfair steps none =
 is_there old new event reply unfair steps none = unfair (λ named. tt)
 
 -- the headline, by the batches of the run
-pub faithful_by : {A : Type 0} (old new : WorldView A) (events : List (Event A)) (answers : List (Answer A)) →
-    AnswersAll old events answers new →
-    (f : HasBeenFaithful new (given events answers) (marks answers) (replies answers)) →
-    IsFaithfulIfHonestBy f.batches events answers
-faithful_by {A} old new events answers runs f = record {
+pub faithful_by : {A : Type 0} (ranges : List Range) (desks : ℕ) (old new : WorldView A) (events : List (Event A))
+    (answers : List (Answer A)) → AnswersAll old events answers new →
+    (f : HasBeenFaithful ranges desks new (given events answers) (marks answers) (replies answers)) →
+    IsFaithfulIfHonestBy ranges desks f.batches events answers
+faithful_by {A} ranges desks old new events answers runs f = record {
   each_answer = (let t = as_many old new events answers runs in omega arith);
   not_given = λ i event asked answered.
       (let t = each_answered old new events answers runs i event NotGiven asked answered in
@@ -199,9 +200,9 @@ faithful_by {A} old new events answers runs f = record {
   once = f.prints;
   faithful = λ k honest.
       (let n = length (replies (take k answers)) in
-      subst (λ (l : List (Event A)). IsFaithfulBy (take n f.batches) l (replies (take k answers)))
+      subst (λ (l : List (Event A)). IsFaithfulBy ranges desks (take n f.batches) l (replies (take k answers)))
       (first_given k old new events answers runs)
-      (subst (λ (l : List (Reply A)). IsFaithfulBy (take n f.batches) (take n (given events answers)) l)
+      (subst (λ (l : List (Reply A)). IsFaithfulBy ranges desks (take n f.batches) (take n (given events answers)) l)
       (first_replies k answers) (f.faithful n (first_marked k events answers honest))));
   no_conflict = λ k honest refused.
       (let at = given_at k answers true (ScanRefused Conflict) refused in

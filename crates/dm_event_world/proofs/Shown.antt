@@ -12,7 +12,7 @@ use Rattle.dm_event_history.specs.declared.stop.Stop.TheVariants as stops
 use Rattle.dm_event_history.specs.Saving.{may_save}
 use Rattle.dm_event_history.specs.Headline.{Batch, labels_of, IsScanOf, MayHaveSaved}
 use Rattle.dm_event_history.proofs.Refuted.{first_label}
-use Rattle.dm_event_history.specs.Worked.{digits}
+use Rattle.dm_event_history.specs.Worked.{digits, two_ranges}
 use Rattle.dm_event_history.specs.Unfaithful.{page, print, scan}
 use Rattle.dm_event_world.specs.Shown.{IsShownForGood, shown_events, shown_answers, worn, refused, AreAnsweredWrongly}
 use Rattle.dm_event_world.specs.declared.answers.Answer.TheVariants.{Given}
@@ -22,7 +22,7 @@ pub is_shown_for_good : (A : Type 0) → IsShownForGood A
 is_shown_for_good A (batches, f) = by_batches batches f
   where
     -- the scan is of label 0
-    had : (batches : List (Option Batch)) → IsFaithfulIfHonestBy batches (shown_events A) (shown_answers A) →
+    had : (batches : List (Option Batch)) → IsFaithfulIfHonestBy two_ranges 2 batches (shown_events A) (shown_answers A) →
         slice_get (labels_of (take 1 (take 2 batches))) 0 ≡ Some (record { id = 7; number = 1; count = 2 })
     had batches f =
         let s : IsScanOf (take 2 batches) (given (take 2 (shown_events A)) (take 2 (shown_answers A))) 1
@@ -37,7 +37,7 @@ is_shown_for_good A (batches, f) = by_batches batches f
         })) (sym label_is) s.had_left
 
     by_batches : (batches : List (Option Batch)) →
-        IsFaithfulIfHonestBy batches (shown_events A) (shown_answers A) → ⊥
+        IsFaithfulIfHonestBy two_ranges 2 batches (shown_events A) (shown_answers A) → ⊥
     by_batches [] f = (let x = had [] f in cc (x))
     by_batches (None ∷ rest) f = (let x = had (None ∷ rest) f in cc (x))
     by_batches (Some batch ∷ rest) f =

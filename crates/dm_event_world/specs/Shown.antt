@@ -1,4 +1,5 @@
--- Runs that the headline refuses for their answers.
+-- Runs that the headline refuses for their answers, of two printers, which begin with 0 to 9 and with 10 to 19, and of
+-- two desks.
 use Rattle.std.specs.Prelude.{List, [], ◌∷◌, ◌++◌, true, false}
 use Rattle.dm_append_label.specs.declared.fault.LabelFault.TheVariants.{Block}
 use Rattle.dm_assembly_desk.specs.declared.reply.Kind.TheVariants.{New}
@@ -7,7 +8,7 @@ use Rattle.dm_event_history.specs.declared.event.Event.{Event}
 use Rattle.dm_event_history.specs.declared.event.Event.TheVariants.{Scan, RestartPrinter, Ask, Forget}
 use Rattle.dm_event_history.specs.declared.reply.Reply.TheVariants.{Printed, Scanned, ScanRefused, Forgotten, Restarted, Stopped, NoSuch}
 use Rattle.dm_event_history.specs.declared.stop.Stop.TheVariants.{None, AfterLabels}
-use Rattle.dm_event_history.specs.Worked.{digits}
+use Rattle.dm_event_history.specs.Worked.{digits, two_ranges}
 use Rattle.dm_event_history.specs.Unfaithful.{other_digits, page, print, scan}
 use Rattle.dm_event_world.specs.declared.answers.Answer.{Answer}
 use Rattle.dm_event_world.specs.declared.answers.Answer.TheVariants.{Given, NotGiven}
@@ -30,7 +31,7 @@ shown_answers A =
 
 -- what was shown while the scans were honest is shown for good
 abbrev pub IsShownForGood : Type 0 → Type 0
-IsShownForGood A = ¬ IsFaithfulIfHonest (shown_events A) (shown_answers A)
+IsShownForGood A = ¬ IsFaithfulIfHonest two_ranges 2 (shown_events A) (shown_answers A)
 
 -- ---- answers that no world gives
 
@@ -44,20 +45,20 @@ refused = Given true (Printed 0 0 2) ∷ Given false (ScanRefused (Label (Block 
 -- Each of these would be allowed without the field that its comment names.
 pub record AreAnsweredWrongly (A : Type 0) : Type 0 where
   -- `each_answer`: an event without an answer
-  pub unanswered : ¬ IsFaithfulIfHonest {A = A} (Ask 0 0 ∷ []) []
+  pub unanswered : ¬ IsFaithfulIfHonest {A = A} two_ranges 2 (Ask 0 0 ∷ []) []
   -- `not_given`: a print that is not given
-  pub print_not_given : ¬ IsFaithfulIfHonest {A = A} (print 0 digits None ∷ []) (NotGiven ∷ [])
+  pub print_not_given : ¬ IsFaithfulIfHonest {A = A} two_ranges 2 (print 0 digits None ∷ []) (NotGiven ∷ [])
   -- `dishonest`: a restart that is found dishonest, a scan of a copy without flips, and one of what is not there
-  pub dishonest_restart : ¬ IsFaithfulIfHonest {A = A} (RestartPrinter 0 ∷ []) (Given false Restarted ∷ [])
-  pub dishonest_scan : ¬ IsFaithfulIfHonest {A = A} (print 0 digits None ∷ scan 0 ∷ [])
+  pub dishonest_restart : ¬ IsFaithfulIfHonest {A = A} two_ranges 2 (RestartPrinter 0 ∷ []) (Given false Restarted ∷ [])
+  pub dishonest_scan : ¬ IsFaithfulIfHonest {A = A} two_ranges 2 (print 0 digits None ∷ scan 0 ∷ [])
       (Given true (Printed 0 0 2) ∷ Given false (Scanned (page 0 1 New)) ∷ [])
-  pub dishonest_of_none : ¬ IsFaithfulIfHonest {A = A} (Scan 0 0 ((0, 0) ∷ []) None ∷ []) (Given false NoSuch ∷ [])
+  pub dishonest_of_none : ¬ IsFaithfulIfHonest {A = A} two_ranges 2 (Scan 0 0 ((0, 0) ∷ []) None ∷ []) (Given false NoSuch ∷ [])
   -- `no_conflict`: an honest scan is refused for a conflict
-  pub conflicting : ¬ IsFaithfulIfHonest {A = A} (print 0 digits None ∷ scan 0 ∷ [])
+  pub conflicting : ¬ IsFaithfulIfHonest {A = A} two_ranges 2 (print 0 digits None ∷ scan 0 ∷ [])
       (Given true (Printed 0 0 2) ∷ Given true (ScanRefused Conflict) ∷ [])
   -- `no_conflict` and `faithful` go on to hold after a scan that was not honest, if it was refused: an honest one is
   -- refused for a conflict, and a document is forgotten of which no other label was scanned
-  pub conflicting_after_refused : ¬ IsFaithfulIfHonest {A = A} (worn ++ scan 0 ∷ [])
+  pub conflicting_after_refused : ¬ IsFaithfulIfHonest {A = A} two_ranges 2 (worn ++ scan 0 ∷ [])
       (refused ++ Given true (ScanRefused Conflict) ∷ [])
-  pub forgotten_after_refused : ¬ IsFaithfulIfHonest {A = A} (worn ++ Forget 0 0 None ∷ [])
+  pub forgotten_after_refused : ¬ IsFaithfulIfHonest {A = A} two_ranges 2 (worn ++ Forget 0 0 None ∷ [])
       (refused ++ Given true Forgotten ∷ [])

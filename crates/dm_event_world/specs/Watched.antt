@@ -47,8 +47,8 @@ HasFlips event = ⊥
 -- No identification was printed twice, and as long as each event that may have saved was found honest, the replies are
 -- faithful, whatever comes later: whatever document any desk gave for an identification is the one document printed
 -- under it. One list of batches serves for both, and for each k: the batches of the first events are the first of it.
-pub record IsFaithfulIfHonestBy {A : Type 0} (batches : List (Option Batch)) (events : List (Event A))
-    (answers : List (Answer A))
+pub record IsFaithfulIfHonestBy {A : Type 0} (ranges : List Range) (desks : ℕ) (batches : List (Option Batch))
+    (events : List (Event A)) (answers : List (Answer A))
     : Type 0 where
   -- each event has an answer
   pub each_answer : length answers ≡ length events
@@ -58,17 +58,18 @@ pub record IsFaithfulIfHonestBy {A : Type 0} (batches : List (Option Batch)) (ev
   -- only a scan with flips, of what is there, is found dishonest
   pub dishonest : (i : ℕ) (event : Event A) (reply : Reply A) → slice_get events i ≡ Some event →
       slice_get answers i ≡ Some (Given false reply) → HasFlips event × (reply ≢ NoSuch)
-  pub once : PrintsOnceBy batches (given events answers) (replies answers)
+  pub once : PrintsOnceBy ranges desks batches (given events answers) (replies answers)
   pub faithful : (k : ℕ) → AreHonest (take k events) (take k answers) →
-      IsFaithfulBy (take (length (replies (take k answers))) batches) (given (take k events) (take k answers))
-      (replies (take k answers))
+      IsFaithfulBy ranges desks (take (length (replies (take k answers))) batches)
+      (given (take k events) (take k answers)) (replies (take k answers))
   -- nor, as long as that is so, is a scan that was found honest refused for a conflict
   pub no_conflict : (k : ℕ) → AreHonest (take k events) (take k answers) →
       slice_get answers k ≢ Some (Given true (ScanRefused Conflict))
 
--- the headline
-abbrev pub IsFaithfulIfHonest : {A : Type 0} → List (Event A) → List (Answer A) → Type 0
-IsFaithfulIfHonest events answers = (batches : List (Option Batch)) × IsFaithfulIfHonestBy batches events answers
+-- the headline, of printers that begin with these ranges, and of that many desks
+abbrev pub IsFaithfulIfHonest : {A : Type 0} → List Range → ℕ → List (Event A) → List (Answer A) → Type 0
+IsFaithfulIfHonest ranges desks events answers =
+    (batches : List (Option Batch)) × IsFaithfulIfHonestBy ranges desks batches events answers
 
 -- ---- what the answers are
 
@@ -102,5 +103,5 @@ pub record RunsFromTheStart {A : Type 0} (ranges : List Range) (capacities : Lis
   pub answered : AnswersAll old events answers new
   pub batches : List (Option Batch)
   pub its : AreItsBatches new batches
-  pub faithful : IsFaithfulIfHonestBy batches events answers
+  pub faithful : IsFaithfulIfHonestBy ranges (length capacities) batches events answers
   pub labels : AreItsLabels ranges new

@@ -1,6 +1,6 @@
 //! Events of a world, one after another.
 
-ghost use Rattle.std.specs.Prelude.{◌≡◌, IfOk, IfErr, OnErr};
+ghost use Rattle.std.specs.Prelude.{◌≡◌, length, IfOk, IfErr, OnErr};
 ghost use Rattle.dm_event_history.specs.Headline.{PrintsOnce};
 ghost use Rattle.dm_event_history.specs.Tickets.{TakesOnce};
 ghost use Rattle.dm_event_history.specs.Imports.{ImportsExports};
@@ -78,13 +78,17 @@ pub fn watch<A: Allocator + Copy>(
     capacities: &[u16],
     events: &[Event<A>],
 ) -> Result<Vec<Answer<A>, A>, WorldFault>
-    ensures headline { IfOk result (λ answers. IsFaithfulIfHonest events.now answers.items) }
+    ensures headline { IfOk result (λ answers.
+        IsFaithfulIfHonest ranges.now (length capacities.now) events.now answers.items) }
     // No identification was printed twice, whatever the events were.
-    ensures once { IfOk result (λ answers. PrintsOnce (given events.now answers.items) (replies answers.items)) }
+    ensures once { IfOk result (λ answers.
+        PrintsOnce ranges.now (length capacities.now) (given events.now answers.items) (replies answers.items)) }
     // Nor was a ticket taken twice.
-    ensures tickets { IfOk result (λ answers. TakesOnce (given events.now answers.items) (replies answers.items)) }
+    ensures tickets { IfOk result (λ answers.
+        TakesOnce (length ranges.now) (given events.now answers.items) (replies answers.items)) }
     // And what a desk told of an import was exported before.
-    ensures exports { IfOk result (λ answers. ImportsExports (given events.now answers.items) (replies answers.items)) }
+    ensures exports { IfOk result (λ answers.
+        ImportsExports (length capacities.now) (given events.now answers.items) (replies answers.items)) }
     ensures answers { IfOk result (λ answers. RunsFromTheStart ranges.now capacities.now events.now answers.items) }
     ensures refused { IfErr result (HasWorldFault ranges.now capacities.now) }
 {

@@ -1,5 +1,5 @@
 -- What `world` writes: the answers to the events of a script.
-use Rattle.std.specs.Prelude.{◌≡◌, ◌⊎◌, ◌+◌, ℕ, List, Err, true, if◌then◌else◌}
+use Rattle.std.specs.Prelude.{◌≡◌, ◌⊎◌, ◌+◌, ℕ, List, length, Err, true, if◌then◌else◌}
 use Rattle.std.specs.List.{flat_map}
 use Rattle.std.specs.Io.KnownBytes.{Appends}
 use Rattle.dm_event_history.specs.Headline.{PrintsOnce}
@@ -54,8 +54,10 @@ pub data EndsWorld (A : Type 0) (input rest : InputView) (old : OutputView) : �
   answered : {status : ℕ} {new : OutputView} (bytes : List ℕ) (script : Script A) (answers : List (Answer A))
       → ReadsScript input rest bytes → IsScript bytes script
       → RunsFromTheStart script.ranges.items script.capacities.items script.events.items answers
-      → PrintsOnce (given script.events.items answers) (replies answers)
-      → TakesOnce (given script.events.items answers) (replies answers)
-      → ImportsExports (given script.events.items answers) (replies answers)
-      → IsFaithfulIfHonest script.events.items answers → TellsAnswers answers old new status
+      → PrintsOnce script.ranges.items (length script.capacities.items) (given script.events.items answers)
+          (replies answers)
+      → TakesOnce (length script.ranges.items) (given script.events.items answers) (replies answers)
+      → ImportsExports (length script.capacities.items) (given script.events.items answers) (replies answers)
+      → IsFaithfulIfHonest script.ranges.items (length script.capacities.items) script.events.items answers
+      → TellsAnswers answers old new status
       → EndsWorld A input rest old status new

@@ -1,3 +1,4 @@
+use Rattle.std.proofs.Common.{length}
 use Rattle.dm_event_world.specs.Watched.{given, replies}
 use Rattle.dm_event_world.proofs.Runs.{marks, runs_marked, runs_by, faithful_by}
 use Rattle.dm_event_world.proofs.running.watch.Goals as goal
@@ -9,7 +10,7 @@ returns-in-Ok-answer_all-clause-headline g c =
     let f = c.each_fair_run_is_faithful.ensures c.args.ranges.now c.args.capacities.now c.in-Ok.world
     c.answer_all.new.world (given events answers) (marks answers) (replies answers) c.in-Ok.ensures.stands
     (runs_marked c.in-Ok.world c.answer_all.new.world events answers c.in-Ok-answer_all.ensures) in
-    (f.batches, faithful_by c.in-Ok.world c.answer_all.new.world events answers c.in-Ok-answer_all.ensures f))
+    (f.batches, faithful_by c.args.ranges.now (length c.args.capacities.now) c.in-Ok.world c.answer_all.new.world events answers c.in-Ok-answer_all.ensures f))
 
 pub returns-in-Ok-answer_all-clause-once : goal.returns-in-Ok-answer_all-clause-once
 returns-in-Ok-answer_all-clause-once g c =
@@ -53,6 +54,6 @@ returns-in-Ok-answer_all-clause-answers g c =
       answered = c.in-Ok-answer_all.ensures;
       batches = f.batches;
       its = f.its;
-      faithful = faithful_by c.in-Ok.world c.answer_all.new.world events answers c.in-Ok-answer_all.ensures f;
+      faithful = faithful_by c.args.ranges.now (length c.args.capacities.now) c.in-Ok.world c.answer_all.new.world events answers c.in-Ok-answer_all.ensures f;
       labels = once.1;
     }

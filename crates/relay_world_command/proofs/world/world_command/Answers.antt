@@ -34,10 +34,10 @@ returns-in-Ok-watch-clause-ends g c =
     (was_read c.in-Ok.ensures.taken c.in-Ok.ensures.kept)
     (rw c.deref.ensures.value at c.in-Ok-read_script.ensures)
     (rw (c.deref-2.ensures.value, c.deref-3.ensures.value, c.deref-4.ensures.value) at c.in-Ok-watch.ensures.answers)
-    (rw c.deref-4.ensures.value at c.in-Ok-watch.ensures.once)
-    (rw c.deref-4.ensures.value at c.in-Ok-watch.ensures.tickets)
-    (rw c.deref-4.ensures.value at c.in-Ok-watch.ensures.exports)
-    (rw c.deref-4.ensures.value at c.in-Ok-watch.ensures.headline)
+    (rw (c.deref-2.ensures.value, c.deref-3.ensures.value, c.deref-4.ensures.value) at c.in-Ok-watch.ensures.once)
+    (rw (c.deref-2.ensures.value, c.deref-4.ensures.value) at c.in-Ok-watch.ensures.tickets)
+    (rw (c.deref-3.ensures.value, c.deref-4.ensures.value) at c.in-Ok-watch.ensures.exports)
+    (rw (c.deref-2.ensures.value, c.deref-3.ensures.value, c.deref-4.ensures.value) at c.in-Ok-watch.ensures.headline)
     (rw c.deref-in-Ok-watch.ensures.value at c.tell.ensures)
 
 pub returns-clause-ends : goal.returns-clause-ends
