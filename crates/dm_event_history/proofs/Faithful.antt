@@ -12,7 +12,7 @@ use Rattle.dm_event_history.specs.declared.event.Event.TheVariants.{Scan, Ask, F
 use Rattle.dm_event_history.specs.declared.reply.Reply.{Reply}
 use Rattle.dm_event_history.specs.declared.reply.Reply.TheVariants.{Scanned, Document, AskRefused, Forgotten, Exported, ImportRefused}
 use Rattle.dm_event_history.specs.History.{Entry, History, CutDocument, LabelName, ExportName, out, exports, exported, printed_by, prints_as, docs, events_of, replies_of}
-use Rattle.dm_event_history.specs.Legal.{IsLegal, IsReply, NeverTwice}
+use Rattle.dm_event_history.specs.Legal.{AreDisjoint, IsLegal, IsReply, NeverTwice}
 use Rattle.dm_event_history.specs.Safe.{IsSafe, IsReplySafe, IsTrueDocument, IsTrulyMissing, IsExportSafe}
 use Rattle.dm_event_history.specs.Honest.{IsFair, IsHonestlyNotImported, IsHonestReply, AreHonestReplies}
 use Rattle.dm_event_history.specs.Masks.{HasPage}
@@ -484,25 +484,25 @@ tells_last {A} ranges desks h e grids capacities legal safe honest once =
 
 -- and of each
 each_tells : {A : Type 0} (ranges : List Range) (desks : ℕ) (h : History A) (grids : List GridView)
-    (capacities : List ℕ) → IsLegal ranges desks h →
+    (capacities : List ℕ) → AreDisjoint ranges → IsLegal ranges desks h →
     NeverTwice h → IsSafe h → AreHonestReplies grids capacities h → (i : ℕ) (reply : Reply A) →
     slice_get (replies_of h) i ≡ Some reply →
     Tells (batches_of h) (events_of h) (replies_of h) i reply
-each_tells ranges desks [] grids capacities legal never safe honest i reply answered = absurd (cc (answered))
-each_tells {A} ranges desks (e ∷ h) grids capacities legal never safe honest i reply answered =
+each_tells ranges desks [] grids capacities apart legal never safe honest i reply answered = absurd (cc (answered))
+each_tells {A} ranges desks (e ∷ h) grids capacities apart legal never safe honest i reply answered =
     elim (before_or_last (replies_of h) e.reply reply (length h) i (replies_count h) answered) [
       | inl before ↦
           (let below = get_beyond (replies_of h) i reply before in
           let count = replies_count h in
           let all = batches_count h in
           tells_more (batches_of h) (batch_of e) (events_of h) (replies_of h) e.event e.reply i reply (omega arith)
-          (each_tells ranges desks h grids capacities legal.1 never.1 safe.1 honest.1 i reply before))
+          (each_tells ranges desks h grids capacities apart legal.1 never.1 safe.1 honest.1 i reply before))
       | inr last ↦ subst (λ (k : ℕ). Tells (batches_of (e ∷ h)) (events_of (e ∷ h)) (replies_of (e ∷ h)) k reply)
           (sym last.0)
           (subst (λ (r : Reply A). Tells (batches_of (e ∷ h)) (events_of (e ∷ h)) (replies_of (e ∷ h)) (length h)
           r) last.1
           (tells_last ranges desks h e grids capacities legal safe honest.0
-          (prints_once ranges desks h legal.1 never.1)))
+          (prints_once ranges desks h apart legal.1 never.1)))
     ]
 
 -- two documents of one identification are the same
@@ -520,10 +520,10 @@ one_document {A} ranges desks batches events replies i j id one other f a b =
     sym a.bytes_are ∙ ap (λ (c : Batch). c.document.bytes) same ∙ b.bytes_are
 
 pub is_faithful : {A : Type 0} (ranges : List Range) (desks : ℕ) (h : History A) (grids : List GridView)
-    (capacities : List ℕ) → IsLegal ranges desks h →
+    (capacities : List ℕ) → AreDisjoint ranges → IsLegal ranges desks h →
     NeverTwice h → IsSafe h → AreHonestReplies grids capacities h →
     IsFaithfulBy ranges desks (batches_of h) (events_of h) (replies_of h)
-is_faithful {A} ranges desks h grids capacities legal never safe honest = record {
+is_faithful {A} ranges desks h grids capacities apart legal never safe honest = record {
   prints = once;
   scanned = λ i accepted answered. tells i (Scanned accepted) answered;
   given = λ i bytes answered. tells i (Document bytes) answered;
@@ -545,11 +545,11 @@ is_faithful {A} ranges desks h grids capacities legal never safe honest = record
 }
   where
     once : PrintsOnceBy ranges desks (batches_of h) (events_of h) (replies_of h)
-    once = prints_once ranges desks h legal never
+    once = prints_once ranges desks h apart legal never
 
     tells : (i : ℕ) (reply : Reply A) → slice_get (replies_of h) i ≡ Some reply →
         Tells (batches_of h) (events_of h) (replies_of h) i reply
-    tells = each_tells ranges desks h grids capacities legal never safe honest
+    tells = each_tells ranges desks h grids capacities apart legal never safe honest
 
     asked_is : (i desk id at name : ℕ) → slice_get (events_of h) i ≡ Some (Ask desk id) →
         slice_get (events_of h) i ≡ Some (Ask at name) → name ≡ id

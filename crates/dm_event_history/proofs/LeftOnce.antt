@@ -65,7 +65,7 @@ labels_once {A} (e ∷ h) never i j a b is_a is_b same_id same_number =
     ]
 
 -- a print of which labels left took a number that a printer began with
-last_opened : {A : Type 0} (ranges : List Range) (desks : ℕ) (h : History A) (e : Entry A) → ArePlaced ranges h →
+pub last_opened : {A : Type 0} (ranges : List Range) (desks : ℕ) (h : History A) (e : Entry A) → ArePlaced ranges h →
     Fits ranges desks h e → 0 < e.left →
     IsOpened ranges e.id
 last_opened {A} ranges desks h e placed fits some =

@@ -12,11 +12,14 @@ use Rattle.dm_event_history.specs.declared.stop.Stop.TheVariants.{AfterLabels}
 use Rattle.dm_event_history.specs.Actors.{PrinterAt, actor_of}
 use Rattle.dm_event_history.specs.History.{Entry, History, events_of, replies_of}
 use Rattle.dm_event_history.specs.Running.{is_failed}
-use Rattle.dm_event_history.specs.Legal.{IsReply, IsLegal, Fits, NeverTwice}
+use Rattle.dm_event_history.specs.Legal.{AreDisjoint, IsReply, IsLegal, Fits, NeverTwice}
 use Rattle.dm_event_history.specs.Numbers.{opening_count, gone, came}
+use Rattle.dm_event_history.specs.Places.{IsOpened}
 use Rattle.dm_event_history.specs.Replying.{has_failed_before}
 use Rattle.dm_event_history.specs.Counts.{HasNumber}
 use Rattle.dm_event_history.specs.Headline.{Batch, LeftBy, labels_of, AllLeft, PrintsOnceBy}
+use Rattle.dm_event_history.proofs.Fresh.{all_placed}
+use Rattle.dm_event_history.proofs.LeftOnce.{last_opened}
 use Rattle.dm_event_history.proofs.Batches.{all_of, count_all, batch_of, batches_of, events_count, replies_count, batches_count, before_or_last, take_keeps, batch_means, out_is, left_more, last_prints, told_is, unused_is_none, last_batch, whole_before}
 use Rattle.dm_event_history.proofs.Replied.{asked_before_or_last, failed_before, failed_at_last, saved_unfailed, are_replies}
 use Rattle.dm_event_history.proofs.ScannedLabels.{there_had_left, not_there_had_not}
@@ -38,6 +41,7 @@ once_first {A} ranges desks = record {
   };
   told = λ i id first count is. absurd (cc (is));
   printed = λ i batch is. absurd (cc (is));
+  opened = λ i batch is. absurd (cc (is));
   unfailed = λ i batch event is asked. absurd (cc (is));
   let_out = λ i printer document size scheme most parts asked some answered are unfailed has. absurd (cc (asked));
   once = λ i j one other a b same. absurd (cc (a));
@@ -46,15 +50,16 @@ once_first {A} ranges desks = record {
 }
 
 once_next : {A : Type 0} (ranges : List Range) (desks : ℕ) (h : History A) (e : Entry A) →
-    IsLegal ranges desks (e ∷ h) → NeverTwice (e ∷ h) →
+    AreDisjoint ranges → IsLegal ranges desks (e ∷ h) → NeverTwice (e ∷ h) →
     PrintsOnceBy ranges desks (batches_of h) (events_of h) (replies_of h) →
     PrintsOnceBy ranges desks (batches_of (e ∷ h)) (events_of (e ∷ h)) (replies_of (e ∷ h))
-once_next {A} ranges desks h e legal never f = record {
+once_next {A} ranges desks h e apart legal never f = record {
   each_reply = replies_count (e ∷ h) ∙ sym (events_count (e ∷ h));
   each_batch = batches_count (e ∷ h) ∙ sym (events_count (e ∷ h));
   replied = are_replies ranges desks (e ∷ h) legal;
   told = tells;
   printed = prints;
+  opened = begun;
   unfailed = runs;
   let_out = lets;
   once = one;
@@ -105,6 +110,16 @@ once_next {A} ranges desks h e legal never f = record {
               subst (λ (k : ℕ). LeftBy (events_of (e ∷ h)) (replies_of (e ∷ h)) k batch) (sym last.0)
               (subst (λ (b : Batch). LeftBy (events_of (e ∷ h)) (replies_of (e ∷ h)) (length h) b) t.1
               (last_prints ranges desks h e fits t.0)))
+        ]
+
+    begun : (i : ℕ) (batch : Batch) → slice_get (batches_of (e ∷ h)) i ≡ Some (Some batch) → IsOpened ranges batch.id
+    begun i batch is = elim (before_or_last (batches_of h) (batch_of e) (Some batch) (length h) i
+        (batches_count h) is) [
+          | inl before ↦ f.opened i batch before
+          | inr last ↦
+              (let t = batch_means e batch last.1 in
+              subst (IsOpened ranges) (ap (λ (b : Batch). b.id) t.1)
+              (last_opened ranges desks h e (all_placed ranges desks h apart legal.1) fits t.0))
         ]
 
     -- labels left by the last entry, so it saved
@@ -192,9 +207,9 @@ once_next {A} ranges desks h e legal never f = record {
           ]
         ]
 
-pub prints_once : {A : Type 0} (ranges : List Range) (desks : ℕ) (h : History A) → IsLegal ranges desks h →
-    NeverTwice h →
+pub prints_once : {A : Type 0} (ranges : List Range) (desks : ℕ) (h : History A) → AreDisjoint ranges →
+    IsLegal ranges desks h → NeverTwice h →
     PrintsOnceBy ranges desks (batches_of h) (events_of h) (replies_of h)
-prints_once ranges desks [] legal never = once_first ranges desks
-prints_once ranges desks (e ∷ h) legal never =
-    once_next ranges desks h e legal never (prints_once ranges desks h legal.1 never.1)
+prints_once ranges desks [] apart legal never = once_first ranges desks
+prints_once ranges desks (e ∷ h) apart legal never =
+    once_next ranges desks h e apart legal never (prints_once ranges desks h apart legal.1 never.1)

@@ -21,6 +21,8 @@ use Rattle.dm_print_ledger.specs.declared.range.Range.{Range}
 use Rattle.dm_print_ledger.specs.declared.fault.TakeFault.TheVariants as take_fault
 use Rattle.dm_event_history.specs.Actors.{PrinterAt}
 use Rattle.dm_event_history.specs.Replying.{has_failed_before}
+use Rattle.dm_event_history.specs.Numbers.{is_in_some}
+use Rattle.dm_event_history.specs.Places.{IsOpened}
 use Rattle.dm_event_history.specs.Counts.{HasNumber}
 use Rattle.dm_event_history.proofs.Right.{are_parts}
 use Rattle.dm_print_ledger.specs.Views.{TicketView}
@@ -28,7 +30,7 @@ use Rattle.dm_event_history.specs.Masks.{HasPage}
 use Rattle.dm_event_history.specs.Saving.{may_save}
 use Rattle.dm_event_history.specs.Tickets.{WasGiven, WasReached}
 use Rattle.dm_event_history.specs.Worked.{digits, range, two_ranges, first_ticket}
-use Rattle.dm_event_history.specs.Unfaithful.{IsFaithfulRun, PrintsOnceRun, AreRepliesRun, TakesOnceRun, ImportsExportsRun, other_digits, scan, page, ticket, another_call, stopped_unasked, forgotten_with_a_fault, scanned_though_stopped, failed_without_a_fault, damaged_by_itself, answered_while_down, down_unstopped, failed_before_a_fault, given_though_failed, missing_printer, numbered_above, second_ticket, taken_falling, old_at_first, old_after_a_lower, old_unsaved, old_though_failed, refused_ungiven, missing_ticket, exported_above, refused_unexported, missing_export, never_saved, refused_import, wrong_of_two, refused_unprinted, missing_label, third_desk, begun_unscanned, exported_unscanned, printed_after_forgotten, one_serial, given_falling, taken_though_old, imported_another_document, imported_another_page, exported_twice, half_printed, printed_unseen, unseen_labels, print, never_printed, wrong_document, another_document, never_scanned, two_documents, printed_twice, told_twice, left_though_failed, never_left, numbered_twice, taken_twice, taken_elsewhere, overlaps, AreUnfaithful}
+use Rattle.dm_event_history.specs.Unfaithful.{IsFaithfulRun, PrintsOnceRun, AreRepliesRun, TakesOnceRun, ImportsExportsRun, other_digits, scan, page, ticket, another_call, stopped_unasked, forgotten_with_a_fault, scanned_though_stopped, failed_without_a_fault, damaged_by_itself, answered_while_down, down_unstopped, failed_before_a_fault, given_though_failed, missing_printer, numbered_above, second_ticket, taken_falling, old_at_first, old_after_a_lower, old_unsaved, old_though_failed, refused_ungiven, missing_ticket, exported_above, refused_unexported, missing_export, never_saved, refused_import, wrong_of_two, refused_unprinted, missing_label, third_desk, begun_unscanned, exported_unscanned, printed_after_forgotten, one_serial, given_falling, taken_though_old, imported_another_document, imported_another_page, exported_twice, half_printed, printed_unseen, unseen_labels, print, never_printed, wrong_document, another_document, never_scanned, two_documents, printed_twice, told_twice, printed_beyond, left_though_failed, never_left, numbered_twice, taken_twice, taken_elsewhere, overlaps, AreUnfaithful}
 
 -- ---- what an event lets out
 
@@ -809,6 +811,17 @@ missing_export_is : (A : Type 0) → ¬ ImportsExportsRun (missing_export A)
 missing_export_is A t =
     let few : 1 ≤ 0 = t.not_there 1 0 0 stops.None refl refl (omega arith) in omega arith
 
+printed_beyond_is : (A : Type 0) → ¬ IsFaithfulRun (printed_beyond A)
+printed_beyond_is A (batches, f) =
+    (let t = f.prints.told 0 20 0 2 refl in
+    let o : IsOpened two_ranges 20 = subst (IsOpened two_ranges) t.id_is (f.prints.opened 0 t.batch t.there) in
+    by_printer o.0 o.1)
+  where
+    by_printer : (printer : ℕ) → is_in_some (slice_get two_ranges printer) 20 ≡ true → ⊥
+    by_printer zero is = (let x : false ≡ true = is in cc (x))
+    by_printer (suc zero) is = (let x : false ≡ true = is in cc (x))
+    by_printer (suc (suc printer)) is = (let x : false ≡ true = is in cc (x))
+
 pub are_unfaithful : (A : Type 0) → AreUnfaithful A
 are_unfaithful A = record {
   never_printed_is = never_printed_is A;
@@ -831,6 +844,7 @@ are_unfaithful A = record {
   printed_twice_is = printed_twice_is A;
   printed_unseen_is = printed_unseen_is A;
   told_twice_is = told_twice_is A;
+  printed_beyond_is = printed_beyond_is A;
   left_though_failed_is = left_though_failed_is A;
   never_left_is = never_left_is A;
   another_call_is = another_call_is A;

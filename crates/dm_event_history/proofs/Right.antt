@@ -22,6 +22,7 @@ use Rattle.dm_event_history.specs.declared.stop.Stop.TheVariants as stops
 use Rattle.dm_event_history.specs.History.{CutDocument}
 use Rattle.dm_event_history.specs.Running.{TellsFailed}
 use Rattle.dm_event_history.specs.Replying.{IsReplyTo, IsActorThere, is_down_before, has_failed_before}
+use Rattle.dm_event_history.specs.Places.{IsOpened}
 use Rattle.dm_event_history.specs.Counts.{HasNumber}
 use Rattle.dm_event_history.specs.Actors.{PrinterAt, actor_of}
 use Rattle.dm_event_history.specs.Legal.{NeedsRunning}
@@ -78,6 +79,7 @@ right_document_is A = (
       };
       told = none_told;
       printed = one_printed;
+      opened = one_opened;
       unfailed = one_unfailed;
       let_out = one_let_out;
       once = one;
@@ -140,6 +142,16 @@ right_document_is A = (
         let e : Ask 0 10 ≡ event = cc (is) in
         let below : 0 < 2 = omega arith in subst (λ (v : Event A). IsActorThere 2 2 (actor_of v)) e below
     all_there (suc (suc (suc (suc (suc i))))) event is = absurd (cc (is))
+
+    one_opened : (i : ℕ) (one : Batch) → slice_get batches i ≡ Some (Some one) → IsOpened two_ranges one.id
+    one_opened zero one is = absurd (cc (is))
+    one_opened (suc zero) one is =
+        let e : Some (Some batch) ≡ Some (Some one) = is in
+        let same : batch ≡ one = cc (e) in subst (λ (b : Batch). IsOpened two_ranges b.id) same (1, refl)
+    one_opened (suc (suc zero)) one is = absurd (cc (is))
+    one_opened (suc (suc (suc zero))) one is = absurd (cc (is))
+    one_opened (suc (suc (suc (suc zero)))) one is = absurd (cc (is))
+    one_opened (suc (suc (suc (suc (suc i))))) one is = absurd (cc (is))
 
     -- only the second print was to be stopped after a label or more
     one_let_out : (i printer : ℕ) (document : List ℕ) (size : Size) (scheme : Scheme) (most : ℕ)

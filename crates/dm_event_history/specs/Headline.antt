@@ -19,6 +19,7 @@ use Rattle.dm_event_history.specs.declared.stop.Stop.TheVariants as stops
 use Rattle.dm_event_history.specs.Actors.{PrinterAt, actor_of}
 use Rattle.dm_event_history.specs.History.{CutDocument, LabelName, names_from}
 use Rattle.dm_event_history.specs.Saving.{may_save}
+use Rattle.dm_event_history.specs.Places.{IsOpened}
 use Rattle.dm_event_history.specs.Replying.{has_failed_before, AreReplies}
 use Rattle.dm_event_history.specs.Counts.{HasNumber}
 
@@ -92,6 +93,8 @@ pub record PrintsOnceBy {A : Type 0} (ranges : List Range) (desks : ℕ) (batche
       AllLeft batches i id first count
   -- each batch left by a print of its document
   pub printed : (i : ℕ) (batch : Batch) → slice_get batches i ≡ Some (Some batch) → LeftBy events replies i batch
+  -- under an identification that a printer began with
+  pub opened : (i : ℕ) (batch : Batch) → slice_get batches i ≡ Some (Some batch) → IsOpened ranges batch.id
   -- none left by a printer that had answered `Save`, and was not restarted since
   pub unfailed : (i : ℕ) (batch : Batch) (event : Event A) → slice_get batches i ≡ Some (Some batch) →
       slice_get events i ≡ Some event → has_failed_before events replies i (actor_of event) ≡ false

@@ -192,6 +192,10 @@ unseen_labels =
 abbrev pub told_twice : (A : Type 0) → Run A
 told_twice A = (print 0 digits None, Printed 0 0 2) ∷ (print 1 other_digits None, Printed 0 2 2) ∷ []
 
+-- `opened`: a document is printed under an identification that no printer began with
+abbrev pub printed_beyond : (A : Type 0) → Run A
+printed_beyond A = (print 0 digits None, Printed 20 0 2) ∷ []
+
 -- `unfailed`: a label is told that left by a printer whose last save failed
 abbrev pub left_though_failed : (A : Type 0) → Run A
 left_though_failed A =
@@ -388,6 +392,7 @@ pub record AreUnfaithful (A : Type 0) : Type 0 where
   pub printed_twice_is : ¬ IsFaithfulRun (printed_twice A)
   pub printed_unseen_is : ¬ PrintsOnceRun unseen_labels (printed_unseen A)
   pub told_twice_is : ¬ IsFaithfulRun (told_twice A)
+  pub printed_beyond_is : ¬ IsFaithfulRun (printed_beyond A)
   pub left_though_failed_is : ¬ IsFaithfulRun (left_though_failed A)
   pub never_left_is : ¬ IsFaithfulRun (never_left A)
   pub another_call_is : ¬ AreRepliesRun (another_call A)

@@ -279,7 +279,7 @@ run_once {A} ranges capacities old new events replies s runs =
         its_batches ranges capacities new r.after r.stands,
         subst (λ (l : List (Event A)). PrintsOnceBy ranges (length capacities) (batches_of r.after) l replies) r.events_are
             (subst (λ (l : List (Reply A)). PrintsOnceBy ranges (length capacities) (batches_of r.after) (events_of r.after) l) r.replies_are
-            (prints_once ranges (length capacities) r.after legal never)),
+            (prints_once ranges (length capacities) r.after r.stands.disjoint legal never)),
       ),
       (
         subst IsNoLabelTwice (sym r.stands.left.names) (labels_once r.after never),
@@ -356,7 +356,7 @@ whole_faithful : {A : Type 0} (ranges : List Range) (capacities : List ℕ) (wor
     StandsFor ranges capacities world h → IsHonest (grids_of world) h →
     IsFaithfulBy ranges (length capacities) (batches_of h) (events_of h) (replies_of h)
 whole_faithful ranges capacities world h s honest =
-    is_faithful ranges (length capacities) h (grids_of world) capacities s.legal
+    is_faithful ranges (length capacities) h (grids_of world) capacities s.disjoint s.legal
     (never_twice ranges (length capacities) h s.disjoint s.legal) (s.safe honest) (s.answers honest)
 
 -- and so are the first entries of a history, all of it
@@ -522,7 +522,7 @@ fair_run {A} ranges capacities old new events marks replies s runs =
       its = its_batches ranges capacities new r.after r.stands;
       prints = subst (λ (l : List (Event A)). PrintsOnceBy ranges (length capacities) (batches_of r.after) l replies) r.events_are
           (subst (λ (l : List (Reply A)). PrintsOnceBy ranges (length capacities) (batches_of r.after) (events_of r.after) l) r.replies_are
-          (prints_once ranges (length capacities) r.after legal never));
+          (prints_once ranges (length capacities) r.after r.stands.disjoint legal never));
       faithful = λ k.
           subst (λ (l : List (Event A)). AreMarked (take k l) (take k marks) (take k replies) →
           IsFaithfulBy ranges (length capacities) (take k (batches_of r.after)) (take k l) (take k replies)) r.events_are

@@ -6,6 +6,6 @@ use Rattle.dm_event_history.proofs.laws.legal_and_safe_is_faithful.Goals as goal
 pub returns : goal.returns
 returns g c ranges desks h apart legal grids capacities safe honest = (
   batches_of h,
-  is_faithful ranges desks h grids capacities legal
+  is_faithful ranges desks h grids capacities apart legal
       (never_twice ranges desks h apart legal) safe honest,
 )

@@ -5,4 +5,4 @@ use Rattle.dm_event_history.proofs.laws.legal_prints_once.Goals as goal
 
 pub returns : goal.returns
 returns g c ranges desks h apart legal =
-    (batches_of h, prints_once ranges desks h legal (never_twice ranges desks h apart legal))
+    (batches_of h, prints_once ranges desks h apart legal (never_twice ranges desks h apart legal))
