@@ -20,7 +20,7 @@ use Rattle.dm_event_history.specs.History.{History, LabelName, ExportName, out, 
 use Rattle.dm_event_history.specs.Saving.{may_save}
 use Rattle.dm_event_history.specs.Holding.{IsPossiblyHeld}
 
--- a scan's copy of a label, with the modules flipped, is near the label
+-- the scanned grid, that of the label with the modules flipped, is near the label's
 abbrev pub IsFair : {A : Type 0} → List GridView → Event A → Type 0
 IsFair grids (Scan desk label flips stop) =
     (grid : GridView) → slice_get grids label ≡ Some grid → IsNear (flipped grid flips) grid
@@ -34,7 +34,7 @@ IsHonest grids (entry ∷ before) =
 
 -- ---- how fair scans are answered after an honest history
 
--- the scanned copy of the label has such finder patterns
+-- the scanned grid of the label has such finder patterns
 pub record IsScannedWith (Frame : GridView → Type 0) (grids : List GridView) (label : ℕ) (flips : List (ℕ × ℕ))
     : Type 0 where
   pub grid : GridView

@@ -21,7 +21,7 @@ pub enum Event<A: Allocator = Global> {
         scheme: Scheme,
         stop: Stop,
     },
-    /// A desk scans a copy of a label that left.
+    /// A desk scans a label that left, with some modules flipped.
     Scan {
         desk: usize,
         label: usize,

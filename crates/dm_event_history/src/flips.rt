@@ -5,7 +5,7 @@ ghost use Rattle.std.specs.Prelude.{◌≡◌};
 use std::alloc::{Allocator, Global};
 use std::marker::Model;
 
-/// The modules, by row and column from 0, that are flipped in the scanned copy of a label, one after another: one that
+/// The modules, by row and column from 0, that are flipped in the scanned grid of a label, one after another: one that
 /// is named twice is as it was.
 #[derive(Drop)]
 pub struct Flips<A: Allocator = Global>(pub Vec<(u16, u16), A>);

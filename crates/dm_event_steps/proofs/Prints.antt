@@ -418,8 +418,11 @@ stop_goes {A} ranges desks h p document size scheme (AfterLabels most) view
     (Err fault) actor old new there s labels tickets acts =
     outcome_goes ranges desks h (Print p document size scheme (AfterLabels most)) p view
     (planned acts.0 next_save.Fine).saved actor old new refl there s tt
-    (λ id. (inl refl, λ some parts are unfailed has. absurd (can_print ranges h p document size scheme view acts.0 fault
-    s acts.1 parts are unfailed has))) acts.2 (labels ∙ append-nil old.labels) tickets
+    (λ id. (
+      inl refl,
+      λ some parts are unfailed has. absurd (can_print ranges h p document size scheme view acts.0 fault
+          s acts.1 parts are unfailed has),
+    )) acts.2 (labels ∙ append-nil old.labels) tickets
     (stopped_outcome ranges desks h p document size scheme (AfterLabels most) view acts.0 (Err fault) s refl acts.1.1)
 stop_goes ranges desks h p document size scheme stops.None view answer actor old new there s labels tickets acts =
     absurd acts

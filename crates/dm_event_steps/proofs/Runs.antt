@@ -191,7 +191,7 @@ pub step_stands : {A : Type 0} (ranges : List Range) (capacities : List ℕ) (h 
     StandsFor ranges capacities old h → Steps old event reply new →
     (entry : Entry A) × (entry.event ≡ event) × (entry.reply ≡ reply) × StandsFor ranges capacities new (entry ∷ h)
     × ((may_save event reply ≡ true → IsFairIn old event) → IsHonest (grids_of old) h →
-        IsHonest (grids_of new) (entry ∷ h))
+    IsHonest (grids_of new) (entry ∷ h))
 step_stands ranges capacities h old new event reply s steps =
     let t = has_stepped ranges capacities h old new event reply s steps in
     (t.entry, t.event_is, t.reply_is, t.stands, t.honest)
@@ -439,21 +439,21 @@ marked_next {A} ranges capacities old new h event reply marks mark g m fair = re
   ];
   no_conflict = λ i marked is told. elim (before_or_last (replies_of h) g.entry.reply (ScanRefused Conflict)
       (length h) i (replies_count h) told) [
-    | inl before ↦
-        (let b = get_beyond (replies_of h) i (ScanRefused Conflict) before in
-        let n = replies_count h in
-        let c = m.count in
-        let within : i ≤ length h = (omega arith) in
-        m.no_conflict i (first_marked h g.entry marks mark i m.count within marked)
-        (sym (get_within marks (mark ∷ []) i (omega arith)) ∙ is) before)
-    | inr last ↦
-        (let at : i ≡ length h = last.0 in
-        let within : i ≤ length h = (omega arith) in
-        let was : IsHonest (grids_of old) h = m.honest (all_marked h marks i m.count (omega arith)
-        (first_marked h g.entry marks mark i m.count within marked)) in
-        let own : mark ≡ true = last_mark i at is in
-        g.no_conflict (fair own) was (sym g.reply_is ∙ last.1))
-  ];
+        | inl before ↦
+            (let b = get_beyond (replies_of h) i (ScanRefused Conflict) before in
+            let n = replies_count h in
+            let c = m.count in
+            let within : i ≤ length h = (omega arith) in
+            m.no_conflict i (first_marked h g.entry marks mark i m.count within marked)
+            (sym (get_within marks (mark ∷ []) i (omega arith)) ∙ is) before)
+        | inr last ↦
+            (let at : i ≡ length h = last.0 in
+            let within : i ≤ length h = (omega arith) in
+            let was : IsHonest (grids_of old) h = m.honest (all_marked h marks i m.count (omega arith)
+            (first_marked h g.entry marks mark i m.count within marked)) in
+            let own : mark ≡ true = last_mark i at is in
+            g.no_conflict (fair own) was (sym g.reply_is ∙ last.1))
+      ];
 }
   where
     count : length (marks ++ mark ∷ []) ≡ length (g.entry ∷ h)

@@ -92,7 +92,7 @@ is_labels {A} h label p s is =
     subst (λ (q : PageView). IsLabels h label q s.document) (sym is)
     (record { name_is = refl; printed = s.printed; n_is = s.count_is; part = s.part; head = s.carries.is_head })
 
--- the scanned copy is near its label
+-- the scanned grid is near its label
 abbrev IsFairScan : List GridView → ℕ → List (ℕ × ℕ) → Type 0
 IsFairScan grids number flips =
     (grid : GridView) → slice_get grids number ≡ Some grid → IsNear (flipped grid flips) grid
@@ -106,7 +106,7 @@ fair_page grids h number flips label opened left s opens fair =
     (opens.near label.grid (record { id = label.id; m = label.number; n = label.count; bytes = s.bytes }) s.carries
     (fair label.grid left))
 
--- the scanned copy has such finder patterns
+-- the scanned grid has such finder patterns
 framed : (grids : List GridView) (number : ℕ) (flips : List (ℕ × ℕ)) (grid : GridView) →
     slice_get grids number ≡ Some grid →
     HasGoodFrame (flipped grid flips) → IsFramed grids number flips

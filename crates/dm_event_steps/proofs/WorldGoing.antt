@@ -153,11 +153,10 @@ reply_more grids more capacities h event reply is = tt
 replies_more : {A : Type 0} (grids more : List GridView) (capacities : List ℕ) (h : History A) →
     AreHonestReplies grids capacities h → AreHonestReplies (grids ++ more) capacities h
 replies_more grids more capacities [] is = tt
-replies_more grids more capacities (e ∷ h) is =
-    (
-      (λ fair. reply_more grids more capacities h e.event e.reply (is.0 (fair_less grids more e.event fair))),
-      replies_more grids more capacities h is.1,
-    )
+replies_more grids more capacities (e ∷ h) is = (
+  (λ fair. reply_more grids more capacities h e.event e.reply (is.0 (fair_less grids more e.event fair))),
+  replies_more grids more capacities h is.1,
+)
 
 -- ---- who is not named
 

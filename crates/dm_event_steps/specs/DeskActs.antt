@@ -120,7 +120,7 @@ abbrev pub import_reply : {A : Type 0} → Result imported_type.Imported ImportF
 import_reply (Ok imported) = Imported imported
 import_reply (Err fault) = ImportRefused fault
 
--- a scan is `accept` on the flipped grid; memory for that copy may be refused first
+-- a scan is `accept` on the flipped grid; memory for that grid may be refused first
 abbrev pub ScanActs : {A : Type 0} → DeskView → GridView → Stop → Reply A → DeskState A → Type 0
 ScanActs {A} view grid stop reply state =
     ((reply ≡ Memory) × (state ≡ desks.Running view))

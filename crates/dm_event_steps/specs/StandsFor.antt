@@ -53,7 +53,7 @@ EachStepStands A = (ranges : List Range) (capacities : List ℕ) (h : History A)
     (event : Event A) (reply : Reply A) → StandsFor ranges capacities old h → Steps old event reply new →
     (entry : Entry A) × (entry.event ≡ event) × (entry.reply ≡ reply) × StandsFor ranges capacities new (entry ∷ h)
     × ((may_save event reply ≡ true → IsFairIn old event) → IsHonest (grids_of old) h →
-        IsHonest (grids_of new) (entry ∷ h))
+    IsHonest (grids_of new) (entry ∷ h))
 
 -- a world that begins prints no identification twice, and lets no label out twice, whatever its events are
 abbrev pub EachRunPrintsOnce : Type 0 → Type 0

@@ -93,7 +93,7 @@ Steps old event reply new =
 
 -- ---- runs
 
--- what is asked of an event before it: if what it names is there, a scan's copy is near its label
+-- what is asked of an event before it: if what it names is there, a scanned grid is near its label
 abbrev pub IsFairIn : {A : Type 0} → WorldView A → Event A → Type 0
 IsFairIn world event = IsNamed world event → IsFair (grids_of world) event
 

@@ -167,7 +167,7 @@ as_many old new (event ∷ events) (answer ∷ answers) runs =
 as_many old new [] (answer ∷ answers) runs = absurd runs
 as_many old new (event ∷ events) [] runs = absurd runs
 
--- of which event a copy is looked at, and which may not be fair
+-- which events are looked at, and which may not be fair
 is_scan : {A : Type 0} (world : WorldView A) (event : Event A) → IsLookedAt world event → IsScan event
 is_scan world (Scan desk label flips stop) looked = tt
 is_scan world event looked = absurd looked

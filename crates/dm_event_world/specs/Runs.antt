@@ -16,7 +16,7 @@ GoesOn {A} old event reply new = (ranges : List Range) (capacities : List ℕ) (
     StandsFor ranges capacities old h →
     (entry : Entry A) × (entry.event ≡ event) × (entry.reply ≡ reply) × StandsFor ranges capacities new (entry ∷ h)
     × ((may_save event reply ≡ true → IsFairIn old event) → IsHonest (grids_of old) h →
-        IsHonest (grids_of new) (entry ∷ h))
+    IsHonest (grids_of new) (entry ∷ h))
 
 -- the longer history has an entry more for each of these events, with its reply
 abbrev pub Continues : {A : Type 0} → History A → List (Event A) → List (Reply A) → History A → Type 0

@@ -35,7 +35,7 @@ IsShownForGood A = ¬ IsFaithfulIfHonest two_ranges 2 (shown_events A) (shown_an
 
 -- ---- answers that no world gives
 
--- a scan of a copy with too many wrong codewords, which is refused for them
+-- a scan with too many wrong codewords, which is refused for them
 abbrev pub worn : {A : Type 0} → List (Event A)
 worn = print 0 digits None ∷ Scan 0 0 ((0, 0) ∷ []) None ∷ []
 
@@ -48,7 +48,7 @@ pub record AreAnsweredWrongly (A : Type 0) : Type 0 where
   pub unanswered : ¬ IsFaithfulIfHonest {A = A} two_ranges 2 (Ask 0 0 ∷ []) []
   -- `not_given`: a print that is not given
   pub print_not_given : ¬ IsFaithfulIfHonest {A = A} two_ranges 2 (print 0 digits None ∷ []) (NotGiven ∷ [])
-  -- `dishonest`: a restart that is found dishonest, a scan of a copy without flips, and one of what is not there
+  -- `dishonest`: a restart that is found dishonest, a scan without flips, and one of what is not there
   pub dishonest_restart : ¬ IsFaithfulIfHonest {A = A} two_ranges 2 (RestartPrinter 0 ∷ []) (Given false Restarted ∷ [])
   pub dishonest_scan : ¬ IsFaithfulIfHonest {A = A} two_ranges 2 (print 0 digits None ∷ scan 0 ∷ [])
       (Given true (Printed 0 0 2) ∷ Given false (Scanned (page 0 1 New)) ∷ [])

@@ -39,7 +39,7 @@ abbrev pub IsScan : {A : Type 0} → Event A → Type 0
 IsScan (Scan desk label flips stop) = Unit {0}
 IsScan event = ⊥
 
--- the event is a scan of a copy in which modules were flipped
+-- the event is a scan in which modules are flipped
 abbrev pub HasFlips : {A : Type 0} → Event A → Type 0
 HasFlips (Scan desk label flips stop) = 0 < length flips
 HasFlips event = ⊥
@@ -73,7 +73,7 @@ IsFaithfulIfHonest ranges desks events answers =
 
 -- ---- what the answers are
 
--- a scan of what is there: of no other event a copy is looked at
+-- a scan of what is there: no other event is looked at
 abbrev pub IsLookedAt : {A : Type 0} → WorldView A → Event A → Type 0
 IsLookedAt world (Scan desk label flips stop) = IsNamed world (Scan desk label flips stop)
 IsLookedAt world event = ⊥

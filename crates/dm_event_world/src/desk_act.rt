@@ -82,8 +82,8 @@ fn scan_lacks_memory(answer: Result<Accepted, ScanFault>) -> bool
     matches!(answer, Err(ScanFault::Memory))
 }
 
-/// A desk scans a copy of a label's grid, with these modules flipped. Memory for the copy is asked for first; without
-/// it nothing changes.
+/// A desk scans a label's grid with these modules flipped. Memory for the flipped grid is asked for first; without it
+/// nothing changes.
 pub(crate) fn scan<A: Allocator + Copy>(
     alloc: A,
     state: &mut DeskState<A>,
@@ -99,14 +99,14 @@ pub(crate) fn scan<A: Allocator + Copy>(
     let DeskState::Running(desk) = state else {
         return Reply::Down;
     };
-    let Ok(copy) = grid.with_flips(alloc, flips) else {
+    let Ok(scanned) = grid.with_flips(alloc, flips) else {
         return Reply::Memory;
     };
     if is_stopped_before(stop) {
         take_down(alloc, state);
         return Reply::Stopped;
     }
-    let answer = accept_under(desk, &copy, stop);
+    let answer = accept_under(desk, &scanned, stop);
     if !is_stopping(stop) {
         return reply_to_scan(answer);
     }

@@ -11,10 +11,10 @@ pub fn shown_for_good<A: Allocator>()
     ensures { IsShownForGood A }
 {}
 
-/// Each event has an answer, only a scan is not given, and only a scan of what is there, of a copy in which modules
-/// were flipped, is found dishonest: runs that are answered otherwise are refused. So are those in which an honest scan
-/// is refused for a conflict, or a document is forgotten of which no label was scanned, and a scan that is not honest,
-/// but is refused, makes no difference to that.
+/// Each event has an answer, only a scan is not given, and only a scan of what is there, in which modules are flipped,
+/// is found dishonest: runs that are answered otherwise are refused. So are those in which an honest scan is refused
+/// for a conflict, or a document is forgotten of which no label was scanned, even after a scan that was not honest and
+/// was refused.
 pub fn answered_rightly<A: Allocator>()
     ensures { AreAnsweredWrongly A }
 {}

@@ -1,4 +1,4 @@
-//! Scanned copies of labels.
+//! Scanned labels.
 
 ghost use Rattle.std.specs.Prelude.{◌↔◌, ◌<◌, All, IsTrue};
 

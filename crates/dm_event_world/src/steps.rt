@@ -179,8 +179,8 @@ impl<A: Allocator + Copy> World<A> {
 }
 
 /// Whether an event is honest: a scan, of a label that left and of modules of it at a desk that is there, is if the
-/// scanned copy has no more wrong codewords in any block than can be corrected. Every other event is. Memory is asked
-/// for only to look at such a copy.
+/// scanned grid has no more wrong codewords in any block than can be corrected. Every other event is. Memory is asked
+/// for only to look at such a grid.
 ///
 /// # Errors
 /// Where the allocator refuses its memory.

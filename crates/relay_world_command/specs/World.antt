@@ -55,7 +55,7 @@ pub data EndsWorld (A : Type 0) (input rest : InputView) (old : OutputView) : �
       → ReadsScript input rest bytes → IsScript bytes script
       → RunsFromTheStart script.ranges.items script.capacities.items script.events.items answers
       → PrintsOnce script.ranges.items (length script.capacities.items) (given script.events.items answers)
-          (replies answers)
+      (replies answers)
       → TakesOnce (length script.ranges.items) (given script.events.items answers) (replies answers)
       → ImportsExports (length script.capacities.items) (given script.events.items answers) (replies answers)
       → IsFaithfulIfHonest script.ranges.items (length script.capacities.items) script.events.items answers

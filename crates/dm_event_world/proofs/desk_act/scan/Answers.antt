@@ -9,7 +9,7 @@ use Rattle.dm_event_world.proofs.desk_act.scan.Goals as goal
 
 pub returns-then-not-is_stopping-clause-acts : goal.returns-then-not-is_stopping-clause-acts
 returns-then-not-is_stopping-clause-acts g c =
-    scans_running c.args.grid.now c.in-Ok.copy c.args.flips.now c.args.stop c.in-Running.desk c.args.state.now
+    scans_running c.args.grid.now c.in-Ok.scanned c.args.flips.now c.args.stop c.in-Running.desk c.args.state.now
     c.reply_to_scan.result
     (Running c.accept_under-answer.new.desk) c.in-Ok.ensures c.in-Running.is
     (inr (call_answers _ scan_reply (Err scan_fault.Memory) c.args.stop c.in-Running.desk c.accept_under-answer.result
@@ -19,7 +19,7 @@ returns-then-not-is_stopping-clause-acts g c =
 
 pub returns-then-scan_lacks_memory-clause-acts : goal.returns-then-scan_lacks_memory-clause-acts
 returns-then-scan_lacks_memory-clause-acts g c =
-    scans_running c.args.grid.now c.in-Ok.copy c.args.flips.now c.args.stop c.in-Running.desk c.args.state.now Memory
+    scans_running c.args.grid.now c.in-Ok.scanned c.args.flips.now c.args.stop c.in-Running.desk c.args.state.now Memory
     (Running c.accept_under-answer.new.desk) c.in-Ok.ensures c.in-Running.is
     (inr (call_lacks_memory _ scan_reply (Err scan_fault.Memory) c.args.stop c.in-Running.desk
     c.accept_under-answer.result c.accept_under-answer.new.desk Memory
@@ -30,7 +30,7 @@ returns-then-scan_lacks_memory-clause-acts g c =
 
 pub returns-clause-acts : goal.returns-clause-acts
 returns-clause-acts g c =
-    scans_running c.args.grid.now c.in-Ok.copy c.args.flips.now c.args.stop c.in-Running.desk c.args.state.now Stopped
+    scans_running c.args.grid.now c.in-Ok.scanned c.args.flips.now c.args.stop c.in-Running.desk c.args.state.now Stopped
     c.take_down-2.new.state c.in-Ok.ensures c.in-Running.is
     (inr (call_stops_after _ scan_reply
     (Err scan_fault.Memory) c.args.stop c.in-Running.desk c.accept_under-answer.result
