@@ -23,7 +23,7 @@ came_by tickets (event ∷ events) (reply ∷ replies) printer =
     + came_by (tickets ++ given reply) events replies printer
 came_by tickets events replies printer = 0
 
--- after these events a printer has an identification left: fewer may have gone than it began with, and than came
+-- after these events a printer has an identification left: fewer may have gone than it began with and came, together
 abbrev pub HasNumber : {A : Type 0} → List Range → List (Event A) → List (Reply A) → ℕ → Type 0
 HasNumber ranges events replies printer =
     gone_by events replies printer < opening_count ranges printer + came_by [] events replies printer

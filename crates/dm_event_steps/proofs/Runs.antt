@@ -277,8 +277,10 @@ run_once {A} ranges capacities old new events replies s runs =
       (
         batches_of r.after,
         its_batches ranges capacities new r.after r.stands,
-        subst (λ (l : List (Event A)). PrintsOnceBy ranges (length capacities) (batches_of r.after) l replies) r.events_are
-            (subst (λ (l : List (Reply A)). PrintsOnceBy ranges (length capacities) (batches_of r.after) (events_of r.after) l) r.replies_are
+        subst (λ (l : List (Event A)). PrintsOnceBy ranges (length capacities) (batches_of r.after) l replies)
+            r.events_are
+            (subst (λ (l : List (Reply A)). PrintsOnceBy ranges (length capacities) (batches_of r.after)
+            (events_of r.after) l) r.replies_are
             (prints_once ranges (length capacities) r.after r.stands.disjoint legal never)),
       ),
       (
@@ -379,7 +381,8 @@ first_faithful : {A : Type 0} (ranges : List Range) (desks : ℕ) (h : History A
     IsFaithfulBy ranges desks (take k (batches_of h)) (take k (events_of h)) (take k (replies_of h)) →
     IsFaithfulBy ranges desks (take k (batches_of (e ∷ h))) (take k (events_of (e ∷ h))) (take k (replies_of (e ∷ h)))
 first_faithful {A} ranges desks h e k below f =
-    subst (λ (l : List (Option Batch)). IsFaithfulBy ranges desks l (take k (events_of (e ∷ h))) (take k (replies_of (e ∷ h))))
+    subst (λ (l : List (Option Batch)). IsFaithfulBy ranges desks l (take k (events_of (e ∷ h)))
+    (take k (replies_of (e ∷ h))))
     (sym (take_first (batches_of h) (batch_of e ∷ []) (length h) k (batches_count h) below))
     (subst (λ (l : List (Event A)). IsFaithfulBy ranges desks (take k (batches_of h)) l (take k (replies_of (e ∷ h))))
     (sym (take_first (events_of h) (e.event ∷ []) (length h) k (events_count h) below))
@@ -392,7 +395,8 @@ no_marks {A} ranges capacities world s =
     let none : History A = [] in record {
       count = refl;
       honest = λ marked. tt;
-      faithful = λ k marked. all_faithful ranges (length capacities) none k (omega arith) (whole_faithful ranges capacities world none s tt);
+      faithful = λ k marked. all_faithful ranges (length capacities) none k (omega arith)
+          (whole_faithful ranges capacities world none s tt);
       no_conflict = λ i marked mark. absurd (cc (mark));
     }
 
@@ -434,7 +438,8 @@ marked_next {A} ranges capacities old new h event reply marks mark g m fair = re
         (m.faithful k (first_marked h g.entry marks mark k m.count within marked)))
     | inr beyond ↦
         (let all : length (g.entry ∷ h) ≤ k = grind (arith, nat_tests, beyond) in
-        all_faithful ranges (length capacities) (g.entry ∷ h) k all (whole_faithful ranges capacities new (g.entry ∷ h) g.stands
+        all_faithful ranges (length capacities) (g.entry ∷ h) k all
+        (whole_faithful ranges capacities new (g.entry ∷ h) g.stands
         (honest (all_marked (g.entry ∷ h) (marks ++ mark ∷ []) k count all marked))))
   ];
   no_conflict = λ i marked is told. elim (before_or_last (replies_of h) g.entry.reply (ScanRefused Conflict)
@@ -520,14 +525,18 @@ fair_run {A} ranges capacities old new events marks replies s runs =
     let never : NeverTwice r.after = never_twice ranges (length capacities) r.after r.stands.disjoint legal in record {
       batches = batches_of r.after;
       its = its_batches ranges capacities new r.after r.stands;
-      prints = subst (λ (l : List (Event A)). PrintsOnceBy ranges (length capacities) (batches_of r.after) l replies) r.events_are
-          (subst (λ (l : List (Reply A)). PrintsOnceBy ranges (length capacities) (batches_of r.after) (events_of r.after) l) r.replies_are
+      prints = subst (λ (l : List (Event A)). PrintsOnceBy ranges (length capacities) (batches_of r.after) l replies)
+          r.events_are
+          (subst (λ (l : List (Reply A)). PrintsOnceBy ranges (length capacities) (batches_of r.after)
+          (events_of r.after) l) r.replies_are
           (prints_once ranges (length capacities) r.after r.stands.disjoint legal never));
       faithful = λ k.
           subst (λ (l : List (Event A)). AreMarked (take k l) (take k marks) (take k replies) →
-          IsFaithfulBy ranges (length capacities) (take k (batches_of r.after)) (take k l) (take k replies)) r.events_are
+          IsFaithfulBy ranges (length capacities) (take k (batches_of r.after)) (take k l) (take k replies))
+          r.events_are
           (subst (λ (l : List (Reply A)). AreMarked (take k (events_of r.after)) (take k marks) (take k l) →
-          IsFaithfulBy ranges (length capacities) (take k (batches_of r.after)) (take k (events_of r.after)) (take k l)) r.replies_are
+          IsFaithfulBy ranges (length capacities) (take k (batches_of r.after)) (take k (events_of r.after))
+          (take k l)) r.replies_are
           (f.marked.faithful k));
       no_conflict = λ i.
           subst (λ (l : List (Event A)). AreMarked (take i l) (take i marks) (take i replies) →

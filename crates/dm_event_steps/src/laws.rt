@@ -43,8 +43,8 @@ pub fn each_run_imports_exports<A: Allocator + Copy>()
 {}
 
 /// The headline: whatever a world answers that begins with printers of disjoint ranges is faithful as long as the scans
-/// that may have saved a page are near the labels that they name. Whatever document any desk gives for an identification
-/// is the one document printed under it, and no identification is ever printed twice.
+/// that may have saved a page are near the labels that they name. Whatever document any desk gives for an
+/// identification is the one document printed under it, and no identification is ever printed twice.
 pub fn each_fair_run_is_faithful<A: Allocator + Copy>()
     ensures { EachFairRunIsFaithful A }
 {}

@@ -6,7 +6,7 @@ use Rattle.dm_assembly_desk.specs.declared.fault.ScanFault.TheVariants.{Label}
 use Rattle.dm_event_history.specs.declared.event.Event.{Event}
 use Rattle.dm_event_history.specs.declared.event.Event.TheVariants.{Scan, RestartPrinter, Forget}
 use Rattle.dm_event_history.specs.declared.reply.Reply.{Reply}
-use Rattle.dm_event_history.specs.declared.reply.Reply.TheVariants.{Scanned, ScanRefused, Forgotten, Restarted, NoSuch}
+use Rattle.dm_event_history.specs.declared.reply.Reply.TheVariants.{Scanned, ScanRefused, Forgotten, Restarted, Stopped, Down, NoSuch}
 use Rattle.dm_event_history.specs.declared.stop.Stop.{Stop}
 use Rattle.dm_event_history.specs.declared.stop.Stop.TheVariants as stops
 use Rattle.dm_event_history.specs.Saving.{may_save}
@@ -14,7 +14,7 @@ use Rattle.dm_event_history.specs.Headline.{Batch, labels_of, IsScanOf, MayHaveS
 use Rattle.dm_event_history.proofs.Refuted.{first_label}
 use Rattle.dm_event_history.specs.Worked.{digits, two_ranges}
 use Rattle.dm_event_history.specs.Unfaithful.{page, print, scan}
-use Rattle.dm_event_world.specs.Shown.{IsShownForGood, shown_events, shown_answers, worn, refused, AreAnsweredWrongly}
+use Rattle.dm_event_world.specs.Shown.{IsShownForGood, shown_events, shown_answers, worn, refused, stopped_events, stopped_answers, AreAnsweredWrongly}
 use Rattle.dm_event_world.specs.declared.answers.Answer.TheVariants.{Given}
 use Rattle.dm_event_world.specs.Watched.{IsFaithfulIfHonestBy, given, replies}
 
@@ -22,12 +22,14 @@ pub is_shown_for_good : (A : Type 0) → IsShownForGood A
 is_shown_for_good A (batches, f) = by_batches batches f
   where
     -- the scan is of label 0
-    had : (batches : List (Option Batch)) → IsFaithfulIfHonestBy two_ranges 2 batches (shown_events A) (shown_answers A) →
+    had : (batches : List (Option Batch)) →
+        IsFaithfulIfHonestBy two_ranges 2 batches (shown_events A) (shown_answers A) →
         slice_get (labels_of (take 1 (take 2 batches))) 0 ≡ Some (record { id = 7; number = 1; count = 2 })
     had batches f =
         let s : IsScanOf (take 2 batches) (given (take 2 (shown_events A)) (take 2 (shown_answers A))) 1
         (record { id = 7; number = 1; count = 2 }) =
-        (f.faithful 2 ((λ may. refl), ((λ may. refl), tt))).scanned 1 (record { id = 7; m = 1; n = 2; kind = New }) refl in
+        (f.faithful 2 ((λ may. refl), ((λ may. refl), tt))).scanned 1
+        (record { id = 7; m = 1; n = 2; kind = New }) refl in
         let e : Some (Scan 0 0 [] stops.None) ≡ Some (Scan s.desk s.label s.flips s.stop) = s.event in
         let label_is : 0 ≡ s.label = cc (e) in
         subst (λ (i : ℕ). slice_get (labels_of (take 1 (take 2 batches))) i ≡ Some (record {
@@ -56,22 +58,61 @@ are_answered_wrongly A = record {
       omega arith);
   dishonest_of_none = λ t. (t.1.dishonest 0 (Scan 0 0 ((0, 0) ∷ []) stops.None) NoSuch refl refl).1 refl;
   conflicting = λ t. t.1.no_conflict 1 ((λ may. refl), tt) refl;
+  conflicting_with_flips = λ t. t.1.no_conflict 1 ((λ may. refl), tt) refl;
+  conflicting_at_first = λ t. t.1.no_conflict 1 ((λ may. refl), tt) refl;
   conflicting_after_refused = λ t. t.1.no_conflict 2 ((λ may. refl), ((λ may. cc (may)), tt)) refl;
-  forgotten_after_refused = λ t. (let f = t.1.faithful 3 ((λ may. refl), ((λ may. cc (may)), ((λ may. refl), tt))) in
-      let w = f.forgotten 2 0 0 stops.None refl refl in by_scan w.2.k w.2.before w.2.scan.event w.2.saved);
+  forgotten_after_refused = λ t.
+      (let f = t.1.faithful 3 ((λ may. refl), ((λ may. cc (may)), ((λ may. refl), tt))) in
+      let w = f.forgotten 2 0 0 stops.None refl refl in by_refused w.2.k w.2.before w.2.scan.event w.2.saved);
+  forgotten_after_stopped = λ t.
+      (let f = t.1.faithful 4 ((λ may. refl), ((λ may. cc (may)), ((λ may. cc (may)), ((λ may. refl), tt)))) in
+      let w = f.forgotten 3 1 0 stops.None refl refl in by_stopped w.2.k w.2.before w.2.scan.event w.2.saved);
+  forgotten_after_not_given = λ t.
+      (let f = t.1.faithful 3 ((λ may. refl), ((λ may. refl), tt)) in
+      let w = f.forgotten 1 0 0 stops.None refl refl in by_none w.2.k w.2.before w.2.scan.event);
 }
   where
-    events : List (Event A)
-    events = worn ++ Forget 0 0 stops.None ∷ []
+    flipped : Stop → Event A
+    flipped stop = Scan 0 0 ((0, 0) ∷ []) stop
 
-    told : List (Reply A)
-    told = replies (refused ++ Given true Forgotten ∷ [])
+    -- an event that was answered so can't have saved
+    unsaved : (event asked : Event A) (reply answered : Reply A) → Some event ≡ Some asked →
+        Some reply ≡ Some answered → may_save event reply ≡ false → may_save asked answered ≡ true → ⊥
+    unsaved event asked reply answered event_is reply_is none saves =
+        let e : event ≡ asked = cc (event_is) in
+        let r : reply ≡ answered = cc (reply_is) in
+        let x : may_save event reply ≡ true = subst (λ (v : Event A). may_save v reply ≡ true) (sym e)
+        (subst (λ (p : Reply A). may_save asked p ≡ true) (sym r) saves) in cc (none, x)
 
-    by_scan : (k : ℕ) → k < 2 → {desk label : ℕ} {flips : List (ℕ × ℕ)} {stop : Stop} →
-        slice_get events k ≡ Some (Scan desk label flips stop) → MayHaveSaved events told k → ⊥
-    by_scan zero before is saved = cc (is)
-    by_scan (suc zero) before is saved =
-        let own : Some (ScanRefused (Label (Block 0))) ≡ Some saved.reply = saved.answered in
-        let same : saved.reply ≡ ScanRefused (Label (Block 0)) = cc (own) in
-        let x : false ≡ true = subst (λ (r : Reply A). may_save saved.event r ≡ true) same saved.saves in cc (x)
-    by_scan (suc (suc k)) before is saved = omega arith
+    refused_events : List (Event A)
+    refused_events = worn ++ Forget 0 0 stops.None ∷ []
+
+    refused_replies : List (Reply A)
+    refused_replies = replies (refused ++ Given true Forgotten ∷ [])
+
+    by_refused : (k : ℕ) → k < 2 → {desk label : ℕ} {flips : List (ℕ × ℕ)} {stop : Stop} →
+        slice_get refused_events k ≡ Some (Scan desk label flips stop) →
+        MayHaveSaved refused_events refused_replies k → ⊥
+    by_refused zero before is saved = cc (is)
+    by_refused (suc zero) before is saved =
+        unsaved (flipped stops.None) saved.event (ScanRefused (Label (Block 0))) saved.reply saved.asked saved.answered
+        refl saved.saves
+    by_refused (suc (suc k)) before is saved = omega arith
+
+    by_stopped : (k : ℕ) → k < 3 → {desk label : ℕ} {flips : List (ℕ × ℕ)} {stop : Stop} →
+        slice_get (stopped_events A) k ≡ Some (Scan desk label flips stop) →
+        MayHaveSaved (stopped_events A) (replies (stopped_answers A)) k → ⊥
+    by_stopped zero before is saved = cc (is)
+    by_stopped (suc zero) before is saved =
+        unsaved (flipped stops.BeforeSave) saved.event Stopped saved.reply saved.asked saved.answered refl saved.saves
+    by_stopped (suc (suc zero)) before is saved =
+        unsaved (flipped stops.None) saved.event Down saved.reply saved.asked saved.answered refl saved.saves
+    by_stopped (suc (suc (suc k))) before is saved = omega arith
+
+    given_events : List (Event A)
+    given_events = print 0 digits stops.None ∷ Forget 0 0 stops.None ∷ []
+
+    by_none : (k : ℕ) → k < 1 → {desk label : ℕ} {flips : List (ℕ × ℕ)} {stop : Stop} →
+        slice_get given_events k ≡ Some (Scan desk label flips stop) → ⊥
+    by_none zero before is = cc (is)
+    by_none (suc k) before is = omega arith

@@ -6,8 +6,8 @@ use Rattle.dm_assembly_desk.specs.declared.reply.Kind.TheVariants.{New}
 use Rattle.dm_assembly_desk.specs.declared.fault.ScanFault.TheVariants.{Label, Conflict}
 use Rattle.dm_event_history.specs.declared.event.Event.{Event}
 use Rattle.dm_event_history.specs.declared.event.Event.TheVariants.{Scan, RestartPrinter, Ask, Forget}
-use Rattle.dm_event_history.specs.declared.reply.Reply.TheVariants.{Printed, Scanned, ScanRefused, Forgotten, Restarted, Stopped, NoSuch}
-use Rattle.dm_event_history.specs.declared.stop.Stop.TheVariants.{None, AfterLabels}
+use Rattle.dm_event_history.specs.declared.reply.Reply.TheVariants.{Printed, Scanned, ScanRefused, Forgotten, Restarted, Stopped, Down, NoSuch}
+use Rattle.dm_event_history.specs.declared.stop.Stop.TheVariants.{None, BeforeSave, AfterLabels}
 use Rattle.dm_event_history.specs.Worked.{digits, two_ranges}
 use Rattle.dm_event_history.specs.Unfaithful.{other_digits, page, print, scan}
 use Rattle.dm_event_world.specs.declared.answers.Answer.{Answer}
@@ -42,6 +42,18 @@ worn = print 0 digits None ∷ Scan 0 0 ((0, 0) ∷ []) None ∷ []
 abbrev pub refused : {A : Type 0} → List (Answer A)
 refused = Given true (Printed 0 0 2) ∷ Given false (ScanRefused (Label (Block 0))) ∷ []
 
+-- scans with too many wrong codewords, of which one is stopped before its save, and one is answered by a desk that is
+-- down; then another desk forgets a document
+abbrev pub stopped_events : (A : Type 0) → List (Event A)
+stopped_events A =
+    print 0 digits None ∷
+    Scan 0 0 ((0, 0) ∷ []) BeforeSave ∷
+    Scan 0 0 ((0, 0) ∷ []) None ∷ Forget 1 0 None ∷ []
+
+abbrev pub stopped_answers : (A : Type 0) → List (Answer A)
+stopped_answers A =
+    Given true (Printed 0 0 2) ∷ Given false Stopped ∷ Given false Down ∷ Given true Forgotten ∷ []
+
 -- Each of these would be allowed without the field that its comment names.
 pub record AreAnsweredWrongly (A : Type 0) : Type 0 where
   -- `each_answer`: an event without an answer
@@ -52,13 +64,24 @@ pub record AreAnsweredWrongly (A : Type 0) : Type 0 where
   pub dishonest_restart : ¬ IsFaithfulIfHonest {A = A} two_ranges 2 (RestartPrinter 0 ∷ []) (Given false Restarted ∷ [])
   pub dishonest_scan : ¬ IsFaithfulIfHonest {A = A} two_ranges 2 (print 0 digits None ∷ scan 0 ∷ [])
       (Given true (Printed 0 0 2) ∷ Given false (Scanned (page 0 1 New)) ∷ [])
-  pub dishonest_of_none : ¬ IsFaithfulIfHonest {A = A} two_ranges 2 (Scan 0 0 ((0, 0) ∷ []) None ∷ []) (Given false NoSuch ∷ [])
-  -- `no_conflict`: an honest scan is refused for a conflict
+  pub dishonest_of_none : ¬ IsFaithfulIfHonest {A = A} two_ranges 2 (Scan 0 0 ((0, 0) ∷ []) None ∷ [])
+      (Given false NoSuch ∷ [])
+  -- `no_conflict`: an honest scan is refused for a conflict, without flips and with, whatever comes later
   pub conflicting : ¬ IsFaithfulIfHonest {A = A} two_ranges 2 (print 0 digits None ∷ scan 0 ∷ [])
       (Given true (Printed 0 0 2) ∷ Given true (ScanRefused Conflict) ∷ [])
-  -- `no_conflict` and `faithful` go on to hold after a scan that was not honest, if it was refused: an honest one is
-  -- refused for a conflict, and a document is forgotten of which no other label was scanned
+  pub conflicting_with_flips : ¬ IsFaithfulIfHonest {A = A} two_ranges 2 worn
+      (Given true (Printed 0 0 2) ∷ Given true (ScanRefused Conflict) ∷ [])
+  pub conflicting_at_first : ¬ IsFaithfulIfHonest {A = A} two_ranges 2
+      (print 0 digits None ∷ scan 0 ∷ Scan 0 0 ((0, 0) ∷ []) None ∷ [])
+      (Given true (Printed 0 0 2) ∷
+      Given true (ScanRefused Conflict) ∷ Given false (Scanned (page 0 1 New)) ∷ [])
+  -- `no_conflict` and `faithful` go on to hold after a scan that was not honest, if it can't have saved its page: it was
+  -- refused, stopped before its save, answered by a desk that was down, or not given. An honest one is refused for a
+  -- conflict, and a document is forgotten of which no other label was scanned.
   pub conflicting_after_refused : ¬ IsFaithfulIfHonest {A = A} two_ranges 2 (worn ++ scan 0 ∷ [])
       (refused ++ Given true (ScanRefused Conflict) ∷ [])
   pub forgotten_after_refused : ¬ IsFaithfulIfHonest {A = A} two_ranges 2 (worn ++ Forget 0 0 None ∷ [])
       (refused ++ Given true Forgotten ∷ [])
+  pub forgotten_after_stopped : ¬ IsFaithfulIfHonest {A = A} two_ranges 2 (stopped_events A) (stopped_answers A)
+  pub forgotten_after_not_given : ¬ IsFaithfulIfHonest {A = A} two_ranges 2 (worn ++ Forget 0 0 None ∷ [])
+      (Given true (Printed 0 0 2) ∷ NotGiven ∷ Given true Forgotten ∷ [])

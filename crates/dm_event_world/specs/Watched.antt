@@ -27,7 +27,7 @@ replies [] = []
 replies (Given is_honest reply ∷ answers) = reply ∷ replies answers
 replies (NotGiven ∷ answers) = replies answers
 
--- each of them that may have saved, such as a scan that was not refused, was found honest before it was given
+-- each of them that may have saved, such as a scan that was answered with a page, was found honest before it was given
 abbrev pub AreHonest : {A : Type 0} → List (Event A) → List (Answer A) → Type 0
 AreHonest (event ∷ events) (Given is_honest reply ∷ answers) =
     (may_save event reply ≡ true → is_honest ≡ true) × AreHonest events answers

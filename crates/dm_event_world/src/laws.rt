@@ -13,8 +13,8 @@ pub fn shown_for_good<A: Allocator>()
 
 /// Each event has an answer, only a scan is not given, and only a scan of what is there, in which modules are flipped,
 /// is found dishonest: runs that are answered otherwise are refused. So are those in which an honest scan is refused
-/// for a conflict, or a document is forgotten of which no label was scanned, even after a scan that was not honest and
-/// was refused.
+/// for a conflict, or a document is forgotten no label of which was scanned by a scan that may have saved its page,
+/// even after a scan that was not honest, and can't have saved.
 pub fn answered_rightly<A: Allocator>()
     ensures { AreAnsweredWrongly A }
 {}

@@ -30,7 +30,8 @@ returns-then-scan_lacks_memory-clause-acts g c =
 
 pub returns-clause-acts : goal.returns-clause-acts
 returns-clause-acts g c =
-    scans_running c.args.grid.now c.in-Ok.scanned c.args.flips.now c.args.stop c.in-Running.desk c.args.state.now Stopped
+    scans_running c.args.grid.now c.in-Ok.scanned c.args.flips.now c.args.stop c.in-Running.desk c.args.state.now
+    Stopped
     c.take_down-2.new.state c.in-Ok.ensures c.in-Running.is
     (inr (call_stops_after _ scan_reply
     (Err scan_fault.Memory) c.args.stop c.in-Running.desk c.accept_under-answer.result

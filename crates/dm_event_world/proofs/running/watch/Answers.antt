@@ -9,8 +9,11 @@ returns-in-Ok-answer_all-clause-headline g c =
     let answers = c.in-Ok-answer_all.answers.items in
     let f = c.each_fair_run_is_faithful.ensures c.args.ranges.now c.args.capacities.now c.in-Ok.world
     c.answer_all.new.world (given events answers) (marks answers) (replies answers) c.in-Ok.ensures.stands
-    (runs_marked c.in-Ok.world c.answer_all.new.world events answers c.in-Ok-answer_all.ensures) in
-    (f.batches, faithful_by c.args.ranges.now (length c.args.capacities.now) c.in-Ok.world c.answer_all.new.world events answers c.in-Ok-answer_all.ensures f))
+    (runs_marked c.in-Ok.world c.answer_all.new.world events answers c.in-Ok-answer_all.ensures) in (
+      f.batches,
+      faithful_by c.args.ranges.now (length c.args.capacities.now) c.in-Ok.world c.answer_all.new.world
+          events answers c.in-Ok-answer_all.ensures f,
+    ))
 
 pub returns-in-Ok-answer_all-clause-once : goal.returns-in-Ok-answer_all-clause-once
 returns-in-Ok-answer_all-clause-once g c =
@@ -54,6 +57,7 @@ returns-in-Ok-answer_all-clause-answers g c =
       answered = c.in-Ok-answer_all.ensures;
       batches = f.batches;
       its = f.its;
-      faithful = faithful_by c.args.ranges.now (length c.args.capacities.now) c.in-Ok.world c.answer_all.new.world events answers c.in-Ok-answer_all.ensures f;
+      faithful = faithful_by c.args.ranges.now (length c.args.capacities.now) c.in-Ok.world c.answer_all.new.world
+          events answers c.in-Ok-answer_all.ensures f;
       labels = once.1;
     }
