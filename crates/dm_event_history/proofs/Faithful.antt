@@ -1,28 +1,40 @@
--- A legal and safe history is faithful: what its replies tell of documents and pages is so, by its events and replies
--- alone.
-use Rattle.std.proofs.Common.{◌≡◌, ◌<◌, inl, inr, ℕ, Option, Some, List, [], ◌∷◌, ◌++◌, length, slice_get, zero, suc, ◌≤◌, take, refl, ap, sym, ◌∙◌, subst, arith}
+-- A legal and safe history is faithful: what the replies of desks that are not tainted tell of documents and pages is
+-- so, by its events and replies alone.
+use Rattle.std.proofs.lemmas.List.{append-nil}
+use Rattle.std.proofs.Common.{◌≡◌, ◌≢◌, ◌<◌, ◌+◌, inl, inr, ℕ, Bool, true, false, Option, Some, List, [], ◌∷◌, ◌++◌, length, slice_get, zero, suc, ◌≤◌, take, refl, ap, sym, ◌∙◌, subst, arith}
 use Rattle.dm_finder_frame.specs.Grids.{GridView}
 use Rattle.dm_print_ledger.specs.declared.range.Range.{Range}
 use Rattle.dm_assembly_desk.specs.declared.fault.AskFault.TheVariants.{Incomplete}
+use Rattle.dm_append_label.specs.declared.fault.LabelFault.TheVariants as label_fault
+use Rattle.dm_assembly_desk.specs.declared.fault.ScanFault.{ScanFault}
+use Rattle.dm_assembly_desk.specs.declared.fault.ScanFault.TheVariants as scan_fault
 use Rattle.dm_assembly_desk.specs.declared.fault.ImportFault.{ImportFault}
 use Rattle.dm_assembly_desk.specs.declared.fault.ImportFault.TheVariants as import_fault
 use Rattle.dm_event_history.specs.declared.stop.Stop.{Stop}
 use Rattle.dm_event_history.specs.declared.event.Event.{Event}
 use Rattle.dm_event_history.specs.declared.event.Event.TheVariants.{Scan, Ask, Forget, Import, Export}
 use Rattle.dm_event_history.specs.declared.reply.Reply.{Reply}
-use Rattle.dm_event_history.specs.declared.reply.Reply.TheVariants.{Scanned, Document, AskRefused, Forgotten, Exported, ImportRefused}
-use Rattle.dm_event_history.specs.History.{Entry, History, CutDocument, LabelName, ExportName, out, exports, exported, printed_by, prints_as, docs, events_of, replies_of}
+use Rattle.dm_event_history.specs.declared.reply.Reply.TheVariants.{Scanned, ScanRefused, Document, AskRefused, Forgotten, Exported, ImportRefused, NoSuch}
+use Rattle.dm_event_history.specs.History.{Entry, History, CutDocument, LabelName, ExportName, out, exports, exported, events_of, replies_of}
 use Rattle.dm_event_history.specs.Legal.{AreDisjoint, IsLegal, IsReply, NeverTwice}
-use Rattle.dm_event_history.specs.Safe.{IsSafe, IsReplySafe, IsTrueDocument, IsTrulyMissing, IsExportSafe}
-use Rattle.dm_event_history.specs.Honest.{IsFair, IsHonestlyNotImported, IsHonestReply, AreHonestReplies}
+use Rattle.dm_event_history.specs.Safe.{known_of, IsSafe, IsReplySafe}
+use Rattle.dm_event_history.specs.Telling.{IsReplyTrue, IsTrueDocument, IsTrulyMissing, IsExportSafe}
+use Rattle.dm_event_history.specs.Actors.{Actor, DeskAt, actor_of}
+use Rattle.dm_event_history.specs.Running.{is_failed, failed_after}
+use Rattle.dm_event_history.specs.Replying.{goes_on, has_failed_before}
+use Rattle.dm_event_history.specs.Saving.{may_save}
+use Rattle.dm_event_history.specs.Tainted.{AtDesk, InExport, IsTainted}
+use Rattle.dm_event_history.specs.Honest.{IsHonestlyRefused, IsHonestlyNotImported, IsHonestReply, AreHonestReplies, AreMarkedFair, IsClean, BringsClean}
 use Rattle.dm_event_history.specs.Masks.{HasPage}
 use Rattle.dm_event_history.specs.Holding.{MayTake, IsPossiblyHeld}
-use Rattle.dm_event_history.specs.Headline.{Batch, count_of, labels_of, IsScanOf, MayHaveSaved, WasScanned, LeftBefore, WasPrinted, WasBegun, IsOfDesk, PrintsOnceBy, IsFaithfulBy}
-use Rattle.dm_event_history.proofs.Batches.{all_of, cut_is, batch_of, batches_of, at_last, events_count, replies_count, batches_count, before_or_last, take_keeps, in_either, out_is, label_in, last_batch, whole_before}
+use Rattle.dm_event_history.specs.Headline.{Batch, count_of, labels_of, IsScanOf, MayHaveSaved, WasScanned, LeftBefore, WasPrinted, WasBegun, MayRefuse, IsOfDesk, PrintsOnceBy, known_before, IsFaithfulBy}
+use Rattle.dm_event_history.proofs.Batches.{batch_of, batches_of, at_last, events_count, replies_count, batches_count, before_or_last, take_keeps, in_either, out_is, label_in, whole_before}
+use Rattle.dm_event_history.proofs.Replied.{failed_at_last}
 use Rattle.dm_event_history.proofs.PrintsOnce.{prints_once}
-use Rattle.dm_event_history.proofs.Deciding.{if_not, if_so, decided, true_false}
+use Rattle.dm_event_history.proofs.Tainting.{IsFirst, first_whole, first_less, last_asked, clean_of, BringsUntainted, IsUntainted, untainted_at, last_brings, last_clean}
 use Rattle.dm_event_history.proofs.Gotten.{get_more, get_beyond}
-use Rattle.dm_event_history.proofs.Printed.{prints_as_means}
+use Rattle.dm_event_history.proofs.PrintedBatches.{IsPrintedBy, printed_at}
+use Rattle.dm_event_history.proofs.Knowing.{IsFirstOf, first_of_less, run_follows, reply_follows}
 
 -- ---- what was scanned and printed, one event more
 
@@ -47,6 +59,16 @@ scan_more batches more events event i name within scan = record {
       (take_keeps batches (more ∷ []) i within) ∙ scan.had_left;
 }
 
+-- who had failed before an event is told by those before it
+failed_more : {A : Type 0} (events : List (Event A)) (replies : List (Reply A)) (event : Event A) (reply : Reply A)
+    (k : ℕ) (actor : Actor) → k ≤ length events → k ≤ length replies →
+    has_failed_before (events ++ event ∷ []) (replies ++ reply ∷ []) k actor ≡ has_failed_before events replies k actor
+failed_more {A} events replies event reply k actor asked answered =
+    ap (λ (l : List (Event A)). goes_on failed_after l (take k (replies ++ reply ∷ [])) actor false)
+    (take_keeps events (event ∷ []) k asked) ∙
+    ap (λ (l : List (Reply A)). goes_on failed_after (take k events) l actor false)
+    (take_keeps replies (reply ∷ []) k answered)
+
 saved_more : {A : Type 0} (events : List (Event A)) (replies : List (Reply A)) (event : Event A) (reply : Reply A)
     (k : ℕ) →
     MayHaveSaved events replies k → MayHaveSaved (events ++ event ∷ []) (replies ++ reply ∷ []) k
@@ -56,6 +78,10 @@ saved_more events replies event reply k was = record {
   reply = was.reply;
   answered = get_more replies (reply ∷ []) k was.reply was.answered;
   saves = was.saves;
+  unfailed =
+      (let asked = get_beyond events k was.event was.asked in
+      let answered = get_beyond replies k was.reply was.answered in
+      failed_more events replies event reply k (actor_of was.event) (omega arith) (omega arith)) ∙ was.unfailed;
 }
 
 scanned_more : {A : Type 0} (batches : List (Option Batch)) (more : Option Batch) (events : List (Event A))
@@ -149,39 +175,52 @@ scans_more h e id m scans =
       saved = saved_more (events_of h) (replies_of h) e.event e.reply scans.k scans.saved;
     }
 
--- each page that a desk may hold, and each that was exported, was scanned
-record HeldWasScanned {A : Type 0} (h : History A) : Type 0 where
-  pub held : (desk id m : ℕ) → IsPossiblyHeld h desk id m → Scans h id m
-  pub exported : (export : ℕ) (name : ExportName) (m : ℕ) → slice_get (exports h) export ≡ Some name →
-      HasPage name.mask m → Scans h name.id m
+-- a desk is clean after an event with this reply
+abbrev CleanAfter : {A : Type 0} → List GridView → History A → Event A → Reply A → ℕ → Type 0
+CleanAfter grids h event reply desk =
+    (actor_of event ≡ DeskAt desk → may_save event reply ≡ true → BringsClean grids h event)
+    × IsClean grids h (AtDesk desk)
 
-held_first : {A : Type 0} → (let none : History A = [] in HeldWasScanned none)
-held_first = record {
-  held = λ desk id m held. absurd held;
-  exported = λ export name m there page. absurd (cc (there));
+-- if it is, the reply is safe
+abbrev SafeIfClean : {A : Type 0} → List GridView → History A → Event A → Reply A → Type 0
+SafeIfClean grids h event reply = (desk : ℕ) → actor_of event ≡ DeskAt desk →
+    CleanAfter grids h event reply desk → IsReplySafe h event reply
+
+-- each page that a clean desk may hold, and each of a clean export, was scanned
+record HeldWasScanned {A : Type 0} (grids : List GridView) (h : History A) : Type 0 where
+  pub held : (desk id m : ℕ) → IsClean grids h (AtDesk desk) → IsPossiblyHeld h desk id m → Scans h id m
+  pub exported : (export : ℕ) (name : ExportName) (m : ℕ) → IsClean grids h (InExport export) →
+      slice_get (exports h) export ≡ Some name → HasPage name.mask m → Scans h name.id m
+
+held_first : {A : Type 0} (grids : List GridView) → (let none : History A = [] in HeldWasScanned grids none)
+held_first grids = record {
+  held = λ desk id m clean held. absurd held;
+  exported = λ export name m clean there page. absurd (cc (there));
 }
 
-held_next : {A : Type 0} (ranges : List Range) (h : History A) (e : Entry A) →
+held_next : {A : Type 0} (ranges : List Range) (grids : List GridView) (h : History A) (e : Entry A) →
     IsReply ranges h e.id e.left e.event e.reply →
-    IsReplySafe h e.event e.reply → HeldWasScanned h → HeldWasScanned (e ∷ h)
-held_next {A} ranges h e fine safe was = record {
-  held = λ desk id m may. elim may [
-    | inl now ↦ takes e.event refl desk id m now
-    | inr before ↦ scans_more h e id m (was.held desk id m before.1)
+    SafeIfClean grids h e.event e.reply → HeldWasScanned grids h → HeldWasScanned grids (e ∷ h)
+held_next {A} ranges grids h e fine safe was = record {
+  held = λ desk id m clean may. elim may [
+    | inl now ↦ takes e.event refl desk id m clean.0 now.0 now.1
+    | inr before ↦ scans_more h e id m (was.held desk id m clean.1 before.1)
   ];
-  exported = λ export name m there page. elim (in_either (exports h) (exported e.reply) export name there) [
-    | inl before ↦ scans_more h e name.id m (was.exported export name m before page)
-    | inr last ↦ scans_more h e name.id m (leaves e.event e.reply fine safe last.0 name last.2 m page)
+  exported = λ export name m clean there page. elim (in_either (exports h) (exported e.reply) export name there) [
+    | inl before ↦ scans_more h e name.id m (was.exported export name m clean.1 before page)
+    | inr last ↦ scans_more h e name.id m
+        (leaves e.event e.reply fine safe export clean.0 last.0 name last.1 last.2 m page)
   ];
 }
   where
-    only : (x y : ExportName) (i : ℕ) → slice_get (x ∷ []) i ≡ Some y → x ≡ y
-    only x y zero is = (let a : Some x ≡ Some y = is in cc)
+    only : (x y : ExportName) (i : ℕ) → slice_get (x ∷ []) i ≡ Some y → (x ≡ y) × (i ≡ 0)
+    only x y zero is = ((let a : Some x ≡ Some y = is in cc), refl)
     only x y (suc i) is = absurd (cc (is))
 
-    takes : (event : Event A) → e.event ≡ event → (desk id m : ℕ) → MayTake h event e.reply desk id m →
-        Scans (e ∷ h) id m
-    takes (Scan d label flips stop) is desk id m may = record {
+    takes : (event : Event A) → e.event ≡ event → (desk id m : ℕ) →
+        (actor_of event ≡ DeskAt desk → may_save event e.reply ≡ true → BringsClean grids h event) →
+        MayTake (out h) (exports h) event e.reply desk id m → is_failed h (DeskAt desk) ≡ false → Scans (e ∷ h) id m
+    takes (Scan d label flips stop) is desk id m brings may unfailed = record {
       name = may.2.0;
       id_is = may.2.2;
       number_is = may.2.3;
@@ -194,68 +233,43 @@ held_next {A} ranges h e fine safe was = record {
         reply = e.reply;
         answered = at_last (replies_of h) e.reply (length h) (replies_count h);
         saves = may.1;
+        unfailed = failed_at_last h e (DeskAt d) ∙ ap (λ (k : ℕ). is_failed h (DeskAt k)) may.0 ∙ unfailed;
       };
     }
-    takes (Import d export stop) is desk id m may =
+    takes (Import d export stop) is desk id m brings may unfailed =
         subst (λ (i : ℕ). Scans (e ∷ h) i m) may.2.2
-        (scans_more h e may.2.0.id m (was.exported export may.2.0 m may.2.1 may.2.3))
-    takes event is desk id m may = absurd may
+        (scans_more h e may.2.0.id m
+        (was.exported export may.2.0 m (brings (ap DeskAt may.0) may.1) may.2.1 may.2.3))
+    takes event is desk id m brings may unfailed = absurd may
 
     leaves : (event : Event A) (reply : Reply A) → IsReply ranges h e.id e.left event reply →
-        IsReplySafe h event reply →
-        (i : ℕ) (name : ExportName) → slice_get (exported reply) i ≡ Some name → (m : ℕ) → HasPage name.mask m →
-        Scans h name.id m
-    leaves (Export d asked) (Exported index id n mask) fine safe i name there m page =
-        let same : record { id = id; count = n; mask = mask } ≡ name =
-        only (record { id = id; count = n; mask = mask }) name i there in
+        SafeIfClean grids h event reply →
+        (export : ℕ) → ((desk asked id n mask : ℕ) → event ≡ Export desk asked → reply ≡ Exported export id n mask →
+        IsClean grids h (AtDesk desk)) →
+        (i : ℕ) (name : ExportName) → export ≡ length (exports h) + i → slice_get (exported reply) i ≡ Some name →
+        (m : ℕ) → HasPage name.mask m → Scans h name.id m
+    leaves (Export d asked) (Exported index id n mask) fine safe export from i name at there m page =
+        let one = only (record { id = id; count = n; mask = mask }) name i there in
+        let same : record { id = id; count = n; mask = mask } ≡ name = one.0 in
+        let none = one.1 in
+        let index_is = fine.index_is in
+        let number : index ≡ export = omega arith in
+        let clean : IsClean grids h (AtDesk d) =
+        from d asked id n mask refl (ap (λ (k : ℕ). Exported k id n mask) number) in
+        let left = safe d refl ((λ actor saves. tt), clean) in
         subst (λ (k : ℕ). Scans h k m) (sym fine.id_is ∙ ap (λ (x : ExportName). x.id) same)
-        (was.held d asked m (safe.possibly m
+        (was.held d asked m clean (left.possibly m
         (subst (λ (k : ℕ). HasPage k m) (sym (ap (λ (x : ExportName). x.mask) same)) page)))
-    leaves event (Exported index id n mask) fine safe i name there m page = absurd fine
-    leaves event reply fine safe i name there m page = absurd (cc (there))
+    leaves event (Exported index id n mask) fine safe export from i name at there m page = absurd fine
+    leaves event reply fine safe export from i name at there m page = absurd (cc (there))
 
-held_scanned : {A : Type 0} (ranges : List Range) (desks : ℕ) (h : History A) → IsLegal ranges desks h → IsSafe h →
-    HeldWasScanned h
-held_scanned ranges desks [] legal safe = held_first
-held_scanned ranges desks (e ∷ h) legal safe = held_next ranges h e legal.0.reply safe.0
-    (held_scanned ranges desks h legal.1 safe.1)
+held_scanned : {A : Type 0} (ranges : List Range) (desks : ℕ) (grids : List GridView) (h : History A) →
+    IsLegal ranges desks h → IsSafe grids h → HeldWasScanned grids h
+held_scanned ranges desks grids [] legal safe = held_first grids
+held_scanned ranges desks grids (e ∷ h) legal safe = held_next ranges grids h e legal.0.reply safe.0
+    (held_scanned ranges desks grids h legal.1 safe.1)
 
 -- ---- documents
-
--- what was printed under an identification left before
-pub record IsPrintedBy {A : Type 0} (h : History A) (id : ℕ) (cut : CutDocument) : Type 0 where
-  pub batch : Batch
-  pub printed : LeftBefore (batches_of h) (length h) id batch
-  pub document_is : batch.document ≡ cut
-
-pub printed_at : {A : Type 0} (ranges : List Range) (desks : ℕ) (h : History A) (id : ℕ) (cut : CutDocument) →
-    IsLegal ranges desks h → docs h id ≡ Some cut →
-    IsPrintedBy h id cut
-printed_at ranges desks [] id cut legal had = cc
-printed_at {A} ranges desks (e ∷ h) id cut legal had = elim (decided (prints_as e id)) [
-  | inl is ↦
-      (let t = prints_as_means e id is in
-      let own : printed_by e.event e.parts ≡ Some cut =
-      sym (if_so (prints_as e id) (printed_by e.event e.parts) (docs h id) is) ∙ had in record {
-        batch = all_of e;
-        printed = record { j = length h; before = omega arith; there = last_batch h e t.0; id_is = t.1 };
-        document_is = cut_is e.event e.parts cut own;
-      })
-  | inr not_so ↦
-      (let was = printed_at ranges desks h id cut legal.1
-      (sym (if_not (prints_as e id) (printed_by e.event e.parts) (docs h id)
-      (λ so. true_false (prints_as e id) so not_so)) ∙ had) in
-      let below : was.printed.j < length h = was.printed.before in record {
-        batch = was.batch;
-        printed = record {
-          j = was.printed.j;
-          before = omega arith;
-          there = get_more (batches_of h) (batch_of e ∷ []) was.printed.j (Some was.batch) was.printed.there;
-          id_is = was.printed.id_is;
-        };
-        document_is = was.document_is;
-      })
-]
 
 -- the page of a label that was scanned is one of the batch under its identification
 scan_of : {A : Type 0} (ranges : List Range) (desks : ℕ) (h : History A) (id m n : ℕ) (batch : Batch) →
@@ -289,26 +303,26 @@ count_is : {A : Type 0} (h : History A) (id : ℕ) (cut : CutDocument) → (p : 
 count_is h id cut p = ap (λ (c : CutDocument). length c.parts) p.document_is
 
 -- a document that may be held whole was printed, and all its labels were scanned
-true_document : {A : Type 0} (ranges : List Range) (desks : ℕ) (h : History A) (desk id : ℕ) (bytes : List ℕ) →
-    IsLegal ranges desks h → IsSafe h →
-    PrintsOnceBy ranges desks (batches_of h) (events_of h) (replies_of h) → IsTrueDocument h desk id bytes →
+true_document : {A : Type 0} (ranges : List Range) (desks : ℕ) (grids : List GridView) (h : History A) (desk id : ℕ)
+    (bytes : List ℕ) → IsLegal ranges desks h → IsSafe grids h → IsClean grids h (AtDesk desk) →
+    PrintsOnceBy ranges desks (batches_of h) (events_of h) (replies_of h) → IsTrueDocument (known_of h) desk id bytes →
     WasPrinted (batches_of h) (events_of h) (replies_of h) (length h) id bytes
-true_document {A} ranges desks h desk id bytes legal safe once s =
+true_document {A} ranges desks grids h desk id bytes legal safe clean once s =
     let p : IsPrintedBy h id s.document = printed_at ranges desks h id s.document legal s.printed in
     let n_is = count_is h id s.document p in record {
       batch = p.batch;
       printed = p.printed;
       bytes_are = ap (λ (c : CutDocument). c.bytes) p.document_is ∙ sym s.same;
       scanned = λ m first last. scan_of ranges desks h id m (count_of p.batch) p.batch once p.printed refl
-          ((held_scanned ranges desks h legal safe).held desk id m (s.possibly m first (omega arith)));
+          ((held_scanned ranges desks grids h legal safe).held desk id m clean (s.possibly m first (omega arith)));
     }
 
 -- a document that lacks pages was printed, and the labels of the other pages were scanned
-truly_missing : {A : Type 0} (ranges : List Range) (desks : ℕ) (h : History A) (desk id missing : ℕ) →
-    IsLegal ranges desks h → IsSafe h →
-    PrintsOnceBy ranges desks (batches_of h) (events_of h) (replies_of h) → IsTrulyMissing h desk id missing →
+truly_missing : {A : Type 0} (ranges : List Range) (desks : ℕ) (grids : List GridView) (h : History A)
+    (desk id missing : ℕ) → IsLegal ranges desks h → IsSafe grids h → IsClean grids h (AtDesk desk) →
+    PrintsOnceBy ranges desks (batches_of h) (events_of h) (replies_of h) → IsTrulyMissing (known_of h) desk id missing →
     WasBegun (batches_of h) (events_of h) (replies_of h) (length h) id missing
-truly_missing {A} ranges desks h desk id missing legal safe once s =
+truly_missing {A} ranges desks grids h desk id missing legal safe clean once s =
     let p : IsPrintedBy h id s.document = printed_at ranges desks h id s.document legal s.printed in
     let n_is = count_is h id s.document p in record {
       batch = p.batch;
@@ -323,18 +337,18 @@ truly_missing {A} ranges desks h desk id missing legal safe once s =
       );
       nothing_else = λ m named. (let t = s.nothing_else m named in let last = t.1 in (t.0, omega arith));
       scanned = λ m first last held. scan_of ranges desks h id m (count_of p.batch) p.batch once p.printed refl
-          ((held_scanned ranges desks h legal safe).held desk id m (s.possibly m first (omega arith) held));
+          ((held_scanned ranges desks grids h legal safe).held desk id m clean (s.possibly m first (omega arith) held));
     }
 
 -- the pages of an export are of a document that was printed, and their labels were scanned
-pages_scanned : {A : Type 0} (ranges : List Range) (desks : ℕ) (h : History A) (desk id n mask : ℕ) →
-    IsLegal ranges desks h → IsSafe h →
-    PrintsOnceBy ranges desks (batches_of h) (events_of h) (replies_of h) → IsExportSafe h desk id n mask →
+pages_scanned : {A : Type 0} (ranges : List Range) (desks : ℕ) (grids : List GridView) (h : History A)
+    (desk id n mask : ℕ) → IsLegal ranges desks h → IsSafe grids h → IsClean grids h (AtDesk desk) →
+    PrintsOnceBy ranges desks (batches_of h) (events_of h) (replies_of h) → IsExportSafe (known_of h) desk id n mask →
     (m : ℕ) → HasPage mask m → WasScanned (batches_of h) (events_of h) (replies_of h) (length h) id m n
-pages_scanned {A} ranges desks h desk id n mask legal safe once s m named =
+pages_scanned {A} ranges desks grids h desk id n mask legal safe clean once s m named =
     let p : IsPrintedBy h id s.document = printed_at ranges desks h id s.document legal s.printed in
     scan_of ranges desks h id m n p.batch once p.printed (s.n_is ∙ sym (count_is h id s.document p))
-    ((held_scanned ranges desks h legal safe).held desk id m (s.possibly m named))
+    ((held_scanned ranges desks grids h legal safe).held desk id m clean (s.possibly m named))
 
 -- what is forgotten was begun
 page_scanned : {A : Type 0} (h : History A) (id m : ℕ) → (t : Scans h id m) →
@@ -350,58 +364,49 @@ page_scanned {A} h id m t = record {
 
 -- ---- the headline
 
--- what is so of this reply, to event number i
-abbrev Tells : {A : Type 0} → List (Option Batch) → List (Event A) → List (Reply A) → ℕ → Reply A → Type 0
-Tells batches events replies i (Scanned accepted) =
+-- what is so of this reply to this event, of number i
+abbrev Tells : {A : Type 0} → List (Option Batch) → List (Event A) → List (Reply A) → ℕ → Event A → Reply A → Type 0
+Tells batches events replies i (Scan desk label flips stop) (Scanned accepted) =
     IsScanOf batches events i (record { id = accepted.id; number = accepted.m; count = accepted.n })
-Tells batches events replies i (Document bytes) =
-    (desk id : ℕ) × (slice_get events i ≡ Some (Ask desk id)) × WasPrinted batches events replies i id bytes
-Tells batches events replies i (AskRefused (Incomplete missing)) =
-    (desk id : ℕ) × (slice_get events i ≡ Some (Ask desk id)) × WasBegun batches events replies i id missing
-Tells batches events replies i Forgotten =
-    (desk id : ℕ) × (stop : Stop) × (slice_get events i ≡ Some (Forget desk id stop)) × (m n : ℕ) ×
-    WasScanned batches events replies i id m n
-Tells batches events replies i (Exported index id n mask) =
-    (desk : ℕ) × (slice_get events i ≡ Some (Export desk id)) ×
-    ((m : ℕ) → HasPage mask m → WasScanned batches events replies i id m n)
-Tells batches events replies i (ImportRefused fault) = IsOfDesk fault
-Tells batches events replies i reply = Unit {0}
+Tells batches events replies i (Scan desk label flips stop) (ScanRefused fault) = MayRefuse fault
+Tells batches events replies i (Ask desk id) (Document bytes) = WasPrinted batches events replies i id bytes
+Tells batches events replies i (Ask desk id) (AskRefused (Incomplete missing)) =
+    WasBegun batches events replies i id missing
+Tells batches events replies i (Forget desk id stop) Forgotten =
+    (m n : ℕ) × WasScanned batches events replies i id m n
+Tells batches events replies i (Export desk id) (Exported index told n mask) =
+    (m : ℕ) → HasPage mask m → WasScanned batches events replies i id m n
+Tells batches events replies i (Import desk export stop) (ImportRefused fault) = IsOfDesk fault
+Tells batches events replies i event reply = Unit {0}
 
 tells_more : {A : Type 0} (batches : List (Option Batch)) (more : Option Batch) (events : List (Event A))
-    (replies : List (Reply A)) (event : Event A)
-    (answer : Reply A) (i : ℕ) (reply : Reply A) → i ≤ length batches → Tells batches events replies i reply →
-    Tells (batches ++ more ∷ []) (events ++ event ∷ []) (replies ++ answer ∷ []) i reply
-tells_more batches more events replies event answer i (Scanned accepted) within t =
-    scan_more batches more events event i (record { id = accepted.id; number = accepted.m; count = accepted.n })
+    (replies : List (Reply A)) (last : Event A)
+    (answer : Reply A) (i : ℕ) (event : Event A) (reply : Reply A) → i ≤ length batches →
+    Tells batches events replies i event reply →
+    Tells (batches ++ more ∷ []) (events ++ last ∷ []) (replies ++ answer ∷ []) i event reply
+tells_more batches more events replies last answer i (Scan desk label flips stop) (Scanned accepted) within t =
+    scan_more batches more events last i (record { id = accepted.id; number = accepted.m; count = accepted.n })
     within t
-tells_more batches more events replies event answer i (Document bytes) within t = (
-  t.0,
-  t.1,
-  get_more events (event ∷ []) i (Ask t.0 t.1) t.2,
-  printed_more batches more events replies event answer i t.1 bytes within t.3,
-)
-tells_more batches more events replies event answer i (AskRefused (Incomplete missing)) within t = (
-  t.0,
-  t.1,
-  get_more events (event ∷ []) i (Ask t.0 t.1) t.2,
-  begun_more batches more events replies event answer i t.1 missing within t.3,
-)
-tells_more batches more events replies event answer i Forgotten within t = (
-  t.0,
-  t.1,
-  t.2,
-  get_more events (event ∷ []) i (Forget t.0 t.1 t.2) t.3,
-  t.4,
-  t.5,
-  scanned_more batches more events replies event answer i t.1 t.4 t.5 within t.6,
-)
-tells_more batches more events replies event answer i (Exported index id n mask) within t = (
-  t.0,
-  get_more events (event ∷ []) i (Export t.0 id) t.1,
-  λ m named. scanned_more batches more events replies event answer i id m n within (t.2 m named),
-)
-tells_more batches more events replies event answer i (ImportRefused fault) within t = t
-tells_more batches more events replies event answer i reply within t = tt
+tells_more batches more events replies last answer i (Scan desk label flips stop) (ScanRefused fault) within t = t
+tells_more batches more events replies last answer i (Ask desk id) (Document bytes) within t =
+    printed_more batches more events replies last answer i id bytes within t
+tells_more batches more events replies last answer i (Ask desk id) (AskRefused (Incomplete missing)) within t =
+    begun_more batches more events replies last answer i id missing within t
+tells_more batches more events replies last answer i (Forget desk id stop) Forgotten within t =
+    (t.0, t.1, scanned_more batches more events replies last answer i id t.0 t.1 within t.2)
+tells_more batches more events replies last answer i (Export desk id) (Exported index told n mask) within t =
+    (λ m named. scanned_more batches more events replies last answer i id m n within (t m named))
+tells_more batches more events replies last answer i (Import desk export stop) (ImportRefused fault) within t = t
+tells_more batches more events replies last answer i event reply within t = tt
+
+-- a scan that is honestly refused is refused for its frame, or by the state of its desk
+of_scan : {A : Type 0} (grids : List GridView) (capacities : List ℕ) (h : History A) (desk label : ℕ)
+    (flips : List (ℕ × ℕ)) (fault : ScanFault) →
+    IsHonestlyRefused grids capacities h desk label flips fault → MayRefuse fault
+of_scan grids capacities h desk label flips (scan_fault.Label (label_fault.Border wrong)) honest = tt
+of_scan grids capacities h desk label flips (scan_fault.Label fault) honest = absurd honest
+of_scan grids capacities h desk label flips scan_fault.Conflict honest = honest
+of_scan grids capacities h desk label flips fault honest = tt
 
 -- an import that is honestly refused is refused by the state of its desk
 of_desk : {A : Type 0} (capacities : List ℕ) (h : History A) (desk export : ℕ) (fault : ImportFault) →
@@ -412,98 +417,144 @@ of_desk capacities h desk export import_fault.Damaged honest = honest
 of_desk capacities h desk export import_fault.Conflict honest = honest
 of_desk capacities h desk export fault honest = tt
 
--- so it is of the last reply
+-- so it is of the last reply, if its event brings nothing but what is clean to a clean desk
 tells_last : {A : Type 0} (ranges : List Range) (desks : ℕ) (h : History A) (e : Entry A) (grids : List GridView)
     (capacities : List ℕ) →
-    IsLegal ranges desks (e ∷ h) → IsSafe (e ∷ h) →
-    (IsFair grids e.event → IsHonestReply grids capacities h e.event e.reply) →
+    IsLegal ranges desks (e ∷ h) → IsSafe grids (e ∷ h) → AreHonestReplies grids capacities (e ∷ h) →
+    (e.reply ≢ NoSuch → BringsClean grids h e.event) →
+    ((desk : ℕ) → actor_of e.event ≡ DeskAt desk → IsClean grids h (AtDesk desk)) →
     PrintsOnceBy ranges desks (batches_of h) (events_of h) (replies_of h) →
-    Tells (batches_of (e ∷ h)) (events_of (e ∷ h)) (replies_of (e ∷ h)) (length h) e.reply
-tells_last {A} ranges desks h e grids capacities legal safe honest once =
-    by_reply e.event e.reply refl legal.0.reply safe.0 honest
+    Tells (batches_of (e ∷ h)) (events_of (e ∷ h)) (replies_of (e ∷ h)) (length h) e.event e.reply
+tells_last {A} ranges desks h e grids capacities legal safe honest brings clean once =
+    by_reply e.event e.reply refl legal.0.reply safe.0 honest.0 brings clean
   where
     within : length h ≤ length (batches_of h)
     within = (let all = batches_count h in omega arith)
 
-    asked : (event : Event A) → e.event ≡ event → slice_get (events_of (e ∷ h)) (length h) ≡ Some event
-    asked event is = at_last (events_of h) e.event (length h) (events_count h) ∙ ap (λ (v : Event A). Some v) is
+    own_safe : IsSafe grids h
+    own_safe = safe.1
 
     by_reply : (event : Event A) (reply : Reply A) → e.event ≡ event → IsReply ranges h e.id e.left event reply →
-        IsReplySafe h event reply →
-        (IsFair grids event → IsHonestReply grids capacities h event reply) →
-        Tells (batches_of (e ∷ h)) (events_of (e ∷ h)) (replies_of (e ∷ h)) (length h) reply
-    by_reply (Scan desk label flips stop) (Scanned accepted) is fine s honest =
+        SafeIfClean grids h event reply →
+        ((desk : ℕ) → actor_of event ≡ DeskAt desk → BringsClean grids h event →
+        IsClean grids h (AtDesk desk) → IsHonestReply grids capacities h event reply) →
+        (reply ≢ NoSuch → BringsClean grids h event) →
+        ((desk : ℕ) → actor_of event ≡ DeskAt desk → IsClean grids h (AtDesk desk)) →
+        Tells (batches_of (e ∷ h)) (events_of (e ∷ h)) (replies_of (e ∷ h)) (length h) event reply
+    by_reply (Scan desk label flips stop) (Scanned accepted) is fine safe honest brings clean =
+        (let s = safe desk refl ((λ actor saves. brings (λ none. cc (none))), clean desk refl) in
         subst (λ (name : LabelName). IsScanOf (batches_of (e ∷ h)) (events_of (e ∷ h)) (length h) name)
         (ap (λ (k : ℕ). record { id = k; number = s.name.number; count = s.name.count }) (sym s.id_is) ∙
         ap (λ (k : ℕ). record { id = accepted.id; number = k; count = s.name.count }) (sym s.m_is) ∙
         ap (λ (k : ℕ). record { id = accepted.id; number = accepted.m; count = k }) (sym s.n_is))
-        (last_scan h e desk label flips stop s.name is s.scanned)
-    by_reply (Ask desk id) (Document bytes) is fine s honest = (
-      desk,
-      id,
-      asked (Ask desk id) is,
-      printed_more (batches_of h) (batch_of e) (events_of h) (replies_of h) e.event e.reply (length h) id bytes within
-          (true_document ranges desks h desk id bytes legal.1 safe.1 once s),
-    )
-    by_reply (Ask desk id) (AskRefused (Incomplete missing)) is fine s honest = (
-      desk,
-      id,
-      asked (Ask desk id) is,
-      begun_more (batches_of h) (batch_of e) (events_of h) (replies_of h) e.event e.reply (length h) id missing within
-          (truly_missing ranges desks h desk id missing legal.1 safe.1 once s),
-    )
-    by_reply (Forget desk id stop) Forgotten is fine s honest =
-        (let t : Scans h id s.0 = (held_scanned ranges desks h legal.1 safe.1).held desk id s.0 s.1 in (
-          desk,
-          id,
-          stop,
-          asked (Forget desk id stop) is,
+        (last_scan h e desk label flips stop s.name is s.scanned))
+    by_reply (Scan desk label flips stop) (ScanRefused fault) is fine safe honest brings clean =
+        of_scan grids capacities h desk label flips fault
+        (honest desk refl (brings (λ none. cc (none))) (clean desk refl))
+    by_reply (Ask desk id) (Document bytes) is fine safe honest brings clean =
+        printed_more (batches_of h) (batch_of e) (events_of h) (replies_of h) e.event e.reply (length h) id bytes
+        within (true_document ranges desks grids h desk id bytes legal.1 own_safe (clean desk refl) once
+        (safe desk refl ((λ actor saves. tt), clean desk refl)))
+    by_reply (Ask desk id) (AskRefused (Incomplete missing)) is fine safe honest brings clean =
+        begun_more (batches_of h) (batch_of e) (events_of h) (replies_of h) e.event e.reply (length h) id missing
+        within (truly_missing ranges desks grids h desk id missing legal.1 own_safe (clean desk refl) once
+        (safe desk refl ((λ actor saves. tt), clean desk refl)))
+    by_reply (Forget desk id stop) Forgotten is fine safe honest brings clean =
+        (let s = safe desk refl ((λ actor saves. tt), clean desk refl) in
+        let t : Scans h id s.0 =
+        (held_scanned ranges desks grids h legal.1 own_safe).held desk id s.0 (clean desk refl) s.1 in (
           s.0,
           t.name.count,
           scanned_more (batches_of h) (batch_of e) (events_of h) (replies_of h) e.event e.reply
               (length h) id s.0 t.name.count within (page_scanned h id s.0 t),
         ))
-    by_reply (Export desk name) (Exported index id n mask) is fine s honest =
-        (let same : id ≡ name = fine.id_is in (
-          desk,
-          asked (Export desk id) (is ∙ ap (λ (k : ℕ). Export desk k) (sym same)),
-          λ m named. scanned_more (batches_of h) (batch_of e) (events_of h) (replies_of h) e.event e.reply
-              (length h) id m n within
-              (subst (λ (k : ℕ). WasScanned (batches_of h) (events_of h) (replies_of h) (length h) k m n) (sym same)
-              (pages_scanned ranges desks h desk name n mask legal.1 safe.1 once s m named)),
-        ))
-    by_reply (Import desk export stop) (ImportRefused fault) is fine s honest =
-        of_desk capacities h desk export fault (honest tt)
-    by_reply event (ImportRefused fault) is fine s honest = absurd fine
-    by_reply event (Scanned accepted) is fine s honest = absurd fine
-    by_reply event (Document bytes) is fine s honest = absurd fine
-    by_reply event (AskRefused (Incomplete missing)) is fine s honest = absurd fine
-    by_reply event Forgotten is fine s honest = absurd fine
-    by_reply event (Exported index id n mask) is fine s honest = absurd fine
-    by_reply event reply is fine s honest = tt
+    by_reply (Export desk id) (Exported index told n mask) is fine safe honest brings clean = λ m named.
+        scanned_more (batches_of h) (batch_of e) (events_of h) (replies_of h) e.event e.reply (length h) id m n within
+        (pages_scanned ranges desks grids h desk id n mask legal.1 own_safe (clean desk refl) once
+        (safe desk refl ((λ actor saves. tt), clean desk refl)) m named)
+    by_reply (Import desk export stop) (ImportRefused fault) is fine safe honest brings clean =
+        of_desk capacities h desk export fault
+        (honest desk refl (brings (λ none. cc (none))) (clean desk refl))
+    by_reply event reply is fine safe honest brings clean = tt
 
--- and of each
-each_tells : {A : Type 0} (ranges : List Range) (desks : ℕ) (h : History A) (grids : List GridView)
-    (capacities : List ℕ) → AreDisjoint ranges → IsLegal ranges desks h →
-    NeverTwice h → IsSafe h → AreHonestReplies grids capacities h → (i : ℕ) (reply : Reply A) →
-    slice_get (replies_of h) i ≡ Some reply →
-    Tells (batches_of h) (events_of h) (replies_of h) i reply
-each_tells ranges desks [] grids capacities apart legal never safe honest i reply answered = absurd (cc (answered))
-each_tells {A} ranges desks (e ∷ h) grids capacities apart legal never safe honest i reply answered =
+-- and of each whose event is not tainted in the run of which these are the first entries
+each_tells : {A : Type 0} (ranges : List Range) (desks : ℕ) (grids : List GridView) (capacities : List ℕ)
+    (events : List (Event A)) (marks : List Bool) (replies : List (Reply A)) →
+    AreMarkedFair grids events marks replies → (h : History A) → IsFirst events replies h →
+    AreDisjoint ranges → IsLegal ranges desks h →
+    NeverTwice h → IsSafe grids h → AreHonestReplies grids capacities h → (i : ℕ) (event : Event A) (reply : Reply A) →
+    slice_get events i ≡ Some event → slice_get (replies_of h) i ≡ Some reply →
+    IsUntainted events marks replies i event →
+    Tells (batches_of h) (events_of h) (replies_of h) i event reply
+each_tells ranges desks grids capacities events marks replies fair [] first apart legal never safe honest i event reply
+    asked answered trusted = absurd (cc (answered))
+each_tells {A} ranges desks grids capacities events marks replies fair (e ∷ h) first apart legal never safe honest i
+    event reply asked answered trusted =
     elim (before_or_last (replies_of h) e.reply reply (length h) i (replies_count h) answered) [
       | inl before ↦
           (let below = get_beyond (replies_of h) i reply before in
           let count = replies_count h in
           let all = batches_count h in
-          tells_more (batches_of h) (batch_of e) (events_of h) (replies_of h) e.event e.reply i reply (omega arith)
-          (each_tells ranges desks h grids capacities apart legal.1 never.1 safe.1 honest.1 i reply before))
-      | inr last ↦ subst (λ (k : ℕ). Tells (batches_of (e ∷ h)) (events_of (e ∷ h)) (replies_of (e ∷ h)) k reply)
+          tells_more (batches_of h) (batch_of e) (events_of h) (replies_of h) e.event e.reply i event reply
+          (omega arith)
+          (each_tells ranges desks grids capacities events marks replies fair h (first_less events replies e h first)
+          apart legal.1 never.1 safe.1 honest.1 i event reply asked before trusted))
+      | inr last ↦
+          (let asked_at : slice_get events (length h) ≡ Some event =
+          subst (λ (k : ℕ). slice_get events k ≡ Some event) last.0 asked in
+          let two : Some e.event ≡ Some event = sym (last_asked events replies e h first) ∙ asked_at in
+          let event_is : e.event ≡ event = cc (two) in
+          let own : IsUntainted events marks replies (length h) e.event =
+          subst (λ (k : ℕ). IsUntainted events marks replies k e.event) last.0
+          (subst (λ (v : Event A). IsUntainted events marks replies i v) (sym event_is) trusted) in
+          subst (λ (k : ℕ). Tells (batches_of (e ∷ h)) (events_of (e ∷ h)) (replies_of (e ∷ h)) k event reply)
           (sym last.0)
+          (subst (λ (v : Event A). Tells (batches_of (e ∷ h)) (events_of (e ∷ h)) (replies_of (e ∷ h)) (length h)
+          v reply) event_is
           (subst (λ (r : Reply A). Tells (batches_of (e ∷ h)) (events_of (e ∷ h)) (replies_of (e ∷ h)) (length h)
-          r) last.1
-          (tells_last ranges desks h e grids capacities legal safe honest.0
-          (prints_once ranges desks h apart legal.1 never.1)))
+          e.event r) last.1
+          (tells_last ranges desks h e grids capacities legal safe honest
+          (last_brings grids events marks replies fair e h first own)
+          (last_clean grids events marks replies fair e h first own)
+          (prints_once ranges desks h apart legal.1 never.1)))))
     ]
+
+-- each reply is true by its run, if its desk is not tainted after it
+each_agrees : {A : Type 0} (ranges : List Range) (desks : ℕ) (grids : List GridView) (batches : List (Option Batch))
+    (events : List (Event A)) (marks : List Bool) (replies : List (Reply A)) →
+    AreMarkedFair grids events marks replies → (h : History A) → IsFirstOf batches events replies h →
+    IsLegal ranges desks h → IsSafe grids h → (i desk : ℕ) (event : Event A) (reply : Reply A) →
+    slice_get events i ≡ Some event → slice_get (replies_of h) i ≡ Some reply → actor_of event ≡ DeskAt desk →
+    ¬ IsTainted events marks replies (suc i) (AtDesk desk) →
+    IsReplyTrue (known_before batches events replies i) event reply
+each_agrees ranges desks grids batches events marks replies fair [] first legal safe i desk event reply asked answered
+    actor untainted = absurd (cc (answered))
+each_agrees {A} ranges desks grids batches events marks replies fair (e ∷ h) first legal safe i desk event reply asked
+    answered actor untainted =
+    elim (before_or_last (replies_of h) e.reply reply (length h) i (replies_count h) answered) [
+      | inl before ↦
+          each_agrees ranges desks grids batches events marks replies fair h less legal.1 safe.1 i desk event reply
+          asked before actor untainted
+      | inr last ↦
+          (let asked_at : slice_get events (length h) ≡ Some event =
+          subst (λ (k : ℕ). slice_get events k ≡ Some event) last.0 asked in
+          let two : Some e.event ≡ Some event = sym (last_asked events replies e h first.first) ∙ asked_at in
+          let event_is : e.event ≡ event = cc (two) in
+          let clean : IsClean grids (e ∷ h) (AtDesk desk) =
+          clean_of grids events marks replies fair (e ∷ h) first.first (AtDesk desk)
+          (subst (λ (k : ℕ). ¬ IsTainted events marks replies (suc k) (AtDesk desk)) last.0 untainted) in
+          let own : IsReplyTrue (known_before batches events replies (length h)) e.event e.reply =
+          reply_follows (known_of h) (known_before batches events replies (length h))
+          (run_follows ranges desks batches events replies h legal.1 less) e.event e.reply
+          (safe.0 desk (ap actor_of event_is ∙ actor) clean) in
+          subst (λ (k : ℕ). IsReplyTrue (known_before batches events replies k) event reply) (sym last.0)
+          (subst (λ (v : Event A). IsReplyTrue (known_before batches events replies (length h)) v reply) event_is
+          (subst (λ (r : Reply A). IsReplyTrue (known_before batches events replies (length h)) e.event r) last.1
+          own)))
+    ]
+  where
+    less : IsFirstOf batches events replies h
+    less = first_of_less batches events replies e h first
 
 -- two documents of one identification are the same
 one_document : {A : Type 0} (ranges : List Range) (desks : ℕ) (batches : List (Option Batch))
@@ -520,47 +571,54 @@ one_document {A} ranges desks batches events replies i j id one other f a b =
     sym a.bytes_are ∙ ap (λ (c : Batch). c.document.bytes) same ∙ b.bytes_are
 
 pub is_faithful : {A : Type 0} (ranges : List Range) (desks : ℕ) (h : History A) (grids : List GridView)
-    (capacities : List ℕ) → AreDisjoint ranges → IsLegal ranges desks h →
-    NeverTwice h → IsSafe h → AreHonestReplies grids capacities h →
-    IsFaithfulBy ranges desks (batches_of h) (events_of h) (replies_of h)
-is_faithful {A} ranges desks h grids capacities apart legal never safe honest = record {
+    (capacities : List ℕ) (marks : List Bool) → AreDisjoint ranges → IsLegal ranges desks h →
+    NeverTwice h → AreMarkedFair grids (events_of h) marks (replies_of h) → IsSafe grids h →
+    AreHonestReplies grids capacities h →
+    IsFaithfulBy ranges desks (batches_of h) (events_of h) marks (replies_of h)
+is_faithful {A} ranges desks h grids capacities marks apart legal never fair safe honest = record {
   prints = once;
-  scanned = λ i accepted answered. tells i (Scanned accepted) answered;
-  given = λ i bytes answered. tells i (Document bytes) answered;
-  same = λ i j desk at id one other asked answered asked_too answered_too.
+  each_mark = fair.count;
+  scanned = λ i desk label flips stop accepted asked answered mark clean.
+      tells i (Scan desk label flips stop) (Scanned accepted) desk asked answered refl clean mark;
+  not_refused = λ i desk label flips stop fault asked answered mark clean.
+      tells i (Scan desk label flips stop) (ScanRefused fault) desk asked answered refl clean mark;
+  given = printed;
+  same = λ i j desk at id one other asked answered clean asked_too answered_too clean_too.
       one_document ranges desks (batches_of h) (events_of h) (replies_of h) i j id one other once
-      (printed i desk id one asked answered)
-      (printed j at id other asked_too answered_too);
-  begun = λ i desk id missing asked answered.
-      (let t = tells i (AskRefused (Incomplete missing)) answered in
-      subst (λ (k : ℕ). WasBegun (batches_of h) (events_of h) (replies_of h) i k missing)
-      (asked_is i desk id t.0 t.1 asked t.2) t.3);
-  forgotten = λ i desk id stop asked answered.
-      (let t = tells i Forgotten answered in
-      let e : Some (Forget t.0 t.1 t.2) ≡ Some (Forget desk id stop) = sym t.3 ∙ asked in
-      let same : t.1 ≡ id = cc (e) in
-      (t.4, t.5, subst (λ (k : ℕ). WasScanned (batches_of h) (events_of h) (replies_of h) i k t.4 t.5) same t.6));
-  exported = λ i index id n mask answered. tells i (Exported index id n mask) answered;
-  not_imported = λ i fault answered. tells i (ImportRefused fault) answered;
+      (printed i desk id one asked answered clean)
+      (printed j at id other asked_too answered_too clean_too);
+  begun = λ i desk id missing asked answered clean.
+      tells i (Ask desk id) (AskRefused (Incomplete missing)) desk asked answered refl clean tt;
+  forgotten = λ i desk id stop asked answered clean.
+      tells i (Forget desk id stop) Forgotten desk asked answered refl clean tt;
+  exported = λ i desk id index told n mask asked answered clean.
+      tells i (Export desk id) (Exported index told n mask) desk asked answered refl clean tt;
+  agrees = λ i desk event reply asked answered actor clean.
+      each_agrees ranges desks grids (batches_of h) (events_of h) marks (replies_of h) fair h whole legal safe i desk
+      event reply asked answered actor clean;
+  not_imported = λ i desk export stop fault asked answered clean clean_too.
+      tells i (Import desk export stop) (ImportRefused fault) desk asked answered refl clean clean_too;
 }
   where
     once : PrintsOnceBy ranges desks (batches_of h) (events_of h) (replies_of h)
     once = prints_once ranges desks h apart legal never
 
-    tells : (i : ℕ) (reply : Reply A) → slice_get (replies_of h) i ≡ Some reply →
-        Tells (batches_of h) (events_of h) (replies_of h) i reply
-    tells = each_tells ranges desks h grids capacities apart legal never safe honest
+    tells : (i : ℕ) (event : Event A) (reply : Reply A) (desk : ℕ) → slice_get (events_of h) i ≡ Some event →
+        slice_get (replies_of h) i ≡ Some reply → actor_of event ≡ DeskAt desk →
+        ¬ IsTainted (events_of h) marks (replies_of h) i (AtDesk desk) →
+        BringsUntainted (events_of h) marks (replies_of h) i event →
+        Tells (batches_of h) (events_of h) (replies_of h) i event reply
+    tells i event reply desk asked answered actor clean brings =
+        each_tells ranges desks grids capacities (events_of h) marks (replies_of h) fair h (first_whole h) apart legal
+        never safe honest i event reply asked answered
+        (untainted_at (events_of h) marks (replies_of h) i event desk actor clean brings)
 
-    asked_is : (i desk id at name : ℕ) → slice_get (events_of h) i ≡ Some (Ask desk id) →
-        slice_get (events_of h) i ≡ Some (Ask at name) → name ≡ id
-    asked_is i desk id at name one other =
-        let e : Some (Ask desk id) ≡ Some (Ask at name) = sym one ∙ other in
-        let same : id ≡ name = cc (e) in sym same
+    whole : IsFirstOf (batches_of h) (events_of h) (replies_of h) h
+    whole = record { first = first_whole h; later = []; batches_are = sym (append-nil (batches_of h)) }
 
     printed : (i desk id : ℕ) (bytes : List ℕ) → slice_get (events_of h) i ≡ Some (Ask desk id) →
         slice_get (replies_of h) i ≡ Some (Document bytes) →
+        ¬ IsTainted (events_of h) marks (replies_of h) i (AtDesk desk) →
         WasPrinted (batches_of h) (events_of h) (replies_of h) i id bytes
-    printed i desk id bytes asked answered =
-        let t = tells i (Document bytes) answered in
-        subst (λ (k : ℕ). WasPrinted (batches_of h) (events_of h) (replies_of h) i k bytes)
-        (asked_is i desk id t.0 t.1 asked t.2) t.3
+    printed i desk id bytes asked answered clean =
+        tells i (Ask desk id) (Document bytes) desk asked answered refl clean tt

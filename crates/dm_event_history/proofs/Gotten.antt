@@ -23,3 +23,13 @@ pub get_beyond : {X : Type 0} (xs : List X) (i : ℕ) (x : X) → slice_get xs i
 get_beyond [] i x is = cc
 get_beyond (z ∷ zs) zero x is = omega arith
 get_beyond (z ∷ zs) (suc i) x is = (let t = get_beyond zs i x is in omega arith)
+
+-- where an element is, of two lists of one length
+pub other_has : {X Y : Type 0} (xs : List X) (ys : List Y) (i : ℕ) (y : Y) → length ys ≡ length xs →
+    slice_get ys i ≡ Some y →
+    (x : X) × (slice_get xs i ≡ Some x)
+other_has [] [] i y e h = cc
+other_has [] (b ∷ bs) i y e h = absurd (omega arith)
+other_has (a ∷ rest) [] i y e h = cc
+other_has (a ∷ rest) (b ∷ bs) zero y e h = (a, refl)
+other_has (a ∷ rest) (b ∷ bs) (suc i) y e h = other_has rest bs i y (omega arith) h

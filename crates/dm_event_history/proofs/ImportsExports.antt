@@ -14,7 +14,6 @@ use Rattle.dm_event_history.specs.Imports.{WasExported, ImportsExports}
 use Rattle.dm_event_history.proofs.Batches.{events_count, replies_count, at_last, before_or_last, in_either}
 use Rattle.dm_event_history.proofs.Gotten.{get_more}
 use Rattle.dm_event_history.proofs.NumberedTickets.{next_export, export_numbered, export_there, export_not_there}
-use Rattle.dm_event_history.specs.Actors.{DeskAt}
 
 -- ---- numbers of exports
 

@@ -14,6 +14,10 @@ pub mod Replied
 pub mod ScannedLabels
 pub mod NumberedTickets
 pub mod Counts
+pub mod PrintedBatches
+pub mod Tainting
+pub mod Knowing
+pub mod MayBeFree
 pub mod PrintsOnce
 pub mod RisingTickets
 pub mod TakesOnce

@@ -39,7 +39,7 @@ exports_more (r ∷ replies) reply =
     ap (λ (l : List ExportName). exported r ++ l) (exports_more replies reply) ∙
     sym (append_assoc (exported r) (exports_in replies) (exported reply))
 
-exports_are : {A : Type 0} (h : History A) → exports_in (replies_of h) ≡ exports h
+pub exports_are : {A : Type 0} (h : History A) → exports_in (replies_of h) ≡ exports h
 exports_are [] = refl
 exports_are (e ∷ h) =
     exports_more (replies_of h) e.reply ∙ ap (λ (l : List ExportName). l ++ exported e.reply) (exports_are h)

@@ -2,17 +2,20 @@
 use Rattle.std.proofs.Common.{◌≡◌, ◌<◌, ◌≤◌, ◌+◌, inl, inr, ℕ, false, Option, Some, List, [], ◌∷◌, length, slice_get, take, refl, ap, sym, ◌∙◌, subst, arith}
 use Rattle.dm_check_blocks.specs.declared.size.Size.{Size}
 use Rattle.dm_encodation.specs.declared.scheme.Scheme.{Scheme}
-use Rattle.dm_append_label.specs.Parts.{AreParts}
+use Rattle.dm_append_label.specs.Parts.{AreParts, HasNoEnds}
 use Rattle.dm_print_ledger.specs.declared.range.Range.{Range}
+use Rattle.dm_print_ledger.specs.declared.fault.PrintFault.{PrintFault}
+use Rattle.dm_print_ledger.specs.declared.fault.PrintFault.TheVariants as print_fault
 use Rattle.dm_event_history.specs.declared.event.Event.{Event}
 use Rattle.dm_event_history.specs.declared.event.Event.TheVariants.{Print}
 use Rattle.dm_event_history.specs.declared.reply.Reply.{Reply}
-use Rattle.dm_event_history.specs.declared.reply.Reply.TheVariants.{Printed, Stopped}
+use Rattle.dm_event_history.specs.declared.reply.Reply.TheVariants.{Printed, PrintRefused, Stopped}
+use Rattle.dm_event_history.specs.declared.stop.Stop.{Stop}
 use Rattle.dm_event_history.specs.declared.stop.Stop.TheVariants.{AfterLabels}
 use Rattle.dm_event_history.specs.Actors.{PrinterAt, actor_of}
 use Rattle.dm_event_history.specs.History.{Entry, History, events_of, replies_of}
 use Rattle.dm_event_history.specs.Running.{is_failed}
-use Rattle.dm_event_history.specs.Legal.{AreDisjoint, IsReply, IsLegal, Fits, NeverTwice}
+use Rattle.dm_event_history.specs.Legal.{AreDisjoint, IsPrintRefused, IsReply, IsLegal, Fits, NeverTwice}
 use Rattle.dm_event_history.specs.Numbers.{opening_count, gone, came}
 use Rattle.dm_event_history.specs.Places.{IsOpened}
 use Rattle.dm_event_history.specs.Replying.{has_failed_before}
@@ -24,6 +27,8 @@ use Rattle.dm_event_history.proofs.Batches.{all_of, count_all, batch_of, batches
 use Rattle.dm_event_history.proofs.Replied.{asked_before_or_last, failed_before, failed_at_last, saved_unfailed, are_replies}
 use Rattle.dm_event_history.proofs.ScannedLabels.{there_had_left, not_there_had_not}
 use Rattle.dm_event_history.proofs.Counts.{number_before, number_at_last}
+use Rattle.dm_event_history.proofs.Tainting.{first_whole}
+use Rattle.dm_event_history.proofs.MayBeFree.{owned_of, gives_of}
 use Rattle.dm_event_history.proofs.Gotten.{get_more, get_beyond}
 
 once_first : {A : Type 0} (ranges : List Range) (desks : ℕ) → (let none : History A = [] in
@@ -42,8 +47,12 @@ once_first {A} ranges desks = record {
   told = λ i id first count is. absurd (cc (is));
   printed = λ i batch is. absurd (cc (is));
   opened = λ i batch is. absurd (cc (is));
+  owned = λ i printer document size scheme stop batch is asked. absurd (cc (is));
+  gives_own = λ i printer receiver range stop index ticket asked answered number within. absurd (cc (asked));
   unfailed = λ i batch event is asked. absurd (cc (is));
   let_out = λ i printer document size scheme most parts asked some answered are unfailed has. absurd (cc (asked));
+  exhausted = λ i printer document size scheme stop asked answered has. absurd (cc (asked));
+  too_long = λ i printer document size scheme stop asked answered. absurd (cc (asked));
   once = λ i j one other a b same. absurd (cc (a));
   there = λ i desk label flips stop reply a b such. absurd (cc (a));
   not_there = λ i desk label flips stop a b desk_there small. absurd (cc (a));
@@ -60,8 +69,12 @@ once_next {A} ranges desks h e apart legal never f = record {
   told = tells;
   printed = prints;
   opened = begun;
+  owned = owned_of ranges desks (events_of (e ∷ h)) (replies_of (e ∷ h)) (e ∷ h) (first_whole (e ∷ h)) legal;
+  gives_own = gives_of ranges desks (events_of (e ∷ h)) (replies_of (e ∷ h)) (e ∷ h) (first_whole (e ∷ h)) legal;
   unfailed = runs;
   let_out = lets;
+  exhausted = exhausts;
+  too_long = has_no_ends;
   once = one;
   there = λ i desk label flips stop reply. there_had_left ranges desks (e ∷ h) i desk label flips stop reply legal;
   not_there = λ i desk label flips stop asked answered there small.
@@ -185,6 +198,42 @@ once_next {A} ranges desks h e apart legal never f = record {
                 all_of e,
                 ap (slice_get (batches_of (e ∷ h))) last.0 ∙ last_batch h e (omega arith),
               ))
+        ]
+
+    -- why the last entry refuses its print
+    last_refuses : (printer : ℕ) (document : List ℕ) (size : Size) (scheme : Scheme) (stop : Stop)
+        (fault : PrintFault) → e.event ≡ Print printer document size scheme stop → e.reply ≡ PrintRefused fault →
+        IsPrintRefused ranges h printer (record { bytes = document; size = size; scheme = scheme; parts = [] }) stop
+        fault
+    last_refuses printer document size scheme stop fault event_is reply_is =
+        subst (λ (v : Event A). IsReply ranges h e.id e.left v (PrintRefused fault)) event_is
+        (subst (λ (r : Reply A). IsReply ranges h e.id e.left e.event r) reply_is fits.reply)
+
+    exhausts : (i printer : ℕ) (document : List ℕ) (size : Size) (scheme : Scheme) (stop : Stop) →
+        slice_get (events_of (e ∷ h)) i ≡ Some (Print printer document size scheme stop) →
+        slice_get (replies_of (e ∷ h)) i ≡ Some (PrintRefused print_fault.Exhausted) →
+        ¬ HasNumber ranges (take i (events_of (e ∷ h))) (take i (replies_of (e ∷ h))) printer
+    exhausts i printer document size scheme stop asked answered has =
+        elim (asked_before_or_last h e i (Print printer document size scheme stop)
+        (PrintRefused print_fault.Exhausted) asked answered) [
+          | inl before ↦
+              (let below : i < length h = before.0 in
+              f.exhausted i printer document size scheme stop before.1 before.2
+              (number_before ranges h e i printer (omega arith) has))
+          | inr last ↦
+              (let none = last_refuses printer document size scheme stop print_fault.Exhausted last.1 last.2 in
+              let some = number_at_last ranges h e printer (subst (λ (k : ℕ). HasNumber ranges
+              (take k (events_of (e ∷ h))) (take k (replies_of (e ∷ h))) printer) last.0 has) in omega arith)
+        ]
+
+    has_no_ends : (i printer : ℕ) (document : List ℕ) (size : Size) (scheme : Scheme) (stop : Stop) →
+        slice_get (events_of (e ∷ h)) i ≡ Some (Print printer document size scheme stop) →
+        slice_get (replies_of (e ∷ h)) i ≡ Some (PrintRefused print_fault.TooLong) → HasNoEnds size scheme document
+    has_no_ends i printer document size scheme stop asked answered =
+        elim (asked_before_or_last h e i (Print printer document size scheme stop)
+        (PrintRefused print_fault.TooLong) asked answered) [
+          | inl before ↦ f.too_long i printer document size scheme stop before.1 before.2
+          | inr last ↦ last_refuses printer document size scheme stop print_fault.TooLong last.1 last.2
         ]
 
     new : (i : ℕ) (was now : Batch) → slice_get (batches_of h) i ≡ Some (Some was) → batch_of e ≡ Some now →

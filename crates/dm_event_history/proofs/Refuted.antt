@@ -1,25 +1,34 @@
 -- Runs that are not faithful are refuted.
-use Rattle.std.proofs.Common.{◌≡◌, ◌<◌, ◌≤◌, inl, inr, ℕ, zero, suc, min, true, false, All, Option, Some, None, List, [], ◌∷◌, ◌++◌, length, map, take, slice_get, refl, ap, sym, ◌∙◌, subst, arith}
+use Rattle.std.proofs.Common.{◌≡◌, ◌≢◌, ◌<◌, ◌≤◌, inl, inr, ℕ, zero, suc, min, Bool, true, false, All, Option, Some, None, List, [], ◌∷◌, ◌++◌, length, map, take, slice_get, refl, ap, sym, ◌∙◌, subst, arith}
 use Rattle.dm_check_blocks.specs.declared.size.Size.TheVariants.{Side12}
 use Rattle.dm_encodation.specs.declared.scheme.Scheme.TheVariants.{Ascii}
-use Rattle.dm_assembly_desk.specs.declared.reply.Kind.TheVariants.{New, Again}
+use Rattle.dm_assembly_desk.specs.declared.reply.Kind.TheVariants.{New, Again, Complete}
+use Rattle.dm_assembly_desk.specs.declared.fault.ImportFault.{ImportFault}
 use Rattle.dm_assembly_desk.specs.declared.fault.ImportFault.TheVariants as import_fault
+use Rattle.dm_append_label.specs.declared.fault.LabelFault.TheVariants.{Block}
+use Rattle.dm_assembly_desk.specs.declared.fault.AskFault.TheVariants as ask_fault
+use Rattle.dm_assembly_desk.specs.declared.fault.ForgetFault.TheVariants as forget_fault
 use Rattle.dm_assembly_desk.specs.declared.fault.ScanFault.TheVariants as scan_fault
 use Rattle.dm_print_ledger.specs.declared.fault.OpenFault.TheVariants as open_fault
 use Rattle.dm_store.specs.declared.fuse.Kept.TheVariants as kept
 use Rattle.dm_append_label.specs.Parts.{parts_from}
 use Rattle.dm_append_label.proofs.CutParts.{each_cut_is}
 use Rattle.dm_event_history.specs.declared.event.Event.{Event}
-use Rattle.dm_event_history.specs.declared.event.Event.TheVariants.{Print, Scan, RestartPrinter, RestartDesk, Ask, Forget, Give, Take, Export}
+use Rattle.dm_event_history.specs.declared.event.Event.TheVariants.{Print, Scan, RestartPrinter, RestartDesk, Ask, Forget, Give, Take, Export, Import}
 use Rattle.dm_event_history.specs.declared.reply.Reply.{Reply}
-use Rattle.dm_event_history.specs.declared.reply.Reply.TheVariants.{Scanned, ScanRefused, Document, Forgotten, Given, Taken, TakeRefused, Exported, Restarted, PrinterRefused, Stopped, Down, Memory}
+use Rattle.dm_event_history.specs.declared.reply.Reply.TheVariants.{Printed, AskRefused, ForgetRefused, Scanned, ScanRefused, Document, Forgotten, Given, Taken, TakeRefused, Exported, Imported, Restarted, PrinterRefused, Stopped, Down, Memory}
 use Rattle.dm_event_history.specs.declared.stop.Stop.{Stop}
 use Rattle.dm_event_history.specs.declared.stop.Stop.TheVariants as stops
-use Rattle.dm_event_history.specs.History.{LabelName, names_from}
-use Rattle.dm_event_history.specs.Headline.{Batch, count_of, LeftBy, labels_of, IsScanOf, MayHaveSaved, WasScanned, WasPrinted, PrintsOnceBy, IsFaithfulBy}
+use Rattle.dm_event_history.specs.History.{CutDocument, LabelName, ExportName, names_from}
+use Rattle.dm_event_history.specs.Headline.{Batch, count_of, LeftBy, labels_of, IsScanOf, MayHaveSaved, WasScanned, WasPrinted, IsOfDesk, PrintsOnceBy, IsAt, MayGain, MayBeFree, MayHold, Holds, known_before, IsFaithfulBy}
+use Rattle.dm_event_history.specs.Telling.{IsImportKindSafe}
+use Rattle.dm_event_history.specs.Holding.{MayTake, MayForget}
+use Rattle.dm_event_history.specs.Imports.{exports_in}
+use Rattle.dm_event_history.specs.Tainted.{AtDesk, InExport}
+use Rattle.dm_event_history.proofs.Tainting.{untainted, is_tainted, untainted_by}
 use Rattle.dm_print_ledger.specs.declared.range.Range.{Range}
 use Rattle.dm_print_ledger.specs.declared.fault.TakeFault.TheVariants as take_fault
-use Rattle.dm_event_history.specs.Actors.{PrinterAt}
+use Rattle.dm_event_history.specs.Actors.{PrinterAt, DeskAt, actor_of}
 use Rattle.dm_event_history.specs.Replying.{has_failed_before}
 use Rattle.dm_event_history.specs.Numbers.{is_in_some}
 use Rattle.dm_event_history.specs.Places.{IsOpened}
@@ -28,9 +37,26 @@ use Rattle.dm_event_history.proofs.Right.{are_parts}
 use Rattle.dm_print_ledger.specs.Views.{TicketView}
 use Rattle.dm_event_history.specs.Masks.{HasPage}
 use Rattle.dm_event_history.specs.Saving.{may_save}
-use Rattle.dm_event_history.specs.Tickets.{WasGiven, WasReached}
+use Rattle.dm_event_history.specs.Tickets.{WasGiven, WasReached, tickets_in}
 use Rattle.dm_event_history.specs.Worked.{digits, range, two_ranges, first_ticket}
-use Rattle.dm_event_history.specs.Unfaithful.{IsFaithfulRun, PrintsOnceRun, AreRepliesRun, TakesOnceRun, ImportsExportsRun, other_digits, scan, page, ticket, another_call, stopped_unasked, forgotten_with_a_fault, scanned_though_stopped, failed_without_a_fault, damaged_by_itself, answered_while_down, down_unstopped, failed_before_a_fault, given_though_failed, missing_printer, numbered_above, second_ticket, taken_falling, old_at_first, old_after_a_lower, old_unsaved, old_though_failed, refused_ungiven, missing_ticket, exported_above, refused_unexported, missing_export, never_saved, refused_import, wrong_of_two, refused_unprinted, missing_label, third_desk, begun_unscanned, exported_unscanned, printed_after_forgotten, one_serial, given_falling, taken_though_old, imported_another_document, imported_another_page, exported_twice, half_printed, printed_unseen, unseen_labels, print, never_printed, wrong_document, another_document, never_scanned, two_documents, printed_twice, told_twice, printed_beyond, left_though_failed, never_left, numbered_twice, taken_twice, taken_elsewhere, overlaps, AreUnfaithful}
+use Rattle.dm_event_history.specs.Unfaithful.{Run, IsFaithfulRun, missing_first_label, lost_by_a_refused_forget, imported_at_last, printed_untaken, given_to_another, old_by_another_giver, imported_none_of_another, wrong_after_a_refused_scan, old_by_another_ticket, printed_of_another, given_of_another, given_again, taken_though_kept, saved_though_failed, held_and_missing, forgotten_elsewhere, forgotten_twice, again_at_first, new_twice, new_at_last, complete_at_first, missing_though_held, given_elsewhere, conflicting_label, exported_in_part, added_again, refused_label, exhausted_at_first, too_long_of_few, IsFaithfulMarked, IsTaintedIn, IsTaintedSo, wrong_at, imported, PrintsOnceRun, AreRepliesRun, TakesOnceRun, ImportsExportsRun, other_digits, scan, page, ticket, another_call, stopped_unasked, forgotten_with_a_fault, scanned_though_stopped, failed_without_a_fault, damaged_by_itself, answered_while_down, down_unstopped, failed_before_a_fault, given_though_failed, missing_printer, numbered_above, second_ticket, taken_falling, old_at_first, old_after_a_lower, old_unsaved, old_though_failed, refused_ungiven, missing_ticket, exported_above, refused_unexported, missing_export, never_saved, refused_import, wrong_of_two, refused_unprinted, missing_label, third_desk, begun_unscanned, exported_unscanned, printed_after_forgotten, one_serial, given_falling, taken_though_old, imported_another_document, imported_another_page, exported_twice, half_printed, printed_unseen, unseen_labels, print, never_printed, wrong_document, another_document, never_scanned, two_documents, printed_twice, told_twice, printed_beyond, left_though_failed, never_left, numbered_twice, taken_twice, taken_elsewhere, overlaps, AreUnfaithful}
+
+-- each event of a run was found honest
+abbrev marks : {A : Type 0} → Run A → List Bool
+marks run = map (λ one. true) run
+
+-- what an event and its reply are not, they are not at their place
+not_at : {A : Type 0} (events : List (Event A)) (replies : List (Reply A)) (k : ℕ) (event : Event A)
+    (reply : Reply A) (IsSo : Event A → Reply A → Type 0) →
+    slice_get events k ≡ Some event → slice_get replies k ≡ Some reply → ¬ IsSo event reply →
+    ¬ IsAt events replies k IsSo
+not_at {A} events replies k event reply IsSo asked answered not_so at =
+    let one : slice_get events k ≡ Some at.event = at.asked in
+    let other : slice_get replies k ≡ Some at.reply = at.answered in
+    let event_is : at.event ≡ event = cc (one, asked) in
+    let reply_is : at.reply ≡ reply = cc (other, answered) in
+    not_so (subst (λ (v : Event A). IsSo v reply) event_is
+    (subst (λ (r : Reply A). IsSo at.event r) reply_is at.is_so))
 
 -- ---- what an event lets out
 
@@ -106,8 +132,8 @@ digits_differ same = (let a : ◌≡◌ {A = ℕ} 49 52 = cc (same) in omega ari
 
 never_printed_is : (A : Type 0) → ¬ IsFaithfulRun (never_printed A)
 never_printed_is A (batches, f) =
-    let t = printed_before batches events replies 1 (f.given 1 digits refl).1 digits f.prints
-    (f.given 1 digits refl).3 in by_print t.0 t.1 t.2 t.3
+    let t = printed_before batches events replies 1 77 digits f.prints
+    (f.given 1 0 77 digits refl refl (untainted (never_printed A) 1 (AtDesk 0))) in by_print t.0 t.1 t.2 t.3
   where
     events : List (Event A)
     events = map (λ one. one.0) (never_printed A)
@@ -121,8 +147,8 @@ never_printed_is A (batches, f) =
 
 wrong_document_is : (A : Type 0) → ¬ IsFaithfulRun (wrong_document A)
 wrong_document_is A (batches, f) =
-    let t = printed_before batches events replies 4 (f.given 4 digits refl).1 digits f.prints
-    (f.given 4 digits refl).3 in by_print t.0 t.1 t.2 t.3 t.4
+    let t = printed_before batches events replies 4 10 digits f.prints
+    (f.given 4 0 10 digits refl refl (untainted (wrong_document A) 4 (AtDesk 0))) in by_print t.0 t.1 t.2 t.3 t.4
   where
     events : List (Event A)
     events = map (λ one. one.0) (wrong_document A)
@@ -140,8 +166,8 @@ wrong_document_is A (batches, f) =
 
 another_document_is : (A : Type 0) → ¬ IsFaithfulRun (another_document A)
 another_document_is A (batches, f) =
-    let t = printed_before batches events replies 3 (f.given 3 other_digits refl).1 other_digits f.prints
-    (f.given 3 other_digits refl).3 in
+    let t = printed_before batches events replies 3 0 other_digits f.prints
+    (f.given 3 0 0 other_digits refl refl (untainted (another_document A) 3 (AtDesk 0))) in
     by_print t.0 t.1 t.2 t.3 t.4
   where
     events : List (Event A)
@@ -184,16 +210,16 @@ none_scanned {A} batches first second replies id m n document is w = by_place w.
 
 never_scanned_is : (A : Type 0) → ¬ IsFaithfulRun (never_scanned A)
 never_scanned_is A (batches, f) =
-    let w = (f.given 1 digits refl).3 in
+    let w = f.given 1 0 0 digits refl refl (untainted (never_scanned A) 1 (AtDesk 0)) in
     let left = f.prints.printed w.printed.j w.batch w.printed.there in
     none_scanned batches (print 0 digits stops.None) (Ask 0 0) (map (λ one. one.1) (never_scanned A))
-    (f.given 1 digits refl).1 1 (count_of w.batch) digits refl
+    0 1 (count_of w.batch) digits refl
     (w.scanned 1 (omega arith)
     (some_count (map (λ one. one.0) (never_scanned A)) (map (λ one. one.1) (never_scanned A)) w.printed.j w.batch left))
 
 begun_unscanned_is : (A : Type 0) → ¬ IsFaithfulRun (begun_unscanned A)
 begun_unscanned_is A (batches, f) =
-    let w = f.begun 1 0 0 2 refl refl in
+    let w = f.begun 1 0 0 2 refl refl (untainted (begun_unscanned A) 1 (AtDesk 0)) in
     let t = w.not_all in
     none_scanned batches (print 0 digits stops.None) (Ask 0 0) (map (λ one. one.1) (begun_unscanned A)) 0 t.0
     (count_of w.batch) digits refl (w.scanned t.0 t.1 t.2 t.3)
@@ -201,7 +227,8 @@ begun_unscanned_is A (batches, f) =
 exported_unscanned_is : (A : Type 0) → ¬ IsFaithfulRun (exported_unscanned A)
 exported_unscanned_is A (batches, f) =
     none_scanned batches (print 0 digits stops.None) (Export 0 0)
-    (map (λ one. one.1) (exported_unscanned A)) 0 1 2 digits refl ((f.exported 1 0 0 2 1 refl).2 1 refl)
+    (map (λ one. one.1) (exported_unscanned A)) 0 1 2 digits refl
+    (f.exported 1 0 0 0 0 2 1 refl refl (untainted (exported_unscanned A) 1 (AtDesk 0)) 1 refl)
 
 -- a document is cut into two parts at least
 parts_count : (document : List ℕ) (from : ℕ) (ends : List ℕ) → length (parts_from document from ends) ≡ length ends
@@ -262,12 +289,12 @@ half_printed_is A (batches, f) = by_batches batches f
     by_print (first ∷ rest) (suc zero) id batch before there left w = (let x = left.is_print.event in cc (x))
     by_print (first ∷ rest) (suc (suc j)) id batch before there left w = omega arith
 
-    by_batches : (batches : List (Option Batch)) → IsFaithfulBy two_ranges 2 batches events replies → ⊥
+    by_batches : (batches : List (Option Batch)) →
+        IsFaithfulBy two_ranges 2 batches events (marks (half_printed A)) replies → ⊥
     by_batches batches f =
-        let g = f.given 2 digits refl in
-        let w = g.3 in
+        let w = f.given 2 0 0 digits refl refl (untainted (half_printed A) 2 (AtDesk 0)) in
         let left = f.prints.printed w.printed.j w.batch w.printed.there in
-        by_print batches w.printed.j g.1 w.batch w.printed.before w.printed.there left
+        by_print batches w.printed.j 0 w.batch w.printed.before w.printed.there left
         (w.scanned 2 (omega arith) (two_parts events replies w.printed.j w.batch left))
 
 -- a scan that is answered as memory was refused saves nothing
@@ -280,7 +307,7 @@ unsaved {A} label event reply asked answered saves =
 
 never_saved_is : (A : Type 0) → ¬ IsFaithfulRun (never_saved A)
 never_saved_is A (batches, f) =
-    let w = (f.given 3 digits refl).3 in
+    let w = f.given 3 0 0 digits refl refl (untainted (never_saved A) 3 (AtDesk 0)) in
     let left = f.prints.printed w.printed.j w.batch w.printed.there in
     let t = w.scanned 1 (omega arith) (some_count events replies w.printed.j w.batch left) in
     by_scan t.k t.before t.scan.event t.saved
@@ -305,20 +332,30 @@ never_saved_is A (batches, f) =
         unsaved 1 saved.event saved.reply (cc (e)) (cc (r)) saved.saves
     by_scan (suc (suc (suc k))) before is saved = omega arith
 
+-- an import is refused by the state of its desk alone
+not_refused : (A : Type 0) (fault : ImportFault) (batches : List (Option Batch)) →
+    IsFaithfulBy two_ranges 2 batches (map (λ one. one.0) (refused_import A fault))
+    (map (λ one. true) (refused_import A fault)) (map (λ one. one.1) (refused_import A fault)) → IsOfDesk fault
+not_refused A fault batches f =
+    f.not_imported 3 1 0 stops.None fault refl refl (untainted (refused_import A fault) 3 (AtDesk 1))
+    (untainted (refused_import A fault) 3 (InExport 0))
+
 import_conflicting_is : (A : Type 0) → ¬ IsFaithfulRun (refused_import A import_fault.Conflict)
-import_conflicting_is A (batches, f) = f.not_imported 3 import_fault.Conflict refl
+import_conflicting_is A (batches, f) = not_refused A import_fault.Conflict batches f
 
 import_damaged_is : (A : Type 0) → ¬ IsFaithfulRun (refused_import A import_fault.Damaged)
-import_damaged_is A (batches, f) = f.not_imported 3 import_fault.Damaged refl
+import_damaged_is A (batches, f) = not_refused A import_fault.Damaged batches f
 
 import_of_a_version_is : (A : Type 0) → ¬ IsFaithfulRun (refused_import A import_fault.Version)
-import_of_a_version_is A (batches, f) = f.not_imported 3 import_fault.Version refl
+import_of_a_version_is A (batches, f) = not_refused A import_fault.Version batches f
 
 import_of_no_pages_is : (A : Type 0) → ¬ IsFaithfulRun (refused_import A import_fault.NotPages)
-import_of_no_pages_is A (batches, f) = f.not_imported 3 import_fault.NotPages refl
+import_of_no_pages_is A (batches, f) = not_refused A import_fault.NotPages batches f
 
 two_documents_is : (A : Type 0) → ¬ IsFaithfulRun (two_documents A)
-two_documents_is A (batches, f) = digits_differ (f.same 3 4 0 0 0 digits other_digits refl refl refl refl)
+two_documents_is A (batches, f) = digits_differ
+    (f.same 3 4 0 0 0 digits other_digits refl refl (untainted (two_documents A) 3 (AtDesk 0)) refl refl
+    (untainted (two_documents A) 4 (AtDesk 0)))
 
 -- ---- prints
 
@@ -344,7 +381,8 @@ printed_twice_is A (batches, f) = by_batches batches f
     replies : List (Reply A)
     replies = map (λ one. one.1) (printed_twice A)
 
-    by_batches : (batches : List (Option Batch)) → IsFaithfulBy two_ranges 2 batches events replies → ⊥
+    by_batches : (batches : List (Option Batch)) →
+        IsFaithfulBy two_ranges 2 batches events (marks (printed_twice A)) replies → ⊥
     by_batches [] f = (let t = (f.prints.told 2 0 1 2 refl).there in cc (t))
     by_batches (None ∷ []) f = (let t = (f.prints.told 2 0 1 2 refl).there in cc (t))
     by_batches (None ∷ None ∷ rest) f = (let t : ◌≡◌ {A = ℕ} 1 0 = (f.prints.told 2 0 1 2 refl).first_is in omega arith)
@@ -353,7 +391,8 @@ printed_twice_is A (batches, f) = by_batches batches f
         let p = f.prints.printed 0 batch refl in
         let t = f.prints.told 2 0 1 2 refl in
         let s : IsScanOf (Some batch ∷ rest) events 3 (record { id = 0; number = 1; count = 2 }) =
-        f.scanned 3 (record { id = 0; m = 1; n = 2; kind = New }) refl in
+        f.scanned 3 0 0 [] stops.None (record { id = 0; m = 1; n = 2; kind = New }) refl refl refl
+        (untainted (printed_twice A) 3 (AtDesk 0)) in
         let e : Some (Scan 0 0 [] stops.None) ≡ Some (Scan s.desk s.label s.flips s.stop) = s.event in
         let label_is : 0 ≡ s.label = cc (e) in
         let had : slice_get (labels_of (Some batch ∷ take 2 rest)) 0 ≡ Some (record { id = 0; number = 1; count = 2 }) =
@@ -412,7 +451,8 @@ wrong_of_two_is A (batches, f) = by_batches batches f
     has : HasNumber {A = A} two_ranges [] [] 0
     has = (let below : 0 < 10 = omega arith in below)
 
-    by_batches : (batches : List (Option Batch)) → IsFaithfulBy two_ranges 2 batches events replies → ⊥
+    by_batches : (batches : List (Option Batch)) →
+        IsFaithfulBy two_ranges 2 batches events (marks (wrong_of_two A)) replies → ⊥
     by_batches [] f = (let t = f.prints.each_batch in cc (t))
     by_batches (None ∷ rest) f =
         let t = f.prints.let_out 0 0 other_digits Side12 Ascii 2 _ refl (omega arith) refl are_parts refl has in
@@ -420,7 +460,8 @@ wrong_of_two_is A (batches, f) = by_batches batches f
     by_batches (Some batch ∷ rest) f =
         let p = f.prints.printed 0 batch refl in
         let s : IsScanOf (Some batch ∷ rest) events 2 (record { id = 10; number = 1; count = 2 }) =
-        f.scanned 2 (record { id = 10; m = 1; n = 2; kind = New }) refl in
+        f.scanned 2 0 0 [] stops.None (record { id = 10; m = 1; n = 2; kind = New }) refl refl refl
+        (untainted (wrong_of_two A) 2 (AtDesk 0)) in
         let e : Some (Scan 0 0 [] stops.None) ≡ Some (Scan s.desk s.label s.flips s.stop) = s.event in
         let label_is : 0 ≡ s.label = cc (e) in
         let had : slice_get (labels_of (Some batch ∷ take 1 rest)) 0 ≡ Some (record {
@@ -435,12 +476,9 @@ wrong_of_two_is A (batches, f) = by_batches batches f
         })) (sym label_is) s.had_left in
         let own : batch.id ≡ 10 = first_label batch (take 1 rest)
         (record { id = 10; number = 1; count = 2 }) p.not_none had in
-        let g = f.given 4 digits refl in
-        let w = g.3 in
-        let asked : Some (Ask 0 10) ≡ Some (Ask g.0 g.1) = g.2 in
-        let id_is : 10 ≡ g.1 = cc (asked) in
+        let w = f.given 4 0 10 digits refl refl (untainted (wrong_of_two A) 4 (AtDesk 0)) in
         let place : 0 ≡ w.printed.j = f.prints.once 0 w.printed.j batch w.batch refl w.printed.there
-        (own ∙ id_is ∙ sym w.printed.id_is) in
+        (own ∙ sym w.printed.id_is) in
         let x : Some (Some batch) ≡ Some (Some w.batch) =
         subst (λ (j : ℕ). slice_get (Some batch ∷ rest) j ≡ Some (Some w.batch)) (sym place) w.printed.there in
         let same : batch ≡ w.batch = cc (x) in
@@ -450,6 +488,35 @@ wrong_of_two_is A (batches, f) = by_batches batches f
 refused_unprinted_is : (A : Type 0) → ¬ IsFaithfulRun (refused_unprinted A)
 refused_unprinted_is A (batches, f) =
     (let below : 0 < 0 = f.prints.there 0 0 0 [] stops.None Memory refl refl (λ x. cc (x)) in omega arith)
+
+missing_first_label_is : (A : Type 0) → ¬ IsFaithfulRun (missing_first_label A)
+missing_first_label_is A (batches, f) = by_batches batches f
+  where
+    events : List (Event A)
+    events = map (λ one. one.0) (missing_first_label A)
+
+    replies : List (Reply A)
+    replies = map (λ one. one.1) (missing_first_label A)
+
+    small : All {X = ℕ × ℕ} (λ flip. (flip.0 < 10) × (flip.1 < 10)) []
+    small k flip below = absurd (omega arith)
+
+    some : (batch : Batch) (left : ℕ) → 1 ≤ left → length (names_from batch.id (count_of batch) 1 left ++ []) ≤ 0 → ⊥
+    some batch zero least few = omega arith
+    some batch (suc left) least few = omega arith
+
+    has : HasNumber {A = A} two_ranges [] [] 0
+    has = (let below : 0 < 10 = omega arith in below)
+
+    by_batches : (batches : List (Option Batch)) →
+        IsFaithfulBy two_ranges 2 batches events (marks (missing_first_label A)) replies → ⊥
+    by_batches [] f = (let t = f.prints.each_batch in cc (t))
+    by_batches (None ∷ rest) f =
+        let t = f.prints.let_out 0 0 other_digits Side12 Ascii 1 _ refl (omega arith) refl are_parts refl has in
+        let x : Some None ≡ Some (Some t.0) = t.1 in cc (x)
+    by_batches (Some batch ∷ rest) f =
+        some batch batch.left (f.prints.printed 0 batch refl).not_none
+        (f.prints.not_there 1 0 0 [] stops.None refl refl (omega arith) small)
 
 missing_label_is : (A : Type 0) → ¬ IsFaithfulRun (missing_label A)
 missing_label_is A (batches, f) = by_batches batches f
@@ -470,7 +537,8 @@ missing_label_is A (batches, f) = by_batches batches f
     some batch zero least few = omega arith
     some batch (suc left) least few = omega arith
 
-    by_batches : (batches : List (Option Batch)) → IsFaithfulBy two_ranges 2 batches events replies → ⊥
+    by_batches : (batches : List (Option Batch)) →
+        IsFaithfulBy two_ranges 2 batches events (marks (missing_label A)) replies → ⊥
     by_batches [] f = (let t = f.prints.each_batch in cc (t))
     by_batches (None ∷ rest) f = (let t = f.prints.told 0 0 0 2 refl in let x = t.there in cc (x))
     by_batches (Some batch ∷ rest) f =
@@ -498,16 +566,412 @@ printed_after_forgotten_is A (batches, f) = by_batches batches f
     by_scan batch rest m n (suc (suc zero)) some before s = absurd (let x = s.event in cc (x))
     by_scan batch rest m n (suc (suc (suc k))) some before s = absurd (omega arith)
 
-    by_batches : (batches : List (Option Batch)) → IsFaithfulBy two_ranges 2 batches events replies → ⊥
+    by_batches : (batches : List (Option Batch)) →
+        IsFaithfulBy two_ranges 2 batches events (marks (printed_after_forgotten A)) replies → ⊥
     by_batches [] f = (let t = f.prints.each_batch in cc (t))
     by_batches (None ∷ rest) f =
         let below : 0 < 0 = f.prints.there 1 0 0 [] (stops.AfterLabels 0) Stopped refl refl (λ x. cc (x)) in omega arith
     by_batches (Some batch ∷ rest) f =
         let p = f.prints.printed 0 batch refl in
-        let w = f.forgotten 3 0 0 stops.None refl refl in
+        let w = f.forgotten 3 0 0 stops.None refl refl (untainted (printed_after_forgotten A) 3 (AtDesk 0)) in
         let own : batch.id ≡ 0 = by_scan batch rest w.0 w.1 w.2.k p.not_none w.2.before w.2.scan in
         let t = f.prints.told 4 0 1 2 refl in
         let place : ◌≡◌ {A = ℕ} 0 4 = f.prints.once 0 4 batch t.batch refl t.there (own ∙ sym t.id_is) in omega arith
+
+saved_though_failed_is : (A : Type 0) → ¬ IsFaithfulRun (saved_though_failed A)
+saved_though_failed_is A (batches, f) =
+    let w = f.forgotten 4 0 0 stops.None refl refl (untainted (saved_though_failed A) 4 (AtDesk 0)) in
+    by_scan w.2.k w.2.before w.2.scan.event w.2.saved
+  where
+    events : List (Event A)
+    events = map (λ one. one.0) (saved_though_failed A)
+
+    replies : List (Reply A)
+    replies = map (λ one. one.1) (saved_though_failed A)
+
+    by_scan : (k : ℕ) → k < 4 → {desk label : ℕ} {flips : List (ℕ × ℕ)} {stop : Stop} →
+        slice_get events k ≡ Some (Scan desk label flips stop) → MayHaveSaved events replies k → ⊥
+    by_scan zero before is saved = cc (is)
+    by_scan (suc zero) before is saved =
+        let e : Some (Scan 0 0 [] (stops.SaveFault kept.Old)) ≡ Some saved.event = saved.asked in
+        let r : Some (ScanRefused scan_fault.Save) ≡ Some saved.reply = saved.answered in
+        let event_is : saved.event ≡ Scan 0 0 [] (stops.SaveFault kept.Old) = cc (e) in
+        let reply_is : saved.reply ≡ ScanRefused scan_fault.Save = cc (r) in
+        let x : may_save {A = A} (Scan 0 0 [] (stops.SaveFault kept.Old)) (ScanRefused scan_fault.Save) ≡ true =
+        subst (λ (v : Event A). may_save v (ScanRefused scan_fault.Save) ≡ true) event_is
+        (subst (λ (p : Reply A). may_save saved.event p ≡ true) reply_is saved.saves) in cc (x)
+    by_scan (suc (suc zero)) before is saved =
+        let e : Some (Scan 0 0 [] (stops.AfterLabels 0)) ≡ Some saved.event = saved.asked in
+        let event_is : saved.event ≡ Scan 0 0 [] (stops.AfterLabels 0) = cc (e) in
+        let x : true ≡ false =
+        subst (λ (v : Event A). has_failed_before events replies 2 (actor_of v) ≡ false) event_is saved.unfailed in
+        cc (x)
+    by_scan (suc (suc (suc zero))) before is saved = cc (is)
+    by_scan (suc (suc (suc (suc k)))) before is saved = omega arith
+
+-- ---- what a desk holds
+
+-- the first event is a print, before which and by which a desk holds nothing
+none_at_first : {A : Type 0} (batches : List (Option Batch)) (events : List (Event A)) (replies : List (Reply A))
+    (printer : ℕ) (document : List ℕ) (stop : Stop) (reply : Reply A) →
+    slice_get events 0 ≡ Some (print printer document stop) → slice_get replies 0 ≡ Some reply →
+    (desk id m : ℕ) → ¬ MayHold batches events replies 1 desk id m
+none_at_first batches events replies printer document stop reply asked answered desk id m (inl now) =
+    not_at events replies 0 (print printer document stop) reply
+    (λ event reply. MayTake (labels_of (take 0 batches)) (exports_in (take 0 replies)) event reply desk id m
+    × (has_failed_before events replies 0 (DeskAt desk) ≡ false))
+    asked answered (λ t. t.0) now
+none_at_first batches events replies printer document stop reply asked answered desk id m (inr before) = before.1
+
+-- the second takes page 1 of 0 to desk 0
+taken_second : {A : Type 0} (events : List (Event A)) (replies : List (Reply A)) →
+    slice_get events 1 ≡ Some (scan 0) → slice_get replies 1 ≡ Some (Scanned (page 0 1 New)) →
+    Holds events replies 2 0 0 1
+taken_second events replies asked answered = inl (record {
+  event = scan 0;
+  asked = asked;
+  reply = Scanned (page 0 1 New);
+  answered = answered;
+  is_so = (refl, refl, refl);
+})
+
+held_and_missing_is : (A : Type 0) → ¬ IsFaithfulRun (held_and_missing A)
+held_and_missing_is A (batches, f) =
+    f.agrees 2 0 (Ask 0 0) (AskRefused ask_fault.NotHeld) refl refl refl
+    (untainted (held_and_missing A) 3 (AtDesk 0)) 1
+    (taken_second (map (λ one. one.0) (held_and_missing A)) (map (λ one. one.1) (held_and_missing A)) refl refl)
+
+forgotten_elsewhere_is : (A : Type 0) → ¬ IsFaithfulRun (forgotten_elsewhere A)
+forgotten_elsewhere_is A (batches, f) =
+    let t = f.agrees 2 1 (Forget 1 0 stops.None) Forgotten refl refl refl
+    (untainted (forgotten_elsewhere A) 3 (AtDesk 1)) in by_hold t.0 t.1
+  where
+    events : List (Event A)
+    events = map (λ one. one.0) (forgotten_elsewhere A)
+
+    replies : List (Reply A)
+    replies = map (λ one. one.1) (forgotten_elsewhere A)
+
+    by_hold : (m : ℕ) → ¬ MayHold batches events replies 2 1 0 m
+    by_hold m (inl now) = not_at events replies 1 (scan 0) (Scanned (page 0 1 New))
+        (λ event reply. MayTake (labels_of (take 1 batches)) (exports_in (take 1 replies)) event reply 1 0 m
+        × (has_failed_before events replies 1 (DeskAt 1) ≡ false))
+        refl refl (λ t. cc (t.0.0)) now
+    by_hold m (inr before) =
+        none_at_first batches events replies 0 digits stops.None (Printed 0 0 2) refl refl 1 0 m before.1
+
+forgotten_twice_is : (A : Type 0) → ¬ IsFaithfulRun (forgotten_twice A)
+forgotten_twice_is A (batches, f) =
+    let t = f.agrees 3 0 (Forget 0 0 stops.None) Forgotten refl refl refl
+    (untainted (forgotten_twice A) 4 (AtDesk 0)) in by_hold t.0 t.1
+  where
+    events : List (Event A)
+    events = map (λ one. one.0) (forgotten_twice A)
+
+    replies : List (Reply A)
+    replies = map (λ one. one.1) (forgotten_twice A)
+
+    by_hold : (m : ℕ) → ¬ MayHold batches events replies 3 0 0 m
+    by_hold m (inl now) = not_at events replies 2 (Forget 0 0 stops.None) Forgotten
+        (λ event reply. MayTake (labels_of (take 2 batches)) (exports_in (take 2 replies)) event reply 0 0 m
+        × (has_failed_before events replies 2 (DeskAt 0) ≡ false))
+        refl refl (λ t. t.0) now
+    by_hold m (inr before) = before.0 (record {
+      event = Forget 0 0 stops.None;
+      asked = refl;
+      reply = Forgotten;
+      answered = refl;
+      is_so = (refl, refl);
+    })
+
+again_at_first_is : (A : Type 0) → ¬ IsFaithfulRun (again_at_first A)
+again_at_first_is A (batches, f) =
+    let t = f.agrees 1 0 (scan 0) (Scanned (page 0 1 Again)) refl refl refl
+    (untainted (again_at_first A) 2 (AtDesk 0)) in
+    none_at_first batches (map (λ one. one.0) (again_at_first A)) (map (λ one. one.1) (again_at_first A)) 0 digits
+    stops.None (Printed 0 0 2) refl refl 0 t.name.id t.name.number t.kind
+
+new_twice_is : (A : Type 0) → ¬ IsFaithfulRun (new_twice A)
+new_twice_is A (batches, f) =
+    let t = f.agrees 2 0 (scan 0) (Scanned (page 0 1 New)) refl refl refl (untainted (new_twice A) 3 (AtDesk 0)) in
+    t.kind.0
+    (subst (λ (id : ℕ). Holds (map (λ one. one.0) (new_twice A)) (map (λ one. one.1) (new_twice A)) 2 0 id
+    t.name.number) t.id_is
+    (subst (λ (m : ℕ). Holds (map (λ one. one.0) (new_twice A)) (map (λ one. one.1) (new_twice A)) 2 0 0 m) t.m_is
+    (taken_second (map (λ one. one.0) (new_twice A)) (map (λ one. one.1) (new_twice A)) refl refl)))
+
+new_at_last_is : (A : Type 0) → ¬ IsFaithfulRun (new_at_last A)
+new_at_last_is A (batches, f) =
+    let t = f.agrees 2 0 (scan 1) (Scanned (page 0 2 New)) refl refl refl (untainted (new_at_last A) 3 (AtDesk 0)) in
+    let id_is : 0 ≡ t.name.id = t.id_is in
+    let number_is : 2 ≡ t.name.number = t.m_is in
+    let count_is : 2 ≡ t.name.count = t.n_is in
+    let first = t.kind.2 in
+    let last = t.kind.3 in
+    let one : t.kind.1 ≡ 1 = only t.kind.1 first (omega arith) (λ two. t.kind.4 (two ∙ number_is)) in
+    t.kind.5 (subst (λ (id : ℕ). Holds events replies 2 0 id t.kind.1) id_is
+    (subst (λ (m : ℕ). Holds events replies 2 0 0 m) (sym one) (taken_second events replies refl refl)))
+  where
+    events : List (Event A)
+    events = map (λ one. one.0) (new_at_last A)
+
+    replies : List (Reply A)
+    replies = map (λ one. one.1) (new_at_last A)
+
+    only : (m : ℕ) → 1 ≤ m → m ≤ 2 → m ≢ 2 → m ≡ 1
+    only zero first last away = absurd (omega arith)
+    only (suc zero) first last away = refl
+    only (suc (suc zero)) first last away = absurd (away refl)
+    only (suc (suc (suc m))) first last away = absurd (omega arith)
+
+complete_at_first_is : (A : Type 0) → ¬ IsFaithfulRun (complete_at_first A)
+complete_at_first_is A (batches, f) =
+    let t = f.agrees 1 0 (scan 0) (Scanned (page 0 1 Complete)) refl refl refl
+    (untainted (complete_at_first A) 2 (AtDesk 0)) in
+    let two : 2 ≡ t.name.count = t.n_is in
+    let one : 1 ≡ t.name.number = t.m_is in
+    none_at_first batches (map (λ one. one.0) (complete_at_first A)) (map (λ one. one.1) (complete_at_first A)) 0
+    digits stops.None (Printed 0 0 2) refl refl 0 t.name.id 2
+    (t.kind.1 2 (omega arith) (omega arith) (λ same. let x : ◌≡◌ {A = ℕ} 1 2 = one ∙ sym same in omega arith))
+
+missing_though_held_is : (A : Type 0) → ¬ IsFaithfulRun (missing_though_held A)
+missing_though_held_is A (batches, f) =
+    let t = f.agrees 3 0 (Ask 0 0) (AskRefused (ask_fault.Incomplete 1)) refl refl refl
+    (untainted (missing_though_held A) 4 (AtDesk 0)) in
+    t.not_surely 1 refl (inr (
+      not_at events replies 2 (scan 1) (Scanned (page 0 2 Complete)) (λ event reply. MayForget event reply 0 0
+          × (has_failed_before events replies 2 (DeskAt 0) ≡ false)) refl refl (λ t. t.0),
+      taken_second events replies refl refl,
+    ))
+  where
+    events : List (Event A)
+    events = map (λ one. one.0) (missing_though_held A)
+
+    replies : List (Reply A)
+    replies = map (λ one. one.1) (missing_though_held A)
+
+given_elsewhere_is : (A : Type 0) → ¬ IsFaithfulRun (given_elsewhere A)
+given_elsewhere_is A (batches, f) =
+    let t = f.agrees 3 1 (Ask 1 0) (Document digits) refl refl refl (untainted (given_elsewhere A) 4 (AtDesk 1)) in
+    let batch = t.printed.0 in
+    let left = t.printed.1 in
+    let some : 1 ≤ count_of batch =
+    some_count events replies left.j batch (f.prints.printed left.j batch left.there) in
+    let parts : count_of batch ≡ length t.document.parts =
+    ap (λ (cut : CutDocument). length cut.parts) t.printed.2 in
+    by_hold (t.possibly 1 (omega arith) (omega arith))
+  where
+    events : List (Event A)
+    events = map (λ one. one.0) (given_elsewhere A)
+
+    replies : List (Reply A)
+    replies = map (λ one. one.1) (given_elsewhere A)
+
+    by_hold : ¬ MayHold batches events replies 3 1 0 1
+    by_hold (inl now) = not_at events replies 2 (scan 1) (Scanned (page 0 2 Complete))
+        (λ event reply. MayTake (labels_of (take 2 batches)) (exports_in (take 2 replies)) event reply 1 0 1
+        × (has_failed_before events replies 2 (DeskAt 1) ≡ false))
+        refl refl (λ t. cc (t.0.0)) now
+    by_hold (inr (stays, inl now)) = not_at events replies 1 (scan 0) (Scanned (page 0 1 New))
+        (λ event reply. MayTake (labels_of (take 1 batches)) (exports_in (take 1 replies)) event reply 1 0 1
+        × (has_failed_before events replies 1 (DeskAt 1) ≡ false))
+        refl refl (λ t. cc (t.0.0)) now
+    by_hold (inr (stays, inr before)) =
+        none_at_first batches events replies 0 digits stops.None (Printed 0 0 2) refl refl 1 0 1 before.1
+
+lost_by_a_refused_forget_is : (A : Type 0) → ¬ IsFaithfulRun (lost_by_a_refused_forget A)
+lost_by_a_refused_forget_is A (batches, f) =
+    f.agrees 3 0 (Ask 0 0) (AskRefused ask_fault.NotHeld) refl refl refl
+    (untainted (lost_by_a_refused_forget A) 4 (AtDesk 0)) 1 (inr (
+      not_at events replies 2 (Forget 0 0 stops.None) (ForgetRefused forget_fault.Memory)
+          (λ event reply. MayForget event reply 0 0 × (has_failed_before events replies 2 (DeskAt 0) ≡ false))
+          refl refl (λ t. cc (t.0.2)),
+      taken_second events replies refl refl,
+    ))
+  where
+    events : List (Event A)
+    events = map (λ one. one.0) (lost_by_a_refused_forget A)
+
+    replies : List (Reply A)
+    replies = map (λ one. one.1) (lost_by_a_refused_forget A)
+
+imported_at_last_is : (A : Type 0) → ¬ IsFaithfulRun (imported_at_last A)
+imported_at_last_is A (batches, f) =
+    let t = f.agrees 4 1 (Import 1 0 stops.None) (Imported (imported 0 1)) refl refl refl
+    (untainted (imported_at_last A) 5 (AtDesk 1)) in
+    let there : ◌≡◌ {A = Option ExportName} (Some (record { id = 0; count = 2; mask = 1 })) (Some t.name) = t.there in
+    let same : record { id = 0; count = 2; mask = 1 } ≡ t.name = cc (there) in
+    by_kind (subst (λ (name : ExportName). IsImportKindSafe (known_before batches events replies 4) 1 name 1 New)
+    (sym same) t.kind)
+  where
+    events : List (Event A)
+    events = map (λ one. one.0) (imported_at_last A)
+
+    replies : List (Reply A)
+    replies = map (λ one. one.1) (imported_at_last A)
+
+    second : Holds events replies 4 1 0 2
+    second = inl (record {
+      event = Scan 1 1 [] stops.None;
+      asked = refl;
+      reply = Scanned (page 0 2 New);
+      answered = refl;
+      is_so = (refl, refl, refl);
+    })
+
+    by_page : (m : ℕ) → 1 ≤ m → m ≤ 2 → ¬ HasPage 1 m → ¬ Holds events replies 4 1 0 m → ⊥
+    by_page zero first last away held = omega arith
+    by_page (suc zero) first last away held = away refl
+    by_page (suc (suc zero)) first last away held = held second
+    by_page (suc (suc (suc m))) first last away held = omega arith
+
+    by_kind : IsImportKindSafe (known_before batches events replies 4) 1 (record { id = 0; count = 2; mask = 1 }) 1 New →
+        ⊥
+    by_kind t = by_page t.0 t.1 t.2 t.3 t.4
+
+exported_in_part_is : (A : Type 0) → ¬ IsFaithfulRun (exported_in_part A)
+exported_in_part_is A (batches, f) =
+    let t = f.agrees 3 0 (Export 0 0) (Exported 0 0 2 1) refl refl refl
+    (untainted (exported_in_part A) 4 (AtDesk 0)) in
+    let x : HasPage 1 2 = t.surely 2 (inl (record {
+      event = scan 1;
+      asked = refl;
+      reply = Scanned (page 0 2 Complete);
+      answered = refl;
+      is_so = (refl, refl, refl);
+    })) in cc (x)
+
+added_again_is : (A : Type 0) → ¬ IsFaithfulRun (added_again A)
+added_again_is A (batches, f) =
+    let t = f.agrees 3 0 (Import 0 0 stops.None) (Imported (imported 0 1)) refl refl refl
+    (untainted (added_again A) 4 (AtDesk 0)) in
+    let there : ◌≡◌ {A = Option ExportName} (Some (record { id = 0; count = 2; mask = 1 })) (Some t.name) = t.there in
+    let same : record { id = 0; count = 2; mask = 1 } ≡ t.name = cc (there) in
+    t.not_surely 1 refl (subst (λ (name : ExportName). Holds events replies 3 0 name.id 1) same (inr (
+      not_at events replies 2 (Export 0 0) (Exported 0 0 2 1) (λ event reply. MayForget event reply 0 0
+          × (has_failed_before events replies 2 (DeskAt 0) ≡ false)) refl refl (λ t. t.0),
+      taken_second events replies refl refl,
+    )))
+  where
+    events : List (Event A)
+    events = map (λ one. one.0) (added_again A)
+
+    replies : List (Reply A)
+    replies = map (λ one. one.1) (added_again A)
+
+refused_label_is : (A : Type 0) → ¬ IsFaithfulRun (refused_label A)
+refused_label_is A (batches, f) =
+    f.not_refused 1 0 0 [] stops.None (scan_fault.Label (Block 0)) refl refl refl
+    (untainted (refused_label A) 1 (AtDesk 0))
+
+conflicting_label_is : (A : Type 0) → ¬ IsFaithfulRun (conflicting_label A)
+conflicting_label_is A (batches, f) =
+    f.not_refused 1 0 0 [] stops.None scan_fault.Conflict refl refl refl
+    (untainted (conflicting_label A) 1 (AtDesk 0))
+
+exhausted_at_first_is : (A : Type 0) → ¬ IsFaithfulRun (exhausted_at_first A)
+exhausted_at_first_is A (batches, f) =
+    let has : 0 < 10 = omega arith in f.prints.exhausted 0 0 digits Side12 Ascii stops.None refl refl has
+
+too_long_of_few_is : (A : Type 0) → ¬ IsFaithfulRun (too_long_of_few A)
+too_long_of_few_is A (batches, f) =
+    f.prints.too_long 0 0 other_digits Side12 Ascii stops.None refl refl are_parts.ends are_parts.are_ends
+
+-- ---- what is tainted
+
+-- a document that was never printed is not given at a desk that is not tainted
+wrong_at_is : (A : Type 0) (desk : ℕ) (batches : List (Option Batch)) →
+    ¬ IsTaintedIn (wrong_at A desk) 8 (AtDesk desk) →
+    IsFaithfulBy two_ranges 4 batches (map (λ one. one.0) (wrong_at A desk)) (map (λ one. one.1) (wrong_at A desk))
+    (map (λ one. one.2) (wrong_at A desk)) → ⊥
+wrong_at_is A desk batches untainted f =
+    let w = f.given 8 desk 0 other_digits refl refl untainted in
+    by_print w.printed.j w.batch w.printed.before (f.prints.printed w.printed.j w.batch w.printed.there) w.bytes_are
+  where
+    events : List (Event A)
+    events = map (λ one. one.0) (wrong_at A desk)
+
+    replies : List (Reply A)
+    replies = map (λ one. one.2) (wrong_at A desk)
+
+    by_print : (j : ℕ) (batch : Batch) → j < 8 → LeftBy events replies j batch → batch.document.bytes ≡ other_digits → ⊥
+    by_print zero batch before left bytes =
+        digits_differ (sym (document_is events replies 0 0 batch digits stops.None refl left) ∙ bytes)
+    by_print (suc zero) batch before left bytes = (let x = left.is_print.event in cc (x))
+    by_print (suc (suc zero)) batch before left bytes = (let x = left.is_print.event in cc (x))
+    by_print (suc (suc (suc zero))) batch before left bytes = (let x = left.is_print.event in cc (x))
+    by_print (suc (suc (suc (suc zero)))) batch before left bytes = (let x = left.is_print.event in cc (x))
+    by_print (suc (suc (suc (suc (suc zero))))) batch before left bytes = (let x = left.is_print.event in cc (x))
+    by_print (suc (suc (suc (suc (suc (suc zero)))))) batch before left bytes = (let x = left.is_print.event in cc (x))
+    by_print (suc (suc (suc (suc (suc (suc (suc zero))))))) batch before left bytes =
+        (let x = left.is_print.event in cc (x))
+    by_print (suc (suc (suc (suc (suc (suc (suc (suc j)))))))) batch before left bytes = omega arith
+
+wrong_after_a_refused_scan_is : (A : Type 0) → ¬ IsFaithfulMarked (wrong_after_a_refused_scan A)
+wrong_after_a_refused_scan_is A (batches, f) =
+    let w = f.given 2 0 0 other_digits refl refl (untainted_by events found replies 2 (AtDesk 0) refl) in
+    by_print w.printed.j w.batch w.printed.before (f.prints.printed w.printed.j w.batch w.printed.there) w.bytes_are
+  where
+    events : List (Event A)
+    events = map (λ one. one.0) (wrong_after_a_refused_scan A)
+
+    found : List Bool
+    found = map (λ one. one.1) (wrong_after_a_refused_scan A)
+
+    replies : List (Reply A)
+    replies = map (λ one. one.2) (wrong_after_a_refused_scan A)
+
+    by_print : (j : ℕ) (batch : Batch) → j < 2 → LeftBy events replies j batch → batch.document.bytes ≡ other_digits → ⊥
+    by_print zero batch before left bytes =
+        digits_differ (sym (document_is events replies 0 0 batch digits stops.None refl left) ∙ bytes)
+    by_print (suc zero) batch before left bytes = (let x = left.is_print.event in cc (x))
+    by_print (suc (suc j)) batch before left bytes = omega arith
+
+-- it is not computed to be tainted
+wrong_untainted : (A : Type 0) (desk : ℕ) →
+    is_tainted (map (λ one. one.0) (wrong_at A desk)) (map (λ one. one.1) (wrong_at A desk))
+    (map (λ one. one.2) (wrong_at A desk)) 8 (AtDesk desk) ≡ false → ¬ IsFaithfulMarked (wrong_at A desk)
+wrong_untainted A desk is_not (batches, f) =
+    wrong_at_is A desk batches (untainted_by (map (λ one. one.0) (wrong_at A desk))
+    (map (λ one. one.1) (wrong_at A desk)) (map (λ one. one.2) (wrong_at A desk)) 8 (AtDesk desk) is_not) f
+
+-- what an event taints is tainted after it, and for good
+pub are_tainted : (A : Type 0) → IsTaintedSo A
+are_tainted A = record {
+  scanning = inr (inr (inr (inr scanned)));
+  exporting = inr (inr (inr sent));
+  importing = inr (inl (record {
+    event = Import 3 1 stops.None;
+    asked = refl;
+    mark = true;
+    marked = refl;
+    reply = Imported (imported 9 1);
+    answered = refl;
+    taints = (refl, inr sent, refl);
+  }));
+}
+  where
+    scanned : IsTaintedIn (wrong_at A 0) 4 (AtDesk 2)
+    scanned = inl (record {
+      event = Scan 2 0 ((0, 0) ∷ []) stops.None;
+      asked = refl;
+      mark = false;
+      marked = refl;
+      reply = Scanned (page 9 1 New);
+      answered = refl;
+      taints = (refl, refl, refl);
+    })
+
+    sent : IsTaintedIn (wrong_at A 0) 5 (InExport 1)
+    sent = inl (record {
+      event = Export 2 9;
+      asked = refl;
+      mark = true;
+      marked = refl;
+      reply = Exported 1 9 2 1;
+      answered = refl;
+      taints = (refl, scanned);
+    })
 
 -- ---- replies
 
@@ -551,6 +1015,11 @@ given_though_failed_is A r =
     elim (r.fails 1 (Give 0 1 (range 0 0) stops.None) (Given 0 (ticket 0 (range 0 0))) refl refl refl refl)
     [ inl tells ↦ tells | inr none ↦ none ]
 
+given_to_another_is : (A : Type 0) → ¬ AreRepliesRun (given_to_another A)
+given_to_another_is A r =
+    let x : ◌≡◌ {A = ℕ} 7 1 = (r.each 0 (Give 0 1 (range 0 4) stops.None)
+    (Given 0 (record { giver = 0; serial = 0; receiver = 7; range = range 0 4 })) refl refl).may.2 in omega arith
+
 missing_printer_is : (A : Type 0) → ¬ AreRepliesRun (missing_printer A)
 missing_printer_is A r =
     let below : 1 < 2 = omega arith in r.no_such 0 (print 1 digits stops.None) refl refl below tt
@@ -564,10 +1033,22 @@ numbered_twice_is : (A : Type 0) → ¬ TakesOnceRun (numbered_twice A)
 numbered_twice_is A t = (let place : ◌≡◌ {A = ℕ} 0 1 = t.numbered 0 1 0 first_ticket second_ticket refl refl in
     omega arith)
 
+taken_though_kept_is : (A : Type 0) → ¬ TakesOnceRun (taken_though_kept A)
+taken_though_kept_is A t =
+    let place : ◌≡◌ {A = ℕ} 1 3 = t.once 1 3 1 1 0
+    (record {
+      stop = stops.SaveFault kept.New;
+      event = refl;
+      reply = TakeRefused take_fault.Save;
+      answered = refl;
+      taken = tt;
+    })
+    (record { stop = stops.None; event = refl; reply = Taken; answered = refl; taken = tt }) in omega arith
+
 taken_twice_is : (A : Type 0) → ¬ TakesOnceRun (taken_twice A)
 taken_twice_is A t =
-    let place : ◌≡◌ {A = ℕ} 1 2 = t.once 1 2 1 1 0 (record { stop = stops.None; event = refl; reply = refl })
-    (record { stop = stops.None; event = refl; reply = refl }) in omega arith
+    let place : ◌≡◌ {A = ℕ} 1 2 = t.once 1 2 1 1 0 (record { stop = stops.None; event = refl; reply = Taken; answered = refl; taken = tt })
+    (record { stop = stops.None; event = refl; reply = Taken; answered = refl; taken = tt }) in omega arith
 
 overlaps_is : (A : Type 0) → ¬ TakesOnceRun (overlaps A)
 overlaps_is A t = t.no_overlap 1 refl
@@ -584,10 +1065,10 @@ given_falling_is A t =
 taken_though_old_is : (A : Type 0) → ¬ TakesOnceRun (taken_though_old A)
 taken_though_old_is A t =
     let before : 4 < 3 = t.old 3 4 1 0 stops.None refl refl
-    (record { stop = stops.None; event = refl; reply = refl }) in omega arith
+    (record { stop = stops.None; event = refl; reply = Taken; answered = refl; taken = tt }) in omega arith
 
 taken_elsewhere_is : (A : Type 0) → ¬ TakesOnceRun (taken_elsewhere A)
-taken_elsewhere_is A t = by_give (t.given 1 2 0 (record { stop = stops.None; event = refl; reply = refl }))
+taken_elsewhere_is A t = by_give (t.given 1 2 0 (record { stop = stops.None; event = refl; reply = Taken; answered = refl; taken = tt }))
   where
     events : List (Event A)
     events = map (λ one. one.0) (taken_elsewhere A)
@@ -611,8 +1092,8 @@ numbered_above_is A t = (let place : ◌≡◌ {A = ℕ} 1 0 = t.next 0 1 first_
 taken_falling_is : (A : Type 0) → ¬ TakesOnceRun (taken_falling A)
 taken_falling_is A t =
     let rise : 1 < 0 = t.rising 2 3 1 1 0 second_ticket first_ticket
-    (record { stop = stops.None; event = refl; reply = refl })
-    (record { stop = stops.None; event = refl; reply = refl }) refl refl refl (omega arith) in omega arith
+    (record { stop = stops.None; event = refl; reply = Taken; answered = refl; taken = tt })
+    (record { stop = stops.None; event = refl; reply = Taken; answered = refl; taken = tt }) refl refl refl (omega arith) in omega arith
 
 old_at_first_is : (A : Type 0) → ¬ TakesOnceRun (old_at_first A)
 old_at_first_is A t = by_reached (t.reached 1 1 0 stops.None first_ticket refl refl refl)
@@ -647,6 +1128,57 @@ old_after_a_lower_is A t =
         let same : first_ticket ≡ taken = cc (found) in
         let serial : 0 ≡ taken.serial = ap (λ (v : TicketView). v.serial) same in omega arith
     by_place (suc (suc (suc j))) before is there reached = omega arith
+
+old_by_another_giver_is : (A : Type 0) → ¬ TakesOnceRun (old_by_another_giver A)
+old_by_another_giver_is A t =
+    (let w = t.reached 3 1 0 stops.None first_ticket refl refl refl in
+    by_place w.j w.before w.event w.there w.giver_is)
+  where
+    events : List (Event A)
+    events = map (λ one. one.0) (old_by_another_giver A)
+
+    other : TicketView
+    other = record { giver = 2; serial = 0; receiver = 1; range = range 20 24 }
+
+    by_place : (j : ℕ) → j < 3 → {number : ℕ} {stop : Stop} {taken : TicketView} →
+        slice_get events j ≡ Some (Take 1 number stop) →
+        slice_get (first_ticket ∷ other ∷ []) number ≡ Some taken → taken.giver ≡ 0 → ⊥
+    by_place zero before is there giver = cc (is)
+    by_place (suc zero) before is there giver = cc (is)
+    by_place (suc (suc zero)) before {number} {stop} {taken} is there giver =
+        let e : Some (Take 1 1 stops.None) ≡ Some (Take 1 number stop) = is in
+        let number_is : 1 ≡ number = cc (e) in
+        let found : Some other ≡ Some taken =
+        subst (λ (k : ℕ). slice_get (first_ticket ∷ other ∷ []) k ≡ Some taken) (sym number_is) there in
+        let same : other ≡ taken = cc (found) in
+        let two : 2 ≡ taken.giver = ap (λ (v : TicketView). v.giver) same in omega arith
+    by_place (suc (suc (suc j))) before is there giver = omega arith
+
+old_by_another_ticket_is : (A : Type 0) → ¬ TakesOnceRun (old_by_another_ticket A)
+old_by_another_ticket_is A t =
+    (let w = t.reached 4 1 0 stops.None first_ticket refl refl refl in
+    by_place w.j w.before w.event w.there w.receiver_is)
+  where
+    events : List (Event A)
+    events = map (λ one. one.0) (old_by_another_ticket A)
+
+    other : TicketView
+    other = record { giver = 0; serial = 1; receiver = 7; range = range 5 9 }
+
+    by_place : (j : ℕ) → j < 4 → {number : ℕ} {stop : Stop} {taken : TicketView} →
+        slice_get events j ≡ Some (Take 1 number stop) →
+        slice_get (first_ticket ∷ other ∷ []) number ≡ Some taken → taken.receiver ≡ 1 → ⊥
+    by_place zero before is there receiver = cc (is)
+    by_place (suc zero) before is there receiver = cc (is)
+    by_place (suc (suc zero)) before {number} {stop} {taken} is there receiver =
+        let e : Some (Take 1 1 (stops.AfterLabels 0)) ≡ Some (Take 1 number stop) = is in
+        let number_is : 1 ≡ number = cc (e) in
+        let found : Some other ≡ Some taken =
+        subst (λ (k : ℕ). slice_get (first_ticket ∷ other ∷ []) k ≡ Some taken) (sym number_is) there in
+        let same : other ≡ taken = cc (found) in
+        let seven : 7 ≡ taken.receiver = ap (λ (v : TicketView). v.receiver) same in omega arith
+    by_place (suc (suc (suc zero))) before is there receiver = cc (is)
+    by_place (suc (suc (suc (suc j)))) before is there receiver = omega arith
 
 old_unsaved_is : (A : Type 0) → ¬ TakesOnceRun (old_unsaved A)
 old_unsaved_is A t =
@@ -703,6 +1235,87 @@ missing_ticket_is : (A : Type 0) → ¬ TakesOnceRun (missing_ticket A)
 missing_ticket_is A t =
     let few : 1 ≤ 0 = t.not_there 1 1 0 stops.None refl refl (omega arith) in omega arith
 
+printed_of_another_is : (A : Type 0) → ¬ IsFaithfulRun (printed_of_another A)
+printed_of_another_is A (batches, f) = by_batches batches f
+  where
+    events : List (Event A)
+    events = map (λ one. one.0) (printed_of_another A)
+
+    replies : List (Reply A)
+    replies = map (λ one. one.1) (printed_of_another A)
+
+    told : (batches : List (Option Batch)) →
+        IsFaithfulBy two_ranges 2 batches events (marks (printed_of_another A)) replies →
+        slice_get (labels_of (take 1 batches)) 0 ≡ Some (record { id = 15; number = 1; count = 2 })
+    told batches f =
+        let s : IsScanOf batches events 1 (record { id = 15; number = 1; count = 2 }) =
+        f.scanned 1 0 0 [] stops.None (record { id = 15; m = 1; n = 2; kind = New }) refl refl refl
+        (untainted (printed_of_another A) 1 (AtDesk 0)) in
+        let e : Some (Scan 0 0 [] stops.None) ≡ Some (Scan s.desk s.label s.flips s.stop) = s.event in
+        let label_is : 0 ≡ s.label = cc (e) in
+        subst (λ (i : ℕ). slice_get (labels_of (take 1 batches)) i ≡ Some (record { id = 15; number = 1; count = 2 }))
+        (sym label_is) s.had_left
+
+    by_batches : (batches : List (Option Batch)) →
+        IsFaithfulBy two_ranges 2 batches events (marks (printed_of_another A)) replies → ⊥
+    by_batches [] f = (let t = told [] f in cc (t))
+    by_batches (None ∷ rest) f = (let t = told (None ∷ rest) f in cc (t))
+    by_batches (Some batch ∷ rest) f =
+        let p = f.prints.printed 0 batch refl in
+        let own : batch.id ≡ 15 = first_label batch [] (record { id = 15; number = 1; count = 2 }) p.not_none
+        (told (Some batch ∷ rest) f) in
+        let free : is_in_some (slice_get two_ranges 0) batch.id ≡ true =
+        f.prints.owned 0 0 digits Side12 Ascii (stops.AfterLabels 1) batch refl refl in
+        let x : false ≡ true = subst (λ (id : ℕ). is_in_some (slice_get two_ranges 0) id ≡ true) own free in cc (x)
+
+printed_untaken_is : (A : Type 0) → ¬ IsFaithfulRun (printed_untaken A)
+printed_untaken_is A (batches, f) =
+    let t = f.prints.told 3 5 0 2 refl in
+    by_free (subst (λ (id : ℕ). MayBeFree two_ranges events replies 3 1 id) t.id_is
+    (f.prints.owned 3 1 digits Side12 Ascii stops.None t.batch t.there refl))
+  where
+    events : List (Event A)
+    events = map (λ one. one.0) (printed_untaken A)
+
+    replies : List (Reply A)
+    replies = map (λ one. one.1) (printed_untaken A)
+
+    by_free : MayBeFree two_ranges events replies 3 1 5 → ⊥
+    by_free (inl gained) = not_at events replies 2 (RestartPrinter 1) Restarted
+        (λ event reply. MayGain (tickets_in (take 2 replies)) event reply 1 5) refl refl (λ t. t) gained
+    by_free (inr (stays, inl gained)) = not_at events replies 1 (Take 1 0 stops.BeforeSave) Stopped
+        (λ event reply. MayGain (tickets_in (take 1 replies)) event reply 1 5) refl refl (λ t. cc (t.1)) gained
+    by_free (inr (stays, inr (still, inl gained))) =
+        not_at events replies 0 (Give 0 1 first_ticket.range stops.None) (Given 0 first_ticket)
+        (λ event reply. MayGain (tickets_in (take 0 replies)) event reply 1 5) refl refl (λ t. t) gained
+    by_free (inr (stays, inr (still, inr (again, began)))) = cc (began)
+
+given_of_another_is : (A : Type 0) → ¬ IsFaithfulRun (given_of_another A)
+given_of_another_is A (batches, f) =
+    let x : false ≡ true =
+    f.prints.gives_own 0 0 1 (range 10 12) stops.None 0 (ticket 0 (range 10 12)) refl refl 10 refl in cc (x)
+
+given_again_is : (A : Type 0) → ¬ IsFaithfulRun (given_again A)
+given_again_is A (batches, f) =
+    by_free (f.prints.gives_own 1 0 1 (range 4 6) stops.None 1 (ticket 1 (range 4 6)) refl refl 4 refl)
+  where
+    events : List (Event A)
+    events = map (λ one. one.0) (given_again A)
+
+    replies : List (Reply A)
+    replies = map (λ one. one.1) (given_again A)
+
+    by_free : MayBeFree two_ranges events replies 1 0 4 → ⊥
+    by_free (inl gained) = not_at events replies 0 (Give 0 1 (range 0 4) stops.None) (Given 0 (ticket 0 (range 0 4)))
+        (λ event reply. MayGain (tickets_in (take 0 replies)) event reply 0 4) refl refl (λ t. t) gained
+    by_free (inr stays) = stays.0 (record {
+      event = Give 0 1 (range 0 4) stops.None;
+      asked = refl;
+      reply = Given 0 (ticket 0 (range 0 4));
+      answered = refl;
+      is_so = (refl, refl);
+    })
+
 left_though_failed_is : (A : Type 0) → ¬ IsFaithfulRun (left_though_failed A)
 left_though_failed_is A (batches, f) = by_batches batches f
   where
@@ -712,17 +1325,20 @@ left_though_failed_is A (batches, f) = by_batches batches f
     replies : List (Reply A)
     replies = map (λ one. one.1) (left_though_failed A)
 
-    told : (batches : List (Option Batch)) → IsFaithfulBy two_ranges 2 batches events replies →
+    told : (batches : List (Option Batch)) →
+        IsFaithfulBy two_ranges 2 batches events (marks (left_though_failed A)) replies →
         slice_get (labels_of (take 2 batches)) 0 ≡ Some (record { id = 0; number = 1; count = 2 })
     told batches f =
         let s : IsScanOf batches events 2 (record { id = 0; number = 1; count = 2 }) =
-        f.scanned 2 (record { id = 0; m = 1; n = 2; kind = New }) refl in
+        f.scanned 2 0 0 [] stops.None (record { id = 0; m = 1; n = 2; kind = New }) refl refl refl
+        (untainted (left_though_failed A) 2 (AtDesk 0)) in
         let e : Some (Scan 0 0 [] stops.None) ≡ Some (Scan s.desk s.label s.flips s.stop) = s.event in
         let label_is : 0 ≡ s.label = cc (e) in
         subst (λ (i : ℕ). slice_get (labels_of (take 2 batches)) i ≡ Some (record { id = 0; number = 1; count = 2 }))
         (sym label_is) s.had_left
 
-    by_batches : (batches : List (Option Batch)) → IsFaithfulBy two_ranges 2 batches events replies → ⊥
+    by_batches : (batches : List (Option Batch)) →
+        IsFaithfulBy two_ranges 2 batches events (marks (left_though_failed A)) replies → ⊥
     by_batches [] f = (let t = told [] f in cc (t))
     by_batches (None ∷ []) f = (let t = told (None ∷ []) f in cc (t))
     by_batches (None ∷ None ∷ rest) f = (let t = told (None ∷ None ∷ rest) f in cc (t))
@@ -751,17 +1367,19 @@ never_left_is A (batches, f) = by_batches batches f
         let same : record { id = batch.id; number = 1; count = count_of batch } ≡ name = cc (e) in
         ap (λ (l : LabelName). l.number) same
 
-    told : (batches : List (Option Batch)) → IsFaithfulBy two_ranges 2 batches events replies →
+    told : (batches : List (Option Batch)) → IsFaithfulBy two_ranges 2 batches events (marks (never_left A)) replies →
         slice_get (labels_of (take 1 batches)) 0 ≡ Some (record { id = 0; number = 2; count = 2 })
     told batches f =
         let s : IsScanOf batches events 1 (record { id = 0; number = 2; count = 2 }) =
-        f.scanned 1 (record { id = 0; m = 2; n = 2; kind = New }) refl in
+        f.scanned 1 0 0 [] stops.None (record { id = 0; m = 2; n = 2; kind = New }) refl refl refl
+        (untainted (never_left A) 1 (AtDesk 0)) in
         let e : Some (Scan 0 0 [] stops.None) ≡ Some (Scan s.desk s.label s.flips s.stop) = s.event in
         let label_is : 0 ≡ s.label = cc (e) in
         subst (λ (i : ℕ). slice_get (labels_of (take 1 batches)) i ≡ Some (record { id = 0; number = 2; count = 2 }))
         (sym label_is) s.had_left
 
-    by_batches : (batches : List (Option Batch)) → IsFaithfulBy two_ranges 2 batches events replies → ⊥
+    by_batches : (batches : List (Option Batch)) →
+        IsFaithfulBy two_ranges 2 batches events (marks (never_left A)) replies → ⊥
     by_batches [] f = (let t = told [] f in cc (t))
     by_batches (None ∷ rest) f = (let t = told (None ∷ rest) f in cc (t))
     by_batches (Some batch ∷ rest) f =
@@ -781,6 +1399,18 @@ imported_another_document_is A t =
     by_place zero before {export} mask is =
         let e : ◌≡◌ {A = Option (Reply A)} (Some (Exported 0 0 2 1)) (Some (Exported export 1 2 mask)) = is in
         let same : ◌≡◌ {A = ℕ} 0 1 = cc (e) in omega arith
+    by_place (suc j) before mask is = omega arith
+
+imported_none_of_another_is : (A : Type 0) → ¬ ImportsExportsRun (imported_none_of_another A)
+imported_none_of_another_is A t =
+    (let w = (t.exported 1 (record { id = 5; n = 9; added = 0; kind = Again }) refl).4 in
+    by_place w.j w.before w.mask w.reply)
+  where
+    by_place : (j : ℕ) → j < 1 → {export : ℕ} (mask : ℕ) →
+        slice_get (map (λ one. one.1) (imported_none_of_another A)) j ≡ Some (Exported export 5 9 mask) → ⊥
+    by_place zero before {export} mask is =
+        let e : ◌≡◌ {A = Option (Reply A)} (Some (Exported 0 0 2 1)) (Some (Exported export 5 9 mask)) = is in
+        let same : ◌≡◌ {A = ℕ} 0 5 = cc (e) in omega arith
     by_place (suc j) before mask is = omega arith
 
 imported_another_page_is : (A : Type 0) → ¬ ImportsExportsRun (imported_another_page A)
@@ -837,6 +1467,7 @@ are_unfaithful A = record {
   two_documents_is = two_documents_is A;
   wrong_of_two_is = wrong_of_two_is A;
   refused_unprinted_is = refused_unprinted_is A;
+  missing_first_label_is = missing_first_label_is A;
   missing_label_is = missing_label_is A;
   begun_unscanned_is = begun_unscanned_is A;
   exported_unscanned_is = exported_unscanned_is A;
@@ -845,8 +1476,33 @@ are_unfaithful A = record {
   printed_unseen_is = printed_unseen_is A;
   told_twice_is = told_twice_is A;
   printed_beyond_is = printed_beyond_is A;
+  printed_of_another_is = printed_of_another_is A;
+  printed_untaken_is = printed_untaken_is A;
+  given_of_another_is = given_of_another_is A;
+  given_again_is = given_again_is A;
   left_though_failed_is = left_though_failed_is A;
   never_left_is = never_left_is A;
+  saved_though_failed_is = saved_though_failed_is A;
+  held_and_missing_is = held_and_missing_is A;
+  forgotten_elsewhere_is = forgotten_elsewhere_is A;
+  forgotten_twice_is = forgotten_twice_is A;
+  again_at_first_is = again_at_first_is A;
+  new_twice_is = new_twice_is A;
+  new_at_last_is = new_at_last_is A;
+  complete_at_first_is = complete_at_first_is A;
+  missing_though_held_is = missing_though_held_is A;
+  given_elsewhere_is = given_elsewhere_is A;
+  lost_by_a_refused_forget_is = lost_by_a_refused_forget_is A;
+  imported_at_last_is = imported_at_last_is A;
+  exported_in_part_is = exported_in_part_is A;
+  added_again_is = added_again_is A;
+  refused_label_is = refused_label_is A;
+  conflicting_label_is = conflicting_label_is A;
+  exhausted_at_first_is = exhausted_at_first_is A;
+  too_long_of_few_is = too_long_of_few_is A;
+  wrong_after_a_refused_scan_is = wrong_after_a_refused_scan_is A;
+  wrong_after_another_import_is = wrong_untainted A 0 refl;
+  wrong_after_a_refused_import_is = wrong_untainted A 1 refl;
   another_call_is = another_call_is A;
   stopped_unasked_is = stopped_unasked_is A;
   forgotten_with_a_fault_is = forgotten_with_a_fault_is A;
@@ -857,10 +1513,12 @@ are_unfaithful A = record {
   down_unstopped_is = down_unstopped_is A;
   failed_before_a_fault_is = failed_before_a_fault_is A;
   given_though_failed_is = given_though_failed_is A;
+  given_to_another_is = given_to_another_is A;
   missing_printer_is = missing_printer_is A;
   third_desk_is = third_desk_is A;
   numbered_twice_is = numbered_twice_is A;
   taken_twice_is = taken_twice_is A;
+  taken_though_kept_is = taken_though_kept_is A;
   taken_elsewhere_is = taken_elsewhere_is A;
   overlaps_is = overlaps_is A;
   one_serial_is = one_serial_is A;
@@ -870,12 +1528,15 @@ are_unfaithful A = record {
   taken_falling_is = taken_falling_is A;
   old_at_first_is = old_at_first_is A;
   old_after_a_lower_is = old_after_a_lower_is A;
+  old_by_another_giver_is = old_by_another_giver_is A;
+  old_by_another_ticket_is = old_by_another_ticket_is A;
   old_unsaved_is = old_unsaved_is A;
   old_though_failed_is = old_though_failed_is A;
   refused_ungiven_is = refused_ungiven_is A;
   missing_ticket_is = missing_ticket_is A;
   imported_another_document_is = imported_another_document_is A;
   imported_another_page_is = imported_another_page_is A;
+  imported_none_of_another_is = imported_none_of_another_is A;
   exported_twice_is = exported_twice_is A;
   exported_above_is = exported_above_is A;
   refused_unexported_is = refused_unexported_is A;

@@ -1,5 +1,5 @@
 -- In a legal history each reply is one to its event, and what is there is not told as missing.
-use Rattle.std.proofs.Common.{◌≡◌, ◌<◌, ◌≤◌, ◌⊎◌, inl, inr, ℕ, Bool, true, false, if◌then◌else◌, Some, List, [], ◌∷◌, ◌++◌, length, take, slice_get, refl, ap, sym, ◌∙◌, subst, arith}
+use Rattle.std.proofs.Common.{◌≡◌, ◌<◌, ◌⊎◌, inl, inr, ℕ, Bool, true, false, if◌then◌else◌, Some, List, [], ◌∷◌, ◌++◌, length, take, slice_get, refl, ap, sym, ◌∙◌, subst, arith}
 use Rattle.std.specs.Prelude.{◌≢◌, ◌↔◌}
 use Rattle.dm_print_ledger.specs.declared.range.Range.{Range}
 use Rattle.dm_print_ledger.specs.Views.{TicketView}
@@ -13,7 +13,7 @@ use Rattle.dm_event_history.specs.declared.event.Event.{Event}
 use Rattle.dm_event_history.specs.declared.event.Event.TheVariants.{Print, Scan, RestartPrinter, RestartDesk, Ask, Forget, Give, Take, Export, Import}
 use Rattle.dm_event_history.specs.declared.reply.Reply.{Reply}
 use Rattle.dm_event_history.specs.declared.reply.Reply.TheVariants.{Printed, PrintRefused, Scanned, ScanRefused, Document, AskRefused, Forgotten, ForgetRefused, Given, GiveRefused, Taken, TakeRefused, Exported, ExportRefused, Imported, ImportRefused, Restarted, PrinterRefused, DeskRefused, Stopped, Down, NoSuch, Memory}
-use Rattle.dm_event_history.specs.Actors.{Actor, PrinterAt, DeskAt, actor_of, is_same}
+use Rattle.dm_event_history.specs.Actors.{Actor, actor_of, is_same}
 use Rattle.dm_event_history.specs.History.{Entry, History, events_of, replies_of}
 use Rattle.dm_event_history.specs.Running.{down_after, is_down, failed_after, is_failed, TellsFailed, IsNoAnswer, IsOfFailed}
 use Rattle.dm_event_history.specs.Legal.{IsThere, IsStopped, IsReply, NeedsRunning, IsLegal, Fits}
@@ -199,7 +199,7 @@ down_is (e ∷ h) actor =
     goes_on_more down_after (events_of h) (replies_of h) e.event e.reply actor false (counts h) ∙
     ap (λ (b : Bool). if is_same (actor_of e.event) actor then down_after e.reply b else b) (down_is h actor)
 
-failed_is : {A : Type 0} (h : History A) (actor : Actor) →
+pub failed_is : {A : Type 0} (h : History A) (actor : Actor) →
     goes_on failed_after (events_of h) (replies_of h) actor false ≡ is_failed h actor
 failed_is [] actor = refl
 failed_is (e ∷ h) actor =

@@ -1,5 +1,5 @@
 -- A run of two stopped prints that is faithful.
-use Rattle.std.proofs.Common.{◌≡◌, ◌<◌, ◌≤◌, ℕ, zero, suc, Option, Some, None, List, [], ◌∷◌, length, map, slice_get, take, refl, ap, sym, ◌∙◌, subst, arith, inr}
+use Rattle.std.proofs.Common.{◌≡◌, ◌<◌, ◌≤◌, ℕ, zero, suc, Option, Some, None, List, [], ◌∷◌, length, map, slice_get, take, refl, sym, ◌∙◌, subst, arith, inl, inr}
 use Rattle.std.specs.Prelude.{◌≢◌, ◌↔◌, true, false}
 use Rattle.dm_check_blocks.specs.declared.size.Size.{Size}
 use Rattle.dm_check_blocks.specs.declared.size.Size.TheVariants.{Side12}
@@ -11,12 +11,16 @@ use Rattle.dm_encodation.specs.Written as written
 use Rattle.dm_append_label.specs.Parts.{AreParts}
 use Rattle.dm_assembly_desk.specs.declared.reply.Kind.TheVariants.{New, Complete}
 use Rattle.dm_assembly_desk.specs.declared.fault.AskFault.TheVariants.{Incomplete}
+use Rattle.dm_print_ledger.specs.Views.{TicketView}
+use Rattle.dm_print_ledger.specs.declared.fault.PrintFault.{PrintFault}
+use Rattle.dm_print_ledger.specs.declared.fault.PrintFault.TheVariants as print_fault
+use Rattle.dm_assembly_desk.specs.declared.fault.ScanFault.{ScanFault}
 use Rattle.dm_assembly_desk.specs.declared.fault.ImportFault.{ImportFault}
 use Rattle.dm_assembly_desk.specs.declared.reply.Accepted.{Accepted}
 use Rattle.dm_event_history.specs.declared.event.Event.{Event}
 use Rattle.dm_event_history.specs.declared.event.Event.TheVariants.{Print, Scan, Ask}
 use Rattle.dm_event_history.specs.declared.reply.Reply.{Reply}
-use Rattle.dm_event_history.specs.declared.reply.Reply.TheVariants.{Printed, Scanned, Document, AskRefused, Forgotten, Exported, ImportRefused, Stopped, Down, NoSuch}
+use Rattle.dm_event_history.specs.declared.reply.Reply.TheVariants.{Printed, PrintRefused, Scanned, ScanRefused, Document, AskRefused, Forgotten, Given, Exported, ImportRefused, Stopped, Down, NoSuch}
 use Rattle.dm_event_history.specs.declared.stop.Stop.{Stop}
 use Rattle.dm_event_history.specs.declared.stop.Stop.TheVariants as stops
 use Rattle.dm_event_history.specs.History.{CutDocument}
@@ -24,11 +28,14 @@ use Rattle.dm_event_history.specs.Running.{TellsFailed}
 use Rattle.dm_event_history.specs.Replying.{IsReplyTo, IsActorThere, is_down_before, has_failed_before}
 use Rattle.dm_event_history.specs.Places.{IsOpened}
 use Rattle.dm_event_history.specs.Counts.{HasNumber}
-use Rattle.dm_event_history.specs.Actors.{PrinterAt, actor_of}
+use Rattle.dm_event_history.specs.Actors.{PrinterAt, DeskAt, actor_of}
 use Rattle.dm_event_history.specs.Legal.{NeedsRunning}
 use Rattle.dm_event_history.proofs.Deciding.{true_false}
 use Rattle.dm_event_history.specs.Worked.{digits, two_ranges}
-use Rattle.dm_event_history.specs.Headline.{Batch, LeftBy, labels_of, AllLeft, IsScanOf, MayHaveSaved, WasScanned, WasPrinted}
+use Rattle.dm_event_history.specs.Headline.{Batch, LeftBy, labels_of, AllLeft, IsScanOf, MayHaveSaved, WasScanned, WasPrinted, IsAt, GivesAway, MayBeFree, MayHold, Holds, known_before}
+use Rattle.dm_event_history.specs.Holding.{Takes, MayTake, Forgets}
+use Rattle.dm_event_history.specs.Imports.{exports_in}
+use Rattle.dm_event_history.specs.Telling.{IsReplyTrue}
 use Rattle.dm_event_history.specs.Unfaithful.{IsFaithfulRun, other_digits, page, print, scan, right_document}
 
 -- two of the digits fill a label
@@ -80,20 +87,32 @@ right_document_is A = (
       told = none_told;
       printed = one_printed;
       opened = one_opened;
+      owned = one_owned;
+      gives_own = λ i printer receiver range stop index ticket asked answered number within.
+          absurd (none_given i index ticket answered);
       unfailed = one_unfailed;
       let_out = one_let_out;
+      exhausted = λ i printer document size scheme stop asked answered has.
+          none_print_refused i print_fault.Exhausted answered;
+      too_long = λ i printer document size scheme stop asked answered.
+          absurd (none_print_refused i print_fault.TooLong answered);
       once = one;
       there = are_there;
       not_there = λ i desk label flips stop asked answered there small. absurd (none_missing i answered);
     };
-    scanned = two_scanned;
-    given = one_given;
-    same = λ i j desk at id first second asked answered asked_too answered_too. sym (only_given i first answered) ∙
-        only_given j second answered_too;
-    begun = λ i desk id missing asked answered. absurd (none_begun i missing answered);
-    forgotten = λ i desk id stop asked answered. absurd (none_forgotten i answered);
-    exported = λ i index id n mask answered. absurd (none_exported i index id n mask answered);
-    not_imported = λ i fault answered. absurd (none_imported i fault answered);
+    each_mark = refl;
+    scanned = λ i desk label flips stop accepted asked answered mark clean. two_scanned i accepted answered;
+    not_refused = λ i desk label flips stop fault asked answered mark clean.
+        absurd (none_refused i fault answered);
+    given = λ i desk id document asked answered clean. one_given i desk id document asked answered;
+    same = λ i j desk at id first second asked answered clean asked_too answered_too clean_too.
+        sym (only_given i first answered) ∙ only_given j second answered_too;
+    begun = λ i desk id missing asked answered clean. absurd (none_begun i missing answered);
+    forgotten = λ i desk id stop asked answered clean. absurd (none_forgotten i answered);
+    exported = λ i desk id index told n mask asked answered clean.
+        absurd (none_exported i index told n mask answered);
+    agrees = λ i desk event reply asked answered actor clean. all_agree i desk event reply asked answered actor;
+    not_imported = λ i desk export stop fault asked answered clean clean_too. absurd (none_imported i fault answered);
   },
 )
   where
@@ -300,6 +319,22 @@ right_document_is A = (
     none_begun (suc (suc (suc (suc zero)))) missing is = cc (is)
     none_begun (suc (suc (suc (suc (suc i))))) missing is = cc (is)
 
+    none_refused : (i : ℕ) (fault : ScanFault) → slice_get replies i ≡ Some (ScanRefused fault) → ⊥
+    none_refused zero fault is = cc (is)
+    none_refused (suc zero) fault is = cc (is)
+    none_refused (suc (suc zero)) fault is = cc (is)
+    none_refused (suc (suc (suc zero))) fault is = cc (is)
+    none_refused (suc (suc (suc (suc zero)))) fault is = cc (is)
+    none_refused (suc (suc (suc (suc (suc i))))) fault is = cc (is)
+
+    none_print_refused : (i : ℕ) (fault : PrintFault) → slice_get replies i ≡ Some (PrintRefused fault) → ⊥
+    none_print_refused zero fault is = cc (is)
+    none_print_refused (suc zero) fault is = cc (is)
+    none_print_refused (suc (suc zero)) fault is = cc (is)
+    none_print_refused (suc (suc (suc zero))) fault is = cc (is)
+    none_print_refused (suc (suc (suc (suc zero)))) fault is = cc (is)
+    none_print_refused (suc (suc (suc (suc (suc i))))) fault is = cc (is)
+
     none_forgotten : (i : ℕ) → slice_get replies i ≡ Some Forgotten → ⊥
     none_forgotten zero is = cc (is)
     none_forgotten (suc zero) is = cc (is)
@@ -339,6 +374,37 @@ right_document_is A = (
     are_there (suc (suc (suc (suc zero)))) desk label flips stop reply is answered such = absurd (cc (is))
     are_there (suc (suc (suc (suc (suc i))))) desk label flips stop reply is answered such = absurd (cc (is))
 
+    -- what is so of the event at a place
+    at : (k : ℕ) (event : Event A) (reply : Reply A) (IsSo : Event A → Reply A → Type 0) →
+        slice_get events k ≡ Some event → slice_get replies k ≡ Some reply → IsSo event reply →
+        IsAt events replies k IsSo
+    at k event reply IsSo asked answered so = record {
+      event = event;
+      asked = asked;
+      reply = reply;
+      answered = answered;
+      is_so = so;
+    }
+
+    not_at : (k : ℕ) (event : Event A) (reply : Reply A) (IsSo : Event A → Reply A → Type 0) →
+        slice_get events k ≡ Some event → slice_get replies k ≡ Some reply → ¬ IsSo event reply →
+        ¬ IsAt events replies k IsSo
+    not_at k event reply IsSo asked answered not_so at =
+        let one : slice_get events k ≡ Some at.event = at.asked in
+        let other : slice_get replies k ≡ Some at.reply = at.answered in
+        let event_is : at.event ≡ event = cc (one, asked) in
+        let reply_is : at.reply ≡ reply = cc (other, answered) in
+        not_so (subst (λ (v : Event A). IsSo v reply) event_is
+        (subst (λ (r : Reply A). IsSo at.event r) reply_is at.is_so))
+
+    none_given : (i index : ℕ) (ticket : TicketView) → slice_get replies i ≡ Some (Given index ticket) → ⊥
+    none_given zero index ticket is = cc (is)
+    none_given (suc zero) index ticket is = cc (is)
+    none_given (suc (suc zero)) index ticket is = cc (is)
+    none_given (suc (suc (suc zero))) index ticket is = cc (is)
+    none_given (suc (suc (suc (suc zero)))) index ticket is = cc (is)
+    none_given (suc (suc (suc (suc (suc i))))) index ticket is = cc (is)
+
     only_batch : (i : ℕ) (other : Batch) → slice_get batches i ≡ Some (Some other) → (i ≡ 1) × (batch ≡ other)
     only_batch zero other is = absurd (cc (is))
     only_batch (suc zero) other is = (refl, (let e : Some (Some batch) ≡ Some (Some other) = is in cc (e)))
@@ -352,6 +418,25 @@ right_document_is A = (
         let t = only_batch i other is in
         subst (λ (k : ℕ). LeftBy events replies k other) (sym t.0)
         (subst (λ (b : Batch). LeftBy events replies 1 b) t.1 left)
+
+    -- printer 1 began with its identification
+    one_owned : (i printer : ℕ) (document : List ℕ) (size : Size) (scheme : Scheme) (stop : Stop) (other : Batch) →
+        slice_get batches i ≡ Some (Some other) →
+        slice_get events i ≡ Some (Print printer document size scheme stop) →
+        MayBeFree two_ranges events replies i printer other.id
+    one_owned i printer document size scheme stop other is asked =
+        let t = only_batch i other is in
+        let at : Some (print 1 other_digits (stops.AfterLabels 2)) ≡ Some (Print printer document size scheme stop) =
+        subst (λ (k : ℕ). slice_get events k ≡ Some (Print printer document size scheme stop)) t.0 asked in
+        let printer_is : 1 ≡ printer = cc (at) in
+        let began : MayBeFree two_ranges events replies 1 1 10 = inr (
+          not_at 0 (print 0 digits (stops.AfterLabels 0)) Stopped (λ event reply. GivesAway event reply 1 10) refl refl
+              (λ t. t),
+          refl,
+        ) in
+        subst (λ (k : ℕ). MayBeFree two_ranges events replies k printer other.id) (sym t.0)
+        (subst (λ (b : Batch). MayBeFree two_ranges events replies 1 printer b.id) t.1
+        (subst (λ (p : ℕ). MayBeFree two_ranges events replies 1 p 10) printer_is began))
 
     one_unfailed : (i : ℕ) (other : Batch) (event : Event A) → slice_get batches i ≡ Some (Some other) →
         slice_get events i ≡ Some event → has_failed_before events replies i (actor_of event) ≡ false
@@ -383,6 +468,7 @@ right_document_is A = (
       reply = Scanned (page 10 1 New);
       answered = refl;
       saves = refl;
+      unfailed = refl;
     }
 
     second_saved : MayHaveSaved events replies 3
@@ -392,6 +478,7 @@ right_document_is A = (
       reply = Scanned (page 10 2 Complete);
       answered = refl;
       saves = refl;
+      unfailed = refl;
     }
 
     two_scanned : (i : ℕ) (accepted : Accepted) → slice_get replies i ≡ Some (Scanned accepted) →
@@ -446,13 +533,110 @@ right_document_is A = (
     only_given : (i : ℕ) (document : List ℕ) → slice_get replies i ≡ Some (Document document) → other_digits ≡ document
     only_given i document is = (only_document i document is).1
 
-    one_given : (i : ℕ) (document : List ℕ) → slice_get replies i ≡ Some (Document document) →
-        (desk id : ℕ) × (slice_get events i ≡ Some (Ask desk id)) × WasPrinted batches events replies i id document
-    one_given i document is =
-        let t = only_document i document is in (
-          0,
-          10,
-          ap (λ (k : ℕ). slice_get events k) t.0,
-          subst (λ (k : ℕ). WasPrinted batches events replies k 10 document) (sym t.0)
-              (subst (λ (d : List ℕ). WasPrinted batches events replies 4 10 d) t.1 was_printed),
-        )
+    one_given : (i desk id : ℕ) (document : List ℕ) → slice_get events i ≡ Some (Ask desk id) →
+        slice_get replies i ≡ Some (Document document) → WasPrinted batches events replies i id document
+    one_given i desk id document asked is =
+        let t = only_document i document is in
+        let at : Some (Ask 0 10) ≡ Some (Ask desk id) =
+        subst (λ (k : ℕ). slice_get events k ≡ Some (Ask desk id)) t.0 asked in
+        let id_is : 10 ≡ id = cc (at) in
+        subst (λ (k : ℕ). WasPrinted batches events replies i k document) id_is
+        (subst (λ (k : ℕ). WasPrinted batches events replies k 10 document) (sym t.0)
+        (subst (λ (d : List ℕ). WasPrinted batches events replies 4 10 d) t.1 was_printed))
+
+    -- before the first scan nothing is held
+    none_held : (desk id m : ℕ) → ¬ Holds events replies 2 desk id m
+    none_held desk id m (inl now) = not_at 1 (print 1 other_digits (stops.AfterLabels 2)) Stopped
+        (λ event reply. Takes (exports_in (take 1 replies)) event reply desk id m) refl refl (λ t. t) now
+    none_held desk id m (inr (stays, inl now)) = not_at 0 (print 0 digits (stops.AfterLabels 0)) Stopped
+        (λ event reply. Takes (exports_in (take 0 replies)) event reply desk id m) refl refl (λ t. t) now
+    none_held desk id m (inr (stays, inr before)) = before.1
+
+    -- and after it its page alone
+    one_held : (m : ℕ) → m ≢ 1 → ¬ Holds events replies 3 0 10 m
+    one_held m away (inl now) = not_at 2 (scan 0) (Scanned (page 10 1 New))
+        (λ event reply. Takes (exports_in (take 2 replies)) event reply 0 10 m) refl refl (λ t. away (sym t.2)) now
+    one_held m away (inr before) = none_held 0 10 m before.1
+
+    first_held : MayHold batches events replies 3 0 10 1
+    first_held = inl (at 2 (scan 0) (Scanned (page 10 1 New))
+        (λ event reply. MayTake (labels_of (take 2 batches)) (exports_in (take 2 replies)) event reply 0 10 1
+        × (has_failed_before events replies 2 (DeskAt 0) ≡ false))
+        refl refl ((refl, refl, (record { id = 10; number = 1; count = 2 }, refl, refl, refl)), refl))
+
+    second_held : MayHold batches events replies 4 0 10 2
+    second_held = inl (at 3 (scan 1) (Scanned (page 10 2 Complete))
+        (λ event reply. MayTake (labels_of (take 3 batches)) (exports_in (take 3 replies)) event reply 0 10 2
+        × (has_failed_before events replies 3 (DeskAt 0) ≡ false))
+        refl refl ((refl, refl, (record { id = 10; number = 2; count = 2 }, refl, refl, refl)), refl))
+
+    still_held : MayHold batches events replies 4 0 10 1
+    still_held = inr (
+      not_at 3 (scan 1) (Scanned (page 10 2 Complete)) (λ event reply. Forgets event reply 0 10) refl refl (λ t. t),
+      first_held,
+    )
+
+    other_page : (m : ℕ) → 1 ≤ m → m ≤ 2 → m ≢ 2 → MayHold batches events replies 3 0 10 m
+    other_page zero first last away = absurd (omega arith)
+    other_page (suc zero) first last away = first_held
+    other_page (suc (suc zero)) first last away = absurd (away refl)
+    other_page (suc (suc (suc m))) first last away = absurd (omega arith)
+
+    both_held : (m : ℕ) → 1 ≤ m → m ≤ 2 → MayHold batches events replies 4 0 10 m
+    both_held zero first last = absurd (omega arith)
+    both_held (suc zero) first last = still_held
+    both_held (suc (suc zero)) first last = second_held
+    both_held (suc (suc (suc m))) first last = absurd (omega arith)
+
+    first_agrees : IsReplyTrue {A = A} (known_before batches events replies 2) (scan 0) (Scanned (page 10 1 New))
+    first_agrees = record {
+      name = record { id = 10; number = 1; count = 2 };
+      scanned = refl;
+      id_is = refl;
+      m_is = refl;
+      n_is = refl;
+      kind = (none_held 0 10 1, 2, omega arith, omega arith, (λ same. cc (same)), none_held 0 10 2);
+    }
+
+    second_agrees : IsReplyTrue {A = A} (known_before batches events replies 3) (scan 1) (Scanned (page 10 2 Complete))
+    second_agrees = record {
+      name = record { id = 10; number = 2; count = 2 };
+      scanned = refl;
+      id_is = refl;
+      m_is = refl;
+      n_is = refl;
+      kind = (one_held 2 (λ same. cc (same)), other_page);
+    }
+
+    document_agrees : IsReplyTrue {A = A} (known_before batches events replies 4) (Ask 0 10) (Document other_digits)
+    document_agrees = record {
+      document = document;
+      printed = (batch, record { j = 1; before = omega arith; there = refl; id_is = refl }, refl);
+      same = refl;
+      possibly = both_held;
+    }
+
+    -- so each reply of the desk agrees
+    agrees_so : (i : ℕ) (own event : Event A) (told reply : Reply A) → Some own ≡ Some event → Some told ≡ Some reply →
+        IsReplyTrue (known_before batches events replies i) own told →
+        IsReplyTrue (known_before batches events replies i) event reply
+    agrees_so i own event told reply asked answered so =
+        let event_is : own ≡ event = cc (asked) in
+        let reply_is : told ≡ reply = cc (answered) in
+        subst (λ (v : Event A). IsReplyTrue (known_before batches events replies i) v reply) event_is
+        (subst (λ (r : Reply A). IsReplyTrue (known_before batches events replies i) own r) reply_is so)
+
+    all_agree : (i desk : ℕ) (event : Event A) (reply : Reply A) → slice_get events i ≡ Some event →
+        slice_get replies i ≡ Some reply → actor_of event ≡ DeskAt desk →
+        IsReplyTrue (known_before batches events replies i) event reply
+    all_agree zero desk event reply asked answered actor =
+        agrees_so 0 (print 0 digits (stops.AfterLabels 0)) event Stopped reply asked answered tt
+    all_agree (suc zero) desk event reply asked answered actor =
+        agrees_so 1 (print 1 other_digits (stops.AfterLabels 2)) event Stopped reply asked answered tt
+    all_agree (suc (suc zero)) desk event reply asked answered actor =
+        agrees_so 2 (scan 0) event (Scanned (page 10 1 New)) reply asked answered first_agrees
+    all_agree (suc (suc (suc zero))) desk event reply asked answered actor =
+        agrees_so 3 (scan 1) event (Scanned (page 10 2 Complete)) reply asked answered second_agrees
+    all_agree (suc (suc (suc (suc zero)))) desk event reply asked answered actor =
+        agrees_so 4 (Ask 0 10) event (Document other_digits) reply asked answered document_agrees
+    all_agree (suc (suc (suc (suc (suc i))))) desk event reply asked answered actor = absurd (cc (asked))

@@ -1,9 +1,11 @@
 -- In a legal history a printer takes the tickets of a giver by rising serials, and refuses as old what it overtook.
 use Rattle.std.proofs.Common.{◌≡◌, ◌<◌, ◌≤◌, ◌==◌, ◌&&◌, ◌⊎◌, inl, inr, ℕ, true, false, IfSome, Option, Some, None, List, [], ◌∷◌, length, slice_get, refl, ap, sym, ◌∙◌, subst, arith, eq-eqb}
 use Rattle.dm_print_ledger.specs.declared.range.Range.{Range}
-use Rattle.dm_print_ledger.specs.declared.fault.TakeFault.TheVariants.{Old}
+use Rattle.dm_print_ledger.specs.declared.fault.TakeFault.TheVariants.{Old, Save}
 use Rattle.dm_print_ledger.specs.Views.{TicketView}
+use Rattle.dm_store.specs.declared.fuse.Kept.TheVariants.{New}
 use Rattle.dm_event_history.specs.declared.stop.Stop.{Stop}
+use Rattle.dm_event_history.specs.declared.stop.Stop.TheVariants as stops
 use Rattle.dm_event_history.specs.declared.event.Event.{Event}
 use Rattle.dm_event_history.specs.declared.event.Event.TheVariants.{Take}
 use Rattle.dm_event_history.specs.declared.reply.Reply.{Reply}
@@ -16,7 +18,7 @@ use Rattle.dm_event_history.specs.Numbers.{is_of, saved_at, taken_by, serial_aft
 use Rattle.dm_event_history.specs.Saving.{may_save, tells_of_save}
 use Rattle.dm_event_history.specs.Running.{is_failed}
 use Rattle.dm_event_history.specs.Replying.{has_failed_before}
-use Rattle.dm_event_history.specs.Tickets.{TakesTicket, WasReached, tickets_in}
+use Rattle.dm_event_history.specs.Tickets.{IsTaken, TakesTicket, WasReached, tickets_in}
 use Rattle.dm_event_history.proofs.Batches.{events_count, replies_count, at_last, before_or_last}
 use Rattle.dm_event_history.proofs.Deciding.{and_so, or_left, or_right, both, decided, if_not, if_so, same_number, true_false}
 use Rattle.dm_event_history.proofs.Gotten.{get_more, get_beyond}
@@ -32,34 +34,56 @@ use Rattle.dm_event_history.proofs.WhoActs.{printer_is, same_means}
 pub taken_either : {A : Type 0} (h : History A) (e : Entry A) (i printer ticket : ℕ) →
     TakesTicket (events_of (e ∷ h)) (replies_of (e ∷ h)) i printer ticket →
     TakesTicket (events_of h) (replies_of h) i printer ticket ⊎
-    ((i ≡ length h) × (stop : Stop) × (e.event ≡ Take printer ticket stop) × (e.reply ≡ Taken))
+    ((i ≡ length h) × (stop : Stop) × (e.event ≡ Take printer ticket stop) × IsTaken stop e.reply)
 taken_either {A} h e i printer ticket t =
     elim (before_or_last (events_of h) e.event (Take printer ticket t.stop) (length h) i (events_count h) t.event) [
-      | inl asked ↦ elim (before_or_last (replies_of h) e.reply Taken (length h) i (replies_count h) t.reply) [
-        | inl answered ↦ inl (record { stop = t.stop; event = asked; reply = answered })
+      | inl asked ↦ elim (before_or_last (replies_of h) e.reply t.reply (length h) i (replies_count h) t.answered) [
+        | inl answered ↦ inl (record {
+          stop = t.stop;
+          event = asked;
+          reply = t.reply;
+          answered = answered;
+          taken = t.taken;
+        })
         | inr last ↦ absurd (let a = get_beyond (events_of h) i (Take printer ticket t.stop) asked in
             let b = events_count h in let c = last.0 in omega arith)
       ]
-      | inr asks ↦ elim (before_or_last (replies_of h) e.reply Taken (length h) i (replies_count h) t.reply) [
-        | inl answered ↦ absurd (let a = get_beyond (replies_of h) i Taken answered in let b = replies_count h in
+      | inr asks ↦ elim (before_or_last (replies_of h) e.reply t.reply (length h) i (replies_count h) t.answered) [
+        | inl answered ↦ absurd (let a = get_beyond (replies_of h) i t.reply answered in let b = replies_count h in
             let c = asks.0 in omega arith)
-        | inr last ↦ inr (asks.0, t.stop, asks.1, last.1)
+        | inr last ↦ inr (
+          asks.0,
+          t.stop,
+          asks.1,
+          subst (λ (r : Reply A). IsTaken t.stop r) (sym last.1) t.taken,
+        )
       ]
     ]
 
--- a take that was answered `Taken` saved, of a ticket that was the printer's to take
+-- a take that took its ticket saved
+taken_saved : {A : Type 0} (ranges : List Range) (desks : ℕ) (h : History A) (e : Entry A) (printer ticket : ℕ)
+    (stop : Stop) (reply : Reply A) → Fits ranges desks h e →
+    e.event ≡ Take printer ticket stop → e.reply ≡ reply → IsTaken stop reply → e.saved ≡ true
+taken_saved {A} ranges desks h e printer ticket stop Taken fits event_is reply_is taken =
+    fits.told (ap (λ (r : Reply A). tells_of_save r) reply_is)
+taken_saved ranges desks h e printer ticket (stops.SaveFault New) (TakeRefused Save) fits event_is reply_is taken =
+    fits.kept printer ticket event_is reply_is
+taken_saved ranges desks h e printer ticket stop reply fits event_is reply_is taken = absurd taken
+
+-- and so it was of a ticket that was the printer's to take
 pub last_takes : {A : Type 0} (ranges : List Range) (desks : ℕ) (h : History A) (e : Entry A) (printer ticket : ℕ)
     (stop : Stop) → Fits ranges desks h e →
-    e.event ≡ Take printer ticket stop → e.reply ≡ Taken → (e.saved ≡ true) × MayBeTaken h printer ticket
-last_takes {A} ranges desks h e printer ticket stop fits event_is reply_is =
-    let saved : e.saved ≡ true = fits.told (ap (λ (r : Reply A). tells_of_save r) reply_is) in
+    e.event ≡ Take printer ticket stop → IsTaken stop e.reply → (e.saved ≡ true) × MayBeTaken h printer ticket
+last_takes {A} ranges desks h e printer ticket stop fits event_is taken =
+    let saved : e.saved ≡ true =
+    taken_saved ranges desks h e printer ticket stop e.reply fits event_is refl taken in
     (saved, subst (λ (v : Event A). MayMove ranges h e.id v) event_is (fits.moves saved))
 
 -- a ticket that an event took is taken
 pub was_taken : {A : Type 0} (ranges : List Range) (desks : ℕ) (h : History A) (i printer ticket : ℕ) →
     IsLegal ranges desks h →
     TakesTicket (events_of h) (replies_of h) i printer ticket → is_taken h ticket ≡ true
-was_taken ranges desks [] i printer ticket legal t = absurd (let x = t.reply in cc (x))
+was_taken ranges desks [] i printer ticket legal t = absurd (let x = t.answered in cc (x))
 was_taken {A} ranges desks (e ∷ h) i printer ticket legal t = elim (taken_either h e i printer ticket t) [
   | inl before ↦ or_right (e.saved && takes_ticket e.event ticket) (is_taken h ticket)
       (was_taken ranges desks h i printer ticket legal.1 before)
@@ -79,7 +103,7 @@ record GivenTo {A : Type 0} (h : History A) (printer k : ℕ) : Type 0 where
 
 given_to : {A : Type 0} (ranges : List Range) (desks : ℕ) (h : History A) (i printer k : ℕ) → IsLegal ranges desks h →
     TakesTicket (events_of h) (replies_of h) i printer k → GivenTo h printer k
-given_to ranges desks [] i printer k legal t = absurd (let x = t.reply in cc (x))
+given_to ranges desks [] i printer k legal t = absurd (let x = t.answered in cc (x))
 given_to {A} ranges desks (e ∷ h) i printer k legal t = elim (taken_either h e i printer k t) [
   | inl before ↦
       (let g = given_to ranges desks h i printer k legal.1 before in record {
@@ -120,7 +144,7 @@ pub serials_rise : {A : Type 0} (ranges : List Range) (desks : ℕ) (h : History
     slice_get (tickets h) k ≡ Some one → slice_get (tickets h) later ≡ Some other → one.giver ≡ other.giver → i < j →
     one.serial < other.serial
 serials_rise ranges desks [] i j printer k later one other legal a b one_is other_is from order =
-    absurd (let x = a.reply in cc (x))
+    absurd (let x = a.answered in cc (x))
 serials_rise {A} ranges desks (e ∷ h) i j printer k later one other legal a b one_is other_is from order =
     elim (taken_either h e i printer k a) [
       | inl first ↦ elim (taken_either h e j printer later b) [
@@ -151,7 +175,7 @@ serials_rise {A} ranges desks (e ∷ h) i j printer k later one other legal a b 
             let q : other.serial ≡ m.ticket.serial = ap (λ (t : TicketView). t.serial) y in omega arith)
       ]
       | inr here ↦ elim (taken_either h e j printer later b) [
-        | inl second ↦ absurd (let below = get_beyond (replies_of h) j Taken second.reply in
+        | inl second ↦ absurd (let below = get_beyond (replies_of h) j second.reply second.answered in
             let all = replies_count h in let at = here.0 in omega arith)
         | inr last ↦ absurd (let x = here.0 in let y = last.0 in omega arith)
       ]
@@ -175,6 +199,7 @@ record Reaches {A : Type 0} (h : History A) (j printer giver last : ℕ) : Type 
   pub saves : may_save (Take printer k stop) reply ≡ true
   pub unfailed : has_failed_before (events_of h) (replies_of h) j (PrinterAt printer) ≡ false
   pub there : slice_get (tickets h) k ≡ Some ticket
+  pub receiver_is : ticket.receiver ≡ printer
   pub giver_is : ticket.giver ≡ giver
   pub serial_is : ticket.serial ≡ last
 
@@ -193,6 +218,7 @@ reaches_more h e j printer giver last r =
       saves = r.saves;
       unfailed = failed_before h e j (PrinterAt printer) (omega arith) ∙ r.unfailed;
       there = get_more (tickets h) (given e.reply) r.k r.ticket r.there;
+      receiver_is = r.receiver_is;
       giver_is = r.giver_is;
       serial_is = r.serial_is;
     }
@@ -229,7 +255,9 @@ last_next {A} ranges desks h e printer giver last fits before is = elim (decided
         let own = both e.saved (is_of e printer) saved in
         let q_is : q ≡ printer = printer_is q printer
         (ap actor_of (sym event_is) ∙ same_means (actor_of e.event) (PrinterAt printer) own.1) in
-        let at : e.event ≡ Take printer number stop = event_is ∙ ap (λ (p : ℕ). Take p number stop) q_is in (
+        let at : e.event ≡ Take printer number stop = event_is ∙ ap (λ (p : ℕ). Take p number stop) q_is in
+        let m : MayBeTaken h printer number =
+        subst (λ (v : Event A). MayMove ranges h e.id v) at (fits.moves own.0) in (
           length h,
           omega arith,
           record {
@@ -244,6 +272,8 @@ last_next {A} ranges desks h e printer giver last fits before is = elim (decided
                 ap (λ (v : Event A). is_failed h (actor_of v)) (sym at) ∙
                 saved_unfailed ranges desks h e fits own.0;
             there = get_more (tickets h) (given e.reply) number ticket there;
+            receiver_is = ap (λ (t : TicketView). t.receiver) (one_ticket (tickets h) number ticket m.ticket there m.there) ∙
+                m.receiver;
             giver_is = from;
             serial_is = serial;
           },
@@ -349,6 +379,7 @@ was_reached {A} ranges desks h i printer k stop ticket legal asked answered ther
       unfailed = r.by.unfailed;
       taken = r.by.ticket;
       there = ap (λ (l : List TicketView). slice_get l r.by.k) (tickets_are h) ∙ r.by.there;
+      receiver_is = r.by.receiver_is;
       giver_is = r.by.giver_is ∙ ap (λ (t : TicketView). t.giver) same;
       reached = omega arith;
     }

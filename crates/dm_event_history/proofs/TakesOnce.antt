@@ -4,17 +4,19 @@ use Rattle.std.proofs.lemmas.List.{length-append}
 use Rattle.dm_print_ledger.specs.declared.range.Range.{Range}
 use Rattle.dm_print_ledger.specs.declared.fault.TakeFault.TheVariants.{Old, Overlap}
 use Rattle.dm_print_ledger.specs.Views.{TicketView}
+use Rattle.dm_store.specs.declared.fuse.Kept.TheVariants as kept
 use Rattle.dm_event_history.specs.declared.stop.Stop.{Stop}
+use Rattle.dm_event_history.specs.declared.stop.Stop.TheVariants as stops
 use Rattle.dm_event_history.specs.declared.event.Event.{Event}
 use Rattle.dm_event_history.specs.declared.event.Event.TheVariants.{Give, Take}
 use Rattle.dm_event_history.specs.declared.reply.Reply.{Reply}
-use Rattle.dm_event_history.specs.declared.reply.Reply.TheVariants.{Given, Taken, TakeRefused}
+use Rattle.dm_event_history.specs.declared.reply.Reply.TheVariants.{Given, TakeRefused}
 use Rattle.dm_event_history.specs.History.{Entry, History, events_of, replies_of, tickets, given}
 use Rattle.dm_event_history.specs.Numbers as numbers
 use Rattle.dm_event_history.specs.Places.{is_taken}
 use Rattle.dm_event_history.specs.Legal.{IsLegal, Fits, IsReply, MayBeTaken}
 use Rattle.dm_event_history.specs.Saving.{tells_of_save}
-use Rattle.dm_event_history.specs.Tickets.{TakesTicket, WasGiven, TakesOnce, tickets_in}
+use Rattle.dm_event_history.specs.Tickets.{IsTaken, TakesTicket, WasGiven, TakesOnce, tickets_in}
 use Rattle.dm_event_history.specs.Actors.{PrinterAt, actor_of}
 use Rattle.dm_event_history.specs.Numbers.{last_serial}
 use Rattle.dm_event_history.proofs.Deciding.{and_so, if_so, true_false}
@@ -102,6 +104,15 @@ number_within {A} ranges desks (e ∷ h) i k ticket legal is =
           let own : length (given e.reply) ≡ 1 = ap (λ (r : Reply A). length (given r)) last.1 in omega arith)
     ]
 
+-- what is refused as old is not taken
+old_not_taken : (A : Type 0) (stop : Stop) → (let reply : Reply A = TakeRefused Old in ¬ IsTaken stop reply)
+old_not_taken A stops.None taken = taken
+old_not_taken A stops.BeforeSave taken = taken
+old_not_taken A (stops.InSave how) taken = taken
+old_not_taken A (stops.SaveFault kept.Old) taken = taken
+old_not_taken A (stops.SaveFault kept.New) taken = taken
+old_not_taken A (stops.AfterLabels count) taken = taken
+
 -- ---- serials of tickets
 
 -- a ticket that is given has its giver's next serial, and the give saved
@@ -178,11 +189,11 @@ takes_first {A} printers = record {
   given_rising = λ i j ticket number one other a b giver order. absurd (cc (a));
   serials = λ i j ticket number one other a b giver serial. absurd (cc (a));
   old = λ i j printer ticket stop a b t. absurd (cc (a));
-  once = λ i j printer other ticket a b. absurd (let x = a.reply in cc (x));
-  given = λ i printer ticket a. absurd (let x = a.reply in cc (x));
+  once = λ i j printer other ticket a b. absurd (let x = a.answered in cc (x));
+  given = λ i printer ticket a. absurd (let x = a.answered in cc (x));
   no_overlap = λ i is. cc (is);
   next = λ i index ticket a. absurd (cc (a));
-  rising = λ i j printer number later one other a b one_is other_is from order. absurd (let x = a.reply in cc (x));
+  rising = λ i j printer number later one other a b one_is other_is from order. absurd (let x = a.answered in cc (x));
   reached = λ i printer number stop ticket a b is. absurd (cc (a));
   there = λ i printer ticket stop reply a b is_such. absurd (cc (a));
   not_there = λ i printer ticket stop a b printer_there. absurd (cc (a));
@@ -310,16 +321,16 @@ takes_next {A} ranges desks h e fits legal f = record {
             | inl taken ↦
                 (let below = get_beyond (events_of h) j (Take printer ticket taken.stop) taken.event in
                 let all = events_count h in let at = now.0 in omega arith)
-            | inr last ↦ absurd (let x : TakeRefused Old ≡ Taken = sym now.2 ∙ last.3 in cc (x))
+            | inr last ↦ absurd (old_not_taken A last.1 (subst (λ (r : Reply A). IsTaken last.1 r) now.2 last.3))
           ]
         ]
 
     again : (i printer other ticket : ℕ) (stop : Stop) → TakesTicket (events_of h) (replies_of h) i printer ticket →
-        e.event ≡ Take other ticket stop → e.reply ≡ Taken → ⊥
-    again i printer other ticket stop before event_is reply_is =
+        e.event ≡ Take other ticket stop → IsTaken stop e.reply → ⊥
+    again i printer other ticket stop before event_is taken =
         true_false (is_taken h ticket) (was_taken ranges desks h i printer ticket legal before)
         (not_taken ranges desks h other ticket legal
-        (last_takes ranges desks h e other ticket stop fits event_is reply_is).1)
+        (last_takes ranges desks h e other ticket stop fits event_is taken).1)
 
     one : (i j printer other ticket : ℕ) → TakesTicket (events_of (e ∷ h)) (replies_of (e ∷ h)) i printer ticket →
         TakesTicket (events_of (e ∷ h)) (replies_of (e ∷ h)) j other ticket → i ≡ j

@@ -43,13 +43,13 @@ second name is one = (let two : ◌≡◌ {A = ℕ} 2 name.number =
     omega arith)
 
 never_scanned : (A : Type 0) → ¬ IsPossiblyHeld (travelled A) 0 0 1
-never_scanned A (inl took) = absurd took
-never_scanned A (inr (_, inl took)) = away took.0
-never_scanned A (inr (_, inr (_, inl took))) = away took.0
-never_scanned A (inr (_, inr (_, inr (_, inl took)))) = away took.0
-never_scanned A (inr (_, inr (_, inr (_, inr (_, inl took))))) = absurd took
-never_scanned A (inr (_, inr (_, inr (_, inr (_, inr (_, inl took)))))) = second took.2.0 took.2.1 took.2.3
-never_scanned A (inr (_, inr (_, inr (_, inr (_, inr (_, inr (_, inl took))))))) = absurd took
+never_scanned A (inl took) = absurd took.0
+never_scanned A (inr (_, inl took)) = away took.0.0
+never_scanned A (inr (_, inr (_, inl took))) = away took.0.0
+never_scanned A (inr (_, inr (_, inr (_, inl took)))) = away took.0.0
+never_scanned A (inr (_, inr (_, inr (_, inr (_, inl took))))) = absurd took.0
+never_scanned A (inr (_, inr (_, inr (_, inr (_, inr (_, inl took)))))) = second took.0.2.0 took.0.2.1 took.0.2.3
+never_scanned A (inr (_, inr (_, inr (_, inr (_, inr (_, inr (_, inl took))))))) = absurd took.0
 never_scanned A (inr (_, inr (_, inr (_, inr (_, inr (_, inr (_, inr (_, none)))))))) = absurd none
 
 not_scanned : (A : Type 0) → ¬ IsSurelyHeld (forgotten A) 0 0 1
@@ -66,15 +66,15 @@ not_scanned A (inr (_, inr (_, inr (_, inr (_, inr (_, inr (_, inr (_, inr (_, i
 
 forgotten_again : (A : Type 0) → ¬ IsSurelyHeld (forgotten A) 1 0 2
 forgotten_again A (inl took) = absurd took
-forgotten_again A (inr kept) = kept.0 (refl, refl, refl)
+forgotten_again A (inr kept) = kept.0 ((refl, refl, refl), refl)
 
 pub travelled_is : (A : Type 0) → TravelledIs A
 travelled_is A = record {
   exports_are = refl;
-  scanned = inr ((λ x. x), inl (refl, refl, refl));
-  imported = inr ((λ x. x), inr ((λ x. x), inl (refl, (record { id = 0; count = 2; mask = 2 }, refl, refl, refl))));
+  scanned = inr ((λ x. x.0), inl (refl, refl, refl));
+  imported = inr ((λ x. x.0), inr ((λ x. x.0), inl (refl, (record { id = 0; count = 2; mask = 2 }, refl, refl, refl))));
   never_scanned = never_scanned A;
-  stopped = inr ((λ x. x), inl (refl, refl, (record { id = 0; number = 1; count = 2 }, refl, refl, refl)));
+  stopped = inr ((λ x. x), inl ((refl, refl, (record { id = 0; number = 1; count = 2 }, refl, refl, refl)), refl));
   not_surely = not_scanned A;
   down = refl;
   may_be_forgotten = forgotten_again A;
@@ -86,7 +86,7 @@ travelled_is A = record {
         (λ x. x),
         inr (
           (λ x. x),
-          inl (refl, refl, (record { id = 0; count = 2; mask = 2 }, refl, refl, refl)),
+          inl ((refl, refl, (record { id = 0; count = 2; mask = 2 }, refl, refl, refl)), refl),
         ),
       ),
     ),

@@ -1,27 +1,39 @@
 -- The headline, said of the events and the replies of a run alone, both from the first on: whatever document any desk
 -- gives for an identification is the one document printed under it, and no identification is ever printed twice.
-use Rattle.std.specs.Prelude.{◌≡◌, ◌≢◌, ◌<◌, ◌≤◌, ◌⊎◌, ℕ, Option, None, Some, List, [], ◌∷◌, ◌++◌, length, slice_get, take, min, All, true, false}
+use Rattle.std.specs.Prelude.{◌≡◌, ◌≢◌, ◌<◌, ◌≤◌, ◌⊎◌, ℕ, zero, suc, Option, None, Some, List, [], ◌∷◌, ◌++◌, length, slice_get, take, min, All, Bool, true, false}
 use Rattle.dm_check_blocks.specs.declared.size.Size.{Size}
 use Rattle.dm_encodation.specs.declared.scheme.Scheme.{Scheme}
-use Rattle.dm_append_label.specs.Parts.{AreParts}
+use Rattle.dm_append_label.specs.Parts.{AreParts, HasNoEnds}
 use Rattle.dm_print_ledger.specs.declared.range.Range.{Range}
+use Rattle.dm_print_ledger.specs.Ranges.{is_in}
+use Rattle.dm_print_ledger.specs.Views.{TicketView}
+use Rattle.dm_print_ledger.specs.declared.fault.PrintFault.TheVariants as print_fault
+use Rattle.dm_append_label.specs.declared.fault.LabelFault.TheVariants.{Border}
 use Rattle.dm_assembly_desk.specs.declared.fault.AskFault.TheVariants.{Incomplete}
+use Rattle.dm_assembly_desk.specs.declared.fault.ScanFault.{ScanFault}
+use Rattle.dm_assembly_desk.specs.declared.fault.ScanFault.TheVariants as scan_fault
 use Rattle.dm_assembly_desk.specs.declared.fault.ImportFault.{ImportFault}
 use Rattle.dm_assembly_desk.specs.declared.fault.ImportFault.TheVariants as import_fault
 use Rattle.dm_assembly_desk.specs.declared.reply.Accepted.{Accepted}
 use Rattle.dm_event_history.specs.Masks.{HasPage}
 use Rattle.dm_event_history.specs.declared.event.Event.{Event}
-use Rattle.dm_event_history.specs.declared.event.Event.TheVariants.{Print, Scan, Ask, Forget, Export}
+use Rattle.dm_event_history.specs.declared.event.Event.TheVariants.{Print, Scan, Ask, Forget, Give, Take, Export, Import}
 use Rattle.dm_event_history.specs.declared.reply.Reply.{Reply}
-use Rattle.dm_event_history.specs.declared.reply.Reply.TheVariants.{Printed, Scanned, Document, AskRefused, Forgotten, Exported, ImportRefused, Stopped, NoSuch}
+use Rattle.dm_event_history.specs.declared.reply.Reply.TheVariants.{Printed, PrintRefused, Scanned, ScanRefused, Document, AskRefused, Forgotten, Given, Exported, ImportRefused, Stopped, NoSuch}
 use Rattle.dm_event_history.specs.declared.stop.Stop.{Stop}
 use Rattle.dm_event_history.specs.declared.stop.Stop.TheVariants as stops
-use Rattle.dm_event_history.specs.Actors.{PrinterAt, actor_of}
+use Rattle.dm_event_history.specs.Actors.{PrinterAt, DeskAt, actor_of}
 use Rattle.dm_event_history.specs.History.{CutDocument, LabelName, names_from}
 use Rattle.dm_event_history.specs.Saving.{may_save}
+use Rattle.dm_event_history.specs.Numbers.{is_in_some, is_on}
 use Rattle.dm_event_history.specs.Places.{IsOpened}
 use Rattle.dm_event_history.specs.Replying.{has_failed_before, AreReplies}
 use Rattle.dm_event_history.specs.Counts.{HasNumber}
+use Rattle.dm_event_history.specs.Holding.{Takes, MayTake, Forgets, MayForget}
+use Rattle.dm_event_history.specs.Telling.{Known, IsReplyTrue}
+use Rattle.dm_event_history.specs.Imports.{exports_in}
+use Rattle.dm_event_history.specs.Tickets.{tickets_in}
+use Rattle.dm_event_history.specs.Tainted.{AtDesk, InExport, IsTainted}
 
 -- ---- the labels that left
 
@@ -79,6 +91,40 @@ pub record AllLeft (batches : List (Option Batch)) (i id first count : ℕ) : Ty
   pub all : batch.left ≡ count
   pub first_is : first ≡ length (labels_of (take i batches))
 
+-- ---- identifications that move
+
+-- event number k and its reply are so
+pub record IsAt {A : Type 0} (events : List (Event A)) (replies : List (Reply A)) (k : ℕ)
+    (IsSo : Event A → Reply A → Type 0) : Type 0 where
+  pub event : Event A
+  pub asked : slice_get events k ≡ Some event
+  pub reply : Reply A
+  pub answered : slice_get replies k ≡ Some reply
+  pub is_so : IsSo event reply
+
+-- a take by this printer may have saved, of a ticket with the number on it; these had been given
+abbrev pub MayGain : {A : Type 0} → List TicketView → Event A → Reply A → ℕ → ℕ → Type 0
+MayGain tickets (Take at ticket stop) reply printer number =
+    (at ≡ printer) × (may_save (Take at ticket stop) reply ≡ true) × (is_on (slice_get tickets ticket) number ≡ true)
+MayGain tickets event reply printer number = ⊥
+
+-- a give of the number by this printer was told
+abbrev pub GivesAway : {A : Type 0} → Event A → Reply A → ℕ → ℕ → Type 0
+GivesAway (Give at receiver range stop) (Given index ticket) printer number =
+    (at ≡ printer) × (is_in range number ≡ true)
+GivesAway event reply printer number = ⊥
+
+-- before event number i a number may be free at a printer, if it was not printed: the printer began with it, or a take
+-- may have brought it, and no later give was told by which it went
+abbrev pub MayBeFree : {A : Type 0} → List Range → List (Event A) → List (Reply A) → ℕ → ℕ → ℕ → Type 0
+MayBeFree ranges events replies zero printer number = is_in_some (slice_get ranges printer) number ≡ true
+MayBeFree ranges events replies (suc k) printer number =
+    IsAt events replies k (λ event reply. MayGain (tickets_in (take k replies)) event reply printer number)
+    ⊎ ((¬ IsAt events replies k (λ event reply. GivesAway event reply printer number))
+    × MayBeFree ranges events replies k printer number)
+
+-- ---- the headline of printers
+
 -- Each event has a reply, and its batch in `batches`, if labels left by it. No identification comes twice. The printers
 -- began with these ranges, and there are that many desks.
 pub record PrintsOnceBy {A : Type 0} (ranges : List Range) (desks : ℕ) (batches : List (Option Batch))
@@ -95,6 +141,14 @@ pub record PrintsOnceBy {A : Type 0} (ranges : List Range) (desks : ℕ) (batche
   pub printed : (i : ℕ) (batch : Batch) → slice_get batches i ≡ Some (Some batch) → LeftBy events replies i batch
   -- under an identification that a printer began with
   pub opened : (i : ℕ) (batch : Batch) → slice_get batches i ≡ Some (Some batch) → IsOpened ranges batch.id
+  -- which may be free at its printer, and so may be each number that is given
+  pub owned : (i printer : ℕ) (document : List ℕ) (size : Size) (scheme : Scheme) (stop : Stop) (batch : Batch) →
+      slice_get batches i ≡ Some (Some batch) → slice_get events i ≡ Some (Print printer document size scheme stop) →
+      MayBeFree ranges events replies i printer batch.id
+  pub gives_own : (i printer receiver : ℕ) (range : Range) (stop : Stop) (index : ℕ) (ticket : TicketView) →
+      slice_get events i ≡ Some (Give printer receiver range stop) →
+      slice_get replies i ≡ Some (Given index ticket) → (number : ℕ) → is_in range number ≡ true →
+      MayBeFree ranges events replies i printer number
   -- none left by a printer that had answered `Save`, and was not restarted since
   pub unfailed : (i : ℕ) (batch : Batch) (event : Event A) → slice_get batches i ≡ Some (Some batch) →
       slice_get events i ≡ Some event → has_failed_before events replies i (actor_of event) ≡ false
@@ -107,6 +161,15 @@ pub record PrintsOnceBy {A : Type 0} (ranges : List Range) (desks : ℕ) (batche
       has_failed_before events replies i (PrinterAt printer) ≡ false →
       HasNumber ranges (take i events) (take i replies) printer →
       (batch : Batch) × (slice_get batches i ≡ Some (Some batch))
+  -- `Exhausted` is answered only by a printer that may have no identification left, and `TooLong` only to a document
+  -- that can't be cut
+  pub exhausted : (i printer : ℕ) (document : List ℕ) (size : Size) (scheme : Scheme) (stop : Stop) →
+      slice_get events i ≡ Some (Print printer document size scheme stop) →
+      slice_get replies i ≡ Some (PrintRefused print_fault.Exhausted) →
+      ¬ HasNumber ranges (take i events) (take i replies) printer
+  pub too_long : (i printer : ℕ) (document : List ℕ) (size : Size) (scheme : Scheme) (stop : Stop) →
+      slice_get events i ≡ Some (Print printer document size scheme stop) →
+      slice_get replies i ≡ Some (PrintRefused print_fault.TooLong) → HasNoEnds size scheme document
   -- no identification is ever printed twice
   pub once : (i j : ℕ) (one other : Batch) → slice_get batches i ≡ Some (Some one) →
       slice_get batches j ≡ Some (Some other) → one.id ≡ other.id → i ≡ j
@@ -125,6 +188,29 @@ abbrev pub PrintsOnce : {A : Type 0} → List Range → ℕ → List (Event A) �
 PrintsOnce ranges desks events replies =
     (batches : List (Option Batch)) × PrintsOnceBy ranges desks batches events replies
 
+-- ---- what desks hold
+
+-- before event number i a desk may hold page m of a document: a scan or an import may have saved it there, while no
+-- save had failed since the last restart, and no later forget of the document was answered `Forgotten` there
+abbrev pub MayHold : {A : Type 0} → List (Option Batch) → List (Event A) → List (Reply A) → ℕ → ℕ → ℕ → ℕ → Type 0
+MayHold batches events replies zero desk id m = ⊥
+MayHold batches events replies (suc k) desk id m =
+    IsAt events replies k
+    (λ event reply. MayTake (labels_of (take k batches)) (exports_in (take k replies)) event reply desk id m
+    × (has_failed_before events replies k (DeskAt desk) ≡ false))
+    ⊎ ((¬ IsAt events replies k (λ event reply. Forgets event reply desk id))
+    × MayHold batches events replies k desk id m)
+
+-- before event number i a desk surely holds it: a scan or an import took it there, and no later forget of the document
+-- may have saved, but one at a desk whose save had failed
+abbrev pub Holds : {A : Type 0} → List (Event A) → List (Reply A) → ℕ → ℕ → ℕ → ℕ → Type 0
+Holds events replies zero desk id m = ⊥
+Holds events replies (suc k) desk id m =
+    IsAt events replies k (λ event reply. Takes (exports_in (take k replies)) event reply desk id m)
+    ⊎ ((¬ IsAt events replies k
+    (λ event reply. MayForget event reply desk id × (has_failed_before events replies k (DeskAt desk) ≡ false)))
+    × Holds events replies k desk id m)
+
 -- ---- what desks tell
 
 -- event number i is a scan of a label of this name, which had left
@@ -137,13 +223,15 @@ pub record IsScanOf {A : Type 0} (batches : List (Option Batch)) (events : List 
   pub event : slice_get events i ≡ Some (Scan desk label flips stop)
   pub had_left : slice_get (labels_of (take i batches)) label ≡ Some name
 
--- event number k may have saved: its reply says so, or it was stopped or failed after the new content was kept
+-- event number k may have saved: its reply says so, or it was stopped or failed after the new content was kept; and no
+-- save had failed before since the last restart
 pub record MayHaveSaved {A : Type 0} (events : List (Event A)) (replies : List (Reply A)) (k : ℕ) : Type 0 where
   pub event : Event A
   pub asked : slice_get events k ≡ Some event
   pub reply : Reply A
   pub answered : slice_get replies k ≡ Some reply
   pub saves : may_save event reply ≡ true
+  pub unfailed : has_failed_before events replies k (actor_of event) ≡ false
 
 -- label m of n under an identification was scanned before event number i, at whichever desk, which may have saved its
 -- page
@@ -180,6 +268,24 @@ pub record WasBegun {A : Type 0} (batches : List (Option Batch)) (events : List 
   pub scanned : (m : ℕ) → 1 ≤ m → m ≤ count_of batch → ¬ HasPage missing m →
       WasScanned batches events replies i id m (count_of batch)
 
+-- what is known before event number i
+abbrev pub known_before : {A : Type 0} → List (Option Batch) → List (Event A) → List (Reply A) → ℕ → Known
+known_before batches events replies i = record {
+  may_hold = MayHold batches events replies i;
+  holds = Holds events replies i;
+  printed = λ id document. (batch : Batch) × LeftBefore batches i id batch × (batch.document ≡ document);
+  labelled = λ label name. slice_get (labels_of (take i batches)) label ≡ Some name;
+  sent = λ export name. slice_get (exports_in (take i replies)) export ≡ Some name;
+}
+
+-- an honest scan is refused by the state of its desk, or for the finder patterns of its label: not for what the label
+-- says, nor as its page disagrees with those that the desk holds
+abbrev pub MayRefuse : ScanFault → Type 0
+MayRefuse (scan_fault.Label (Border wrong)) = Unit {0}
+MayRefuse (scan_fault.Label fault) = ⊥
+MayRefuse scan_fault.Conflict = ⊥
+MayRefuse fault = Unit {0}
+
 -- an import is refused by the state of its desk: not for the bytes of the export, nor as they disagree with the pages
 -- that the desk holds
 abbrev pub IsOfDesk : ImportFault → Type 0
@@ -189,35 +295,58 @@ IsOfDesk import_fault.Damaged = ⊥
 IsOfDesk import_fault.Conflict = ⊥
 IsOfDesk other = Unit {0}
 
--- what desks tell of labels, documents and pages is as they were printed and scanned
+-- What desks tell of labels, documents and pages is as they were printed and scanned, if the desk that tells it is not
+-- tainted. The marks say which events were found honest.
 pub record IsFaithfulBy {A : Type 0} (ranges : List Range) (desks : ℕ) (batches : List (Option Batch))
-    (events : List (Event A)) (replies : List (Reply A))
+    (events : List (Event A)) (marks : List Bool) (replies : List (Reply A))
     : Type 0 where
   pub prints : PrintsOnceBy ranges desks batches events replies
-  -- the page that a desk tells of a scanned label is that of the label, which had left
-  pub scanned : (i : ℕ) (accepted : Accepted) → slice_get replies i ≡ Some (Scanned accepted) →
+  -- each event has a mark
+  pub each_mark : length marks ≡ length events
+  -- the page that a desk tells of an honest scan is that of the scanned label, which had left
+  pub scanned : (i desk label : ℕ) (flips : List (ℕ × ℕ)) (stop : Stop) (accepted : Accepted) →
+      slice_get events i ≡ Some (Scan desk label flips stop) → slice_get replies i ≡ Some (Scanned accepted) →
+      slice_get marks i ≡ Some true → ¬ IsTainted events marks replies i (AtDesk desk) →
       IsScanOf batches events i (record { id = accepted.id; number = accepted.m; count = accepted.n })
-  -- whatever document any desk gives is asked for by an identification, and was printed under it before
-  pub given : (i : ℕ) (bytes : List ℕ) → slice_get replies i ≡ Some (Document bytes) →
-      (desk id : ℕ) × (slice_get events i ≡ Some (Ask desk id)) × WasPrinted batches events replies i id bytes
+  -- and an honest scan is not refused for a conflict with the pages that the desk holds, nor for what its label says
+  pub not_refused : (i desk label : ℕ) (flips : List (ℕ × ℕ)) (stop : Stop) (fault : ScanFault) →
+      slice_get events i ≡ Some (Scan desk label flips stop) → slice_get replies i ≡ Some (ScanRefused fault) →
+      slice_get marks i ≡ Some true → ¬ IsTainted events marks replies i (AtDesk desk) → MayRefuse fault
+  -- whatever document any desk gives for an identification was printed under it before
+  pub given : (i desk id : ℕ) (bytes : List ℕ) → slice_get events i ≡ Some (Ask desk id) →
+      slice_get replies i ≡ Some (Document bytes) → ¬ IsTainted events marks replies i (AtDesk desk) →
+      WasPrinted batches events replies i id bytes
   -- and it is the one document: any other that is given for it, by any desk, is the same
   pub same : (i j desk at id : ℕ) (one other : List ℕ) →
       slice_get events i ≡ Some (Ask desk id) → slice_get replies i ≡ Some (Document one) →
-      slice_get events j ≡ Some (Ask at id) → slice_get replies j ≡ Some (Document other) → one ≡ other
+      ¬ IsTainted events marks replies i (AtDesk desk) →
+      slice_get events j ≡ Some (Ask at id) → slice_get replies j ≡ Some (Document other) →
+      ¬ IsTainted events marks replies j (AtDesk at) → one ≡ other
   -- of a document that is not whole the pages that are not named as missing were scanned
   pub begun : (i desk id missing : ℕ) → slice_get events i ≡ Some (Ask desk id) →
-      slice_get replies i ≡ Some (AskRefused (Incomplete missing)) → WasBegun batches events replies i id missing
+      slice_get replies i ≡ Some (AskRefused (Incomplete missing)) →
+      ¬ IsTainted events marks replies i (AtDesk desk) → WasBegun batches events replies i id missing
   -- what is forgotten was begun: a page of it was scanned
   pub forgotten : (i desk id : ℕ) (stop : Stop) → slice_get events i ≡ Some (Forget desk id stop) →
-      slice_get replies i ≡ Some Forgotten → (m n : ℕ) × WasScanned batches events replies i id m n
+      slice_get replies i ≡ Some Forgotten → ¬ IsTainted events marks replies i (AtDesk desk) →
+      (m n : ℕ) × WasScanned batches events replies i id m n
   -- each page that is exported is one of the document asked for, and was scanned
-  pub exported : (i index id n mask : ℕ) → slice_get replies i ≡ Some (Exported index id n mask) →
-      (desk : ℕ) × (slice_get events i ≡ Some (Export desk id))
-      × ((m : ℕ) → HasPage mask m → WasScanned batches events replies i id m n)
-  -- no import is refused for a conflict, nor for the bytes of its export
-  pub not_imported : (i : ℕ) (fault : ImportFault) → slice_get replies i ≡ Some (ImportRefused fault) → IsOfDesk fault
+  pub exported : (i desk id index told n mask : ℕ) → slice_get events i ≡ Some (Export desk id) →
+      slice_get replies i ≡ Some (Exported index told n mask) → ¬ IsTainted events marks replies i (AtDesk desk) →
+      (m : ℕ) → HasPage mask m → WasScanned batches events replies i id m n
+  -- and each reply of a desk that is not tainted after it is true by the pages that the desk may hold, and those that
+  -- it surely holds
+  pub agrees : (i desk : ℕ) (event : Event A) (reply : Reply A) → slice_get events i ≡ Some event →
+      slice_get replies i ≡ Some reply → actor_of event ≡ DeskAt desk →
+      ¬ IsTainted events marks replies (suc i) (AtDesk desk) →
+      IsReplyTrue (known_before batches events replies i) event reply
+  -- no import is refused for a conflict, nor for the bytes of its export, if that is not tainted either
+  pub not_imported : (i desk export : ℕ) (stop : Stop) (fault : ImportFault) →
+      slice_get events i ≡ Some (Import desk export stop) → slice_get replies i ≡ Some (ImportRefused fault) →
+      ¬ IsTainted events marks replies i (AtDesk desk) → ¬ IsTainted events marks replies i (InExport export) →
+      IsOfDesk fault
 
 -- the headline
-abbrev pub IsFaithful : {A : Type 0} → List Range → ℕ → List (Event A) → List (Reply A) → Type 0
-IsFaithful ranges desks events replies =
-    (batches : List (Option Batch)) × IsFaithfulBy ranges desks batches events replies
+abbrev pub IsFaithful : {A : Type 0} → List Range → ℕ → List (Event A) → List Bool → List (Reply A) → Type 0
+IsFaithful ranges desks events marks replies =
+    (batches : List (Option Batch)) × IsFaithfulBy ranges desks batches events marks replies

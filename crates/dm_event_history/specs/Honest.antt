@@ -1,6 +1,6 @@
--- Which histories are honest, and how fair scans, and imports, are refused after an honest history. `grids` are the
--- labels that left, in their order.
-use Rattle.std.specs.Prelude.{◌≡◌, ◌≢◌, ◌≤◌, ℕ, true, Some, List, [], ◌∷◌, length, slice_get, IsSomeAnd}
+-- Which desks and exports are clean by their history, and how fair scans, and imports, are refused at a clean desk.
+-- `grids` are the labels that left, in their order.
+use Rattle.std.specs.Prelude.{◌≡◌, ◌≢◌, ◌≤◌, ℕ, Bool, true, Some, List, [], ◌∷◌, length, slice_get, IsSomeAnd}
 use Rattle.std.specs.Ordering.{nat_cmp}
 use Rattle.std.specs.List.Sorted.{IsStrictlySortedBy}
 use Rattle.dm_finder_frame.specs.Grids.{GridView, flipped}
@@ -13,9 +13,11 @@ use Rattle.dm_assembly_desk.specs.declared.fault.ScanFault.TheVariants as scan_f
 use Rattle.dm_assembly_desk.specs.declared.fault.ImportFault.{ImportFault}
 use Rattle.dm_assembly_desk.specs.declared.fault.ImportFault.TheVariants as import_fault
 use Rattle.dm_event_history.specs.declared.event.Event.{Event}
-use Rattle.dm_event_history.specs.declared.event.Event.TheVariants.{Scan, Import}
+use Rattle.dm_event_history.specs.declared.event.Event.TheVariants.{Scan, Export, Import}
 use Rattle.dm_event_history.specs.declared.reply.Reply.{Reply}
-use Rattle.dm_event_history.specs.declared.reply.Reply.TheVariants.{Scanned, ScanRefused, ImportRefused}
+use Rattle.dm_event_history.specs.declared.reply.Reply.TheVariants.{Scanned, ScanRefused, Exported, ImportRefused, NoSuch}
+use Rattle.dm_event_history.specs.Actors.{DeskAt, actor_of}
+use Rattle.dm_event_history.specs.Tainted.{Holder, AtDesk, InExport}
 use Rattle.dm_event_history.specs.History.{History, LabelName, ExportName, out, exports}
 use Rattle.dm_event_history.specs.Saving.{may_save}
 use Rattle.dm_event_history.specs.Holding.{IsPossiblyHeld}
@@ -26,13 +28,37 @@ IsFair grids (Scan desk label flips stop) =
     (grid : GridView) → slice_get grids label ≡ Some grid → IsNear (flipped grid flips) grid
 IsFair grids event = Unit {0}
 
--- each scan that may have saved its page is fair
-abbrev pub IsHonest : {A : Type 0} → List GridView → History A → Type 0
-IsHonest grids [] = Unit {0}
-IsHonest grids (entry ∷ before) =
-    (may_save entry.event entry.reply ≡ true → IsFair grids entry.event) × IsHonest grids before
+-- each event that is marked, and names what is there, is fair
+pub record AreMarkedFair {A : Type 0} (grids : List GridView) (events : List (Event A)) (marks : List Bool)
+    (replies : List (Reply A)) : Type 0 where
+  pub count : length marks ≡ length events
+  pub fair : (i : ℕ) (event : Event A) (reply : Reply A) → slice_get events i ≡ Some event →
+      slice_get replies i ≡ Some reply → slice_get marks i ≡ Some true → reply ≢ NoSuch → IsFair grids event
 
--- ---- how fair scans are answered after an honest history
+-- a scan is fair, and an import is of an export that was clean before
+abbrev pub IsCleanBy : {A : Type 0} → List GridView → (ℕ → Type 0) → Event A → Type 0
+IsCleanBy {A} grids IsCleanExport (Scan desk label flips stop) = IsFair {A = A} grids (Scan desk label flips stop)
+IsCleanBy grids IsCleanExport (Import desk export stop) = IsCleanExport export
+IsCleanBy grids IsCleanExport event = Unit {0}
+
+-- What has pages is clean: a desk, if each scan and each import that may have saved pages there is so; and an export,
+-- if it left a clean desk.
+abbrev pub IsClean : {A : Type 0} → List GridView → History A → Holder → Type 0
+IsClean grids [] holder = Unit {0}
+IsClean grids (entry ∷ before) (AtDesk desk) =
+    (actor_of entry.event ≡ DeskAt desk → may_save entry.event entry.reply ≡ true →
+    IsCleanBy grids (λ export. IsClean grids before (InExport export)) entry.event)
+    × IsClean grids before (AtDesk desk)
+IsClean grids (entry ∷ before) (InExport number) =
+    ((desk asked id n mask : ℕ) → entry.event ≡ Export desk asked → entry.reply ≡ Exported number id n mask →
+    IsClean grids before (AtDesk desk))
+    × IsClean grids before (InExport number)
+
+-- after this history the event brings a desk nothing but what is clean
+abbrev pub BringsClean : {A : Type 0} → List GridView → History A → Event A → Type 0
+BringsClean grids before event = IsCleanBy grids (λ export. IsClean grids before (InExport export)) event
+
+-- ---- how fair scans, and imports, are answered at a clean desk
 
 -- the scanned grid of the label has such finder patterns
 pub record IsScannedWith (Frame : GridView → Type 0) (grids : List GridView) (label : ℕ) (flips : List (ℕ × ℕ))
@@ -70,7 +96,7 @@ pub record IsFullForExport {A : Type 0} (capacities : List ℕ) (before : Histor
   pub has_left : slice_get (exports before) export ≡ Some name
   pub full : IsSomeAnd (slice_get capacities desk) (MayHoldOthers before desk name.id)
 
--- why a fair scan is refused after an honest history: never for a conflict
+-- why a fair scan is refused at a clean desk: never for a conflict
 abbrev pub IsHonestlyRefused : {A : Type 0} → List GridView → List ℕ → History A →
     ℕ → ℕ → List (ℕ × ℕ) → ScanFault → Type 0
 IsHonestlyRefused grids capacities before desk label flips scan_fault.Failed = Unit {0}
@@ -81,7 +107,7 @@ IsHonestlyRefused grids capacities before desk label flips scan_fault.Full =
 IsHonestlyRefused grids capacities before desk label flips scan_fault.Memory = IsFramed grids label flips
 IsHonestlyRefused grids capacities before desk label flips scan_fault.Save = IsFramed grids label flips
 
--- why an import is refused after an honest history: never for its bytes
+-- why an import of a clean export is refused at a clean desk: never for its bytes
 abbrev pub IsHonestlyNotImported : {A : Type 0} → List ℕ → History A → ℕ → ℕ → ImportFault → Type 0
 IsHonestlyNotImported capacities before desk export import_fault.NotPages = ⊥
 IsHonestlyNotImported capacities before desk export import_fault.Version = ⊥
@@ -90,7 +116,7 @@ IsHonestlyNotImported capacities before desk export import_fault.Conflict = ⊥
 IsHonestlyNotImported capacities before desk export import_fault.Full = IsFullForExport capacities before desk export
 IsHonestlyNotImported capacities before desk export other = Unit {0}
 
--- what is so of the reply to a fair event after an honest history
+-- what is so of the reply to an event that brings a clean desk nothing but what is clean
 abbrev pub IsHonestReply : {A : Type 0} → List GridView → List ℕ → History A → Event A → Reply A → Type 0
 IsHonestReply grids capacities before (Scan desk label flips stop) (Scanned accepted) = IsFramed grids label flips
 IsHonestReply grids capacities before (Scan desk label flips stop) (ScanRefused fault) =
@@ -99,9 +125,10 @@ IsHonestReply grids capacities before (Import desk export stop) (ImportRefused f
     IsHonestlyNotImported capacities before desk export fault
 IsHonestReply grids capacities before event reply = Unit {0}
 
--- so it is of each reply to a fair event
+-- so it is of each such reply
 abbrev pub AreHonestReplies : {A : Type 0} → List GridView → List ℕ → History A → Type 0
 AreHonestReplies grids capacities [] = Unit {0}
 AreHonestReplies grids capacities (entry ∷ before) =
-    (IsFair grids entry.event → IsHonestReply grids capacities before entry.event entry.reply)
+    ((desk : ℕ) → actor_of entry.event ≡ DeskAt desk → BringsClean grids before entry.event →
+    IsClean grids before (AtDesk desk) → IsHonestReply grids capacities before entry.event entry.reply)
     × AreHonestReplies grids capacities before

@@ -1,5 +1,5 @@
 -- What follows from what a history is: laws of histories, which hold whatever printers and desks do otherwise.
-use Rattle.std.specs.Prelude.{◌≡◌, ℕ, true, false, None, List, length}
+use Rattle.std.specs.Prelude.{◌≡◌, ℕ, Bool, true, false, None, List, length}
 use Rattle.dm_finder_frame.specs.Grids.{GridView}
 use Rattle.dm_print_ledger.specs.declared.range.Range.{Range}
 use Rattle.dm_print_ledger.specs.Ranges.{is_in}
@@ -9,7 +9,8 @@ use Rattle.dm_event_history.specs.Places.{ArePlaced, AreOpened, IsNoTicketTakenT
 use Rattle.dm_event_history.specs.Holding.{IsSurelyHeld, IsPossiblyHeld}
 use Rattle.dm_event_history.specs.Legal.{AreDisjoint, IsLegal, IsNoLabelTwice, NeverTwice, MayBeTaken}
 use Rattle.dm_event_history.specs.Safe.{IsSafe}
-use Rattle.dm_event_history.specs.Honest.{AreHonestReplies}
+use Rattle.dm_event_history.specs.Tainted.{AtDesk}
+use Rattle.dm_event_history.specs.Honest.{IsClean, AreMarkedFair, AreHonestReplies}
 use Rattle.dm_event_history.specs.Headline.{PrintsOnce, IsFaithful}
 use Rattle.dm_event_history.specs.Tickets.{TakesOnce}
 use Rattle.dm_event_history.specs.Imports.{ImportsExports}
@@ -38,10 +39,10 @@ TicketsAreElsewhere A = InLegal A (λ ranges desks h.
     (printer k : ℕ) (may : MayBeTaken h printer k) (number : ℕ) → is_in may.ticket.range number ≡ true →
     (other : ℕ) → free_at ranges h other number ≡ false)
 
--- what is surely held is possibly held
+-- what is surely held at a clean desk is possibly held there
 abbrev pub SurelyIsPossibly : Type 0 → Type 0
-SurelyIsPossibly A = (h : History A) → IsSafe h →
-    (desk id m : ℕ) → IsSurelyHeld h desk id m → IsPossiblyHeld h desk id m
+SurelyIsPossibly A = InLegal A (λ ranges desks h. (grids : List GridView) → IsSafe grids h →
+    (desk id m : ℕ) → IsClean grids h (AtDesk desk) → IsSurelyHeld h desk id m → IsPossiblyHeld h desk id m)
 
 -- no label leaves twice, of whichever print
 abbrev pub NoLabelTwice : Type 0 → Type 0
@@ -63,7 +64,10 @@ LegalTakesOnce A = InLegal A (λ ranges desks h. TakesOnce (length ranges) (even
 abbrev pub LegalImportsExports : Type 0 → Type 0
 LegalImportsExports A = InLegal A (λ ranges desks h. ImportsExports desks (events_of h) (replies_of h))
 
--- the headline: legal and safe histories, in which what is fair is refused as in an honest one, are faithful
+-- the headline: legal and safe histories, in which clean desks refuse what is fair for these reasons alone, are
+-- faithful, whichever events are marked, if those are fair
 abbrev pub LegalAndSafeIsFaithful : Type 0 → Type 0
-LegalAndSafeIsFaithful A = InLegal A (λ ranges desks h. (grids : List GridView) (capacities : List ℕ) →
-    IsSafe h → AreHonestReplies grids capacities h → IsFaithful ranges desks (events_of h) (replies_of h))
+LegalAndSafeIsFaithful A = InLegal A (λ ranges desks h.
+    (grids : List GridView) (capacities : List ℕ) (marks : List Bool) →
+    AreMarkedFair grids (events_of h) marks (replies_of h) → IsSafe grids h → AreHonestReplies grids capacities h →
+    IsFaithful ranges desks (events_of h) marks (replies_of h))

@@ -3,6 +3,7 @@ use Rattle.std.specs.Prelude.{◌≡◌, ◌≢◌, ◌↔◌, ◌⊎◌, ◌+�
 use Rattle.dm_check_blocks.specs.Sizes.{side}
 use Rattle.dm_append_label.specs.Parts.{AreParts, HasNoEnds}
 use Rattle.dm_store.specs.declared.fuse.Kept.{Kept}
+use Rattle.dm_store.specs.declared.fuse.Kept.TheVariants.{New}
 use Rattle.dm_print_ledger.specs.declared.range.Range.{Range}
 use Rattle.dm_print_ledger.specs.declared.fault.PrintFault.{PrintFault}
 use Rattle.dm_print_ledger.specs.declared.fault.PrintFault.TheVariants as print_fault
@@ -27,6 +28,7 @@ use Rattle.dm_event_history.specs.declared.reply.Reply.{Reply}
 use Rattle.dm_event_history.specs.declared.reply.Reply.TheVariants.{Printed, PrintRefused, Scanned, ScanRefused, Document, AskRefused, Forgotten, ForgetRefused, Given, GiveRefused, Taken, TakeRefused, Exported, ExportRefused, Imported, ImportRefused, Restarted, PrinterRefused, DeskRefused, Stopped, Down, NoSuch, Memory}
 use Rattle.dm_event_history.specs.declared.stop.Stop.{Stop}
 use Rattle.dm_event_history.specs.declared.stop.Stop.TheVariants as stops
+use Rattle.dm_event_history.specs.declared.stop.Stop.TheVariants.{SaveFault}
 use Rattle.dm_assembly_desk.specs.declared.reply.Imported as imported_type
 use Rattle.dm_event_history.specs.Masks.{HasPage}
 use Rattle.dm_event_history.specs.Actors.{PrinterAt, DeskAt, actor_of}
@@ -281,8 +283,11 @@ pub record Fits {A : Type 0} (ranges : List Range) (desks : ℕ) (before : Histo
   -- saves nothing then
   pub failed : is_failed before (actor_of entry.event) ≡ true →
       IsOfFailed entry.event entry.reply × (entry.saved ≡ false)
-  -- it saved where the reply tells so or a label left, and only where it may have
+  -- it saved where the reply tells so or a label left, or a take's save met a fault that left the new content, and only
+  -- where it may have
   pub told : tells_of_save entry.reply ≡ true → entry.saved ≡ true
+  pub kept : (printer ticket : ℕ) → entry.event ≡ Take printer ticket (SaveFault New) →
+      entry.reply ≡ TakeRefused take_fault.Save → entry.saved ≡ true
   pub left_saved : 0 < entry.left → entry.saved ≡ true
   pub saved : entry.saved ≡ true → may_save entry.event entry.reply ≡ true
   pub moves : entry.saved ≡ true → MayMove ranges before entry.id entry.event

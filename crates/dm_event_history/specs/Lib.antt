@@ -7,13 +7,15 @@ pub mod Places
 pub mod Masks
 pub mod Holding
 pub mod Legal
+pub mod Tainted
 pub mod Honest
+pub mod Telling
 pub mod Safe
 pub mod Counts
 pub mod Replying
-pub mod Headline
-pub mod Tickets
 pub mod Imports
+pub mod Tickets
+pub mod Headline
 pub mod Worked
 pub mod Unfaithful
 pub mod Laws

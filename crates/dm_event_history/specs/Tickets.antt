@@ -1,13 +1,15 @@
 -- No ticket is taken twice, said of the events and the replies of a run alone, both from the first on.
 use Rattle.std.specs.Prelude.{◌≡◌, ◌≢◌, ◌<◌, ◌≤◌, ℕ, true, false, Some, List, [], ◌∷◌, ◌++◌, length, slice_get, take}
 use Rattle.dm_print_ledger.specs.declared.range.Range.{Range}
-use Rattle.dm_print_ledger.specs.declared.fault.TakeFault.TheVariants.{Old, Overlap}
+use Rattle.dm_print_ledger.specs.declared.fault.TakeFault.TheVariants.{Old, Overlap, Save}
 use Rattle.dm_print_ledger.specs.Views.{TicketView}
 use Rattle.dm_event_history.specs.declared.event.Event.{Event}
 use Rattle.dm_event_history.specs.declared.event.Event.TheVariants.{Give, Take}
 use Rattle.dm_event_history.specs.declared.reply.Reply.{Reply}
 use Rattle.dm_event_history.specs.declared.reply.Reply.TheVariants.{Given, Taken, TakeRefused, NoSuch}
+use Rattle.dm_store.specs.declared.fuse.Kept.TheVariants.{New}
 use Rattle.dm_event_history.specs.declared.stop.Stop.{Stop}
+use Rattle.dm_event_history.specs.declared.stop.Stop.TheVariants.{SaveFault}
 use Rattle.dm_event_history.specs.Actors.{PrinterAt}
 use Rattle.dm_event_history.specs.History.{given}
 use Rattle.dm_event_history.specs.Saving.{may_save}
@@ -18,12 +20,20 @@ abbrev pub tickets_in : {A : Type 0} → List (Reply A) → List TicketView
 tickets_in [] = []
 tickets_in (reply ∷ replies) = given reply ++ tickets_in replies
 
+-- a take with this stop that is answered so was saved: it is told, or its save met a fault that left the new content
+abbrev pub IsTaken : {A : Type 0} → Stop → Reply A → Type 0
+IsTaken stop Taken = Unit {0}
+IsTaken (SaveFault New) (TakeRefused Save) = Unit {0}
+IsTaken stop reply = ⊥
+
 -- event number i is a take of the ticket of this number by this printer, and took it
 pub record TakesTicket {A : Type 0} (events : List (Event A)) (replies : List (Reply A)) (i printer ticket : ℕ)
     : Type 0 where
   pub stop : Stop
   pub event : slice_get events i ≡ Some (Take printer ticket stop)
-  pub reply : slice_get replies i ≡ Some Taken
+  pub reply : Reply A
+  pub answered : slice_get replies i ≡ Some reply
+  pub taken : IsTaken stop reply
 
 -- event number j, before number i, gave the ticket of this number, and to this printer
 pub record WasGiven {A : Type 0} (events : List (Event A)) (replies : List (Reply A)) (i printer ticket : ℕ)
@@ -38,9 +48,9 @@ pub record WasGiven {A : Type 0} (events : List (Event A)) (replies : List (Repl
   pub reply : slice_get replies j
       ≡ Some (Given ticket (record { giver = giver; serial = serial; receiver = printer; range = range }))
 
--- The ticket is for this printer, and before event number i it may have taken one of the same giver with a serial that
--- is not below: event number j tells so, or was stopped or failed with the new content kept, and no save had failed
--- since the last restart.
+-- The ticket is for this printer, and before event number i it may have taken one for it, of the same giver, with a
+-- serial that is not below: event number j tells so, or was stopped or failed with the new content kept, and no save
+-- had failed since the last restart.
 pub record WasReached {A : Type 0} (events : List (Event A)) (replies : List (Reply A)) (i printer : ℕ)
     (ticket : TicketView) : Type 0 where
   pub is_for : ticket.receiver ≡ printer
@@ -55,6 +65,7 @@ pub record WasReached {A : Type 0} (events : List (Event A)) (replies : List (Re
   pub unfailed : has_failed_before events replies j (PrinterAt printer) ≡ false
   pub taken : TicketView
   pub there : slice_get (tickets_in replies) number ≡ Some taken
+  pub receiver_is : taken.receiver ≡ printer
   pub giver_is : taken.giver ≡ ticket.giver
   pub reached : ticket.serial ≤ taken.serial
 

@@ -2,31 +2,35 @@
 -- them. Each would be allowed without the field that its comment names; if that field follows from others, without
 -- these too. There are two printers, which begin with 0 to 9 and with 10 to 19, and two desks. Documents of four digits
 -- are printed in labels of side 12.
-use Rattle.std.specs.Prelude.{◌≡◌, ℕ, Option, List, [], ◌∷◌, map}
+use Rattle.std.specs.Prelude.{◌≡◌, ℕ, Bool, true, false, Option, List, [], ◌∷◌, map}
 use Rattle.dm_check_blocks.specs.declared.size.Size.TheVariants.{Side12}
 use Rattle.dm_encodation.specs.declared.scheme.Scheme.TheVariants.{Ascii}
 use Rattle.dm_print_ledger.specs.declared.fault.PrintFault.TheVariants as print_fault
 use Rattle.dm_print_ledger.specs.declared.fault.TakeFault.TheVariants.{Old, Overlap, Save}
 use Rattle.dm_print_ledger.specs.declared.range.Range.{Range}
 use Rattle.dm_print_ledger.specs.Views.{TicketView}
+use Rattle.dm_append_label.specs.declared.fault.LabelFault.TheVariants.{Block}
 use Rattle.dm_assembly_desk.specs.declared.fault.ScanFault.TheVariants as scan_fault
 use Rattle.dm_print_ledger.specs.declared.fault.OpenFault.TheVariants as open_fault
 use Rattle.dm_store.specs.declared.fuse.Kept.TheVariants as kept
 use Rattle.dm_assembly_desk.specs.declared.fault.ImportFault.{ImportFault}
 use Rattle.dm_assembly_desk.specs.declared.fault.ImportFault.TheVariants as import_fault
-use Rattle.dm_assembly_desk.specs.declared.fault.AskFault.TheVariants.{Incomplete}
+use Rattle.dm_assembly_desk.specs.declared.fault.AskFault.TheVariants.{NotHeld, Incomplete}
+use Rattle.dm_assembly_desk.specs.declared.fault.ForgetFault.TheVariants as forget_fault
 use Rattle.dm_assembly_desk.specs.declared.reply.Kind.TheVariants.{New, Again, Complete}
 use Rattle.dm_assembly_desk.specs.declared.reply.Kind.{Kind}
 use Rattle.dm_assembly_desk.specs.declared.reply.Accepted.{Accepted}
+use Rattle.dm_assembly_desk.specs.declared.reply.Imported as imported_type
 use Rattle.dm_event_history.specs.declared.event.Event.{Event}
 use Rattle.dm_event_history.specs.declared.event.Event.TheVariants.{Print, Scan, RestartPrinter, RestartDesk, Ask, Forget, Give, Take, Export, Import}
 use Rattle.dm_event_history.specs.declared.reply.Reply.{Reply}
-use Rattle.dm_event_history.specs.declared.reply.Reply.TheVariants.{Printed, PrintRefused, Scanned, ScanRefused, Document, AskRefused, Forgotten, Given, Taken, TakeRefused, Exported, Imported, ImportRefused, Restarted, PrinterRefused, Stopped, Down, NoSuch, Memory}
+use Rattle.dm_event_history.specs.declared.reply.Reply.TheVariants.{Printed, PrintRefused, Scanned, ScanRefused, Document, AskRefused, Forgotten, ForgetRefused, Given, Taken, TakeRefused, Exported, Imported, ImportRefused, Restarted, PrinterRefused, Stopped, Down, NoSuch, Memory}
 use Rattle.dm_event_history.specs.declared.stop.Stop.{Stop}
 use Rattle.dm_event_history.specs.declared.stop.Stop.TheVariants.{None, BeforeSave, SaveFault, AfterLabels}
 use Rattle.dm_event_history.specs.History.{LabelName}
 use Rattle.dm_event_history.specs.Headline.{Batch, labels_of, PrintsOnceBy, IsFaithful}
 use Rattle.dm_event_history.specs.Replying.{AreReplies}
+use Rattle.dm_event_history.specs.Tainted.{Holder, AtDesk, InExport, IsTainted}
 use Rattle.dm_event_history.specs.Tickets.{TakesOnce}
 use Rattle.dm_event_history.specs.Imports.{ImportsExports}
 use Rattle.dm_event_history.specs.Worked.{digits, range, two_ranges, first_ticket}
@@ -35,8 +39,10 @@ use Rattle.dm_event_history.specs.Worked.{digits, range, two_ranges, first_ticke
 abbrev pub Run : Type 0 → Type 0
 Run A = List (Event A × Reply A)
 
+-- what desks tell is as it was printed and scanned, where each scan was found honest
 abbrev pub IsFaithfulRun : {A : Type 0} → Run A → Type 0
-IsFaithfulRun run = IsFaithful two_ranges 2 (map (λ one. one.0) run) (map (λ one. one.1) run)
+IsFaithfulRun run =
+    IsFaithful two_ranges 2 (map (λ one. one.0) run) (map (λ one. true) run) (map (λ one. one.1) run)
 
 -- no identification is printed twice, where just these labels left, in this order
 abbrev pub PrintsOnceRun : {A : Type 0} → List LabelName → Run A → Type 0
@@ -166,7 +172,116 @@ printed_after_forgotten A =
     (Forget 0 0 None, Forgotten) ∷
     (print 1 other_digits None, Printed 0 1 2) ∷ []
 
+-- `unfailed` of what may have saved: a scan is stopped at a desk whose last save had failed, and its page is forgotten
+abbrev pub saved_though_failed : (A : Type 0) → Run A
+saved_though_failed A =
+    (print 0 digits None, Printed 0 0 2) ∷
+    (Scan 0 0 [] (SaveFault kept.Old), ScanRefused scan_fault.Save) ∷
+    (Scan 0 0 [] (AfterLabels 0), Stopped) ∷
+    (RestartDesk 0, Restarted) ∷ (Forget 0 0 None, Forgotten) ∷ []
+
+-- `let_out` and `not_there`: a label is missing that left by a print which was stopped after its first
+abbrev pub missing_first_label : (A : Type 0) → Run A
+missing_first_label A = (print 0 other_digits (AfterLabels 1), Stopped) ∷ (scan 0, NoSuch) ∷ []
+
+-- ---- what a desk holds
+
+-- `agrees`: a document is missing of which a page was told as taken
+abbrev pub held_and_missing : (A : Type 0) → Run A
+held_and_missing A =
+    (print 0 digits None, Printed 0 0 2) ∷ (scan 0, Scanned (page 0 1 New)) ∷ (Ask 0 0, AskRefused NotHeld) ∷ []
+
+-- `agrees`: a document is forgotten at another desk than that at which its page was scanned
+abbrev pub forgotten_elsewhere : (A : Type 0) → Run A
+forgotten_elsewhere A =
+    (print 0 digits None, Printed 0 0 2) ∷ (scan 0, Scanned (page 0 1 New)) ∷ (Forget 1 0 None, Forgotten) ∷ []
+
+-- `agrees`: a document is forgotten twice, and no page was scanned in between
+abbrev pub forgotten_twice : (A : Type 0) → Run A
+forgotten_twice A =
+    (print 0 digits None, Printed 0 0 2) ∷
+    (scan 0, Scanned (page 0 1 New)) ∷ (Forget 0 0 None, Forgotten) ∷ (Forget 0 0 None, Forgotten) ∷ []
+
+-- `agrees`: a page is told as held that was not scanned before, one as new that was, one so that completes its
+-- document, and one as completing a document of which no other was scanned
+abbrev pub again_at_first : (A : Type 0) → Run A
+again_at_first A = (print 0 digits None, Printed 0 0 2) ∷ (scan 0, Scanned (page 0 1 Again)) ∷ []
+
+abbrev pub new_twice : (A : Type 0) → Run A
+new_twice A =
+    (print 0 digits None, Printed 0 0 2) ∷
+    (scan 0, Scanned (page 0 1 New)) ∷ (scan 0, Scanned (page 0 1 New)) ∷ []
+
+abbrev pub new_at_last : (A : Type 0) → Run A
+new_at_last A =
+    (print 0 digits None, Printed 0 0 2) ∷
+    (scan 0, Scanned (page 0 1 New)) ∷ (scan 1, Scanned (page 0 2 New)) ∷ []
+
+abbrev pub complete_at_first : (A : Type 0) → Run A
+complete_at_first A = (print 0 digits None, Printed 0 0 2) ∷ (scan 0, Scanned (page 0 1 Complete)) ∷ []
+
+-- `agrees`: a page is named as missing that was told as taken
+abbrev pub missing_though_held : (A : Type 0) → Run A
+missing_though_held A =
+    (print 0 digits None, Printed 0 0 2) ∷
+    (scan 0, Scanned (page 0 1 New)) ∷
+    (scan 1, Scanned (page 0 2 Complete)) ∷ (Ask 0 0, AskRefused (Incomplete 1)) ∷ []
+
+-- `agrees`: a document is given by another desk than that at which its labels were scanned
+abbrev pub given_elsewhere : (A : Type 0) → Run A
+given_elsewhere A =
+    (print 0 digits None, Printed 0 0 2) ∷
+    (scan 0, Scanned (page 0 1 New)) ∷
+    (scan 1, Scanned (page 0 2 Complete)) ∷ (Ask 1 0, Document digits) ∷ []
+
+-- `agrees`: a document is not held of which a page was told as taken, after a forget that can't have saved
+abbrev pub lost_by_a_refused_forget : (A : Type 0) → Run A
+lost_by_a_refused_forget A =
+    (print 0 digits None, Printed 0 0 2) ∷
+    (scan 0, Scanned (page 0 1 New)) ∷
+    (Forget 0 0 None, ForgetRefused forget_fault.Memory) ∷ (Ask 0 0, AskRefused NotHeld) ∷ []
+
+-- `agrees`: of two pages that were told as taken one is exported
+abbrev pub exported_in_part : (A : Type 0) → Run A
+exported_in_part A =
+    (print 0 digits None, Printed 0 0 2) ∷
+    (scan 0, Scanned (page 0 1 New)) ∷
+    (scan 1, Scanned (page 0 2 Complete)) ∷ (Export 0 0, Exported 0 0 2 1) ∷ []
+
+-- `agrees`: a page is added by an import at the desk that exported it
+abbrev pub added_again : (A : Type 0) → Run A
+added_again A =
+    (print 0 digits None, Printed 0 0 2) ∷
+    (scan 0, Scanned (page 0 1 New)) ∷
+    (Export 0 0, Exported 0 0 2 1) ∷
+    (Import 0 0 None, Imported (record { id = 0; n = 2; added = 1; kind = New })) ∷ []
+
+-- `agrees`: an import is told as new that completes its document
+abbrev pub imported_at_last : (A : Type 0) → Run A
+imported_at_last A =
+    (print 0 digits None, Printed 0 0 2) ∷
+    (scan 0, Scanned (page 0 1 New)) ∷
+    (Export 0 0, Exported 0 0 2 1) ∷
+    (Scan 1 1 [] None, Scanned (page 0 2 New)) ∷
+    (Import 1 0 None, Imported (record { id = 0; n = 2; added = 1; kind = New })) ∷ []
+
+-- `not_refused`: a perfect label is refused for its words
+abbrev pub refused_label : (A : Type 0) → Run A
+refused_label A = (print 0 digits None, Printed 0 0 2) ∷ (scan 0, ScanRefused (scan_fault.Label (Block 0))) ∷ []
+
+-- `not_refused`: a perfect label is refused for a conflict
+abbrev pub conflicting_label : (A : Type 0) → Run A
+conflicting_label A = (print 0 digits None, Printed 0 0 2) ∷ (scan 0, ScanRefused scan_fault.Conflict) ∷ []
+
 -- ---- prints
+
+-- `exhausted`: a printer has no identification left, though none had gone
+abbrev pub exhausted_at_first : (A : Type 0) → Run A
+exhausted_at_first A = (print 0 digits None, PrintRefused print_fault.Exhausted) ∷ []
+
+-- `too_long`: a document of four digits can't be cut
+abbrev pub too_long_of_few : (A : Type 0) → Run A
+too_long_of_few A = (print 0 other_digits None, PrintRefused print_fault.TooLong) ∷ []
 
 -- `once`: the labels of a stopped print and of a later one have one identification
 abbrev pub printed_twice : (A : Type 0) → Run A
@@ -195,6 +310,26 @@ told_twice A = (print 0 digits None, Printed 0 0 2) ∷ (print 1 other_digits No
 -- `opened`: a document is printed under an identification that no printer began with
 abbrev pub printed_beyond : (A : Type 0) → Run A
 printed_beyond A = (print 0 digits None, Printed 20 0 2) ∷ []
+
+-- `owned`: a label is told under an identification that another printer began with
+abbrev pub printed_of_another : (A : Type 0) → Run A
+printed_of_another A = (print 0 digits (AfterLabels 1), Stopped) ∷ (scan 0, Scanned (page 15 1 New)) ∷ []
+
+-- `owned`: an identification is printed of a ticket whose take was stopped before its save
+abbrev pub printed_untaken : (A : Type 0) → Run A
+printed_untaken A =
+    (Give 0 1 first_ticket.range None, Given 0 first_ticket) ∷
+    (Take 1 0 BeforeSave, Stopped) ∷
+    (RestartPrinter 1, Restarted) ∷ (print 1 digits None, Printed 5 0 2) ∷ []
+
+-- `gives_own`: numbers are given that another printer began with, and numbers that were given before
+abbrev pub given_of_another : (A : Type 0) → Run A
+given_of_another A = (Give 0 1 (range 10 12) None, Given 0 (ticket 0 (range 10 12))) ∷ []
+
+abbrev pub given_again : (A : Type 0) → Run A
+given_again A =
+    (Give 0 1 (range 0 4) None, Given 0 (ticket 0 (range 0 4))) ∷
+    (Give 0 1 (range 4 6) None, Given 1 (ticket 1 (range 4 6))) ∷ []
 
 -- `unfailed`: a label is told that left by a printer whose last save failed
 abbrev pub left_though_failed : (A : Type 0) → Run A
@@ -244,6 +379,11 @@ given_though_failed A =
     (print 0 digits (SaveFault kept.New), PrintRefused print_fault.Save) ∷
     (Give 0 1 (range 0 0) None, Given 0 (ticket 0 (range 0 0))) ∷ []
 
+-- `each`: a ticket is told for another printer than the one for which it was asked
+abbrev pub given_to_another : (A : Type 0) → Run A
+given_to_another A =
+    (Give 0 1 (range 0 4) None, Given 0 (record { giver = 0; serial = 0; receiver = 7; range = range 0 4 })) ∷ []
+
 -- `no_such` and `there`: a printer is missing that is there, and a desk answers that is not
 abbrev pub missing_printer : (A : Type 0) → Run A
 missing_printer A = (print 1 digits None, NoSuch) ∷ []
@@ -259,6 +399,13 @@ give = (Give 0 1 first_ticket.range None, Given 0 first_ticket)
 -- `once`, which follows from `given`, `rising` and `next`: a ticket is taken twice
 abbrev pub taken_twice : (A : Type 0) → Run A
 taken_twice A = give ∷ (Take 1 0 None, Taken) ∷ (Take 1 0 None, Taken) ∷ []
+
+-- `once`: a ticket is taken whose take failed with the new content kept
+abbrev pub taken_though_kept : (A : Type 0) → Run A
+taken_though_kept A =
+    give ∷
+    (Take 1 0 (SaveFault kept.New), TakeRefused Save) ∷
+    (RestartPrinter 1, Restarted) ∷ (Take 1 0 None, Taken) ∷ []
 
 -- the next ticket of the same giver
 abbrev pub second_ticket : TicketView
@@ -317,6 +464,21 @@ old_after_a_lower A =
     (Give 0 1 second_ticket.range None, Given 1 second_ticket) ∷
     (Take 1 0 None, Taken) ∷ (Take 1 1 None, TakeRefused Old) ∷ []
 
+-- `reached`: a ticket is old although the one that was taken is of another giver
+abbrev pub old_by_another_giver : (A : Type 0) → Run A
+old_by_another_giver A =
+    give ∷
+    (Give 2 1 (range 20 24) None, Given 1 (record { giver = 2; serial = 0; receiver = 1; range = range 20 24 })) ∷
+    (Take 1 1 None, Taken) ∷ (Take 1 0 None, TakeRefused Old) ∷ []
+
+-- `reached`: a ticket is old although the one take that may have saved was of a ticket for another printer
+abbrev pub old_by_another_ticket : (A : Type 0) → Run A
+old_by_another_ticket A =
+    give ∷
+    (Give 0 7 (range 5 9) None, Given 1 (record { giver = 0; serial = 1; receiver = 7; range = range 5 9 })) ∷
+    (Take 1 1 (AfterLabels 0), Stopped) ∷
+    (RestartPrinter 1, Restarted) ∷ (Take 1 0 None, TakeRefused Old) ∷ []
+
 -- `reached`: a ticket is old although the one take of it was stopped before its save
 abbrev pub old_unsaved : (A : Type 0) → Run A
 old_unsaved A =
@@ -341,8 +503,12 @@ missing_ticket A = give ∷ (Take 1 0 None, NoSuch) ∷ []
 
 -- ---- exports
 
+-- page or pages that an import adds to a document of two pages
+abbrev pub imported : ℕ → ℕ → imported_type.Imported
+imported id added = record { id = id; n = 2; added = added; kind = New }
+
 abbrev pub import : {A : Type 0} → ℕ → ℕ → Event A × Reply A
-import id added = (Import 1 0 None, Imported (record { id = id; n = 2; added = added; kind = New }))
+import id added = (Import 1 0 None, Imported (imported id added))
 
 -- `exported`: another document is imported than was exported, and page 2 is from an export of page 1
 abbrev pub imported_another_document : (A : Type 0) → Run A
@@ -350,6 +516,12 @@ imported_another_document A = (Export 0 0, Exported 0 0 2 1) ∷ import 1 1 ∷ 
 
 abbrev pub imported_another_page : (A : Type 0) → Run A
 imported_another_page A = (Export 0 0, Exported 0 0 2 1) ∷ import 0 2 ∷ []
+
+-- `exported`: nothing is added, and another document is told than was exported
+abbrev pub imported_none_of_another : (A : Type 0) → Run A
+imported_none_of_another A =
+    (Export 0 0, Exported 0 0 2 1) ∷
+    (Import 1 0 None, Imported (record { id = 5; n = 9; added = 0; kind = Again })) ∷ []
 
 -- `numbered`, which follows from `next`: two exports have one number
 abbrev pub exported_twice : (A : Type 0) → Run A
@@ -365,6 +537,50 @@ refused_unexported A = (Import 0 0 None, Memory) ∷ []
 
 abbrev pub missing_export : (A : Type 0) → Run A
 missing_export A = (Export 0 0, Exported 0 0 2 1) ∷ (Import 0 0 None, NoSuch) ∷ []
+
+-- ---- what is tainted
+
+-- events, each with whether it was found honest, and with its reply, of four desks
+abbrev pub MarkedRun : Type 0 → Type 0
+MarkedRun A = List (Event A × Bool × Reply A)
+
+abbrev pub IsFaithfulMarked : {A : Type 0} → MarkedRun A → Type 0
+IsFaithfulMarked run =
+    IsFaithful two_ranges 4 (map (λ one. one.0) run) (map (λ one. one.1) run) (map (λ one. one.2) run)
+
+abbrev pub IsTaintedIn : {A : Type 0} → MarkedRun A → ℕ → Holder → Type 0
+IsTaintedIn run i holder =
+    IsTainted (map (λ one. one.0) run) (map (λ one. one.1) run) (map (λ one. one.2) run) i holder
+
+-- `given`, of a desk that is not tainted: a dishonest scan taints desk 2, and by an export of it desk 3. Desk 1 is not
+-- tainted: its import of that export was refused. Nor is desk 0: it imported another one, and its own dishonest scan
+-- comes later. So at both a document that was never printed is not to be given.
+abbrev pub wrong_at : (A : Type 0) → ℕ → MarkedRun A
+wrong_at A desk =
+    (print 0 digits None, true, Printed 0 0 2) ∷
+    (Scan 1 0 [] None, true, Scanned (page 0 1 New)) ∷
+    (Export 1 0, true, Exported 0 0 2 1) ∷
+    (Scan 2 0 ((0, 0) ∷ []) None, false, Scanned (page 9 1 New)) ∷
+    (Export 2 9, true, Exported 1 9 2 1) ∷
+    (Import 1 1 None, true, ImportRefused import_fault.Memory) ∷
+    (Import 3 1 None, true, Imported (imported 9 1)) ∷
+    (Import 0 0 None, true, Imported (imported 0 1)) ∷
+    (Ask desk 0, true, Document other_digits) ∷
+    (Scan 0 0 ((0, 0) ∷ []) None, false, Scanned (page 9 1 New)) ∷
+    (Scan 1 0 ((0, 0) ∷ []) None, false, Scanned (page 9 1 New)) ∷ []
+
+-- `given`, of a desk that is not tainted: its dishonest scan was refused
+abbrev pub wrong_after_a_refused_scan : (A : Type 0) → MarkedRun A
+wrong_after_a_refused_scan A =
+    (print 0 digits None, true, Printed 0 0 2) ∷
+    (Scan 0 0 ((0, 0) ∷ []) None, false, ScanRefused (scan_fault.Label (Block 0))) ∷
+    (Ask 0 0, true, Document other_digits) ∷ []
+
+-- what the dishonest scan taints
+pub record IsTaintedSo (A : Type 0) : Type 0 where
+  pub scanning : IsTaintedIn (wrong_at A 0) 8 (AtDesk 2)
+  pub exporting : IsTaintedIn (wrong_at A 0) 8 (InExport 1)
+  pub importing : IsTaintedIn (wrong_at A 0) 8 (AtDesk 3)
 
 -- ---- the laws
 
@@ -385,6 +601,7 @@ pub record AreUnfaithful (A : Type 0) : Type 0 where
   pub two_documents_is : ¬ IsFaithfulRun (two_documents A)
   pub wrong_of_two_is : ¬ IsFaithfulRun (wrong_of_two A)
   pub refused_unprinted_is : ¬ IsFaithfulRun (refused_unprinted A)
+  pub missing_first_label_is : ¬ IsFaithfulRun (missing_first_label A)
   pub missing_label_is : ¬ IsFaithfulRun (missing_label A)
   pub begun_unscanned_is : ¬ IsFaithfulRun (begun_unscanned A)
   pub exported_unscanned_is : ¬ IsFaithfulRun (exported_unscanned A)
@@ -393,8 +610,33 @@ pub record AreUnfaithful (A : Type 0) : Type 0 where
   pub printed_unseen_is : ¬ PrintsOnceRun unseen_labels (printed_unseen A)
   pub told_twice_is : ¬ IsFaithfulRun (told_twice A)
   pub printed_beyond_is : ¬ IsFaithfulRun (printed_beyond A)
+  pub printed_of_another_is : ¬ IsFaithfulRun (printed_of_another A)
+  pub printed_untaken_is : ¬ IsFaithfulRun (printed_untaken A)
+  pub given_of_another_is : ¬ IsFaithfulRun (given_of_another A)
+  pub given_again_is : ¬ IsFaithfulRun (given_again A)
   pub left_though_failed_is : ¬ IsFaithfulRun (left_though_failed A)
   pub never_left_is : ¬ IsFaithfulRun (never_left A)
+  pub saved_though_failed_is : ¬ IsFaithfulRun (saved_though_failed A)
+  pub held_and_missing_is : ¬ IsFaithfulRun (held_and_missing A)
+  pub forgotten_elsewhere_is : ¬ IsFaithfulRun (forgotten_elsewhere A)
+  pub forgotten_twice_is : ¬ IsFaithfulRun (forgotten_twice A)
+  pub again_at_first_is : ¬ IsFaithfulRun (again_at_first A)
+  pub new_twice_is : ¬ IsFaithfulRun (new_twice A)
+  pub new_at_last_is : ¬ IsFaithfulRun (new_at_last A)
+  pub complete_at_first_is : ¬ IsFaithfulRun (complete_at_first A)
+  pub missing_though_held_is : ¬ IsFaithfulRun (missing_though_held A)
+  pub given_elsewhere_is : ¬ IsFaithfulRun (given_elsewhere A)
+  pub lost_by_a_refused_forget_is : ¬ IsFaithfulRun (lost_by_a_refused_forget A)
+  pub imported_at_last_is : ¬ IsFaithfulRun (imported_at_last A)
+  pub exported_in_part_is : ¬ IsFaithfulRun (exported_in_part A)
+  pub added_again_is : ¬ IsFaithfulRun (added_again A)
+  pub refused_label_is : ¬ IsFaithfulRun (refused_label A)
+  pub conflicting_label_is : ¬ IsFaithfulRun (conflicting_label A)
+  pub exhausted_at_first_is : ¬ IsFaithfulRun (exhausted_at_first A)
+  pub too_long_of_few_is : ¬ IsFaithfulRun (too_long_of_few A)
+  pub wrong_after_a_refused_scan_is : ¬ IsFaithfulMarked (wrong_after_a_refused_scan A)
+  pub wrong_after_another_import_is : ¬ IsFaithfulMarked (wrong_at A 0)
+  pub wrong_after_a_refused_import_is : ¬ IsFaithfulMarked (wrong_at A 1)
   pub another_call_is : ¬ AreRepliesRun (another_call A)
   pub stopped_unasked_is : ¬ AreRepliesRun (stopped_unasked A)
   pub forgotten_with_a_fault_is : ¬ AreRepliesRun (forgotten_with_a_fault A)
@@ -405,10 +647,12 @@ pub record AreUnfaithful (A : Type 0) : Type 0 where
   pub down_unstopped_is : ¬ AreRepliesRun (down_unstopped A)
   pub failed_before_a_fault_is : ¬ AreRepliesRun (failed_before_a_fault A)
   pub given_though_failed_is : ¬ AreRepliesRun (given_though_failed A)
+  pub given_to_another_is : ¬ AreRepliesRun (given_to_another A)
   pub missing_printer_is : ¬ AreRepliesRun (missing_printer A)
   pub third_desk_is : ¬ AreRepliesRun (third_desk A)
   pub numbered_twice_is : ¬ TakesOnceRun (numbered_twice A)
   pub taken_twice_is : ¬ TakesOnceRun (taken_twice A)
+  pub taken_though_kept_is : ¬ TakesOnceRun (taken_though_kept A)
   pub taken_elsewhere_is : ¬ TakesOnceRun (taken_elsewhere A)
   pub overlaps_is : ¬ TakesOnceRun (overlaps A)
   pub one_serial_is : ¬ TakesOnceRun (one_serial A)
@@ -418,12 +662,15 @@ pub record AreUnfaithful (A : Type 0) : Type 0 where
   pub taken_falling_is : ¬ TakesOnceRun (taken_falling A)
   pub old_at_first_is : ¬ TakesOnceRun (old_at_first A)
   pub old_after_a_lower_is : ¬ TakesOnceRun (old_after_a_lower A)
+  pub old_by_another_giver_is : ¬ TakesOnceRun (old_by_another_giver A)
+  pub old_by_another_ticket_is : ¬ TakesOnceRun (old_by_another_ticket A)
   pub old_unsaved_is : ¬ TakesOnceRun (old_unsaved A)
   pub old_though_failed_is : ¬ TakesOnceRun (old_though_failed A)
   pub refused_ungiven_is : ¬ TakesOnceRun (refused_ungiven A)
   pub missing_ticket_is : ¬ TakesOnceRun (missing_ticket A)
   pub imported_another_document_is : ¬ ImportsExportsRun (imported_another_document A)
   pub imported_another_page_is : ¬ ImportsExportsRun (imported_another_page A)
+  pub imported_none_of_another_is : ¬ ImportsExportsRun (imported_none_of_another A)
   pub exported_twice_is : ¬ ImportsExportsRun (exported_twice A)
   pub exported_above_is : ¬ ImportsExportsRun (exported_above A)
   pub refused_unexported_is : ¬ ImportsExportsRun (refused_unexported A)

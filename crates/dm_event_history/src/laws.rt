@@ -3,7 +3,7 @@
 
 ghost use Rattle.dm_event_history.specs.Laws.{EachNumberHasAPlace, FreeIsFresh, LegalImportsExports, LegalPrintsOnce, LegalTakesOnce, NothingTwice};
 ghost use Rattle.dm_event_history.specs.Laws.{LabelsAreOpened, NoLabelTwice, TicketsAreElsewhere, SurelyIsPossibly, LegalAndSafeIsFaithful};
-ghost use Rattle.dm_event_history.specs.Unfaithful.{AreUnfaithful, IsOneFaithful};
+ghost use Rattle.dm_event_history.specs.Unfaithful.{AreUnfaithful, IsOneFaithful, IsTaintedSo};
 ghost use Rattle.dm_event_history.specs.Worked.{MovedIs, NotSo, StoppedIs, TravelledIs};
 
 use std::alloc::Allocator;
@@ -32,7 +32,7 @@ pub fn tickets_are_elsewhere<A: Allocator>()
     ensures { TicketsAreElsewhere A }
 {}
 
-/// In a safe history what a desk surely holds it possibly holds.
+/// In a legal and safe history what a clean desk surely holds it possibly holds.
 pub fn surely_is_possibly<A: Allocator>()
     ensures { SurelyIsPossibly A }
 {}
@@ -53,9 +53,9 @@ pub fn legal_imports_exports<A: Allocator>()
     ensures { LegalImportsExports A }
 {}
 
-/// The headline: in a legal and safe history of printers that begin with disjoint ranges, where fair scans and imports
-/// are refused as in an honest one, whatever document any desk gives for an identification is the one document printed
-/// under it, and no identification is ever printed twice.
+/// The headline: in a legal and safe history of printers that begin with disjoint ranges, in which clean desks refuse
+/// what is fair for these reasons alone, whatever document a desk that is not tainted gives for an identification is
+/// the one document printed under it, and no identification is ever printed twice.
 pub fn legal_and_safe_is_faithful<A: Allocator>()
     ensures { LegalAndSafeIsFaithful A }
 {}
@@ -69,9 +69,10 @@ pub fn worked_histories<A: Allocator>()
     ensures not_so { NotSo A }
 {}
 
-/// Runs of events and replies: one that is faithful, and those that are not, or whose tickets are not taken once, each
-/// of which is refuted.
+/// Runs of events and replies: one that is faithful, those that are not, or whose tickets are not taken once, each of
+/// which is refuted, and what a dishonest scan taints.
 pub fn worked_runs<A: Allocator>()
     ensures faithful { IsOneFaithful A }
     ensures unfaithful { AreUnfaithful A }
+    ensures tainted { IsTaintedSo A }
 {}

@@ -8,9 +8,10 @@
 //! are safe.
 //!
 //! Proved ([`laws`]): in a legal history of printers that begin with disjoint ranges each identification is in just
-//! one place, none is printed twice and no ticket is taken twice. In a safe one what is surely held is possibly held.
-//! And of a history that is legal and safe, with disjoint ranges and honest replies, the headline stands, which
-//! speaks of events and replies alone (`specs/Headline`).
+//! one place, none is printed twice and no ticket is taken twice. In a safe one what a clean desk surely holds it
+//! possibly holds. And of a history that is legal and safe, with disjoint ranges and honest replies, the headline
+//! stands (`specs/Headline`), which speaks of events and replies alone, and of which scans were found honest. A scan
+//! that was not taints its desk, and those that import pages from there (`specs/Tainted`).
 #![tactic(auto)]
 
 mod bytes;

@@ -23,7 +23,8 @@ use Rattle.dm_event_history.specs.Actors.{DeskAt}
 use Rattle.dm_event_history.specs.History.{Entry, History, CutDocument, docs}
 use Rattle.dm_event_history.specs.Running.{down_after, failed_after, is_failed}
 use Rattle.dm_event_history.specs.Legal.{IsLegal}
-use Rattle.dm_event_history.specs.Safe.{IsReplySafe, IsNotSurelyHeld, IsTrueDocument, IsTrulyMissing}
+use Rattle.dm_event_history.specs.Safe.{known_of, IsReplySafe}
+use Rattle.dm_event_history.specs.Telling.{IsNotSurelyHeld, IsTrueDocument, IsTrulyMissing}
 use Rattle.dm_event_history.proofs.Deciding.{decided}
 use Rattle.dm_event_history.proofs.Printed.{printed_cut}
 use Rattle.dm_event_history.proofs.WhoActs.{is_down_same, is_failed_same}
@@ -48,7 +49,7 @@ some_none (Some b) x y = cc
 
 -- of a document of which no page is held none is surely held
 pub not_surely : {A : Type 0} (h : History A) (d id : ℕ) (held : Documents) → IsGathered h d held →
-    finite.get held id ≡ None → IsNotSurelyHeld h d id
+    finite.get held id ≡ None → IsNotSurelyHeld (known_of h) d id
 not_surely h d id held g none m surely =
     some_none (page_at held id m) (g.surely id m surely) (ap (λ (o : Option Pages). page (unwrap_or o []) m) none ∙
     no_page m)
@@ -89,7 +90,7 @@ true_document : {A : Type 0} (ranges : List Range) (desks : ℕ) (h : History A)
     (pages : Pages) (bytes : List ℕ) →
     IsLegal ranges desks h → IsGathered h d held → finite.get held id ≡ Some pages → list_all is_some pages ≡ true →
     bytes ≡ document_of pages →
-    IsTrueDocument h d id bytes
+    IsTrueDocument (known_of h) d id bytes
 true_document ranges desks h d id held pages bytes legal g is all same =
     let t = counted_is h d id held pages g is in
     let cut : CutDocument = t.0 in
@@ -142,7 +143,7 @@ one_missing (Some x ∷ ps) none = (let t = one_missing ps none in later t.0 t.1
 truly_missing : {A : Type 0} (h : History A) (d id missing : ℕ) (held : Documents) (pages : Pages) →
     IsGathered h d held → AreEntries held →
     finite.get held id ≡ Some pages → list_all is_some pages ≡ false → ((m : ℕ) → names missing m ≡ lacks pages m) →
-    IsTrulyMissing h d id missing
+    IsTrulyMissing (known_of h) d id missing
 truly_missing h d id missing held pages g entries is some same =
     let t = counted_is h d id held pages g is in
     let first = one_missing pages some in

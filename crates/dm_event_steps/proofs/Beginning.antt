@@ -23,7 +23,7 @@ use Rattle.dm_event_steps.specs.DeskStands.{DeskStands}
 use Rattle.dm_event_steps.specs.StandsFor.{StandsFor}
 use Rattle.dm_event_steps.specs.Beginning.{IsFresh, IsEmptyDesk, AreFresh, AreEmpty}
 use Rattle.dm_event_steps.proofs.Gathering.{gathered_none}
-use Rattle.dm_event_steps.proofs.WorldGoing.{other_has}
+use Rattle.dm_event_history.proofs.Gotten.{other_has}
 
 or_none : (b : Bool) → (b || false) ≡ b
 or_none true = refl
@@ -85,8 +85,8 @@ pub begins : {A : Type 0} (ranges : List Range) (capacities : List ℕ) (printer
 begins {A} ranges capacities printers desks apart fresh empty = record {
   disjoint = apart;
   legal = tt;
-  safe = λ honest. tt;
-  answers = λ honest. tt;
+  safe = tt;
+  answers = tt;
   left = record { names = refl; tickets_are = refl };
   labels = λ i label here. cc;
   export_names = refl;

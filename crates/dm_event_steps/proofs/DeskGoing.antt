@@ -19,13 +19,14 @@ use Rattle.dm_event_history.specs.declared.reply.Reply.TheVariants.{Stopped, Dow
 use Rattle.dm_event_history.specs.declared.stop.Stop.{Stop}
 use Rattle.dm_event_history.specs.declared.stop.Stop.TheVariants.{BeforeSave, InSave, SaveFault, AfterLabels}
 use Rattle.dm_event_history.specs.declared.stop.Stop.TheVariants as stops
-use Rattle.dm_event_history.specs.Actors.{DeskAt, actor_of}
-use Rattle.dm_event_history.specs.History.{Entry, History, docs}
+use Rattle.dm_event_history.specs.Actors.{PrinterAt, DeskAt, actor_of}
+use Rattle.dm_event_history.specs.History.{Entry, History, docs, exports}
 use Rattle.dm_event_history.specs.Running.{down_after, is_down, failed_after, is_failed, IsOfFailed}
 use Rattle.dm_event_history.specs.Saving.{tells_of_save}
 use Rattle.dm_event_history.specs.Holding.{Takes, Forgets}
 use Rattle.dm_event_history.specs.Legal.{Fits, IsThere, IsStopped, IsStopping, NeedsRunning}
-use Rattle.dm_event_history.specs.Honest.{IsFair, IsHonest, IsHonestReply}
+use Rattle.dm_event_history.specs.Tainted.{AtDesk}
+use Rattle.dm_event_history.specs.Honest.{IsClean, BringsClean, IsHonestReply}
 use Rattle.dm_event_history.specs.Safe.{IsReplySafe}
 use Rattle.dm_event_history.proofs.WhoActs.{is_down_same, is_failed_same}
 use Rattle.dm_event_steps.specs.declared.actor.DeskState.{DeskState}
@@ -73,6 +74,8 @@ desk_fits ranges desks h event reply d c = record {
   stops = λ _ up is. c.stops (sym (ap (is_down h) c.named) ∙ up) is;
   failed = λ was. (c.failed (sym (ap (is_failed h) c.named) ∙ was), refl);
   told = λ tells. absurd (c.untold tells);
+  kept = λ q number asked is.
+      absurd (let x : DeskAt d ≡ PrinterAt q = sym c.named ∙ ap actor_of asked in cc (x));
   left_saved = λ none. absurd (omega arith);
   saved = λ x. cc;
   moves = λ x. cc;
@@ -88,8 +91,8 @@ not_failed grids h d capacity view s was P failed = absurd (let x = s.failed in 
 -- a set stands on, if it is as it was and what the entry takes is held already
 pub set_keeps : {A : Type 0} (e : Entry A) (h : History A) (grids all : List GridView) (d capacity : ℕ)
     (saved : SavedSet) (held : Documents) →
-    (IsHonest all (e ∷ h) → IsHonest grids h) → (0 < e.left → docs h e.id ≡ None) →
-    ((id m : ℕ) → Takes h e.event e.reply d id m → IsSome (page_at held id m)) →
+    (IsClean all (e ∷ h) (AtDesk d) → IsClean grids h (AtDesk d)) → (0 < e.left → docs h e.id ≡ None) →
+    ((id m : ℕ) → Takes (exports h) e.event e.reply d id m → IsSome (page_at held id m)) →
     ((id : ℕ) → ¬ Forgets e.event e.reply d id) →
     SetStands grids h d capacity saved held → SetStands all (e ∷ h) d capacity saved held
 set_keeps e h grids all d capacity saved held back fresh takes stays s = record {
@@ -102,10 +105,11 @@ set_keeps e h grids all d capacity saved held back fresh takes stays s = record 
 -- a running desk stands on, if it is as it was and what the entry takes is held already
 pub running_keeps : {A : Type 0} (e : Entry A) (h : History A) (grids all : List GridView) (d capacity : ℕ)
     (view : DeskView) →
-    (IsHonest all (e ∷ h) → IsHonest grids h) → (0 < e.left → docs h e.id ≡ None) →
+    (IsClean all (e ∷ h) (AtDesk d) → IsClean grids h (AtDesk d)) → (0 < e.left → docs h e.id ≡ None) →
     is_down (e ∷ h) (DeskAt d) ≡ false → is_failed (e ∷ h) (DeskAt d) ≡ is_failed h (DeskAt d) →
     (s : DeskRuns grids h d capacity view) →
-    ((id m : ℕ) → Takes h e.event e.reply d id m → IsSome (page_at view.held id m) × IsSome (page_at s.stored id m)) →
+    ((id m : ℕ) → Takes (exports h) e.event e.reply d id m →
+    IsSome (page_at view.held id m) × IsSome (page_at s.stored id m)) →
     ((id : ℕ) → ¬ Forgets e.event e.reply d id) → DeskRuns all (e ∷ h) d capacity view
 running_keeps e h grids all d capacity view back fresh up failed s takes stays = record {
   up = up;
@@ -164,10 +168,11 @@ pub desk_kept : {A : Type 0} (ranges : List Range) (capacities : List ℕ) (grid
     after ≡ view →
     IsTold ranges (length capacities) h event reply d → down_after reply false ≡ false →
     failed_after reply (is_failed h (DeskAt d)) ≡ is_failed h (DeskAt d) →
-    ((id m : ℕ) → Takes h event reply d id m → IsSome (page_at view.held id m) × IsSome (page_at s.stored id m)) →
+    ((id m : ℕ) → Takes (exports h) event reply d id m →
+    IsSome (page_at view.held id m) × IsSome (page_at s.stored id m)) →
     ((id : ℕ) → ¬ Forgets event reply d id) →
-    (IsHonest grids (quiet event reply ∷ h) → IsReplySafe h event reply) →
-    (IsFair grids event → IsHonest grids h → IsHonestReply grids capacities h event reply) →
+    (IsClean grids (quiet event reply ∷ h) (AtDesk d) → IsReplySafe h event reply) →
+    (BringsClean grids h event → IsClean grids h (AtDesk d) → IsHonestReply grids capacities h event reply) →
     DeskGoes ranges capacities grids h event reply d capacity (desks.Running after)
 desk_kept {A} ranges capacities grids h event reply d capacity view after room s same told up failed takes stays safe
     answers =
@@ -191,7 +196,7 @@ pub set_saved : {A : Type 0} (grids : List GridView) (e : Entry A) (h : History 
     (content : Contents) (held : Documents) → IsReadySet view.saved →
     Saves (desk_planned view plan).saved content Done mid.saved →
     Holds held (desk_planned view plan) mid → finite.len held ≤ capacity →
-    (IsHonest grids (e ∷ h) → IsGathered (e ∷ h) d held) →
+    (IsClean grids (e ∷ h) (AtDesk d) → IsGathered (e ∷ h) d held) →
     SetStands grids (e ∷ h) d capacity (desk_planned mid next_save.Fine).saved held
 set_saved grids e h d capacity view mid plan content held ready saves holding few gathered = record {
   ready = ready_set view mid plan content Done ready saves;
@@ -209,9 +214,9 @@ pub desk_saves : {A : Type 0} (ranges : List Range) (capacities : List ℕ) (gri
     Holds held (desk_planned view plan) mid →
     finite.len held ≤ capacity → IsTold ranges (length capacities) h event reply d → down_after reply false ≡ false →
     failed_after reply (is_failed h (DeskAt d)) ≡ is_failed h (DeskAt d) →
-    (IsHonest grids (quiet event reply ∷ h) → IsGathered (quiet event reply ∷ h) d held) →
-    (IsHonest grids (quiet event reply ∷ h) → IsReplySafe h event reply) →
-    (IsFair grids event → IsHonest grids h → IsHonestReply grids capacities h event reply) →
+    (IsClean grids (quiet event reply ∷ h) (AtDesk d) → IsGathered (quiet event reply ∷ h) d held) →
+    (IsClean grids (quiet event reply ∷ h) (AtDesk d) → IsReplySafe h event reply) →
+    (BringsClean grids h event → IsClean grids h (AtDesk d) → IsHonestReply grids capacities h event reply) →
     DeskGoes ranges capacities grids h event reply d capacity (desks.Running (desk_planned mid next_save.Fine))
 desk_saves {A} ranges capacities grids h event reply d capacity view mid plan content held room s saves holding few told
     up failed gathered safe answers =
@@ -256,10 +261,11 @@ pub desk_fails : {A : Type 0} (ranges : List Range) (capacities : List ℕ) (gri
     finite.len (kept_held k view.held held) ≤ capacity → IsTold ranges (length capacities) h event reply d →
     down_after reply false ≡ false →
     failed_after reply (is_failed h (DeskAt d)) ≡ true →
-    (IsHonest grids (quiet event reply ∷ h) → IsGathered (quiet event reply ∷ h) d (kept_held k view.held held)) →
-    (IsHonest grids (quiet event reply ∷ h) → IsGathered (quiet event reply ∷ h) d view.held) →
-    (IsHonest grids (quiet event reply ∷ h) → IsReplySafe h event reply) →
-    (IsFair grids event → IsHonest grids h → IsHonestReply grids capacities h event reply) →
+    (IsClean grids (quiet event reply ∷ h) (AtDesk d) →
+    IsGathered (quiet event reply ∷ h) d (kept_held k view.held held)) →
+    (IsClean grids (quiet event reply ∷ h) (AtDesk d) → IsGathered (quiet event reply ∷ h) d view.held) →
+    (IsClean grids (quiet event reply ∷ h) (AtDesk d) → IsReplySafe h event reply) →
+    (BringsClean grids h event → IsClean grids h (AtDesk d) → IsHonestReply grids capacities h event reply) →
     DeskGoes ranges capacities grids h event reply d capacity (desks.Running (desk_planned mid next_save.Fine))
 desk_fails {A} ranges capacities grids h event reply d capacity view mid k content held room s saves fails few told up
     failed stored shown safe answers =
@@ -314,7 +320,7 @@ pub desk_down : {A : Type 0} (ranges : List Range) (capacities : List ℕ) (grid
     actor_of event ≡ DeskAt d →
     IsThere (length ranges) (length capacities) h event → NeedsRunning event →
     (let none : Reply A = Down in IsFine ranges h 0 event none) →
-    DeskLiesDown grids h d capacity saved → ((id m : ℕ) → (let none : Reply A = Down in ¬ Takes h event none d id m)) →
+    DeskLiesDown grids h d capacity saved → ((id m : ℕ) → (let none : Reply A = Down in ¬ Takes (exports h) event none d id m)) →
     ((id : ℕ) → (let none : Reply A = Down in ¬ Forgets event none d id)) →
     (let none : Reply A = Down in IsReplySafe h event none) →
     (let none : Reply A = Down in IsHonestReply grids capacities h event none) →
@@ -357,7 +363,7 @@ pub memory_goes : {A : Type 0} (ranges : List Range) (capacities : List ℕ) (gr
     DeskRuns grids h d capacity view →
     actor_of event ≡ DeskAt d → IsThere (length ranges) (length capacities) h event →
     (let none : Reply A = Memory in IsFine ranges h 0 event none) →
-    ((id m : ℕ) → (let none : Reply A = Memory in ¬ Takes h event none d id m)) →
+    ((id m : ℕ) → (let none : Reply A = Memory in ¬ Takes (exports h) event none d id m)) →
     ((id : ℕ) → (let none : Reply A = Memory in ¬ Forgets event none d id)) →
     (let none : Reply A = Memory in IsReplySafe h event none) →
     (let none : Reply A = Memory in IsHonestReply grids capacities h event none) →

@@ -1,5 +1,5 @@
 -- An export at a running desk gives an entry that fits the history, and shows its pages.
-use Rattle.std.proofs.Common.{◌≡◌, ◌≢◌, ◌<◌, ℕ, zero, suc, Bool, true, false, Option, Some, None, Err, List, [], ◌∷◌, length, map, slice_get, IsSome, refl, ap, sym, ◌∙◌, subst}
+use Rattle.std.proofs.Common.{◌+◌, ◌≡◌, ◌≢◌, ◌<◌, ℕ, zero, suc, Bool, true, false, Option, Some, None, Err, List, [], ◌∷◌, length, map, slice_get, IsSome, refl, ap, sym, ◌∙◌, subst, arith}
 use Rattle.std.specs.Prelude.{is_some}
 use Rattle.std.specs.FinMap as finite
 use Rattle.std.proofs.lemmas.List.{length-map, append-nil}
@@ -131,25 +131,29 @@ export_goes {A} ranges capacities grids h d id capacity reply view state old new
         (λ fair honest. tt))
 
     shown : (tells : Reply A) (r : Reply A) → (x : ExportsPages view id old r new) →
-        ShowsPages grids (quiet (Export d id) tells ∷ h) x.export
-    shown tells r x = record {
+        tells ≡ Exported (length old + 0) x.export.id x.export.count x.export.mask →
+        ShowsPages grids (quiet (Export d id) tells ∷ h) (length old + 0) x.export
+    shown tells r x tells_is = record {
       pages = x.pages;
       spells = subst (λ (i : ℕ). Spells i x.export.bytes x.pages) (sym x.id_is)
           (record { sound = x.order.entries id x.pages x.are_held; spelled = x.bytes_are });
       count_is = x.count_is;
       mask_is = x.mask_is;
-      parts = λ honest. subst (λ (i : ℕ). AreParts (quiet (Export d id) tells ∷ h) i x.pages) (sym x.id_is)
+      parts = λ clean. subst (λ (i : ℕ). AreParts (quiet (Export d id) tells ∷ h) i x.pages) (sym x.id_is)
           (parts_keep (quiet (Export d id) tells) h id x.pages (λ y. none_leaves {A = A} (Export d id) tells _ y)
-          (parts_held h d id view.held x.pages (s.gathered honest.1) x.are_held));
+          (parts_held h d id view.held x.pages
+          (s.gathered (clean.0 d id x.export.id x.export.count x.export.mask refl tells_is)) x.are_held));
     }
 
-    one_shows : (tells : Reply A) (r : Reply A) → (x : ExportsPages view id old r new) → (i : ℕ) (y : LeftExport A) →
+    one_shows : (tells : Reply A) (r : Reply A) → (x : ExportsPages view id old r new) →
+        tells ≡ Exported (length old + 0) x.export.id x.export.count x.export.mask → (i : ℕ) (y : LeftExport A) →
         slice_get (x.export ∷ []) i ≡ Some y →
-        ShowsPages grids (quiet (Export d id) tells ∷ h) y
-    one_shows tells r x zero y here =
+        ShowsPages grids (quiet (Export d id) tells ∷ h) (length old + i) y
+    one_shows tells r x tells_is zero y here =
         (let is : x.export ≡ y = cc in
-        subst (λ (z : LeftExport A). ShowsPages grids (quiet (Export d id) tells ∷ h) z) is (shown tells r x))
-    one_shows tells r x (suc i) y here = cc
+        subst (λ (z : LeftExport A). ShowsPages grids (quiet (Export d id) tells ∷ h) (length old + 0) z) is
+        (shown tells r x tells_is))
+    one_shows tells r x tells_is (suc i) y here = cc
 
     told : (r : Reply A) → ExportsPages view id old r new →
         DeskGoes ranges capacities grids h (Export d id) r d capacity state × ExportsGo grids h (Export d id) r old new
@@ -178,7 +182,8 @@ export_goes {A} ranges capacities grids h d id capacity reply view state old new
             more = x.export ∷ [];
             exports_are = x.new_is;
             names = refl;
-            shows = one_shows tells r x;
+            shows = one_shows tells r x
+                (ap (λ (k : ℕ). Exported k x.export.id x.export.count x.export.mask) (omega arith));
           },
         )
 

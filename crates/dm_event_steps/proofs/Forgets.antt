@@ -32,8 +32,10 @@ use Rattle.dm_event_history.specs.Running.{failed_after, is_failed, IsOfFailed}
 use Rattle.dm_event_history.specs.Saving.{may_save}
 use Rattle.dm_event_history.specs.Holding.{Forgets, IsPossiblyHeld}
 use Rattle.dm_event_history.specs.Legal.{IsForgetRefused}
-use Rattle.dm_event_history.specs.Honest.{IsHonest}
-use Rattle.dm_event_history.specs.Safe.{IsForgetSafe}
+use Rattle.dm_event_history.specs.Tainted.{AtDesk}
+use Rattle.dm_event_history.specs.Honest.{IsClean}
+use Rattle.dm_event_history.specs.Safe.{known_of}
+use Rattle.dm_event_history.specs.Telling.{IsForgetSafe}
 use Rattle.dm_event_steps.specs.declared.actor.DeskState.{DeskState}
 use Rattle.dm_event_steps.specs.declared.actor.DeskState.TheVariants as desks
 use Rattle.dm_event_steps.specs.Acts.{IsCalled, next_save_of}
@@ -101,14 +103,14 @@ some_possibly {A} h d id held g entries some = by_pages (finite.get held id) ref
 -- what is gathered without the document, which the event may have forgotten
 gathered_less : {A : Type 0} (grids : List GridView) (h : History A) (d id capacity : ℕ) (stop : Stop) (reply : Reply A)
     (view : DeskView) →
-    DeskRuns grids h d capacity view → may_save (Forget d id stop) reply ≡ true →
+    DeskRuns grids h d capacity view → may_save (Forget d id stop) reply ≡ true → view.is_failed ≡ false →
     ((other : ℕ) → other ≢ id → ¬ Forgets (Forget d id stop) reply d other) →
-    IsHonest grids (quiet (Forget d id stop) reply ∷ h) →
+    IsClean grids (quiet (Forget d id stop) reply ∷ h) (AtDesk d) →
     IsGathered (quiet (Forget d id stop) reply ∷ h) d (finite.remove view.held id)
-gathered_less {A} grids h d id capacity stop reply view s may stays honest =
+gathered_less {A} grids h d id capacity stop reply view s may was stays honest =
     gathered_without (quiet (Forget d id stop) reply) h d view.held (finite.remove view.held id) id
     (λ x. none_leaves (Forget d id stop) reply _ x)
-    (λ i m t. absurd t) (refl, refl, may) stays (holds_without view.held id) (s.gathered honest.1)
+    (λ i m t. absurd t) ((refl, refl, may), sym s.failed ∙ was) stays (holds_without view.held id) (s.gathered honest.1)
 
 -- a forget that is refused, and leaves the desk as it was
 refused_goes : {A : Type 0} (ranges : List Range) (capacities : List ℕ) (grids : List GridView) (h : History A)
@@ -118,8 +120,8 @@ refused_goes : {A : Type 0} (ranges : List Range) (capacities : List ℕ) (grids
     mid ≡ desk_planned view (next_save_of stop) →
     ((b : Bool) → (let reply : Reply A = ForgetRefused fault in failed_after reply b ≡ b)) →
     (let reply : Reply A = ForgetRefused fault in is_failed h (DeskAt d) ≡ true → IsOfFailed (Forget d id stop) reply) →
-    IsForgetRefused h d stop fault → (IsHonest grids (quiet (Forget d id stop) (ForgetRefused fault) ∷ h) →
-    IsForgetSafe h d id fault) →
+    IsForgetRefused h d stop fault → (IsClean grids (quiet (Forget d id stop) (ForgetRefused fault) ∷ h) (AtDesk d) →
+    IsForgetSafe (known_of h) d id fault) →
     DeskGoes ranges capacities grids h (Forget d id stop) (ForgetRefused fault) d capacity
     (desks.Running (desk_planned mid next_save.Fine))
 refused_goes {A} ranges capacities grids h d id capacity stop view mid fault there room s called same failed refuses why
@@ -138,16 +140,16 @@ few_kept kept.Old view id few = few
 few_kept kept.New view id few = few_remove view.held id view.capacity few
 
 gathered_kept : {A : Type 0} (grids : List GridView) (h : History A) (d id capacity : ℕ) (k : Kept) (view : DeskView) →
-    DeskRuns grids h d capacity view →
-    IsHonest grids (quiet (Forget d id (SaveFault k)) (ForgetRefused forget_fault.Save) ∷ h) →
+    DeskRuns grids h d capacity view → view.is_failed ≡ false →
+    IsClean grids (quiet (Forget d id (SaveFault k)) (ForgetRefused forget_fault.Save) ∷ h) (AtDesk d) →
     IsGathered (quiet (Forget d id (SaveFault k)) (ForgetRefused forget_fault.Save) ∷ h) d
     (kept_held k view.held (finite.remove view.held id))
-gathered_kept {A} grids h d id capacity kept.Old view s honest =
+gathered_kept {A} grids h d id capacity kept.Old view s was honest =
     gathered_keeps (quiet (Forget d id (SaveFault kept.Old)) (ForgetRefused forget_fault.Save)) h d view.held
     (λ x. none_leaves {A = A} (Forget d id (SaveFault kept.Old)) (ForgetRefused forget_fault.Save) _ x)
     (λ i m t. absurd t) (λ i x. x) (s.gathered honest.1)
-gathered_kept {A} grids h d id capacity kept.New view s honest =
-    gathered_less grids h d id capacity (SaveFault kept.New) (ForgetRefused forget_fault.Save) view s refl
+gathered_kept {A} grids h d id capacity kept.New view s was honest =
+    gathered_less grids h d id capacity (SaveFault kept.New) (ForgetRefused forget_fault.Save) view s refl was
     (λ other away x. x) honest
 
 -- what is answered to a forget at a desk that has not failed
@@ -170,7 +172,7 @@ running_goes {A} ranges capacities grids h d id capacity stop view mid (Ok done)
     (call_told ranges (length capacities) h event Forgotten d stop refl there s.up called
     (λ x. x) (λ x. cc) (λ x. cc) (λ x. cc) (refl, none) (not_failed grids h d capacity view s was _) (λ x. cc))
     refl refl
-    (gathered_less grids h d id capacity stop Forgotten view s refl (λ other away x. away (sym x.1)))
+    (gathered_less grids h d id capacity stop Forgotten view s refl was (λ other away x. away (sym x.1)))
     (λ honest. some_possibly h d id view.held (s.gathered honest.1) order.entries acts.was_held)
     (λ fair honest. tt)
 running_goes ranges capacities grids h d id capacity stop view mid
@@ -202,7 +204,7 @@ running_goes {A} ranges capacities grids h d id capacity stop view mid
         (few_kept k view id order.few))
         (call_told ranges (length capacities) h event reply d (SaveFault k) refl there s.up tt
         (λ x. x) (λ x. cc) (λ x. cc) (λ x. cc) (refl, (k, refl)) (not_failed grids h d capacity view s was _) (λ x. cc))
-        refl refl (gathered_kept grids h d id capacity k view s)
+        refl refl (gathered_kept grids h d id capacity k view s was)
         (λ honest. gathered_keeps (quiet event reply) h d view.held (λ x. none_leaves event reply _ x)
         (λ i m t. absurd t) (λ i x. x) (s.gathered honest.1))
         (λ honest. tt) (λ fair honest. tt)
@@ -279,7 +281,7 @@ stored_stopped {A} grids h d id capacity stop view mid given s may f = by_failed
               (finite.remove view.held id) s.store.ready saves x.holding
               (subst (λ (c : ℕ). finite.len (finite.remove view.held id) ≤ c) s.capacity_is
               (few_remove view.held id view.capacity f.before.few))
-              (gathered_less grids h d id capacity stop Stopped view s may (λ other away x. x)),
+              (gathered_less grids h d id capacity stop Stopped view s may was (λ other away x. x)),
         )
     by_given (Err forget_fault.NotHeld) was x = same x.1
     by_given (Err forget_fault.Memory) was x = same x.1

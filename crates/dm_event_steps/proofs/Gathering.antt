@@ -8,8 +8,8 @@ use Rattle.std.specs.Ordering.{nat_cmp}
 use Rattle.dm_append_label.specs.Pages.{PageView}
 use Rattle.dm_assembly_desk.specs.Pages.{Pages, page}
 use Rattle.dm_assembly_desk.specs.Documents.{Documents, page_at}
-use Rattle.dm_event_history.specs.History.{Entry, History, CutDocument, docs}
-use Rattle.dm_event_history.specs.Holding.{Takes, MayTake, Forgets, MayForget, IsSurelyHeld, IsPossiblyHeld}
+use Rattle.dm_event_history.specs.History.{Entry, History, CutDocument, docs, exports}
+use Rattle.dm_event_history.specs.Holding.{Takes, MayTakeAfter, Forgets, MayForgetAfter, IsSurelyHeld, IsPossiblyHeld}
 use Rattle.dm_event_history.proofs.Deciding.{same_or_other}
 use Rattle.dm_event_history.proofs.Printed.{docs_keep}
 use Rattle.dm_event_steps.specs.Labels.{IsPart}
@@ -54,7 +54,7 @@ gathered_none desk = record {
 -- what is held stays gathered, if what the entry takes is held already
 pub gathered_keeps : {A : Type 0} (e : Entry A) (h : History A) (desk : ℕ) (held : Documents) →
     (0 < e.left → docs h e.id ≡ None) →
-    ((id m : ℕ) → Takes h e.event e.reply desk id m → IsSome (page_at held id m)) →
+    ((id m : ℕ) → Takes (exports h) e.event e.reply desk id m → IsSome (page_at held id m)) →
     ((id : ℕ) → ¬ Forgets e.event e.reply desk id) →
     IsGathered h desk held → IsGathered (e ∷ h) desk held
 gathered_keeps e h desk held fresh takes stays g = record {
@@ -69,8 +69,8 @@ pub gathered_with : {A : Type 0} (e : Entry A) (h : History A) (desk : ℕ) (hel
     (cut : CutDocument) →
     (0 < e.left → docs h e.id ≡ None) →
     docs h page.id ≡ Some cut → page.n ≡ length cut.parts → IsPart cut page.m page.bytes →
-    MayTake h e.event e.reply desk page.id page.m →
-    ((id m : ℕ) → Takes h e.event e.reply desk id m → (id ≡ page.id) × (m ≡ page.m)) →
+    MayTakeAfter h e.event e.reply desk page.id page.m →
+    ((id m : ℕ) → Takes (exports h) e.event e.reply desk id m → (id ≡ page.id) × (m ≡ page.m)) →
     ((id : ℕ) → ¬ Forgets e.event e.reply desk id) →
     HoldsAlso held page new → IsGathered h desk held → IsGathered (e ∷ h) desk new
 gathered_with {A} e h desk held new page cut fresh printed n_is part may takes stays also g = record {
@@ -98,8 +98,8 @@ gathered_with {A} e h desk held new page cut fresh printed n_is part may takes s
         (t.0, docs_keep e h id t.0 fresh t.1, t.2))
   ];
   possibly = λ id m some. elim (this_or_other id m) [
-    | inl same ↦ inl (subst (λ (i : ℕ). MayTake h e.event e.reply desk i m) (sym same.0)
-        (subst (λ (k : ℕ). MayTake h e.event e.reply desk page.id k) (sym same.1) may))
+    | inl same ↦ inl (subst (λ (i : ℕ). MayTakeAfter h e.event e.reply desk i m) (sym same.0)
+        (subst (λ (k : ℕ). MayTakeAfter h e.event e.reply desk page.id k) (sym same.1) may))
     | inr other ↦ inr (
       stays id,
       g.possibly id m
@@ -135,7 +135,8 @@ gathered_with {A} e h desk held new page cut fresh printed n_is part may takes s
 -- a document less, which the entry may have forgotten
 pub gathered_without : {A : Type 0} (e : Entry A) (h : History A) (desk : ℕ) (held new : Documents) (gone : ℕ) →
     (0 < e.left → docs h e.id ≡ None) →
-    ((id m : ℕ) → ¬ Takes h e.event e.reply desk id m) → MayForget e.event e.reply desk gone →
+    ((id m : ℕ) → ¬ Takes (exports h) e.event e.reply desk id m) →
+    MayForgetAfter h e.event e.reply desk gone →
     ((id : ℕ) → id ≢ gone → ¬ Forgets e.event e.reply desk id) →
     HoldsWithout held gone new → IsGathered h desk held → IsGathered (e ∷ h) desk new
 gathered_without {A} e h desk held new gone fresh takes forgets stays without g = record {
@@ -161,7 +162,7 @@ gathered_without {A} e h desk held new gone fresh takes forgets stays without g 
   surely = λ id m is. elim is [
     | inl took ↦ absurd (takes id m took)
     | inr kept ↦ (elim (same_or_other id gone) [
-      | inl same ↦ absurd (kept.0 (subst (λ (i : ℕ). MayForget e.event e.reply desk i) (sym same) forgets))
+      | inl same ↦ absurd (kept.0 (subst (λ (i : ℕ). MayForgetAfter h e.event e.reply desk i) (sym same) forgets))
       | inr other ↦ subst (λ (o : Option (List ℕ)). IsSome o) (sym (without.other_pages id m other))
           (g.surely id m kept.1)
     ])
@@ -176,8 +177,8 @@ gathered_without {A} e h desk held new gone fresh takes forgets stays without g 
 pub gathered_with_file : {A : Type 0} (e : Entry A) (h : History A) (desk : ℕ) (held new : Documents) (id : ℕ)
     (pages : Pages) →
     (0 < e.left → docs h e.id ≡ None) → AreParts h id pages →
-    ((m : ℕ) → IsSome (page pages m) → MayTake h e.event e.reply desk id m) →
-    ((other m : ℕ) → Takes h e.event e.reply desk other m → (other ≡ id) × IsSome (page pages m)) →
+    ((m : ℕ) → IsSome (page pages m) → MayTakeAfter h e.event e.reply desk id m) →
+    ((other m : ℕ) → Takes (exports h) e.event e.reply desk other m → (other ≡ id) × IsSome (page pages m)) →
     ((other : ℕ) → ¬ Forgets e.event e.reply desk other) →
     HoldsFileToo held id pages new → IsGathered h desk held → IsGathered (e ∷ h) desk new
 gathered_with_file {A} e h desk held new id pages fresh parts may takes stays too g = record {

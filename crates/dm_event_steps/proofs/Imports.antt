@@ -42,8 +42,10 @@ use Rattle.dm_event_history.specs.Saving.{may_save}
 use Rattle.dm_event_history.specs.Masks.{HasPage}
 use Rattle.dm_event_history.specs.Holding.{Takes, Forgets}
 use Rattle.dm_event_history.specs.Legal.{IsImportRefused, IsImported}
-use Rattle.dm_event_history.specs.Honest.{IsHonest, IsHonestlyNotImported, MayHoldOthers}
-use Rattle.dm_event_history.specs.Safe.{IsImportedSafe, IsImportKindSafe}
+use Rattle.dm_event_history.specs.Tainted.{AtDesk, InExport}
+use Rattle.dm_event_history.specs.Honest.{IsClean, IsHonestlyNotImported, MayHoldOthers}
+use Rattle.dm_event_history.specs.Safe.{known_of}
+use Rattle.dm_event_history.specs.Telling.{IsImportedSafe, IsImportKindSafe}
 use Rattle.dm_event_steps.specs.declared.actor.DeskState.{DeskState}
 use Rattle.dm_event_steps.specs.declared.actor.DeskState.TheVariants as desks
 use Rattle.dm_event_steps.specs.declared.actor.LeftExport.{LeftExport}
@@ -67,7 +69,7 @@ pub record IsBrought {A : Type 0} (capacities : List ℕ) (grids : List GridView
   pub room : IsCapacity capacity
   pub runs : DeskRuns grids h d capacity view
   pub named : slice_get (exports h) number ≡ Some (export_name_of export)
-  pub shows : ShowsPages grids h export
+  pub shows : ShowsPages grids h number export
   pub there : (d < length capacities) × (number < length (exports h))
 
 -- ---- what is held with the file
@@ -98,13 +100,13 @@ few_with capacity held id pages kind few is =
     (more_at (finite.get held id) (finite.len held) capacity few (taken capacity held id pages kind is).room)
 
 -- the pages that the export has
-has_page : {A : Type 0} (grids : List GridView) (h : History A) (export : LeftExport A) (s : ShowsPages grids h export)
-    (m : ℕ) →
+has_page : {A : Type 0} (grids : List GridView) (h : History A) {number : ℕ} (export : LeftExport A)
+    (s : ShowsPages grids h number export) (m : ℕ) →
     IsSome (page s.pages m) → HasPage export.mask m
 has_page grids h export s m some = subst (λ (k : ℕ). HasPage k m) (sym s.mask_is) (there_named s.pages m some)
 
-page_has : {A : Type 0} (grids : List GridView) (h : History A) (export : LeftExport A) (s : ShowsPages grids h export)
-    (m : ℕ) →
+page_has : {A : Type 0} (grids : List GridView) (h : History A) {number : ℕ} (export : LeftExport A)
+    (s : ShowsPages grids h number export) (m : ℕ) →
     HasPage export.mask m → IsSome (page s.pages m)
 page_has grids h export s m named = named_there s.pages m (subst (λ (k : ℕ). HasPage k m) s.mask_is named)
 
@@ -113,7 +115,7 @@ takes_pages : {A : Type 0} (capacities : List ℕ) (grids : List GridView) (h : 
     (stop : Stop) (i : imported_type.Imported)
     (view : DeskView) (export : LeftExport A) → (s : IsBrought capacities grids h d number capacity view export) →
     (other m : ℕ) →
-    (let reply : Reply A = Imported i in Takes h (Import d number stop) reply d other m) →
+    (let reply : Reply A = Imported i in Takes (exports h) (Import d number stop) reply d other m) →
     (other ≡ export.id) × IsSome (page s.shows.pages m)
 takes_pages capacities grids h d number capacity stop i view export s other m t =
     let name : slice_get (exports h) number ≡ Some t.1.0 = t.1.1 in
@@ -130,16 +132,20 @@ gathered_file : {A : Type 0} (capacities : List ℕ) (grids : List GridView) (h 
     (s : IsBrought capacities grids h d number capacity view export) →
     import_answer view.capacity view.held export.id s.shows.pages ≡ Ok kind →
     may_save (Import d number stop) reply ≡ true →
-    ((other m : ℕ) → Takes h (Import d number stop) reply d other m →
+    ((other m : ℕ) → Takes (exports h) (Import d number stop) reply d other m →
     (other ≡ export.id) × IsSome (page s.shows.pages m)) →
-    ((id : ℕ) → ¬ Forgets (Import d number stop) reply d id) →
-    IsHonest grids (quiet (Import d number stop) reply ∷ h) →
+    ((id : ℕ) → ¬ Forgets (Import d number stop) reply d id) → is_failed h (DeskAt d) ≡ false →
+    IsClean grids (quiet (Import d number stop) reply ∷ h) (AtDesk d) →
     IsGathered (quiet (Import d number stop) reply ∷ h) d (with_file view.held export.id s.shows.pages)
-gathered_file {A} capacities grids h d number capacity stop reply view export kind s is may takes stays honest =
+gathered_file {A} capacities grids h d number capacity stop reply view export kind s is may takes stays unfailed
+    honest =
     gathered_with_file (quiet (Import d number stop) reply) h d view.held
     (with_file view.held export.id s.shows.pages) export.id s.shows.pages
-    (λ x. none_leaves (Import d number stop) reply _ x) (s.shows.parts honest.1)
-    (λ m some. (refl, may, (export_name_of export, s.named, refl, has_page grids h export s.shows m some)))
+    (λ x. none_leaves (Import d number stop) reply _ x) (s.shows.parts (honest.0 refl may))
+    (λ m some. (
+      (refl, may, (export_name_of export, s.named, refl, has_page grids h export s.shows m some)),
+      unfailed,
+    ))
     takes stays (holds_too view.capacity view.held export.id s.shows.pages kind is) (s.runs.gathered honest.1)
 
 -- ---- what a reply says of an import
@@ -175,13 +181,12 @@ either None None x y = cc
 either None (Some c) x y = absurd (y refl)
 either (Some b) p x y = refl
 
-kind_safe : {A : Type 0} (h : History A) (d : ℕ) (held : Documents) (export : LeftExport A) (grids : List GridView)
-    (s : ShowsPages grids h export)
-    (added : ℕ) (kind : Kind) → IsGathered h d held →
+kind_safe : {A : Type 0} (h : History A) (d : ℕ) (held : Documents) {number : ℕ} (export : LeftExport A)
+    (grids : List GridView) (s : ShowsPages grids h number export) (added : ℕ) (kind : Kind) → IsGathered h d held →
     length (unwrap_or (finite.get held export.id) []) ≤ length s.pages →
     ((m : ℕ) → names added m ≡ (is_none (page_at held export.id m) && is_some (page s.pages m))) →
     KindSays kind (unwrap_or (finite.get held export.id) []) s.pages →
-    IsImportKindSafe h d (export_name_of export) added kind
+    IsImportKindSafe (known_of h) d (export_name_of export) added kind
 kind_safe h d held export grids s added Again g short are says = tt
 kind_safe h d held export grids s added New g short are says =
     let own : Pages = unwrap_or (finite.get held export.id) [] in
@@ -227,7 +232,7 @@ imported_safe : {A : Type 0} (capacities : List ℕ) (grids : List GridView) (h 
     (i : imported_type.Imported) → (s : IsBrought capacities grids h d number capacity view export) →
     IsGathered h d view.held →
     NamesFile view.held export.id s.shows.pages i →
-    import_answer view.capacity view.held export.id s.shows.pages ≡ Ok i.kind → IsImportedSafe h d number i
+    import_answer view.capacity view.held export.id s.shows.pages ≡ Ok i.kind → IsImportedSafe (known_of h) d number i
 imported_safe capacities grids h d number capacity view export i s g names_are is = record {
   name = export_name_of export;
   there = s.named;
@@ -275,7 +280,8 @@ refused_goes : {A : Type 0} (ranges : List Range) (capacities : List ℕ) (grids
     (let reply : Reply A = ImportRefused fault in
     is_failed h (DeskAt d) ≡ true → IsOfFailed (Import d number stop) reply) →
     IsImportRefused h d stop fault →
-    (IsHonest grids h → IsHonestlyNotImported capacities h d number fault) →
+    (IsClean grids h (InExport number) → IsClean grids h (AtDesk d) →
+    IsHonestlyNotImported capacities h d number fault) →
     DeskGoes ranges capacities grids h (Import d number stop) (ImportRefused fault) d capacity
     (desks.Running (desk_planned mid next_save.Fine))
 refused_goes {A} ranges capacities grids h d number capacity stop view mid export fault s called same failed refuses
@@ -286,7 +292,7 @@ refused_goes {A} ranges capacities grids h d number capacity stop view mid expor
     (call_told ranges (length capacities) h (Import d number stop)
     (ImportRefused fault) d stop refl s.there s.runs.up called (λ x. x) (λ x. cc) (λ x. cc)
     (λ x. cc) (refl, why) refuses (λ x. cc))
-    refl (failed (is_failed h (DeskAt d))) (λ i m t. absurd t) (λ i x. x) (λ honest. tt) (λ fair. answers)
+    refl (failed (is_failed h (DeskAt d))) (λ i m t. absurd t) (λ i x. x) (λ honest. tt) answers
 
 -- all pages of the export are held already
 again_goes : {A : Type 0} (ranges : List Range) (capacities : List ℕ) (grids : List GridView) (h : History A)
@@ -304,7 +310,7 @@ again_goes {A} ranges capacities grids h d number capacity stop view mid export 
     let held : (m : ℕ) → IsSome (page s.shows.pages m) → IsSome (page_at view.held export.id m) = λ m some.
     not_added view.held export.id s.shows.pages i.added m (names_are.names_are m) some
     (λ named. let a : names i.added m ≡ false = ap (λ (k : ℕ). names k m) none ∙ none_named m in cc (a, named)) in
-    let at : (id m : ℕ) → (let reply : Reply A = Imported i in Takes h event reply d id m) →
+    let at : (id m : ℕ) → (let reply : Reply A = Imported i in Takes (exports h) event reply d id m) →
     IsSome (page_at view.held id m) = λ id m t.
     (let p = takes_pages capacities grids h d number capacity stop i view export s id m t in
     subst (λ (k : ℕ). IsSome (page_at view.held k m)) (sym p.0) (held m p.1)) in
@@ -348,7 +354,8 @@ took_goes {A} ranges capacities grids h d number capacity stop view mid export i
     (not_failed grids h d capacity view s.runs keeps.holding.was_running _) (λ x. cc))
     refl refl
     (gathered_file capacities grids h d number capacity stop (Imported i) view export i.kind s is refl
-    (takes_pages capacities grids h d number capacity stop i view export s) (λ id x. x))
+    (takes_pages capacities grids h d number capacity stop i view export s) (λ id x. x)
+    (sym s.runs.failed ∙ keeps.holding.was_running))
     (λ honest. imported_safe capacities grids h d number capacity view export i s
     (s.runs.gathered honest.1) names_are is)
     (λ fair honest. tt)
@@ -356,20 +363,20 @@ took_goes {A} ranges capacities grids h d number capacity stop view mid export i
 gathered_kept : {A : Type 0} (capacities : List ℕ) (grids : List GridView) (h : History A) (d number capacity : ℕ)
     (k : Kept) (view : DeskView)
     (export : LeftExport A) → (s : IsBrought capacities grids h d number capacity view export) →
-    NeedsSave (import_answer view.capacity view.held export.id s.shows.pages) →
-    IsHonest grids (quiet (Import d number (SaveFault k)) (ImportRefused import_fault.Save) ∷ h) →
+    NeedsSave (import_answer view.capacity view.held export.id s.shows.pages) → is_failed h (DeskAt d) ≡ false →
+    IsClean grids (quiet (Import d number (SaveFault k)) (ImportRefused import_fault.Save) ∷ h) (AtDesk d) →
     IsGathered (quiet (Import d number (SaveFault k)) (ImportRefused import_fault.Save) ∷ h) d
     (kept_held k view.held (with_file view.held export.id s.shows.pages))
-gathered_kept {A} capacities grids h d number capacity kept.Old view export s needs honest =
+gathered_kept {A} capacities grids h d number capacity kept.Old view export s needs unfailed honest =
     gathered_keeps (quiet (Import d number (SaveFault kept.Old)) (ImportRefused import_fault.Save)) h d view.held
     (λ x. none_leaves {A = A} (Import d number (SaveFault kept.Old)) (ImportRefused import_fault.Save) _ x)
     (λ i m t. absurd t) (λ i x. x)
     (s.runs.gathered honest.1)
-gathered_kept {A} capacities grids h d number capacity kept.New view export s needs honest =
+gathered_kept {A} capacities grids h d number capacity kept.New view export s needs unfailed honest =
     (let kind = kind_of_need view.capacity view.held export.id s.shows.pages needs in
     gathered_file capacities grids h d number capacity (SaveFault kept.New)
     (ImportRefused import_fault.Save) view export kind.0 s kind.1 refl
-    (λ other m t. absurd t) (λ i x. x) honest)
+    (λ other m t. absurd t) (λ i x. x) unfailed honest)
 
 few_kept : (k : Kept) (view : DeskView) (id : ℕ) (pages : Pages) → finite.len view.held ≤ view.capacity →
     NeedsSave (import_answer view.capacity view.held id pages) →
@@ -399,7 +406,8 @@ failed_goes {A} ranges capacities grids h d number capacity k view mid export s 
     (call_told ranges (length capacities) h event reply d (SaveFault k) refl s.there s.runs.up tt
     (λ x. x) (λ x. cc) (λ x. cc) (λ x. cc)
     (refl, (k, refl)) (not_failed grids h d capacity view s.runs fails.failing.was_running _) (λ x. cc))
-    refl refl (gathered_kept capacities grids h d number capacity k view export s needs)
+    refl refl (gathered_kept capacities grids h d number capacity k view export s needs
+    (sym s.runs.failed ∙ fails.failing.was_running))
     (λ honest. gathered_keeps (quiet event reply) h d view.held (λ x. none_leaves event reply _ x) (λ i m t. absurd t)
     (λ i x. x)
     (s.runs.gathered honest.1))
@@ -432,14 +440,14 @@ file_goes ranges capacities grids h d number capacity stop view mid export
     (Err import_fault.Conflict) s called order was acts =
     refused_goes ranges capacities grids h d number capacity stop view mid export import_fault.Conflict s called acts.1
     (λ b. refl) (not_failed grids h d capacity view s.runs was _) tt
-    (λ honest. let c = import_conflict view.capacity view.held export.id s.shows.pages acts.0 in
-    no_conflict h d export.id view.held c.0 s.shows.pages (s.runs.gathered honest) (s.shows.parts honest) c.1 c.2)
+    (λ clean honest. let c = import_conflict view.capacity view.held export.id s.shows.pages acts.0 in
+    no_conflict h d export.id view.held c.0 s.shows.pages (s.runs.gathered honest) (s.shows.parts clean) c.1 c.2)
 file_goes ranges capacities grids h d number capacity stop view mid export
     (Err import_fault.Full) s called order was acts =
     let full = import_full view.capacity view.held export.id s.shows.pages acts.0 in
     refused_goes ranges capacities grids h d number capacity stop view mid export import_fault.Full s called acts.1
     (λ b. refl) (not_failed grids h d capacity view s.runs was _) tt
-    (λ honest. record {
+    (λ clean honest. record {
       name = export_name_of export;
       has_left = s.named;
       full = subst (λ (o : Option ℕ). IsSomeAnd o (MayHoldOthers h d export.id)) (sym s.at)
@@ -449,7 +457,7 @@ file_goes ranges capacities grids h d number capacity stop view mid export
 file_goes ranges capacities grids h d number capacity stop view mid export
     (Err import_fault.Memory) s called order was acts =
     refused_goes ranges capacities grids h d number capacity stop view mid export import_fault.Memory s called acts.1
-    (λ b. refl) (not_failed grids h d capacity view s.runs was _) tt (λ honest. tt)
+    (λ b. refl) (not_failed grids h d capacity view s.runs was _) tt (λ clean honest. tt)
 file_goes {A} ranges capacities grids h d number capacity stop view mid export
     (Err import_fault.Save) s called order was acts =
     let k : (k : Kept) × (stop ≡ SaveFault k) = faulted_with stop view mid _ called acts.1.replaced in
@@ -490,7 +498,7 @@ called_goes {A} ranges capacities grids h d number capacity stop view mid export
         (desks.Running (desk_planned mid next_save.Fine))) (sym x.0)
         (refused_goes ranges capacities grids h d number capacity stop view mid export import_fault.Failed s called x.1
         (λ b. refl) (λ _ _. inl tt)
-        (sym s.runs.failed ∙ was) (λ honest. tt)))
+        (sym s.runs.failed ∙ was) (λ clean honest. tt)))
     by_failed false was =
         file_goes ranges capacities grids h d number capacity stop view mid export given s called order was
         ((f.imported was).spelled export.id s.shows.pages s.shows.spells)
@@ -534,7 +542,7 @@ stored_stopped {A} capacities grids h d number capacity stop view mid export giv
           (subst (λ (c : ℕ). finite.len (with_file view.held export.id s.shows.pages) ≤ c) s.runs.capacity_is
           (few_with view.capacity view.held export.id s.shows.pages kind f.before.few is))
           (gathered_file capacities grids h d number capacity stop Stopped view export kind s is may
-          (λ other m t. absurd t) (λ i x. x)),
+          (λ other m t. absurd t) (λ i x. x) (sym s.runs.failed ∙ keeps.holding.was_running)),
     )
 
     by_kind : (kind : Kind) → import_answer view.capacity view.held export.id s.shows.pages ≡ Ok kind →

@@ -78,6 +78,7 @@ given_goes {A} ranges desks h p receiver range stop view mid ticket reply old ne
       is_reply = (refl, record { no_stop = none; index_is = ap length had; ticket_is = ticket_is });
       failed = not_failed ranges h p view s gave.0.0 _;
       told = λ _. refl;
+      kept = λ q number asked is. absurd (cc (is));
       may = λ _. refl;
       moves = λ _. were_free ranges h p receiver range view s gave.0;
     }) (runs_saved ranges e h p view mid (next_save_of stop) mid.ledger s (is_down_same e h (PrinterAt p) refl)
@@ -115,6 +116,7 @@ give_failed {A} ranges desks h p receiver range k view mid unsaved old new there
           is_reply = (refl, (_, refl));
           failed = not_failed ranges h p view s can.0 _;
           told = λ x. cc;
+          kept = λ q number asked is. absurd (cc (is));
           may = λ x. cc;
           moves = λ x. cc;
         }) (runs_failed ranges e h p Old view mid unsaved s (is_down_same e h (PrinterAt p) refl)
@@ -136,6 +138,7 @@ give_failed {A} ranges desks h p receiver range k view mid unsaved old new there
           is_reply = (refl, (_, refl));
           failed = not_failed ranges h p view s can.0 _;
           told = λ x. cc;
+          kept = λ q number asked is. absurd (cc (is));
           may = λ _. refl;
           moves = λ _. were_free ranges h p receiver range view s can;
         }) (runs_failed ranges e h p New view mid unsaved s (is_down_same e h (PrinterAt p) refl)
@@ -337,6 +340,7 @@ take_called {A} ranges desks h p number ticket stop view mid
       is_reply = (refl, none);
       failed = not_failed ranges h p view s took.0.0 _;
       told = λ _. refl;
+      kept = λ q number asked is. absurd (cc (is));
       may = λ _. refl;
       moves = λ _. may_be_taken ranges h p number ticket view s is took.0.0 took.0.1 took.0.2;
     }) (runs_saved ranges e h p view mid (next_save_of stop) mid.ledger s (is_down_same e h (PrinterAt p) refl)
@@ -382,6 +386,7 @@ take_called {A} ranges desks h p number ticket stop view mid
           is_reply = (refl, (_, refl));
           failed = not_failed ranges h p view s can.0 _;
           told = λ x. cc;
+          kept = λ q other asked is. absurd (cc (asked));
           may = λ x. cc;
           moves = λ x. cc;
         }) (runs_failed ranges e h p Old view mid unsaved s (is_down_same e h (PrinterAt p) refl)
@@ -403,6 +408,7 @@ take_called {A} ranges desks h p number ticket stop view mid
           is_reply = (refl, (_, refl));
           failed = not_failed ranges h p view s can.0 _;
           told = λ x. cc;
+          kept = λ q other asked is. refl;
           may = λ _. refl;
           moves = λ _. may_be_taken ranges h p number ticket view s is can.0 can.1 can.2;
         }) (runs_failed ranges e h p New view mid unsaved s (is_down_same e h (PrinterAt p) refl)

@@ -10,7 +10,7 @@ use Rattle.dm_event_history.specs.declared.reply.Reply.{Reply}
 use Rattle.dm_event_history.specs.declared.reply.Reply.TheVariants.{Down, NoSuch}
 use Rattle.dm_event_history.specs.declared.reply.Reply.TheVariants as replies
 use Rattle.dm_event_history.specs.Actors.{Actor, PrinterAt, DeskAt, actor_of}
-use Rattle.dm_event_history.specs.History.{Entry, History, exported}
+use Rattle.dm_event_history.specs.History.{Entry, History, exported, exports}
 use Rattle.dm_event_history.specs.Holding.{Takes, Forgets}
 use Rattle.dm_event_history.specs.Legal.{IsThere, IsReply}
 use Rattle.dm_event_history.specs.Honest.{IsHonestReply}
@@ -35,7 +35,8 @@ use Rattle.dm_event_steps.proofs.Forgets.{forget_goes}
 use Rattle.dm_event_steps.proofs.Exports.{no_export, export_goes}
 use Rattle.dm_event_steps.proofs.Imports.{import_goes}
 use Rattle.dm_event_steps.proofs.DeskGoing.{none_leaves, desk_down}
-use Rattle.dm_event_steps.proofs.WorldGoing.{get_map, other_has, IsQuietFor, quiet_other, printer_keeps, desk_keeps, goes_on}
+use Rattle.dm_event_history.proofs.Gotten.{other_has}
+use Rattle.dm_event_steps.proofs.WorldGoing.{get_map, IsQuietFor, quiet_other, printer_keeps, desk_keeps, goes_on}
 use Rattle.dm_event_steps.proofs.Stepping.{named_at, export_named_at, there_of, named_of, printer_steps, desk_steps}
 
 -- an event that leaves no export
@@ -181,7 +182,7 @@ desk_goes ranges capacities world h event reply d capacity was state new s named
 
 -- ---- an event that names nothing
 
-no_take : {A : Type 0} (h : History A) (event : Event A) (d id m : ℕ) → ¬ Takes h event NoSuch d id m
+no_take : {A : Type 0} (h : History A) (event : Event A) (d id m : ℕ) → ¬ Takes (exports h) event NoSuch d id m
 no_take h (Print p document size scheme stop) d id m took = took
 no_take h (Scan c l flips stop) d id m took = took
 no_take h (RestartPrinter p) d id m took = took
@@ -272,6 +273,7 @@ none_goes {A} ranges capacities world h event s away =
         stops = λ there. absurd (absent there);
         failed = λ _. ((λ _. inr tt), refl);
         told = λ x. cc;
+        kept = λ q number asked is. absurd (cc (is));
         left_saved = λ some. none_leaves {A = A} event NoSuch _ some;
         saved = λ x. cc;
         moves = λ x. cc;
@@ -280,8 +282,8 @@ none_goes {A} ranges capacities world h event s away =
       labels_are = sym (append-nil world.labels);
       names = refl;
       shows = λ i label here. cc;
-      safe = λ honest. no_such_safe h event;
-      answers = λ fair honest. no_such_answers (grids_of world) capacities h event;
+      safe = λ c actor clean. no_such_safe h event;
+      answers = λ c actor brings clean. no_such_answers (grids_of world) capacities h event;
       tickets_are = sym (append-nil world.tickets);
       exports_more = [];
       exports_are = sym (append-nil world.exports);

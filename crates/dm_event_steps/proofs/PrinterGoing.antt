@@ -11,9 +11,11 @@ use Rattle.dm_print_ledger.specs.declared.range.Range.{Range}
 use Rattle.dm_print_ledger.specs.Ledger.{Spells, ledger_bytes}
 use Rattle.dm_print_ledger.specs.Saving.{HoldsLedger, Saves, FailsToSave}
 use Rattle.dm_print_ledger.specs.Views.{LedgerView, TicketView, PrinterView}
+use Rattle.dm_print_ledger.specs.declared.fault.TakeFault.TheVariants as take_fault
 use Rattle.dm_event_history.specs.declared.event.Event.{Event}
+use Rattle.dm_event_history.specs.declared.event.Event.TheVariants.{Take}
 use Rattle.dm_event_history.specs.declared.reply.Reply.{Reply}
-use Rattle.dm_event_history.specs.declared.reply.Reply.TheVariants.{Stopped, Down, NoSuch, Memory}
+use Rattle.dm_event_history.specs.declared.reply.Reply.TheVariants.{TakeRefused, Stopped, Down, NoSuch, Memory}
 use Rattle.dm_event_history.specs.declared.stop.Stop.{Stop}
 use Rattle.dm_event_history.specs.declared.stop.Stop.TheVariants.{BeforeSave, InSave, SaveFault, AfterLabels}
 use Rattle.dm_event_history.specs.declared.stop.Stop.TheVariants as stops
@@ -55,6 +57,8 @@ pub record IsPlain {A : Type 0} (ranges : List Range) (desks : ℕ) (h : History
   pub is_reply : IsFine ranges h id event reply
   pub failed : is_failed h (PrinterAt p) ≡ true → IsOfFailed event reply × (saved ≡ false)
   pub told : tells_of_save reply ≡ true → saved ≡ true
+  pub kept : (printer ticket : ℕ) → event ≡ Take printer ticket (SaveFault New) →
+      reply ≡ TakeRefused take_fault.Save → saved ≡ true
   pub may : saved ≡ true → may_save event reply ≡ true
   pub moves : saved ≡ true → MayMove ranges h id event
 
@@ -85,6 +89,7 @@ plain_goes {A} ranges desks h event reply p id saved actor old new c stands same
     stops = λ _ up is. c.stops (sym (ap (is_down h) c.named) ∙ up) is;
     failed = λ was. c.failed (sym (ap (is_failed h) c.named) ∙ was);
     told = c.told;
+    kept = c.kept;
     left_saved = λ none. absurd (omega arith);
     saved = c.may;
     moves = c.moves;
@@ -287,6 +292,7 @@ outcome_goes {A} ranges desks h event p view saved actor old new named there s s
       is_reply = is_reply o.id;
       failed = λ was. ((λ _. inr tt), o.failed was);
       told = λ x. cc;
+      kept = λ q number asked is. absurd (cc (is));
       may = o.may;
       moves = o.moves;
     }) (record {
@@ -316,6 +322,7 @@ down_goes {A} ranges desks h event p saved reply actor old new named there needs
       is_reply = is_reply;
       failed = λ _. ((λ _. inr tt), refl);
       told = λ x. cc;
+      kept = λ q number asked is. absurd (cc (is));
       may = λ x. cc;
       moves = λ x. cc;
     }) (record {
@@ -354,12 +361,24 @@ kept_goes {A} ranges desks h event reply p view after old new named there s same
       is_reply = is_reply;
       failed = λ was. (refuses was, refl);
       told = λ x. absurd (untold x);
+      kept = λ q number asked is. absurd (unfailed q number asked is);
       may = λ x. cc;
       moves = λ x. cc;
     }) (runs_same ranges e h p view after s same
     (is_down_same e h (PrinterAt p) named ∙ ap (down_after reply) s.up ∙ down)
     (is_failed_same e h (PrinterAt p) named ∙ failed) (numbers_quiet e h p refl untold))
     labels (tickets ∙ sym (append-nil old.tickets) ∙ ap (λ (l : List TicketView). old.tickets ++ l) (sym none))
+  where
+    -- a save that failed would have left the printer failed
+    unfailed : (q number : ℕ) → event ≡ Take q number (SaveFault New) → reply ≡ TakeRefused take_fault.Save → ⊥
+    unfailed q number asked is =
+        let was : is_failed h (PrinterAt p) ≡ true =
+        sym failed ∙ ap (λ (r : Reply A). failed_after r (is_failed h (PrinterAt p))) is in
+        let own : (let told : Reply A = TakeRefused take_fault.Save in
+        IsOfFailed (Take q number (SaveFault New)) told) =
+        subst (λ (v : Event A). (let told : Reply A = TakeRefused take_fault.Save in IsOfFailed v told)) asked
+        (subst (λ (r : Reply A). IsOfFailed event r) is (refuses was)) in
+        elim (own refl) [ inl x ↦ x | inr x ↦ x ]
 
 -- a call that is refused, and leaves the printer as it was
 pub refused_goes : {A : Type 0} (ranges : List Range) (desks : ℕ) (h : History A) (event : Event A) (reply : Reply A)

@@ -77,6 +77,7 @@ printed_goes {A} ranges desks h p document size scheme stop view mid job reply o
         stops = λ _ _ x. absurd (subst (λ (t : Stop). IsStopping t) none x);
         failed = not_failed ranges h p view s was _;
         told = λ _. refl;
+        kept = λ q number asked is. absurd (cc (is));
         left_saved = λ _. refl;
         saved = λ _. refl;
         moves = λ _. free;
@@ -159,6 +160,7 @@ failed_goes {A} ranges desks h p document size scheme k view mid old new there s
           is_reply = (refl, (_, refl));
           failed = not_failed ranges h p view s f.failed.was_running _;
           told = λ x. cc;
+          kept = λ q number asked is. absurd (cc (is));
           may = λ x. cc;
           moves = λ x. cc;
         }) (runs_failed ranges e h p Old view mid f.unsaved s (is_down_same e h (PrinterAt p) refl)
@@ -181,6 +183,7 @@ failed_goes {A} ranges desks h p document size scheme k view mid old new there s
           is_reply = (refl, (_, refl));
           failed = not_failed ranges h p view s f.failed.was_running _;
           told = λ x. cc;
+          kept = λ q number asked is. absurd (cc (is));
           may = λ _. refl;
           moves = λ _. sym ((ledger_now ranges h p view s f.failed.was_running).free f.id) ∙ f.used.least.free;
         }) (runs_failed ranges e h p New view mid f.unsaved s (is_down_same e h (PrinterAt p) refl)
@@ -309,6 +312,7 @@ some_goes {A} ranges desks h p document size scheme most view mid job actor old 
         stops = λ _ _ _. inl refl;
         failed = not_failed ranges h p view s was _;
         told = λ x. cc;
+        kept = λ q number asked is. absurd (cc (is));
         left_saved = λ _. refl;
         saved = λ _. refl;
         moves = λ _. free;

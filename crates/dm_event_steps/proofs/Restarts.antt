@@ -56,6 +56,7 @@ restart_goes {A} ranges desks h p Restarted was actor old new there s same acts 
       is_reply = (refl, tt);
       failed = λ _. ((λ saves. absurd (let x : false ≡ true = saves in cc (x))), refl);
       told = λ x. cc;
+      kept = λ q number asked is. absurd (cc (is));
       may = λ x. cc;
       moves = λ x. cc;
     }) (subst (λ (a : PrinterActor A). PrinterStands ranges (e ∷ h) p a) (sym acts.1) runs)
@@ -84,6 +85,7 @@ restart_goes {A} ranges desks h p (PrinterRefused fault) was actor old new there
       is_reply = (refl, acts.1 t.0 t.1.holds t.1.is.number);
       failed = λ _. ((λ saves. absurd (let x : false ≡ true = saves in cc (x))), refl);
       told = λ x. cc;
+      kept = λ q number asked is. absurd (cc (is));
       may = λ x. cc;
       moves = λ x. cc;
     }) (subst (λ (a : PrinterActor A). PrinterStands ranges (e ∷ h) p a) (sym acts.0) lies)

@@ -40,13 +40,15 @@ use Rattle.dm_event_history.specs.declared.stop.Stop.{Stop}
 use Rattle.dm_event_history.specs.declared.stop.Stop.TheVariants.{BeforeSave, InSave, SaveFault, AfterLabels}
 use Rattle.dm_event_history.specs.declared.stop.Stop.TheVariants as stops
 use Rattle.dm_event_history.specs.Actors.{DeskAt}
-use Rattle.dm_event_history.specs.History.{Entry, History, LabelName, CutDocument, out, docs}
+use Rattle.dm_event_history.specs.History.{Entry, History, LabelName, CutDocument, out, docs, exports}
 use Rattle.dm_event_history.specs.Running.{is_down, failed_after, is_failed, IsOfFailed}
 use Rattle.dm_event_history.specs.Saving.{may_save, tells_of_save}
 use Rattle.dm_event_history.specs.Holding.{Takes, MayTake, Forgets, IsPossiblyHeld}
 use Rattle.dm_event_history.specs.Legal.{IsScanRefused, HasModules, IsStopping}
-use Rattle.dm_event_history.specs.Honest.{IsHonest, IsFramed, IsBeyond, IsHonestlyRefused, MayHoldOthers}
-use Rattle.dm_event_history.specs.Safe.{IsAcceptedSafe, IsKindSafe}
+use Rattle.dm_event_history.specs.Tainted.{AtDesk}
+use Rattle.dm_event_history.specs.Honest.{IsClean, IsFramed, IsBeyond, IsHonestlyRefused, MayHoldOthers}
+use Rattle.dm_event_history.specs.Safe.{known_of}
+use Rattle.dm_event_history.specs.Telling.{IsAcceptedSafe, IsKindSafe}
 use Rattle.dm_event_history.proofs.Deciding.{or_left, or_right}
 use Rattle.dm_event_steps.specs.declared.actor.DeskState.{DeskState}
 use Rattle.dm_event_steps.specs.declared.actor.DeskState.TheVariants as desks
@@ -120,7 +122,7 @@ some_none (Some b) x y = cc
 
 kind_safe : {A : Type 0} (h : History A) (d capacity : ℕ) (held : Documents) (p : PageView) (kind : Kind) →
     IsHead (head_of p) →
-    IsGathered h d held → answer capacity held p ≡ Ok kind → IsKindSafe h d (page_name p) kind
+    IsGathered h d held → answer capacity held p ≡ Ok kind → IsKindSafe (known_of h) d (page_name p) kind
 kind_safe h d capacity held p Again head g is =
     g.possibly p.id p.m (subst (λ (o : Option (List ℕ)). IsSome o) (sym (holds_again capacity held p is).bytes) refl)
 kind_safe h d capacity held p New head g is =
@@ -144,7 +146,7 @@ accepted_safe : {A : Type 0} (h : History A) (d number capacity : ℕ) (label : 
     (p : PageView) (cut : CutDocument)
     (a : Accepted) → slice_get (out h) number ≡ Some (name_of label) → IsLabels h label p cut → NamesPage p a →
     IsGathered h d held →
-    answer capacity held p ≡ Ok a.kind → IsAcceptedSafe h d number a
+    answer capacity held p ≡ Ok a.kind → IsAcceptedSafe (known_of h) d number a
 accepted_safe h d number capacity label held p cut a named is names g answered = record {
   name = page_name p;
   scanned = named ∙ ap Some (sym is.name_is);
@@ -256,7 +258,8 @@ few_with capacity held p few needs =
 may_take : {A : Type 0} (h : History A) (d number : ℕ) (flips : List (ℕ × ℕ)) (stop : Stop) (reply : Reply A)
     (label : LeftLabel A)
     (p : PageView) (cut : CutDocument) → slice_get (out h) number ≡ Some (name_of label) → IsLabels h label p cut →
-    may_save (Scan d number flips stop) reply ≡ true → MayTake h (Scan d number flips stop) reply d p.id p.m
+    may_save (Scan d number flips stop) reply ≡ true →
+    MayTake (out h) (exports h) (Scan d number flips stop) reply d p.id p.m
 may_take h d number flips stop reply label p cut named is may =
     (refl, may, (page_name p, named ∙ ap Some (sym is.name_is), refl, refl))
 
@@ -268,19 +271,20 @@ gathered_page : {A : Type 0} (capacities : List ℕ) (grids : List GridView) (h 
     LabelOpens (flipped label.grid flips) (Ok opened) →
     kind ≢ Again → answer view.capacity view.held opened.page ≡ Ok kind →
     may_save (Scan d number flips stop) reply ≡ true →
-    ((id m : ℕ) → Takes h (Scan d number flips stop) reply d id m → (id ≡ opened.page.id) × (m ≡ opened.page.m)) →
-    ((id : ℕ) → ¬ Forgets (Scan d number flips stop) reply d id) →
-    IsHonest grids (quiet (Scan d number flips stop) reply ∷ h) →
+    ((id m : ℕ) → Takes (exports h) (Scan d number flips stop) reply d id m →
+    (id ≡ opened.page.id) × (m ≡ opened.page.m)) →
+    ((id : ℕ) → ¬ Forgets (Scan d number flips stop) reply d id) → is_failed h (DeskAt d) ≡ false →
+    IsClean grids (quiet (Scan d number flips stop) reply ∷ h) (AtDesk d) →
     IsGathered (quiet (Scan d number flips stop) reply ∷ h) d (with_page view.held opened.page)
 gathered_page {A} capacities grids h d number capacity flips stop reply view label opened kind s opens other answered
-    may takes stays honest =
+    may takes stays unfailed honest =
     let event : Event A = Scan d number flips stop in
     let e : Entry A = quiet event reply in
-    let is = fair_page grids h number flips label opened s.left s.shows opens (honest.0 may) in
+    let is = fair_page grids h number flips label opened s.left s.shows opens (honest.0 refl may) in
     gathered_with e h d view.held (with_page view.held opened.page) opened.page s.shows.document
     (λ x. none_leaves event reply _ x)
     is.printed is.n_is is.part
-    (may_take h d number flips stop reply label opened.page s.shows.document s.named is may)
+    (may_take h d number flips stop reply label opened.page s.shows.document s.named is may, unfailed)
     takes stays
     (holds_also view.held opened.page is.head.first is.head.last
     (is_free view.capacity view.held opened.page kind other answered))
@@ -298,7 +302,8 @@ refused_goes : {A : Type 0} (ranges : List Range) (capacities : List ℕ) (grids
     (let reply : Reply A = ScanRefused fault in
     is_failed h (DeskAt d) ≡ true → IsOfFailed (Scan d number flips stop) reply) →
     IsScanRefused h d stop fault →
-    (IsFairScan grids number flips → IsHonest grids h → IsHonestlyRefused grids capacities h d number flips fault) →
+    (IsFairScan grids number flips → IsClean grids h (AtDesk d) →
+    IsHonestlyRefused grids capacities h d number flips fault) →
     DeskGoes ranges capacities grids h (Scan d number flips stop) (ScanRefused fault) d capacity
     (desks.Running (desk_planned mid next_save.Fine))
 refused_goes {A} ranges capacities grids h d number capacity flips stop view mid label fault s called same failed
@@ -344,7 +349,7 @@ again_goes {A} ranges capacities grids h d number capacity flips stop view mid l
     ))
     (λ id x. x)
     (λ honest. accepted_safe h d number view.capacity label view.held opened.page s.shows.document a s.named
-    (fair_page grids h number flips label opened s.left s.shows opens (honest.0 refl)) names
+    (fair_page grids h number flips label opened s.left s.shows opens (honest.0 refl refl)) names
     (s.runs.gathered honest.1) answered)
     (λ fair honest. framed grids number flips label.grid s.left opens.opens.read.frame)
 
@@ -375,9 +380,10 @@ took_goes {A} ranges capacities grids h d number capacity flips stop view mid la
     refl refl
     (gathered_page capacities grids h d number capacity flips stop reply view label opened a.kind s opens other answered
     refl
-    (λ id m t. (sym t.1 ∙ names.id_is, sym t.2 ∙ names.m_is)) (λ id x. x))
+    (λ id m t. (sym t.1 ∙ names.id_is, sym t.2 ∙ names.m_is)) (λ id x. x)
+    (sym s.runs.failed ∙ keeps.holding.was_running))
     (λ honest. accepted_safe h d number view.capacity label view.held opened.page s.shows.document a s.named
-    (fair_page grids h number flips label opened s.left s.shows opens (honest.0 refl)) names
+    (fair_page grids h number flips label opened s.left s.shows opens (honest.0 refl refl)) names
     (s.runs.gathered honest.1) answered)
     (λ fair honest. framed grids number flips label.grid s.left opens.opens.read.frame)
 
@@ -387,23 +393,25 @@ gathered_kept : {A : Type 0} (capacities : List ℕ) (grids : List GridView) (h 
     (view : DeskView) (label : LeftLabel A) (opened : Opened A) →
     IsScanned capacities grids h d number capacity flips view label →
     LabelOpens (flipped label.grid flips) (Ok opened) →
-    NeedsSave (answer view.capacity view.held opened.page) →
-    IsHonest grids (quiet (Scan d number flips (SaveFault k)) (ScanRefused scan_fault.Save) ∷ h) →
+    NeedsSave (answer view.capacity view.held opened.page) → is_failed h (DeskAt d) ≡ false →
+    IsClean grids (quiet (Scan d number flips (SaveFault k)) (ScanRefused scan_fault.Save) ∷ h) (AtDesk d) →
     IsGathered (quiet (Scan d number flips (SaveFault k)) (ScanRefused scan_fault.Save) ∷ h) d
     (kept_held k view.held (with_page view.held opened.page))
-gathered_kept {A} capacities grids h d number capacity flips kept.Old view label opened s opens needs honest =
+gathered_kept {A} capacities grids h d number capacity flips kept.Old view label opened s opens needs unfailed honest =
     gathered_keeps (quiet (Scan d number flips (SaveFault kept.Old)) (ScanRefused scan_fault.Save)) h d view.held
     (λ x. none_leaves {A = A} (Scan d number flips (SaveFault kept.Old)) (ScanRefused scan_fault.Save) _ x)
     (λ id m t. absurd t) (λ id x. x)
     (s.runs.gathered honest.1)
-gathered_kept {A} capacities grids h d number capacity flips kept.New view label opened s opens (inl new) honest =
+gathered_kept {A} capacities grids h d number capacity flips kept.New view label opened s opens (inl new) unfailed
+    honest =
     gathered_page capacities grids h d number capacity flips (SaveFault kept.New)
     (ScanRefused scan_fault.Save) view label opened New s opens (λ x. cc) new refl (λ id m t. absurd t) (λ id x. x)
-    honest
-gathered_kept {A} capacities grids h d number capacity flips kept.New view label opened s opens (inr complete) honest =
+    unfailed honest
+gathered_kept {A} capacities grids h d number capacity flips kept.New view label opened s opens (inr complete) unfailed
+    honest =
     gathered_page capacities grids h d number capacity flips (SaveFault kept.New)
     (ScanRefused scan_fault.Save) view label opened Complete s opens (λ x. cc) complete refl (λ id m t. absurd t)
-    (λ id x. x) honest
+    (λ id x. x) unfailed honest
 
 few_kept : (k : Kept) (view : DeskView) (p : PageView) → finite.len view.held ≤ view.capacity →
     NeedsSave (answer view.capacity view.held p) →
@@ -433,7 +441,8 @@ failed_goes {A} ranges capacities grids h d number capacity flips k view mid lab
     (λ x. cc) (λ x. cc) (λ x. cc) (refl, (k, refl))
     (not_failed grids h d capacity view s.runs fails.failing.was_running _) (λ x. cc))
     refl refl
-    (gathered_kept capacities grids h d number capacity flips k view label opened s opens needs)
+    (gathered_kept capacities grids h d number capacity flips k view label opened s opens needs
+    (sym s.runs.failed ∙ fails.failing.was_running))
     (λ honest. gathered_keeps (quiet event reply) h d view.held (λ x. none_leaves event reply _ x) (λ id m t. absurd t)
     (λ id x. x)
     (s.runs.gathered honest.1))
@@ -690,7 +699,7 @@ stored_stopped {A} capacities grids h d number capacity flips stop view mid labe
               (few_with view.capacity view.held opened.page order.few needs))
               (gathered_page capacities grids h d number capacity flips stop Stopped view label opened kind s opens
               other answered may
-              (λ id m t. absurd t) (λ id x. x)),
+              (λ id m t. absurd t) (λ id x. x) (sym s.runs.failed ∙ keeps.holding.was_running)),
         )
 
     by_kind : (opened : Opened A) (kind : Kind) → LabelOpens (flipped label.grid flips) (Ok opened) →

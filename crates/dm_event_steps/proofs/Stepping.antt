@@ -1,5 +1,5 @@
 -- A world that stands for a history stands, after a step, for the history with one entry more.
-use Rattle.std.proofs.Common.{◌≡◌, ◌≢◌, inl, inr, ◌<◌, ℕ, Some, List, [], ◌∷◌, ◌++◌, length, map, slice_get, slice_set, All, refl, ap, sym, ◌∙◌, subst, arith}
+use Rattle.std.proofs.Common.{◌≡◌, ◌≢◌, inl, inr, ◌<◌, ◌+◌, ℕ, Some, List, [], ◌∷◌, ◌++◌, length, map, slice_get, slice_set, All, refl, ap, sym, ◌∙◌, subst, arith}
 use Rattle.std.proofs.lemmas.List.{length-map, length-set, append-nil}
 use Rattle.dm_check_blocks.specs.declared.size.Size.{Size}
 use Rattle.dm_check_blocks.specs.Sizes.{side}
@@ -13,9 +13,11 @@ use Rattle.dm_event_history.specs.declared.reply.Reply.TheVariants.{Given, Expor
 use Rattle.dm_event_history.specs.Actors.{PrinterAt, DeskAt, actor_of}
 use Rattle.dm_event_history.specs.History.{Entry, History, LabelName, ExportName, CutDocument, out, docs, given, exports, exported}
 use Rattle.dm_event_history.specs.Legal.{IsReply, IsThere}
-use Rattle.dm_event_history.specs.Honest.{IsFair, IsHonest, IsHonestReply}
+use Rattle.dm_event_history.specs.Tainted.{AtDesk}
+use Rattle.dm_event_history.specs.Honest.{BringsClean, IsClean, IsHonestReply}
 use Rattle.dm_event_history.specs.Safe.{IsReplySafe}
 use Rattle.dm_event_history.proofs.Deciding.{same_or_other}
+use Rattle.dm_event_history.proofs.Holds.{takes_there, forgets_there}
 use Rattle.dm_event_steps.specs.declared.actor.PrinterActor.{PrinterActor}
 use Rattle.dm_event_steps.specs.declared.actor.DeskState.{DeskState}
 use Rattle.dm_event_steps.specs.declared.actor.DeskActor.{DeskActor}
@@ -30,7 +32,7 @@ use Rattle.dm_event_steps.specs.Worlds.{WorldView, left_of, grids_of, IsNamed}
 use Rattle.dm_event_steps.specs.StandsFor.{StandsFor}
 use Rattle.dm_event_steps.proofs.Ledgers.{numbers_other}
 use Rattle.dm_event_steps.proofs.DeskGoing.{none_leaves}
-use Rattle.dm_event_steps.proofs.WorldGoing.{get_set_same, get_set_other, get_map, get_map_from, honest_before, quiet_other, printer_keeps, desk_keeps, takes_there, forgets_there, fresh_of, grids_more, goes_on}
+use Rattle.dm_event_steps.proofs.WorldGoing.{get_set_same, get_set_other, get_map, get_map_from, clean_before, quiet_other, printer_keeps, desk_keeps, fresh_of, grids_more, goes_on}
 
 -- ---- what the replies of printers and desks say
 
@@ -190,8 +192,8 @@ printer_steps {A} ranges capacities world new h event reply p actor after s name
       labels_are = g.labels_are;
       names = g.names;
       shows = g.shows;
-      safe = λ honest. printer_safe h g.entry.event g.entry.reply p own;
-      answers = λ fair honest. printer_answers (grids_of new) capacities h g.entry.event g.entry.reply p own;
+      safe = λ c actor clean. printer_safe h g.entry.event g.entry.reply p own;
+      answers = λ c actor brings clean. printer_answers (grids_of new) capacities h g.entry.event g.entry.reply p own;
       tickets_are = g.tickets_are;
       exports_more = [];
       exports_are = exports_same ∙ sym (append-nil world.exports);
@@ -218,7 +220,7 @@ printer_steps {A} ranges capacities world new h event reply p actor after s name
           let other : actor_of g.entry.event ≢ DeskAt d = (λ same. not_printer d p (sym same ∙ own)) in (
             old.0,
             desk_keeps g.entry h (grids_of world) (grids_of new) d capacity desk.state
-                (honest_before (grids_of world) (grids_of new) (map grid_of g.more) g.entry h grids) fresh
+                (clean_before (grids_of world) (grids_of new) (map grid_of g.more) g.entry h (AtDesk d) grids) fresh
                 (quiet_other g.entry h (DeskAt d) other)
                 (λ id m took. other (takes_there h g.entry.event g.entry.reply d id m took))
                 (λ id x. other (forgets_there g.entry.event g.entry.reply d id x))
@@ -260,17 +262,21 @@ desk_steps {A} ranges capacities world new h event reply d capacity actor after 
       labels_are = labels_same ∙ sym (append-nil world.labels);
       names = refl;
       shows = λ i label here. cc;
-      safe = λ honest. g.safe (subst (λ (l : List GridView). IsHonest l (e ∷ h)) grids honest);
-      answers = λ fair honest. subst (λ (l : List GridView). IsHonestReply l capacities h event reply) (sym grids)
-          (g.answers (subst (λ (l : List GridView). IsFair l event) grids fair)
-          (subst (λ (l : List GridView). IsHonest l h) grids honest));
+      safe = λ c actor clean. g.safe (subst (λ (l : List GridView). IsClean l (e ∷ h) (AtDesk d)) grids
+          (subst (λ (k : ℕ). IsClean (grids_of new) (e ∷ h) (AtDesk k)) (own_desk c actor) clean));
+      answers = λ c actor brings clean.
+          subst (λ (l : List GridView). IsHonestReply l capacities h event reply) (sym grids)
+          (g.answers (subst (λ (l : List GridView). BringsClean l h event) grids brings)
+          (subst (λ (l : List GridView). IsClean l h (AtDesk d)) grids
+          (subst (λ (k : ℕ). IsClean (grids_of new) h (AtDesk k)) (own_desk c actor) clean)));
       tickets_are = tickets_same ∙ sym (append-nil world.tickets) ∙
           ap (λ (l : List TicketView). world.tickets ++
           l) (sym (desk_gives_none ranges h event reply d named g.fits.reply));
       exports_more = x.more;
       exports_are = x.exports_are;
       export_names = x.names;
-      exports_show = λ i export here. subst (λ (l : List GridView). ShowsPages l (e ∷ h) export) (sym grids)
+      exports_show = λ i export here.
+          subst (λ (l : List GridView). ShowsPages l (e ∷ h) (length world.exports + i) export) (sym grids)
           (x.shows i export here);
       count = ap length printers_same ∙ s.count;
       printers = λ q b b_there.
@@ -301,8 +307,8 @@ desk_steps {A} ranges capacities world new h event reply d capacity actor after 
           ]);
     })
   where
-    Stands : (c room : ℕ) → DeskActor A → Type 0
-    Stands c room desk = (desk.capacity ≡ room) × DeskStands (grids_of world) (quiet event reply ∷ h) c room desk.state
+    own_desk : (c : ℕ) → actor_of event ≡ DeskAt c → c ≡ d
+    own_desk c actor = (let x : DeskAt c ≡ DeskAt d = sym actor ∙ named in cc (x))
 
     own_one : (actor.capacity ≡ capacity) × DeskStands (grids_of world) (quiet event reply ∷ h) d capacity after →
         (c room : ℕ) (desk : DeskActor A) → d ≡ c → slice_get capacities c ≡ Some room →

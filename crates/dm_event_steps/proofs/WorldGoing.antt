@@ -1,5 +1,5 @@
 -- What an entry leaves of the printers and desks that it does not name, and of what left.
-use Rattle.std.proofs.Common.{◌≡◌, ◌≢◌, ◌<◌, ℕ, zero, suc, Some, None, List, [], ◌∷◌, ◌++◌, length, map, slice_get, slice_set, refl, ap, sym, ◌∙◌, subst, arith}
+use Rattle.std.proofs.Common.{◌≡◌, ◌≢◌, ◌<◌, ◌+◌, inl, inr, ℕ, zero, suc, Some, None, List, [], ◌∷◌, ◌++◌, length, map, slice_get, slice_set, refl, ap, sym, ◌∙◌, subst}
 use Rattle.std.proofs.lemmas.List.{map-append}
 use Rattle.dm_finder_frame.specs.Grids.{GridView}
 use Rattle.dm_append_label.specs.declared.fault.LabelFault.{LabelFault}
@@ -11,14 +11,16 @@ use Rattle.dm_assembly_desk.specs.declared.fault.ScanFault.TheVariants as scan_f
 use Rattle.dm_event_history.specs.declared.event.Event.{Event}
 use Rattle.dm_event_history.specs.declared.event.Event.TheVariants.{Print, Scan, RestartPrinter, RestartDesk, Ask, Forget, Give, Take, Export, Import}
 use Rattle.dm_event_history.specs.declared.reply.Reply.{Reply}
-use Rattle.dm_event_history.specs.declared.reply.Reply.TheVariants.{Scanned, ScanRefused, Forgotten, Imported, ImportRefused}
+use Rattle.dm_event_history.specs.declared.reply.Reply.TheVariants.{Scanned, ScanRefused, ImportRefused}
 use Rattle.dm_event_history.specs.Actors.{Actor, PrinterAt, DeskAt, actor_of}
 use Rattle.dm_event_history.specs.History.{Entry, History, names_from, out, docs, given, exports, exported}
 use Rattle.dm_event_history.specs.Running.{is_down, is_failed}
 use Rattle.dm_event_history.specs.Holding.{Takes, Forgets}
 use Rattle.dm_event_history.specs.Legal.{Fits}
-use Rattle.dm_event_history.specs.Honest.{IsHonest, IsFair, IsBeyond, IsScannedWith, IsHonestlyRefused, IsHonestReply, AreHonestReplies}
-use Rattle.dm_event_history.specs.Safe.{IsReplySafe}
+use Rattle.dm_event_history.specs.Tainted.{Holder, AtDesk, InExport}
+use Rattle.dm_event_history.specs.Honest.{IsFair, IsCleanBy, IsClean, BringsClean, IsBeyond, IsScannedWith, IsHonestlyRefused, IsHonestReply, AreHonestReplies}
+use Rattle.dm_event_history.specs.Safe.{IsReplySafe, IsSafe}
+use Rattle.dm_event_history.proofs.Batches.{in_either}
 use Rattle.dm_event_history.proofs.Gotten.{get_more}
 use Rattle.dm_event_history.proofs.WhoActs.{is_down_other, is_failed_other}
 use Rattle.dm_event_history.proofs.Printed.{docs_keep}
@@ -68,25 +70,22 @@ get_map_from f [] i y is = cc
 get_map_from f (z ∷ zs) zero y is = (z, refl, cc)
 get_map_from f (z ∷ zs) (suc i) y is = get_map_from f zs i y is
 
--- where an element is, of two lists of one length
-pub other_has : {X Y : Type 0} (xs : List X) (ys : List Y) (i : ℕ) (y : Y) → length ys ≡ length xs →
-    slice_get ys i ≡ Some y →
-    (x : X) × (slice_get xs i ≡ Some x)
-other_has [] [] i y e h = cc
-other_has [] (b ∷ bs) i y e h = absurd (omega arith)
-other_has (a ∷ rest) [] i y e h = cc
-other_has (a ∷ rest) (b ∷ bs) zero y e h = (a, refl)
-other_has (a ∷ rest) (b ∷ bs) (suc i) y e h = other_has rest bs i y (omega arith) h
+-- of two lists joined, each element is in one, at a place of its own
+pub get_append_at : {X : Type 0} (P : ℕ → X → Type 0) (xs ys : List X) →
+    ((i : ℕ) (x : X) → slice_get xs i ≡ Some x → P i x) →
+    ((i : ℕ) (x : X) → slice_get ys i ≡ Some x → P (length xs + i) x) →
+    (i : ℕ) (x : X) → slice_get (xs ++ ys) i ≡ Some x → P i x
+get_append_at P xs ys first second i x there = elim (in_either xs ys i x there) [
+  | inl before ↦ first i x before
+  | inr after ↦ subst (λ (k : ℕ). P k x) (sym after.1) (second after.0 x after.2)
+]
 
--- of two lists joined, each element is in one
 pub get_append : {X : Type 0} (P : X → Type 0) (xs ys : List X) →
     ((i : ℕ) (x : X) → slice_get xs i ≡ Some x → P x) → ((i : ℕ) (x : X) → slice_get ys i ≡ Some x → P x) →
     (i : ℕ) (x : X) → slice_get (xs ++ ys) i ≡ Some x → P x
-get_append P [] ys a b i x h = b i x h
-get_append P (z ∷ zs) ys a b zero x h = a zero x h
-get_append P (z ∷ zs) ys a b (suc i) x h = get_append P zs ys (λ j. a (suc j)) b i x h
+get_append P xs ys first second = get_append_at (λ i. P) xs ys first second
 
--- ---- honest histories
+-- ---- what is clean
 
 fair_less : {A : Type 0} (grids more : List GridView) (event : Event A) → IsFair (grids ++ more) event →
     IsFair grids event
@@ -101,17 +100,49 @@ fair_less grids more (Take p ticket stop) is = tt
 fair_less grids more (Export d id) is = tt
 fair_less grids more (Import d export stop) is = tt
 
--- a history that is honest over more labels is honest over these
-honest_less : {A : Type 0} (grids more : List GridView) (h : History A) → IsHonest (grids ++ more) h → IsHonest grids h
-honest_less grids more [] is = tt
-honest_less grids more (e ∷ h) is =
-    ((λ may. fair_less grids more e.event (is.0 may)), honest_less grids more h is.1)
+brings_less : {A : Type 0} (grids more : List GridView) (IsCleanNow IsCleanThen : ℕ → Type 0) →
+    ((export : ℕ) → IsCleanNow export → IsCleanThen export) → (event : Event A) →
+    IsCleanBy (grids ++ more) IsCleanNow event → IsCleanBy grids IsCleanThen event
+brings_less {A} grids more IsCleanNow IsCleanThen less (Scan d number flips stop) is =
+    fair_less {A = A} grids more (Scan d number flips stop) is
+brings_less grids more IsCleanNow IsCleanThen less (Import d export stop) is = less export is
+brings_less grids more IsCleanNow IsCleanThen less event is = tt
 
--- an honest history was honest before its last entry
-pub honest_before : {A : Type 0} (grids all more : List GridView) (e : Entry A) (h : History A) → all ≡ grids ++ more →
-    IsHonest all (e ∷ h) → IsHonest grids h
-honest_before {A} grids all more e h is honest =
-    honest_less grids more h (subst (λ (l : List GridView). IsHonest l h) is honest.1)
+-- what is clean over more labels is clean over these
+clean_less : {A : Type 0} (grids more : List GridView) (h : History A) (holder : Holder) →
+    IsClean (grids ++ more) h holder → IsClean grids h holder
+clean_less grids more [] holder clean = tt
+clean_less grids more (e ∷ h) (AtDesk d) clean = (
+  (λ actor may. brings_less grids more (λ export. IsClean (grids ++ more) h (InExport export))
+      (λ export. IsClean grids h (InExport export)) (λ export is. clean_less grids more h (InExport export) is)
+      e.event (clean.0 actor may)),
+  clean_less grids more h (AtDesk d) clean.1,
+)
+clean_less grids more (e ∷ h) (InExport number) clean = (
+  (λ d asked id n mask event_is reply_is. clean_less grids more h (AtDesk d)
+      (clean.0 d asked id n mask event_is reply_is)),
+  clean_less grids more h (InExport number) clean.1,
+)
+
+-- what is clean was clean before the last entry
+clean_then : {A : Type 0} (grids : List GridView) (e : Entry A) (h : History A) (holder : Holder) →
+    IsClean grids (e ∷ h) holder → IsClean grids h holder
+clean_then grids e h (AtDesk d) clean = clean.1
+clean_then grids e h (InExport number) clean = clean.1
+
+pub clean_before : {A : Type 0} (grids all more : List GridView) (e : Entry A) (h : History A) (holder : Holder) →
+    all ≡ grids ++ more → IsClean all (e ∷ h) holder → IsClean grids h holder
+clean_before {A} grids all more e h holder is clean =
+    clean_less grids more h holder
+    (subst (λ (l : List GridView). IsClean l h holder) is (clean_then all e h holder clean))
+
+-- so what clean desks answered stays safe over more labels
+safe_more : {A : Type 0} (grids more : List GridView) (h : History A) → IsSafe grids h → IsSafe (grids ++ more) h
+safe_more grids more [] is = tt
+safe_more grids more (e ∷ h) is = (
+  (λ d actor clean. is.0 d actor (clean_less grids more (e ∷ h) (AtDesk d) clean)),
+  safe_more grids more h is.1,
+)
 
 -- what honest scans were answered stays so over more labels
 framed_more : (Frame : GridView → Type 0) (grids more : List GridView) (number : ℕ) (flips : List (ℕ × ℕ)) →
@@ -154,7 +185,12 @@ replies_more : {A : Type 0} (grids more : List GridView) (capacities : List ℕ)
     AreHonestReplies grids capacities h → AreHonestReplies (grids ++ more) capacities h
 replies_more grids more capacities [] is = tt
 replies_more grids more capacities (e ∷ h) is = (
-  (λ fair. reply_more grids more capacities h e.event e.reply (is.0 (fair_less grids more e.event fair))),
+  (λ d actor brings clean. reply_more grids more capacities h e.event e.reply
+      (is.0 d actor
+      (brings_less grids more (λ export. IsClean (grids ++ more) h (InExport export))
+      (λ export. IsClean grids h (InExport export)) (λ export. clean_less grids more h (InExport export)) e.event
+      brings)
+      (clean_less grids more h (AtDesk d) clean))),
   replies_more grids more capacities h is.1,
 )
 
@@ -194,8 +230,9 @@ printer_keeps ranges e h p (printers.Down saved) quiet numbers s = record {
 
 pub desk_keeps : {A : Type 0} (e : Entry A) (h : History A) (grids all : List GridView) (d capacity : ℕ)
     (state : DeskState A) →
-    (IsHonest all (e ∷ h) → IsHonest grids h) → (0 < e.left → docs h e.id ≡ None) → IsQuietFor e h (DeskAt d) →
-    ((id m : ℕ) → ¬ Takes h e.event e.reply d id m) → ((id : ℕ) → ¬ Forgets e.event e.reply d id) →
+    (IsClean all (e ∷ h) (AtDesk d) → IsClean grids h (AtDesk d)) → (0 < e.left → docs h e.id ≡ None) →
+    IsQuietFor e h (DeskAt d) →
+    ((id m : ℕ) → ¬ Takes (exports h) e.event e.reply d id m) → ((id : ℕ) → ¬ Forgets e.event e.reply d id) →
     DeskStands grids h d capacity state → DeskStands all (e ∷ h) d capacity state
 desk_keeps e h grids all d capacity (desks.Running view) back fresh quiet takes stays s = (
   s.0,
@@ -212,21 +249,6 @@ desk_keeps e h grids all d capacity (desks.Down saved) back fresh quiet takes st
   },
 )
 
--- pages are taken, and documents forgotten, at the desk that is named
-pub takes_there : {A : Type 0} (h : History A) (event : Event A) (reply : Reply A) (d id m : ℕ) →
-    Takes h event reply d id m → actor_of event ≡ DeskAt d
-takes_there h (Scan desk label flips stop) (Scanned accepted) d id m took = ap DeskAt took.0
-takes_there h (Scan desk label flips stop) reply d id m took = absurd took
-takes_there h (Import desk export stop) (Imported imported) d id m took = ap DeskAt took.0
-takes_there h (Import desk export stop) reply d id m took = absurd took
-takes_there h event reply d id m took = absurd took
-
-pub forgets_there : {A : Type 0} (event : Event A) (reply : Reply A) (d id : ℕ) → Forgets event reply d id →
-    actor_of event ≡ DeskAt d
-forgets_there (Forget desk name stop) Forgotten d id forgot = ap DeskAt forgot.0
-forgets_there (Forget desk name stop) reply d id forgot = absurd forgot
-forgets_there event reply d id forgot = absurd forgot
-
 -- ---- a world with one entry more
 
 label_keeps : {A : Type 0} (e : Entry A) (h : History A) (label : LeftLabel A) → (0 < e.left → docs h e.id ≡ None) →
@@ -241,15 +263,16 @@ label_keeps e h label fresh s = record {
   carries = s.carries;
 }
 
-pages_keep : {A : Type 0} (grids all more : List GridView) (e : Entry A) (h : History A) (export : LeftExport A) →
-    all ≡ grids ++ more →
-    (0 < e.left → docs h e.id ≡ None) → ShowsPages grids h export → ShowsPages all (e ∷ h) export
-pages_keep grids all more e h export is fresh x = record {
+pages_keep : {A : Type 0} (grids all more : List GridView) (e : Entry A) (h : History A) (number : ℕ)
+    (export : LeftExport A) → all ≡ grids ++ more → (0 < e.left → docs h e.id ≡ None) →
+    ShowsPages grids h number export → ShowsPages all (e ∷ h) number export
+pages_keep grids all more e h number export is fresh x = record {
   pages = x.pages;
   spells = x.spells;
   count_is = x.count_is;
   mask_is = x.mask_is;
-  parts = λ honest. parts_keep e h export.id x.pages fresh (x.parts (honest_before grids all more e h is honest));
+  parts = λ clean. parts_keep e h export.id x.pages fresh
+      (x.parts (clean_before grids all more e h (InExport number) is clean));
 }
 
 -- what is to be shown of a step
@@ -260,15 +283,16 @@ pub record IsAdded {A : Type 0} (ranges : List Range) (capacities : List ℕ) (w
   pub labels_are : new.labels ≡ world.labels ++ more
   pub names : map name_of more ≡ names_from entry.id (length entry.parts) 1 entry.left
   pub shows : (i : ℕ) (label : LeftLabel A) → slice_get more i ≡ Some label → ShowsDocument (entry ∷ h) label
-  pub safe : IsHonest (grids_of new) (entry ∷ h) → IsReplySafe h entry.event entry.reply
-  pub answers : IsFair (grids_of new) entry.event → IsHonest (grids_of new) h →
-      IsHonestReply (grids_of new) capacities h entry.event entry.reply
+  pub safe : (desk : ℕ) → actor_of entry.event ≡ DeskAt desk → IsClean (grids_of new) (entry ∷ h) (AtDesk desk) →
+      IsReplySafe h entry.event entry.reply
+  pub answers : (desk : ℕ) → actor_of entry.event ≡ DeskAt desk → BringsClean (grids_of new) h entry.event →
+      IsClean (grids_of new) h (AtDesk desk) → IsHonestReply (grids_of new) capacities h entry.event entry.reply
   pub tickets_are : new.tickets ≡ world.tickets ++ given entry.reply
   pub exports_more : List (LeftExport A)
   pub exports_are : new.exports ≡ world.exports ++ exports_more
   pub export_names : map export_name_of exports_more ≡ exported entry.reply
   pub exports_show : (i : ℕ) (export : LeftExport A) → slice_get exports_more i ≡ Some export →
-      ShowsPages (grids_of new) (entry ∷ h) export
+      ShowsPages (grids_of new) (entry ∷ h) (length world.exports + i) export
   pub count : length new.printers ≡ length ranges
   pub printers : (p : ℕ) (actor : PrinterActor A) → slice_get new.printers p ≡ Some actor →
       PrinterStands ranges (entry ∷ h) p actor
@@ -302,15 +326,15 @@ goes_on {A} ranges capacities world new h entry s g =
     record {
       disjoint = s.disjoint;
       legal = (g.fits, s.legal);
-      safe = λ honest. (
-        g.safe honest,
-        s.safe (honest_before (grids_of world) (grids_of new) (map grid_of g.more) entry h grids honest),
+      safe = (
+        g.safe,
+        subst (λ (l : List GridView). IsSafe l h) (sym grids)
+            (safe_more (grids_of world) (map grid_of g.more) h s.safe),
       );
-      answers = λ honest. (
-        (λ fair. g.answers fair honest.1),
+      answers = (
+        g.answers,
         subst (λ (l : List GridView). AreHonestReplies l capacities h) (sym grids)
-            (replies_more (grids_of world) (map grid_of g.more) capacities h
-            (s.answers (honest_before (grids_of world) (grids_of new) (map grid_of g.more) entry h grids honest))),
+            (replies_more (grids_of world) (map grid_of g.more) capacities h s.answers),
       );
       left = record {
         names =
@@ -326,8 +350,8 @@ goes_on {A} ranges capacities world new h entry s g =
           ap (map export_name_of) g.exports_are ∙ map-append export_name_of world.exports g.exports_more ∙
           ap (λ l. l ++ map export_name_of g.exports_more) s.export_names ∙ ap (λ l. exports h ++ l) g.export_names;
       exports = λ i export here.
-          get_append (ShowsPages (grids_of new) (entry ∷ h)) world.exports g.exports_more
-          (λ j old there. pages_keep (grids_of world) (grids_of new) (map grid_of g.more) entry h old grids fresh
+          get_append_at (ShowsPages (grids_of new) (entry ∷ h)) world.exports g.exports_more
+          (λ j old there. pages_keep (grids_of world) (grids_of new) (map grid_of g.more) entry h j old grids fresh
           (s.exports j old there))
           g.exports_show i export
           (subst (λ (l : List (LeftExport A)). slice_get l i ≡ Some export) g.exports_are here);

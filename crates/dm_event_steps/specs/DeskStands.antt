@@ -9,7 +9,8 @@ use Rattle.dm_assembly_desk.specs.Views.{DeskView, IsCapacity}
 use Rattle.dm_event_history.specs.Actors.{DeskAt}
 use Rattle.dm_event_history.specs.History.{History}
 use Rattle.dm_event_history.specs.Running.{is_down, is_failed}
-use Rattle.dm_event_history.specs.Honest.{IsHonest}
+use Rattle.dm_event_history.specs.Tainted.{AtDesk}
+use Rattle.dm_event_history.specs.Honest.{IsClean}
 use Rattle.dm_event_steps.specs.declared.actor.DeskState.{DeskState}
 use Rattle.dm_event_steps.specs.declared.actor.DeskState.TheVariants.{Running, Down}
 use Rattle.dm_event_steps.specs.Gathered.{IsGathered}
@@ -20,14 +21,14 @@ pub record IsReadySet (saved : SavedSet) : Type 0 where
   pub loads_fine : saved.load_plan ≡ LoadsFine
   pub saves_fine : saved.save_plan ≡ SavesFine
 
--- The set is honest, nothing is to fail, and it holds the files of these documents, for which there is room. In an
--- honest history they are gathered. `grids` are the labels that left.
+-- The set is honest, nothing is to fail, and it holds the files of these documents, for which there is room. If the
+-- desk is clean, they are gathered. `grids` are the labels that left.
 pub record SetStands {A : Type 0} (grids : List GridView) (h : History A) (desk capacity : ℕ)
     (saved : SavedSet) (held : Documents) : Type 0 where
   pub ready : IsReadySet saved
   pub holds : HoldsFiles saved.content held
   pub few : finite.len held ≤ capacity
-  pub gathered : IsHonest grids h → IsGathered h desk held
+  pub gathered : IsClean grids h (AtDesk desk) → IsGathered h desk held
 
 -- a running desk shows what its set holds, unless it answered `Save` since its last restart
 pub record DeskRuns {A : Type 0} (grids : List GridView) (h : History A) (desk capacity : ℕ) (view : DeskView)
@@ -38,7 +39,7 @@ pub record DeskRuns {A : Type 0} (grids : List GridView) (h : History A) (desk c
   pub stored : Documents
   pub store : SetStands grids h desk capacity view.saved stored
   pub shows : view.is_failed ≡ false → view.held ≡ stored
-  pub gathered : IsHonest grids h → IsGathered h desk view.held
+  pub gathered : IsClean grids h (AtDesk desk) → IsGathered h desk view.held
 
 -- a desk that is down
 pub record DeskLiesDown {A : Type 0} (grids : List GridView) (h : History A) (desk capacity : ℕ) (saved : SavedSet)

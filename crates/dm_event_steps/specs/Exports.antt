@@ -4,7 +4,8 @@ use Rattle.dm_finder_frame.specs.Grids.{GridView}
 use Rattle.dm_assembly_desk.specs.Pages.{Pages, page, mask}
 use Rattle.dm_assembly_desk.specs.Files.{Spells}
 use Rattle.dm_event_history.specs.History.{History, CutDocument, ExportName, docs}
-use Rattle.dm_event_history.specs.Honest.{IsHonest}
+use Rattle.dm_event_history.specs.Tainted.{InExport}
+use Rattle.dm_event_history.specs.Honest.{IsClean}
 use Rattle.dm_event_steps.specs.declared.actor.LeftExport.{LeftExport}
 use Rattle.dm_event_steps.specs.Labels.{IsPart}
 
@@ -18,10 +19,12 @@ pub record AreParts {A : Type 0} (h : History A) (id : ℕ) (pages : Pages) : Ty
   pub count : length pages ≡ length cut.parts
   pub each : (m : ℕ) (bytes : List ℕ) → page pages m ≡ Some bytes → IsPart cut m bytes
 
--- the export is the file of just the pages of its mask; in an honest history they are parts of what was printed
-pub record ShowsPages {A : Type 0} (grids : List GridView) (h : History A) (export : LeftExport A) : Type 0 where
+-- the export of this number is the file of just the pages of its mask; if it is clean, they are parts of what was
+-- printed
+pub record ShowsPages {A : Type 0} (grids : List GridView) (h : History A) (number : ℕ) (export : LeftExport A)
+    : Type 0 where
   pub pages : Pages
   pub spells : Spells export.id export.bytes pages
   pub count_is : export.count ≡ length pages
   pub mask_is : export.mask ≡ mask pages
-  pub parts : IsHonest grids h → AreParts h export.id pages
+  pub parts : IsClean grids h (InExport number) → AreParts h export.id pages

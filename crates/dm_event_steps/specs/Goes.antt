@@ -1,5 +1,5 @@
 -- That a printer or a desk which stands for a history goes on to stand for it with one entry more.
-use Rattle.std.specs.Prelude.{◌≡◌, ◌<◌, ℕ, false, Some, List, [], ◌∷◌, ◌++◌, length, map, slice_get}
+use Rattle.std.specs.Prelude.{◌≡◌, ◌<◌, ◌+◌, ℕ, false, Some, List, [], ◌∷◌, ◌++◌, length, map, slice_get}
 use Rattle.dm_finder_frame.specs.Grids.{GridView}
 use Rattle.dm_print_ledger.specs.declared.range.Range.{Range}
 use Rattle.dm_event_history.specs.declared.event.Event.{Event}
@@ -9,7 +9,8 @@ use Rattle.dm_event_history.specs.History.{Entry, History, names_from, out, tick
 use Rattle.dm_event_history.specs.Legal.{AreDisjoint, IsLegal, Fits, IsThere}
 use Rattle.dm_event_steps.specs.declared.actor.PrinterActor.{PrinterActor}
 use Rattle.dm_event_history.specs.Safe.{IsReplySafe}
-use Rattle.dm_event_history.specs.Honest.{IsFair, IsHonest, IsHonestReply}
+use Rattle.dm_event_history.specs.Tainted.{AtDesk}
+use Rattle.dm_event_history.specs.Honest.{IsClean, BringsClean, IsHonestReply}
 use Rattle.dm_event_steps.specs.declared.actor.LeftLabel.{LeftLabel}
 use Rattle.dm_event_steps.specs.declared.actor.DeskState.{DeskState}
 use Rattle.dm_event_steps.specs.DeskStands.{DeskStands}
@@ -55,14 +56,15 @@ abbrev pub quiet : {A : Type 0} → Event A → Reply A → Entry A
 quiet event reply = record { event = event; reply = reply; id = 0; parts = []; left = 0; saved = false }
 
 -- The entry of an event at a desk, with this event and this reply, fits the history, and the desk stands for the longer
--- one. If that is honest, the reply is safe. If the history was honest and the event is fair, it is refused as in an
--- honest one.
+-- one. If the desk is clean then, the reply is safe. If the desk was clean and the event brings nothing but what is
+-- clean, it is refused for these reasons alone.
 pub record DeskGoes {A : Type 0} (ranges : List Range) (capacities : List ℕ) (grids : List GridView) (h : History A)
     (event : Event A) (reply : Reply A) (desk capacity : ℕ) (state : DeskState A) : Type 0 where
   pub fits : Fits ranges (length capacities) h (quiet event reply)
   pub stands : DeskStands grids (quiet event reply ∷ h) desk capacity state
-  pub safe : IsHonest grids (quiet event reply ∷ h) → IsReplySafe h event reply
-  pub answers : IsFair grids event → IsHonest grids h → IsHonestReply grids capacities h event reply
+  pub safe : IsClean grids (quiet event reply ∷ h) (AtDesk desk) → IsReplySafe h event reply
+  pub answers : BringsClean grids h event → IsClean grids h (AtDesk desk) →
+      IsHonestReply grids capacities h event reply
 
 -- the exports that left by an event are those of its reply, and show their pages
 pub record ExportsGo {A : Type 0} (grids : List GridView) (h : History A) (event : Event A) (reply : Reply A)
@@ -71,4 +73,4 @@ pub record ExportsGo {A : Type 0} (grids : List GridView) (h : History A) (event
   pub exports_are : new ≡ old ++ more
   pub names : map export_name_of more ≡ exported reply
   pub shows : (i : ℕ) (export : LeftExport A) → slice_get more i ≡ Some export →
-      ShowsPages grids (quiet event reply ∷ h) export
+      ShowsPages grids (quiet event reply ∷ h) (length old + i) export

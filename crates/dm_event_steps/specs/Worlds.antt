@@ -1,18 +1,16 @@
 -- Worlds of printers and desks: what one step of a world does, what a run is, and which labels left by it.
-use Rattle.std.specs.Prelude.{◌≡◌, ◌≢◌, ◌⊎◌, ◌<◌, ℕ, Bool, true, Option, Some, List, [], ◌∷◌, length, map, take, slice_get, slice_set, All}
+use Rattle.std.specs.Prelude.{◌≡◌, ◌⊎◌, ◌<◌, ℕ, Bool, true, Option, Some, List, [], ◌∷◌, length, map, slice_get, slice_set, All}
 use Rattle.dm_check_blocks.specs.Sizes.{side}
 use Rattle.dm_finder_frame.specs.Grids.{GridView}
 use Rattle.dm_append_label.specs.Labels.{Carries}
 use Rattle.dm_print_ledger.specs.declared.range.Range.{Range}
 use Rattle.dm_print_ledger.specs.Views.{TicketView}
-use Rattle.dm_assembly_desk.specs.declared.fault.ScanFault.TheVariants.{Conflict}
 use Rattle.dm_event_history.specs.declared.event.Event.{Event}
 use Rattle.dm_event_history.specs.declared.event.Event.TheVariants.{Print, Scan, RestartPrinter, RestartDesk, Ask, Forget, Give, Take, Export, Import}
 use Rattle.dm_event_history.specs.declared.reply.Reply.{Reply}
-use Rattle.dm_event_history.specs.declared.reply.Reply.TheVariants.{ScanRefused, NoSuch}
+use Rattle.dm_event_history.specs.declared.reply.Reply.TheVariants.{NoSuch}
 use Rattle.dm_event_history.specs.Actors.{PrinterAt, DeskAt, actor_of}
 use Rattle.dm_event_history.specs.Legal.{IsNoLabelTwice}
-use Rattle.dm_event_history.specs.Saving.{may_save}
 use Rattle.dm_event_history.specs.Honest.{IsFair}
 use Rattle.dm_event_history.specs.Headline.{Batch, labels_of, PrintsOnceBy, IsFaithfulBy}
 use Rattle.dm_event_history.specs.Places.{AreOpened}
@@ -114,12 +112,6 @@ RunsMarked {A} old (event ∷ events) (mark ∷ marks) (reply ∷ replies) new =
     × RunsMarked mid events marks replies new
 RunsMarked old events marks replies new = ⊥
 
--- each event that may have saved is marked
-abbrev pub AreMarked : {A : Type 0} → List (Event A) → List Bool → List (Reply A) → Type 0
-AreMarked (event ∷ events) (mark ∷ marks) (reply ∷ replies) =
-    (may_save event reply ≡ true → mark ≡ true) × AreMarked events marks replies
-AreMarked events marks replies = Unit {0}
-
 -- ---- labels
 
 -- the label carries its part of the document of its batch
@@ -146,16 +138,11 @@ HasPrintedOnce ranges desks world events replies =
 abbrev pub AreItsLabels : {A : Type 0} → List Range → WorldView A → Type 0
 AreItsLabels ranges world = IsNoLabelTwice (map name_of world.labels) × AreOpened ranges (map name_of world.labels)
 
--- No identification was printed twice; and as long as each event that may have saved is marked, the replies are
--- faithful, and no scan that is marked is refused for a conflict. One list of batches serves for all, and for each
--- number of first events; just the world's labels left.
+-- The replies are faithful, by batches of just the labels that left the world. The marks say which events were found
+-- honest.
 pub record HasBeenFaithful {A : Type 0} (ranges : List Range) (desks : ℕ) (world : WorldView A)
     (events : List (Event A)) (marks : List Bool) (replies : List (Reply A))
     : Type 0 where
   pub batches : List (Option Batch)
   pub its : AreItsBatches world batches
-  pub prints : PrintsOnceBy ranges desks batches events replies
-  pub faithful : (k : ℕ) → AreMarked (take k events) (take k marks) (take k replies) →
-      IsFaithfulBy ranges desks (take k batches) (take k events) (take k replies)
-  pub no_conflict : (i : ℕ) → AreMarked (take i events) (take i marks) (take i replies) →
-      slice_get marks i ≡ Some true → slice_get replies i ≢ Some (ScanRefused Conflict)
+  pub faithful : IsFaithfulBy ranges desks batches events marks replies

@@ -20,7 +20,7 @@ pub fn each_beginning_stands<A: Allocator + Copy>()
 {}
 
 /// A world that stands for a history stands, after a step, for the history with one entry more, of that event and that
-/// reply; and an honest history stays honest by an event that is fair, or can't have saved.
+/// reply; and if each event that was marked was fair, and this one is if it is marked, so it is of the longer one.
 pub fn each_step_stands<A: Allocator + Copy>()
     ensures { EachStepStands A }
 {}
@@ -42,9 +42,9 @@ pub fn each_run_imports_exports<A: Allocator + Copy>()
     ensures { EachRunImportsExports A }
 {}
 
-/// The headline: whatever a world answers that begins with printers of disjoint ranges is faithful as long as the scans
-/// that may have saved a page are near the labels that they name. Whatever document any desk gives for an
-/// identification is the one document printed under it, and no identification is ever printed twice.
+/// The headline: whatever a world answers that begins with printers of disjoint ranges is faithful, whichever events
+/// are marked, if the scans among them are near the labels that they name. Whatever document a desk that is not tainted
+/// gives for an identification is the one document printed under it, and no identification is ever printed twice.
 pub fn each_fair_run_is_faithful<A: Allocator + Copy>()
     ensures { EachFairRunIsFaithful A }
 {}

@@ -1,18 +1,16 @@
 -- Runs of worlds: one event more at their end, and the headline.
-use Rattle.std.proofs.Common.{◌≡◌, ℕ, Bool, true, false, Some, List, [], ◌∷◌, ◌++◌, length, slice_get, refl, ap, subst, zero, suc, take, arith}
-use Rattle.dm_assembly_desk.specs.declared.fault.ScanFault.TheVariants.{Conflict}
+use Rattle.std.proofs.Common.{◌≡◌, ℕ, true, false, Some, List, [], ◌∷◌, ◌++◌, length, slice_get, refl, subst, zero, suc, arith}
 use Rattle.dm_print_ledger.specs.declared.range.Range.{Range}
 use Rattle.dm_event_history.specs.declared.event.Event.{Event}
 use Rattle.dm_event_history.specs.declared.event.Event.TheVariants.{Scan}
 use Rattle.dm_event_history.specs.declared.reply.Reply.{Reply}
-use Rattle.dm_event_history.specs.declared.reply.Reply.TheVariants.{ScanRefused, NoSuch}
+use Rattle.dm_event_history.specs.declared.reply.Reply.TheVariants.{NoSuch}
 use Rattle.dm_event_history.specs.History.{History}
-use Rattle.dm_event_history.specs.Headline.{IsFaithfulBy}
-use Rattle.dm_event_steps.specs.Worlds.{WorldView, Steps, IsFairIn, Runs, RunsMarked, AreMarked, HasBeenFaithful}
+use Rattle.dm_event_steps.specs.Worlds.{WorldView, Steps, IsFairIn, Runs, RunsMarked, HasBeenFaithful}
 use Rattle.dm_event_world.specs.declared.answers.Answer.{Answer}
 use Rattle.dm_event_world.specs.declared.answers.Answer.TheVariants.{Given, NotGiven}
 use Rattle.dm_event_world.specs.Runs.{Continues, GoesOn, GoesOnByAll}
-use Rattle.dm_event_world.specs.Watched.{given, replies, AreHonest, IsScan, HasFlips, IsFaithfulIfHonestBy, IsLookedAt, Answers, AnswersAll}
+use Rattle.dm_event_world.specs.Watched.{given, marks, replies, IsScan, HasFlips, IsFaithfulIfHonestBy, IsLookedAt, Answers, AnswersAll}
 use Rattle.dm_event_world.proofs.ScannedLabels.{near_itself, not_named}
 
 -- one event more
@@ -58,12 +56,6 @@ goes_on_more old mid new events all event reply by_all by_one = λ ranges capaci
     let n = by_one ranges capacities m.0 m.2 in
     (n.0 ∷ m.0, continues_more h m.0 (n.0 ∷ m.0) events all event reply m.1 (n.0, n.1, n.2, refl), n.3)
 
--- which of the events that were given were found honest
-abbrev pub marks : {A : Type 0} → List (Answer A) → List Bool
-marks [] = []
-marks (Given is_honest reply ∷ answers) = is_honest ∷ marks answers
-marks (NotGiven ∷ answers) = marks answers
-
 -- the events that were given are a run, and those that were found honest are fair
 pub runs_marked : {A : Type 0} (old new : WorldView A) (events : List (Event A)) (answers : List (Answer A)) →
     AnswersAll old events answers new →
@@ -76,62 +68,6 @@ runs_marked {A} old new (event ∷ events) (NotGiven ∷ answers) runs =
     (runs_marked runs.0 new events answers runs.2)
 runs_marked old new [] (answer ∷ answers) runs = absurd runs
 runs_marked old new (event ∷ events) [] runs = absurd runs
-
--- how many of the first answers are replies
-abbrev count : {A : Type 0} → ℕ → List (Answer A) → ℕ
-count k answers = length (replies (take k answers))
-
-nothing_marked : {A : Type 0} (n : ℕ) (marks : List Bool) (replies : List (Reply A)) →
-    AreMarked {A = A} (take n []) (take n marks) (take n replies)
-nothing_marked zero marks replies = tt
-nothing_marked (suc n) marks replies = tt
-
--- the first answers, the replies among them, and the events that were given
-first_marked : {A : Type 0} (k : ℕ) (events : List (Event A)) (answers : List (Answer A)) →
-    AreHonest (take k events) (take k answers) →
-    AreMarked (take (count k answers) (given events answers)) (take (count k answers) (marks answers))
-    (take (count k answers) (replies answers))
-first_marked zero events answers honest = tt
-first_marked (suc k) [] [] honest = tt
-first_marked (suc k) (event ∷ events) [] honest = tt
-first_marked (suc k) (event ∷ events) (Given is_honest reply ∷ answers) honest =
-    (honest.0, first_marked k events answers honest.1)
-first_marked (suc k) (event ∷ events) (NotGiven ∷ answers) honest = first_marked k events answers honest
-first_marked (suc k) [] (Given is_honest reply ∷ answers) honest = tt
-first_marked (suc k) [] (NotGiven ∷ answers) honest = nothing_marked (count k answers) (marks answers) (replies answers)
-
--- the answer to an event that was given is its mark and its reply
-given_at : {A : Type 0} (k : ℕ) (answers : List (Answer A)) (is_honest : Bool) (reply : Reply A) →
-    slice_get answers k ≡ Some (Given is_honest reply) →
-    (slice_get (marks answers) (count k answers) ≡ Some is_honest)
-    × (slice_get (replies answers) (count k answers) ≡ Some reply)
-given_at k [] is_honest reply is = absurd (cc (is))
-given_at zero (Given own told ∷ answers) is_honest reply is =
-    (let e : Some (Given own told) ≡ Some (Given is_honest reply) = is in
-    (let same : own ≡ is_honest = cc (e) in ap Some same, let same : told ≡ reply = cc (e) in ap Some same))
-given_at zero (NotGiven ∷ answers) is_honest reply is = absurd (cc (is))
-given_at (suc k) (Given own told ∷ answers) is_honest reply is = given_at k answers is_honest reply is
-given_at (suc k) (NotGiven ∷ answers) is_honest reply is = given_at k answers is_honest reply is
-
-first_replies : {A : Type 0} (k : ℕ) (answers : List (Answer A)) →
-    take (length (replies (take k answers))) (replies answers) ≡ replies (take k answers)
-first_replies zero answers = refl
-first_replies (suc k) [] = refl
-first_replies {A} (suc k) (Given is_honest reply ∷ answers) =
-    ap (λ (l : List (Reply A)). reply ∷ l) (first_replies k answers)
-first_replies (suc k) (NotGiven ∷ answers) = first_replies k answers
-
-first_given : {A : Type 0} (k : ℕ) (old new : WorldView A) (events : List (Event A)) (answers : List (Answer A)) →
-    AnswersAll old events answers new →
-    take (length (replies (take k answers))) (given events answers) ≡ given (take k events) (take k answers)
-first_given zero old new events answers runs = refl
-first_given (suc k) old new [] [] runs = refl
-first_given {A} (suc k) old new (event ∷ events) (Given is_honest reply ∷ answers) runs =
-    ap (λ (l : List (Event A)). event ∷ l) (first_given k runs.0 new events answers runs.2)
-first_given (suc k) old new (event ∷ events) (NotGiven ∷ answers) runs =
-    first_given k runs.0 new events answers runs.2
-first_given (suc k) old new [] (answer ∷ answers) runs = absurd runs
-first_given (suc k) old new (event ∷ events) [] runs = absurd runs
 
 -- each answer is one to its event
 record IsAnswered {A : Type 0} (event : Event A) (answer : Answer A) : Type 0 where
@@ -197,16 +133,7 @@ faithful_by {A} ranges desks old new events answers runs f = record {
       (let t = each_answered old new events answers runs i event (Given false reply) asked answered in
       let unfair : ¬ IsFairIn t.was event = (λ fair. let x : false ≡ true = t.answers.0.1 fair in cc (x)) in
       (has_flips t.was event unfair, λ none. is_there t.was t.is event reply unfair t.answers.1 none));
-  once = f.prints;
-  faithful = λ k honest.
-      (let n = length (replies (take k answers)) in
-      subst (λ (l : List (Event A)). IsFaithfulBy ranges desks (take n f.batches) l (replies (take k answers)))
-      (first_given k old new events answers runs)
-      (subst (λ (l : List (Reply A)). IsFaithfulBy ranges desks (take n f.batches) (take n (given events answers)) l)
-      (first_replies k answers) (f.faithful n (first_marked k events answers honest))));
-  no_conflict = λ k honest refused.
-      (let at = given_at k answers true (ScanRefused Conflict) refused in
-      f.no_conflict (count k answers) (first_marked k events answers honest) at.0 at.1);
+  faithful = f.faithful;
 }
 
 -- the events that were given are a run

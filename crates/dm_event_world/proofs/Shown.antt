@@ -1,22 +1,25 @@
--- The run is refused: the first batches of its one list are those of the first events.
+-- Runs are refused for their answers.
 use Rattle.std.proofs.Common.{◌≡◌, ◌<◌, ℕ, zero, suc, true, false, Option, Some, None, List, [], ◌∷◌, ◌++◌, take, refl, sym, ◌∙◌, subst, arith, slice_get}
 use Rattle.dm_append_label.specs.declared.fault.LabelFault.TheVariants.{Block}
 use Rattle.dm_assembly_desk.specs.declared.reply.Kind.TheVariants.{New}
-use Rattle.dm_assembly_desk.specs.declared.fault.ScanFault.TheVariants.{Label}
+use Rattle.dm_assembly_desk.specs.declared.fault.ScanFault.TheVariants.{Label, Conflict}
 use Rattle.dm_event_history.specs.declared.event.Event.{Event}
 use Rattle.dm_event_history.specs.declared.event.Event.TheVariants.{Scan, RestartPrinter, Forget}
 use Rattle.dm_event_history.specs.declared.reply.Reply.{Reply}
-use Rattle.dm_event_history.specs.declared.reply.Reply.TheVariants.{Scanned, ScanRefused, Forgotten, Restarted, Stopped, Down, NoSuch}
+use Rattle.dm_event_history.specs.declared.reply.Reply.TheVariants.{Printed, Scanned, ScanRefused, Forgotten, Restarted, Stopped, Down, NoSuch}
 use Rattle.dm_event_history.specs.declared.stop.Stop.{Stop}
 use Rattle.dm_event_history.specs.declared.stop.Stop.TheVariants as stops
 use Rattle.dm_event_history.specs.Saving.{may_save}
 use Rattle.dm_event_history.specs.Headline.{Batch, labels_of, IsScanOf, MayHaveSaved}
+use Rattle.dm_event_history.specs.Tainted.{AtDesk, IsTainted}
+use Rattle.dm_event_history.proofs.Tainting.{is_tainted, untainted_by}
 use Rattle.dm_event_history.proofs.Refuted.{first_label}
 use Rattle.dm_event_history.specs.Worked.{digits, two_ranges}
 use Rattle.dm_event_history.specs.Unfaithful.{page, print, scan}
 use Rattle.dm_event_world.specs.Shown.{IsShownForGood, shown_events, shown_answers, worn, refused, stopped_events, stopped_answers, AreAnsweredWrongly}
-use Rattle.dm_event_world.specs.declared.answers.Answer.TheVariants.{Given}
-use Rattle.dm_event_world.specs.Watched.{IsFaithfulIfHonestBy, given, replies}
+use Rattle.dm_event_world.specs.declared.answers.Answer.{Answer}
+use Rattle.dm_event_world.specs.declared.answers.Answer.TheVariants.{Given, NotGiven}
+use Rattle.dm_event_world.specs.Watched.{IsFaithfulIfHonestBy, given, marks, replies}
 
 pub is_shown_for_good : (A : Type 0) → IsShownForGood A
 is_shown_for_good A (batches, f) = by_batches batches f
@@ -24,15 +27,16 @@ is_shown_for_good A (batches, f) = by_batches batches f
     -- the scan is of label 0
     had : (batches : List (Option Batch)) →
         IsFaithfulIfHonestBy two_ranges 2 batches (shown_events A) (shown_answers A) →
-        slice_get (labels_of (take 1 (take 2 batches))) 0 ≡ Some (record { id = 7; number = 1; count = 2 })
+        slice_get (labels_of (take 1 batches)) 0 ≡ Some (record { id = 7; number = 1; count = 2 })
     had batches f =
-        let s : IsScanOf (take 2 batches) (given (take 2 (shown_events A)) (take 2 (shown_answers A))) 1
+        let s : IsScanOf batches (given (shown_events A) (shown_answers A)) 1
         (record { id = 7; number = 1; count = 2 }) =
-        (f.faithful 2 ((λ may. refl), ((λ may. refl), tt))).scanned 1
-        (record { id = 7; m = 1; n = 2; kind = New }) refl in
+        f.faithful.scanned 1 0 0 [] stops.None (record { id = 7; m = 1; n = 2; kind = New }) refl refl refl
+        (untainted_by (given (shown_events A) (shown_answers A)) (marks (shown_answers A))
+        (replies (shown_answers A)) 1 (AtDesk 0) refl) in
         let e : Some (Scan 0 0 [] stops.None) ≡ Some (Scan s.desk s.label s.flips s.stop) = s.event in
         let label_is : 0 ≡ s.label = cc (e) in
-        subst (λ (i : ℕ). slice_get (labels_of (take 1 (take 2 batches))) i ≡ Some (record {
+        subst (λ (i : ℕ). slice_get (labels_of (take 1 batches)) i ≡ Some (record {
           id = 7;
           number = 1;
           count = 2;
@@ -43,11 +47,11 @@ is_shown_for_good A (batches, f) = by_batches batches f
     by_batches [] f = (let x = had [] f in cc (x))
     by_batches (None ∷ rest) f = (let x = had (None ∷ rest) f in cc (x))
     by_batches (Some batch ∷ rest) f =
-        let p = f.once.printed 0 batch refl in
+        let p = f.faithful.prints.printed 0 batch refl in
         let own : batch.id ≡ 7 =
         first_label batch [] (record { id = 7; number = 1; count = 2 }) p.not_none (had (Some batch ∷ rest) f) in
-        let t = f.once.told 3 7 1 2 refl in
-        let place : ◌≡◌ {A = ℕ} 0 3 = f.once.once 0 3 batch t.batch refl t.there (own ∙ sym t.id_is) in omega arith
+        let t = f.faithful.prints.told 3 7 1 2 refl in
+        let place : ◌≡◌ {A = ℕ} 0 3 = f.faithful.prints.once 0 3 batch t.batch refl t.there (own ∙ sym t.id_is) in omega arith
 
 pub are_answered_wrongly : (A : Type 0) → AreAnsweredWrongly A
 are_answered_wrongly A = record {
@@ -57,21 +61,39 @@ are_answered_wrongly A = record {
   dishonest_scan = λ t. (let few : 0 < 0 = (t.1.dishonest 1 (scan 0) (Scanned (page 0 1 New)) refl refl).0 in
       omega arith);
   dishonest_of_none = λ t. (t.1.dishonest 0 (Scan 0 0 ((0, 0) ∷ []) stops.None) NoSuch refl refl).1 refl;
-  conflicting = λ t. t.1.no_conflict 1 ((λ may. refl), tt) refl;
-  conflicting_with_flips = λ t. t.1.no_conflict 1 ((λ may. refl), tt) refl;
-  conflicting_at_first = λ t. t.1.no_conflict 1 ((λ may. refl), tt) refl;
-  conflicting_after_refused = λ t. t.1.no_conflict 2 ((λ may. refl), ((λ may. cc (may)), tt)) refl;
+  conflicting = λ t. t.1.faithful.not_refused 1 0 0 [] stops.None Conflict refl refl refl
+      (clean (print 0 digits stops.None ∷ scan 0 ∷ [])
+      (Given true (Printed 0 0 2) ∷ Given true (ScanRefused Conflict) ∷ []) 1 0 refl);
+  conflicting_with_flips = λ t. t.1.faithful.not_refused 1 0 0 ((0, 0) ∷ []) stops.None Conflict refl refl refl
+      (clean worn (Given true (Printed 0 0 2) ∷ Given true (ScanRefused Conflict) ∷ []) 1 0 refl);
+  conflicting_at_first = λ t. t.1.faithful.not_refused 1 0 0 [] stops.None Conflict refl refl refl
+      (clean (print 0 digits stops.None ∷ scan 0 ∷ Scan 0 0 ((0, 0) ∷ []) stops.None ∷ [])
+      (Given true (Printed 0 0 2) ∷
+      Given true (ScanRefused Conflict) ∷ Given false (Scanned (page 0 1 New)) ∷ []) 1 0 refl);
+  conflicting_after_refused = λ t. t.1.faithful.not_refused 2 0 0 [] stops.None Conflict refl refl refl
+      (clean (worn ++ scan 0 ∷ []) (refused ++ Given true (ScanRefused Conflict) ∷ []) 2 0 refl);
   forgotten_after_refused = λ t.
-      (let f = t.1.faithful 3 ((λ may. refl), ((λ may. cc (may)), ((λ may. refl), tt))) in
-      let w = f.forgotten 2 0 0 stops.None refl refl in by_refused w.2.k w.2.before w.2.scan.event w.2.saved);
+      (let w = t.1.faithful.forgotten 2 0 0 stops.None refl refl
+      (clean (worn ++ Forget 0 0 stops.None ∷ []) (refused ++ Given true Forgotten ∷ []) 2 0 refl) in
+      by_refused w.2.k w.2.before w.2.scan.event w.2.saved);
   forgotten_after_stopped = λ t.
-      (let f = t.1.faithful 4 ((λ may. refl), ((λ may. cc (may)), ((λ may. cc (may)), ((λ may. refl), tt)))) in
-      let w = f.forgotten 3 1 0 stops.None refl refl in by_stopped w.2.k w.2.before w.2.scan.event w.2.saved);
+      (let w = t.1.faithful.forgotten 3 1 0 stops.None refl refl
+      (clean (stopped_events A) (stopped_answers A) 3 1 refl) in
+      by_stopped w.2.k w.2.before w.2.scan.event w.2.saved);
   forgotten_after_not_given = λ t.
-      (let f = t.1.faithful 3 ((λ may. refl), ((λ may. refl), tt)) in
-      let w = f.forgotten 1 0 0 stops.None refl refl in by_none w.2.k w.2.before w.2.scan.event);
+      (let w = t.1.faithful.forgotten 1 0 0 stops.None refl refl
+      (clean (worn ++ Forget 0 0 stops.None ∷ [])
+      (Given true (Printed 0 0 2) ∷ NotGiven ∷ Given true Forgotten ∷ []) 1 0 refl) in
+      by_none w.2.k w.2.before w.2.scan.event);
 }
   where
+    -- the desk is not computed to be tainted
+    clean : (events : List (Event A)) (answers : List (Answer A)) (i desk : ℕ) →
+        is_tainted (given events answers) (marks answers) (replies answers) i (AtDesk desk) ≡ false →
+        ¬ IsTainted (given events answers) (marks answers) (replies answers) i (AtDesk desk)
+    clean events answers i desk is_not =
+        untainted_by (given events answers) (marks answers) (replies answers) i (AtDesk desk) is_not
+
     flipped : Stop → Event A
     flipped stop = Scan 0 0 ((0, 0) ∷ []) stop
 

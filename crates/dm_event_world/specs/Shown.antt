@@ -14,11 +14,10 @@ use Rattle.dm_event_world.specs.declared.answers.Answer.{Answer}
 use Rattle.dm_event_world.specs.declared.answers.Answer.TheVariants.{Given, NotGiven}
 use Rattle.dm_event_world.specs.Watched.{IsFaithfulIfHonest}
 
--- ---- one list of batches
+-- ---- after a dishonest scan
 
 -- A scan that was honest shows that a label of the first print left under identification 7. After one that was not,
--- and told of another page, the second is told to be printed under 7 too. This run would not be refused if the two
--- parts of the headline might each have batches of their own.
+-- and told of another page, the second is told to be printed under 7 too.
 abbrev pub shown_events : (A : Type 0) → List (Event A)
 shown_events A =
     print 0 digits (AfterLabels 1) ∷ scan 0 ∷ Scan 0 0 ((0, 0) ∷ []) None ∷ print 1 other_digits None ∷ []
@@ -35,15 +34,15 @@ IsShownForGood A = ¬ IsFaithfulIfHonest two_ranges 2 (shown_events A) (shown_an
 
 -- ---- answers that no world gives
 
--- a scan with too many wrong codewords, which is refused for them
+-- a scan that is not found honest, and is refused
 abbrev pub worn : {A : Type 0} → List (Event A)
 worn = print 0 digits None ∷ Scan 0 0 ((0, 0) ∷ []) None ∷ []
 
 abbrev pub refused : {A : Type 0} → List (Answer A)
 refused = Given true (Printed 0 0 2) ∷ Given false (ScanRefused (Label (Block 0))) ∷ []
 
--- scans with too many wrong codewords, of which one is stopped before its save, and one is answered by a desk that is
--- down; then another desk forgets a document
+-- scans that are not found honest, of which one is stopped before its save, and one is answered by a desk that is down;
+-- then another desk forgets a document
 abbrev pub stopped_events : (A : Type 0) → List (Event A)
 stopped_events A =
     print 0 digits None ∷
@@ -66,7 +65,7 @@ pub record AreAnsweredWrongly (A : Type 0) : Type 0 where
       (Given true (Printed 0 0 2) ∷ Given false (Scanned (page 0 1 New)) ∷ [])
   pub dishonest_of_none : ¬ IsFaithfulIfHonest {A = A} two_ranges 2 (Scan 0 0 ((0, 0) ∷ []) None ∷ [])
       (Given false NoSuch ∷ [])
-  -- `no_conflict`: an honest scan is refused for a conflict, without flips and with, whatever comes later
+  -- `faithful`: an honest scan is refused for a conflict, without flips and with, whatever comes later
   pub conflicting : ¬ IsFaithfulIfHonest {A = A} two_ranges 2 (print 0 digits None ∷ scan 0 ∷ [])
       (Given true (Printed 0 0 2) ∷ Given true (ScanRefused Conflict) ∷ [])
   pub conflicting_with_flips : ¬ IsFaithfulIfHonest {A = A} two_ranges 2 worn
@@ -75,9 +74,9 @@ pub record AreAnsweredWrongly (A : Type 0) : Type 0 where
       (print 0 digits None ∷ scan 0 ∷ Scan 0 0 ((0, 0) ∷ []) None ∷ [])
       (Given true (Printed 0 0 2) ∷
       Given true (ScanRefused Conflict) ∷ Given false (Scanned (page 0 1 New)) ∷ [])
-  -- `no_conflict` and `faithful` go on to hold after a scan that was not honest, if it can't have saved its page: it was
-  -- refused, stopped before its save, answered by a desk that was down, or not given. An honest one is refused for a
-  -- conflict, and a document is forgotten of which no other label was scanned.
+  -- `faithful`, at a desk at which a scan was not honest, but can't have saved its page: it was refused, stopped before
+  -- its save, answered by a desk that was down, or not given. An honest one is refused for a conflict, and a document
+  -- is forgotten of which no other label was scanned.
   pub conflicting_after_refused : ¬ IsFaithfulIfHonest {A = A} two_ranges 2 (worn ++ scan 0 ∷ [])
       (refused ++ Given true (ScanRefused Conflict) ∷ [])
   pub forgotten_after_refused : ¬ IsFaithfulIfHonest {A = A} two_ranges 2 (worn ++ Forget 0 0 None ∷ [])

@@ -1,13 +1,11 @@
 -- Runs in which each event is looked at first, and what is so of their answers: the headline.
-use Rattle.std.specs.Prelude.{◌≡◌, ◌≢◌, ◌↔◌, ◌<◌, ℕ, true, false, Option, Some, List, [], ◌∷◌, length, slice_get, take}
+use Rattle.std.specs.Prelude.{◌≡◌, ◌≢◌, ◌↔◌, ◌<◌, ℕ, Bool, true, false, Option, Some, List, [], ◌∷◌, length, slice_get}
 use Rattle.dm_print_ledger.specs.declared.range.Range.{Range}
-use Rattle.dm_assembly_desk.specs.declared.fault.ScanFault.TheVariants.{Conflict}
 use Rattle.dm_event_history.specs.declared.event.Event.{Event}
 use Rattle.dm_event_history.specs.declared.event.Event.TheVariants.{Scan}
 use Rattle.dm_event_history.specs.declared.reply.Reply.{Reply}
-use Rattle.dm_event_history.specs.declared.reply.Reply.TheVariants.{ScanRefused, NoSuch}
-use Rattle.dm_event_history.specs.Saving.{may_save}
-use Rattle.dm_event_history.specs.Headline.{Batch, PrintsOnceBy, IsFaithfulBy}
+use Rattle.dm_event_history.specs.declared.reply.Reply.TheVariants.{NoSuch}
+use Rattle.dm_event_history.specs.Headline.{Batch, IsFaithfulBy}
 use Rattle.dm_event_steps.specs.Worlds.{WorldView, IsNamed, IsFairIn, Steps, AreItsBatches, AreItsLabels}
 use Rattle.dm_event_world.specs.Openings.{Begins}
 use Rattle.dm_event_world.specs.declared.answers.Answer.{Answer}
@@ -27,12 +25,11 @@ replies [] = []
 replies (Given is_honest reply ∷ answers) = reply ∷ replies answers
 replies (NotGiven ∷ answers) = replies answers
 
--- each of them that may have saved, such as a scan that was answered with a page, was found honest before it was given
-abbrev pub AreHonest : {A : Type 0} → List (Event A) → List (Answer A) → Type 0
-AreHonest (event ∷ events) (Given is_honest reply ∷ answers) =
-    (may_save event reply ≡ true → is_honest ≡ true) × AreHonest events answers
-AreHonest (event ∷ events) (NotGiven ∷ answers) = AreHonest events answers
-AreHonest events answers = Unit {0}
+-- whether each of them was found honest before it was given
+abbrev pub marks : {A : Type 0} → List (Answer A) → List Bool
+marks [] = []
+marks (Given is_honest reply ∷ answers) = is_honest ∷ marks answers
+marks (NotGiven ∷ answers) = marks answers
 
 -- the event is a scan
 abbrev pub IsScan : {A : Type 0} → Event A → Type 0
@@ -44,9 +41,8 @@ abbrev pub HasFlips : {A : Type 0} → Event A → Type 0
 HasFlips (Scan desk label flips stop) = 0 < length flips
 HasFlips event = ⊥
 
--- No identification was printed twice, and as long as each event that may have saved was found honest, the replies are
--- faithful, whatever comes later: whatever document any desk gave for an identification is the one document printed
--- under it. One list of batches serves for both, and for each k: the batches of the first events are the first of it.
+-- No identification was printed twice, and what is told by a desk that no dishonest scan has tainted is faithful:
+-- whatever document it gives for an identification is the one document printed under it.
 pub record IsFaithfulIfHonestBy {A : Type 0} (ranges : List Range) (desks : ℕ) (batches : List (Option Batch))
     (events : List (Event A)) (answers : List (Answer A))
     : Type 0 where
@@ -58,13 +54,8 @@ pub record IsFaithfulIfHonestBy {A : Type 0} (ranges : List Range) (desks : ℕ)
   -- only a scan with flips, of what is there, is found dishonest
   pub dishonest : (i : ℕ) (event : Event A) (reply : Reply A) → slice_get events i ≡ Some event →
       slice_get answers i ≡ Some (Given false reply) → HasFlips event × (reply ≢ NoSuch)
-  pub once : PrintsOnceBy ranges desks batches (given events answers) (replies answers)
-  pub faithful : (k : ℕ) → AreHonest (take k events) (take k answers) →
-      IsFaithfulBy ranges desks (take (length (replies (take k answers))) batches)
-      (given (take k events) (take k answers)) (replies (take k answers))
-  -- nor, as long as that is so, is a scan that was found honest refused for a conflict
-  pub no_conflict : (k : ℕ) → AreHonest (take k events) (take k answers) →
-      slice_get answers k ≢ Some (Given true (ScanRefused Conflict))
+  -- the headline, of those that were given
+  pub faithful : IsFaithfulBy ranges desks batches (given events answers) (marks answers) (replies answers)
 
 -- the headline, of printers that begin with these ranges, and of that many desks
 abbrev pub IsFaithfulIfHonest : {A : Type 0} → List Range → ℕ → List (Event A) → List (Answer A) → Type 0

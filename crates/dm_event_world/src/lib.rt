@@ -8,9 +8,9 @@
 //!
 //! Proved: a world that begins stands for the empty history, and one that stands for a history stands, after an event,
 //! for it with one entry more ([`World::new`], [`World::step`], [`run`]). So of each run that is watched from its
-//! beginning the headline stands ([`watch`]): if each event that may have saved was found honest before it came,
-//! whatever document any desk gave for an identification is the one document printed under it, and no identification
-//! was printed twice.
+//! beginning the headline stands ([`watch`]): whatever document a desk gave for an identification is the one document
+//! printed under it, unless a scan that was not found honest may have saved a page at that desk, or at one from which
+//! it imported pages; and no identification was printed twice.
 #![tactic(auto)]
 
 mod answers;

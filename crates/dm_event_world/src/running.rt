@@ -78,6 +78,7 @@ pub fn watch<A: Allocator + Copy>(
     capacities: &[u16],
     events: &[Event<A>],
 ) -> Result<Vec<Answer<A>, A>, WorldFault>
+    // Whatever document a desk that is not tainted gave is the one that was printed under its identification.
     ensures headline { IfOk result (λ answers.
         IsFaithfulIfHonest ranges.now (length capacities.now) events.now answers.items) }
     // No identification was printed twice, whatever the events were.

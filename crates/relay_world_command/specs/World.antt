@@ -39,8 +39,8 @@ TellsAnswers answers old new status =
 
 -- How `world` ends: the input was read, it was a script, its world began and answered each event, and the line of each
 -- answer was written. No identification was printed twice, no ticket taken twice and nothing imported that was not
--- exported, and if each event that may have saved was found honest, the answers are faithful. Or the first of these was
--- not done, for a reason that stands; memory may be refused at any time.
+-- exported, and the answers of desks that are not tainted are faithful. Or the first of these was not done, for a
+-- reason that stands; memory may be refused at any time.
 pub data EndsWorld (A : Type 0) (input rest : InputView) (old : OutputView) : ℕ → OutputView → Type 0 where
   not_read : {status : ℕ} {new : OutputView} (fault : InputFault) → HasInputFault rest fault
       → TellsRefusal (input_fault_name fault) old new status → EndsWorld A input rest old status new

@@ -4,8 +4,8 @@ use Rattle.dm_event_history.proofs.Fresh.{never_twice}
 use Rattle.dm_event_history.proofs.laws.legal_and_safe_is_faithful.Goals as goal
 
 pub returns : goal.returns
-returns g c ranges desks h apart legal grids capacities safe honest = (
+returns g c ranges desks h apart legal grids capacities marks fair safe honest = (
   batches_of h,
-  is_faithful ranges desks h grids capacities apart legal
-      (never_twice ranges desks h apart legal) safe honest,
+  is_faithful ranges desks h grids capacities marks apart legal
+      (never_twice ranges desks h apart legal) fair safe honest,
 )

@@ -1,6 +1,6 @@
 use Rattle.std.proofs.Common.{length}
-use Rattle.dm_event_world.specs.Watched.{given, replies}
-use Rattle.dm_event_world.proofs.Runs.{marks, runs_marked, runs_by, faithful_by}
+use Rattle.dm_event_world.specs.Watched.{given, marks, replies}
+use Rattle.dm_event_world.proofs.Runs.{runs_marked, runs_by, faithful_by}
 use Rattle.dm_event_world.proofs.running.watch.Goals as goal
 
 pub returns-in-Ok-answer_all-clause-headline : goal.returns-in-Ok-answer_all-clause-headline
