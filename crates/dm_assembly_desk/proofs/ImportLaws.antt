@@ -7,7 +7,7 @@ use Rattle.std.specs.Ordering.{nat_cmp, eq_by_cmp}
 use Rattle.std.specs.FinMap.{get, insert, len, get-insert, len-insert}
 use Rattle.std.proofs.lemmas.Bool.{eqb-true}
 use borrow.Author.Tests.{ltb-true}
-use Rattle.dm_store.specs.Sets.{SavedSet, ReplacesKey}
+use Rattle.dm_store.specs.Sets.{SavedSet, SavesKey}
 use Rattle.dm_store.specs.declared.store.ReplaceFault.TheVariants as replacing
 use Rattle.std.specs.Option.{option_or}
 use Rattle.dm_assembly_desk.specs.Pages.{Pages, page, mask, names}
@@ -208,7 +208,7 @@ pages_to_save old id given order running sound adding =
 module _ (old : DeskView) (id : ℕ) (given : Pages) (set : SavedSet) (order : IsInOrder old)
     (running : old.is_failed ≡ false) (sound : IsEntry id given)
     (adding : NeedsSave (import_answer old.capacity old.held id given)) where
-  pub keeps_pages : ReplacesKey old.saved id (file id (pages_with_file old.held id given)) (Ok tt) set →
+  pub keeps_pages : SavesKey old.saved id (file id (pages_with_file old.held id given)) (Ok tt) set →
       KeepsFile id given old (done_view old set (with_file old.held id given))
   keeps_pages s =
       let t = pages_to_save old id given order running sound adding in record {
@@ -223,7 +223,7 @@ module _ (old : DeskView) (id : ℕ) (given : Pages) (set : SavedSet) (order : I
         each = page_given old.held id given;
       }
 
-  pub keeps_pages_order : ReplacesKey old.saved id (file id (pages_with_file old.held id given)) (Ok tt) set →
+  pub keeps_pages_order : SavesKey old.saved id (file id (pages_with_file old.held id given)) (Ok tt) set →
       IsInOrder (done_view old set (with_file old.held id given))
   keeps_pages_order s =
       let t = pages_to_save old id given order running sound adding in record {
@@ -234,7 +234,7 @@ module _ (old : DeskView) (id : ℕ) (given : Pages) (set : SavedSet) (order : I
             (was_honest old.saved set s.same_honesty honest);
       }
 
-  pub fails_to_keep_pages : ReplacesKey old.saved id (file id (pages_with_file old.held id given))
+  pub fails_to_keep_pages : SavesKey old.saved id (file id (pages_with_file old.held id given))
       (Err replacing.Device) set → FailsToKeepFile id given old (failed_view old set)
   fails_to_keep_pages s =
       let t = pages_to_save old id given order running sound adding in record {

@@ -3,7 +3,7 @@ use Rattle.std.proofs.Common.{◌≡◌, ℕ, ◌-◌, ◌<◌, ◌≤◌, List,
 use Rattle.std.specs.Prelude.{IsSome, IfSome, IsSomeAnd, slice_set, unwrap_or}
 use Rattle.std.specs.FinMap.{get, insert, remove}
 use Rattle.dm_append_label.specs.Pages.{PageView}
-use Rattle.dm_store.specs.Sets.{SavedSet, ReplacesKey}
+use Rattle.dm_store.specs.Sets.{SavedSet, SavesKey}
 use Rattle.dm_store.specs.declared.store.ReplaceFault.{ReplaceFault}
 use Rattle.dm_assembly_desk.specs.Pages.{Pages, page}
 use Rattle.dm_assembly_desk.specs.Files.{IsEntry, file}
@@ -24,9 +24,9 @@ module _ (held put : Documents) (p : PageView) (after : put ≡ with_page held p
       (entry_with held p q sound free)
 
   saved_at : (set after : SavedSet) (answer : Result (Unit {0}) ReplaceFault) →
-      ReplacesKey set p.id (file p.id (unwrap_or (get put p.id) [])) answer after →
-      ReplacesKey set p.id (file p.id (pages_with held p)) answer after
-  saved_at set after answer r = subst (λ (o : Option Pages). ReplacesKey set p.id
+      SavesKey set p.id (file p.id (unwrap_or (get put p.id) [])) answer after →
+      SavesKey set p.id (file p.id (pages_with held p)) answer after
+  saved_at set after answer r = subst (λ (o : Option Pages). SavesKey set p.id
       (file p.id (unwrap_or o [])) answer after) now r
 
   long_at : IsPage p → AreEntries held → CanBeAdded held p → length (pages_with held p) ≡ p.n →
@@ -43,10 +43,10 @@ module _ (held put : Documents) (p : PageView) (after : put ≡ with_page held p
   entry_there id is q sound free = subst (λ (i : ℕ). IsSomeAnd (get put i) (IsEntry i)) (sym is) (entry_at q sound free)
 
   pub saved_there : (id : ℕ) → id ≡ p.id → (set after : SavedSet) (answer : Result (Unit {0}) ReplaceFault) →
-      ReplacesKey set id (file id (unwrap_or (get put id) [])) answer after →
-      ReplacesKey set p.id (file p.id (pages_with held p)) answer after
+      SavesKey set id (file id (unwrap_or (get put id) [])) answer after →
+      SavesKey set p.id (file p.id (pages_with held p)) answer after
   saved_there id is set after answer r =
-      saved_at set after answer (subst (λ (i : ℕ). ReplacesKey set i
+      saved_at set after answer (subst (λ (i : ℕ). SavesKey set i
       (file i (unwrap_or (get put i) [])) answer after) is r)
 
   pub back_first : (id : ℕ) → id ≡ p.id → get held id ≡ None → remove put id ≡ held

@@ -7,7 +7,7 @@ use Rattle.std.specs.Ordering.{nat_cmp}
 use Rattle.std.specs.declared.cmp.Ordering.TheVariants.{Less}
 use Rattle.std.specs.FinMap.{FinMap, entries, get, keys, empty, len, len-entries, len-empty, same_entries_map}
 use Rattle.std.proofs.lemmas.List.{take_all, length-take}
-use Rattle.dm_store.specs.Saved.{Saved, LoadsOpen, SavePlan, SavesFine, FaultOld, FaultNew, SavesOpen, Faulted, outcome_of, Follows, HeldAfterFault, Replaces}
+use Rattle.dm_store.specs.Saved.{Saved, MemoryOpen, LoadsOpen, SavePlan, SavesFine, FaultOld, FaultNew, SavesOpen, Faulted, outcome_of, Follows, HeldAfterFault, Replaces}
 use Rattle.dm_store.specs.Sets.{SavedSet, Contents}
 use Rattle.dm_store.specs.declared.store.ReplaceFault.{ReplaceFault}
 use Rattle.dm_store.specs.declared.store.ReplaceFault.TheVariants as replaces
@@ -15,8 +15,8 @@ use Rattle.dm_assembly_desk.specs.Pages.{Pages}
 use Rattle.dm_assembly_desk.specs.Documents.{Documents}
 use Rattle.dm_assembly_desk.specs.JointFiles.{entries_of, joint_file, SpellsAll, HoldsJointFile, IsOfOtherJointVersion, HasJointFileFault}
 use Rattle.dm_assembly_desk.specs.inner.ReadingJoint.{entries_at, ReadsJointFile}
-use Rattle.dm_assembly_desk.specs.Moving.{file_in_either, AllFine, HasMoveFault, KeepsFiles, KeepsPlans, LeavesAlone, AnswersNone, Moves}
-use Rattle.dm_assembly_desk.specs.inner.MovingOn.{Moving, MovesEntries}
+use Rattle.dm_assembly_desk.specs.Moving.{file_in_either, StopsSomewhere, AllFine, HasMoveFault, KeepsFiles, KeepsPlans, LeavesAlone, AnswersNone, Moves}
+use Rattle.dm_assembly_desk.specs.inner.MovingOn.{Moving, MovesEntries, fault_of}
 use Rattle.dm_assembly_desk.specs.declared.fault.MoveFault.{MoveFault}
 use Rattle.dm_assembly_desk.specs.declared.fault.MoveFault.TheVariants.{NotPages, Version, Damaged, Device, Memory}
 use Rattle.dm_assembly_desk.proofs.FileLaws.{all_taken, four_of, fifth_of}
@@ -194,12 +194,17 @@ holds_none = record { entries = entries_empty; spelled = sym emptied; short = om
 pub stays : (old : Saved) (set : SavedSet) → KeepsFiles old set old set
 stays old set honest set_honest held h = (held, h, λ id. refl)
 
+pub not_begun : (old : Saved) (set : SavedSet) (fault : MoveFault) → StopsSomewhere old set fault old set
+not_begun old set fault = inl (refl, refl)
+
 pub plans_stay : (old : Saved) (set : SavedSet) → KeepsPlans old set old set
 plans_stay old set = record {
   old_honesty = refl;
+  old_memory = refl;
   old_loads = refl;
   old_saves = λ e. e;
   set_honesty = refl;
+  set_memory = refl;
   set_loads = refl;
   set_saves = λ e. e;
 }
@@ -210,9 +215,11 @@ module _ (old : Saved) (set : SavedSet) (ks : List ℕ) (count : ℕ) (rest : Li
       KeepsPlans old set old after
   plans_abandoned fault m = record {
     old_honesty = refl;
+    old_memory = refl;
     old_loads = refl;
     old_saves = λ e. e;
     set_honesty = m.2.same_honesty;
+    set_memory = m.2.same_memory_plan;
     set_loads = m.2.same_load_plan;
     set_saves = m.2.fine;
   }
@@ -222,9 +229,11 @@ module _ (old : Saved) (set : SavedSet) (ks : List ℕ) (count : ℕ) (rest : Li
       Replaces old bytes answer old_after → KeepsPlans old set old_after after
   plans_replaced written m bytes answer old_after p = record {
     old_honesty = p.same_honesty;
+    old_memory = p.same_memory_plan;
     old_loads = p.same_load_plan;
     old_saves = λ e. stays_fine old.save_plan (outcome_of answer) old_after.save_plan p.follows e;
     set_honesty = m.2.same_honesty;
+    set_memory = m.2.same_memory_plan;
     set_loads = m.2.same_load_plan;
     set_saves = m.2.fine;
   }
@@ -245,6 +254,15 @@ module _ (old : Saved) (set : SavedSet) (loaded : List ℕ) (ks : List ℕ) (cou
       KeepsFiles old set old after
   abandoned after fault m honest set_honest held h =
       (held, h, λ id. m.2.joined set_honest (known set_honest) held (these m.0 m.1 honest held h) id)
+
+  pub stopped_at_key : (after : SavedSet) (fault : ReplaceFault) → MovesEntries set ks count rest (Err fault) after →
+      StopsSomewhere old set (fault_of fault) old after
+  stopped_at_key after fault m = inr (λ honest set_honest.
+      let h : HoldsJointFile old.content r.held = old_content old.content loaded r.held (loads honest) r.spelled in (
+        r.held,
+        h,
+        inl (refl, m.2.stopped set_honest (known set_honest) r.held (these m.0 m.1 honest r.held h)),
+      ))
 
   module _ (set_after : SavedSet) (written : ℕ) (m : MovesEntries set ks count rest (Ok written) set_after) where
     carried : IsTrue old.is_honest → IsTrue set.is_honest → (held : Documents) → HoldsJointFile old.content held →
@@ -294,6 +312,32 @@ module _ (old : Saved) (set : SavedSet) (loaded : List ℕ) (ks : List ℕ) (cou
           | inl is ↦ kept_old after is honest set_honest held h
           | inr is ↦ kept_emptied after is honest set_honest held h
         ]
+
+    joint_after : (after : Saved) (fault : ReplaceFault) →
+        Replaces old (68 ∷ 77 ∷ 80 ∷ 71 ∷ 1 ∷ 0 ∷ 0 ∷ []) (Err fault) after → IsTrue old.is_honest →
+        (after.content ≡ old.content)
+        ⊎ ((fault_of fault ≡ Device) × (after.content ≡ Some (joint_file empty)))
+    joint_after after replaces.Memory p honest = inl (ap (λ (s : Saved). s.content) (p.refused refl))
+    joint_after after replaces.Device p honest =
+        elim (either old.save_plan old.content (Some (68 ∷ 77 ∷ 80 ∷ 71 ∷ 1 ∷ 0 ∷ 0 ∷ [])) after.content
+        (p.faulted refl honest)) as (λ _. (after.content ≡ old.content)
+        ⊎ ((fault_of replaces.Device ≡ Device) × (after.content ≡ Some (joint_file empty)))) [
+          | inl is ↦ inl is
+          | inr is ↦ inr (refl, is ∙ ap (λ (bs : List ℕ). Some bs) (sym emptied))
+        ]
+
+    pub stopped_at_last : (after : Saved) (fault : ReplaceFault) →
+        Replaces old (68 ∷ 77 ∷ 80 ∷ 71 ∷ 1 ∷ 0 ∷ 0 ∷ []) (Err fault) after →
+        StopsSomewhere old set (fault_of fault) after set_after
+    stopped_at_last after fault p = inr (λ honest set_honest.
+        let h : HoldsJointFile old.content r.held = old_content old.content loaded r.held (loads honest) r.spelled in (
+          r.held,
+          h,
+          inr (record {
+            each = moved set.content set_after.content r.held written (carried honest set_honest r.held h);
+            joint = joint_after after fault p honest;
+          }),
+        ))
 
     pub moves_done : (after : Saved) → (count ≡ 0 → ⊥) →
         Replaces old (68 ∷ 77 ∷ 80 ∷ 71 ∷ 1 ∷ 0 ∷ 0 ∷ []) (Ok tt) after → Moves old set written after set_after
@@ -426,8 +470,9 @@ pub leaves_failed : (old : Saved) (set : SavedSet) → old.load_plan ≡ LoadsOp
     LeavesAlone old set (Err Device) old set
 leaves_failed old set may honest answer h = (refl, refl, inr may)
 
-pub leaves_refused : (old : Saved) (set : SavedSet) → LeavesAlone old set (Err Memory) old set
-leaves_refused old set honest answer h = (refl, refl, inr tt)
+pub leaves_refused : (old : Saved) (set : SavedSet) → old.memory_plan ≡ MemoryOpen →
+    LeavesAlone old set (Err Memory) old set
+leaves_refused old set may honest answer h = (refl, refl, inr may)
 
 module _ (old : Saved) (set : SavedSet) (loaded : List ℕ)
     (loads : IsTrue old.is_honest → Some loaded ≡ option_map (take (42636295 + 1)) old.content) where

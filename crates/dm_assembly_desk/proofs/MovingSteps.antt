@@ -7,7 +7,7 @@ use Rattle.std.specs.FinMap.{entries, get, insert, keys, contains_key-keys}
 use Rattle.std.proofs.lemmas.Bool.{eqb-true}
 use Rattle.std.proofs.lemmas.List.{take_at}
 use Rattle.dm_store.specs.Saved.{SavePlan, SavesFine, FaultOld, FaultNew, SavesOpen, Outcome, Done, Faulted, Refused, outcome_of, Follows, HeldAfterFault}
-use Rattle.dm_store.specs.Sets.{SavedSet, Contents, ReplacesKey}
+use Rattle.dm_store.specs.Sets.{SavedSet, Contents, SavesKey}
 use Rattle.dm_store.specs.declared.store.ReplaceFault.{ReplaceFault}
 use Rattle.dm_store.specs.declared.store.ReplaceFault.TheVariants as replaces
 use Rattle.dm_assembly_desk.specs.Pages.{Pages}
@@ -16,11 +16,12 @@ use Rattle.dm_assembly_desk.specs.inner.Reading.{◌>>=◌, entry_at}
 use Rattle.dm_assembly_desk.specs.Documents.{Documents}
 use Rattle.dm_assembly_desk.specs.inner.Loading.{among}
 use Rattle.dm_assembly_desk.specs.inner.ReadingJoint.{entries_at}
-use Rattle.dm_assembly_desk.specs.Moving.{file_in_either}
-use Rattle.dm_assembly_desk.specs.inner.MovingOn.{Moving, Carries, Abandons}
+use Rattle.dm_assembly_desk.specs.Moving.{file_in_either, StopsAtKey}
+use Rattle.dm_assembly_desk.specs.inner.MovingOn.{Moving, Carries, Abandons, fault_of}
+use Rattle.dm_assembly_desk.specs.declared.fault.MoveFault.TheVariants as moves
 use Rattle.dm_assembly_desk.proofs.EntryLaws.{IsBytes, entry_takes}
 use Rattle.dm_assembly_desk.proofs.Loading.{apart, itself, not_there}
-use Rattle.dm_assembly_desk.proofs.MovingLaws.{begin_moving, pass, write, joined_with}
+use Rattle.dm_assembly_desk.proofs.MovingLaws.{begin_moving, pass, write, joined_with, stops_before, stops_after}
 
 -- ---- what is left to read
 
@@ -133,6 +134,7 @@ no_key content ks id is e = not_there content id (ap (among id) (sym is) ∙ e)
 pub begins_carrying : (s : SavedSet) (ks : List ℕ) (all : List (ℕ × Pages)) → Carries s s ks all all 0
 begins_carrying s ks all = record {
   same_honesty = refl;
+  same_memory_plan = refl;
   same_load_plan = refl;
   fine = λ e. e;
   moving = λ honest known held is. subst (λ (es : List (ℕ × Pages)). Moving s.content s.content held es 0) is
@@ -161,6 +163,7 @@ module _ (start now : SavedSet) (ks : List ℕ)
   pub passes : among e.0 ks ≡ true → Carries start now ks all rest written
   passes there = record {
     same_honesty = c.same_honesty;
+    same_memory_plan = c.same_memory_plan;
     same_load_plan = c.same_load_plan;
     fine = c.fine;
     moving = λ honest known held is. pass start.content now.content held e rest written (c.moving honest known held is)
@@ -171,9 +174,10 @@ module _ (start now : SavedSet) (ks : List ℕ)
     still_honest : IsTrue start.is_honest → IsTrue now.is_honest
     still_honest honest = subst IsTrue (sym c.same_honesty) honest
 
-    pub writes : ReplacesKey now e.0 (file e.0 e.1) (Ok tt) after → Carries start after ks all rest (written + 1)
+    pub writes : SavesKey now e.0 (file e.0 e.1) (Ok tt) after → Carries start after ks all rest (written + 1)
     writes r = record {
       same_honesty = r.same_honesty ∙ c.same_honesty;
+      same_memory_plan = r.same_memory_plan ∙ c.same_memory_plan;
       same_load_plan = r.same_load_plan ∙ c.same_load_plan;
       fine = λ fine. subst (λ (p : SavePlan). Follows p Done after.save_plan) (c.fine fine) r.follows;
       moving = λ honest known held is.
@@ -183,7 +187,7 @@ module _ (start now : SavedSet) (ks : List ℕ)
           (write start.content now.content held e rest written m (no_key start.content ks e.0 known absent));
     }
 
-    joined_after : (fault : ReplaceFault) → ReplacesKey now e.0 (file e.0 e.1) (Err fault) after →
+    joined_after : (fault : ReplaceFault) → SavesKey now e.0 (file e.0 e.1) (Err fault) after →
         IsTrue start.is_honest → ks ≡ keys start.content → (held : Documents) → entries held ≡ all → (id : ℕ) →
         file_in_either after.content held id ≡ file_in_either start.content held id
     joined_after replaces.Memory r honest known held is id =
@@ -200,20 +204,40 @@ module _ (start now : SavedSet) (ks : List ℕ)
               (no_key start.content ks e.0 known absent) id
         ]
 
-    not_fine : (fault : ReplaceFault) → ReplacesKey now e.0 (file e.0 e.1) (Err fault) after → fault ≡ replaces.Device →
+    stopped_here : (fault : ReplaceFault) → SavesKey now e.0 (file e.0 e.1) (Err fault) after →
+        IsTrue start.is_honest → ks ≡ keys start.content → (held : Documents) → entries held ≡ all →
+        StopsAtKey start.content after.content held (fault_of fault)
+    stopped_here replaces.Memory r honest known held is =
+        subst (λ (s : SavedSet). StopsAtKey start.content s.content held moves.Memory) (sym (r.refused refl))
+        (stops_before start.content now.content held e rest written (c.moving honest known held is) moves.Memory
+        (no_key start.content ks e.0 known absent))
+    stopped_here replaces.Device r honest known held is =
+        let m = c.moving honest known held is in
+        let none = no_key start.content ks e.0 known absent in
+        elim (either now.save_plan now.content (insert now.content e.0 (file e.0 e.1)) after.content
+        (r.faulted refl (still_honest honest))) as (λ _. StopsAtKey start.content after.content held moves.Device) [
+          | inl same ↦ subst (λ (content : Contents). StopsAtKey start.content content held moves.Device) (sym same)
+              (stops_before start.content now.content held e rest written m moves.Device none)
+          | inr put ↦ subst (λ (content : Contents). StopsAtKey start.content content held moves.Device) (sym put)
+              (stops_after start.content now.content held e rest written m none)
+        ]
+
+    not_fine : (fault : ReplaceFault) → SavesKey now e.0 (file e.0 e.1) (Err fault) after → fault ≡ replaces.Device →
         start.save_plan ≢ SavesFine
     not_fine replaces.Device r is fine = subst (λ (p : SavePlan). Follows p Faulted after.save_plan)
         (c.fine fine) r.follows
     not_fine replaces.Memory r is fine = absurd cc
 
-    pub abandons : (fault : ReplaceFault) → ReplacesKey now e.0 (file e.0 e.1) (Err fault) after →
+    pub abandons : (fault : ReplaceFault) → SavesKey now e.0 (file e.0 e.1) (Err fault) after →
         Abandons start after ks all fault
     abandons fault r = record {
       same_honesty = r.same_honesty ∙ c.same_honesty;
+      same_memory_plan = r.same_memory_plan ∙ c.same_memory_plan;
       same_load_plan = r.same_load_plan ∙ c.same_load_plan;
       fine = λ fine. stays_fine now.save_plan (outcome_of (Err fault)) after.save_plan r.follows (c.fine fine);
       device = not_fine fault r;
       joined = joined_after fault r;
+      stopped = stopped_here fault r;
     }
 
 pub some_of : {X : Type 0} (o : Option X) → IsSome o → (x : X) × (o ≡ Some x)

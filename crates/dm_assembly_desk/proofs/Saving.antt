@@ -6,7 +6,7 @@ use Rattle.std.specs.Cmp.{nat_cmp_total}
 use Rattle.std.specs.FinMap.{get, insert, remove, len, get-insert, get-remove, len-remove}
 use Rattle.dm_append_label.specs.Pages.{PageView}
 use Rattle.dm_store.specs.Saved.{SavePlan, SavesFine, FaultOld, FaultNew, SavesOpen, Done, Faulted, HeldAfterFault}
-use Rattle.dm_store.specs.Sets.{SavedSet, Contents, Saves, ReplacesKey, RemovesKey}
+use Rattle.dm_store.specs.Sets.{SavedSet, Contents, Saves, SavesKey, RemovesKey}
 use Rattle.dm_store.specs.declared.store.ReplaceFault.TheVariants as replacing
 use Rattle.dm_store.specs.declared.set.RemoveFault.{RemoveFault}
 use Rattle.dm_store.specs.declared.set.RemoveFault.TheVariants as removing
@@ -139,7 +139,7 @@ page_to_save old p order running q adding =
 
 pub keeps : (old : DeskView) (p : PageView) (set : SavedSet) → IsInOrder old → old.is_failed ≡ false → IsPage p →
     NeedsSave (answer old.capacity old.held p)
-    → ReplacesKey old.saved p.id (file p.id (pages_with old.held p)) (Ok tt) set →
+    → SavesKey old.saved p.id (file p.id (pages_with old.held p)) (Ok tt) set →
     KeepsPage p old (done_view old set (with_page old.held p))
 keeps old p set order running q adding s =
     let t = page_to_save old p order running q adding in record {
@@ -155,7 +155,7 @@ keeps old p set order running q adding s =
 
 pub keeps_order : (old : DeskView) (p : PageView) (set : SavedSet) → IsInOrder old → old.is_failed ≡ false → IsPage p →
     NeedsSave (answer old.capacity old.held p)
-    → ReplacesKey old.saved p.id (file p.id (pages_with old.held p)) (Ok tt) set →
+    → SavesKey old.saved p.id (file p.id (pages_with old.held p)) (Ok tt) set →
     IsInOrder (done_view old set (with_page old.held p))
 keeps_order old p set order running q adding s =
     let t = page_to_save old p order running q adding in record {
@@ -168,7 +168,7 @@ keeps_order old p set order running q adding s =
 
 pub fails_to_keep : (old : DeskView) (p : PageView) (set : SavedSet) → IsInOrder old → old.is_failed ≡ false →
     IsPage p → NeedsSave (answer old.capacity old.held p)
-    → ReplacesKey old.saved p.id (file p.id (pages_with old.held p)) (Err replacing.Device) set →
+    → SavesKey old.saved p.id (file p.id (pages_with old.held p)) (Err replacing.Device) set →
     FailsToKeepPage p old (failed_view old set)
 fails_to_keep old p set order running q adding s =
     let t = page_to_save old p order running q adding in record {

@@ -5,7 +5,7 @@ use Rattle.dm_append_label.specs.Pages.{PageView}
 use Rattle.dm_append_label.specs.Opening.{LabelOpens}
 use Rattle.dm_append_label.specs.declared.opening.Opened.{Opened}
 use Rattle.dm_append_label.specs.declared.fault.LabelFault.{LabelFault}
-use Rattle.dm_store.specs.Sets.{ReplacesKey}
+use Rattle.dm_store.specs.Sets.{SavesKey}
 use Rattle.dm_store.specs.declared.store.ReplaceFault.TheVariants as replacing
 use Rattle.dm_assembly_desk.specs.Files.{file}
 use Rattle.dm_assembly_desk.specs.Documents.{pages_with, with_page}
@@ -22,12 +22,12 @@ use Rattle.dm_assembly_desk.specs.declared.fault.ScanFault.TheVariants as scans
 -- the page is held from now on, and the file of its document was saved before the answer
 pub record KeepsPage (p : PageView) (old new : DeskView) : Type 0 where
   pub holding : Holds (with_page old.held p) old new
-  pub replaced : ReplacesKey old.saved p.id (file p.id (pages_with old.held p)) (Ok tt) new.saved
+  pub replaced : SavesKey old.saved p.id (file p.id (pages_with old.held p)) (Ok tt) new.saved
 
 -- the save of the page's document met a device fault
 pub record FailsToKeepPage (p : PageView) (old new : DeskView) : Type 0 where
   pub failing : FailsToHold (with_page old.held p) old new
-  pub replaced : ReplacesKey old.saved p.id (file p.id (pages_with old.held p)) (Err replacing.Device) new.saved
+  pub replaced : SavesKey old.saved p.id (file p.id (pages_with old.held p)) (Err replacing.Device) new.saved
 
 -- what an answer of this kind changes
 abbrev pub ChangesByPage : Kind → PageView → DeskView → DeskView → Type 0

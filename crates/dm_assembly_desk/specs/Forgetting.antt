@@ -1,6 +1,7 @@
 -- What a desk does to forget a document.
 use Rattle.std.specs.Prelude.{◌≡◌, ℕ, None, Result, Ok, Err, IsSome}
 use Rattle.std.specs.FinMap as map
+use Rattle.dm_store.specs.Saved.{MemoryOpen}
 use Rattle.dm_store.specs.Sets.{RemovesKey}
 use Rattle.dm_store.specs.declared.set.RemoveFault.TheVariants as removing
 use Rattle.dm_assembly_desk.specs.Views.{DeskView}
@@ -24,6 +25,7 @@ pub record FailsToLetGo (id : ℕ) (old new : DeskView) : Type 0 where
 abbrev pub Forgets : ℕ → DeskView → Result (Unit {0}) ForgetFault → DeskView → Type 0
 Forgets id old (Ok _) new = LetsGo id old new
 Forgets id old (Err forgets.NotHeld) new = (map.get old.held id ≡ None) × (new ≡ old)
-Forgets id old (Err forgets.Memory) new = IsSome (map.get old.held id) × (new ≡ old)
+Forgets id old (Err forgets.Memory) new =
+    IsSome (map.get old.held id) × (new ≡ old) × (old.saved.memory_plan ≡ MemoryOpen)
 Forgets id old (Err forgets.Save) new = FailsToLetGo id old new
 Forgets id old (Err forgets.Failed) new = ⊥

@@ -3,7 +3,7 @@ use Rattle.std.specs.Prelude.{◌≡◌, ◌↔◌, ℕ, ◌&&◌, List, [], len
 use Rattle.std.specs.FinMap as map
 use Rattle.std.specs.List.{list_all}
 use Rattle.std.specs.Option.{option_or}
-use Rattle.dm_store.specs.Sets.{ReplacesKey}
+use Rattle.dm_store.specs.Sets.{SavesKey}
 use Rattle.dm_store.specs.declared.store.ReplaceFault.TheVariants as replacing
 use Rattle.dm_assembly_desk.specs.Pages.{Pages, page, names}
 use Rattle.dm_assembly_desk.specs.Files.{file, Spells, HasNoFile}
@@ -58,13 +58,13 @@ with_file held id pages = map.insert held id (pages_with_file held id pages)
 -- held, and each of the others that is given.
 pub record KeepsFile (id : ℕ) (pages : Pages) (old new : DeskView) : Type 0 where
   pub holding : Holds (with_file old.held id pages) old new
-  pub replaced : ReplacesKey old.saved id (file id (pages_with_file old.held id pages)) (Ok tt) new.saved
+  pub replaced : SavesKey old.saved id (file id (pages_with_file old.held id pages)) (Ok tt) new.saved
   pub each : (m : ℕ) → page_at new.held id m ≡ option_or (page_at old.held id m) (page pages m)
 
 -- the save of the document met a device fault
 pub record FailsToKeepFile (id : ℕ) (pages : Pages) (old new : DeskView) : Type 0 where
   pub failing : FailsToHold (with_file old.held id pages) old new
-  pub replaced : ReplacesKey old.saved id (file id (pages_with_file old.held id pages)) (Err replacing.Device) new.saved
+  pub replaced : SavesKey old.saved id (file id (pages_with_file old.held id pages)) (Err replacing.Device) new.saved
 
 -- what an answer of this kind changes
 abbrev pub ChangesByFile : Kind → ℕ → Pages → DeskView → DeskView → Type 0

@@ -1,8 +1,8 @@
 -- Moving the documents of a joint file to a set with a file for each of them.
-use Rattle.std.specs.Prelude.{◌≡◌, ◌⊎◌, ℕ, ◌+◌, ◌<◌, List, Option, Some, option_map, Result, Ok, Err, IsTrue, IsSomeAnd}
+use Rattle.std.specs.Prelude.{◌≡◌, ◌⊎◌, ℕ, ◌+◌, ◌<◌, List, Option, Some, None, option_map, Result, Ok, Err, IsTrue, IsSome, IsSomeAnd}
 use Rattle.std.specs.FinMap as map
 use Rattle.std.specs.Option.{option_or}
-use Rattle.dm_store.specs.Saved.{Saved, LoadsFine, LoadsOpen, SavesFine}
+use Rattle.dm_store.specs.Saved.{Saved, MemoryOpen, LoadsFine, LoadsOpen, SavesFine}
 use Rattle.dm_store.specs.Sets.{SavedSet, Contents}
 use Rattle.dm_assembly_desk.specs.Files.{file}
 use Rattle.dm_assembly_desk.specs.Documents.{Documents}
@@ -30,22 +30,48 @@ pub record MovesAll (old_content : Option (List ℕ)) (start content : Contents)
   pub emptied : (0 < map.len held → old_after ≡ Some (joint_file map.empty))
       × (map.len held ≡ 0 → (old_after ≡ old_content) × (content ≡ start))
 
+-- The save of the file of one document, which the set didn't have, ended a move. Each document below its key is on the
+-- set, no key above it was touched, and the key has nothing, or after a device fault the document's file.
+pub record StopsAtKey (start content : Contents) (held : Documents) (fault : MoveFault) : Type 0 where
+  pub key : ℕ
+  pub is_held : IsSome (map.get held key)
+  pub was_absent : map.get start key ≡ None
+  pub below : (id : ℕ) → id < key → map.get content id ≡ file_in_either start held id
+  pub itself : (map.get content key ≡ None)
+      ⊎ ((fault ≡ moves.Device) × (map.get content key ≡ file_in_either start held key))
+  pub above : (id : ℕ) → key < id → map.get content id ≡ map.get start id
+
+-- The save of the old store ended a move. Each document is on the set, and the old store holds what it held, or after a
+-- device fault a joint file of none.
+pub record StopsAtLast (old_content : Option (List ℕ)) (start content : Contents) (old_after : Option (List ℕ))
+    (held : Documents) (fault : MoveFault) : Type 0 where
+  pub each : (id : ℕ) → map.get content id ≡ file_in_either start held id
+  pub joint : (old_after ≡ old_content) ⊎ ((fault ≡ moves.Device) × (old_after ≡ Some (joint_file map.empty)))
+
+-- where a move stopped: before its first save, at the save of one document's file, or at that of the old store
+abbrev pub StopsSomewhere : Saved → SavedSet → MoveFault → Saved → SavedSet → Type 0
+StopsSomewhere old set fault old_after set_after =
+    ((old_after ≡ old) × (set_after ≡ set))
+    ⊎ (IsTrue old.is_honest → IsTrue set.is_honest → (held : Documents) × HoldsJointFile old.content held
+    × (((old_after ≡ old) × StopsAtKey set.content set_after.content held fault)
+    ⊎ StopsAtLast old.content set.content set_after.content old_after.content held fault))
+
 -- what is answered to an old store that holds no document, or bytes that are no joint file
 abbrev pub AnswersNone : Option (List ℕ) → Result ℕ MoveFault → Type 0
 AnswersNone content (Ok written) = HoldsJointFile content map.empty × (written ≡ 0)
 AnswersNone content (Err fault) = IsSomeAnd content (λ bytes. HasJointFileFault bytes fault)
 
--- the load of the old store failed, or memory was refused
+-- the load of the old store failed, or was refused for lack of memory
 abbrev pub MayFailToLoadJoint : Saved → Result ℕ MoveFault → Type 0
 MayFailToLoadJoint old (Ok written) = ⊥
 MayFailToLoadJoint old (Err moves.NotPages) = ⊥
 MayFailToLoadJoint old (Err moves.Version) = ⊥
 MayFailToLoadJoint old (Err moves.Damaged) = ⊥
 MayFailToLoadJoint old (Err moves.Device) = old.load_plan ≡ LoadsOpen
-MayFailToLoadJoint old (Err moves.Memory) = Unit {0}
+MayFailToLoadJoint old (Err moves.Memory) = old.memory_plan ≡ MemoryOpen
 
 -- Where an old store holds no document, or bytes that are no joint file, nothing is saved, and that is answered, unless
--- its load failed or memory was refused.
+-- its load failed or was refused for lack of memory.
 abbrev pub LeavesAlone : Saved → SavedSet → Result ℕ MoveFault → Saved → SavedSet → Type 0
 LeavesAlone old set result old_after set_after = IsTrue old.is_honest →
     (answer : Result ℕ MoveFault) → AnswersNone old.content answer →
@@ -56,16 +82,19 @@ abbrev pub Moves : Saved → SavedSet → ℕ → Saved → SavedSet → Type 0
 Moves old set written old_after set_after = IsTrue old.is_honest → IsTrue set.is_honest →
     (held : Documents) × MovesAll old.content set.content set_after.content old_after.content held written
 
--- what every outcome leaves of the old store and of the set: honesty, the plan of loads, and a fine plan of saves
+-- what every outcome leaves of the old store and of the set: honesty, the plans of memory and of loads, and a fine plan
+-- of saves
 pub record KeepsPlans (old : Saved) (set : SavedSet) (old_after : Saved) (set_after : SavedSet) : Type 0 where
   pub old_honesty : old_after.is_honest ≡ old.is_honest
+  pub old_memory : old_after.memory_plan ≡ old.memory_plan
   pub old_loads : old_after.load_plan ≡ old.load_plan
   pub old_saves : old.save_plan ≡ SavesFine → old_after.save_plan ≡ SavesFine
   pub set_honesty : set_after.is_honest ≡ set.is_honest
+  pub set_memory : set_after.memory_plan ≡ set.memory_plan
   pub set_loads : set_after.load_plan ≡ set.load_plan
   pub set_saves : set.save_plan ≡ SavesFine → set_after.save_plan ≡ SavesFine
 
--- nothing is to fail, at the old store and at the set
+-- no load and no save is to fail, at the old store and at the set; memory may be lacking
 pub record AllFine (old : Saved) (set : SavedSet) : Type 0 where
   pub old_loads : old.load_plan ≡ LoadsFine
   pub old_saves : old.save_plan ≡ SavesFine

@@ -3,7 +3,7 @@
 ghost use Rattle.std.specs.Prelude.{◌≡◌, ◌≤◌, [], length, true, false, Err, OnOk, OnErr, IsSomeAnd, unwrap_or};
 ghost use Rattle.std.specs.FinMap as map;
 ghost use Rattle.dm_append_label.specs.declared.opening.TheConstants.{MOST_PAGE_BYTES};
-ghost use Rattle.dm_store.specs.Sets.{ReplacesKey};
+ghost use Rattle.dm_store.specs.Sets.{SavesKey};
 ghost use Rattle.dm_assembly_desk.specs.Files.{file, IsEntry};
 ghost use Rattle.dm_assembly_desk.specs.Documents.{AreEntries, pages_with, with_page};
 ghost use Rattle.dm_assembly_desk.specs.Answers.{answer};
@@ -122,7 +122,7 @@ fn keep<S: StoreSet, A: Allocator + Copy>(
     requires short { length page.bytes ≤ MOST_PAGE_BYTES }
     ensures ok { OnOk result (documents.new ≡ with_page documents.old page) }
     ensures err { OnErr result (documents.new ≡ documents.old) }
-    ensures replaced { ReplacesKey (S.state set.old) page.id (file page.id (pages_with documents.old page)) result
+    ensures replaced { SavesKey (S.state set.old) page.id (file page.id (pages_with documents.old page)) result
         (S.state set.new) }
 {
     let id = page.id().number();
@@ -154,7 +154,7 @@ fn save<S: StoreSet, A: Allocator + Copy>(
     id: u16,
 ) -> Result<(), ReplaceFault>
     requires { IsSomeAnd (map.get documents.now id) (IsEntry id) }
-    ensures { ReplacesKey (S.state set.old) id (file id (unwrap_or (map.get documents.now id) [])) result
+    ensures { SavesKey (S.state set.old) id (file id (unwrap_or (map.get documents.now id) [])) result
         (S.state set.new) }
 {
     let Some(document) = documents.get(id) else {

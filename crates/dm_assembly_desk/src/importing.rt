@@ -4,7 +4,7 @@ ghost use Rattle.std.specs.Prelude.{map as each};
 ghost use Rattle.std.specs.Prelude.{◌≡◌, ◌≤◌, true, false, Err, [], length, unwrap_or, IfOk, OnOk, OnErr};
 ghost use Rattle.std.specs.FinMap as map;
 ghost use Rattle.std.specs.Option.{option_copied};
-ghost use Rattle.dm_store.specs.Sets.{ReplacesKey};
+ghost use Rattle.dm_store.specs.Sets.{SavesKey};
 ghost use Rattle.dm_assembly_desk.specs.Pages.{lent_bytes};
 ghost use Rattle.dm_assembly_desk.specs.Files.{file, IsEntry};
 ghost use Rattle.dm_assembly_desk.specs.Merging.{union_of};
@@ -152,7 +152,7 @@ fn keep_document<S: StoreSet, A: Allocator + Copy>(
     requires { IsEntry id document }
     ensures ok { OnOk result (documents.new ≡ map.insert documents.old id document) }
     ensures err { OnErr result (documents.new ≡ documents.old) }
-    ensures replaced { ReplacesKey (S.state set.old) id (file id document) result (S.state set.new) }
+    ensures replaced { SavesKey (S.state set.old) id (file id document) result (S.state set.new) }
 {
     let Ok(bytes) = write_file(alloc, id, &document) else {
         return Err(ReplaceFault::Memory);

@@ -1,8 +1,9 @@
 //! The documents of a file of version 1, moved to a set with a file for each.
 
 ghost use Rattle.std.specs.Prelude.{◌≡◌, ◌<◌, ◌∷◌, ℕ, slice_index_or, IsSome, IfOk, IfErr};
-ghost use Rattle.dm_store.specs.Sets.{ReplacesKey};
-ghost use Rattle.dm_assembly_desk.specs.Moving.{Moves, HasMoveFault, KeepsFiles, KeepsPlans, LeavesAlone};
+ghost use Rattle.dm_store.specs.Sets.{SavesKey};
+ghost use Rattle.dm_assembly_desk.specs.Moving.{Moves, HasMoveFault, StopsSomewhere};
+ghost use Rattle.dm_assembly_desk.specs.Moving.{KeepsFiles, KeepsPlans, LeavesAlone};
 ghost use Rattle.dm_assembly_desk.specs.inner.ReadingJoint.{entries_at};
 ghost use Rattle.dm_assembly_desk.specs.inner.MovingOn.{MovesEntries};
 
@@ -30,6 +31,8 @@ pub fn move_pages<O: Store, S: StoreSet, A: Allocator + Copy>(
         Moves (O.state old.old) (S.state set.old) written (O.state old.new) (S.state set.new)) }
     ensures fault { IfErr result (λ fault.
         HasMoveFault (O.state old.old) (S.state set.old) fault (O.state old.new) (S.state set.new)) }
+    ensures stops { IfErr result (λ fault.
+        StopsSomewhere (O.state old.old) (S.state set.old) fault (O.state old.new) (S.state set.new)) }
     ensures kept { KeepsFiles (O.state old.old) (S.state set.old) (O.state old.new) (S.state set.new) }
     ensures exact { LeavesAlone (O.state old.old) (S.state set.old) result (O.state old.new) (S.state set.new) }
     ensures plans { KeepsPlans (O.state old.old) (S.state set.old) (O.state old.new) (S.state set.new) }
@@ -77,7 +80,7 @@ fn save_entry<S: StoreSet, A: Allocator + Copy>(
     id: u16,
     entry: &[u8],
 ) -> Result<(), ReplaceFault>
-    ensures { ReplacesKey (S.state set.old) id (68 ∷ 77 ∷ 80 ∷ 71 ∷ 2 ∷ entry.now) result (S.state set.new) }
+    ensures { SavesKey (S.state set.old) id (68 ∷ 77 ∷ 80 ∷ 71 ∷ 2 ∷ entry.now) result (S.state set.new) }
 {
     let mut bytes = Vec::new(alloc);
     if bytes

@@ -92,7 +92,7 @@ take_whole [] [] = refl
 take_whole [] (y ∷ ys) = refl
 take_whole {X} (x ∷ xs) ys = ap (λ (l : List X). x ∷ l) (take_whole xs ys)
 
-names_count : (id count n k : ℕ) → length (names_from id count n k) ≡ k
+pub names_count : (id count n k : ℕ) → length (names_from id count n k) ≡ k
 names_count id count n zero = refl
 names_count id count n (suc k) = (let t = names_count id count (n + 1) k in omega arith)
 

@@ -5,11 +5,13 @@ use Rattle.std.proofs.Common.{◌≡◌, ◌≢◌, ◌<◌, ◌+◌, inl, inr, 
 use Rattle.dm_finder_frame.specs.Grids.{GridView}
 use Rattle.dm_print_ledger.specs.declared.range.Range.{Range}
 use Rattle.dm_assembly_desk.specs.declared.fault.AskFault.TheVariants.{Incomplete}
+use Rattle.dm_append_label.specs.declared.fault.LabelFault.{LabelFault}
 use Rattle.dm_append_label.specs.declared.fault.LabelFault.TheVariants as label_fault
 use Rattle.dm_assembly_desk.specs.declared.fault.ScanFault.{ScanFault}
 use Rattle.dm_assembly_desk.specs.declared.fault.ScanFault.TheVariants as scan_fault
 use Rattle.dm_assembly_desk.specs.declared.fault.ImportFault.{ImportFault}
 use Rattle.dm_assembly_desk.specs.declared.fault.ImportFault.TheVariants as import_fault
+use Rattle.dm_assembly_desk.specs.declared.reply.Accepted.{Accepted}
 use Rattle.dm_event_history.specs.declared.stop.Stop.{Stop}
 use Rattle.dm_event_history.specs.declared.event.Event.{Event}
 use Rattle.dm_event_history.specs.declared.event.Event.TheVariants.{Scan, Ask, Forget, Import, Export}
@@ -17,24 +19,24 @@ use Rattle.dm_event_history.specs.declared.reply.Reply.{Reply}
 use Rattle.dm_event_history.specs.declared.reply.Reply.TheVariants.{Scanned, ScanRefused, Document, AskRefused, Forgotten, Exported, ImportRefused, NoSuch}
 use Rattle.dm_event_history.specs.History.{Entry, History, CutDocument, LabelName, ExportName, out, exports, exported, events_of, replies_of}
 use Rattle.dm_event_history.specs.Legal.{AreDisjoint, IsLegal, IsReply, NeverTwice}
-use Rattle.dm_event_history.specs.Safe.{known_of, IsSafe, IsReplySafe}
-use Rattle.dm_event_history.specs.Telling.{IsReplyTrue, IsTrueDocument, IsTrulyMissing, IsExportSafe}
+use Rattle.dm_event_history.specs.Safe.{IsSafe, IsReplySafe}
+use Rattle.dm_event_history.specs.Telling.{Known, IsPageOf, IsReplyTrue, IsTrueDocument, IsTrulyMissing, IsExportSafe}
 use Rattle.dm_event_history.specs.Actors.{Actor, DeskAt, actor_of}
 use Rattle.dm_event_history.specs.Running.{is_failed, failed_after}
 use Rattle.dm_event_history.specs.Replying.{goes_on, has_failed_before}
 use Rattle.dm_event_history.specs.Saving.{may_save}
 use Rattle.dm_event_history.specs.Tainted.{AtDesk, InExport, IsTainted}
-use Rattle.dm_event_history.specs.Honest.{IsHonestlyRefused, IsHonestlyNotImported, IsHonestReply, AreHonestReplies, AreMarkedFair, IsClean, BringsClean}
+use Rattle.dm_event_history.specs.Honest.{IsBeyond, IsHonestlyRefused, IsHonestlyNotImported, IsHonestReply, AreHonestReplies, AreMarkedFair, IsClean, BringsClean}
 use Rattle.dm_event_history.specs.Masks.{HasPage}
-use Rattle.dm_event_history.specs.Holding.{MayTake, IsPossiblyHeld}
-use Rattle.dm_event_history.specs.Headline.{Batch, count_of, labels_of, IsScanOf, MayHaveSaved, WasScanned, LeftBefore, WasPrinted, WasBegun, MayRefuse, IsOfDesk, PrintsOnceBy, known_before, IsFaithfulBy}
+use Rattle.dm_event_history.specs.Holding.{MayTake, IsPossiblyHeld, known_of}
+use Rattle.dm_event_history.specs.Headline.{Batch, count_of, labels_of, IsScanOf, MayHaveSaved, WasScanned, LeftBefore, WasPrinted, WasBegun, IsOfFrame, MayRefuse, MayNotImport, PrintsOnceBy, known_before, IsFaithfulBy}
 use Rattle.dm_event_history.proofs.Batches.{batch_of, batches_of, at_last, events_count, replies_count, batches_count, before_or_last, take_keeps, in_either, out_is, label_in, whole_before}
 use Rattle.dm_event_history.proofs.Replied.{failed_at_last}
 use Rattle.dm_event_history.proofs.PrintsOnce.{prints_once}
 use Rattle.dm_event_history.proofs.Tainting.{IsFirst, first_whole, first_less, last_asked, clean_of, BringsUntainted, IsUntainted, untainted_at, last_brings, last_clean}
 use Rattle.dm_event_history.proofs.Gotten.{get_more, get_beyond}
 use Rattle.dm_event_history.proofs.PrintedBatches.{IsPrintedBy, printed_at}
-use Rattle.dm_event_history.proofs.Knowing.{IsFirstOf, first_of_less, run_follows, reply_follows}
+use Rattle.dm_event_history.proofs.Knowing.{Follows, IsFirstOf, first_of_less, run_follows, page_follows, reply_follows, label_follows, export_follows}
 
 -- ---- what was scanned and printed, one event more
 
@@ -320,7 +322,8 @@ true_document {A} ranges desks grids h desk id bytes legal safe clean once s =
 -- a document that lacks pages was printed, and the labels of the other pages were scanned
 truly_missing : {A : Type 0} (ranges : List Range) (desks : ℕ) (grids : List GridView) (h : History A)
     (desk id missing : ℕ) → IsLegal ranges desks h → IsSafe grids h → IsClean grids h (AtDesk desk) →
-    PrintsOnceBy ranges desks (batches_of h) (events_of h) (replies_of h) → IsTrulyMissing (known_of h) desk id missing →
+    PrintsOnceBy ranges desks (batches_of h) (events_of h) (replies_of h) →
+    IsTrulyMissing (known_of h) desk id missing →
     WasBegun (batches_of h) (events_of h) (replies_of h) (length h) id missing
 truly_missing {A} ranges desks grids h desk id missing legal safe clean once s =
     let p : IsPrintedBy h id s.document = printed_at ranges desks h id s.document legal s.printed in
@@ -366,9 +369,6 @@ page_scanned {A} h id m t = record {
 
 -- what is so of this reply to this event, of number i
 abbrev Tells : {A : Type 0} → List (Option Batch) → List (Event A) → List (Reply A) → ℕ → Event A → Reply A → Type 0
-Tells batches events replies i (Scan desk label flips stop) (Scanned accepted) =
-    IsScanOf batches events i (record { id = accepted.id; number = accepted.m; count = accepted.n })
-Tells batches events replies i (Scan desk label flips stop) (ScanRefused fault) = MayRefuse fault
 Tells batches events replies i (Ask desk id) (Document bytes) = WasPrinted batches events replies i id bytes
 Tells batches events replies i (Ask desk id) (AskRefused (Incomplete missing)) =
     WasBegun batches events replies i id missing
@@ -376,7 +376,6 @@ Tells batches events replies i (Forget desk id stop) Forgotten =
     (m n : ℕ) × WasScanned batches events replies i id m n
 Tells batches events replies i (Export desk id) (Exported index told n mask) =
     (m : ℕ) → HasPage mask m → WasScanned batches events replies i id m n
-Tells batches events replies i (Import desk export stop) (ImportRefused fault) = IsOfDesk fault
 Tells batches events replies i event reply = Unit {0}
 
 tells_more : {A : Type 0} (batches : List (Option Batch)) (more : Option Batch) (events : List (Event A))
@@ -384,10 +383,6 @@ tells_more : {A : Type 0} (batches : List (Option Batch)) (more : Option Batch) 
     (answer : Reply A) (i : ℕ) (event : Event A) (reply : Reply A) → i ≤ length batches →
     Tells batches events replies i event reply →
     Tells (batches ++ more ∷ []) (events ++ last ∷ []) (replies ++ answer ∷ []) i event reply
-tells_more batches more events replies last answer i (Scan desk label flips stop) (Scanned accepted) within t =
-    scan_more batches more events last i (record { id = accepted.id; number = accepted.m; count = accepted.n })
-    within t
-tells_more batches more events replies last answer i (Scan desk label flips stop) (ScanRefused fault) within t = t
 tells_more batches more events replies last answer i (Ask desk id) (Document bytes) within t =
     printed_more batches more events replies last answer i id bytes within t
 tells_more batches more events replies last answer i (Ask desk id) (AskRefused (Incomplete missing)) within t =
@@ -396,37 +391,75 @@ tells_more batches more events replies last answer i (Forget desk id stop) Forgo
     (t.0, t.1, scanned_more batches more events replies last answer i id t.0 t.1 within t.2)
 tells_more batches more events replies last answer i (Export desk id) (Exported index told n mask) within t =
     (λ m named. scanned_more batches more events replies last answer i id m n within (t m named))
-tells_more batches more events replies last answer i (Import desk export stop) (ImportRefused fault) within t = t
 tells_more batches more events replies last answer i event reply within t = tt
 
--- a scan that is honestly refused is refused for its frame, or by the state of its desk
-of_scan : {A : Type 0} (grids : List GridView) (capacities : List ℕ) (h : History A) (desk label : ℕ)
-    (flips : List (ℕ × ℕ)) (fault : ScanFault) →
-    IsHonestlyRefused grids capacities h desk label flips fault → MayRefuse fault
-of_scan grids capacities h desk label flips (scan_fault.Label (label_fault.Border wrong)) honest = tt
-of_scan grids capacities h desk label flips (scan_fault.Label fault) honest = absurd honest
-of_scan grids capacities h desk label flips scan_fault.Conflict honest = honest
-of_scan grids capacities h desk label flips fault honest = tt
+-- a scan that is honestly refused at a clean desk is refused by its state
+of_scan : {A : Type 0} (grids : List GridView) (capacities : List ℕ) (h : History A) (known : Known) →
+    Follows (known_of h) known → (desk label : ℕ) (flips : List (ℕ × ℕ)) (fault : ScanFault) →
+    IsClean grids h (AtDesk desk) → IsHonestlyRefused grids capacities h desk label flips fault →
+    MayRefuse capacities known desk label fault
+of_scan grids capacities h known f desk label flips scan_fault.Conflict clean honest = honest clean
+of_scan grids capacities h known f desk label flips scan_fault.Full clean honest =
+    label_follows capacities (known_of h) known f desk label (honest.1 clean)
+of_scan grids capacities h known f desk label flips fault clean honest = tt
 
--- an import that is honestly refused is refused by the state of its desk
-of_desk : {A : Type 0} (capacities : List ℕ) (h : History A) (desk export : ℕ) (fault : ImportFault) →
-    IsHonestlyNotImported capacities h desk export fault → IsOfDesk fault
-of_desk capacities h desk export import_fault.NotPages honest = honest
-of_desk capacities h desk export import_fault.Version honest = honest
-of_desk capacities h desk export import_fault.Damaged honest = honest
-of_desk capacities h desk export import_fault.Conflict honest = honest
-of_desk capacities h desk export fault honest = tt
+-- and any for its frame
+of_label : (grids : List GridView) (label : ℕ) (flips : List (ℕ × ℕ)) (fault : LabelFault) →
+    IsBeyond grids label flips fault → IsOfFrame fault
+of_label grids label flips (label_fault.Border wrong) honest = tt
+of_label grids label flips fault honest = absurd honest
 
--- so it is of the last reply, if its event brings nothing but what is clean to a clean desk
-tells_last : {A : Type 0} (ranges : List Range) (desks : ℕ) (h : History A) (e : Entry A) (grids : List GridView)
-    (capacities : List ℕ) →
-    IsLegal ranges desks (e ∷ h) → IsSafe grids (e ∷ h) → AreHonestReplies grids capacities (e ∷ h) →
-    (e.reply ≢ NoSuch → BringsClean grids h e.event) →
+-- an import that is honestly refused at a clean desk is refused by its state
+of_import : {A : Type 0} (grids : List GridView) (capacities : List ℕ) (h : History A) (known : Known) →
+    Follows (known_of h) known → (desk export : ℕ) (fault : ImportFault) → IsClean grids h (AtDesk desk) →
+    IsHonestlyNotImported grids capacities h desk export fault → MayNotImport capacities known desk export fault
+of_import grids capacities h known f desk export import_fault.Conflict clean honest = honest clean
+of_import grids capacities h known f desk export import_fault.Full clean honest =
+    export_follows capacities (known_of h) known f desk export (honest clean)
+of_import grids capacities h known f desk export fault clean honest = tt
+
+-- what is so of the reply to a scan, or an import, that brings nothing but what is not tainted; some of it where the
+-- desk is not tainted either
+abbrev IsAnsweredSo : {A : Type 0} → List ℕ → Known → (ℕ → Type 0) → Event A → Reply A → Type 0
+IsAnsweredSo capacities known IsUntaintedDesk (Scan desk label flips stop) (Scanned accepted) =
+    IsPageOf known label accepted
+IsAnsweredSo capacities known IsUntaintedDesk (Scan desk label flips stop) (ScanRefused (scan_fault.Label fault)) =
+    IsOfFrame fault
+IsAnsweredSo capacities known IsUntaintedDesk (Scan desk label flips stop) (ScanRefused fault) =
+    IsUntaintedDesk desk → MayRefuse capacities known desk label fault
+IsAnsweredSo capacities known IsUntaintedDesk (Import desk export stop) (ImportRefused fault) =
+    IsUntaintedDesk desk → MayNotImport capacities known desk export fault
+IsAnsweredSo capacities known IsUntaintedDesk event reply = Unit {0}
+
+of_answer : {A : Type 0} (grids : List GridView) (capacities : List ℕ) (h : History A) (known : Known) →
+    Follows (known_of h) known → (IsUntaintedDesk : ℕ → Type 0) →
+    ((desk : ℕ) → IsUntaintedDesk desk → IsClean grids h (AtDesk desk)) → (event : Event A) (reply : Reply A) →
+    IsHonestReply grids capacities h event reply → IsAnsweredSo capacities known IsUntaintedDesk event reply
+of_answer grids capacities h known f Desk clean (Scan desk label flips stop) (Scanned accepted) honest =
+    page_follows (known_of h) known f label accepted honest.1
+of_answer {A} grids capacities h known f Desk clean (Scan desk label flips stop) (ScanRefused (scan_fault.Label fault))
+    honest = of_label grids label flips fault honest
+of_answer grids capacities h known f Desk clean (Scan desk label flips stop) (ScanRefused scan_fault.Failed) honest =
+    λ own. tt
+of_answer grids capacities h known f Desk clean (Scan desk label flips stop) (ScanRefused scan_fault.Conflict) honest =
+    λ own. of_scan grids capacities h known f desk label flips scan_fault.Conflict (clean desk own) honest
+of_answer grids capacities h known f Desk clean (Scan desk label flips stop) (ScanRefused scan_fault.Full) honest =
+    λ own. of_scan grids capacities h known f desk label flips scan_fault.Full (clean desk own) honest
+of_answer grids capacities h known f Desk clean (Scan desk label flips stop) (ScanRefused scan_fault.Memory) honest =
+    λ own. tt
+of_answer grids capacities h known f Desk clean (Scan desk label flips stop) (ScanRefused scan_fault.Save) honest =
+    λ own. tt
+of_answer grids capacities h known f Desk clean (Import desk export stop) (ImportRefused fault) honest =
+    λ own. of_import grids capacities h known f desk export fault (clean desk own) honest
+of_answer grids capacities h known f Desk clean event reply honest = tt
+
+-- so it is of the last reply, if its desk was clean
+tells_last : {A : Type 0} (ranges : List Range) (desks : ℕ) (h : History A) (e : Entry A) (grids : List GridView) →
+    IsLegal ranges desks (e ∷ h) → IsSafe grids (e ∷ h) →
     ((desk : ℕ) → actor_of e.event ≡ DeskAt desk → IsClean grids h (AtDesk desk)) →
     PrintsOnceBy ranges desks (batches_of h) (events_of h) (replies_of h) →
     Tells (batches_of (e ∷ h)) (events_of (e ∷ h)) (replies_of (e ∷ h)) (length h) e.event e.reply
-tells_last {A} ranges desks h e grids capacities legal safe honest brings clean once =
-    by_reply e.event e.reply refl legal.0.reply safe.0 honest.0 brings clean
+tells_last {A} ranges desks h e grids legal safe clean once = by_reply e.event e.reply refl safe.0 clean
   where
     within : length h ≤ length (batches_of h)
     within = (let all = batches_count h in omega arith)
@@ -434,32 +467,18 @@ tells_last {A} ranges desks h e grids capacities legal safe honest brings clean 
     own_safe : IsSafe grids h
     own_safe = safe.1
 
-    by_reply : (event : Event A) (reply : Reply A) → e.event ≡ event → IsReply ranges h e.id e.left event reply →
-        SafeIfClean grids h event reply →
-        ((desk : ℕ) → actor_of event ≡ DeskAt desk → BringsClean grids h event →
-        IsClean grids h (AtDesk desk) → IsHonestReply grids capacities h event reply) →
-        (reply ≢ NoSuch → BringsClean grids h event) →
+    by_reply : (event : Event A) (reply : Reply A) → e.event ≡ event → SafeIfClean grids h event reply →
         ((desk : ℕ) → actor_of event ≡ DeskAt desk → IsClean grids h (AtDesk desk)) →
         Tells (batches_of (e ∷ h)) (events_of (e ∷ h)) (replies_of (e ∷ h)) (length h) event reply
-    by_reply (Scan desk label flips stop) (Scanned accepted) is fine safe honest brings clean =
-        (let s = safe desk refl ((λ actor saves. brings (λ none. cc (none))), clean desk refl) in
-        subst (λ (name : LabelName). IsScanOf (batches_of (e ∷ h)) (events_of (e ∷ h)) (length h) name)
-        (ap (λ (k : ℕ). record { id = k; number = s.name.number; count = s.name.count }) (sym s.id_is) ∙
-        ap (λ (k : ℕ). record { id = accepted.id; number = k; count = s.name.count }) (sym s.m_is) ∙
-        ap (λ (k : ℕ). record { id = accepted.id; number = accepted.m; count = k }) (sym s.n_is))
-        (last_scan h e desk label flips stop s.name is s.scanned))
-    by_reply (Scan desk label flips stop) (ScanRefused fault) is fine safe honest brings clean =
-        of_scan grids capacities h desk label flips fault
-        (honest desk refl (brings (λ none. cc (none))) (clean desk refl))
-    by_reply (Ask desk id) (Document bytes) is fine safe honest brings clean =
+    by_reply (Ask desk id) (Document bytes) is safe clean =
         printed_more (batches_of h) (batch_of e) (events_of h) (replies_of h) e.event e.reply (length h) id bytes
         within (true_document ranges desks grids h desk id bytes legal.1 own_safe (clean desk refl) once
         (safe desk refl ((λ actor saves. tt), clean desk refl)))
-    by_reply (Ask desk id) (AskRefused (Incomplete missing)) is fine safe honest brings clean =
+    by_reply (Ask desk id) (AskRefused (Incomplete missing)) is safe clean =
         begun_more (batches_of h) (batch_of e) (events_of h) (replies_of h) e.event e.reply (length h) id missing
         within (truly_missing ranges desks grids h desk id missing legal.1 own_safe (clean desk refl) once
         (safe desk refl ((λ actor saves. tt), clean desk refl)))
-    by_reply (Forget desk id stop) Forgotten is fine safe honest brings clean =
+    by_reply (Forget desk id stop) Forgotten is safe clean =
         (let s = safe desk refl ((λ actor saves. tt), clean desk refl) in
         let t : Scans h id s.0 =
         (held_scanned ranges desks grids h legal.1 own_safe).held desk id s.0 (clean desk refl) s.1 in (
@@ -468,28 +487,25 @@ tells_last {A} ranges desks h e grids capacities legal safe honest brings clean 
           scanned_more (batches_of h) (batch_of e) (events_of h) (replies_of h) e.event e.reply
               (length h) id s.0 t.name.count within (page_scanned h id s.0 t),
         ))
-    by_reply (Export desk id) (Exported index told n mask) is fine safe honest brings clean = λ m named.
+    by_reply (Export desk id) (Exported index told n mask) is safe clean = λ m named.
         scanned_more (batches_of h) (batch_of e) (events_of h) (replies_of h) e.event e.reply (length h) id m n within
         (pages_scanned ranges desks grids h desk id n mask legal.1 own_safe (clean desk refl) once
         (safe desk refl ((λ actor saves. tt), clean desk refl)) m named)
-    by_reply (Import desk export stop) (ImportRefused fault) is fine safe honest brings clean =
-        of_desk capacities h desk export fault
-        (honest desk refl (brings (λ none. cc (none))) (clean desk refl))
-    by_reply event reply is fine safe honest brings clean = tt
+    by_reply event reply is safe clean = tt
 
--- and of each whose event is not tainted in the run of which these are the first entries
-each_tells : {A : Type 0} (ranges : List Range) (desks : ℕ) (grids : List GridView) (capacities : List ℕ)
+-- and of each whose desk is not tainted in the run of which these are the first entries
+each_tells : {A : Type 0} (ranges : List Range) (desks : ℕ) (grids : List GridView)
     (events : List (Event A)) (marks : List Bool) (replies : List (Reply A)) →
     AreMarkedFair grids events marks replies → (h : History A) → IsFirst events replies h →
     AreDisjoint ranges → IsLegal ranges desks h →
-    NeverTwice h → IsSafe grids h → AreHonestReplies grids capacities h → (i : ℕ) (event : Event A) (reply : Reply A) →
+    NeverTwice h → IsSafe grids h → (i : ℕ) (event : Event A) (reply : Reply A) →
     slice_get events i ≡ Some event → slice_get (replies_of h) i ≡ Some reply →
     IsUntainted events marks replies i event →
     Tells (batches_of h) (events_of h) (replies_of h) i event reply
-each_tells ranges desks grids capacities events marks replies fair [] first apart legal never safe honest i event reply
-    asked answered trusted = absurd (cc (answered))
-each_tells {A} ranges desks grids capacities events marks replies fair (e ∷ h) first apart legal never safe honest i
-    event reply asked answered trusted =
+each_tells ranges desks grids events marks replies fair [] first apart legal never safe i event reply asked answered
+    trusted = absurd (cc (answered))
+each_tells {A} ranges desks grids events marks replies fair (e ∷ h) first apart legal never safe i event reply asked
+    answered trusted =
     elim (before_or_last (replies_of h) e.reply reply (length h) i (replies_count h) answered) [
       | inl before ↦
           (let below = get_beyond (replies_of h) i reply before in
@@ -497,8 +513,8 @@ each_tells {A} ranges desks grids capacities events marks replies fair (e ∷ h)
           let all = batches_count h in
           tells_more (batches_of h) (batch_of e) (events_of h) (replies_of h) e.event e.reply i event reply
           (omega arith)
-          (each_tells ranges desks grids capacities events marks replies fair h (first_less events replies e h first)
-          apart legal.1 never.1 safe.1 honest.1 i event reply asked before trusted))
+          (each_tells ranges desks grids events marks replies fair h (first_less events replies e h first)
+          apart legal.1 never.1 safe.1 i event reply asked before trusted))
       | inr last ↦
           (let asked_at : slice_get events (length h) ≡ Some event =
           subst (λ (k : ℕ). slice_get events k ≡ Some event) last.0 asked in
@@ -513,8 +529,7 @@ each_tells {A} ranges desks grids capacities events marks replies fair (e ∷ h)
           v reply) event_is
           (subst (λ (r : Reply A). Tells (batches_of (e ∷ h)) (events_of (e ∷ h)) (replies_of (e ∷ h)) (length h)
           e.event r) last.1
-          (tells_last ranges desks h e grids capacities legal safe honest
-          (last_brings grids events marks replies fair e h first own)
+          (tells_last ranges desks h e grids legal safe
           (last_clean grids events marks replies fair e h first own)
           (prints_once ranges desks h apart legal.1 never.1)))))
     ]
@@ -556,6 +571,53 @@ each_agrees {A} ranges desks grids batches events marks replies fair (e ∷ h) f
     less : IsFirstOf batches events replies h
     less = first_of_less batches events replies e h first
 
+-- the same of event number i of a run
+abbrev IsSaid : {A : Type 0} → List ℕ → List (Option Batch) → List (Event A) → List Bool → List (Reply A) → ℕ →
+    Event A → Reply A → Type 0
+IsSaid capacities batches events marks replies i event reply =
+    IsAnsweredSo capacities (known_before batches events replies i)
+    (λ at. ¬ IsTainted events marks replies i (AtDesk at)) event reply
+
+-- so it is of the reply to each scan and import that brings nothing tainted
+each_answered : {A : Type 0} (ranges : List Range) (desks : ℕ) (grids : List GridView) (capacities : List ℕ)
+    (batches : List (Option Batch)) (events : List (Event A)) (marks : List Bool) (replies : List (Reply A)) →
+    AreMarkedFair grids events marks replies → (h : History A) → IsFirstOf batches events replies h →
+    IsLegal ranges desks h → AreHonestReplies grids capacities h → (i desk : ℕ) (event : Event A) (reply : Reply A) →
+    slice_get events i ≡ Some event → slice_get (replies_of h) i ≡ Some reply → actor_of event ≡ DeskAt desk →
+    reply ≢ NoSuch → BringsUntainted events marks replies i event →
+    IsSaid capacities batches events marks replies i event reply
+each_answered ranges desks grids capacities batches events marks replies fair [] first legal honest i desk event reply
+    asked answered actor some brings = absurd (cc (answered))
+each_answered {A} ranges desks grids capacities batches events marks replies fair (e ∷ h) first legal honest i desk
+    event reply asked answered actor some brings =
+    elim (before_or_last (replies_of h) e.reply reply (length h) i (replies_count h) answered) [
+      | inl before ↦
+          each_answered ranges desks grids capacities batches events marks replies fair h less legal.1 honest.1 i desk
+          event reply asked before actor some brings
+      | inr last ↦
+          (let asked_at : slice_get events (length h) ≡ Some event =
+          subst (λ (k : ℕ). slice_get events k ≡ Some event) last.0 asked in
+          let two : Some e.event ≡ Some event = sym (last_asked events replies e h first.first) ∙ asked_at in
+          let event_is : e.event ≡ event = cc (two) in
+          let own : BringsUntainted events marks replies (length h) e.event =
+          subst (λ (k : ℕ). BringsUntainted events marks replies k e.event) last.0
+          (subst (λ (v : Event A). BringsUntainted events marks replies i v) (sym event_is) brings) in
+          let said : IsSaid capacities batches events marks replies (length h) e.event e.reply =
+          of_answer grids capacities h (known_before batches events replies (length h))
+          (run_follows ranges desks batches events replies h legal.1 less)
+          (λ at. ¬ IsTainted events marks replies (length h) (AtDesk at))
+          (λ at untainted. clean_of grids events marks replies fair h less.first (AtDesk at) untainted)
+          e.event e.reply
+          (honest.0 desk (ap actor_of event_is ∙ actor)
+          (last_brings grids events marks replies fair e h first.first own (λ none. some (sym last.1 ∙ none)))) in
+          subst (λ (k : ℕ). IsSaid capacities batches events marks replies k event reply) (sym last.0)
+          (subst (λ (v : Event A). IsSaid capacities batches events marks replies (length h) v reply) event_is
+          (subst (λ (r : Reply A). IsSaid capacities batches events marks replies (length h) e.event r) last.1 said)))
+    ]
+  where
+    less : IsFirstOf batches events replies h
+    less = first_of_less batches events replies e h first
+
 -- two documents of one identification are the same
 one_document : {A : Type 0} (ranges : List Range) (desks : ℕ) (batches : List (Option Batch))
     (events : List (Event A)) (replies : List (Reply A)) (i j id : ℕ) (one other : List ℕ) →
@@ -570,55 +632,104 @@ one_document {A} ranges desks batches events replies i j id one other f a b =
     let same : a.batch ≡ b.batch = cc (e) in
     sym a.bytes_are ∙ ap (λ (c : Batch). c.document.bytes) same ∙ b.bytes_are
 
-pub is_faithful : {A : Type 0} (ranges : List Range) (desks : ℕ) (h : History A) (grids : List GridView)
-    (capacities : List ℕ) (marks : List Bool) → AreDisjoint ranges → IsLegal ranges desks h →
+pub is_faithful : {A : Type 0} (ranges : List Range) (h : History A) (grids : List GridView)
+    (capacities : List ℕ) (marks : List Bool) → AreDisjoint ranges → IsLegal ranges (length capacities) h →
     NeverTwice h → AreMarkedFair grids (events_of h) marks (replies_of h) → IsSafe grids h →
     AreHonestReplies grids capacities h →
-    IsFaithfulBy ranges desks (batches_of h) (events_of h) marks (replies_of h)
-is_faithful {A} ranges desks h grids capacities marks apart legal never fair safe honest = record {
+    IsFaithfulBy ranges capacities (batches_of h) (events_of h) marks (replies_of h)
+is_faithful {A} ranges h grids capacities marks apart legal never fair safe honest = record {
   prints = once;
   each_mark = fair.count;
-  scanned = λ i desk label flips stop accepted asked answered mark clean.
-      tells i (Scan desk label flips stop) (Scanned accepted) desk asked answered refl clean mark;
-  not_refused = λ i desk label flips stop fault asked answered mark clean.
-      tells i (Scan desk label flips stop) (ScanRefused fault) desk asked answered refl clean mark;
+  scanned = scans;
+  framed = λ i desk label flips stop fault asked answered mark.
+      answers i (Scan desk label flips stop) (ScanRefused (scan_fault.Label fault)) desk asked answered refl
+      (λ none. cc (none)) mark;
+  not_refused = refuses;
   given = printed;
   same = λ i j desk at id one other asked answered clean asked_too answered_too clean_too.
-      one_document ranges desks (batches_of h) (events_of h) (replies_of h) i j id one other once
+      one_document ranges (length capacities) (batches_of h) (events_of h) (replies_of h) i j id one other once
       (printed i desk id one asked answered clean)
       (printed j at id other asked_too answered_too clean_too);
   begun = λ i desk id missing asked answered clean.
-      tells i (Ask desk id) (AskRefused (Incomplete missing)) desk asked answered refl clean tt;
+      tells i (Ask desk id) (AskRefused (Incomplete missing)) desk asked answered refl clean;
   forgotten = λ i desk id stop asked answered clean.
-      tells i (Forget desk id stop) Forgotten desk asked answered refl clean tt;
+      tells i (Forget desk id stop) Forgotten desk asked answered refl clean;
   exported = λ i desk id index told n mask asked answered clean.
-      tells i (Export desk id) (Exported index told n mask) desk asked answered refl clean tt;
+      tells i (Export desk id) (Exported index told n mask) desk asked answered refl clean;
   agrees = λ i desk event reply asked answered actor clean.
-      each_agrees ranges desks grids (batches_of h) (events_of h) marks (replies_of h) fair h whole legal safe i desk
-      event reply asked answered actor clean;
+      each_agrees ranges (length capacities) grids (batches_of h) (events_of h) marks (replies_of h) fair h whole legal
+      safe i desk event reply asked answered actor clean;
   not_imported = λ i desk export stop fault asked answered clean clean_too.
-      tells i (Import desk export stop) (ImportRefused fault) desk asked answered refl clean clean_too;
+      answers i (Import desk export stop) (ImportRefused fault) desk asked answered refl (λ none. cc (none)) clean_too
+      clean;
 }
   where
-    once : PrintsOnceBy ranges desks (batches_of h) (events_of h) (replies_of h)
-    once = prints_once ranges desks h apart legal never
+    once : PrintsOnceBy ranges (length capacities) (batches_of h) (events_of h) (replies_of h)
+    once = prints_once ranges (length capacities) h apart legal never
 
     tells : (i : ℕ) (event : Event A) (reply : Reply A) (desk : ℕ) → slice_get (events_of h) i ≡ Some event →
         slice_get (replies_of h) i ≡ Some reply → actor_of event ≡ DeskAt desk →
         ¬ IsTainted (events_of h) marks (replies_of h) i (AtDesk desk) →
-        BringsUntainted (events_of h) marks (replies_of h) i event →
         Tells (batches_of h) (events_of h) (replies_of h) i event reply
-    tells i event reply desk asked answered actor clean brings =
-        each_tells ranges desks grids capacities (events_of h) marks (replies_of h) fair h (first_whole h) apart legal
-        never safe honest i event reply asked answered
-        (untainted_at (events_of h) marks (replies_of h) i event desk actor clean brings)
+    tells i event reply desk asked answered actor clean =
+        each_tells ranges (length capacities) grids (events_of h) marks (replies_of h) fair h (first_whole h)
+        apart legal never safe i event reply asked answered
+        (untainted_at (events_of h) marks (replies_of h) i event desk actor clean)
 
     whole : IsFirstOf (batches_of h) (events_of h) (replies_of h) h
     whole = record { first = first_whole h; later = []; batches_are = sym (append-nil (batches_of h)) }
+
+    known : ℕ → Known
+    known i = known_before (batches_of h) (events_of h) (replies_of h) i
+
+    answers : (i : ℕ) (event : Event A) (reply : Reply A) (desk : ℕ) → slice_get (events_of h) i ≡ Some event →
+        slice_get (replies_of h) i ≡ Some reply → actor_of event ≡ DeskAt desk → reply ≢ NoSuch →
+        BringsUntainted (events_of h) marks (replies_of h) i event →
+        IsAnsweredSo capacities (known i) (λ at. ¬ IsTainted (events_of h) marks (replies_of h) i (AtDesk at))
+        event reply
+    answers i event reply desk asked answered actor some brings =
+        each_answered ranges (length capacities) grids capacities (batches_of h) (events_of h) marks (replies_of h) fair
+        h whole legal honest i desk event reply asked answered actor some brings
+
+    scans : (i desk label : ℕ) (flips : List (ℕ × ℕ)) (stop : Stop) (accepted : Accepted) →
+        slice_get (events_of h) i ≡ Some (Scan desk label flips stop) →
+        slice_get (replies_of h) i ≡ Some (Scanned accepted) → slice_get marks i ≡ Some true →
+        IsScanOf (batches_of h) (events_of h) i (record { id = accepted.id; number = accepted.m; count = accepted.n })
+    scans i desk label flips stop accepted asked answered mark =
+        let page : IsPageOf (known i) label accepted =
+        answers i (Scan desk label flips stop) (Scanned accepted) desk asked answered refl (λ none. cc (none)) mark in
+        subst (λ (name : LabelName). IsScanOf (batches_of h) (events_of h) i name)
+        (ap (λ (k : ℕ). record { id = k; number = page.name.number; count = page.name.count }) (sym page.id_is) ∙
+        ap (λ (k : ℕ). record { id = accepted.id; number = k; count = page.name.count }) (sym page.m_is) ∙
+        ap (λ (k : ℕ). record { id = accepted.id; number = accepted.m; count = k }) (sym page.n_is))
+        (record {
+          desk = desk;
+          label = label;
+          flips = flips;
+          stop = stop;
+          event = asked;
+          had_left = page.has_left;
+        })
+
+    refuses : (i desk label : ℕ) (flips : List (ℕ × ℕ)) (stop : Stop) (fault : ScanFault) →
+        slice_get (events_of h) i ≡ Some (Scan desk label flips stop) →
+        slice_get (replies_of h) i ≡ Some (ScanRefused fault) → slice_get marks i ≡ Some true →
+        ¬ IsTainted (events_of h) marks (replies_of h) i (AtDesk desk) →
+        MayRefuse capacities (known i) desk label fault
+    refuses i desk label flips stop (scan_fault.Label fault) asked answered mark clean = tt
+    refuses i desk label flips stop scan_fault.Failed asked answered mark clean = tt
+    refuses i desk label flips stop scan_fault.Memory asked answered mark clean = tt
+    refuses i desk label flips stop scan_fault.Save asked answered mark clean = tt
+    refuses i desk label flips stop scan_fault.Conflict asked answered mark clean =
+        answers i (Scan desk label flips stop) (ScanRefused scan_fault.Conflict) desk asked answered refl
+        (λ none. cc (none)) mark clean
+    refuses i desk label flips stop scan_fault.Full asked answered mark clean =
+        answers i (Scan desk label flips stop) (ScanRefused scan_fault.Full) desk asked answered refl
+        (λ none. cc (none)) mark clean
 
     printed : (i desk id : ℕ) (bytes : List ℕ) → slice_get (events_of h) i ≡ Some (Ask desk id) →
         slice_get (replies_of h) i ≡ Some (Document bytes) →
         ¬ IsTainted (events_of h) marks (replies_of h) i (AtDesk desk) →
         WasPrinted (batches_of h) (events_of h) (replies_of h) i id bytes
     printed i desk id bytes asked answered clean =
-        tells i (Ask desk id) (Document bytes) desk asked answered refl clean tt
+        tells i (Ask desk id) (Document bytes) desk asked answered refl clean

@@ -36,7 +36,7 @@ pub may_take : {A : Type 0} (h : History A) (event : Event A) (reply : Reply A) 
     IsReplySafe h event reply →
     Takes (exports h) event reply desk id m → MayTake (out h) (exports h) event reply desk id m
 may_take h (Scan at label flips stop) (Scanned accepted) desk id m safe took =
-    (took.0, refl, (safe.name, safe.scanned, sym safe.id_is ∙ took.1, sym safe.m_is ∙ took.2))
+    (took.0, refl, (safe.page.name, safe.page.has_left, sym safe.page.id_is ∙ took.1, sym safe.page.m_is ∙ took.2))
 may_take h (Scan at label flips stop) reply desk id m safe took = absurd took
 may_take h (Import at export stop) (Imported imported) desk id m safe took = (took.0, refl, took.1)
 may_take h (Import at export stop) reply desk id m safe took = absurd took
@@ -52,9 +52,11 @@ may_forget event reply desk id forgot = absurd forgot
 -- what takes or forgets at a desk had not failed: one that had tells so, or doesn't answer
 takes_unfailed : {A : Type 0} (h : History A) (event : Event A) (reply : Reply A) (desk id m : ℕ) →
     IsOfFailed event reply → ¬ Takes (exports h) event reply desk id m
-takes_unfailed h (Scan at label flips stop) (Scanned accepted) desk id m failed took = elim (failed refl) [ inl x ↦ x | inr x ↦ x ]
+takes_unfailed h (Scan at label flips stop) (Scanned accepted) desk id m failed took =
+    elim (failed refl) [ inl x ↦ x | inr x ↦ x ]
 takes_unfailed h (Scan at label flips stop) reply desk id m failed took = took
-takes_unfailed h (Import at export stop) (Imported imported) desk id m failed took = elim (failed refl) [ inl x ↦ x | inr x ↦ x ]
+takes_unfailed h (Import at export stop) (Imported imported) desk id m failed took =
+    elim (failed refl) [ inl x ↦ x | inr x ↦ x ]
 takes_unfailed h (Import at export stop) reply desk id m failed took = took
 takes_unfailed h event reply desk id m failed took = took
 

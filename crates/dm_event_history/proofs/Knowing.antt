@@ -1,11 +1,12 @@
 -- What a history says of pages, labels, documents and exports, the events and the replies of its run say too. So what
 -- desks tell that is true by the history is true by these.
-use Rattle.std.proofs.Common.{◌≡◌, inl, inr, false, ℕ, Option, Some, List, [], ◌∷◌, ◌++◌, length, take, slice_get, ap, sym, ◌∙◌, subst, append_assoc}
+use Rattle.std.proofs.Common.{◌≡◌, inl, inr, false, ℕ, Option, Some, None, IsSomeAnd, List, [], ◌∷◌, ◌++◌, length, take, slice_get, ap, sym, ◌∙◌, subst, append_assoc}
 use Rattle.dm_assembly_desk.specs.declared.reply.Kind.{Kind}
 use Rattle.dm_assembly_desk.specs.declared.reply.Kind.TheVariants.{New, Again, Complete}
 use Rattle.dm_assembly_desk.specs.declared.fault.AskFault.TheVariants as ask_fault
 use Rattle.dm_assembly_desk.specs.declared.fault.ForgetFault.TheVariants as forget_fault
 use Rattle.dm_assembly_desk.specs.declared.fault.ExportFault.TheVariants as export_fault
+use Rattle.dm_assembly_desk.specs.declared.reply.Accepted.{Accepted}
 use Rattle.dm_print_ledger.specs.declared.range.Range.{Range}
 use Rattle.dm_event_history.specs.declared.event.Event.{Event}
 use Rattle.dm_event_history.specs.declared.event.Event.TheVariants.{Scan, Ask, Forget, Export, Import}
@@ -16,10 +17,9 @@ use Rattle.dm_event_history.specs.Actors.{Actor, DeskAt}
 use Rattle.dm_event_history.specs.Running.{is_failed, failed_after}
 use Rattle.dm_event_history.specs.Replying.{goes_on, has_failed_before}
 use Rattle.dm_event_history.specs.Legal.{IsLegal}
-use Rattle.dm_event_history.specs.Holding.{Takes, MayTake, Forgets, MayForget, IsSurelyHeld, IsPossiblyHeld}
+use Rattle.dm_event_history.specs.Holding.{Takes, MayTake, Forgets, MayForget, IsSurelyHeld, IsPossiblyHeld, known_of}
 use Rattle.dm_event_history.specs.Imports.{exports_in}
-use Rattle.dm_event_history.specs.Telling.{Known, IsKindSafe, IsImportKindSafe, IsReplyTrue}
-use Rattle.dm_event_history.specs.Safe.{known_of}
+use Rattle.dm_event_history.specs.Telling.{Known, IsPageOf, IsKindSafe, IsImportKindSafe, MayHoldOthers, IsFullForLabel, IsFullForExport, IsReplyTrue}
 use Rattle.dm_event_history.specs.Headline.{Batch, labels_of, IsAt, MayHold, Holds, known_before}
 use Rattle.dm_event_history.proofs.Batches.{batches_of, batch_of, batches_count, events_count, replies_count, take_whole, out_is}
 use Rattle.dm_event_history.proofs.Gotten.{get_more}
@@ -62,16 +62,23 @@ import_kind_follows known other f desk name added New s =
 import_kind_follows known other f desk name added Complete s =
     (λ m first last away. f.may_hold desk name.id m (s m first last away))
 
--- so a true reply stays true
+-- so the page of a label is so to another
+abbrev pub page_follows : (known other : Known) → Follows known other → (label : ℕ) (accepted : Accepted) →
+    IsPageOf known label accepted → IsPageOf other label accepted
+page_follows known other f label accepted page = record {
+  name = page.name;
+  has_left = f.labelled label page.name page.has_left;
+  id_is = page.id_is;
+  m_is = page.m_is;
+  n_is = page.n_is;
+}
+
+-- and a true reply stays true
 pub reply_follows : {A : Type 0} (known other : Known) → Follows known other → (event : Event A) (reply : Reply A) →
     IsReplyTrue known event reply → IsReplyTrue other event reply
 reply_follows known other f (Scan desk label flips stop) (Scanned accepted) s = record {
-  name = s.name;
-  scanned = f.labelled label s.name s.scanned;
-  id_is = s.id_is;
-  m_is = s.m_is;
-  n_is = s.n_is;
-  kind = kind_follows known other f desk s.name accepted.kind s.kind;
+  page = page_follows known other f label accepted s.page;
+  kind = kind_follows known other f desk s.page.name accepted.kind s.kind;
 }
 reply_follows known other f (Ask desk id) (Document bytes) s = record {
   document = s.document;
@@ -113,6 +120,33 @@ reply_follows known other f (Import desk export stop) (Imported imported) s = re
   kind = import_kind_follows known other f desk s.name imported.added imported.kind s.kind;
 }
 reply_follows known other f event reply s = tt
+
+-- so a desk that may be full stays so
+others_follow : (known other : Known) → Follows known other → (desk id : ℕ) (capacity : Option ℕ) →
+    IsSomeAnd capacity (MayHoldOthers known desk id) → IsSomeAnd capacity (MayHoldOthers other desk id)
+others_follow known other f desk id None full = full
+others_follow known other f desk id (Some count) full = record {
+  others = full.others;
+  enough = full.enough;
+  rising = full.rising;
+  each = λ i one at. (let e = full.each i one at in (e.0, e.1, f.may_hold desk one e.1 e.2));
+}
+
+pub label_follows : (capacities : List ℕ) (known other : Known) → Follows known other → (desk label : ℕ) →
+    IsFullForLabel capacities known desk label → IsFullForLabel capacities other desk label
+label_follows capacities known other f desk label s = record {
+  name = s.name;
+  has_left = f.labelled label s.name s.has_left;
+  full = others_follow known other f desk s.name.id (slice_get capacities desk) s.full;
+}
+
+pub export_follows : (capacities : List ℕ) (known other : Known) → Follows known other → (desk export : ℕ) →
+    IsFullForExport capacities known desk export → IsFullForExport capacities other desk export
+export_follows capacities known other f desk export s = record {
+  name = s.name;
+  has_left = f.sent export s.name s.has_left;
+  full = others_follow known other f desk s.name.id (slice_get capacities desk) s.full;
+}
 
 -- ---- a history and its run
 

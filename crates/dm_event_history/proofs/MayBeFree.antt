@@ -137,7 +137,8 @@ may_be_free ranges desks events replies (e ∷ h) first legal printer number fre
 pub owned_of : {A : Type 0} (ranges : List Range) (desks : ℕ) (events : List (Event A)) (replies : List (Reply A))
     (h : History A) → IsFirst events replies h → IsLegal ranges desks h →
     (i printer : ℕ) (document : List ℕ) (size : Size) (scheme : Scheme) (stop : Stop) (batch : Batch) →
-    slice_get (batches_of h) i ≡ Some (Some batch) → slice_get events i ≡ Some (Print printer document size scheme stop) →
+    slice_get (batches_of h) i ≡ Some (Some batch) →
+    slice_get events i ≡ Some (Print printer document size scheme stop) →
     MayBeFree ranges events replies i printer batch.id
 owned_of ranges desks events replies [] first legal i printer document size scheme stop batch there asked =
     absurd (cc (there))

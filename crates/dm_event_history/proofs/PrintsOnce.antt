@@ -1,5 +1,6 @@
 -- A legal history prints no identification twice: said of its events and replies alone.
 use Rattle.std.proofs.Common.{◌≡◌, ◌<◌, ◌≤◌, ◌+◌, inl, inr, ℕ, false, Option, Some, List, [], ◌∷◌, length, slice_get, take, refl, ap, sym, ◌∙◌, subst, arith}
+use Rattle.std.specs.Prelude.{◌≢◌}
 use Rattle.dm_check_blocks.specs.declared.size.Size.{Size}
 use Rattle.dm_encodation.specs.declared.scheme.Scheme.{Scheme}
 use Rattle.dm_append_label.specs.Parts.{AreParts, HasNoEnds}
@@ -7,9 +8,9 @@ use Rattle.dm_print_ledger.specs.declared.range.Range.{Range}
 use Rattle.dm_print_ledger.specs.declared.fault.PrintFault.{PrintFault}
 use Rattle.dm_print_ledger.specs.declared.fault.PrintFault.TheVariants as print_fault
 use Rattle.dm_event_history.specs.declared.event.Event.{Event}
-use Rattle.dm_event_history.specs.declared.event.Event.TheVariants.{Print}
+use Rattle.dm_event_history.specs.declared.event.Event.TheVariants.{Print, Scan}
 use Rattle.dm_event_history.specs.declared.reply.Reply.{Reply}
-use Rattle.dm_event_history.specs.declared.reply.Reply.TheVariants.{Printed, PrintRefused, Stopped}
+use Rattle.dm_event_history.specs.declared.reply.Reply.TheVariants.{Printed, PrintRefused, Stopped, NoSuch}
 use Rattle.dm_event_history.specs.declared.stop.Stop.{Stop}
 use Rattle.dm_event_history.specs.declared.stop.Stop.TheVariants.{AfterLabels}
 use Rattle.dm_event_history.specs.Actors.{PrinterAt, actor_of}
@@ -20,12 +21,12 @@ use Rattle.dm_event_history.specs.Numbers.{opening_count, gone, came}
 use Rattle.dm_event_history.specs.Places.{IsOpened}
 use Rattle.dm_event_history.specs.Replying.{has_failed_before}
 use Rattle.dm_event_history.specs.Counts.{HasNumber}
-use Rattle.dm_event_history.specs.Headline.{Batch, LeftBy, labels_of, AllLeft, PrintsOnceBy}
+use Rattle.dm_event_history.specs.Headline.{Batch, LeftBy, labels_of, HasModules, AllLeft, PrintsOnceBy}
 use Rattle.dm_event_history.proofs.Fresh.{all_placed}
 use Rattle.dm_event_history.proofs.LeftOnce.{last_opened}
 use Rattle.dm_event_history.proofs.Batches.{all_of, count_all, batch_of, batches_of, events_count, replies_count, batches_count, before_or_last, take_keeps, batch_means, out_is, left_more, last_prints, told_is, unused_is_none, last_batch, whole_before}
 use Rattle.dm_event_history.proofs.Replied.{asked_before_or_last, failed_before, failed_at_last, saved_unfailed, are_replies}
-use Rattle.dm_event_history.proofs.ScannedLabels.{there_had_left, not_there_had_not}
+use Rattle.dm_event_history.proofs.ScannedLabels.{modules_at_last, no_modules_at_last}
 use Rattle.dm_event_history.proofs.Counts.{number_before, number_at_last}
 use Rattle.dm_event_history.proofs.Tainting.{first_whole}
 use Rattle.dm_event_history.proofs.MayBeFree.{owned_of, gives_of}
@@ -55,7 +56,7 @@ once_first {A} ranges desks = record {
   too_long = λ i printer document size scheme stop asked answered. absurd (cc (asked));
   once = λ i j one other a b same. absurd (cc (a));
   there = λ i desk label flips stop reply a b such. absurd (cc (a));
-  not_there = λ i desk label flips stop a b desk_there small. absurd (cc (a));
+  not_there = λ i desk label flips stop a b desk_there. absurd (cc (a));
 }
 
 once_next : {A : Type 0} (ranges : List Range) (desks : ℕ) (h : History A) (e : Entry A) →
@@ -76,9 +77,8 @@ once_next {A} ranges desks h e apart legal never f = record {
   exhausted = exhausts;
   too_long = has_no_ends;
   once = one;
-  there = λ i desk label flips stop reply. there_had_left ranges desks (e ∷ h) i desk label flips stop reply legal;
-  not_there = λ i desk label flips stop asked answered there small.
-      not_there_had_not ranges desks (e ∷ h) i desk label flips stop legal there small asked answered;
+  there = scanned;
+  not_there = not_scanned;
 }
   where
     fits : Fits ranges desks h e
@@ -234,6 +234,38 @@ once_next {A} ranges desks h e apart legal never f = record {
         (PrintRefused print_fault.TooLong) asked answered) [
           | inl before ↦ f.too_long i printer document size scheme stop before.1 before.2
           | inr last ↦ last_refuses printer document size scheme stop print_fault.TooLong last.1 last.2
+        ]
+
+    earlier : (i label : ℕ) (modules : List (ℕ × ℕ)) → i < length h →
+        HasModules (take i (batches_of (e ∷ h))) label modules ≡ HasModules (take i (batches_of h)) label modules
+    earlier i label modules below =
+        let all = batches_count h in
+        ap (λ (batches : List (Option Batch)). HasModules batches label modules)
+        (take_keeps (batches_of h) (batch_of e ∷ []) i (omega arith))
+
+    scanned : (i desk label : ℕ) (flips : List (ℕ × ℕ)) (stop : Stop) (reply : Reply A) →
+        slice_get (events_of (e ∷ h)) i ≡ Some (Scan desk label flips stop) →
+        slice_get (replies_of (e ∷ h)) i ≡ Some reply → reply ≢ NoSuch →
+        HasModules (take i (batches_of (e ∷ h))) label flips
+    scanned i desk label flips stop reply asked answered is_such =
+        elim (asked_before_or_last h e i (Scan desk label flips stop) reply asked answered) [
+          | inl before ↦ rw (earlier i label flips before.0)
+              (f.there i desk label flips stop reply before.1 before.2 is_such)
+          | inr last ↦ subst (λ (k : ℕ). HasModules (take k (batches_of (e ∷ h))) label flips) (sym last.0)
+              (modules_at_last ranges desks h e desk label flips stop legal f.once last.1
+              (λ none. is_such (sym last.2 ∙ none)))
+        ]
+
+    not_scanned : (i desk label : ℕ) (flips : List (ℕ × ℕ)) (stop : Stop) →
+        slice_get (events_of (e ∷ h)) i ≡ Some (Scan desk label flips stop) →
+        slice_get (replies_of (e ∷ h)) i ≡ Some NoSuch → desk < desks →
+        ¬ HasModules (take i (batches_of (e ∷ h))) label flips
+    not_scanned i desk label flips stop asked answered is_desk =
+        elim (asked_before_or_last h e i (Scan desk label flips stop) NoSuch asked answered) [
+          | inl before ↦ rw (earlier i label flips before.0)
+              (f.not_there i desk label flips stop before.1 before.2 is_desk)
+          | inr last ↦ subst (λ (k : ℕ). ¬ HasModules (take k (batches_of (e ∷ h))) label flips) (sym last.0)
+              (no_modules_at_last ranges desks h e desk label flips stop legal f.once last.1 last.2 is_desk)
         ]
 
     new : (i : ℕ) (was now : Batch) → slice_get (batches_of h) i ≡ Some (Some was) → batch_of e ≡ Some now →

@@ -1,6 +1,14 @@
 -- Runs that are not faithful are refuted.
 use Rattle.std.proofs.Common.{◌≡◌, ◌≢◌, ◌<◌, ◌≤◌, inl, inr, ℕ, zero, suc, min, Bool, true, false, All, Option, Some, None, List, [], ◌∷◌, ◌++◌, length, map, take, slice_get, refl, ap, sym, ◌∙◌, subst, arith}
+use Rattle.std.specs.Prelude.{IsSomeAnd, replicate}
+use Rattle.std.specs.Ordering.{nat_cmp}
+use Rattle.std.specs.Cmp.{ranked}
+use Rattle.std.specs.List.Sorted.{IsStrictlySortedBy}
+use Rattle.std.specs.declared.cmp.Ordering.TheVariants.{Less}
+use Rattle.std.proofs.lemmas.Map.Keys.{sorted_head}
+use Rattle.dm_check_blocks.specs.declared.size.Size.{Size}
 use Rattle.dm_check_blocks.specs.declared.size.Size.TheVariants.{Side12}
+use Rattle.dm_check_blocks.specs.Sizes.{row, side}
 use Rattle.dm_encodation.specs.declared.scheme.Scheme.TheVariants.{Ascii}
 use Rattle.dm_assembly_desk.specs.declared.reply.Kind.TheVariants.{New, Again, Complete}
 use Rattle.dm_assembly_desk.specs.declared.fault.ImportFault.{ImportFault}
@@ -16,17 +24,17 @@ use Rattle.dm_append_label.proofs.CutParts.{each_cut_is}
 use Rattle.dm_event_history.specs.declared.event.Event.{Event}
 use Rattle.dm_event_history.specs.declared.event.Event.TheVariants.{Print, Scan, RestartPrinter, RestartDesk, Ask, Forget, Give, Take, Export, Import}
 use Rattle.dm_event_history.specs.declared.reply.Reply.{Reply}
-use Rattle.dm_event_history.specs.declared.reply.Reply.TheVariants.{Printed, AskRefused, ForgetRefused, Scanned, ScanRefused, Document, Forgotten, Given, Taken, TakeRefused, Exported, Imported, Restarted, PrinterRefused, Stopped, Down, Memory}
+use Rattle.dm_event_history.specs.declared.reply.Reply.TheVariants.{Printed, AskRefused, ForgetRefused, Scanned, ScanRefused, Document, Forgotten, Given, GiveRefused, Taken, TakeRefused, Exported, Imported, Restarted, PrinterRefused, Stopped, Down, Memory, ImportRefused}
 use Rattle.dm_event_history.specs.declared.stop.Stop.{Stop}
 use Rattle.dm_event_history.specs.declared.stop.Stop.TheVariants as stops
 use Rattle.dm_event_history.specs.History.{CutDocument, LabelName, ExportName, names_from}
-use Rattle.dm_event_history.specs.Headline.{Batch, count_of, LeftBy, labels_of, IsScanOf, MayHaveSaved, WasScanned, WasPrinted, IsOfDesk, PrintsOnceBy, IsAt, MayGain, MayBeFree, MayHold, Holds, known_before, IsFaithfulBy}
-use Rattle.dm_event_history.specs.Telling.{IsImportKindSafe}
+use Rattle.dm_event_history.specs.Headline.{Batch, count_of, LeftBy, labels_of, IsScanOf, MayHaveSaved, WasScanned, WasPrinted, MayNotImport, PrintsOnceBy, IsAt, MayGain, MayBeFree, MayHold, Holds, known_before, IsFaithfulBy}
 use Rattle.dm_event_history.specs.Holding.{MayTake, MayForget}
 use Rattle.dm_event_history.specs.Imports.{exports_in}
 use Rattle.dm_event_history.specs.Tainted.{AtDesk, InExport}
 use Rattle.dm_event_history.proofs.Tainting.{untainted, is_tainted, untainted_by}
 use Rattle.dm_print_ledger.specs.declared.range.Range.{Range}
+use Rattle.dm_print_ledger.specs.declared.fault.GiveFault.TheVariants as give_fault
 use Rattle.dm_print_ledger.specs.declared.fault.TakeFault.TheVariants as take_fault
 use Rattle.dm_event_history.specs.Actors.{PrinterAt, DeskAt, actor_of}
 use Rattle.dm_event_history.specs.Replying.{has_failed_before}
@@ -39,24 +47,31 @@ use Rattle.dm_event_history.specs.Masks.{HasPage}
 use Rattle.dm_event_history.specs.Saving.{may_save}
 use Rattle.dm_event_history.specs.Tickets.{WasGiven, WasReached, tickets_in}
 use Rattle.dm_event_history.specs.Worked.{digits, range, two_ranges, first_ticket}
-use Rattle.dm_event_history.specs.Unfaithful.{Run, IsFaithfulRun, missing_first_label, lost_by_a_refused_forget, imported_at_last, printed_untaken, given_to_another, old_by_another_giver, imported_none_of_another, wrong_after_a_refused_scan, old_by_another_ticket, printed_of_another, given_of_another, given_again, taken_though_kept, saved_though_failed, held_and_missing, forgotten_elsewhere, forgotten_twice, again_at_first, new_twice, new_at_last, complete_at_first, missing_though_held, given_elsewhere, conflicting_label, exported_in_part, added_again, refused_label, exhausted_at_first, too_long_of_few, IsFaithfulMarked, IsTaintedIn, IsTaintedSo, wrong_at, imported, PrintsOnceRun, AreRepliesRun, TakesOnceRun, ImportsExportsRun, other_digits, scan, page, ticket, another_call, stopped_unasked, forgotten_with_a_fault, scanned_though_stopped, failed_without_a_fault, damaged_by_itself, answered_while_down, down_unstopped, failed_before_a_fault, given_though_failed, missing_printer, numbered_above, second_ticket, taken_falling, old_at_first, old_after_a_lower, old_unsaved, old_though_failed, refused_ungiven, missing_ticket, exported_above, refused_unexported, missing_export, never_saved, refused_import, wrong_of_two, refused_unprinted, missing_label, third_desk, begun_unscanned, exported_unscanned, printed_after_forgotten, one_serial, given_falling, taken_though_old, imported_another_document, imported_another_page, exported_twice, half_printed, printed_unseen, unseen_labels, print, never_printed, wrong_document, another_document, never_scanned, two_documents, printed_twice, told_twice, printed_beyond, left_though_failed, never_left, numbered_twice, taken_twice, taken_elsewhere, overlaps, AreUnfaithful}
+use Rattle.dm_event_history.specs.Telling.{Known, IsImportKindSafe, MayHoldOthers, IsFullForLabel, IsFullForExport}
+use Rattle.dm_event_history.specs.Unfaithful.{Run, IsFaithfulRun, missing_first_label, lost_by_a_refused_forget, imported_at_last, printed_untaken, given_to_another, old_by_another_giver, imported_none_of_another, wrong_after_a_refused_scan, old_by_another_ticket, printed_of_another, given_of_another, given_again, taken_though_kept, saved_though_failed, held_and_missing, forgotten_elsewhere, forgotten_twice, again_at_first, new_twice, new_at_last, complete_at_first, missing_though_held, given_elsewhere, conflicting_label, exported_in_part, added_again, refused_label, exhausted_at_first, too_long_of_few, IsFaithfulMarked, IsTaintedIn, IsTaintedSo, wrong_at, imported, PrintsOnceRun, AreRepliesRun, TakesOnceRun, ImportsExportsRun, other_digits, scan, page, ticket, another_call, stopped_unasked, forgotten_with_a_fault, scanned_though_stopped, failed_without_a_fault, damaged_by_itself, answered_while_down, down_unstopped, failed_before_a_fault, given_though_failed, missing_printer, numbered_above, second_ticket, taken_falling, old_at_first, old_after_a_lower, old_unsaved, old_though_failed, refused_ungiven, missing_ticket, exported_above, refused_unexported, missing_export, never_saved, refused_import, scanned_outside, given_to_itself, refused_range, refused_receiver, full_at_first, full_with_one, two_desks, four_desks, wrong_of_two, refused_unprinted, missing_label, third_desk, begun_unscanned, exported_unscanned, printed_after_forgotten, one_serial, given_falling, taken_though_old, imported_another_document, imported_another_page, exported_twice, half_printed, printed_unseen, unseen_labels, print, never_printed, wrong_document, another_document, never_scanned, two_documents, printed_twice, told_twice, printed_beyond, left_though_failed, never_left, numbered_twice, taken_twice, taken_elsewhere, overlaps, AreUnfaithful}
 
 -- each event of a run was found honest
 abbrev marks : {A : Type 0} → Run A → List Bool
 marks run = map (λ one. true) run
 
 -- what an event and its reply are not, they are not at their place
-not_at : {A : Type 0} (events : List (Event A)) (replies : List (Reply A)) (k : ℕ) (event : Event A)
+said_at : {A : Type 0} (events : List (Event A)) (replies : List (Reply A)) (k : ℕ) (event : Event A)
     (reply : Reply A) (IsSo : Event A → Reply A → Type 0) →
-    slice_get events k ≡ Some event → slice_get replies k ≡ Some reply → ¬ IsSo event reply →
-    ¬ IsAt events replies k IsSo
-not_at {A} events replies k event reply IsSo asked answered not_so at =
+    slice_get events k ≡ Some event → slice_get replies k ≡ Some reply → IsAt events replies k IsSo → IsSo event reply
+said_at {A} events replies k event reply IsSo asked answered at =
     let one : slice_get events k ≡ Some at.event = at.asked in
     let other : slice_get replies k ≡ Some at.reply = at.answered in
     let event_is : at.event ≡ event = cc (one, asked) in
     let reply_is : at.reply ≡ reply = cc (other, answered) in
-    not_so (subst (λ (v : Event A). IsSo v reply) event_is
-    (subst (λ (r : Reply A). IsSo at.event r) reply_is at.is_so))
+    subst (λ (v : Event A). IsSo v reply) event_is
+    (subst (λ (r : Reply A). IsSo at.event r) reply_is at.is_so)
+
+not_at : {A : Type 0} (events : List (Event A)) (replies : List (Reply A)) (k : ℕ) (event : Event A)
+    (reply : Reply A) (IsSo : Event A → Reply A → Type 0) →
+    slice_get events k ≡ Some event → slice_get replies k ≡ Some reply → ¬ IsSo event reply →
+    ¬ IsAt events replies k IsSo
+not_at events replies k event reply IsSo asked answered not_so at =
+    not_so (said_at events replies k event reply IsSo asked answered at)
 
 -- ---- what an event lets out
 
@@ -290,7 +305,7 @@ half_printed_is A (batches, f) = by_batches batches f
     by_print (first ∷ rest) (suc (suc j)) id batch before there left w = omega arith
 
     by_batches : (batches : List (Option Batch)) →
-        IsFaithfulBy two_ranges 2 batches events (marks (half_printed A)) replies → ⊥
+        IsFaithfulBy two_ranges two_desks batches events (marks (half_printed A)) replies → ⊥
     by_batches batches f =
         let w = f.given 2 0 0 digits refl refl (untainted (half_printed A) 2 (AtDesk 0)) in
         let left = f.prints.printed w.printed.j w.batch w.printed.there in
@@ -334,8 +349,10 @@ never_saved_is A (batches, f) =
 
 -- an import is refused by the state of its desk alone
 not_refused : (A : Type 0) (fault : ImportFault) (batches : List (Option Batch)) →
-    IsFaithfulBy two_ranges 2 batches (map (λ one. one.0) (refused_import A fault))
-    (map (λ one. true) (refused_import A fault)) (map (λ one. one.1) (refused_import A fault)) → IsOfDesk fault
+    IsFaithfulBy two_ranges two_desks batches (map (λ one. one.0) (refused_import A fault))
+    (map (λ one. true) (refused_import A fault)) (map (λ one. one.1) (refused_import A fault)) →
+    MayNotImport two_desks (known_before batches (map (λ one. one.0) (refused_import A fault))
+    (map (λ one. one.1) (refused_import A fault)) 3) 1 0 fault
 not_refused A fault batches f =
     f.not_imported 3 1 0 stops.None fault refl refl (untainted (refused_import A fault) 3 (AtDesk 1))
     (untainted (refused_import A fault) 3 (InExport 0))
@@ -343,14 +360,14 @@ not_refused A fault batches f =
 import_conflicting_is : (A : Type 0) → ¬ IsFaithfulRun (refused_import A import_fault.Conflict)
 import_conflicting_is A (batches, f) = not_refused A import_fault.Conflict batches f
 
-import_damaged_is : (A : Type 0) → ¬ IsFaithfulRun (refused_import A import_fault.Damaged)
-import_damaged_is A (batches, f) = not_refused A import_fault.Damaged batches f
+import_damaged_is : (A : Type 0) → ¬ AreRepliesRun (refused_import A import_fault.Damaged)
+import_damaged_is A r = (r.each 3 (Import 1 0 stops.None) (ImportRefused import_fault.Damaged) refl refl).may
 
-import_of_a_version_is : (A : Type 0) → ¬ IsFaithfulRun (refused_import A import_fault.Version)
-import_of_a_version_is A (batches, f) = not_refused A import_fault.Version batches f
+import_of_a_version_is : (A : Type 0) → ¬ AreRepliesRun (refused_import A import_fault.Version)
+import_of_a_version_is A r = (r.each 3 (Import 1 0 stops.None) (ImportRefused import_fault.Version) refl refl).may
 
-import_of_no_pages_is : (A : Type 0) → ¬ IsFaithfulRun (refused_import A import_fault.NotPages)
-import_of_no_pages_is A (batches, f) = not_refused A import_fault.NotPages batches f
+import_of_no_pages_is : (A : Type 0) → ¬ AreRepliesRun (refused_import A import_fault.NotPages)
+import_of_no_pages_is A r = (r.each 3 (Import 1 0 stops.None) (ImportRefused import_fault.NotPages) refl refl).may
 
 two_documents_is : (A : Type 0) → ¬ IsFaithfulRun (two_documents A)
 two_documents_is A (batches, f) = digits_differ
@@ -382,7 +399,7 @@ printed_twice_is A (batches, f) = by_batches batches f
     replies = map (λ one. one.1) (printed_twice A)
 
     by_batches : (batches : List (Option Batch)) →
-        IsFaithfulBy two_ranges 2 batches events (marks (printed_twice A)) replies → ⊥
+        IsFaithfulBy two_ranges two_desks batches events (marks (printed_twice A)) replies → ⊥
     by_batches [] f = (let t = (f.prints.told 2 0 1 2 refl).there in cc (t))
     by_batches (None ∷ []) f = (let t = (f.prints.told 2 0 1 2 refl).there in cc (t))
     by_batches (None ∷ None ∷ rest) f = (let t : ◌≡◌ {A = ℕ} 1 0 = (f.prints.told 2 0 1 2 refl).first_is in omega arith)
@@ -391,8 +408,7 @@ printed_twice_is A (batches, f) = by_batches batches f
         let p = f.prints.printed 0 batch refl in
         let t = f.prints.told 2 0 1 2 refl in
         let s : IsScanOf (Some batch ∷ rest) events 3 (record { id = 0; number = 1; count = 2 }) =
-        f.scanned 3 0 0 [] stops.None (record { id = 0; m = 1; n = 2; kind = New }) refl refl refl
-        (untainted (printed_twice A) 3 (AtDesk 0)) in
+        f.scanned 3 0 0 [] stops.None (record { id = 0; m = 1; n = 2; kind = New }) refl refl refl in
         let e : Some (Scan 0 0 [] stops.None) ≡ Some (Scan s.desk s.label s.flips s.stop) = s.event in
         let label_is : 0 ≡ s.label = cc (e) in
         let had : slice_get (labels_of (Some batch ∷ take 2 rest)) 0 ≡ Some (record { id = 0; number = 1; count = 2 }) =
@@ -452,7 +468,7 @@ wrong_of_two_is A (batches, f) = by_batches batches f
     has = (let below : 0 < 10 = omega arith in below)
 
     by_batches : (batches : List (Option Batch)) →
-        IsFaithfulBy two_ranges 2 batches events (marks (wrong_of_two A)) replies → ⊥
+        IsFaithfulBy two_ranges two_desks batches events (marks (wrong_of_two A)) replies → ⊥
     by_batches [] f = (let t = f.prints.each_batch in cc (t))
     by_batches (None ∷ rest) f =
         let t = f.prints.let_out 0 0 other_digits Side12 Ascii 2 _ refl (omega arith) refl are_parts refl has in
@@ -460,8 +476,7 @@ wrong_of_two_is A (batches, f) = by_batches batches f
     by_batches (Some batch ∷ rest) f =
         let p = f.prints.printed 0 batch refl in
         let s : IsScanOf (Some batch ∷ rest) events 2 (record { id = 10; number = 1; count = 2 }) =
-        f.scanned 2 0 0 [] stops.None (record { id = 10; m = 1; n = 2; kind = New }) refl refl refl
-        (untainted (wrong_of_two A) 2 (AtDesk 0)) in
+        f.scanned 2 0 0 [] stops.None (record { id = 10; m = 1; n = 2; kind = New }) refl refl refl in
         let e : Some (Scan 0 0 [] stops.None) ≡ Some (Scan s.desk s.label s.flips s.stop) = s.event in
         let label_is : 0 ≡ s.label = cc (e) in
         let had : slice_get (labels_of (Some batch ∷ take 1 rest)) 0 ≡ Some (record {
@@ -487,7 +502,33 @@ wrong_of_two_is A (batches, f) = by_batches batches f
 
 refused_unprinted_is : (A : Type 0) → ¬ IsFaithfulRun (refused_unprinted A)
 refused_unprinted_is A (batches, f) =
-    (let below : 0 < 0 = f.prints.there 0 0 0 [] stops.None Memory refl refl (λ x. cc (x)) in omega arith)
+    f.prints.there 0 0 0 [] stops.None Memory refl refl (λ x. cc (x))
+
+-- the first label of a batch has the batch's size
+first_sized : (IsSo : Size → Type 0) (left : ℕ) (size : Size) (rest : List Size) → 1 ≤ left → IsSo size →
+    IsSomeAnd (slice_get (replicate left size ++ rest) 0) IsSo
+first_sized IsSo zero size rest some so = absurd (omega arith)
+first_sized IsSo (suc left) size rest some so = so
+
+abbrev AreWithin : List (ℕ × ℕ) → Size → Type 0
+AreWithin modules size = All (λ at. (at.0 < side size) × (at.1 < side size)) modules
+
+none_within : (size : Size) → AreWithin [] size
+none_within size k at below = absurd (omega arith)
+
+corner_within : AreWithin ((11, 11) ∷ []) Side12
+unfolding row
+corner_within zero at below = (omega arith, omega arith)
+corner_within (suc k) at below = absurd (omega arith)
+
+sized_first : (IsSo : Size → Type 0) (left : ℕ) (size : Size) (rest : List Size) → 1 ≤ left →
+    IsSomeAnd (slice_get (replicate left size ++ rest) 0) IsSo → IsSo size
+sized_first IsSo zero size rest some so = absurd (omega arith)
+sized_first IsSo (suc left) size rest some so = so
+
+none_beyond : ¬ AreWithin ((12, 0) ∷ []) Side12
+unfolding row
+none_beyond within = (let t = within 0 (0, 0) (omega arith) in omega (arith, t.0))
 
 missing_first_label_is : (A : Type 0) → ¬ IsFaithfulRun (missing_first_label A)
 missing_first_label_is A (batches, f) = by_batches batches f
@@ -498,25 +539,19 @@ missing_first_label_is A (batches, f) = by_batches batches f
     replies : List (Reply A)
     replies = map (λ one. one.1) (missing_first_label A)
 
-    small : All {X = ℕ × ℕ} (λ flip. (flip.0 < 10) × (flip.1 < 10)) []
-    small k flip below = absurd (omega arith)
-
-    some : (batch : Batch) (left : ℕ) → 1 ≤ left → length (names_from batch.id (count_of batch) 1 left ++ []) ≤ 0 → ⊥
-    some batch zero least few = omega arith
-    some batch (suc left) least few = omega arith
-
     has : HasNumber {A = A} two_ranges [] [] 0
     has = (let below : 0 < 10 = omega arith in below)
 
     by_batches : (batches : List (Option Batch)) →
-        IsFaithfulBy two_ranges 2 batches events (marks (missing_first_label A)) replies → ⊥
+        IsFaithfulBy two_ranges two_desks batches events (marks (missing_first_label A)) replies → ⊥
     by_batches [] f = (let t = f.prints.each_batch in cc (t))
     by_batches (None ∷ rest) f =
         let t = f.prints.let_out 0 0 other_digits Side12 Ascii 1 _ refl (omega arith) refl are_parts refl has in
         let x : Some None ≡ Some (Some t.0) = t.1 in cc (x)
     by_batches (Some batch ∷ rest) f =
-        some batch batch.left (f.prints.printed 0 batch refl).not_none
-        (f.prints.not_there 1 0 0 [] stops.None refl refl (omega arith) small)
+        f.prints.not_there 1 0 0 [] stops.None refl refl (omega arith)
+        (first_sized (AreWithin []) batch.left batch.document.size [] (f.prints.printed 0 batch refl).not_none
+        (none_within batch.document.size))
 
 missing_label_is : (A : Type 0) → ¬ IsFaithfulRun (missing_label A)
 missing_label_is A (batches, f) = by_batches batches f
@@ -527,23 +562,40 @@ missing_label_is A (batches, f) = by_batches batches f
     replies : List (Reply A)
     replies = map (λ one. one.1) (missing_label A)
 
-    -- the module is in each grid
-    small : All {X = ℕ × ℕ} (λ flip. (flip.0 < 10) × (flip.1 < 10)) ((0, 0) ∷ [])
-    small zero flip below = (omega arith, omega arith)
-    small (suc k) flip below = absurd (omega arith)
-
-    -- of one label or more there are some
-    some : (batch : Batch) (left : ℕ) → 1 ≤ left → length (names_from batch.id (count_of batch) 1 left ++ []) ≤ 0 → ⊥
-    some batch zero least few = omega arith
-    some batch (suc left) least few = omega arith
-
     by_batches : (batches : List (Option Batch)) →
-        IsFaithfulBy two_ranges 2 batches events (marks (missing_label A)) replies → ⊥
+        IsFaithfulBy two_ranges two_desks batches events (marks (missing_label A)) replies → ⊥
     by_batches [] f = (let t = f.prints.each_batch in cc (t))
     by_batches (None ∷ rest) f = (let t = f.prints.told 0 0 0 2 refl in let x = t.there in cc (x))
     by_batches (Some batch ∷ rest) f =
-        some batch batch.left (f.prints.printed 0 batch refl).not_none
-        (f.prints.not_there 1 1 0 ((0, 0) ∷ []) stops.None refl refl (omega arith) small)
+        let p = f.prints.printed 0 batch refl in
+        let e : Some (print 0 digits stops.None) ≡ Some (Print p.is_print.printer batch.document.bytes
+        batch.document.size batch.document.scheme p.stop) = p.is_print.event in
+        let size_is : Side12 ≡ batch.document.size = cc (e) in
+        f.prints.not_there 1 1 0 ((11, 11) ∷ []) stops.None refl refl (omega arith)
+        (first_sized (AreWithin ((11, 11) ∷ [])) batch.left batch.document.size [] p.not_none
+        (subst (AreWithin ((11, 11) ∷ [])) size_is corner_within))
+
+scanned_outside_is : (A : Type 0) → ¬ IsFaithfulRun (scanned_outside A)
+scanned_outside_is A (batches, f) = by_batches batches f
+  where
+    events : List (Event A)
+    events = map (λ one. one.0) (scanned_outside A)
+
+    replies : List (Reply A)
+    replies = map (λ one. one.1) (scanned_outside A)
+
+    by_batches : (batches : List (Option Batch)) →
+        IsFaithfulBy two_ranges two_desks batches events (marks (scanned_outside A)) replies → ⊥
+    by_batches [] f = (let t = f.prints.each_batch in cc (t))
+    by_batches (None ∷ rest) f = f.prints.there 1 0 0 ((12, 0) ∷ []) stops.None Memory refl refl (λ x. cc (x))
+    by_batches (Some batch ∷ rest) f =
+        let p = f.prints.printed 0 batch refl in
+        let e : Some (print 0 digits stops.None) ≡ Some (Print p.is_print.printer batch.document.bytes
+        batch.document.size batch.document.scheme p.stop) = p.is_print.event in
+        let size_is : Side12 ≡ batch.document.size = cc (e) in
+        none_beyond (subst (AreWithin ((12, 0) ∷ [])) (sym size_is)
+        (sized_first (AreWithin ((12, 0) ∷ [])) batch.left batch.document.size [] p.not_none
+        (f.prints.there 1 0 0 ((12, 0) ∷ []) stops.None Memory refl refl (λ x. cc (x)))))
 
 printed_after_forgotten_is : (A : Type 0) → ¬ IsFaithfulRun (printed_after_forgotten A)
 printed_after_forgotten_is A (batches, f) = by_batches batches f
@@ -567,10 +619,10 @@ printed_after_forgotten_is A (batches, f) = by_batches batches f
     by_scan batch rest m n (suc (suc (suc k))) some before s = absurd (omega arith)
 
     by_batches : (batches : List (Option Batch)) →
-        IsFaithfulBy two_ranges 2 batches events (marks (printed_after_forgotten A)) replies → ⊥
+        IsFaithfulBy two_ranges two_desks batches events (marks (printed_after_forgotten A)) replies → ⊥
     by_batches [] f = (let t = f.prints.each_batch in cc (t))
     by_batches (None ∷ rest) f =
-        let below : 0 < 0 = f.prints.there 1 0 0 [] (stops.AfterLabels 0) Stopped refl refl (λ x. cc (x)) in omega arith
+        f.prints.there 1 0 0 [] (stops.AfterLabels 0) Stopped refl refl (λ x. cc (x))
     by_batches (Some batch ∷ rest) f =
         let p = f.prints.printed 0 batch refl in
         let w = f.forgotten 3 0 0 stops.None refl refl (untainted (printed_after_forgotten A) 3 (AtDesk 0)) in
@@ -635,6 +687,94 @@ taken_second events replies asked answered = inl (record {
   is_so = (refl, refl, refl);
 })
 
+-- where nothing may be held of any other document, a desk with room for two is not full
+room_for_two : (known : Known) (desk id : ℕ) → ((other m : ℕ) → ¬ known.may_hold desk other m) →
+    ¬ MayHoldOthers known desk id 2
+room_for_two known desk id none full = by_others full.others full.enough full.each
+  where
+    by_others : (others : List ℕ) → 2 ≤ length others →
+        ((i other : ℕ) → slice_get others i ≡ Some other → (other ≢ id) × (m : ℕ) × known.may_hold desk other m) → ⊥
+    by_others [] enough each = omega arith
+    by_others (x ∷ others) enough each = (let a = each 0 x refl in none x a.1 a.2)
+
+full_at_first_is : (A : Type 0) → ¬ IsFaithfulRun (full_at_first A)
+full_at_first_is A (batches, f) =
+    let s : IsFullForLabel two_desks (known_before batches (map (λ one. one.0) (full_at_first A))
+    (map (λ one. one.1) (full_at_first A)) 1) 0 0 =
+    f.not_refused 1 0 0 [] stops.None scan_fault.Full refl refl refl (untainted (full_at_first A) 1 (AtDesk 0)) in
+    room_for_two (known_before batches (map (λ one. one.0) (full_at_first A))
+    (map (λ one. one.1) (full_at_first A)) 1) 0 s.name.id
+    (λ other m. none_at_first batches (map (λ one. one.0) (full_at_first A)) (map (λ one. one.1) (full_at_first A)) 0
+    digits stops.None (Printed 0 0 2) refl refl 0 other m) s.full
+
+import_full_at_first_is : (A : Type 0) → ¬ IsFaithfulRun (refused_import A import_fault.Full)
+import_full_at_first_is A (batches, f) =
+    let s : IsFullForExport two_desks (known_before batches events replies 3) 1 0 =
+    not_refused A import_fault.Full batches f in
+    room_for_two (known_before batches events replies 3) 1 s.name.id by_hold s.full
+  where
+    events : List (Event A)
+    events = map (λ one. one.0) (refused_import A import_fault.Full)
+
+    replies : List (Reply A)
+    replies = map (λ one. one.1) (refused_import A import_fault.Full)
+
+    by_hold : (other m : ℕ) → ¬ MayHold batches events replies 3 1 other m
+    by_hold other m (inl now) = not_at events replies 2 (Export 0 0) (Exported 0 0 2 1)
+        (λ event reply. MayTake (labels_of (take 2 batches)) (exports_in (take 2 replies)) event reply 1 other m
+        × (has_failed_before events replies 2 (DeskAt 1) ≡ false))
+        refl refl (λ t. t.0) now
+    by_hold other m (inr (stays, inl now)) = not_at events replies 1 (scan 0) (Scanned (page 0 1 New))
+        (λ event reply. MayTake (labels_of (take 1 batches)) (exports_in (take 1 replies)) event reply 1 other m
+        × (has_failed_before events replies 1 (DeskAt 1) ≡ false))
+        refl refl (λ t. cc (t.0.0)) now
+    by_hold other m (inr (stays, inr before)) =
+        none_at_first batches events replies 0 digits stops.None (Printed 0 0 2) refl refl 1 other m before.1
+
+full_with_one_is : (A : Type 0) → ¬ IsFaithfulRun (full_with_one A)
+full_with_one_is A (batches, f) =
+    let s : IsFullForLabel two_desks (known_before batches events replies 3) 0 2 =
+    f.not_refused 3 0 2 [] stops.None scan_fault.Full refl refl refl (untainted (full_with_one A) 3 (AtDesk 0)) in
+    by_others s.name.id s.full.others s.full.enough s.full.rising s.full.each
+  where
+    events : List (Event A)
+    events = map (λ one. one.0) (full_with_one A)
+
+    replies : List (Reply A)
+    replies = map (λ one. one.1) (full_with_one A)
+
+    -- the only document of which a page may be held is that of label 0
+    held_of : (other m : ℕ) → MayHold batches events replies 3 0 other m →
+        (name : LabelName) × (slice_get (labels_of (take 2 batches)) 0 ≡ Some name) × (name.id ≡ other)
+    held_of other m (inl now) =
+        let t = said_at events replies 2 (scan 0) (Scanned (page 0 1 New))
+        (λ event reply. MayTake (labels_of (take 2 batches)) (exports_in (take 2 replies)) event reply 0 other m
+        × (has_failed_before events replies 2 (DeskAt 0) ≡ false)) refl refl now in
+        (t.0.2.0, t.0.2.1, t.0.2.2)
+    held_of other m (inr (stays, inl now)) = absurd (not_at events replies 1 (print 0 other_digits stops.None)
+        (Printed 1 2 2)
+        (λ event reply. MayTake (labels_of (take 1 batches)) (exports_in (take 1 replies)) event reply 0 other m
+        × (has_failed_before events replies 1 (DeskAt 0) ≡ false))
+        refl refl (λ t. t.0) now)
+    held_of other m (inr (stays, inr before)) = absurd (none_at_first batches events replies 0 digits stops.None
+        (Printed 0 0 2) refl refl 0 other m before.1)
+
+    by_others : (id : ℕ) (others : List ℕ) → 2 ≤ length others → IsStrictlySortedBy nat_cmp others →
+        ((i other : ℕ) → slice_get others i ≡ Some other →
+        (other ≢ id) × (m : ℕ) × MayHold batches events replies 3 0 other m) → ⊥
+    by_others id [] enough rising each = omega arith
+    by_others id (x ∷ []) enough rising each = omega arith
+    by_others id (x ∷ y ∷ others) enough rising each =
+        let a = each 0 x refl in
+        let b = each 1 y refl in
+        let one = held_of x a.1 a.2 in
+        let two = held_of y b.1 b.2 in
+        let names : Some one.0 ≡ Some two.0 = sym one.1 ∙ two.1 in
+        let name_is : one.0 ≡ two.0 = cc (names) in
+        let same : x ≡ y = sym one.2 ∙ ap (λ (name : LabelName). name.id) name_is ∙ two.2 in
+        let below : x < y = ranked x y Less (sym (sorted_head nat_cmp x (y ∷ others) rising).0) in
+        omega (arith, same, below)
+
 held_and_missing_is : (A : Type 0) → ¬ IsFaithfulRun (held_and_missing A)
 held_and_missing_is A (batches, f) =
     f.agrees 2 0 (Ask 0 0) (AskRefused ask_fault.NotHeld) refl refl refl
@@ -689,23 +829,23 @@ again_at_first_is A (batches, f) =
     let t = f.agrees 1 0 (scan 0) (Scanned (page 0 1 Again)) refl refl refl
     (untainted (again_at_first A) 2 (AtDesk 0)) in
     none_at_first batches (map (λ one. one.0) (again_at_first A)) (map (λ one. one.1) (again_at_first A)) 0 digits
-    stops.None (Printed 0 0 2) refl refl 0 t.name.id t.name.number t.kind
+    stops.None (Printed 0 0 2) refl refl 0 t.page.name.id t.page.name.number t.kind
 
 new_twice_is : (A : Type 0) → ¬ IsFaithfulRun (new_twice A)
 new_twice_is A (batches, f) =
     let t = f.agrees 2 0 (scan 0) (Scanned (page 0 1 New)) refl refl refl (untainted (new_twice A) 3 (AtDesk 0)) in
     t.kind.0
     (subst (λ (id : ℕ). Holds (map (λ one. one.0) (new_twice A)) (map (λ one. one.1) (new_twice A)) 2 0 id
-    t.name.number) t.id_is
-    (subst (λ (m : ℕ). Holds (map (λ one. one.0) (new_twice A)) (map (λ one. one.1) (new_twice A)) 2 0 0 m) t.m_is
+    t.page.name.number) t.page.id_is
+    (subst (λ (m : ℕ). Holds (map (λ one. one.0) (new_twice A)) (map (λ one. one.1) (new_twice A)) 2 0 0 m) t.page.m_is
     (taken_second (map (λ one. one.0) (new_twice A)) (map (λ one. one.1) (new_twice A)) refl refl)))
 
 new_at_last_is : (A : Type 0) → ¬ IsFaithfulRun (new_at_last A)
 new_at_last_is A (batches, f) =
     let t = f.agrees 2 0 (scan 1) (Scanned (page 0 2 New)) refl refl refl (untainted (new_at_last A) 3 (AtDesk 0)) in
-    let id_is : 0 ≡ t.name.id = t.id_is in
-    let number_is : 2 ≡ t.name.number = t.m_is in
-    let count_is : 2 ≡ t.name.count = t.n_is in
+    let id_is : 0 ≡ t.page.name.id = t.page.id_is in
+    let number_is : 2 ≡ t.page.name.number = t.page.m_is in
+    let count_is : 2 ≡ t.page.name.count = t.page.n_is in
     let first = t.kind.2 in
     let last = t.kind.3 in
     let one : t.kind.1 ≡ 1 = only t.kind.1 first (omega arith) (λ two. t.kind.4 (two ∙ number_is)) in
@@ -728,10 +868,10 @@ complete_at_first_is : (A : Type 0) → ¬ IsFaithfulRun (complete_at_first A)
 complete_at_first_is A (batches, f) =
     let t = f.agrees 1 0 (scan 0) (Scanned (page 0 1 Complete)) refl refl refl
     (untainted (complete_at_first A) 2 (AtDesk 0)) in
-    let two : 2 ≡ t.name.count = t.n_is in
-    let one : 1 ≡ t.name.number = t.m_is in
+    let two : 2 ≡ t.page.name.count = t.page.n_is in
+    let one : 1 ≡ t.page.name.number = t.page.m_is in
     none_at_first batches (map (λ one. one.0) (complete_at_first A)) (map (λ one. one.1) (complete_at_first A)) 0
-    digits stops.None (Printed 0 0 2) refl refl 0 t.name.id 2
+    digits stops.None (Printed 0 0 2) refl refl 0 t.page.name.id 2
     (t.kind.1 2 (omega arith) (omega arith) (λ same. let x : ◌≡◌ {A = ℕ} 1 2 = one ∙ sym same in omega arith))
 
 missing_though_held_is : (A : Type 0) → ¬ IsFaithfulRun (missing_though_held A)
@@ -825,7 +965,8 @@ imported_at_last_is A (batches, f) =
     by_page (suc (suc zero)) first last away held = held second
     by_page (suc (suc (suc m))) first last away held = omega arith
 
-    by_kind : IsImportKindSafe (known_before batches events replies 4) 1 (record { id = 0; count = 2; mask = 1 }) 1 New →
+    by_kind : IsImportKindSafe (known_before batches events replies 4) 1 (record { id = 0; count = 2; mask = 1 }) 1
+        New →
         ⊥
     by_kind t = by_page t.0 t.1 t.2 t.3 t.4
 
@@ -861,8 +1002,7 @@ added_again_is A (batches, f) =
 
 refused_label_is : (A : Type 0) → ¬ IsFaithfulRun (refused_label A)
 refused_label_is A (batches, f) =
-    f.not_refused 1 0 0 [] stops.None (scan_fault.Label (Block 0)) refl refl refl
-    (untainted (refused_label A) 1 (AtDesk 0))
+    f.framed 1 0 0 [] stops.None (Block 0) refl refl refl
 
 conflicting_label_is : (A : Type 0) → ¬ IsFaithfulRun (conflicting_label A)
 conflicting_label_is A (batches, f) =
@@ -882,7 +1022,8 @@ too_long_of_few_is A (batches, f) =
 -- a document that was never printed is not given at a desk that is not tainted
 wrong_at_is : (A : Type 0) (desk : ℕ) (batches : List (Option Batch)) →
     ¬ IsTaintedIn (wrong_at A desk) 8 (AtDesk desk) →
-    IsFaithfulBy two_ranges 4 batches (map (λ one. one.0) (wrong_at A desk)) (map (λ one. one.1) (wrong_at A desk))
+    IsFaithfulBy two_ranges four_desks batches (map (λ one. one.0) (wrong_at A desk))
+    (map (λ one. one.1) (wrong_at A desk))
     (map (λ one. one.2) (wrong_at A desk)) → ⊥
 wrong_at_is A desk batches untainted f =
     let w = f.given 8 desk 0 other_digits refl refl untainted in
@@ -1015,6 +1156,21 @@ given_though_failed_is A r =
     elim (r.fails 1 (Give 0 1 (range 0 0) stops.None) (Given 0 (ticket 0 (range 0 0))) refl refl refl refl)
     [ inl tells ↦ tells | inr none ↦ none ]
 
+given_to_itself_is : (A : Type 0) → ¬ AreRepliesRun (given_to_itself A)
+given_to_itself_is A r =
+    (r.each 0 (Give 0 0 (range 5 5) stops.None)
+    (Given 0 (record { giver = 0; serial = 0; receiver = 0; range = range 5 5 })) refl refl).may.5 refl
+
+refused_range_is : (A : Type 0) → ¬ AreRepliesRun (refused_range A)
+refused_range_is A r =
+    (r.each 0 (Give 0 1 (range 5 5) stops.None) (GiveRefused give_fault.Range) refl refl).may
+    (record { not_empty = omega arith; within = omega arith })
+
+refused_receiver_is : (A : Type 0) → ¬ AreRepliesRun (refused_receiver A)
+refused_receiver_is A r =
+    (let x : ◌≡◌ {A = ℕ} 1 0 =
+    (r.each 0 (Give 0 1 (range 5 5) stops.None) (GiveRefused give_fault.Receiver) refl refl).may in omega (arith, x))
+
 given_to_another_is : (A : Type 0) → ¬ AreRepliesRun (given_to_another A)
 given_to_another_is A r =
     let x : ◌≡◌ {A = ℕ} 7 1 = (r.each 0 (Give 0 1 (range 0 4) stops.None)
@@ -1047,7 +1203,8 @@ taken_though_kept_is A t =
 
 taken_twice_is : (A : Type 0) → ¬ TakesOnceRun (taken_twice A)
 taken_twice_is A t =
-    let place : ◌≡◌ {A = ℕ} 1 2 = t.once 1 2 1 1 0 (record { stop = stops.None; event = refl; reply = Taken; answered = refl; taken = tt })
+    let place : ◌≡◌ {A = ℕ} 1 2 = t.once 1 2 1 1 0
+    (record { stop = stops.None; event = refl; reply = Taken; answered = refl; taken = tt })
     (record { stop = stops.None; event = refl; reply = Taken; answered = refl; taken = tt }) in omega arith
 
 overlaps_is : (A : Type 0) → ¬ TakesOnceRun (overlaps A)
@@ -1068,7 +1225,8 @@ taken_though_old_is A t =
     (record { stop = stops.None; event = refl; reply = Taken; answered = refl; taken = tt }) in omega arith
 
 taken_elsewhere_is : (A : Type 0) → ¬ TakesOnceRun (taken_elsewhere A)
-taken_elsewhere_is A t = by_give (t.given 1 2 0 (record { stop = stops.None; event = refl; reply = Taken; answered = refl; taken = tt }))
+taken_elsewhere_is A t = by_give (t.given 1 2 0
+    (record { stop = stops.None; event = refl; reply = Taken; answered = refl; taken = tt }))
   where
     events : List (Event A)
     events = map (λ one. one.0) (taken_elsewhere A)
@@ -1093,7 +1251,8 @@ taken_falling_is : (A : Type 0) → ¬ TakesOnceRun (taken_falling A)
 taken_falling_is A t =
     let rise : 1 < 0 = t.rising 2 3 1 1 0 second_ticket first_ticket
     (record { stop = stops.None; event = refl; reply = Taken; answered = refl; taken = tt })
-    (record { stop = stops.None; event = refl; reply = Taken; answered = refl; taken = tt }) refl refl refl (omega arith) in omega arith
+    (record { stop = stops.None; event = refl; reply = Taken; answered = refl; taken = tt }) refl refl refl
+    (omega arith) in omega arith
 
 old_at_first_is : (A : Type 0) → ¬ TakesOnceRun (old_at_first A)
 old_at_first_is A t = by_reached (t.reached 1 1 0 stops.None first_ticket refl refl refl)
@@ -1245,19 +1404,18 @@ printed_of_another_is A (batches, f) = by_batches batches f
     replies = map (λ one. one.1) (printed_of_another A)
 
     told : (batches : List (Option Batch)) →
-        IsFaithfulBy two_ranges 2 batches events (marks (printed_of_another A)) replies →
+        IsFaithfulBy two_ranges two_desks batches events (marks (printed_of_another A)) replies →
         slice_get (labels_of (take 1 batches)) 0 ≡ Some (record { id = 15; number = 1; count = 2 })
     told batches f =
         let s : IsScanOf batches events 1 (record { id = 15; number = 1; count = 2 }) =
-        f.scanned 1 0 0 [] stops.None (record { id = 15; m = 1; n = 2; kind = New }) refl refl refl
-        (untainted (printed_of_another A) 1 (AtDesk 0)) in
+        f.scanned 1 0 0 [] stops.None (record { id = 15; m = 1; n = 2; kind = New }) refl refl refl in
         let e : Some (Scan 0 0 [] stops.None) ≡ Some (Scan s.desk s.label s.flips s.stop) = s.event in
         let label_is : 0 ≡ s.label = cc (e) in
         subst (λ (i : ℕ). slice_get (labels_of (take 1 batches)) i ≡ Some (record { id = 15; number = 1; count = 2 }))
         (sym label_is) s.had_left
 
     by_batches : (batches : List (Option Batch)) →
-        IsFaithfulBy two_ranges 2 batches events (marks (printed_of_another A)) replies → ⊥
+        IsFaithfulBy two_ranges two_desks batches events (marks (printed_of_another A)) replies → ⊥
     by_batches [] f = (let t = told [] f in cc (t))
     by_batches (None ∷ rest) f = (let t = told (None ∷ rest) f in cc (t))
     by_batches (Some batch ∷ rest) f =
@@ -1326,19 +1484,18 @@ left_though_failed_is A (batches, f) = by_batches batches f
     replies = map (λ one. one.1) (left_though_failed A)
 
     told : (batches : List (Option Batch)) →
-        IsFaithfulBy two_ranges 2 batches events (marks (left_though_failed A)) replies →
+        IsFaithfulBy two_ranges two_desks batches events (marks (left_though_failed A)) replies →
         slice_get (labels_of (take 2 batches)) 0 ≡ Some (record { id = 0; number = 1; count = 2 })
     told batches f =
         let s : IsScanOf batches events 2 (record { id = 0; number = 1; count = 2 }) =
-        f.scanned 2 0 0 [] stops.None (record { id = 0; m = 1; n = 2; kind = New }) refl refl refl
-        (untainted (left_though_failed A) 2 (AtDesk 0)) in
+        f.scanned 2 0 0 [] stops.None (record { id = 0; m = 1; n = 2; kind = New }) refl refl refl in
         let e : Some (Scan 0 0 [] stops.None) ≡ Some (Scan s.desk s.label s.flips s.stop) = s.event in
         let label_is : 0 ≡ s.label = cc (e) in
         subst (λ (i : ℕ). slice_get (labels_of (take 2 batches)) i ≡ Some (record { id = 0; number = 1; count = 2 }))
         (sym label_is) s.had_left
 
     by_batches : (batches : List (Option Batch)) →
-        IsFaithfulBy two_ranges 2 batches events (marks (left_though_failed A)) replies → ⊥
+        IsFaithfulBy two_ranges two_desks batches events (marks (left_though_failed A)) replies → ⊥
     by_batches [] f = (let t = told [] f in cc (t))
     by_batches (None ∷ []) f = (let t = told (None ∷ []) f in cc (t))
     by_batches (None ∷ None ∷ rest) f = (let t = told (None ∷ None ∷ rest) f in cc (t))
@@ -1367,19 +1524,19 @@ never_left_is A (batches, f) = by_batches batches f
         let same : record { id = batch.id; number = 1; count = count_of batch } ≡ name = cc (e) in
         ap (λ (l : LabelName). l.number) same
 
-    told : (batches : List (Option Batch)) → IsFaithfulBy two_ranges 2 batches events (marks (never_left A)) replies →
+    told : (batches : List (Option Batch)) →
+        IsFaithfulBy two_ranges two_desks batches events (marks (never_left A)) replies →
         slice_get (labels_of (take 1 batches)) 0 ≡ Some (record { id = 0; number = 2; count = 2 })
     told batches f =
         let s : IsScanOf batches events 1 (record { id = 0; number = 2; count = 2 }) =
-        f.scanned 1 0 0 [] stops.None (record { id = 0; m = 2; n = 2; kind = New }) refl refl refl
-        (untainted (never_left A) 1 (AtDesk 0)) in
+        f.scanned 1 0 0 [] stops.None (record { id = 0; m = 2; n = 2; kind = New }) refl refl refl in
         let e : Some (Scan 0 0 [] stops.None) ≡ Some (Scan s.desk s.label s.flips s.stop) = s.event in
         let label_is : 0 ≡ s.label = cc (e) in
         subst (λ (i : ℕ). slice_get (labels_of (take 1 batches)) i ≡ Some (record { id = 0; number = 2; count = 2 }))
         (sym label_is) s.had_left
 
     by_batches : (batches : List (Option Batch)) →
-        IsFaithfulBy two_ranges 2 batches events (marks (never_left A)) replies → ⊥
+        IsFaithfulBy two_ranges two_desks batches events (marks (never_left A)) replies → ⊥
     by_batches [] f = (let t = told [] f in cc (t))
     by_batches (None ∷ rest) f = (let t = told (None ∷ rest) f in cc (t))
     by_batches (Some batch ∷ rest) f =
@@ -1464,11 +1621,15 @@ are_unfaithful A = record {
   import_damaged_is = import_damaged_is A;
   import_of_a_version_is = import_of_a_version_is A;
   import_of_no_pages_is = import_of_no_pages_is A;
+  import_full_at_first_is = import_full_at_first_is A;
+  full_at_first_is = full_at_first_is A;
+  full_with_one_is = full_with_one_is A;
   two_documents_is = two_documents_is A;
   wrong_of_two_is = wrong_of_two_is A;
   refused_unprinted_is = refused_unprinted_is A;
   missing_first_label_is = missing_first_label_is A;
   missing_label_is = missing_label_is A;
+  scanned_outside_is = scanned_outside_is A;
   begun_unscanned_is = begun_unscanned_is A;
   exported_unscanned_is = exported_unscanned_is A;
   printed_after_forgotten_is = printed_after_forgotten_is A;
@@ -1514,6 +1675,9 @@ are_unfaithful A = record {
   failed_before_a_fault_is = failed_before_a_fault_is A;
   given_though_failed_is = given_though_failed_is A;
   given_to_another_is = given_to_another_is A;
+  given_to_itself_is = given_to_itself_is A;
+  refused_range_is = refused_range_is A;
+  refused_receiver_is = refused_receiver_is A;
   missing_printer_is = missing_printer_is A;
   third_desk_is = third_desk_is A;
   numbered_twice_is = numbered_twice_is A;

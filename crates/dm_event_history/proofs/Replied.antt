@@ -68,8 +68,12 @@ may_reply ranges h id left (Give p receiver range stop) (Given index ticket) fin
   ap (λ (t : TicketView). t.giver) fine.ticket_is,
   ap (λ (t : TicketView). t.receiver) fine.ticket_is,
   ap (λ (t : TicketView). t.range) fine.ticket_is,
+  fine.is_range,
+  fine.to_another,
 )
 may_reply ranges h id left (Give p receiver range stop) (GiveRefused give_fault.Save) fine stopped down = fine
+may_reply ranges h id left (Give p receiver range stop) (GiveRefused give_fault.Range) fine stopped down = fine
+may_reply ranges h id left (Give p receiver range stop) (GiveRefused give_fault.Receiver) fine stopped down = fine
 may_reply ranges h id left (Give p receiver range stop) (GiveRefused fault) fine stopped down = tt
 may_reply ranges h id left (Take p ticket stop) Taken fine stopped down = fine
 may_reply ranges h id left (Take p ticket stop) (TakeRefused take_fault.Save) fine stopped down = fine
@@ -78,6 +82,9 @@ may_reply ranges h id left (Export d name) (Exported index told n mask) fine sto
 may_reply ranges h id left (Export d name) (ExportRefused fault) fine stopped down = tt
 may_reply ranges h id left (Import d export stop) (Imported imported) fine stopped down = fine.no_stop
 may_reply ranges h id left (Import d export stop) (ImportRefused import_fault.Save) fine stopped down = fine
+may_reply ranges h id left (Import d export stop) (ImportRefused import_fault.NotPages) fine stopped down = fine
+may_reply ranges h id left (Import d export stop) (ImportRefused import_fault.Version) fine stopped down = fine
+may_reply ranges h id left (Import d export stop) (ImportRefused import_fault.Damaged) fine stopped down = fine
 may_reply ranges h id left (Import d export stop) (ImportRefused fault) fine stopped down = tt
 may_reply ranges h id left event Stopped fine stopped down = stopped refl
 may_reply ranges h id left event Down fine stopped down = down refl

@@ -15,6 +15,7 @@ use Rattle.dm_print_ledger.specs.Views.{TicketView}
 use Rattle.dm_print_ledger.specs.declared.fault.PrintFault.{PrintFault}
 use Rattle.dm_print_ledger.specs.declared.fault.PrintFault.TheVariants as print_fault
 use Rattle.dm_assembly_desk.specs.declared.fault.ScanFault.{ScanFault}
+use Rattle.dm_assembly_desk.specs.declared.fault.ScanFault.TheVariants as scan_fault
 use Rattle.dm_assembly_desk.specs.declared.fault.ImportFault.{ImportFault}
 use Rattle.dm_assembly_desk.specs.declared.reply.Accepted.{Accepted}
 use Rattle.dm_event_history.specs.declared.event.Event.{Event}
@@ -32,7 +33,7 @@ use Rattle.dm_event_history.specs.Actors.{PrinterAt, DeskAt, actor_of}
 use Rattle.dm_event_history.specs.Legal.{NeedsRunning}
 use Rattle.dm_event_history.proofs.Deciding.{true_false}
 use Rattle.dm_event_history.specs.Worked.{digits, two_ranges}
-use Rattle.dm_event_history.specs.Headline.{Batch, LeftBy, labels_of, AllLeft, IsScanOf, MayHaveSaved, WasScanned, WasPrinted, IsAt, GivesAway, MayBeFree, MayHold, Holds, known_before}
+use Rattle.dm_event_history.specs.Headline.{Batch, LeftBy, labels_of, HasModules, AllLeft, IsScanOf, MayHaveSaved, WasScanned, WasPrinted, IsAt, GivesAway, MayBeFree, MayHold, Holds, known_before}
 use Rattle.dm_event_history.specs.Holding.{Takes, MayTake, Forgets}
 use Rattle.dm_event_history.specs.Imports.{exports_in}
 use Rattle.dm_event_history.specs.Telling.{IsReplyTrue}
@@ -98,10 +99,12 @@ right_document_is A = (
           absurd (none_print_refused i print_fault.TooLong answered);
       once = one;
       there = are_there;
-      not_there = λ i desk label flips stop asked answered there small. absurd (none_missing i answered);
+      not_there = λ i desk label flips stop asked answered there has. none_missing i answered;
     };
     each_mark = refl;
-    scanned = λ i desk label flips stop accepted asked answered mark clean. two_scanned i accepted answered;
+    scanned = λ i desk label flips stop accepted asked answered mark. two_scanned i accepted answered;
+    framed = λ i desk label flips stop fault asked answered mark.
+        absurd (none_refused i (scan_fault.Label fault) answered);
     not_refused = λ i desk label flips stop fault asked answered mark clean.
         absurd (none_refused i fault answered);
     given = λ i desk id document asked answered clean. one_given i desk id document asked answered;
@@ -360,17 +363,25 @@ right_document_is A = (
     none_imported (suc (suc (suc (suc (suc i))))) fault is = cc (is)
 
     -- the two scans are of the two labels that had left
+    there_too : (i own label : ℕ) (flips : List (ℕ × ℕ)) → own ≡ label → [] ≡ flips →
+        HasModules (take i batches) own [] → HasModules (take i batches) label flips
+    there_too i own label flips label_is flips_is has =
+        subst (λ (l : ℕ). HasModules (take i batches) l flips) label_is
+        (subst (λ (f : List (ℕ × ℕ)). HasModules (take i batches) own f) flips_is has)
+
     are_there : (i desk label : ℕ) (flips : List (ℕ × ℕ)) (stop : Stop) (reply : Reply A) →
         slice_get events i ≡ Some (Scan desk label flips stop) →
-        slice_get replies i ≡ Some reply → reply ≢ NoSuch → label < length (labels_of (take i batches))
+        slice_get replies i ≡ Some reply → reply ≢ NoSuch → HasModules (take i batches) label flips
     are_there zero desk label flips stop reply is answered such = absurd (cc (is))
     are_there (suc zero) desk label flips stop reply is answered such = absurd (cc (is))
     are_there (suc (suc zero)) desk label flips stop reply is answered such =
         let e : Some (Scan 0 0 [] stops.None) ≡ Some (Scan desk label flips stop) = is in
-        let same : 0 ≡ label = cc (e) in omega arith
+        let own : HasModules (take 2 batches) 0 [] = λ k at below. absurd (omega arith) in
+        there_too 2 0 label flips (cc (e)) (cc (e)) own
     are_there (suc (suc (suc zero))) desk label flips stop reply is answered such =
         let e : Some (Scan 0 1 [] stops.None) ≡ Some (Scan desk label flips stop) = is in
-        let same : 1 ≡ label = cc (e) in omega arith
+        let own : HasModules (take 3 batches) 1 [] = λ k at below. absurd (omega arith) in
+        there_too 3 1 label flips (cc (e)) (cc (e)) own
     are_there (suc (suc (suc (suc zero)))) desk label flips stop reply is answered such = absurd (cc (is))
     are_there (suc (suc (suc (suc (suc i))))) desk label flips stop reply is answered such = absurd (cc (is))
 
@@ -590,21 +601,25 @@ right_document_is A = (
 
     first_agrees : IsReplyTrue {A = A} (known_before batches events replies 2) (scan 0) (Scanned (page 10 1 New))
     first_agrees = record {
-      name = record { id = 10; number = 1; count = 2 };
-      scanned = refl;
-      id_is = refl;
-      m_is = refl;
-      n_is = refl;
+      page = record {
+        name = record { id = 10; number = 1; count = 2 };
+        has_left = refl;
+        id_is = refl;
+        m_is = refl;
+        n_is = refl;
+      };
       kind = (none_held 0 10 1, 2, omega arith, omega arith, (λ same. cc (same)), none_held 0 10 2);
     }
 
     second_agrees : IsReplyTrue {A = A} (known_before batches events replies 3) (scan 1) (Scanned (page 10 2 Complete))
     second_agrees = record {
-      name = record { id = 10; number = 2; count = 2 };
-      scanned = refl;
-      id_is = refl;
-      m_is = refl;
-      n_is = refl;
+      page = record {
+        name = record { id = 10; number = 2; count = 2 };
+        has_left = refl;
+        id_is = refl;
+        m_is = refl;
+        n_is = refl;
+      };
       kind = (one_held 2 (λ same. cc (same)), other_page);
     }
 

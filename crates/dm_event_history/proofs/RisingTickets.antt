@@ -272,7 +272,8 @@ last_next {A} ranges desks h e printer giver last fits before is = elim (decided
                 ap (λ (v : Event A). is_failed h (actor_of v)) (sym at) ∙
                 saved_unfailed ranges desks h e fits own.0;
             there = get_more (tickets h) (given e.reply) number ticket there;
-            receiver_is = ap (λ (t : TicketView). t.receiver) (one_ticket (tickets h) number ticket m.ticket there m.there) ∙
+            receiver_is = ap (λ (t : TicketView). t.receiver)
+                (one_ticket (tickets h) number ticket m.ticket there m.there) ∙
                 m.receiver;
             giver_is = from;
             serial_is = serial;

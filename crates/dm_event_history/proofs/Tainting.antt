@@ -142,31 +142,26 @@ BringsUntainted events marks replies i (Import desk export stop) =
     ¬ IsTainted events marks replies i (InExport export)
 BringsUntainted events marks replies i event = Unit {0}
 
--- so is event number i, and its desk is not tainted
-pub record IsUntainted {A : Type 0} (events : List (Event A)) (marks : List Bool) (replies : List (Reply A)) (i : ℕ)
-    (event : Event A) : Type 0 where
-  pub brings : BringsUntainted events marks replies i event
-  pub desk : (desk : ℕ) → actor_of event ≡ DeskAt desk → ¬ IsTainted events marks replies i (AtDesk desk)
+-- the desk of event number i is not tainted before it
+abbrev pub IsUntainted : {A : Type 0} → List (Event A) → List Bool → List (Reply A) → ℕ → Event A → Type 0
+IsUntainted events marks replies i event = (desk : ℕ) → actor_of event ≡ DeskAt desk →
+    ¬ IsTainted events marks replies i (AtDesk desk)
 
 -- the desk of the event is the one named
 pub untainted_at : {A : Type 0} (events : List (Event A)) (marks : List Bool) (replies : List (Reply A)) (i : ℕ)
     (event : Event A) (desk : ℕ) → actor_of event ≡ DeskAt desk →
-    ¬ IsTainted events marks replies i (AtDesk desk) → BringsUntainted events marks replies i event →
-    IsUntainted events marks replies i event
-untainted_at events marks replies i event desk actor untainted brings = record {
-  brings = brings;
-  desk = λ at is.
-      (let e : DeskAt desk ≡ DeskAt at = sym actor ∙ is in
-      let same : desk ≡ at = cc (e) in
-      subst (λ (d : ℕ). ¬ IsTainted events marks replies i (AtDesk d)) same untainted);
-}
+    ¬ IsTainted events marks replies i (AtDesk desk) → IsUntainted events marks replies i event
+untainted_at events marks replies i event desk actor untainted at is =
+    let e : DeskAt desk ≡ DeskAt at = sym actor ∙ is in
+    let same : desk ≡ at = cc (e) in
+    subst (λ (d : ℕ). ¬ IsTainted events marks replies i (AtDesk d)) same untainted
 
 -- what the last event of the history brings is clean, and so is its desk before
 pub last_brings : {A : Type 0} (grids : List GridView) (events : List (Event A)) (marks : List Bool)
     (replies : List (Reply A)) → AreMarkedFair grids events marks replies →
     (e : Entry A) (h : History A) → IsFirst events replies (e ∷ h) →
-    IsUntainted events marks replies (length h) e.event → e.reply ≢ NoSuch → BringsClean grids h e.event
-last_brings {A} grids events marks replies fair e h first trusted there = by_event e.event refl trusted.brings
+    BringsUntainted events marks replies (length h) e.event → e.reply ≢ NoSuch → BringsClean grids h e.event
+last_brings {A} grids events marks replies fair e h first brings there = by_event e.event refl brings
   where
     by_event : (event : Event A) → e.event ≡ event → BringsUntainted events marks replies (length h) event →
         BringsClean grids h event
@@ -182,9 +177,9 @@ pub last_clean : {A : Type 0} (grids : List GridView) (events : List (Event A)) 
     (e : Entry A) (h : History A) → IsFirst events replies (e ∷ h) →
     IsUntainted events marks replies (length h) e.event → (desk : ℕ) → actor_of e.event ≡ DeskAt desk →
     IsClean grids h (AtDesk desk)
-last_clean grids events marks replies fair e h first trusted desk actor =
+last_clean grids events marks replies fair e h first untainted desk actor =
     clean_of grids events marks replies fair h (first_less events replies e h first) (AtDesk desk)
-    (trusted.desk desk actor)
+    (untainted desk actor)
 
 -- ---- runs of honest scans
 

@@ -1,13 +1,15 @@
 -- The headline, said of the events and the replies of a run alone, both from the first on: whatever document any desk
 -- gives for an identification is the one document printed under it, and no identification is ever printed twice.
-use Rattle.std.specs.Prelude.{◌≡◌, ◌≢◌, ◌<◌, ◌≤◌, ◌⊎◌, ℕ, zero, suc, Option, None, Some, List, [], ◌∷◌, ◌++◌, length, slice_get, take, min, All, Bool, true, false}
+use Rattle.std.specs.Prelude.{◌≡◌, ◌≢◌, ◌<◌, ◌≤◌, ◌⊎◌, ℕ, zero, suc, Option, None, Some, List, [], ◌∷◌, ◌++◌, length, slice_get, take, min, replicate, All, IsSomeAnd, Bool, true, false}
 use Rattle.dm_check_blocks.specs.declared.size.Size.{Size}
+use Rattle.dm_check_blocks.specs.Sizes.{side}
 use Rattle.dm_encodation.specs.declared.scheme.Scheme.{Scheme}
 use Rattle.dm_append_label.specs.Parts.{AreParts, HasNoEnds}
 use Rattle.dm_print_ledger.specs.declared.range.Range.{Range}
 use Rattle.dm_print_ledger.specs.Ranges.{is_in}
 use Rattle.dm_print_ledger.specs.Views.{TicketView}
 use Rattle.dm_print_ledger.specs.declared.fault.PrintFault.TheVariants as print_fault
+use Rattle.dm_append_label.specs.declared.fault.LabelFault.{LabelFault}
 use Rattle.dm_append_label.specs.declared.fault.LabelFault.TheVariants.{Border}
 use Rattle.dm_assembly_desk.specs.declared.fault.AskFault.TheVariants.{Incomplete}
 use Rattle.dm_assembly_desk.specs.declared.fault.ScanFault.{ScanFault}
@@ -30,7 +32,7 @@ use Rattle.dm_event_history.specs.Places.{IsOpened}
 use Rattle.dm_event_history.specs.Replying.{has_failed_before, AreReplies}
 use Rattle.dm_event_history.specs.Counts.{HasNumber}
 use Rattle.dm_event_history.specs.Holding.{Takes, MayTake, Forgets, MayForget}
-use Rattle.dm_event_history.specs.Telling.{Known, IsReplyTrue}
+use Rattle.dm_event_history.specs.Telling.{Known, IsReplyTrue, IsFullForLabel, IsFullForExport}
 use Rattle.dm_event_history.specs.Imports.{exports_in}
 use Rattle.dm_event_history.specs.Tickets.{tickets_in}
 use Rattle.dm_event_history.specs.Tainted.{AtDesk, InExport, IsTainted}
@@ -81,6 +83,18 @@ abbrev pub labels_of : List (Option Batch) → List LabelName
 labels_of [] = []
 labels_of (None ∷ batches) = labels_of batches
 labels_of (Some batch ∷ batches) = names_from batch.id (count_of batch) 1 batch.left ++ labels_of batches
+
+-- the sizes of these labels
+abbrev pub sizes_of : List (Option Batch) → List Size
+sizes_of [] = []
+sizes_of (None ∷ batches) = sizes_of batches
+sizes_of (Some batch ∷ batches) = replicate batch.left batch.document.size ++ sizes_of batches
+
+-- a label of this number left by these batches, and the modules are in its grid
+abbrev pub HasModules : List (Option Batch) → ℕ → List (ℕ × ℕ) → Type 0
+HasModules batches label modules =
+    IsSomeAnd (slice_get (sizes_of batches) label)
+    (λ size. All (λ at. (at.0 < side size) × (at.1 < side size)) modules)
 
 -- all labels of a document left by event number i, under this identification, numbered from `first` on
 pub record AllLeft (batches : List (Option Batch)) (i id first count : ℕ) : Type 0 where
@@ -173,15 +187,14 @@ pub record PrintsOnceBy {A : Type 0} (ranges : List Range) (desks : ℕ) (batche
   -- no identification is ever printed twice
   pub once : (i j : ℕ) (one other : Batch) → slice_get batches i ≡ Some (Some one) →
       slice_get batches j ≡ Some (Some other) → one.id ≡ other.id → i ≡ j
-  -- a label that is scanned, and there, had left
+  -- a scan is answered, but by `NoSuch`, only if its label had left and its flips are in the label's grid
   pub there : (i desk label : ℕ) (flips : List (ℕ × ℕ)) (stop : Stop) (reply : Reply A) →
       slice_get events i ≡ Some (Scan desk label flips stop) → slice_get replies i ≡ Some reply → reply ≢ NoSuch →
-      label < length (labels_of (take i batches))
-  -- one that is not there, although the desk is, and the modules are in each grid, as the least has side 10, had not
+      HasModules (take i batches) label flips
+  -- and if its desk is there, it is answered by `NoSuch` only if not
   pub not_there : (i desk label : ℕ) (flips : List (ℕ × ℕ)) (stop : Stop) →
       slice_get events i ≡ Some (Scan desk label flips stop) → slice_get replies i ≡ Some NoSuch →
-      desk < desks → All (λ flip. (flip.0 < 10) × (flip.1 < 10)) flips →
-      length (labels_of (take i batches)) ≤ label
+      desk < desks → ¬ HasModules (take i batches) label flips
 
 -- no identification is ever printed twice
 abbrev pub PrintsOnce : {A : Type 0} → List Range → ℕ → List (Event A) → List (Reply A) → Type 0
@@ -278,40 +291,50 @@ known_before batches events replies i = record {
   sent = λ export name. slice_get (exports_in (take i replies)) export ≡ Some name;
 }
 
--- an honest scan is refused by the state of its desk, or for the finder patterns of its label: not for what the label
--- says, nor as its page disagrees with those that the desk holds
-abbrev pub MayRefuse : ScanFault → Type 0
-MayRefuse (scan_fault.Label (Border wrong)) = Unit {0}
-MayRefuse (scan_fault.Label fault) = ⊥
-MayRefuse scan_fault.Conflict = ⊥
-MayRefuse fault = Unit {0}
+-- modules of the finder patterns are wrong
+abbrev pub IsOfFrame : LabelFault → Type 0
+IsOfFrame (Border wrong) = Unit {0}
+IsOfFrame fault = ⊥
 
--- an import is refused by the state of its desk: not for the bytes of the export, nor as they disagree with the pages
--- that the desk holds
-abbrev pub IsOfDesk : ImportFault → Type 0
-IsOfDesk import_fault.NotPages = ⊥
-IsOfDesk import_fault.Version = ⊥
-IsOfDesk import_fault.Damaged = ⊥
-IsOfDesk import_fault.Conflict = ⊥
-IsOfDesk other = Unit {0}
+-- An honest scan is not refused as its page disagrees with those that the desk holds; and as `Full` only by a desk that
+-- may be full. The desks have room for that many documents.
+abbrev pub MayRefuse : List ℕ → Known → ℕ → ℕ → ScanFault → Type 0
+MayRefuse capacities known desk label scan_fault.Conflict = ⊥
+MayRefuse capacities known desk label scan_fault.Full = IsFullForLabel capacities known desk label
+MayRefuse capacities known desk label fault = Unit {0}
 
--- What desks tell of labels, documents and pages is as they were printed and scanned, if the desk that tells it is not
--- tainted. The marks say which events were found honest.
-pub record IsFaithfulBy {A : Type 0} (ranges : List Range) (desks : ℕ) (batches : List (Option Batch))
+-- An import is not refused as its pages disagree with those that the desk holds; and as `Full` only by a desk that may
+-- be full.
+abbrev pub MayNotImport : List ℕ → Known → ℕ → ℕ → ImportFault → Type 0
+MayNotImport capacities known desk export import_fault.Conflict = ⊥
+MayNotImport capacities known desk export import_fault.Full = IsFullForExport capacities known desk export
+MayNotImport capacities known desk export fault = Unit {0}
+
+-- What desks tell of documents and pages is as they were printed and scanned, if the desk that tells it is not tainted;
+-- and what any desk tells of an honest scan is as its label was printed. There is a desk for each capacity, with room
+-- for that many documents. The marks say which events were found honest.
+pub record IsFaithfulBy {A : Type 0} (ranges : List Range) (capacities : List ℕ) (batches : List (Option Batch))
     (events : List (Event A)) (marks : List Bool) (replies : List (Reply A))
     : Type 0 where
-  pub prints : PrintsOnceBy ranges desks batches events replies
+  pub prints : PrintsOnceBy ranges (length capacities) batches events replies
   -- each event has a mark
   pub each_mark : length marks ≡ length events
-  -- the page that a desk tells of an honest scan is that of the scanned label, which had left
+  -- the page that any desk tells of an honest scan is that of the scanned label, which had left
   pub scanned : (i desk label : ℕ) (flips : List (ℕ × ℕ)) (stop : Stop) (accepted : Accepted) →
       slice_get events i ≡ Some (Scan desk label flips stop) → slice_get replies i ≡ Some (Scanned accepted) →
-      slice_get marks i ≡ Some true → ¬ IsTainted events marks replies i (AtDesk desk) →
+      slice_get marks i ≡ Some true →
       IsScanOf batches events i (record { id = accepted.id; number = accepted.m; count = accepted.n })
-  -- and an honest scan is not refused for a conflict with the pages that the desk holds, nor for what its label says
+  -- and none is refused for its label, unless modules of its finder patterns are wrong
+  pub framed : (i desk label : ℕ) (flips : List (ℕ × ℕ)) (stop : Stop) (fault : LabelFault) →
+      slice_get events i ≡ Some (Scan desk label flips stop) →
+      slice_get replies i ≡ Some (ScanRefused (scan_fault.Label fault)) → slice_get marks i ≡ Some true →
+      IsOfFrame fault
+  -- nor, by a desk that is not tainted, for a conflict with the pages that it holds; nor as it is full, unless it may
+  -- be
   pub not_refused : (i desk label : ℕ) (flips : List (ℕ × ℕ)) (stop : Stop) (fault : ScanFault) →
       slice_get events i ≡ Some (Scan desk label flips stop) → slice_get replies i ≡ Some (ScanRefused fault) →
-      slice_get marks i ≡ Some true → ¬ IsTainted events marks replies i (AtDesk desk) → MayRefuse fault
+      slice_get marks i ≡ Some true → ¬ IsTainted events marks replies i (AtDesk desk) →
+      MayRefuse capacities (known_before batches events replies i) desk label fault
   -- whatever document any desk gives for an identification was printed under it before
   pub given : (i desk id : ℕ) (bytes : List ℕ) → slice_get events i ≡ Some (Ask desk id) →
       slice_get replies i ≡ Some (Document bytes) → ¬ IsTainted events marks replies i (AtDesk desk) →
@@ -340,13 +363,13 @@ pub record IsFaithfulBy {A : Type 0} (ranges : List Range) (desks : ℕ) (batche
       slice_get replies i ≡ Some reply → actor_of event ≡ DeskAt desk →
       ¬ IsTainted events marks replies (suc i) (AtDesk desk) →
       IsReplyTrue (known_before batches events replies i) event reply
-  -- no import is refused for a conflict, nor for the bytes of its export, if that is not tainted either
+  -- no import is refused for a conflict, nor as the desk is full, unless it may be, if the export is not tainted either
   pub not_imported : (i desk export : ℕ) (stop : Stop) (fault : ImportFault) →
       slice_get events i ≡ Some (Import desk export stop) → slice_get replies i ≡ Some (ImportRefused fault) →
       ¬ IsTainted events marks replies i (AtDesk desk) → ¬ IsTainted events marks replies i (InExport export) →
-      IsOfDesk fault
+      MayNotImport capacities (known_before batches events replies i) desk export fault
 
 -- the headline
-abbrev pub IsFaithful : {A : Type 0} → List Range → ℕ → List (Event A) → List Bool → List (Reply A) → Type 0
-IsFaithful ranges desks events marks replies =
-    (batches : List (Option Batch)) × IsFaithfulBy ranges desks batches events marks replies
+abbrev pub IsFaithful : {A : Type 0} → List Range → List ℕ → List (Event A) → List Bool → List (Reply A) → Type 0
+IsFaithful ranges capacities events marks replies =
+    (batches : List (Option Batch)) × IsFaithfulBy ranges capacities batches events marks replies

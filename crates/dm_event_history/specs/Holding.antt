@@ -1,14 +1,16 @@
--- Which pages a desk surely holds, and which it may hold, by the history alone; and what an event takes to a desk.
+-- Which pages a desk surely holds, and which it may hold, by the history alone; and what an event takes to a desk. What
+-- a history says of pages, documents, labels and exports.
 use Rattle.std.specs.Prelude.{◌≡◌, ◌⊎◌, ℕ, true, false, Some, List, [], ◌∷◌, slice_get}
 use Rattle.dm_event_history.specs.Masks.{HasPage}
 use Rattle.dm_event_history.specs.declared.event.Event.{Event}
 use Rattle.dm_event_history.specs.declared.event.Event.TheVariants.{Scan, Forget, Import}
 use Rattle.dm_event_history.specs.declared.reply.Reply.{Reply}
 use Rattle.dm_event_history.specs.declared.reply.Reply.TheVariants.{Scanned, Forgotten, Imported}
-use Rattle.dm_event_history.specs.History.{History, LabelName, ExportName, out, exports}
+use Rattle.dm_event_history.specs.History.{History, LabelName, ExportName, out, exports, docs}
 use Rattle.dm_event_history.specs.Actors.{DeskAt}
 use Rattle.dm_event_history.specs.Running.{is_failed}
 use Rattle.dm_event_history.specs.Saving.{may_save}
+use Rattle.dm_event_history.specs.Telling.{Known}
 
 -- the label of this number, of those that had left, is that of page m of a document
 abbrev pub IsLabelOf : List LabelName → ℕ → ℕ → ℕ → Type 0
@@ -67,3 +69,13 @@ IsPossiblyHeld [] desk id m = ⊥
 IsPossiblyHeld (entry ∷ before) desk id m =
     MayTakeAfter before entry.event entry.reply desk id m
     ⊎ ((¬ Forgets entry.event entry.reply desk id) × IsPossiblyHeld before desk id m)
+
+-- what is known by a history
+abbrev pub known_of : {A : Type 0} → History A → Known
+known_of before = record {
+  may_hold = IsPossiblyHeld before;
+  holds = IsSurelyHeld before;
+  printed = λ id document. docs before id ≡ Some document;
+  labelled = λ label name. slice_get (out before) label ≡ Some name;
+  sent = λ export name. slice_get (exports before) export ≡ Some name;
+}

@@ -1,8 +1,6 @@
--- Which desks and exports are clean by their history, and how fair scans, and imports, are refused at a clean desk.
+-- Which desks and exports are clean by their history, and how fair scans, and imports of clean exports, are answered.
 -- `grids` are the labels that left, in their order.
-use Rattle.std.specs.Prelude.{◌≡◌, ◌≢◌, ◌≤◌, ℕ, Bool, true, Some, List, [], ◌∷◌, length, slice_get, IsSomeAnd}
-use Rattle.std.specs.Ordering.{nat_cmp}
-use Rattle.std.specs.List.Sorted.{IsStrictlySortedBy}
+use Rattle.std.specs.Prelude.{◌≡◌, ◌≢◌, ℕ, Bool, true, Some, List, [], ◌∷◌, length, slice_get}
 use Rattle.dm_finder_frame.specs.Grids.{GridView, flipped}
 use Rattle.dm_finder_frame.specs.UnframeOutcome.{HasGoodFrame, HasBadFrame}
 use Rattle.dm_symbol.specs.Symbols.{IsNear}
@@ -18,9 +16,10 @@ use Rattle.dm_event_history.specs.declared.reply.Reply.{Reply}
 use Rattle.dm_event_history.specs.declared.reply.Reply.TheVariants.{Scanned, ScanRefused, Exported, ImportRefused, NoSuch}
 use Rattle.dm_event_history.specs.Actors.{DeskAt, actor_of}
 use Rattle.dm_event_history.specs.Tainted.{Holder, AtDesk, InExport}
-use Rattle.dm_event_history.specs.History.{History, LabelName, ExportName, out, exports}
+use Rattle.dm_event_history.specs.History.{History}
 use Rattle.dm_event_history.specs.Saving.{may_save}
-use Rattle.dm_event_history.specs.Holding.{IsPossiblyHeld}
+use Rattle.dm_event_history.specs.Holding.{known_of}
+use Rattle.dm_event_history.specs.Telling.{IsPageOf, IsFullForLabel, IsFullForExport}
 
 -- the scanned grid, that of the label with the modules flipped, is near the label's
 abbrev pub IsFair : {A : Type 0} → List GridView → Event A → Type 0
@@ -58,7 +57,7 @@ IsClean grids (entry ∷ before) (InExport number) =
 abbrev pub BringsClean : {A : Type 0} → List GridView → History A → Event A → Type 0
 BringsClean grids before event = IsCleanBy grids (λ export. IsClean grids before (InExport export)) event
 
--- ---- how fair scans, and imports, are answered at a clean desk
+-- ---- how fair scans, and imports of clean exports, are answered
 
 -- the scanned grid of the label has such finder patterns
 pub record IsScannedWith (Frame : GridView → Type 0) (grids : List GridView) (label : ℕ) (flips : List (ℕ × ℕ))
@@ -76,59 +75,40 @@ abbrev pub IsBeyond : List GridView → ℕ → List (ℕ × ℕ) → LabelFault
 IsBeyond grids label flips (Border wrong) = IsScannedWith (λ grid. HasBadFrame grid wrong) grids label flips
 IsBeyond grids label flips other = ⊥
 
--- that many other documents have a page that is possibly held: these, by rising identification
-pub record MayHoldOthers {A : Type 0} (before : History A) (desk id count : ℕ) : Type 0 where
-  pub others : List ℕ
-  pub enough : count ≤ length others
-  pub rising : IsStrictlySortedBy nat_cmp others
-  pub each : (i other : ℕ) → slice_get others i ≡ Some other →
-      (other ≢ id) × (m : ℕ) × IsPossiblyHeld before desk other m
-
--- the desk is full with other documents than the label's
-pub record IsFullForLabel {A : Type 0} (capacities : List ℕ) (before : History A) (desk label : ℕ) : Type 0 where
-  pub name : LabelName
-  pub has_left : slice_get (out before) label ≡ Some name
-  pub full : IsSomeAnd (slice_get capacities desk) (MayHoldOthers before desk name.id)
-
--- the desk is full with other documents than the export's
-pub record IsFullForExport {A : Type 0} (capacities : List ℕ) (before : History A) (desk export : ℕ) : Type 0 where
-  pub name : ExportName
-  pub has_left : slice_get (exports before) export ≡ Some name
-  pub full : IsSomeAnd (slice_get capacities desk) (MayHoldOthers before desk name.id)
-
--- why a fair scan is refused at a clean desk: never for a conflict
+-- why a fair scan is refused: at a clean desk never for a conflict
 abbrev pub IsHonestlyRefused : {A : Type 0} → List GridView → List ℕ → History A →
     ℕ → ℕ → List (ℕ × ℕ) → ScanFault → Type 0
 IsHonestlyRefused grids capacities before desk label flips scan_fault.Failed = Unit {0}
 IsHonestlyRefused grids capacities before desk label flips (scan_fault.Label fault) = IsBeyond grids label flips fault
-IsHonestlyRefused grids capacities before desk label flips scan_fault.Conflict = ⊥
+IsHonestlyRefused grids capacities before desk label flips scan_fault.Conflict = ¬ IsClean grids before (AtDesk desk)
 IsHonestlyRefused grids capacities before desk label flips scan_fault.Full =
-    IsFramed grids label flips × IsFullForLabel capacities before desk label
+    IsFramed grids label flips
+    × (IsClean grids before (AtDesk desk) → IsFullForLabel capacities (known_of before) desk label)
 IsHonestlyRefused grids capacities before desk label flips scan_fault.Memory = IsFramed grids label flips
 IsHonestlyRefused grids capacities before desk label flips scan_fault.Save = IsFramed grids label flips
 
--- why an import of a clean export is refused at a clean desk: never for its bytes
-abbrev pub IsHonestlyNotImported : {A : Type 0} → List ℕ → History A → ℕ → ℕ → ImportFault → Type 0
-IsHonestlyNotImported capacities before desk export import_fault.NotPages = ⊥
-IsHonestlyNotImported capacities before desk export import_fault.Version = ⊥
-IsHonestlyNotImported capacities before desk export import_fault.Damaged = ⊥
-IsHonestlyNotImported capacities before desk export import_fault.Conflict = ⊥
-IsHonestlyNotImported capacities before desk export import_fault.Full = IsFullForExport capacities before desk export
-IsHonestlyNotImported capacities before desk export other = Unit {0}
+-- why an import of a clean export is refused: at a clean desk never for a conflict
+abbrev pub IsHonestlyNotImported : {A : Type 0} → List GridView → List ℕ → History A → ℕ → ℕ → ImportFault → Type 0
+IsHonestlyNotImported grids capacities before desk export import_fault.Conflict = ¬ IsClean grids before (AtDesk desk)
+IsHonestlyNotImported grids capacities before desk export import_fault.Full =
+    IsClean grids before (AtDesk desk) → IsFullForExport capacities (known_of before) desk export
+IsHonestlyNotImported grids capacities before desk export other = Unit {0}
 
--- what is so of the reply to an event that brings a clean desk nothing but what is clean
+-- what is so of the reply to an event that brings nothing but what is clean: a fair scan is told as the page of its
+-- label
 abbrev pub IsHonestReply : {A : Type 0} → List GridView → List ℕ → History A → Event A → Reply A → Type 0
-IsHonestReply grids capacities before (Scan desk label flips stop) (Scanned accepted) = IsFramed grids label flips
+IsHonestReply grids capacities before (Scan desk label flips stop) (Scanned accepted) =
+    IsFramed grids label flips × IsPageOf (known_of before) label accepted
 IsHonestReply grids capacities before (Scan desk label flips stop) (ScanRefused fault) =
     IsHonestlyRefused grids capacities before desk label flips fault
 IsHonestReply grids capacities before (Import desk export stop) (ImportRefused fault) =
-    IsHonestlyNotImported capacities before desk export fault
+    IsHonestlyNotImported grids capacities before desk export fault
 IsHonestReply grids capacities before event reply = Unit {0}
 
--- so it is of each such reply
+-- so it is of each such reply of a desk
 abbrev pub AreHonestReplies : {A : Type 0} → List GridView → List ℕ → History A → Type 0
 AreHonestReplies grids capacities [] = Unit {0}
 AreHonestReplies grids capacities (entry ∷ before) =
     ((desk : ℕ) → actor_of entry.event ≡ DeskAt desk → BringsClean grids before entry.event →
-    IsClean grids before (AtDesk desk) → IsHonestReply grids capacities before entry.event entry.reply)
+    IsHonestReply grids capacities before entry.event entry.reply)
     × AreHonestReplies grids capacities before

@@ -68,6 +68,6 @@ LegalImportsExports A = InLegal A (λ ranges desks h. ImportsExports desks (even
 -- faithful, whichever events are marked, if those are fair
 abbrev pub LegalAndSafeIsFaithful : Type 0 → Type 0
 LegalAndSafeIsFaithful A = InLegal A (λ ranges desks h.
-    (grids : List GridView) (capacities : List ℕ) (marks : List Bool) →
+    (grids : List GridView) (capacities : List ℕ) (marks : List Bool) → desks ≡ length capacities →
     AreMarkedFair grids (events_of h) marks (replies_of h) → IsSafe grids h → AreHonestReplies grids capacities h →
-    IsFaithful ranges desks (events_of h) marks (replies_of h))
+    IsFaithful ranges capacities (events_of h) marks (replies_of h))

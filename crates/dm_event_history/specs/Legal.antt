@@ -12,7 +12,7 @@ use Rattle.dm_print_ledger.specs.declared.fault.GiveFault.TheVariants as give_fa
 use Rattle.dm_print_ledger.specs.declared.fault.TakeFault.{TakeFault}
 use Rattle.dm_print_ledger.specs.declared.fault.TakeFault.TheVariants as take_fault
 use Rattle.dm_print_ledger.specs.declared.fault.OpenFault.TheVariants as open_fault
-use Rattle.dm_print_ledger.specs.Ranges.{is_in}
+use Rattle.dm_print_ledger.specs.Ranges.{IsRange, is_in}
 use Rattle.dm_print_ledger.specs.Views.{TicketView}
 use Rattle.dm_assembly_desk.specs.declared.reply.Kind.TheVariants.{Again}
 use Rattle.dm_assembly_desk.specs.declared.fault.ScanFault.{ScanFault}
@@ -134,18 +134,22 @@ IsPrintStopped ranges before printer cut (stops.AfterLabels most) left =
     gone before printer < opening_count ranges printer + came before printer → 1 ≤ left
 IsPrintStopped ranges before printer cut stop left = Unit {0}
 
--- the ticket that the reply names is the printer's next, with the receiver and the range asked for
+-- the ticket that the reply names is the printer's next, with the receiver, another printer, and the range asked for
 pub record IsGiven {A : Type 0} (before : History A) (printer receiver : ℕ) (range : Range) (stop : Stop)
     (index : ℕ) (ticket : TicketView) : Type 0 where
   pub no_stop : stop ≡ stops.None
   pub index_is : index ≡ length (tickets before)
   pub ticket_is : ticket ≡ record { giver = printer; serial = gives before printer; receiver = receiver; range = range }
+  pub is_range : IsRange range
+  pub to_another : receiver ≢ printer
 
--- why a range is not given
-abbrev pub IsGiveRefused : {A : Type 0} → History A → ℕ → Stop → GiveFault → Type 0
-IsGiveRefused before printer stop give_fault.Failed = is_failed before (PrinterAt printer) ≡ true
-IsGiveRefused before printer stop give_fault.Save = IsSaveFault stop
-IsGiveRefused before printer stop other = Unit {0}
+-- why a range is not given to a receiver
+abbrev pub IsGiveRefused : {A : Type 0} → History A → ℕ → ℕ → Range → Stop → GiveFault → Type 0
+IsGiveRefused before printer receiver range stop give_fault.Failed = is_failed before (PrinterAt printer) ≡ true
+IsGiveRefused before printer receiver range stop give_fault.Range = ¬ IsRange range
+IsGiveRefused before printer receiver range stop give_fault.Receiver = receiver ≡ printer
+IsGiveRefused before printer receiver range stop give_fault.Save = IsSaveFault stop
+IsGiveRefused before printer receiver range stop other = Unit {0}
 
 -- the ticket is for this printer, with a serial not above the last that it took from the same giver
 pub record IsOld {A : Type 0} (before : History A) (printer number : ℕ) : Type 0 where
@@ -164,7 +168,8 @@ IsTakeRefused before printer ticket stop take_fault.Overlap = ⊥
 IsTakeRefused before printer ticket stop take_fault.Save = IsSaveFault stop
 IsTakeRefused before printer ticket stop other = Unit {0}
 
--- why a scan, a forget and an import are refused, whether the history is honest or not
+-- why a scan, a forget and an import are refused, whether the history is honest or not: an import never for the bytes
+-- of an export
 abbrev pub IsScanRefused : {A : Type 0} → History A → ℕ → Stop → ScanFault → Type 0
 IsScanRefused before desk stop scan_fault.Failed = is_failed before (DeskAt desk) ≡ true
 IsScanRefused before desk stop scan_fault.Save = IsSaveFault stop
@@ -176,6 +181,9 @@ IsForgetRefused before desk stop forget_fault.Save = IsSaveFault stop
 IsForgetRefused before desk stop other = Unit {0}
 
 abbrev pub IsImportRefused : {A : Type 0} → History A → ℕ → Stop → ImportFault → Type 0
+IsImportRefused before desk stop import_fault.NotPages = ⊥
+IsImportRefused before desk stop import_fault.Version = ⊥
+IsImportRefused before desk stop import_fault.Damaged = ⊥
 IsImportRefused before desk stop import_fault.Failed = is_failed before (DeskAt desk) ≡ true
 IsImportRefused before desk stop import_fault.Save = IsSaveFault stop
 IsImportRefused before desk stop other = Unit {0}
@@ -222,7 +230,7 @@ IsReply ranges before id left (Forget desk name stop) Stopped = Unit {0}
 IsReply ranges before id left (Give printer receiver range stop) (Given index ticket) =
     IsGiven before printer receiver range stop index ticket
 IsReply ranges before id left (Give printer receiver range stop) (GiveRefused fault) =
-    IsGiveRefused before printer stop fault
+    IsGiveRefused before printer receiver range stop fault
 IsReply ranges before id left (Give printer receiver range stop) Stopped = Unit {0}
 IsReply ranges before id left (Take printer ticket stop) Taken = stop ≡ stops.None
 IsReply ranges before id left (Take printer ticket stop) (TakeRefused fault) =

@@ -1,5 +1,6 @@
 -- Which replies events may have, said of events and replies alone.
 use Rattle.std.specs.Prelude.{◌≡◌, ◌≢◌, ◌<◌, ◌↔◌, ℕ, Bool, true, false, if◌then◌else◌, Some, List, ◌∷◌, slice_get, take}
+use Rattle.dm_print_ledger.specs.Ranges.{IsRange}
 use Rattle.dm_print_ledger.specs.declared.fault.PrintFault.TheVariants as print_fault
 use Rattle.dm_print_ledger.specs.declared.fault.GiveFault.TheVariants as give_fault
 use Rattle.dm_print_ledger.specs.declared.fault.TakeFault.TheVariants as take_fault
@@ -21,7 +22,8 @@ use Rattle.dm_event_history.specs.Legal.{IsSaveFault, IsStopped, NeedsRunning}
 -- ---- one event
 
 -- The reply is one to the event. What tells of a save is told only if nothing was to happen to the call, and `Save`
--- only if the save was to meet a fault. A restart is refused for memory alone.
+-- only if the save was to meet a fault. A range is given only if it is one, and to another printer. No import is
+-- refused for the bytes of an export, and a restart for memory alone.
 abbrev pub MayReply : {A : Type 0} → Event A → Reply A → Type 0
 MayReply (Print printer document size scheme stop) (Printed id first count) = stop ≡ stops.None
 MayReply (Print printer document size scheme stop) (PrintRefused print_fault.Save) = IsSaveFault stop
@@ -40,7 +42,10 @@ MayReply (Forget desk id stop) (ForgetRefused forget_fault.Save) = IsSaveFault s
 MayReply (Forget desk id stop) (ForgetRefused fault) = Unit {0}
 MayReply (Give printer receiver range stop) (Given index ticket) =
     (stop ≡ stops.None) × (ticket.giver ≡ printer) × (ticket.receiver ≡ receiver) × (ticket.range ≡ range)
+    × IsRange range × (receiver ≢ printer)
 MayReply (Give printer receiver range stop) (GiveRefused give_fault.Save) = IsSaveFault stop
+MayReply (Give printer receiver range stop) (GiveRefused give_fault.Range) = ¬ IsRange range
+MayReply (Give printer receiver range stop) (GiveRefused give_fault.Receiver) = receiver ≡ printer
 MayReply (Give printer receiver range stop) (GiveRefused fault) = Unit {0}
 MayReply (Take printer ticket stop) Taken = stop ≡ stops.None
 MayReply (Take printer ticket stop) (TakeRefused take_fault.Save) = IsSaveFault stop
@@ -49,6 +54,9 @@ MayReply (Export desk id) (Exported index told n mask) = told ≡ id
 MayReply (Export desk id) (ExportRefused fault) = Unit {0}
 MayReply (Import desk export stop) (Imported imported) = imported.kind ≢ Again → stop ≡ stops.None
 MayReply (Import desk export stop) (ImportRefused import_fault.Save) = IsSaveFault stop
+MayReply (Import desk export stop) (ImportRefused import_fault.NotPages) = ⊥
+MayReply (Import desk export stop) (ImportRefused import_fault.Version) = ⊥
+MayReply (Import desk export stop) (ImportRefused import_fault.Damaged) = ⊥
 MayReply (Import desk export stop) (ImportRefused fault) = Unit {0}
 MayReply event Stopped = IsStopped event
 MayReply event Down = NeedsRunning event

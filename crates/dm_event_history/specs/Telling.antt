@@ -1,6 +1,8 @@
 -- What desks tell of documents and pages, by what is known before the event: which pages each may hold and which it
 -- surely holds, what was printed, and which labels and exports left.
-use Rattle.std.specs.Prelude.{◌≡◌, ◌≢◌, ◌≤◌, ◌↔◌, ℕ, List, length}
+use Rattle.std.specs.Prelude.{◌≡◌, ◌≢◌, ◌≤◌, ◌↔◌, ℕ, List, Some, length, slice_get, IsSomeAnd}
+use Rattle.std.specs.Ordering.{nat_cmp}
+use Rattle.std.specs.List.Sorted.{IsStrictlySortedBy}
 use Rattle.dm_assembly_desk.specs.declared.reply.Kind.{Kind}
 use Rattle.dm_assembly_desk.specs.declared.reply.Kind.TheVariants.{New, Again, Complete}
 use Rattle.dm_assembly_desk.specs.declared.reply.Accepted.{Accepted}
@@ -75,14 +77,18 @@ IsKindSafe known desk name Complete =
     (¬ known.holds desk name.id name.number)
     × ((m : ℕ) → 1 ≤ m → m ≤ name.count → m ≢ name.number → known.may_hold desk name.id m)
 
--- the page that was told is that of the scanned label
-pub record IsAcceptedSafe (known : Known) (desk label : ℕ) (accepted : Accepted) : Type 0 where
+-- the page that was told is that of the label of this number
+pub record IsPageOf (known : Known) (label : ℕ) (accepted : Accepted) : Type 0 where
   pub name : LabelName
-  pub scanned : known.labelled label name
+  pub has_left : known.labelled label name
   pub id_is : accepted.id ≡ name.id
   pub m_is : accepted.m ≡ name.number
   pub n_is : accepted.n ≡ name.count
-  pub kind : IsKindSafe known desk name accepted.kind
+
+-- the page that was told is that of the scanned label, and of this kind
+pub record IsAcceptedSafe (known : Known) (desk label : ℕ) (accepted : Accepted) : Type 0 where
+  pub page : IsPageOf known label accepted
+  pub kind : IsKindSafe known desk page.name accepted.kind
 
 -- ---- exports and imports
 
@@ -117,6 +123,28 @@ pub record IsImportedSafe (known : Known) (desk export : ℕ) (imported : import
   pub possibly : (m : ℕ) → HasPage name.mask m → ¬ HasPage imported.added m → known.may_hold desk name.id m
   pub again : (imported.kind ≡ Again) ↔ (imported.added ≡ 0)
   pub kind : IsImportKindSafe known desk name imported.added imported.kind
+
+-- ---- desks that are full
+
+-- that many other documents have a page that may be held at the desk: these, by rising identification
+pub record MayHoldOthers (known : Known) (desk id count : ℕ) : Type 0 where
+  pub others : List ℕ
+  pub enough : count ≤ length others
+  pub rising : IsStrictlySortedBy nat_cmp others
+  pub each : (i other : ℕ) → slice_get others i ≡ Some other →
+      (other ≢ id) × (m : ℕ) × known.may_hold desk other m
+
+-- the desk, of those with this room for documents, may be full with others than that of the label
+pub record IsFullForLabel (capacities : List ℕ) (known : Known) (desk label : ℕ) : Type 0 where
+  pub name : LabelName
+  pub has_left : known.labelled label name
+  pub full : IsSomeAnd (slice_get capacities desk) (MayHoldOthers known desk name.id)
+
+-- the same, with others than that of the export
+pub record IsFullForExport (capacities : List ℕ) (known : Known) (desk export : ℕ) : Type 0 where
+  pub name : ExportName
+  pub has_left : known.sent export name
+  pub full : IsSomeAnd (slice_get capacities desk) (MayHoldOthers known desk name.id)
 
 -- ---- any reply
 

@@ -1,11 +1,12 @@
 -- Runs that are not as they should be, each one step from a run that is: the definitions of the headline alone refuse
 -- them. Each would be allowed without the field that its comment names; if that field follows from others, without
--- these too. There are two printers, which begin with 0 to 9 and with 10 to 19, and two desks. Documents of four digits
--- are printed in labels of side 12.
+-- these too. There are two printers, which begin with 0 to 9 and with 10 to 19, and two desks, each with room for two
+-- documents. Documents of four digits are printed in labels of side 12.
 use Rattle.std.specs.Prelude.{◌≡◌, ℕ, Bool, true, false, Option, List, [], ◌∷◌, map}
 use Rattle.dm_check_blocks.specs.declared.size.Size.TheVariants.{Side12}
 use Rattle.dm_encodation.specs.declared.scheme.Scheme.TheVariants.{Ascii}
 use Rattle.dm_print_ledger.specs.declared.fault.PrintFault.TheVariants as print_fault
+use Rattle.dm_print_ledger.specs.declared.fault.GiveFault.TheVariants as give_fault
 use Rattle.dm_print_ledger.specs.declared.fault.TakeFault.TheVariants.{Old, Overlap, Save}
 use Rattle.dm_print_ledger.specs.declared.range.Range.{Range}
 use Rattle.dm_print_ledger.specs.Views.{TicketView}
@@ -24,7 +25,7 @@ use Rattle.dm_assembly_desk.specs.declared.reply.Imported as imported_type
 use Rattle.dm_event_history.specs.declared.event.Event.{Event}
 use Rattle.dm_event_history.specs.declared.event.Event.TheVariants.{Print, Scan, RestartPrinter, RestartDesk, Ask, Forget, Give, Take, Export, Import}
 use Rattle.dm_event_history.specs.declared.reply.Reply.{Reply}
-use Rattle.dm_event_history.specs.declared.reply.Reply.TheVariants.{Printed, PrintRefused, Scanned, ScanRefused, Document, AskRefused, Forgotten, ForgetRefused, Given, Taken, TakeRefused, Exported, Imported, ImportRefused, Restarted, PrinterRefused, Stopped, Down, NoSuch, Memory}
+use Rattle.dm_event_history.specs.declared.reply.Reply.TheVariants.{Printed, PrintRefused, Scanned, ScanRefused, Document, AskRefused, Forgotten, ForgetRefused, Given, GiveRefused, Taken, TakeRefused, Exported, Imported, ImportRefused, Restarted, PrinterRefused, Stopped, Down, NoSuch, Memory}
 use Rattle.dm_event_history.specs.declared.stop.Stop.{Stop}
 use Rattle.dm_event_history.specs.declared.stop.Stop.TheVariants.{None, BeforeSave, SaveFault, AfterLabels}
 use Rattle.dm_event_history.specs.History.{LabelName}
@@ -39,10 +40,14 @@ use Rattle.dm_event_history.specs.Worked.{digits, range, two_ranges, first_ticke
 abbrev pub Run : Type 0 → Type 0
 Run A = List (Event A × Reply A)
 
+-- how many documents each desk has room for
+abbrev pub two_desks : List ℕ
+two_desks = 2 ∷ 2 ∷ []
+
 -- what desks tell is as it was printed and scanned, where each scan was found honest
 abbrev pub IsFaithfulRun : {A : Type 0} → Run A → Type 0
 IsFaithfulRun run =
-    IsFaithful two_ranges 2 (map (λ one. one.0) run) (map (λ one. true) run) (map (λ one. one.1) run)
+    IsFaithful two_ranges two_desks (map (λ one. one.0) run) (map (λ one. true) run) (map (λ one. one.1) run)
 
 -- no identification is printed twice, where just these labels left, in this order
 abbrev pub PrintsOnceRun : {A : Type 0} → List LabelName → Run A → Type 0
@@ -143,15 +148,31 @@ wrong_of_two A =
 abbrev pub refused_unprinted : (A : Type 0) → Run A
 refused_unprinted A = (scan 0, Memory) ∷ []
 
+-- the module that is flipped is the last of the label's grid
 abbrev pub missing_label : (A : Type 0) → Run A
-missing_label A = (print 0 digits None, Printed 0 0 2) ∷ (Scan 1 0 ((0, 0) ∷ []) None, NoSuch) ∷ []
+missing_label A = (print 0 digits None, Printed 0 0 2) ∷ (Scan 1 0 ((11, 11) ∷ []) None, NoSuch) ∷ []
 
--- `not_imported`: an export is refused at a desk that holds nothing, for this
+-- `there`: the module that is flipped is beyond the label's grid
+abbrev pub scanned_outside : (A : Type 0) → Run A
+scanned_outside A = (print 0 digits None, Printed 0 0 2) ∷ (Scan 0 0 ((12, 0) ∷ []) None, Memory) ∷ []
+
+-- `not_imported`, and `each`: an export is refused at a desk that holds nothing, for this
 abbrev pub refused_import : (A : Type 0) → ImportFault → Run A
 refused_import A fault =
     (print 0 digits None, Printed 0 0 2) ∷
     (scan 0, Scanned (page 0 1 New)) ∷
     (Export 0 0, Exported 0 0 2 1) ∷ (Import 1 0 None, ImportRefused fault) ∷ []
+
+-- `not_refused`: a label is refused as its desk is full, which holds nothing
+abbrev pub full_at_first : (A : Type 0) → Run A
+full_at_first A = (print 0 digits None, Printed 0 0 2) ∷ (scan 0, ScanRefused scan_fault.Full) ∷ []
+
+-- `not_refused`: so is one of a second document, though there is room for two
+abbrev pub full_with_one : (A : Type 0) → Run A
+full_with_one A =
+    (print 0 digits None, Printed 0 0 2) ∷
+    (print 0 other_digits None, Printed 1 2 2) ∷
+    (scan 0, Scanned (page 0 1 New)) ∷ (scan 2, ScanRefused scan_fault.Full) ∷ []
 
 -- ---- pages
 
@@ -265,7 +286,7 @@ imported_at_last A =
     (Scan 1 1 [] None, Scanned (page 0 2 New)) ∷
     (Import 1 0 None, Imported (record { id = 0; n = 2; added = 1; kind = New })) ∷ []
 
--- `not_refused`: a perfect label is refused for its words
+-- `framed`: a perfect label is refused for its words
 abbrev pub refused_label : (A : Type 0) → Run A
 refused_label A = (print 0 digits None, Printed 0 0 2) ∷ (scan 0, ScanRefused (scan_fault.Label (Block 0))) ∷ []
 
@@ -383,6 +404,17 @@ given_though_failed A =
 abbrev pub given_to_another : (A : Type 0) → Run A
 given_to_another A =
     (Give 0 1 (range 0 4) None, Given 0 (record { giver = 0; serial = 0; receiver = 7; range = range 0 4 })) ∷ []
+
+-- `each`: a printer gives a range to itself; or refuses to give one for a reason that isn't so
+abbrev pub given_to_itself : (A : Type 0) → Run A
+given_to_itself A =
+    (Give 0 0 (range 5 5) None, Given 0 (record { giver = 0; serial = 0; receiver = 0; range = range 5 5 })) ∷ []
+
+abbrev pub refused_range : (A : Type 0) → Run A
+refused_range A = (Give 0 1 (range 5 5) None, GiveRefused give_fault.Range) ∷ []
+
+abbrev pub refused_receiver : (A : Type 0) → Run A
+refused_receiver A = (Give 0 1 (range 5 5) None, GiveRefused give_fault.Receiver) ∷ []
 
 -- `no_such` and `there`: a printer is missing that is there, and a desk answers that is not
 abbrev pub missing_printer : (A : Type 0) → Run A
@@ -540,13 +572,16 @@ missing_export A = (Export 0 0, Exported 0 0 2 1) ∷ (Import 0 0 None, NoSuch) 
 
 -- ---- what is tainted
 
+abbrev pub four_desks : List ℕ
+four_desks = 2 ∷ 2 ∷ 2 ∷ 2 ∷ []
+
 -- events, each with whether it was found honest, and with its reply, of four desks
 abbrev pub MarkedRun : Type 0 → Type 0
 MarkedRun A = List (Event A × Bool × Reply A)
 
 abbrev pub IsFaithfulMarked : {A : Type 0} → MarkedRun A → Type 0
 IsFaithfulMarked run =
-    IsFaithful two_ranges 4 (map (λ one. one.0) run) (map (λ one. one.1) run) (map (λ one. one.2) run)
+    IsFaithful two_ranges four_desks (map (λ one. one.0) run) (map (λ one. one.1) run) (map (λ one. one.2) run)
 
 abbrev pub IsTaintedIn : {A : Type 0} → MarkedRun A → ℕ → Holder → Type 0
 IsTaintedIn run i holder =
@@ -595,14 +630,18 @@ pub record AreUnfaithful (A : Type 0) : Type 0 where
   pub never_scanned_is : ¬ IsFaithfulRun (never_scanned A)
   pub never_saved_is : ¬ IsFaithfulRun (never_saved A)
   pub import_conflicting_is : ¬ IsFaithfulRun (refused_import A import_fault.Conflict)
-  pub import_damaged_is : ¬ IsFaithfulRun (refused_import A import_fault.Damaged)
-  pub import_of_a_version_is : ¬ IsFaithfulRun (refused_import A import_fault.Version)
-  pub import_of_no_pages_is : ¬ IsFaithfulRun (refused_import A import_fault.NotPages)
+  pub import_damaged_is : ¬ AreRepliesRun (refused_import A import_fault.Damaged)
+  pub import_of_a_version_is : ¬ AreRepliesRun (refused_import A import_fault.Version)
+  pub import_of_no_pages_is : ¬ AreRepliesRun (refused_import A import_fault.NotPages)
+  pub import_full_at_first_is : ¬ IsFaithfulRun (refused_import A import_fault.Full)
+  pub full_at_first_is : ¬ IsFaithfulRun (full_at_first A)
+  pub full_with_one_is : ¬ IsFaithfulRun (full_with_one A)
   pub two_documents_is : ¬ IsFaithfulRun (two_documents A)
   pub wrong_of_two_is : ¬ IsFaithfulRun (wrong_of_two A)
   pub refused_unprinted_is : ¬ IsFaithfulRun (refused_unprinted A)
   pub missing_first_label_is : ¬ IsFaithfulRun (missing_first_label A)
   pub missing_label_is : ¬ IsFaithfulRun (missing_label A)
+  pub scanned_outside_is : ¬ IsFaithfulRun (scanned_outside A)
   pub begun_unscanned_is : ¬ IsFaithfulRun (begun_unscanned A)
   pub exported_unscanned_is : ¬ IsFaithfulRun (exported_unscanned A)
   pub printed_after_forgotten_is : ¬ IsFaithfulRun (printed_after_forgotten A)
@@ -648,6 +687,9 @@ pub record AreUnfaithful (A : Type 0) : Type 0 where
   pub failed_before_a_fault_is : ¬ AreRepliesRun (failed_before_a_fault A)
   pub given_though_failed_is : ¬ AreRepliesRun (given_though_failed A)
   pub given_to_another_is : ¬ AreRepliesRun (given_to_another A)
+  pub given_to_itself_is : ¬ AreRepliesRun (given_to_itself A)
+  pub refused_range_is : ¬ AreRepliesRun (refused_range A)
+  pub refused_receiver_is : ¬ AreRepliesRun (refused_receiver A)
   pub missing_printer_is : ¬ AreRepliesRun (missing_printer A)
   pub third_desk_is : ¬ AreRepliesRun (third_desk A)
   pub numbered_twice_is : ¬ TakesOnceRun (numbered_twice A)

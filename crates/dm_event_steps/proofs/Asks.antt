@@ -23,7 +23,8 @@ use Rattle.dm_event_history.specs.Actors.{DeskAt}
 use Rattle.dm_event_history.specs.History.{Entry, History, CutDocument, docs}
 use Rattle.dm_event_history.specs.Running.{down_after, failed_after, is_failed}
 use Rattle.dm_event_history.specs.Legal.{IsLegal}
-use Rattle.dm_event_history.specs.Safe.{known_of, IsReplySafe}
+use Rattle.dm_event_history.specs.Holding.{known_of}
+use Rattle.dm_event_history.specs.Safe.{IsReplySafe}
 use Rattle.dm_event_history.specs.Telling.{IsNotSurelyHeld, IsTrueDocument, IsTrulyMissing}
 use Rattle.dm_event_history.proofs.Deciding.{decided}
 use Rattle.dm_event_history.proofs.Printed.{printed_cut}
@@ -233,7 +234,7 @@ ask_goes {A} ranges capacities grids h d id capacity view reply state legal ther
         (λ i m t. absurd t) (λ i x. x)
         (λ honest. ask_safe ranges (length capacities) h d id view.held (finite.get view.held id) given legal
         (s.gathered honest.1) acts.order.entries refl asks missing)
-        (λ fair honest. tt)
+        (λ fair. tt)
 
     by_answer : (given : Result (List ℕ) AskFault) → Asks (λ bytes. bytes) (finite.get view.held id) given →
         NamesMissing (finite.get view.held id) given →
@@ -317,7 +318,7 @@ restart_desk_goes {A} ranges capacities grids h d capacity Restarted was state t
         },
       );
       safe = λ _. tt;
-      answers = λ _ _. tt;
+      answers = λ _. tt;
     })
 restart_desk_goes {A} ranges capacities grids h d capacity (DeskRefused fault) was state there s acts =
     let event : Event A = RestartDesk d in
@@ -348,6 +349,6 @@ restart_desk_goes {A} ranges capacities grids h d capacity (DeskRefused fault) w
         },
       );
       safe = λ _. tt;
-      answers = λ _ _. tt;
+      answers = λ _. tt;
     })
 restart_desk_goes ranges capacities grids h d capacity reply was state there s acts = absurd acts

@@ -172,7 +172,7 @@ pub desk_kept : {A : Type 0} (ranges : List Range) (capacities : List ℕ) (grid
     IsSome (page_at view.held id m) × IsSome (page_at s.stored id m)) →
     ((id : ℕ) → ¬ Forgets event reply d id) →
     (IsClean grids (quiet event reply ∷ h) (AtDesk d) → IsReplySafe h event reply) →
-    (BringsClean grids h event → IsClean grids h (AtDesk d) → IsHonestReply grids capacities h event reply) →
+    (BringsClean grids h event → IsHonestReply grids capacities h event reply) →
     DeskGoes ranges capacities grids h event reply d capacity (desks.Running after)
 desk_kept {A} ranges capacities grids h event reply d capacity view after room s same told up failed takes stays safe
     answers =
@@ -216,7 +216,7 @@ pub desk_saves : {A : Type 0} (ranges : List Range) (capacities : List ℕ) (gri
     failed_after reply (is_failed h (DeskAt d)) ≡ is_failed h (DeskAt d) →
     (IsClean grids (quiet event reply ∷ h) (AtDesk d) → IsGathered (quiet event reply ∷ h) d held) →
     (IsClean grids (quiet event reply ∷ h) (AtDesk d) → IsReplySafe h event reply) →
-    (BringsClean grids h event → IsClean grids h (AtDesk d) → IsHonestReply grids capacities h event reply) →
+    (BringsClean grids h event → IsHonestReply grids capacities h event reply) →
     DeskGoes ranges capacities grids h event reply d capacity (desks.Running (desk_planned mid next_save.Fine))
 desk_saves {A} ranges capacities grids h event reply d capacity view mid plan content held room s saves holding few told
     up failed gathered safe answers =
@@ -265,7 +265,7 @@ pub desk_fails : {A : Type 0} (ranges : List Range) (capacities : List ℕ) (gri
     IsGathered (quiet event reply ∷ h) d (kept_held k view.held held)) →
     (IsClean grids (quiet event reply ∷ h) (AtDesk d) → IsGathered (quiet event reply ∷ h) d view.held) →
     (IsClean grids (quiet event reply ∷ h) (AtDesk d) → IsReplySafe h event reply) →
-    (BringsClean grids h event → IsClean grids h (AtDesk d) → IsHonestReply grids capacities h event reply) →
+    (BringsClean grids h event → IsHonestReply grids capacities h event reply) →
     DeskGoes ranges capacities grids h event reply d capacity (desks.Running (desk_planned mid next_save.Fine))
 desk_fails {A} ranges capacities grids h event reply d capacity view mid k content held room s saves fails few told up
     failed stored shown safe answers =
@@ -310,7 +310,7 @@ desk_stopped {A} ranges capacities grids h event d capacity saved stored state r
       fits = desk_fits ranges (length capacities) h event Stopped d told;
       stands = (room, record { down = is_down_same e h (DeskAt d) told.named; stored = stored; store = store });
       safe = λ _. safe;
-      answers = λ _ _. answers;
+      answers = λ _. answers;
     })
 
 -- a desk that answers `Down`
@@ -320,7 +320,8 @@ pub desk_down : {A : Type 0} (ranges : List Range) (capacities : List ℕ) (grid
     actor_of event ≡ DeskAt d →
     IsThere (length ranges) (length capacities) h event → NeedsRunning event →
     (let none : Reply A = Down in IsFine ranges h 0 event none) →
-    DeskLiesDown grids h d capacity saved → ((id m : ℕ) → (let none : Reply A = Down in ¬ Takes (exports h) event none d id m)) →
+    DeskLiesDown grids h d capacity saved →
+    ((id m : ℕ) → (let none : Reply A = Down in ¬ Takes (exports h) event none d id m)) →
     ((id : ℕ) → (let none : Reply A = Down in ¬ Forgets event none d id)) →
     (let none : Reply A = Down in IsReplySafe h event none) →
     (let none : Reply A = Down in IsHonestReply grids capacities h event none) →
@@ -353,7 +354,7 @@ desk_down {A} ranges capacities grids h event reply d capacity saved state room 
         },
       );
       safe = λ _. safe;
-      answers = λ _ _. answers;
+      answers = λ _. answers;
     }))
 
 -- a running desk that answers `Memory` is as it was
@@ -383,7 +384,7 @@ memory_goes {A} ranges capacities grids h event d capacity view reply state room
       is_reply = fine;
       failed = λ _ _. inr tt;
       untold = λ x. cc;
-    }) refl refl (λ id m t. absurd (takes id m t)) stays (λ honest. safe) (λ fair honest. answers)))
+    }) refl refl (λ id m t. absurd (takes id m t)) stays (λ honest. safe) (λ fair. answers)))
 
 -- a call that lacked memory changed nothing, so the desk is as it was
 pub lacks_same : {A : Type 0} (stop : Stop) (Call : DeskView → Type 0) (view : DeskView) (state : DeskState A) →

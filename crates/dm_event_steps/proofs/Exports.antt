@@ -128,7 +128,7 @@ export_goes {A} ranges capacities grids h d id capacity reply view state old new
           failed = λ _ saves. absurd (let x : false ≡ true = saves in cc (x));
           untold = untold;
         }) up (failed (is_failed h (DeskAt d))) (λ i m t. absurd t) stays (λ honest. safe (s.gathered honest.1))
-        (λ fair honest. tt))
+        (λ fair. tt))
 
     shown : (tells : Reply A) (r : Reply A) → (x : ExportsPages view id old r new) →
         tells ≡ Exported (length old + 0) x.export.id x.export.count x.export.mask →

@@ -30,11 +30,10 @@ use Rattle.dm_event_history.specs.Actors.{DeskAt}
 use Rattle.dm_event_history.specs.History.{Entry, History}
 use Rattle.dm_event_history.specs.Running.{failed_after, is_failed, IsOfFailed}
 use Rattle.dm_event_history.specs.Saving.{may_save}
-use Rattle.dm_event_history.specs.Holding.{Forgets, IsPossiblyHeld}
+use Rattle.dm_event_history.specs.Holding.{Forgets, IsPossiblyHeld, known_of}
 use Rattle.dm_event_history.specs.Legal.{IsForgetRefused}
 use Rattle.dm_event_history.specs.Tainted.{AtDesk}
 use Rattle.dm_event_history.specs.Honest.{IsClean}
-use Rattle.dm_event_history.specs.Safe.{known_of}
 use Rattle.dm_event_history.specs.Telling.{IsForgetSafe}
 use Rattle.dm_event_steps.specs.declared.actor.DeskState.{DeskState}
 use Rattle.dm_event_steps.specs.declared.actor.DeskState.TheVariants as desks
@@ -132,7 +131,7 @@ refused_goes {A} ranges capacities grids h d id capacity stop view mid fault the
     (call_told ranges (length capacities) h (Forget d id stop) (ForgetRefused fault) d stop refl there s.up called
     (λ x. x) (λ x. cc) (λ x. cc) (λ x. cc)
     (refl, why) refuses (λ x. cc))
-    refl (failed (is_failed h (DeskAt d))) (λ i m t. absurd t) (λ i x. x) safe (λ fair honest. tt)
+    refl (failed (is_failed h (DeskAt d))) (λ i m t. absurd t) (λ i x. x) safe (λ fair. tt)
 
 few_kept : (k : Kept) (view : DeskView) (id : ℕ) → finite.len view.held ≤ view.capacity →
     finite.len (kept_held k view.held (finite.remove view.held id)) ≤ view.capacity
@@ -174,7 +173,7 @@ running_goes {A} ranges capacities grids h d id capacity stop view mid (Ok done)
     refl refl
     (gathered_less grids h d id capacity stop Forgotten view s refl was (λ other away x. away (sym x.1)))
     (λ honest. some_possibly h d id view.held (s.gathered honest.1) order.entries acts.was_held)
-    (λ fair honest. tt)
+    (λ fair. tt)
 running_goes ranges capacities grids h d id capacity stop view mid
     (Err forget_fault.NotHeld) there room s called order was acts =
     refused_goes ranges capacities grids h d id capacity stop view mid forget_fault.NotHeld there room s called acts.1
@@ -207,7 +206,7 @@ running_goes {A} ranges capacities grids h d id capacity stop view mid
         refl refl (gathered_kept grids h d id capacity k view s was)
         (λ honest. gathered_keeps (quiet event reply) h d view.held (λ x. none_leaves event reply _ x)
         (λ i m t. absurd t) (λ i x. x) (s.gathered honest.1))
-        (λ honest. tt) (λ fair honest. tt)
+        (λ honest. tt) (λ fair. tt)
 running_goes ranges capacities grids h d id capacity stop view mid
     (Err forget_fault.Failed) there room s called order was acts = absurd acts
 

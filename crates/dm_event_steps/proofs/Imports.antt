@@ -40,12 +40,11 @@ use Rattle.dm_event_history.specs.History.{Entry, History, CutDocument, ExportNa
 use Rattle.dm_event_history.specs.Running.{failed_after, is_failed, IsOfFailed}
 use Rattle.dm_event_history.specs.Saving.{may_save}
 use Rattle.dm_event_history.specs.Masks.{HasPage}
-use Rattle.dm_event_history.specs.Holding.{Takes, Forgets}
+use Rattle.dm_event_history.specs.Holding.{Takes, Forgets, known_of}
 use Rattle.dm_event_history.specs.Legal.{IsImportRefused, IsImported}
 use Rattle.dm_event_history.specs.Tainted.{AtDesk, InExport}
-use Rattle.dm_event_history.specs.Honest.{IsClean, IsHonestlyNotImported, MayHoldOthers}
-use Rattle.dm_event_history.specs.Safe.{known_of}
-use Rattle.dm_event_history.specs.Telling.{IsImportedSafe, IsImportKindSafe}
+use Rattle.dm_event_history.specs.Honest.{IsClean, IsHonestlyNotImported}
+use Rattle.dm_event_history.specs.Telling.{MayHoldOthers, IsImportedSafe, IsImportKindSafe}
 use Rattle.dm_event_steps.specs.declared.actor.DeskState.{DeskState}
 use Rattle.dm_event_steps.specs.declared.actor.DeskState.TheVariants as desks
 use Rattle.dm_event_steps.specs.declared.actor.LeftExport.{LeftExport}
@@ -280,8 +279,7 @@ refused_goes : {A : Type 0} (ranges : List Range) (capacities : List ℕ) (grids
     (let reply : Reply A = ImportRefused fault in
     is_failed h (DeskAt d) ≡ true → IsOfFailed (Import d number stop) reply) →
     IsImportRefused h d stop fault →
-    (IsClean grids h (InExport number) → IsClean grids h (AtDesk d) →
-    IsHonestlyNotImported capacities h d number fault) →
+    (IsClean grids h (InExport number) → IsHonestlyNotImported grids capacities h d number fault) →
     DeskGoes ranges capacities grids h (Import d number stop) (ImportRefused fault) d capacity
     (desks.Running (desk_planned mid next_save.Fine))
 refused_goes {A} ranges capacities grids h d number capacity stop view mid export fault s called same failed refuses
@@ -328,7 +326,7 @@ again_goes {A} ranges capacities grids h d number capacity stop view mid export 
     (λ id x. x)
     (λ honest. imported_safe capacities grids h d number capacity view export i s
     (s.runs.gathered honest.1) names_are is)
-    (λ fair honest. tt)
+    (λ fair. tt)
 
 -- pages that were not held
 took_goes : {A : Type 0} (ranges : List Range) (capacities : List ℕ) (grids : List GridView) (h : History A)
@@ -358,7 +356,7 @@ took_goes {A} ranges capacities grids h d number capacity stop view mid export i
     (sym s.runs.failed ∙ keeps.holding.was_running))
     (λ honest. imported_safe capacities grids h d number capacity view export i s
     (s.runs.gathered honest.1) names_are is)
-    (λ fair honest. tt)
+    (λ fair. tt)
 
 gathered_kept : {A : Type 0} (capacities : List ℕ) (grids : List GridView) (h : History A) (d number capacity : ℕ)
     (k : Kept) (view : DeskView)
@@ -411,7 +409,7 @@ failed_goes {A} ranges capacities grids h d number capacity k view mid export s 
     (λ honest. gathered_keeps (quiet event reply) h d view.held (λ x. none_leaves event reply _ x) (λ i m t. absurd t)
     (λ i x. x)
     (s.runs.gathered honest.1))
-    (λ honest. tt) (λ fair honest. tt)
+    (λ honest. tt) (λ fair. tt)
 
 -- ---- an import that is made
 
@@ -450,14 +448,14 @@ file_goes ranges capacities grids h d number capacity stop view mid export
     (λ clean honest. record {
       name = export_name_of export;
       has_left = s.named;
-      full = subst (λ (o : Option ℕ). IsSomeAnd o (MayHoldOthers h d export.id)) (sym s.at)
-          (subst (λ (c : ℕ). MayHoldOthers h d export.id c) s.runs.capacity_is
+      full = subst (λ (o : Option ℕ). IsSomeAnd o (MayHoldOthers (known_of h) d export.id)) (sym s.at)
+          (subst (λ (c : ℕ). MayHoldOthers (known_of h) d export.id c) s.runs.capacity_is
           (other_held h d export.id view order (s.runs.gathered honest) full.0 full.1));
     })
 file_goes ranges capacities grids h d number capacity stop view mid export
     (Err import_fault.Memory) s called order was acts =
     refused_goes ranges capacities grids h d number capacity stop view mid export import_fault.Memory s called acts.1
-    (λ b. refl) (not_failed grids h d capacity view s.runs was _) tt (λ clean honest. tt)
+    (λ b. refl) (not_failed grids h d capacity view s.runs was _) tt (λ clean. tt)
 file_goes {A} ranges capacities grids h d number capacity stop view mid export
     (Err import_fault.Save) s called order was acts =
     let k : (k : Kept) × (stop ≡ SaveFault k) = faulted_with stop view mid _ called acts.1.replaced in
@@ -498,7 +496,7 @@ called_goes {A} ranges capacities grids h d number capacity stop view mid export
         (desks.Running (desk_planned mid next_save.Fine))) (sym x.0)
         (refused_goes ranges capacities grids h d number capacity stop view mid export import_fault.Failed s called x.1
         (λ b. refl) (λ _ _. inl tt)
-        (sym s.runs.failed ∙ was) (λ clean honest. tt)))
+        (sym s.runs.failed ∙ was) (λ clean. tt)))
     by_failed false was =
         file_goes ranges capacities grids h d number capacity stop view mid export given s called order was
         ((f.imported was).spelled export.id s.shows.pages s.shows.spells)

@@ -75,7 +75,16 @@ given_goes {A} ranges desks h p receiver range stop view mid ticket reply old ne
       down_so = λ _ d. let u = s.up in cc;
       stopped = λ x. cc;
       stops = λ _ x. absurd (subst (λ (t : Stop). IsStopping t) none x);
-      is_reply = (refl, record { no_stop = none; index_is = ap length had; ticket_is = ticket_is });
+      is_reply = (
+        refl,
+        record {
+          no_stop = none;
+          index_is = ap length had;
+          ticket_is = ticket_is;
+          is_range = gave.0.1;
+          to_another = λ is. gave.0.2 (is ∙ sym now.number);
+        },
+      );
       failed = not_failed ranges h p view s gave.0.0 _;
       told = λ _. refl;
       kept = λ q number asked is. absurd (cc (is));
@@ -169,7 +178,7 @@ give_called {A} ranges desks h p receiver range stop view mid
         (let r : Reply A = GiveRefused f in failed_after r (is_failed h (PrinterAt p)) ≡ is_failed h (PrinterAt p)) →
         (let event : Event A = Give p receiver range stop in let r : Reply A = GiveRefused f in
         is_failed h (PrinterAt p) ≡ true → IsOfFailed event r) →
-        IsGiveRefused h p stop f →
+        IsGiveRefused h p receiver range stop f →
         PrinterGoes ranges desks h (Give p receiver range stop) (GiveRefused f) p
         (actors.Running (planned mid next_save.Fine)) old new
     none_given f same failed refuses why =
@@ -181,8 +190,9 @@ give_called {A} ranges desks h p receiver range stop view mid
         PrinterGoes ranges desks h (Give p receiver range stop) (GiveRefused f) p
         (actors.Running (planned mid next_save.Fine)) old new
     by_fault give_fault.Failed x = none_given give_fault.Failed x.1 refl (λ _ _. inl tt) (sym s.failed ∙ x.0)
-    by_fault give_fault.Range x = none_given give_fault.Range x.1 refl (not_failed ranges h p view s x.0.0 _) tt
-    by_fault give_fault.Receiver x = none_given give_fault.Receiver x.1 refl (not_failed ranges h p view s x.0.0 _) tt
+    by_fault give_fault.Range x = none_given give_fault.Range x.1 refl (not_failed ranges h p view s x.0.0 _) x.0.1
+    by_fault give_fault.Receiver x = none_given give_fault.Receiver x.1 refl (not_failed ranges h p view s x.0.0 _)
+        (x.0.2 ∙ (ledger_now ranges h p view s x.0.0).number)
     by_fault give_fault.NotFree x = none_given give_fault.NotFree x.1 refl (not_failed ranges h p view s x.0.0 _) tt
     by_fault give_fault.Serials x = none_given give_fault.Serials x.1 refl (not_failed ranges h p view s x.0.0 _) tt
     by_fault give_fault.Ranges x = none_given give_fault.Ranges x.1 refl (not_failed ranges h p view s x.0.0 _) tt

@@ -374,7 +374,7 @@ marked_on ranges capacities h was old new events marks replies s fair runs = abs
 pub fair_run : {A : Type 0} (ranges : List Range) (capacities : List ℕ) (old new : WorldView A)
     (events : List (Event A)) (marks : List Bool) (replies : List (Reply A)) →
     StandsFor ranges capacities old [] → RunsMarked old events marks replies new →
-    HasBeenFaithful ranges (length capacities) new events marks replies
+    HasBeenFaithful ranges capacities new events marks replies
 fair_run {A} ranges capacities old new events marks replies s runs =
     let none : History A = [] in
     let begun : AreFairMarks old none [] = record {
@@ -384,13 +384,13 @@ fair_run {A} ranges capacities old new events marks replies s runs =
     let f : HasRunMarked ranges capacities none [] events marks replies new =
     marked_on ranges capacities none [] old new events marks replies s begun runs in
     let r : HasRun ranges capacities none events replies new = f.run in
-    let desks = length capacities in
     let batches = batches_of r.after in record {
       batches = batches;
       its = its_batches ranges capacities new r.after r.stands;
-      faithful = subst (λ (l : List (Event A)). IsFaithfulBy ranges desks batches l marks replies) r.events_are
-          (subst (λ (l : List (Reply A)). IsFaithfulBy ranges desks batches (events_of r.after) marks l) r.replies_are
-          (is_faithful ranges desks r.after (grids_of new) capacities marks r.stands.disjoint r.stands.legal
-          (never_twice ranges desks r.after r.stands.disjoint r.stands.legal) f.fair r.stands.safe
+      faithful = subst (λ (l : List (Event A)). IsFaithfulBy ranges capacities batches l marks replies) r.events_are
+          (subst (λ (l : List (Reply A)). IsFaithfulBy ranges capacities batches (events_of r.after) marks l)
+          r.replies_are
+          (is_faithful ranges r.after (grids_of new) capacities marks r.stands.disjoint r.stands.legal
+          (never_twice ranges (length capacities) r.after r.stands.disjoint r.stands.legal) f.fair r.stands.safe
           r.stands.answers));
     }

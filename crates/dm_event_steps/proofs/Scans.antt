@@ -43,12 +43,11 @@ use Rattle.dm_event_history.specs.Actors.{DeskAt}
 use Rattle.dm_event_history.specs.History.{Entry, History, LabelName, CutDocument, out, docs, exports}
 use Rattle.dm_event_history.specs.Running.{is_down, failed_after, is_failed, IsOfFailed}
 use Rattle.dm_event_history.specs.Saving.{may_save, tells_of_save}
-use Rattle.dm_event_history.specs.Holding.{Takes, MayTake, Forgets, IsPossiblyHeld}
+use Rattle.dm_event_history.specs.Holding.{Takes, MayTake, Forgets, IsPossiblyHeld, known_of}
 use Rattle.dm_event_history.specs.Legal.{IsScanRefused, HasModules, IsStopping}
 use Rattle.dm_event_history.specs.Tainted.{AtDesk}
-use Rattle.dm_event_history.specs.Honest.{IsClean, IsFramed, IsBeyond, IsHonestlyRefused, MayHoldOthers}
-use Rattle.dm_event_history.specs.Safe.{known_of}
-use Rattle.dm_event_history.specs.Telling.{IsAcceptedSafe, IsKindSafe}
+use Rattle.dm_event_history.specs.Honest.{IsClean, IsFramed, IsBeyond, IsHonestlyRefused}
+use Rattle.dm_event_history.specs.Telling.{IsPageOf, MayHoldOthers, IsAcceptedSafe, IsKindSafe}
 use Rattle.dm_event_history.proofs.Deciding.{or_left, or_right}
 use Rattle.dm_event_steps.specs.declared.actor.DeskState.{DeskState}
 use Rattle.dm_event_steps.specs.declared.actor.DeskState.TheVariants as desks
@@ -142,17 +141,24 @@ kind_safe h d capacity held p Complete head g is =
       (λ m least most other. g.possibly p.id m (others m least most other)),
     )
 
+abbrev page_told : {A : Type 0} (h : History A) (number : ℕ) (label : LeftLabel A) (p : PageView) (cut : CutDocument)
+    (a : Accepted) → slice_get (out h) number ≡ Some (name_of label) → IsLabels h label p cut → NamesPage p a →
+    IsPageOf (known_of h) number a
+page_told h number label p cut a named is names = record {
+  name = page_name p;
+  has_left = named ∙ ap Some (sym is.name_is);
+  id_is = names.id_is;
+  m_is = names.m_is;
+  n_is = names.n_is;
+}
+
 accepted_safe : {A : Type 0} (h : History A) (d number capacity : ℕ) (label : LeftLabel A) (held : Documents)
     (p : PageView) (cut : CutDocument)
     (a : Accepted) → slice_get (out h) number ≡ Some (name_of label) → IsLabels h label p cut → NamesPage p a →
     IsGathered h d held →
     answer capacity held p ≡ Ok a.kind → IsAcceptedSafe (known_of h) d number a
 accepted_safe h d number capacity label held p cut a named is names g answered = record {
-  name = page_name p;
-  scanned = named ∙ ap Some (sym is.name_is);
-  id_is = names.id_is;
-  m_is = names.m_is;
-  n_is = names.n_is;
+  page = page_told h number label p cut a named is names;
   kind = kind_safe h d capacity held p a.kind is.head g answered;
 }
 
@@ -194,7 +200,8 @@ key_held held i key is = by_get (finite.get held key) refl (contains_key-keys he
 
 -- each other document that is held has a page
 pub other_held : {A : Type 0} (h : History A) (d id : ℕ) (view : DeskView) → IsInOrder view → IsGathered h d view.held →
-    finite.get view.held id ≡ None → view.capacity ≤ finite.len view.held → MayHoldOthers h d id view.capacity
+    finite.get view.held id ≡ None → view.capacity ≤ finite.len view.held →
+    MayHoldOthers (known_of h) d id view.capacity
 other_held {A} h d id view order g none full = record {
   others = finite.keys view.held;
   enough = (let l = length-keys view.held in omega arith);
@@ -302,8 +309,7 @@ refused_goes : {A : Type 0} (ranges : List Range) (capacities : List ℕ) (grids
     (let reply : Reply A = ScanRefused fault in
     is_failed h (DeskAt d) ≡ true → IsOfFailed (Scan d number flips stop) reply) →
     IsScanRefused h d stop fault →
-    (IsFairScan grids number flips → IsClean grids h (AtDesk d) →
-    IsHonestlyRefused grids capacities h d number flips fault) →
+    (IsFairScan grids number flips → IsHonestlyRefused grids capacities h d number flips fault) →
     DeskGoes ranges capacities grids h (Scan d number flips stop) (ScanRefused fault) d capacity
     (desks.Running (desk_planned mid next_save.Fine))
 refused_goes {A} ranges capacities grids h d number capacity flips stop view mid label fault s called same failed
@@ -351,7 +357,11 @@ again_goes {A} ranges capacities grids h d number capacity flips stop view mid l
     (λ honest. accepted_safe h d number view.capacity label view.held opened.page s.shows.document a s.named
     (fair_page grids h number flips label opened s.left s.shows opens (honest.0 refl refl)) names
     (s.runs.gathered honest.1) answered)
-    (λ fair honest. framed grids number flips label.grid s.left opens.opens.read.frame)
+    (λ fair. (
+      framed grids number flips label.grid s.left opens.opens.read.frame,
+      page_told h number label opened.page s.shows.document a s.named
+          (fair_page grids h number flips label opened s.left s.shows opens fair) names,
+    ))
 
 -- a page that was not held
 took_goes : {A : Type 0} (ranges : List Range) (capacities : List ℕ) (grids : List GridView) (h : History A)
@@ -385,7 +395,11 @@ took_goes {A} ranges capacities grids h d number capacity flips stop view mid la
     (λ honest. accepted_safe h d number view.capacity label view.held opened.page s.shows.document a s.named
     (fair_page grids h number flips label opened s.left s.shows opens (honest.0 refl refl)) names
     (s.runs.gathered honest.1) answered)
-    (λ fair honest. framed grids number flips label.grid s.left opens.opens.read.frame)
+    (λ fair. (
+      framed grids number flips label.grid s.left opens.opens.read.frame,
+      page_told h number label opened.page s.shows.document a s.named
+          (fair_page grids h number flips label opened s.left s.shows opens fair) names,
+    ))
 
 -- what is gathered once a page whose save failed may be held
 gathered_kept : {A : Type 0} (capacities : List ℕ) (grids : List GridView) (h : History A) (d number capacity : ℕ)
@@ -447,7 +461,7 @@ failed_goes {A} ranges capacities grids h d number capacity flips k view mid lab
     (λ id x. x)
     (s.runs.gathered honest.1))
     (λ honest. tt)
-    (λ fair honest. framed grids number flips label.grid s.left opens.opens.read.frame)
+    (λ fair. framed grids number flips label.grid s.left opens.opens.read.frame)
 
 -- ---- a call that is made
 
@@ -493,14 +507,14 @@ page_goes {A} ranges capacities grids h d number capacity flips stop view mid la
     let full = is_full view.capacity view.held opened.page acts.0 in
     refused_goes ranges capacities grids h d number capacity flips stop view mid label scan_fault.Full s called acts.1
     (λ b. refl) (not_failed grids h d capacity view s.runs runs _) tt
-    (λ fair honest.
+    (λ fair.
     let is = fair_page grids h number flips label opened s.left s.shows opens fair in (
       framed grids number flips label.grid s.left opens.opens.read.frame,
-      record {
+      λ honest. record {
         name = page_name opened.page;
         has_left = s.named ∙ ap Some (sym is.name_is);
-        full = subst (λ (o : Option ℕ). IsSomeAnd o (MayHoldOthers h d opened.page.id)) (sym s.at)
-            (subst (λ (c : ℕ). MayHoldOthers h d opened.page.id c) s.runs.capacity_is
+        full = subst (λ (o : Option ℕ). IsSomeAnd o (MayHoldOthers (known_of h) d opened.page.id)) (sym s.at)
+            (subst (λ (c : ℕ). MayHoldOthers (known_of h) d opened.page.id c) s.runs.capacity_is
             (other_held h d opened.page.id view order (s.runs.gathered honest) full.0 full.1));
       },
     ))
@@ -508,7 +522,7 @@ page_goes ranges capacities grids h d number capacity flips stop view mid label 
     (Err scan_fault.Memory) s called opens order runs acts =
     refused_goes ranges capacities grids h d number capacity flips stop view mid label scan_fault.Memory s called acts.1
     (λ b. refl) (not_failed grids h d capacity view s.runs runs _) tt
-    (λ fair honest. framed grids number flips label.grid s.left opens.opens.read.frame)
+    (λ fair. framed grids number flips label.grid s.left opens.opens.read.frame)
 page_goes {A} ranges capacities grids h d number capacity flips stop view mid label opened
     (Err scan_fault.Save) s called opens order runs acts =
     let k : (k : Kept) × (stop ≡ SaveFault k) = faulted_with stop view mid _ called acts.1.replaced in
@@ -540,7 +554,7 @@ unopened_goes {A} ranges capacities grids h d number capacity flips stop view mi
     (desks.Running (desk_planned mid next_save.Fine))) (sym is)
     (refused_goes ranges capacities grids h d number capacity flips stop view mid label
     (scan_fault.Label fault) s called same (λ b. refl) (not_failed grids h d capacity view s.runs runs _) tt
-    (λ fair honest. answers fair))
+    answers)
 
 -- no fair scan is refused so
 never_so : {A : Type 0} (grids : List GridView) (h : History A) (number : ℕ) (flips : List (ℕ × ℕ))
@@ -572,7 +586,7 @@ opened_goes {A} ranges capacities grids h d number capacity flips stop view mid 
     (desks.Running (desk_planned mid next_save.Fine))) (sym acts.0)
     (refused_goes ranges capacities grids h d number capacity flips stop view mid label scan_fault.Memory s called
     acts.1 (λ b. refl) (not_failed grids h d capacity view s.runs runs _) tt
-    (λ fair honest. framed grids number flips label.grid s.left opens.opens))
+    (λ fair. framed grids number flips label.grid s.left opens.opens))
 opened_goes ranges capacities grids h d number capacity flips stop view mid label
     (Err (labels.Border wrong)) given s called opens order runs acts =
     unopened_goes ranges capacities grids h d number capacity flips stop view mid label
@@ -638,7 +652,7 @@ called_goes {A} ranges capacities grids h d number capacity flips stop view mid 
         (desks.Running (desk_planned mid next_save.Fine))) (sym f.0)
         (refused_goes ranges capacities grids h d number capacity flips stop view mid label scan_fault.Failed s called
         f.1 (λ b. refl) (λ _ _. inl tt)
-        (sym s.runs.failed ∙ was) (λ fair honest. tt)))
+        (sym s.runs.failed ∙ was) (λ fair. tt)))
     by_failed false was =
         (let x = accepts.scanned was in
         opened_goes ranges capacities grids h d number capacity flips stop view mid label x.opened given s called

@@ -193,7 +193,7 @@ printer_steps {A} ranges capacities world new h event reply p actor after s name
       names = g.names;
       shows = g.shows;
       safe = λ c actor clean. printer_safe h g.entry.event g.entry.reply p own;
-      answers = λ c actor brings clean. printer_answers (grids_of new) capacities h g.entry.event g.entry.reply p own;
+      answers = λ c actor brings. printer_answers (grids_of new) capacities h g.entry.event g.entry.reply p own;
       tickets_are = g.tickets_are;
       exports_more = [];
       exports_are = exports_same ∙ sym (append-nil world.exports);
@@ -264,11 +264,9 @@ desk_steps {A} ranges capacities world new h event reply d capacity actor after 
       shows = λ i label here. cc;
       safe = λ c actor clean. g.safe (subst (λ (l : List GridView). IsClean l (e ∷ h) (AtDesk d)) grids
           (subst (λ (k : ℕ). IsClean (grids_of new) (e ∷ h) (AtDesk k)) (own_desk c actor) clean));
-      answers = λ c actor brings clean.
+      answers = λ c actor brings.
           subst (λ (l : List GridView). IsHonestReply l capacities h event reply) (sym grids)
-          (g.answers (subst (λ (l : List GridView). BringsClean l h event) grids brings)
-          (subst (λ (l : List GridView). IsClean l h (AtDesk d)) grids
-          (subst (λ (k : ℕ). IsClean (grids_of new) h (AtDesk k)) (own_desk c actor) clean)));
+          (g.answers (subst (λ (l : List GridView). BringsClean l h event) grids brings));
       tickets_are = tickets_same ∙ sym (append-nil world.tickets) ∙
           ap (λ (l : List TicketView). world.tickets ++
           l) (sym (desk_gives_none ranges h event reply d named g.fits.reply));

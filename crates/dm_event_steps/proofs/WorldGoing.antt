@@ -8,6 +8,7 @@ use Rattle.dm_print_ledger.specs.declared.range.Range.{Range}
 use Rattle.dm_print_ledger.specs.Views.{TicketView}
 use Rattle.dm_assembly_desk.specs.declared.fault.ScanFault.{ScanFault}
 use Rattle.dm_assembly_desk.specs.declared.fault.ScanFault.TheVariants as scan_fault
+use Rattle.dm_assembly_desk.specs.declared.fault.ImportFault.TheVariants as import_fault
 use Rattle.dm_event_history.specs.declared.event.Event.{Event}
 use Rattle.dm_event_history.specs.declared.event.Event.TheVariants.{Print, Scan, RestartPrinter, RestartDesk, Ask, Forget, Give, Take, Export, Import}
 use Rattle.dm_event_history.specs.declared.reply.Reply.{Reply}
@@ -166,31 +167,35 @@ refused_more : {A : Type 0} (grids more : List GridView) (capacities : List ℕ)
 refused_more grids more capacities h d number flips scan_fault.Failed is = tt
 refused_more grids more capacities h d number flips (scan_fault.Label fault) is =
     beyond_more grids more number flips fault is
-refused_more grids more capacities h d number flips scan_fault.Conflict is = is
+refused_more grids more capacities h d number flips scan_fault.Conflict is =
+    λ clean. is (clean_less grids more h (AtDesk d) clean)
 refused_more grids more capacities h d number flips scan_fault.Full is =
-    (framed_more _ grids more number flips is.0, is.1)
+    (framed_more _ grids more number flips is.0, (λ clean. is.1 (clean_less grids more h (AtDesk d) clean)))
 refused_more grids more capacities h d number flips scan_fault.Memory is = framed_more _ grids more number flips is
 refused_more grids more capacities h d number flips scan_fault.Save is = framed_more _ grids more number flips is
 
 reply_more : {A : Type 0} (grids more : List GridView) (capacities : List ℕ) (h : History A) (event : Event A)
     (reply : Reply A) →
     IsHonestReply grids capacities h event reply → IsHonestReply (grids ++ more) capacities h event reply
-reply_more grids more capacities h (Scan d number flips stop) (Scanned a) is = framed_more _ grids more number flips is
+reply_more grids more capacities h (Scan d number flips stop) (Scanned a) is =
+    (framed_more _ grids more number flips is.0, is.1)
 reply_more grids more capacities h (Scan d number flips stop) (ScanRefused fault) is =
     refused_more grids more capacities h d number flips fault is
-reply_more grids more capacities h (Import d number stop) (ImportRefused fault) is = is
+reply_more grids more capacities h (Import d number stop) (ImportRefused import_fault.Conflict) is =
+    λ clean. is (clean_less grids more h (AtDesk d) clean)
+reply_more grids more capacities h (Import d number stop) (ImportRefused import_fault.Full) is =
+    λ clean. is (clean_less grids more h (AtDesk d) clean)
 reply_more grids more capacities h event reply is = tt
 
 replies_more : {A : Type 0} (grids more : List GridView) (capacities : List ℕ) (h : History A) →
     AreHonestReplies grids capacities h → AreHonestReplies (grids ++ more) capacities h
 replies_more grids more capacities [] is = tt
 replies_more grids more capacities (e ∷ h) is = (
-  (λ d actor brings clean. reply_more grids more capacities h e.event e.reply
+  (λ d actor brings. reply_more grids more capacities h e.event e.reply
       (is.0 d actor
       (brings_less grids more (λ export. IsClean (grids ++ more) h (InExport export))
       (λ export. IsClean grids h (InExport export)) (λ export. clean_less grids more h (InExport export)) e.event
-      brings)
-      (clean_less grids more h (AtDesk d) clean))),
+      brings))),
   replies_more grids more capacities h is.1,
 )
 
@@ -286,7 +291,7 @@ pub record IsAdded {A : Type 0} (ranges : List Range) (capacities : List ℕ) (w
   pub safe : (desk : ℕ) → actor_of entry.event ≡ DeskAt desk → IsClean (grids_of new) (entry ∷ h) (AtDesk desk) →
       IsReplySafe h entry.event entry.reply
   pub answers : (desk : ℕ) → actor_of entry.event ≡ DeskAt desk → BringsClean (grids_of new) h entry.event →
-      IsClean (grids_of new) h (AtDesk desk) → IsHonestReply (grids_of new) capacities h entry.event entry.reply
+      IsHonestReply (grids_of new) capacities h entry.event entry.reply
   pub tickets_are : new.tickets ≡ world.tickets ++ given entry.reply
   pub exports_more : List (LeftExport A)
   pub exports_are : new.exports ≡ world.exports ++ exports_more

@@ -56,15 +56,14 @@ abbrev pub quiet : {A : Type 0} → Event A → Reply A → Entry A
 quiet event reply = record { event = event; reply = reply; id = 0; parts = []; left = 0; saved = false }
 
 -- The entry of an event at a desk, with this event and this reply, fits the history, and the desk stands for the longer
--- one. If the desk is clean then, the reply is safe. If the desk was clean and the event brings nothing but what is
--- clean, it is refused for these reasons alone.
+-- one. If the desk is clean then, the reply is safe. If the event brings nothing but what is clean, it is answered
+-- so.
 pub record DeskGoes {A : Type 0} (ranges : List Range) (capacities : List ℕ) (grids : List GridView) (h : History A)
     (event : Event A) (reply : Reply A) (desk capacity : ℕ) (state : DeskState A) : Type 0 where
   pub fits : Fits ranges (length capacities) h (quiet event reply)
   pub stands : DeskStands grids (quiet event reply ∷ h) desk capacity state
   pub safe : IsClean grids (quiet event reply ∷ h) (AtDesk desk) → IsReplySafe h event reply
-  pub answers : BringsClean grids h event → IsClean grids h (AtDesk desk) →
-      IsHonestReply grids capacities h event reply
+  pub answers : BringsClean grids h event → IsHonestReply grids capacities h event reply
 
 -- the exports that left by an event are those of its reply, and show their pages
 pub record ExportsGo {A : Type 0} (grids : List GridView) (h : History A) (event : Event A) (reply : Reply A)

@@ -83,4 +83,4 @@ abbrev pub EachFairRunIsFaithful : Type 0 → Type 0
 EachFairRunIsFaithful A = (ranges : List Range) (capacities : List ℕ) (old new : WorldView A)
     (events : List (Event A)) (marks : List Bool) (replies : List (Reply A)) →
     StandsFor ranges capacities old [] → RunsMarked old events marks replies new →
-    HasBeenFaithful ranges (length capacities) new events marks replies
+    HasBeenFaithful ranges capacities new events marks replies

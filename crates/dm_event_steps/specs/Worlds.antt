@@ -140,9 +140,9 @@ AreItsLabels ranges world = IsNoLabelTwice (map name_of world.labels) × AreOpen
 
 -- The replies are faithful, by batches of just the labels that left the world. The marks say which events were found
 -- honest.
-pub record HasBeenFaithful {A : Type 0} (ranges : List Range) (desks : ℕ) (world : WorldView A)
+pub record HasBeenFaithful {A : Type 0} (ranges : List Range) (capacities : List ℕ) (world : WorldView A)
     (events : List (Event A)) (marks : List Bool) (replies : List (Reply A))
     : Type 0 where
   pub batches : List (Option Batch)
   pub its : AreItsBatches world batches
-  pub faithful : IsFaithfulBy ranges desks batches events marks replies
+  pub faithful : IsFaithfulBy ranges capacities batches events marks replies

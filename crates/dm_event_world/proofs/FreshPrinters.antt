@@ -1,7 +1,7 @@
 -- Printers that are created one after another.
 use Rattle.std.proofs.Common.{◌≡◌, ◌⊎◌, inl, inr, true, ◌++◌, ℕ, zero, suc, Some, None, List, [], ◌∷◌, length, slice_get, slice_index_or, refl, ap, sym, ◌∙◌, subst, arith}
 use Rattle.std.proofs.lemmas.Option.{slice_get-get_or, slice_get_within}
-use Rattle.dm_store.specs.Saved.{Saved, SavePlan, LoadsFine, SavesFine, Done, Follows}
+use Rattle.dm_store.specs.Saved.{Saved, SavePlan, MemoryOpen, LoadsFine, SavesFine, Done, Follows}
 use Rattle.dm_print_ledger.specs.declared.range.Range.{Range}
 use Rattle.dm_print_ledger.specs.Views.{PrinterView}
 use Rattle.dm_print_ledger.specs.Creating.{Creates}
@@ -45,7 +45,13 @@ one_more {A} ranges old new range actor number last new_is here fresh so_far i o
 
 -- a store that is new
 abbrev pub empty_store : Saved
-empty_store = record { content = None; is_honest = true; load_plan = LoadsFine; save_plan = SavesFine }
+empty_store = record {
+  content = None;
+  is_honest = true;
+  memory_plan = MemoryOpen;
+  load_plan = LoadsFine;
+  save_plan = SavesFine;
+}
 
 -- a printer that was created over one is fresh
 pub created_fresh : (A : Type 0) (saved : Saved) (number : ℕ) (range : Range) (view : PrinterView) →

@@ -120,11 +120,11 @@ is_there old new (Scan desk label flips stop) reply unfair steps none =
 is_there old new event reply unfair steps none = unfair (λ named. tt)
 
 -- the headline, by the batches of the run
-pub faithful_by : {A : Type 0} (ranges : List Range) (desks : ℕ) (old new : WorldView A) (events : List (Event A))
-    (answers : List (Answer A)) → AnswersAll old events answers new →
-    (f : HasBeenFaithful ranges desks new (given events answers) (marks answers) (replies answers)) →
-    IsFaithfulIfHonestBy ranges desks f.batches events answers
-faithful_by {A} ranges desks old new events answers runs f = record {
+pub faithful_by : {A : Type 0} (ranges : List Range) (capacities : List ℕ) (old new : WorldView A)
+    (events : List (Event A)) (answers : List (Answer A)) → AnswersAll old events answers new →
+    (f : HasBeenFaithful ranges capacities new (given events answers) (marks answers) (replies answers)) →
+    IsFaithfulIfHonestBy ranges capacities f.batches events answers
+faithful_by {A} ranges capacities old new events answers runs f = record {
   each_answer = (let t = as_many old new events answers runs in omega arith);
   not_given = λ i event asked answered.
       (let t = each_answered old new events answers runs i event NotGiven asked answered in

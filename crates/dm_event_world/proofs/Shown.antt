@@ -15,7 +15,7 @@ use Rattle.dm_event_history.specs.Tainted.{AtDesk, IsTainted}
 use Rattle.dm_event_history.proofs.Tainting.{is_tainted, untainted_by}
 use Rattle.dm_event_history.proofs.Refuted.{first_label}
 use Rattle.dm_event_history.specs.Worked.{digits, two_ranges}
-use Rattle.dm_event_history.specs.Unfaithful.{page, print, scan}
+use Rattle.dm_event_history.specs.Unfaithful.{page, print, scan, two_desks}
 use Rattle.dm_event_world.specs.Shown.{IsShownForGood, shown_events, shown_answers, worn, refused, stopped_events, stopped_answers, AreAnsweredWrongly}
 use Rattle.dm_event_world.specs.declared.answers.Answer.{Answer}
 use Rattle.dm_event_world.specs.declared.answers.Answer.TheVariants.{Given, NotGiven}
@@ -26,14 +26,12 @@ is_shown_for_good A (batches, f) = by_batches batches f
   where
     -- the scan is of label 0
     had : (batches : List (Option Batch)) →
-        IsFaithfulIfHonestBy two_ranges 2 batches (shown_events A) (shown_answers A) →
+        IsFaithfulIfHonestBy two_ranges two_desks batches (shown_events A) (shown_answers A) →
         slice_get (labels_of (take 1 batches)) 0 ≡ Some (record { id = 7; number = 1; count = 2 })
     had batches f =
         let s : IsScanOf batches (given (shown_events A) (shown_answers A)) 1
         (record { id = 7; number = 1; count = 2 }) =
-        f.faithful.scanned 1 0 0 [] stops.None (record { id = 7; m = 1; n = 2; kind = New }) refl refl refl
-        (untainted_by (given (shown_events A) (shown_answers A)) (marks (shown_answers A))
-        (replies (shown_answers A)) 1 (AtDesk 0) refl) in
+        f.faithful.scanned 1 0 0 [] stops.None (record { id = 7; m = 1; n = 2; kind = New }) refl refl refl in
         let e : Some (Scan 0 0 [] stops.None) ≡ Some (Scan s.desk s.label s.flips s.stop) = s.event in
         let label_is : 0 ≡ s.label = cc (e) in
         subst (λ (i : ℕ). slice_get (labels_of (take 1 batches)) i ≡ Some (record {
@@ -43,7 +41,7 @@ is_shown_for_good A (batches, f) = by_batches batches f
         })) (sym label_is) s.had_left
 
     by_batches : (batches : List (Option Batch)) →
-        IsFaithfulIfHonestBy two_ranges 2 batches (shown_events A) (shown_answers A) → ⊥
+        IsFaithfulIfHonestBy two_ranges two_desks batches (shown_events A) (shown_answers A) → ⊥
     by_batches [] f = (let x = had [] f in cc (x))
     by_batches (None ∷ rest) f = (let x = had (None ∷ rest) f in cc (x))
     by_batches (Some batch ∷ rest) f =
@@ -51,7 +49,8 @@ is_shown_for_good A (batches, f) = by_batches batches f
         let own : batch.id ≡ 7 =
         first_label batch [] (record { id = 7; number = 1; count = 2 }) p.not_none (had (Some batch ∷ rest) f) in
         let t = f.faithful.prints.told 3 7 1 2 refl in
-        let place : ◌≡◌ {A = ℕ} 0 3 = f.faithful.prints.once 0 3 batch t.batch refl t.there (own ∙ sym t.id_is) in omega arith
+        let place : ◌≡◌ {A = ℕ} 0 3 = f.faithful.prints.once 0 3 batch t.batch refl t.there (own ∙ sym t.id_is) in
+        omega arith
 
 pub are_answered_wrongly : (A : Type 0) → AreAnsweredWrongly A
 are_answered_wrongly A = record {

@@ -9,7 +9,7 @@ use Rattle.dm_event_history.specs.declared.event.Event.TheVariants.{Scan, Restar
 use Rattle.dm_event_history.specs.declared.reply.Reply.TheVariants.{Printed, Scanned, ScanRefused, Forgotten, Restarted, Stopped, Down, NoSuch}
 use Rattle.dm_event_history.specs.declared.stop.Stop.TheVariants.{None, BeforeSave, AfterLabels}
 use Rattle.dm_event_history.specs.Worked.{digits, two_ranges}
-use Rattle.dm_event_history.specs.Unfaithful.{other_digits, page, print, scan}
+use Rattle.dm_event_history.specs.Unfaithful.{other_digits, page, print, scan, two_desks}
 use Rattle.dm_event_world.specs.declared.answers.Answer.{Answer}
 use Rattle.dm_event_world.specs.declared.answers.Answer.TheVariants.{Given, NotGiven}
 use Rattle.dm_event_world.specs.Watched.{IsFaithfulIfHonest}
@@ -30,7 +30,7 @@ shown_answers A =
 
 -- what was shown while the scans were honest is shown for good
 abbrev pub IsShownForGood : Type 0 → Type 0
-IsShownForGood A = ¬ IsFaithfulIfHonest two_ranges 2 (shown_events A) (shown_answers A)
+IsShownForGood A = ¬ IsFaithfulIfHonest two_ranges two_desks (shown_events A) (shown_answers A)
 
 -- ---- answers that no world gives
 
@@ -56,31 +56,32 @@ stopped_answers A =
 -- Each of these would be allowed without the field that its comment names.
 pub record AreAnsweredWrongly (A : Type 0) : Type 0 where
   -- `each_answer`: an event without an answer
-  pub unanswered : ¬ IsFaithfulIfHonest {A = A} two_ranges 2 (Ask 0 0 ∷ []) []
+  pub unanswered : ¬ IsFaithfulIfHonest {A = A} two_ranges two_desks (Ask 0 0 ∷ []) []
   -- `not_given`: a print that is not given
-  pub print_not_given : ¬ IsFaithfulIfHonest {A = A} two_ranges 2 (print 0 digits None ∷ []) (NotGiven ∷ [])
+  pub print_not_given : ¬ IsFaithfulIfHonest {A = A} two_ranges two_desks (print 0 digits None ∷ []) (NotGiven ∷ [])
   -- `dishonest`: a restart that is found dishonest, a scan without flips, and one of what is not there
-  pub dishonest_restart : ¬ IsFaithfulIfHonest {A = A} two_ranges 2 (RestartPrinter 0 ∷ []) (Given false Restarted ∷ [])
-  pub dishonest_scan : ¬ IsFaithfulIfHonest {A = A} two_ranges 2 (print 0 digits None ∷ scan 0 ∷ [])
+  pub dishonest_restart : ¬ IsFaithfulIfHonest {A = A} two_ranges two_desks (RestartPrinter 0 ∷ [])
+      (Given false Restarted ∷ [])
+  pub dishonest_scan : ¬ IsFaithfulIfHonest {A = A} two_ranges two_desks (print 0 digits None ∷ scan 0 ∷ [])
       (Given true (Printed 0 0 2) ∷ Given false (Scanned (page 0 1 New)) ∷ [])
-  pub dishonest_of_none : ¬ IsFaithfulIfHonest {A = A} two_ranges 2 (Scan 0 0 ((0, 0) ∷ []) None ∷ [])
+  pub dishonest_of_none : ¬ IsFaithfulIfHonest {A = A} two_ranges two_desks (Scan 0 0 ((0, 0) ∷ []) None ∷ [])
       (Given false NoSuch ∷ [])
   -- `faithful`: an honest scan is refused for a conflict, without flips and with, whatever comes later
-  pub conflicting : ¬ IsFaithfulIfHonest {A = A} two_ranges 2 (print 0 digits None ∷ scan 0 ∷ [])
+  pub conflicting : ¬ IsFaithfulIfHonest {A = A} two_ranges two_desks (print 0 digits None ∷ scan 0 ∷ [])
       (Given true (Printed 0 0 2) ∷ Given true (ScanRefused Conflict) ∷ [])
-  pub conflicting_with_flips : ¬ IsFaithfulIfHonest {A = A} two_ranges 2 worn
+  pub conflicting_with_flips : ¬ IsFaithfulIfHonest {A = A} two_ranges two_desks worn
       (Given true (Printed 0 0 2) ∷ Given true (ScanRefused Conflict) ∷ [])
-  pub conflicting_at_first : ¬ IsFaithfulIfHonest {A = A} two_ranges 2
+  pub conflicting_at_first : ¬ IsFaithfulIfHonest {A = A} two_ranges two_desks
       (print 0 digits None ∷ scan 0 ∷ Scan 0 0 ((0, 0) ∷ []) None ∷ [])
       (Given true (Printed 0 0 2) ∷
       Given true (ScanRefused Conflict) ∷ Given false (Scanned (page 0 1 New)) ∷ [])
   -- `faithful`, at a desk at which a scan was not honest, but can't have saved its page: it was refused, stopped before
   -- its save, answered by a desk that was down, or not given. An honest one is refused for a conflict, and a document
   -- is forgotten of which no other label was scanned.
-  pub conflicting_after_refused : ¬ IsFaithfulIfHonest {A = A} two_ranges 2 (worn ++ scan 0 ∷ [])
+  pub conflicting_after_refused : ¬ IsFaithfulIfHonest {A = A} two_ranges two_desks (worn ++ scan 0 ∷ [])
       (refused ++ Given true (ScanRefused Conflict) ∷ [])
-  pub forgotten_after_refused : ¬ IsFaithfulIfHonest {A = A} two_ranges 2 (worn ++ Forget 0 0 None ∷ [])
+  pub forgotten_after_refused : ¬ IsFaithfulIfHonest {A = A} two_ranges two_desks (worn ++ Forget 0 0 None ∷ [])
       (refused ++ Given true Forgotten ∷ [])
-  pub forgotten_after_stopped : ¬ IsFaithfulIfHonest {A = A} two_ranges 2 (stopped_events A) (stopped_answers A)
-  pub forgotten_after_not_given : ¬ IsFaithfulIfHonest {A = A} two_ranges 2 (worn ++ Forget 0 0 None ∷ [])
+  pub forgotten_after_stopped : ¬ IsFaithfulIfHonest {A = A} two_ranges two_desks (stopped_events A) (stopped_answers A)
+  pub forgotten_after_not_given : ¬ IsFaithfulIfHonest {A = A} two_ranges two_desks (worn ++ Forget 0 0 None ∷ [])
       (Given true (Printed 0 0 2) ∷ NotGiven ∷ Given true Forgotten ∷ [])

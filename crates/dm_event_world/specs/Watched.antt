@@ -43,9 +43,8 @@ HasFlips event = ⊥
 
 -- No identification was printed twice, and what is told by a desk that no dishonest scan has tainted is faithful:
 -- whatever document it gives for an identification is the one document printed under it.
-pub record IsFaithfulIfHonestBy {A : Type 0} (ranges : List Range) (desks : ℕ) (batches : List (Option Batch))
-    (events : List (Event A)) (answers : List (Answer A))
-    : Type 0 where
+pub record IsFaithfulIfHonestBy {A : Type 0} (ranges : List Range) (capacities : List ℕ)
+    (batches : List (Option Batch)) (events : List (Event A)) (answers : List (Answer A)) : Type 0 where
   -- each event has an answer
   pub each_answer : length answers ≡ length events
   -- only a scan is not given to the world
@@ -55,12 +54,12 @@ pub record IsFaithfulIfHonestBy {A : Type 0} (ranges : List Range) (desks : ℕ)
   pub dishonest : (i : ℕ) (event : Event A) (reply : Reply A) → slice_get events i ≡ Some event →
       slice_get answers i ≡ Some (Given false reply) → HasFlips event × (reply ≢ NoSuch)
   -- the headline, of those that were given
-  pub faithful : IsFaithfulBy ranges desks batches (given events answers) (marks answers) (replies answers)
+  pub faithful : IsFaithfulBy ranges capacities batches (given events answers) (marks answers) (replies answers)
 
--- the headline, of printers that begin with these ranges, and of that many desks
-abbrev pub IsFaithfulIfHonest : {A : Type 0} → List Range → ℕ → List (Event A) → List (Answer A) → Type 0
-IsFaithfulIfHonest ranges desks events answers =
-    (batches : List (Option Batch)) × IsFaithfulIfHonestBy ranges desks batches events answers
+-- the headline, of printers that begin with these ranges, and of a desk for each capacity
+abbrev pub IsFaithfulIfHonest : {A : Type 0} → List Range → List ℕ → List (Event A) → List (Answer A) → Type 0
+IsFaithfulIfHonest ranges capacities events answers =
+    (batches : List (Option Batch)) × IsFaithfulIfHonestBy ranges capacities batches events answers
 
 -- ---- what the answers are
 
@@ -94,5 +93,5 @@ pub record RunsFromTheStart {A : Type 0} (ranges : List Range) (capacities : Lis
   pub answered : AnswersAll old events answers new
   pub batches : List (Option Batch)
   pub its : AreItsBatches new batches
-  pub faithful : IsFaithfulIfHonestBy ranges (length capacities) batches events answers
+  pub faithful : IsFaithfulIfHonestBy ranges capacities batches events answers
   pub labels : AreItsLabels ranges new

@@ -80,7 +80,7 @@ pub fn watch<A: Allocator + Copy>(
 ) -> Result<Vec<Answer<A>, A>, WorldFault>
     // Whatever document a desk that is not tainted gave is the one that was printed under its identification.
     ensures headline { IfOk result (λ answers.
-        IsFaithfulIfHonest ranges.now (length capacities.now) events.now answers.items) }
+        IsFaithfulIfHonest ranges.now capacities.now events.now answers.items) }
     // No identification was printed twice, whatever the events were.
     ensures once { IfOk result (λ answers.
         PrintsOnce ranges.now (length capacities.now) (given events.now answers.items) (replies answers.items)) }

@@ -1,12 +1,9 @@
 -- A document has as many labels as its parts have ends, and so one number of them.
-use Rattle.std.proofs.Common.{◌≡◌, ℕ, List, length, Option, Some, None, Ok, Err, refl, sym, ap, ◌∙◌}
+use Rattle.std.proofs.Common.{◌≡◌, ℕ, List, length, Option, Some, None, refl, sym, ap, ◌∙◌}
 use Rattle.dm_check_blocks.specs.declared.size.Size.{Size}
 use Rattle.dm_encodation.specs.declared.scheme.Scheme.{Scheme}
-use Rattle.dm_append_label.specs.Parts.{AreEnds, AreParts, HasNoEnds, HasOneCut, parts_from}
+use Rattle.dm_append_label.specs.Parts.{AreEnds, HasNoEnds, HasOneCut, parts_from}
 use Rattle.dm_print_ledger.specs.Planning.{CountsPrints, HasLabels, HasNoLabels}
-use Rattle.dm_print_ledger.specs.Printing.{Prints}
-use Rattle.dm_print_ledger.specs.Views.{JobView, PrinterView}
-use Rattle.dm_print_ledger.specs.declared.fault.PrintFault.TheVariants.{TooLong}
 use Rattle.dm_print_ledger.proofs.LabelLaws.{length-parts_from}
 
 -- as many labels as ends

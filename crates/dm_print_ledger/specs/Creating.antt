@@ -1,6 +1,6 @@
 -- What the creation of a printer does to a store.
 use Rattle.std.specs.Prelude.{◌≡◌, ◌⊎◌, ℕ, [], ◌∷◌, false, None, Ok, Err, IsTrue, IsSome}
-use Rattle.dm_store.specs.Saved.{Saved, Replaces, LoadsOpen}
+use Rattle.dm_store.specs.Saved.{Saved, Replaces, MemoryOpen, LoadsOpen}
 use Rattle.dm_store.specs.declared.store.ReplaceFault.TheVariants as replacing
 use Rattle.dm_print_ledger.specs.declared.range.Range.{Range}
 use Rattle.dm_print_ledger.specs.declared.fault.CreateFault.{CreateFault}
@@ -35,4 +35,5 @@ HasCreateFault old number range creating.Exists new =
     IsRange range × (IsTrue old.is_honest → IsSome old.content) × (new ≡ old)
 HasCreateFault old number range creating.Range new = (¬ IsRange range) × (new ≡ old)
 HasCreateFault old number range creating.Device new = IsRange range × FailsToCreate old (opening number range) new
-HasCreateFault old number range creating.Memory new = IsRange range × (new ≡ old)
+HasCreateFault old number range creating.Memory new =
+    IsRange range × (new ≡ old) × (old.memory_plan ≡ MemoryOpen)

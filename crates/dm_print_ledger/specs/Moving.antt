@@ -1,5 +1,6 @@
 -- What a printer does to a part of its free numbers, and to a ticket.
 use Rattle.std.specs.Prelude.{◌≡◌, ◌≢◌, ◌+◌, ◌<◌, ◌≤◌, ℕ, List, length, true, false, None, Ok, Err, Result, IsSomeAnd, IfSome}
+use Rattle.dm_store.specs.Saved.{MemoryOpen}
 use Rattle.dm_print_ledger.specs.declared.range.Range.{Range}
 use Rattle.dm_print_ledger.specs.declared.limits.TheConstants.{MOST_RANGES, MOST_GIVERS}
 use Rattle.dm_print_ledger.specs.declared.fault.GiveFault.{GiveFault}
@@ -72,7 +73,8 @@ abbrev pub Gives : PrinterView → ℕ → Range → Result TicketView GiveFault
 Gives old receiver range (Ok ticket) new =
     CanGive old receiver range × (ticket ≡ ticket_of old.ledger receiver range)
     × GivesAway old.ledger range new.ledger × Saves old new.ledger new
-Gives old receiver range (Err giving.Memory) new = CanGive old receiver range × (new ≡ old)
+Gives old receiver range (Err giving.Memory) new =
+    CanGive old receiver range × (new ≡ old) × (old.saved.memory_plan ≡ MemoryOpen)
 Gives old receiver range (Err giving.Save) new =
     CanGive old receiver range × (unsaved : LedgerView) × GivesAway old.ledger range unsaved
     × FailsToSave old unsaved new
@@ -126,7 +128,8 @@ CanTake printer ticket =
 -- what a printer answers to a ticket that it is to take, and what it is then
 abbrev pub Takes : PrinterView → TicketView → Result (Unit {0}) TakeFault → PrinterView → Type 0
 Takes old ticket (Ok _) new = CanTake old ticket × TakesIn old.ledger ticket new.ledger × Saves old new.ledger new
-Takes old ticket (Err taking.Memory) new = CanTake old ticket × (new ≡ old)
+Takes old ticket (Err taking.Memory) new =
+    CanTake old ticket × (new ≡ old) × (old.saved.memory_plan ≡ MemoryOpen)
 Takes old ticket (Err taking.Save) new =
     CanTake old ticket × (unsaved : LedgerView) × TakesIn old.ledger ticket unsaved × FailsToSave old unsaved new
 Takes old ticket (Err taking.Failed) new = CannotTake old ticket taking.Failed × (new ≡ old)

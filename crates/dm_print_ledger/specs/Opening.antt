@@ -1,6 +1,6 @@
 -- What a store gives to a printer that is opened on it.
 use Rattle.std.specs.Prelude.{◌≡◌, ◌⊎◌, false, None, ℕ, IsTrue, IsSomeAnd}
-use Rattle.dm_store.specs.Saved.{Saved, LoadsOpen}
+use Rattle.dm_store.specs.Saved.{Saved, MemoryOpen, LoadsOpen}
 use Rattle.dm_print_ledger.specs.declared.fault.OpenFault.{OpenFault}
 use Rattle.dm_print_ledger.specs.declared.fault.OpenFault.TheVariants.{Absent, NotALedger, Version, Damaged, Number, Device, Memory}
 use Rattle.dm_print_ledger.specs.Ledger.{IsNoLedger, IsOfOtherVersion, IsDamaged, IsOfOtherNumber}
@@ -32,7 +32,7 @@ HasOpenFault saved number Version = IsTrue saved.is_honest → HoldsNone saved n
 HasOpenFault saved number Damaged = IsTrue saved.is_honest → HoldsNone saved number Damaged
 HasOpenFault saved number Number = IsTrue saved.is_honest → HoldsNone saved number Number
 HasOpenFault saved number Device = saved.load_plan ≡ LoadsOpen
-HasOpenFault saved number Memory = Unit {0}
+HasOpenFault saved number Memory = saved.memory_plan ≡ MemoryOpen
 
 -- the load failed: that alone keeps a printer from an honest store that holds a ledger of its number
 abbrev pub MayFailToLoad : OpenFault → Type 0

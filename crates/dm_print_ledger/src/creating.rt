@@ -1,7 +1,7 @@
 //! Printers that are new.
 
 ghost use Rattle.std.specs.Prelude.{Ok, Err, ◌≡◌, ◌≢◌, None, IsSome, IsTrue, IfOk, IfErr, OnOk, IsErrOf};
-ghost use Rattle.dm_store.specs.Saved.{Replaces};
+ghost use Rattle.dm_store.specs.Saved.{Replaces, MemoryOpen};
 ghost use Rattle.dm_print_ledger.specs.Creating.{FailsToCreate, opening};
 ghost use Rattle.dm_print_ledger.specs.Ledger.{IsSound, ledger_bytes};
 ghost use Rattle.dm_print_ledger.specs.Ranges.{IsRange};
@@ -85,6 +85,7 @@ fn save_first<S: Store>(store: &mut S, ledger: &Ledger) -> Result<(), CreateFaul
     ensures exists { IsErrOf result CreateFault.Exists → IsTrue (S.state store.old).is_honest →
         IsSome (S.state store.old).content }
     ensures same { IfErr result (λ fault. fault ≢ CreateFault.Device → S.state store.new ≡ S.state store.old) }
+    ensures memory { IsErrOf result CreateFault.Memory → (S.state store.old).memory_plan ≡ MemoryOpen }
     ensures device { IsErrOf result CreateFault.Device →
         FailsToCreate (S.state store.old) ledger.now (S.state store.new) }
     ensures range { result ≢ Err CreateFault.Range }

@@ -35,6 +35,7 @@ impl<S: Store, A: Allocator + Copy> Printer<S, A> {
     ghost use Rattle.dm_print_ledger.specs.Ledger.{IsSound};
     ghost use Rattle.dm_print_ledger.specs.Ranges.{free_count};
     ghost use Rattle.dm_print_ledger.specs.Saving.{Saves, FailsToSave};
+    ghost use Rattle.dm_store.specs.Saved.{MemoryOpen};
 
     /// How many identifications are free, as last known to be saved: 0 to 64,516.
     pub fn left(&self) -> u32
@@ -63,6 +64,7 @@ impl<S: Store, A: Allocator + Copy> Printer<S, A> {
         requires sound { IsSound next }
         ensures ok { OnOk result (Saves self.old next self.new) }
         ensures memory { IsErrOf result ReplaceFault.Memory → self.new ≡ self.old }
+        ensures plan { IsErrOf result ReplaceFault.Memory → self.old.saved.memory_plan ≡ MemoryOpen }
         ensures device { IsErrOf result ReplaceFault.Device → FailsToSave self.old next self.new }
     {
         let bytes = bytes_of(&next);

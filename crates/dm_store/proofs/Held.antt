@@ -1,5 +1,5 @@
 -- The finite map of what is found at each key.
-use Rattle.std.proofs.Common.{List, ◌≡◌, ◌≢◌, ◌<◌, ◌≤◌, ◌∙◌, ◌⊎◌, inl, inr, ⊎_elim, ℕ, zero, suc, cond, Bool, true, false, Some, None, refl, sym, ap, arith}
+use Rattle.std.proofs.Common.{List, ◌≡◌, ◌≢◌, ◌<◌, ◌≤◌, ◌∙◌, ⊎_elim, ℕ, zero, suc, cond, true, false, Some, None, refl, sym, ap, arith}
 use Rattle.std.specs.Ordering.{nat_cmp, eq_by_cmp}
 use Rattle.std.proofs.lemmas.Bool.{cases_lt, cases_eq}
 use Rattle.std.specs.Cmp.{nat_cmp_total}

@@ -1,7 +1,7 @@
 -- What a call on one key's file does to the set in the folder.
-use Rattle.std.proofs.Common.{◌≡◌, ◌≢◌, ◌<◌, ◌^◌, ◌∙◌, inl, inr, ⊎_elim, ℕ, List, Bool, true, false, Option, Some, None, Result, Ok, Err, refl, sym, ap, subst}
-use Rattle.std.specs.Prelude.{IsTrue, IsErr, IsOk, IsErrOf, IsSome, IfOk, take, if◌then◌else◌, ◌+◌}
-use Rattle.std.specs.FinMap.{get, insert, remove}
+use Rattle.std.proofs.Common.{◌≡◌, ◌≢◌, ◌<◌, ◌^◌, ◌∙◌, inl, inr, ⊎_elim, ℕ, List, Bool, true, false, Option, Some, None, Result, Ok, Err, refl, sym, ap}
+use Rattle.std.specs.Prelude.{IsTrue, IsErrOf, IfOk, take, if◌then◌else◌, ◌+◌}
+use Rattle.std.specs.FinMap.{insert, remove}
 use Rattle.std.specs.FinMap as map
 use Rattle.std.proofs.lemmas.Bool.{cases_eq}
 use Rattle.dm_store.specs.declared.store.LoadFault.{LoadFault}
@@ -9,9 +9,9 @@ use Rattle.dm_store.specs.declared.store.ReplaceFault.{ReplaceFault}
 use Rattle.dm_store.specs.declared.store.ReplaceFault.TheVariants as replacing
 use Rattle.dm_store.specs.declared.set.RemoveFault.{RemoveFault}
 use Rattle.dm_store.specs.declared.set.RemoveFault.TheVariants as removing
-use Rattle.dm_store.specs.Sets.{ListsKeys, LoadsKey, Saves, ReplacesKey, RemovesKey, outcome_of_remove}
+use Rattle.dm_store.specs.Sets.{ListsKeys, LoadsKey, Saves, SavesKey, ReplacesKey, RemovesKey, outcome_of_remove}
 use Rattle.dm_store.specs.Disk.{DiskState, Content, Keeps, KeepsAll, Reads, SavesFile, RemovesFile, draft_of}
-use Rattle.dm_store.specs.Folder.{key_path, found_in, set_in, held_below}
+use Rattle.dm_store.specs.Folder.{key_path, found_in, set_in}
 use Rattle.dm_store.proofs.Held.{held_at, held_same, held_kept, held_replaced, held_removed}
 use Rattle.dm_store.proofs.Names.{names_apart, draft_apart}
 
@@ -38,6 +38,7 @@ module _ (old new : DiskState) (folder : List ℕ) (honesty : new.is_honest ≡ 
   alike same = λ i. record {
     content = same i;
     is_honest = honesty i;
+    memory_plan = (set_in old folder).memory_plan;
     load_plan = (set_in old folder).load_plan;
     save_plan = (set_in old folder).save_plan;
   }
@@ -54,6 +55,7 @@ module _ (old new : DiskState) (folder : List ℕ) (honesty : new.is_honest ≡ 
     same = set_kept kept;
     saved = λ honest. rw (held_at (found_in old folder) (2 ^ 16) key lt, found_is old folder key honest) (reads honest);
     device = λ _. refl;
+    memory = λ _. refl;
   }
 
   -- the keys whose files are as they were
@@ -86,13 +88,14 @@ module _ (old new : DiskState) (folder : List ℕ) (honesty : new.is_honest ≡ 
   unchanged key now others = held_kept (found_in old folder) (found_in new folder) (2 ^ 16) key
       (found_same key (λ _. now)) others
 
-  pub set_replaces : (key : ℕ) (bytes : List ℕ) (answer : Result (Unit {0}) ReplaceFault) → key < 2 ^ 16
+  saves_replaced : (key : ℕ) (bytes : List ℕ) (answer : Result (Unit {0}) ReplaceFault) → key < 2 ^ 16
       → (IsErrOf answer replacing.Memory → KeepsAll old new)
       → (IsTrue old.is_honest
       → SavesFile old (key_path folder key) (draft_of (key_path folder key)) bytes answer new)
-      → ReplacesKey (set_in old folder) key bytes answer (set_in new folder)
-  set_replaces key bytes (Ok done) lt refused saves = record {
+      → SavesKey (set_in old folder) key bytes answer (set_in new folder)
+  saves_replaced key bytes (Ok done) lt refused saves = record {
     same_honesty = honesty;
+    same_memory_plan = refl;
     same_load_plan = refl;
     follows = refl;
     done = λ _ honest. replaced key bytes lt honest ((saves honest).done refl)
@@ -100,8 +103,9 @@ module _ (old new : DiskState) (folder : List ℕ) (honesty : new.is_honest ≡ 
     refused = λ is. cc;
     faulted = λ is. cc;
   }
-  set_replaces key bytes (Err replacing.Device) lt refused saves = record {
+  saves_replaced key bytes (Err replacing.Device) lt refused saves = record {
     same_honesty = honesty;
+    same_memory_plan = refl;
     same_load_plan = refl;
     follows = refl;
     done = λ is. cc;
@@ -110,8 +114,9 @@ module _ (old new : DiskState) (folder : List ℕ) (honesty : new.is_honest ≡ 
         ⊎_elim (λ before. inl (unchanged key before others))
         (λ after. inr (replaced key bytes lt honest after others)) ((saves honest).failed refl);
   }
-  set_replaces key bytes (Err replacing.Memory) lt refused saves = record {
+  saves_replaced key bytes (Err replacing.Memory) lt refused saves = record {
     same_honesty = honesty;
+    same_memory_plan = refl;
     same_load_plan = refl;
     follows = refl;
     done = λ is. cc;
@@ -119,12 +124,21 @@ module _ (old new : DiskState) (folder : List ℕ) (honesty : new.is_honest ≡ 
     faulted = λ is. cc;
   }
 
+  pub set_replaces : (key : ℕ) (bytes : List ℕ) (answer : Result (Unit {0}) ReplaceFault) → key < 2 ^ 16
+      → (IsErrOf answer replacing.Memory → KeepsAll old new)
+      → (IsTrue old.is_honest
+      → SavesFile old (key_path folder key) (draft_of (key_path folder key)) bytes answer new)
+      → ReplacesKey (set_in old folder) key bytes answer (set_in new folder)
+  set_replaces key bytes answer lt refused saves =
+      record { saves = saves_replaced key bytes answer lt refused saves; memory = λ _. refl }
+
   saves_removed : (key : ℕ) (answer : Result (Unit {0}) RemoveFault) → key < 2 ^ 16
       → (IsErrOf answer removing.Memory → KeepsAll old new)
       → (IsTrue old.is_honest → RemovesFile old (key_path folder key) answer new) →
       Saves (set_in old folder) (remove (set_in old folder).content key) (outcome_of_remove answer) (set_in new folder)
   saves_removed key (Ok done) lt refused removes = record {
     same_honesty = honesty;
+    same_memory_plan = refl;
     same_load_plan = refl;
     follows = refl;
     done = λ _ honest. removed key lt honest ((removes honest).removes.done refl)
@@ -134,6 +148,7 @@ module _ (old new : DiskState) (folder : List ℕ) (honesty : new.is_honest ≡ 
   }
   saves_removed key (Err removing.Device) lt refused removes = record {
     same_honesty = honesty;
+    same_memory_plan = refl;
     same_load_plan = refl;
     follows = refl;
     done = λ is. cc;
@@ -144,6 +159,7 @@ module _ (old new : DiskState) (folder : List ℕ) (honesty : new.is_honest ≡ 
   }
   saves_removed key (Err removing.Memory) lt refused removes = record {
     same_honesty = honesty;
+    same_memory_plan = refl;
     same_load_plan = refl;
     follows = refl;
     done = λ is. cc;
@@ -177,13 +193,15 @@ module _ (old new : DiskState) (folder : List ℕ) (honesty : new.is_honest ≡ 
         alike (held_same (found_in old folder) (found_in new folder) (2 ^ 16) (λ k k_lt. found_same k (λ honest.
         kept_if_none key answer lt (removes honest) (sym (found_is old folder key honest) ∙ before) k k_lt)));
     absent_done = λ _ _. refl;
+    memory = λ _. refl;
   }
 
   pub set_lists : {V : Type 0} (keys : V → List ℕ) (limit : ℕ) (answer : Result V LoadFault) → KeepsAll old new
       → (IsTrue old.is_honest
       → IfOk answer (λ listed. keys listed ≡ take (limit + 1) (map.keys (set_in old folder).content)))
       → ListsKeys keys (set_in old folder) limit answer (set_in new folder)
-  set_lists keys limit answer kept lists = record { same = set_kept kept; saved = lists; device = λ _. refl }
+  set_lists keys limit answer kept lists =
+      record { same = set_kept kept; saved = lists; device = λ _. refl; memory = λ _. refl }
 
   pub replace_keeps : (key : ℕ) (bytes : List ℕ) {F : Type 0} (answer : Result (Unit {0}) F) → key < 2 ^ 16
       → (IsTrue old.is_honest

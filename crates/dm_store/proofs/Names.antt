@@ -1,10 +1,10 @@
 -- The names of two keys' files are apart, and each is apart from the draft of another.
-use Rattle.std.proofs.Common.{◌≡◌, ◌∙◌, ◌≢◌, ◌<◌, ◌+◌, ◌-◌, ◌*◌, ◌/◌, ◌%◌, ◌^◌, ◌++◌, ◌∷◌, [], ℕ, List, false, length, get_or, refl, sym, ap, arith, length-append}
+use Rattle.std.proofs.Common.{◌≡◌, ◌∙◌, ◌≢◌, ◌<◌, ◌+◌, ◌-◌, ◌*◌, ◌/◌, ◌%◌, ◌^◌, ◌++◌, ℕ, List, false, length, get_or, refl, sym, ap, arith, length-append}
 use Rattle.std.specs.Prelude.{codes, if◌then◌else◌, nat_lt}
 use Rattle.std.specs.Fmt.{digit_glyph}
 use Rattle.std.proofs.lemmas.List.{append_cancel_left}
 use Rattle.dm_store.specs.Disk.{draft_of}
-use Rattle.dm_store.specs.Folder.{key_name, key_path, path_in}
+use Rattle.dm_store.specs.Folder.{key_name, key_path}
 
 -- the digit that a letter shows
 abbrev digit_of : ℕ → ℕ

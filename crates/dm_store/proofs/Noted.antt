@@ -1,7 +1,7 @@
 -- A sync of an entry that is noted meets the contract of a disk.
-use Rattle.std.proofs.Common.{◌≡◌, ℕ, List, [], ◌∷◌, Some, None, Result, Ok, Bool, true, false, refl, sym, ap, subst, String, Err}
+use Rattle.std.proofs.Common.{◌≡◌, ℕ, List, ◌∷◌, Some, None, Result, Ok, Bool, true, false, refl, sym, ap, subst, String, Err}
 use Rattle.std.proofs.lemmas.Slice.Eq.{bytes_eq-Decides}
-use Rattle.std.specs.Prelude.{is_none, OnOk, OnErr, ◌||◌, if◌then◌else◌}
+use Rattle.std.specs.Prelude.{OnOk, OnErr, if◌then◌else◌}
 use Rattle.std.specs.Str.{bytes_eq}
 use Rattle.std.specs.String.{string_bytes}
 use Rattle.dm_store.specs.declared.disk.DiskFault.{DiskFault}

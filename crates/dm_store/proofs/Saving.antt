@@ -1,7 +1,7 @@
 -- What each step of a save leaves under the store's name, and what the save has done where it ends at that step.
 use Rattle.std.proofs.Common.{◌≡◌, ◌≢◌, inl, inr, ⊎_elim, ℕ, List, Some, Result, Ok, Err, refl, ◌∙◌}
 use Rattle.std.specs.Prelude.{IsOk, IsErr}
-use Rattle.dm_store.specs.Disk.{DiskState, Keeps, KeepsAll, Renames, Removes, SyncsEntry, SavesFile, RemovesFile, IsSettled}
+use Rattle.dm_store.specs.Disk.{DiskState, Keeps, KeepsAll, Renames, Removes, SyncsEntry, SavesFile, RemovesFile}
 use Rattle.dm_store.specs.declared.disk.DiskFault.{DiskFault}
 
 -- an answer is not both

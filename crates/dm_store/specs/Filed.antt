@@ -1,6 +1,6 @@
 -- What contracts see of a store in a file: its disk, and the name of its file.
 use Rattle.std.specs.Prelude.{ℕ, List}
-use Rattle.dm_store.specs.Saved.{Saved, LoadsOpen, SavesOpen}
+use Rattle.dm_store.specs.Saved.{Saved, MemoryOpen, LoadsOpen, SavesOpen}
 use Rattle.dm_store.specs.Disk.{DiskState}
 
 pub record Filed (D : Type 0) : Type 0 where
@@ -12,6 +12,7 @@ abbrev pub saved_under : DiskState → List ℕ → Saved
 saved_under disk path = record {
   content = disk.seen path;
   is_honest = disk.is_honest;
+  memory_plan = MemoryOpen;
   load_plan = LoadsOpen;
   save_plan = SavesOpen;
 }

@@ -2,7 +2,7 @@
 use Rattle.std.specs.Prelude.{◌/◌, ◌%◌, ◌^◌, ◌++◌, ℕ, zero, suc, false, List, [], ◌∷◌, codes, None, Some, if◌then◌else◌}
 use Rattle.std.specs.Fmt.{digit_glyph}
 use Rattle.std.specs.FinMap as map
-use Rattle.dm_store.specs.Saved.{LoadsOpen, SavesOpen}
+use Rattle.dm_store.specs.Saved.{MemoryOpen, LoadsOpen, SavesOpen}
 use Rattle.dm_store.specs.Sets.{Contents, SavedSet}
 use Rattle.dm_store.specs.Disk.{DiskState, Content}
 
@@ -40,6 +40,7 @@ abbrev pub set_in : DiskState → List ℕ → SavedSet
 set_in disk folder = record {
   content = held_below (found_in disk folder) (2 ^ 16);
   is_honest = disk.is_honest;
+  memory_plan = MemoryOpen;
   load_plan = LoadsOpen;
   save_plan = SavesOpen;
 }

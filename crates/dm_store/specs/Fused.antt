@@ -11,7 +11,7 @@ pub record Fused (S : Type 0) : Type 0 where
   pub left : Option ℕ
   pub kept : Kept
 
--- a store behind a fuse holds what the store within holds, and each call may fail
+-- a store behind a fuse holds what the store within holds, lacks memory as that does, and each call may fail
 abbrev pub with_open_plans : Saved → Saved
 with_open_plans store = record store { load_plan = LoadsOpen; save_plan = SavesOpen }
 

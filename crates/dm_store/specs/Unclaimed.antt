@@ -1,7 +1,7 @@
 -- What contracts see of the files of the system: nothing is claimed of what they hold.
 use Rattle.std.specs.Prelude.{false, None, ⊤}
 use Rattle.std.specs.FinMap as map
-use Rattle.dm_store.specs.Saved.{LoadsOpen, SavesOpen}
+use Rattle.dm_store.specs.Saved.{MemoryOpen, LoadsOpen, SavesOpen}
 use Rattle.dm_store.specs.Sets.{SavedSet}
 use Rattle.dm_store.specs.Disk.{DiskState}
 
@@ -16,4 +16,10 @@ unclaimed = record {
 
 -- a set that is not honest, so that no law speaks of its content, and each call of which may fail
 abbrev pub unclaimed_set : SavedSet
-unclaimed_set = record { content = map.empty; is_honest = false; load_plan = LoadsOpen; save_plan = SavesOpen }
+unclaimed_set = record {
+  content = map.empty;
+  is_honest = false;
+  memory_plan = MemoryOpen;
+  load_plan = LoadsOpen;
+  save_plan = SavesOpen;
+}

@@ -1,6 +1,6 @@
 //! A set of stores in memory.
 
-ghost use Rattle.std.specs.Prelude.{◌≡◌, ◌+◌, ◌↔◌, true, option_map, IsErrOf};
+ghost use Rattle.std.specs.Prelude.{◌≡◌, ◌+◌, ◌↔◌, true, option_map, IsErrOf, IsSome};
 ghost use Rattle.std.specs.FinMap as map;
 
 use crate::key_map::KeyMap;
@@ -50,6 +50,7 @@ pub struct MemSet<A: Allocator + Copy = Global> {
 
 impl<A: Allocator + Copy> Model for MemSet<A> {
     ghost use Rattle.std.specs.Prelude.{true};
+    ghost use Rattle.dm_store.specs.Saved.{MemoryOpen};
     ghost use Rattle.dm_store.specs.Sets.{SavedSet};
     ghost use Rattle.dm_store.specs.Codes.{saved_set_code};
     ghost use Rattle.dm_store.specs.Settings.{load_plan_of, save_plan_of};
@@ -61,13 +62,14 @@ impl<A: Allocator + Copy> Model for MemSet<A> {
     ghost view = { λ m. record {
       content = m.held;
       is_honest = true;
+      memory_plan = MemoryOpen;
       load_plan = load_plan_of m.fails_loads;
       save_plan = save_plan_of m.next_save;
     } };
 }
 
 impl<A: Allocator + Copy> MemSet<A> {
-    ghost use Rattle.dm_store.specs.Saved.{LoadsFine, SavesFine};
+    ghost use Rattle.dm_store.specs.Saved.{MemoryOpen, LoadsFine, SavesFine};
     ghost use Rattle.dm_store.specs.Settings.{load_plan_of, save_plan_of};
 
     /// A set that holds nothing. It takes no memory.
@@ -75,6 +77,7 @@ impl<A: Allocator + Copy> MemSet<A> {
         ensures { result ≡ record {
           content = map.empty;
           is_honest = true;
+          memory_plan = MemoryOpen;
           load_plan = LoadsFine;
           save_plan = SavesFine;
         } }
@@ -115,7 +118,8 @@ impl<A: Allocator + Copy> MemSet<A> {
 
 impl<A: Allocator + Copy> StoreSet for MemSet<A> {
     ghost use Rattle.dm_store.specs.Saved.{LoadsOpen};
-    ghost use Rattle.dm_store.specs.Sets.{ListsKeys, LoadsKey};
+    ghost use Rattle.std.specs.Prelude.{◌≢◌, Err};
+    ghost use Rattle.dm_store.specs.Sets.{ListsKeys, LoadsKey, RemovesKey};
 
     type Memory = A;
 
@@ -137,6 +141,8 @@ impl<A: Allocator + Copy> StoreSet for MemSet<A> {
     fn load(&mut self, key: u16, limit: usize) -> Result<Option<Vec<u8, A>>, LoadFault>
         ensures loads { LoadsKey (λ bytes. bytes.items) self.old key limit result self.new }
         ensures device { IsErrOf result LoadFault.Device ↔ (self.old.load_plan ≡ LoadsOpen) }
+        // Nothing that isn't there takes memory.
+        ensures memory { IsErrOf result LoadFault.Memory → IsSome (map.get self.old.content key) }
     {
         if self.fails_loads {
             return Err(LoadFault::Device);
@@ -166,7 +172,11 @@ impl<A: Allocator + Copy> StoreSet for MemSet<A> {
         }
     }
 
-    fn remove(&mut self, key: u16) -> Result<(), RemoveFault> {
+    fn remove(&mut self, key: u16) -> Result<(), RemoveFault>
+        ensures removes { RemovesKey self.old key result self.new }
+        // It takes no memory.
+        ensures memory { result ≢ Err RemoveFault.Memory }
+    {
         if self.held.get(key).is_none() {
             return Ok(());
         }

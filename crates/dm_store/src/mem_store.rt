@@ -1,6 +1,6 @@
 //! A store in memory.
 
-ghost use Rattle.std.specs.Prelude.{◌≡◌, ◌+◌, ◌↔◌, true, None, Some, option_map, take, IfOk, IsErrOf};
+ghost use Rattle.std.specs.Prelude.{◌≡◌, ◌+◌, ◌↔◌, true, None, Some, option_map, take, IfOk, IsErrOf, IsSome};
 
 use crate::store::{LoadFault, ReplaceFault, Store};
 use std::alloc::{AllocError, Allocator, Global};
@@ -18,7 +18,8 @@ pub enum NextSave {
     FaultNew,
 }
 
-/// A store in memory, which is honest and meets a device fault exactly where it was set to.
+/// A store in memory, which is honest and meets a device fault exactly where it was set to. Its calls may be refused
+/// for lack of memory.
 #[derive(Drop)]
 pub struct MemStore<A: Allocator + Copy = Global> {
     alloc: A,
@@ -29,7 +30,7 @@ pub struct MemStore<A: Allocator + Copy = Global> {
 
 impl<A: Allocator + Copy> Model for MemStore<A> {
     ghost use Rattle.std.specs.Prelude.{true, option_map};
-    ghost use Rattle.dm_store.specs.Saved.{Saved};
+    ghost use Rattle.dm_store.specs.Saved.{Saved, MemoryOpen};
     ghost use Rattle.dm_store.specs.Codes.{saved_code};
     ghost use Rattle.dm_store.specs.Settings.{load_plan_of, save_plan_of};
 
@@ -40,13 +41,14 @@ impl<A: Allocator + Copy> Model for MemStore<A> {
     ghost view = { λ m. record {
       content = option_map (λ bytes. bytes.items) m.held;
       is_honest = true;
+      memory_plan = MemoryOpen;
       load_plan = load_plan_of m.fails_loads;
       save_plan = save_plan_of m.next_save;
     } };
 }
 
 impl<A: Allocator + Copy> MemStore<A> {
-    ghost use Rattle.dm_store.specs.Saved.{LoadsFine, SavesFine};
+    ghost use Rattle.dm_store.specs.Saved.{MemoryOpen, LoadsFine, SavesFine};
     ghost use Rattle.dm_store.specs.Settings.{load_plan_of, save_plan_of};
 
     /// A store that holds nothing. It takes no memory.
@@ -54,6 +56,7 @@ impl<A: Allocator + Copy> MemStore<A> {
         ensures { result ≡ record {
           content = None;
           is_honest = true;
+          memory_plan = MemoryOpen;
           load_plan = LoadsFine;
           save_plan = SavesFine;
         } }
@@ -71,6 +74,7 @@ impl<A: Allocator + Copy> MemStore<A> {
         ensures { result ≡ record {
           content = Some bytes.items;
           is_honest = true;
+          memory_plan = MemoryOpen;
           load_plan = LoadsFine;
           save_plan = SavesFine;
         } }
@@ -134,6 +138,8 @@ impl<A: Allocator + Copy> Store for MemStore<A> {
     fn load(&mut self, limit: usize) -> Result<Option<Vec<u8, A>>, LoadFault>
         ensures loads { Loads (λ bytes. bytes.items) self.old limit result self.new }
         ensures device { IsErrOf result LoadFault.Device ↔ (self.old.load_plan ≡ LoadsOpen) }
+        // Nothing that isn't there takes memory.
+        ensures memory { IsErrOf result LoadFault.Memory → IsSome self.old.content }
     {
         if self.fails_loads {
             return Err(LoadFault::Device);

@@ -58,6 +58,6 @@ pub data EndsWorld (A : Type 0) (input rest : InputView) (old : OutputView) : �
       (replies answers)
       → TakesOnce (length script.ranges.items) (given script.events.items answers) (replies answers)
       → ImportsExports (length script.capacities.items) (given script.events.items answers) (replies answers)
-      → IsFaithfulIfHonest script.ranges.items (length script.capacities.items) script.events.items answers
+      → IsFaithfulIfHonest script.ranges.items script.capacities.items script.events.items answers
       → TellsAnswers answers old new status
       → EndsWorld A input rest old status new

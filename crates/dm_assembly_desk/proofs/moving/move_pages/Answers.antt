@@ -5,8 +5,8 @@ use Rattle.dm_store.specs.Saved.{Saved, Replaces}
 use Rattle.dm_store.specs.Sets.{SavedSet}
 use Rattle.dm_store.specs.declared.store.ReplaceFault.TheVariants as replaces
 use Rattle.dm_assembly_desk.specs.inner.MovingOn.{MovesEntries}
-use Rattle.dm_assembly_desk.specs.Moving.{HasMoveFault, KeepsFiles, KeepsPlans, LeavesAlone, Moves}
-use Rattle.dm_assembly_desk.proofs.MovingAll.{stays, plans_stay, plans_abandoned, plans_replaced, leaves_none, leaves_failed, leaves_refused, leaves_faulty, leaves_empty, leaves_some, abandoned, joined_done, joined_faulted, moves_done, moves_nothing, moves_none, faulty, all_of_them}
+use Rattle.dm_assembly_desk.specs.Moving.{HasMoveFault, StopsSomewhere, KeepsFiles, KeepsPlans, LeavesAlone, Moves}
+use Rattle.dm_assembly_desk.proofs.MovingAll.{stays, not_begun, stopped_at_key, stopped_at_last, plans_stay, plans_abandoned, plans_replaced, leaves_none, leaves_failed, leaves_refused, leaves_faulty, leaves_empty, leaves_some, abandoned, joined_done, joined_faulted, moves_done, moves_nothing, moves_none, faulty, all_of_them}
 use Rattle.dm_assembly_desk.specs.declared.fault.MoveFault.TheVariants as moves
 use Rattle.dm_assembly_desk.proofs.moving.move_pages.Goals as goal
 
@@ -351,7 +351,7 @@ returns-in-Err-Memory-clause-exact g c =
     let old : Saved = g.O.Store.state c.args.old.now in
     let set : SavedSet = g.S.StoreSet.state c.args.set.now in
     subst (λ (s : Saved). LeavesAlone old set (Err moves.Memory) s set) (sym c.load.ensures.same)
-    (leaves_refused old set)
+    (leaves_refused old set (c.load.ensures.memory (search rules)))
 
 pub returns-in-Err-clause-exact : goal.returns-in-Err-clause-exact
 returns-in-Err-clause-exact g c =
@@ -452,3 +452,128 @@ returns-clause-exact g c =
     (rw c.in-Ok-Some.field-0-is at (c.in-Ok-Some.ensures.saved honest)) in
     leaves_some old set loaded loads c.in-Ok.found.0 c.in-Ok.found.1.now c.in-Ok.ensures.found c.if-count-eq0.false
     (Err moves.Memory) (g.O.Store.state c.replace.new.self) (g.S.StoreSet.state c.move_entries.new.set)
+
+pub returns-in-Err-Device-clause-stops : goal.returns-in-Err-Device-clause-stops
+returns-in-Err-Device-clause-stops g c =
+    let old : Saved = g.O.Store.state c.args.old.now in
+    let set : SavedSet = g.S.StoreSet.state c.args.set.now in
+    subst (λ (s : Saved). StopsSomewhere old set moves.Device s set) (sym c.load.ensures.same)
+    (not_begun old set moves.Device)
+
+pub returns-in-Err-Memory-clause-stops : goal.returns-in-Err-Memory-clause-stops
+returns-in-Err-Memory-clause-stops g c =
+    let old : Saved = g.O.Store.state c.args.old.now in
+    let set : SavedSet = g.S.StoreSet.state c.args.set.now in
+    subst (λ (s : Saved). StopsSomewhere old set moves.Memory s set) (sym c.load.ensures.same)
+    (not_begun old set moves.Memory)
+
+pub returns-in-Err-clause-stops : goal.returns-in-Err-clause-stops
+returns-in-Err-clause-stops g c =
+    let old : Saved = g.O.Store.state c.args.old.now in
+    let set : SavedSet = g.S.StoreSet.state c.args.set.now in
+    subst (λ (s : Saved). StopsSomewhere old set c.in-Err.fault s set) (sym c.load.ensures.same)
+    (not_begun old set c.in-Err.fault)
+
+pub returns-in-Err-Device-keys-clause-stops : goal.returns-in-Err-Device-keys-clause-stops
+returns-in-Err-Device-keys-clause-stops g c =
+    let old : Saved = g.O.Store.state c.args.old.now in
+    let set : SavedSet = g.S.StoreSet.state c.args.set.now in
+    subst (λ (s : Saved). StopsSomewhere old set moves.Device s (g.S.StoreSet.state c.keys.new.self))
+    (sym c.load.ensures.same)
+    (subst (λ (s : SavedSet). StopsSomewhere old set moves.Device old s) (sym c.keys.ensures.same)
+    (not_begun old set moves.Device))
+
+pub returns-in-Err-Memory-keys-clause-stops : goal.returns-in-Err-Memory-keys-clause-stops
+returns-in-Err-Memory-keys-clause-stops g c =
+    let old : Saved = g.O.Store.state c.args.old.now in
+    let set : SavedSet = g.S.StoreSet.state c.args.set.now in
+    subst (λ (s : Saved). StopsSomewhere old set moves.Memory s (g.S.StoreSet.state c.keys.new.self))
+    (sym c.load.ensures.same)
+    (subst (λ (s : SavedSet). StopsSomewhere old set moves.Memory old s) (sym c.keys.ensures.same)
+    (not_begun old set moves.Memory))
+
+pub returns-in-Err-Device-move_entries-clause-stops : goal.returns-in-Err-Device-move_entries-clause-stops
+returns-in-Err-Device-move_entries-clause-stops g c =
+    let old : Saved = g.O.Store.state c.args.old.now in
+    let set : SavedSet = g.S.StoreSet.state c.args.set.now in
+    let loaded : List ℕ = c.deref.result.now in
+    let loads : IsTrue old.is_honest → Some loaded ≡ option_map (take (42636295 + 1)) old.content =
+    λ honest. ap (λ (bs : List ℕ). Some bs) c.deref.ensures.value ∙
+    (rw c.in-Ok-Some.field-0-is at (c.in-Ok-Some.ensures.saved honest)) in
+    let ks : List ℕ = c.deref-3.result.now in
+    let known : IsTrue set.is_honest → ks ≡ map_keys set.content = λ honest.
+    all_of_them set.content ks (λ i. rw (c.deref-3.ensures.value ∙ sym c.deref-2.ensures.value) (c.keys_fit.ensures i))
+    (c.deref-3.ensures.value ∙ c.in-Ok-keys.ensures.saved honest) in
+    let after : SavedSet = g.S.StoreSet.state c.move_entries.new.set in
+    let m : MovesEntries set ks c.in-Ok.found.0 c.in-Ok.found.1.now (Err replaces.Device) after =
+    subst (λ (s : SavedSet). MovesEntries s ks c.in-Ok.found.0 c.in-Ok.found.1.now (Err replaces.Device) after)
+    c.keys.ensures.same (rw c.in-Err-Device-move_entries.field-0-is at c.in-Err-Device-move_entries.ensures) in
+    subst (λ (s : Saved). StopsSomewhere old set moves.Device s after) (sym c.load.ensures.same)
+    (stopped_at_key old set loaded ks c.in-Ok.found.0 c.in-Ok.found.1.now c.in-Ok.ensures.found loads known after
+    replaces.Device m)
+
+pub returns-in-Err-Memory-move_entries-clause-stops : goal.returns-in-Err-Memory-move_entries-clause-stops
+returns-in-Err-Memory-move_entries-clause-stops g c =
+    let old : Saved = g.O.Store.state c.args.old.now in
+    let set : SavedSet = g.S.StoreSet.state c.args.set.now in
+    let loaded : List ℕ = c.deref.result.now in
+    let loads : IsTrue old.is_honest → Some loaded ≡ option_map (take (42636295 + 1)) old.content =
+    λ honest. ap (λ (bs : List ℕ). Some bs) c.deref.ensures.value ∙
+    (rw c.in-Ok-Some.field-0-is at (c.in-Ok-Some.ensures.saved honest)) in
+    let ks : List ℕ = c.deref-3.result.now in
+    let known : IsTrue set.is_honest → ks ≡ map_keys set.content = λ honest.
+    all_of_them set.content ks (λ i. rw (c.deref-3.ensures.value ∙ sym c.deref-2.ensures.value) (c.keys_fit.ensures i))
+    (c.deref-3.ensures.value ∙ c.in-Ok-keys.ensures.saved honest) in
+    let after : SavedSet = g.S.StoreSet.state c.move_entries.new.set in
+    let m : MovesEntries set ks c.in-Ok.found.0 c.in-Ok.found.1.now (Err replaces.Memory) after =
+    subst (λ (s : SavedSet). MovesEntries s ks c.in-Ok.found.0 c.in-Ok.found.1.now (Err replaces.Memory) after)
+    c.keys.ensures.same (rw c.in-Err-Memory-move_entries.field-0-is at c.in-Err-Memory-move_entries.ensures) in
+    subst (λ (s : Saved). StopsSomewhere old set moves.Memory s after) (sym c.load.ensures.same)
+    (stopped_at_key old set loaded ks c.in-Ok.found.0 c.in-Ok.found.1.now c.in-Ok.ensures.found loads known after
+    replaces.Memory m)
+
+pub returns-in-Err-Device-replace-clause-stops : goal.returns-in-Err-Device-replace-clause-stops
+returns-in-Err-Device-replace-clause-stops g c =
+    let old : Saved = g.O.Store.state c.args.old.now in
+    let set : SavedSet = g.S.StoreSet.state c.args.set.now in
+    let loaded : List ℕ = c.deref.result.now in
+    let loads : IsTrue old.is_honest → Some loaded ≡ option_map (take (42636295 + 1)) old.content =
+    λ honest. ap (λ (bs : List ℕ). Some bs) c.deref.ensures.value ∙
+    (rw c.in-Ok-Some.field-0-is at (c.in-Ok-Some.ensures.saved honest)) in
+    let ks : List ℕ = c.deref-3.result.now in
+    let known : IsTrue set.is_honest → ks ≡ map_keys set.content = λ honest.
+    all_of_them set.content ks (λ i. rw (c.deref-3.ensures.value ∙ sym c.deref-2.ensures.value) (c.keys_fit.ensures i))
+    (c.deref-3.ensures.value ∙ c.in-Ok-keys.ensures.saved honest) in
+    let after : SavedSet = g.S.StoreSet.state c.move_entries.new.set in
+    let m : MovesEntries set ks c.in-Ok.found.0 c.in-Ok.found.1.now (Ok c.in-Ok-move_entries.written) after =
+    subst (λ (s : SavedSet). MovesEntries s ks c.in-Ok.found.0 c.in-Ok.found.1.now
+    (Ok c.in-Ok-move_entries.written) after) c.keys.ensures.same c.in-Ok-move_entries.ensures in
+    let emptied : Saved = g.O.Store.state c.replace.new.self in
+    let p : Replaces old (68 ∷ 77 ∷ 80 ∷ 71 ∷ 1 ∷ 0 ∷ 0 ∷ []) (Err replaces.Device) emptied =
+    subst (λ (s : Saved). Replaces s (68 ∷ 77 ∷ 80 ∷ 71 ∷ 1 ∷ 0 ∷ 0 ∷ []) (Err replaces.Device) emptied)
+    c.load.ensures.same (rw c.in-Err-Device-replace.field-0-is at c.in-Err-Device-replace.ensures) in
+    stopped_at_last old set loaded ks c.in-Ok.found.0 c.in-Ok.found.1.now c.in-Ok.ensures.found loads known after
+    c.in-Ok-move_entries.written m emptied replaces.Device p
+
+pub returns-clause-stops : goal.returns-clause-stops
+returns-clause-stops g c =
+    let old : Saved = g.O.Store.state c.args.old.now in
+    let set : SavedSet = g.S.StoreSet.state c.args.set.now in
+    let loaded : List ℕ = c.deref.result.now in
+    let loads : IsTrue old.is_honest → Some loaded ≡ option_map (take (42636295 + 1)) old.content =
+    λ honest. ap (λ (bs : List ℕ). Some bs) c.deref.ensures.value ∙
+    (rw c.in-Ok-Some.field-0-is at (c.in-Ok-Some.ensures.saved honest)) in
+    let ks : List ℕ = c.deref-3.result.now in
+    let known : IsTrue set.is_honest → ks ≡ map_keys set.content = λ honest.
+    all_of_them set.content ks (λ i. rw (c.deref-3.ensures.value ∙ sym c.deref-2.ensures.value) (c.keys_fit.ensures i))
+    (c.deref-3.ensures.value ∙ c.in-Ok-keys.ensures.saved honest) in
+    let after : SavedSet = g.S.StoreSet.state c.move_entries.new.set in
+    let m : MovesEntries set ks c.in-Ok.found.0 c.in-Ok.found.1.now (Ok c.in-Ok-move_entries.written) after =
+    subst (λ (s : SavedSet). MovesEntries s ks c.in-Ok.found.0 c.in-Ok.found.1.now
+    (Ok c.in-Ok-move_entries.written) after) c.keys.ensures.same c.in-Ok-move_entries.ensures in
+    let emptied : Saved = g.O.Store.state c.replace.new.self in
+    let p : Replaces old (68 ∷ 77 ∷ 80 ∷ 71 ∷ 1 ∷ 0 ∷ 0 ∷ []) (Err replaces.Memory) emptied =
+    subst (λ (s : Saved). Replaces s (68 ∷ 77 ∷ 80 ∷ 71 ∷ 1 ∷ 0 ∷ 0 ∷ []) (Err replaces.Memory) emptied)
+    c.load.ensures.same (rw c.in-Err-Memory-replace.field-0-is at c.in-Err-Memory-replace.ensures) in
+    stopped_at_last old set loaded ks c.in-Ok.found.0 c.in-Ok.found.1.now c.in-Ok.ensures.found loads known after
+    c.in-Ok-move_entries.written m emptied replaces.Memory p

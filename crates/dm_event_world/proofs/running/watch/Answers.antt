@@ -11,7 +11,7 @@ returns-in-Ok-answer_all-clause-headline g c =
     c.answer_all.new.world (given events answers) (marks answers) (replies answers) c.in-Ok.ensures.stands
     (runs_marked c.in-Ok.world c.answer_all.new.world events answers c.in-Ok-answer_all.ensures) in (
       f.batches,
-      faithful_by c.args.ranges.now (length c.args.capacities.now) c.in-Ok.world c.answer_all.new.world
+      faithful_by c.args.ranges.now c.args.capacities.now c.in-Ok.world c.answer_all.new.world
           events answers c.in-Ok-answer_all.ensures f,
     ))
 
@@ -57,7 +57,7 @@ returns-in-Ok-answer_all-clause-answers g c =
       answered = c.in-Ok-answer_all.ensures;
       batches = f.batches;
       its = f.its;
-      faithful = faithful_by c.args.ranges.now (length c.args.capacities.now) c.in-Ok.world c.answer_all.new.world
+      faithful = faithful_by c.args.ranges.now c.args.capacities.now c.in-Ok.world c.answer_all.new.world
           events answers c.in-Ok-answer_all.ensures f;
       labels = once.1;
     }

@@ -1,6 +1,6 @@
 use Rattle.std.proofs.Common.{◌≡◌, ◌∙◌, ◌<◌, false, true, Ok, Err, ap, sym, subst, arith, rules}
 use Rattle.dm_append_label.specs.Pages.{PageView}
-use Rattle.dm_store.specs.Sets.{SavedSet, ReplacesKey}
+use Rattle.dm_store.specs.Sets.{SavedSet, SavesKey}
 use Rattle.dm_store.specs.declared.store.ReplaceFault.TheVariants as replacing
 use Rattle.dm_assembly_desk.specs.Files.{file}
 use Rattle.dm_assembly_desk.specs.Documents.{Documents, pages_with, with_page, KeepsPages}
@@ -111,7 +111,7 @@ returns-in-Err-Device-clause-accepts g c =
       short = c.requires.short;
     } in
     let same : c.keep.new.documents ≡ old.held = search rules in
-    let replaced : ReplacesKey old.saved p.id (file p.id (pages_with old.held p)) (Err replacing.Device) set =
+    let replaced : SavesKey old.saved p.id (file p.id (pages_with old.held p)) (Err replacing.Device) set =
     rw c.in-Err-Device.field-0-is at c.in-Err-Device.ensures.replaced in
     let failed : FailsToKeepPage p old (failed_view old set) =
     fails_to_keep old p set c.self.invariant running q adding replaced in (

@@ -2,7 +2,7 @@ use Rattle.std.proofs.Common.{◌≡◌, ◌∙◌, ℕ, [], length, map, false,
 use Rattle.std.specs.Prelude.{unwrap_or}
 use Rattle.std.specs.FinMap.{get, insert}
 use Rattle.std.proofs.lemmas.List.{length-map}
-use Rattle.dm_store.specs.Sets.{SavedSet, ReplacesKey}
+use Rattle.dm_store.specs.Sets.{SavedSet, SavesKey}
 use Rattle.dm_store.specs.declared.store.ReplaceFault.TheVariants as replacing
 use Rattle.dm_assembly_desk.specs.Pages.{Pages, lent_bytes}
 use Rattle.dm_assembly_desk.specs.Files.{IsEntry, file}
@@ -80,8 +80,8 @@ invariant_of-self g c =
     let doc : c.in-Ok.document ≡ pages_with_file old.held id given = search rules in
     let held_is : c.keep_document.new.documents ≡ with_file old.held id given = c.in-Ok-keep_document.ensures.ok ∙
     ap (insert old.held id) doc in
-    let replaced : ReplacesKey old.saved id (file id (pages_with_file old.held id given)) (Ok tt) set =
-    subst (λ (pages : Pages). ReplacesKey old.saved id (file id pages) (Ok tt) set) doc
+    let replaced : SavesKey old.saved id (file id (pages_with_file old.held id given)) (Ok tt) set =
+    subst (λ (pages : Pages). SavesKey old.saved id (file id pages) (Ok tt) set) doc
     c.in-Ok-keep_document.ensures.replaced in
     subst (λ (d : Documents). IsInOrder (done_view old set d)) (sym held_is)
     (keeps_pages_order old id given set c.self.invariant running c.requires.entry adding replaced)
@@ -136,8 +136,8 @@ returns-in-Ok-keep_document-clause-imports g c =
     let doc : c.in-Ok.document ≡ pages_with_file old.held id given = search rules in
     let held_is : c.keep_document.new.documents ≡ with_file old.held id given = c.in-Ok-keep_document.ensures.ok ∙
     ap (insert old.held id) doc in
-    let replaced : ReplacesKey old.saved id (file id (pages_with_file old.held id given)) (Ok tt) set =
-    subst (λ (pages : Pages). ReplacesKey old.saved id (file id pages) (Ok tt) set) doc
+    let replaced : SavesKey old.saved id (file id (pages_with_file old.held id given)) (Ok tt) set =
+    subst (λ (pages : Pages). SavesKey old.saved id (file id pages) (Ok tt) set) doc
     c.in-Ok-keep_document.ensures.replaced in
     let now : DeskView = done_view old set c.keep_document.new.documents in
     let kept : KeepsFile id given old now = subst (λ (d : Documents). KeepsFile id given old (done_view old set d))
@@ -167,8 +167,8 @@ returns-in-Ok-keep_document-clause-after g c =
     let doc : c.in-Ok.document ≡ pages_with_file old.held id given = search rules in
     let held_is : c.keep_document.new.documents ≡ with_file old.held id given = c.in-Ok-keep_document.ensures.ok ∙
     ap (insert old.held id) doc in
-    let replaced : ReplacesKey old.saved id (file id (pages_with_file old.held id given)) (Ok tt) set =
-    subst (λ (pages : Pages). ReplacesKey old.saved id (file id pages) (Ok tt) set) doc
+    let replaced : SavesKey old.saved id (file id (pages_with_file old.held id given)) (Ok tt) set =
+    subst (λ (pages : Pages). SavesKey old.saved id (file id pages) (Ok tt) set) doc
     c.in-Ok-keep_document.ensures.replaced in
     subst (λ (d : Documents). IsInOrder (done_view old set d)) (sym held_is)
     (keeps_pages_order old id given set c.self.invariant running c.requires.entry adding replaced)
@@ -191,10 +191,10 @@ returns-in-Err-Device-clause-imports g c =
     adds_pages (import_answer old.capacity old.held id given) c.in_ok-kind.kind judged other in
     let doc : c.in-Ok.document ≡ pages_with_file old.held id given = search rules in
     let same : c.keep_document.new.documents ≡ old.held = search rules in
-    let device : ReplacesKey old.saved id (file id c.in-Ok.document) (Err replacing.Device) set =
+    let device : SavesKey old.saved id (file id c.in-Ok.document) (Err replacing.Device) set =
     rw c.in-Err-Device.field-0-is at c.in-Err-Device.ensures.replaced in
-    let replaced : ReplacesKey old.saved id (file id (pages_with_file old.held id given)) (Err replacing.Device) set =
-    subst (λ (pages : Pages). ReplacesKey old.saved id (file id pages) (Err replacing.Device) set) doc device in
+    let replaced : SavesKey old.saved id (file id (pages_with_file old.held id given)) (Err replacing.Device) set =
+    subst (λ (pages : Pages). SavesKey old.saved id (file id pages) (Err replacing.Device) set) doc device in
     let failed : FailsToKeepFile id given old (failed_view old set) =
     fails_to_keep_pages old id given set c.self.invariant running c.requires.entry adding replaced in (
       subst (λ (before : DeskView). NeedsSave (import_answer before.capacity before.held id given))
