@@ -137,6 +137,7 @@ pub label_follows : (capacities : List ℕ) (known other : Known) → Follows kn
 label_follows capacities known other f desk label s = record {
   name = s.name;
   has_left = f.labelled label s.name s.has_left;
+  not_held = λ m held. s.not_held m (f.holds desk s.name.id m held);
   full = others_follow known other f desk s.name.id (slice_get capacities desk) s.full;
 }
 
@@ -145,6 +146,7 @@ pub export_follows : (capacities : List ℕ) (known other : Known) → Follows k
 export_follows capacities known other f desk export s = record {
   name = s.name;
   has_left = f.sent export s.name s.has_left;
+  not_held = λ m held. s.not_held m (f.holds desk s.name.id m held);
   full = others_follow known other f desk s.name.id (slice_get capacities desk) s.full;
 }
 
@@ -208,7 +210,7 @@ from_end {A} events replies e h IsSo first at =
     subst (λ (v : Event A). IsSo v e.reply) event_is (subst (λ (r : Reply A). IsSo at.event r) reply_is at.is_so)
 
 -- who has failed by the history has failed by the run
-failed_before_is : {A : Type 0} (events : List (Event A)) (replies : List (Reply A)) (h : History A) →
+pub failed_before_is : {A : Type 0} (events : List (Event A)) (replies : List (Reply A)) (h : History A) →
     IsFirst events replies h → (actor : Actor) →
     has_failed_before events replies (length h) actor ≡ is_failed h actor
 failed_before_is {A} events replies h first actor =

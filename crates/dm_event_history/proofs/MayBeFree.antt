@@ -1,6 +1,6 @@
 -- A number that is free at a printer by a legal history may be free there by the events and replies of its run. So the
 -- identification of each batch may have been, and each number that was given.
-use Rattle.std.proofs.Common.{◌≡◌, ◌==◌, not, inl, inr, ℕ, Bool, true, false, Some, List, [], ◌∷◌, ◌++◌, length, take, slice_get, refl, ap, sym, ◌∙◌, subst}
+use Rattle.std.proofs.Common.{◌≡◌, ◌==◌, not, inl, inr, ℕ, Bool, true, false, Option, Some, List, [], ◌∷◌, ◌++◌, length, take, slice_get, refl, ap, sym, ◌∙◌, subst}
 use Rattle.dm_check_blocks.specs.declared.size.Size.{Size}
 use Rattle.dm_encodation.specs.declared.scheme.Scheme.{Scheme}
 use Rattle.dm_print_ledger.specs.declared.range.Range.{Range}
@@ -11,18 +11,21 @@ use Rattle.dm_event_history.specs.declared.event.Event.TheVariants.{Print, Give,
 use Rattle.dm_event_history.specs.declared.reply.Reply.{Reply}
 use Rattle.dm_event_history.specs.declared.reply.Reply.TheVariants.{Given}
 use Rattle.dm_event_history.specs.declared.stop.Stop.{Stop}
-use Rattle.dm_event_history.specs.Actors.{PrinterAt, actor_of}
+use Rattle.dm_event_history.specs.Actors.{Actor, PrinterAt, actor_of}
 use Rattle.dm_event_history.specs.History.{Entry, History, replies_of, tickets}
 use Rattle.dm_event_history.specs.Saving.{may_save, tells_of_save}
 use Rattle.dm_event_history.specs.Numbers.{free_at, free_after, saved_at, is_of, is_on}
-use Rattle.dm_event_history.specs.Legal.{Fits, IsLegal, MayMove}
+use Rattle.dm_event_history.specs.Running.{is_failed}
+use Rattle.dm_event_history.specs.Replying.{has_failed_before}
+use Rattle.dm_event_history.specs.Legal.{Fits, IsLegal, MayMove, MayBeTaken}
 use Rattle.dm_event_history.specs.Tickets.{tickets_in}
 use Rattle.dm_event_history.specs.Headline.{Batch, IsAt, MayGain, GivesAway, MayBeFree}
 use Rattle.dm_event_history.proofs.Batches.{batch_of, batches_of, batches_count, replies_count, before_or_last, batch_means, take_whole}
 use Rattle.dm_event_history.proofs.Deciding.{both, decided, if_not, if_so, or_means, and_so, true_false}
 use Rattle.dm_event_history.proofs.NumberedTickets.{tickets_are}
 use Rattle.dm_event_history.proofs.Tainting.{IsFirst, first_less, last_asked}
-use Rattle.dm_event_history.proofs.Knowing.{at_end, from_end}
+use Rattle.dm_event_history.proofs.Knowing.{at_end, from_end, failed_before_is}
+use Rattle.dm_event_history.proofs.Replied.{saved_unfailed}
 use Rattle.dm_event_history.proofs.WhoActs.{printer_is, same_means, same_so}
 
 -- the tickets that had been given
@@ -98,14 +101,26 @@ free_next {A} ranges desks events replies e h first fits printer number rest fre
         ))
     by_event saved (Take at ticket stop) is now =
         elim (or_means (is_on (slice_get (tickets h) ticket) number) (free_at ranges h printer number) now) [
-          | inl on ↦ inl (at_end events replies e h
-              (λ event reply. MayGain (tickets_in (take (length h) replies)) event reply printer number) first
-              (subst (λ (v : Event A). MayGain (tickets_in (take (length h) replies)) v e.reply printer number) (sym is) (
-                owner saved at ticket stop is,
-                subst (λ (v : Event A). may_save v e.reply ≡ true) is
-                    (fits.saved (both e.saved (is_of e printer) saved).0),
-                subst (λ (l : List TicketView). is_on (slice_get l ticket) number ≡ true)
-                    (sym (tickets_before events replies h less)) on,
+          | inl on ↦
+              (let own : e.saved ≡ true = (both e.saved (is_of e printer) saved).0 in
+              let m : MayBeTaken h at ticket = subst (λ (v : Event A). MayMove ranges h e.id v) is (fits.moves own) in
+              inl (at_end events replies e h
+              (λ event reply. MayGain (tickets_in (take (length h) replies)) event reply printer number
+              × (has_failed_before events replies (length h) (PrinterAt printer) ≡ false)) first (
+                subst (λ (v : Event A). MayGain (tickets_in (take (length h) replies)) v e.reply printer number)
+                    (sym is) (
+                      owner saved at ticket stop is,
+                      subst (λ (v : Event A). may_save v e.reply ≡ true) is (fits.saved own),
+                      m.ticket,
+                      ap (λ (l : List TicketView). slice_get l ticket) (tickets_before events replies h less) ∙ m.there,
+                      m.receiver ∙ owner saved at ticket stop is,
+                      sym (ap (λ (o : Option TicketView). is_on o number) m.there) ∙ on,
+                    ),
+                failed_before_is events replies h less (PrinterAt printer) ∙
+                    ap (λ (a : Actor). is_failed h a)
+                    (sym (same_means (actor_of e.event) (PrinterAt printer)
+                    (both e.saved (is_of e printer) saved).1)) ∙
+                    saved_unfailed ranges desks h e fits own,
               )))
           | inr was ↦ inr (
             (λ given. absurd (subst (λ (v : Event A). GivesAway v e.reply printer number) is (given_now given))),

@@ -1,28 +1,32 @@
 -- A legal history prints no identification twice: said of its events and replies alone.
-use Rattle.std.proofs.Common.{◌≡◌, ◌<◌, ◌≤◌, ◌+◌, inl, inr, ℕ, false, Option, Some, List, [], ◌∷◌, length, slice_get, take, refl, ap, sym, ◌∙◌, subst, arith}
+use Rattle.std.proofs.Common.{◌≡◌, ◌<◌, ◌≤◌, ◌+◌, inl, inr, ℕ, true, false, Option, Some, None, List, [], ◌∷◌, length, slice_get, take, refl, ap, sym, ◌∙◌, subst, arith}
 use Rattle.std.specs.Prelude.{◌≢◌}
 use Rattle.dm_check_blocks.specs.declared.size.Size.{Size}
 use Rattle.dm_encodation.specs.declared.scheme.Scheme.{Scheme}
 use Rattle.dm_append_label.specs.Parts.{AreParts, HasNoEnds}
 use Rattle.dm_print_ledger.specs.declared.range.Range.{Range}
+use Rattle.dm_print_ledger.specs.Ranges.{is_in}
+use Rattle.dm_print_ledger.specs.Views.{TicketView}
 use Rattle.dm_print_ledger.specs.declared.fault.PrintFault.{PrintFault}
 use Rattle.dm_print_ledger.specs.declared.fault.PrintFault.TheVariants as print_fault
 use Rattle.dm_event_history.specs.declared.event.Event.{Event}
-use Rattle.dm_event_history.specs.declared.event.Event.TheVariants.{Print, Scan}
+use Rattle.dm_event_history.specs.declared.event.Event.TheVariants.{Print, Scan, Give}
 use Rattle.dm_event_history.specs.declared.reply.Reply.{Reply}
-use Rattle.dm_event_history.specs.declared.reply.Reply.TheVariants.{Printed, PrintRefused, Stopped, NoSuch}
+use Rattle.dm_event_history.specs.declared.reply.Reply.TheVariants.{Printed, PrintRefused, Given, Stopped, NoSuch}
 use Rattle.dm_event_history.specs.declared.stop.Stop.{Stop}
 use Rattle.dm_event_history.specs.declared.stop.Stop.TheVariants.{AfterLabels}
 use Rattle.dm_event_history.specs.Actors.{PrinterAt, actor_of}
-use Rattle.dm_event_history.specs.History.{Entry, History, events_of, replies_of}
+use Rattle.dm_event_history.specs.History.{Entry, History, docs, events_of, replies_of}
 use Rattle.dm_event_history.specs.Running.{is_failed}
-use Rattle.dm_event_history.specs.Legal.{AreDisjoint, IsPrintRefused, IsReply, IsLegal, Fits, NeverTwice}
-use Rattle.dm_event_history.specs.Numbers.{opening_count, gone, came}
+use Rattle.dm_event_history.specs.Legal.{AreDisjoint, IsPrintRefused, IsReply, IsLegal, MayMove, Fits, NeverTwice}
+use Rattle.dm_event_history.specs.Numbers.{opening_count, gone, came, free_at}
 use Rattle.dm_event_history.specs.Places.{IsOpened}
 use Rattle.dm_event_history.specs.Replying.{has_failed_before}
 use Rattle.dm_event_history.specs.Counts.{HasNumber}
-use Rattle.dm_event_history.specs.Headline.{Batch, LeftBy, labels_of, HasModules, AllLeft, PrintsOnceBy}
-use Rattle.dm_event_history.proofs.Fresh.{all_placed}
+use Rattle.dm_event_history.specs.Saving.{tells_of_save}
+use Rattle.dm_event_history.specs.Headline.{Batch, LeftBy, LeftBefore, labels_of, HasModules, AllLeft, PrintsOnceBy}
+use Rattle.dm_event_history.proofs.Fresh.{all_placed, free_is_fresh}
+use Rattle.dm_event_history.proofs.Printed.{is_unused}
 use Rattle.dm_event_history.proofs.LeftOnce.{last_opened}
 use Rattle.dm_event_history.proofs.Batches.{all_of, count_all, batch_of, batches_of, events_count, replies_count, batches_count, before_or_last, take_keeps, batch_means, out_is, left_more, last_prints, told_is, unused_is_none, last_batch, whole_before}
 use Rattle.dm_event_history.proofs.Replied.{asked_before_or_last, failed_before, failed_at_last, saved_unfailed, are_replies}
@@ -71,7 +75,11 @@ once_next {A} ranges desks h e apart legal never f = record {
   printed = prints;
   opened = begun;
   owned = owned_of ranges desks (events_of (e ∷ h)) (replies_of (e ∷ h)) (e ∷ h) (first_whole (e ∷ h)) legal;
-  gives_own = gives_of ranges desks (events_of (e ∷ h)) (replies_of (e ∷ h)) (e ∷ h) (first_whole (e ∷ h)) legal;
+  gives_own = λ i printer receiver range stop index ticket asked answered number within. (
+    gives_of ranges desks (events_of (e ∷ h)) (replies_of (e ∷ h)) (e ∷ h) (first_whole (e ∷ h)) legal i printer receiver
+        range stop index ticket asked answered number within,
+    gives_unprinted i printer receiver range stop index ticket asked answered number within,
+  );
   unfailed = runs;
   let_out = lets;
   exhausted = exhausts;
@@ -234,6 +242,33 @@ once_next {A} ranges desks h e apart legal never f = record {
         (PrintRefused print_fault.TooLong) asked answered) [
           | inl before ↦ f.too_long i printer document size scheme stop before.1 before.2
           | inr last ↦ last_refuses printer document size scheme stop print_fault.TooLong last.1 last.2
+        ]
+
+    -- no label left under a number that is given
+    gives_unprinted : (i printer receiver : ℕ) (range : Range) (stop : Stop) (index : ℕ) (ticket : TicketView) →
+        slice_get (events_of (e ∷ h)) i ≡ Some (Give printer receiver range stop) →
+        slice_get (replies_of (e ∷ h)) i ≡ Some (Given index ticket) → (number : ℕ) → is_in range number ≡ true →
+        (batch : Batch) → ¬ LeftBefore (batches_of (e ∷ h)) i number batch
+    gives_unprinted i printer receiver range stop index ticket asked answered number within batch left =
+        elim (before_or_last (batches_of h) (batch_of e) (Some batch) (length h) left.j (batches_count h) left.there) [
+          | inr last ↦
+              (let among = get_beyond (events_of (e ∷ h)) i (Give printer receiver range stop) asked in
+              let all = events_count (e ∷ h) in
+              let at = last.0 in
+              let before = left.before in omega arith)
+          | inl there ↦ elim (asked_before_or_last h e i (Give printer receiver range stop) (Given index ticket) asked
+              answered) [
+                | inl earlier ↦ (f.gives_own i printer receiver range stop index ticket earlier.1 earlier.2 number
+                    within).1 batch
+                    (record { j = left.j; before = left.before; there = there; id_is = left.id_is })
+                | inr last ↦
+                    (let saved : e.saved ≡ true = fits.told (ap (λ (r : Reply A). tells_of_save r) last.2) in
+                    let free : free_at ranges h printer number ≡ true =
+                    subst (λ (v : Event A). MayMove ranges h e.id v) last.1 (fits.moves saved) number within in
+                    let fresh : docs h number ≡ None =
+                    free_is_fresh ranges desks h printer number legal.1 (all_placed ranges desks h apart legal.1) free in
+                    unused_is_none h left.j number batch (is_unused ranges desks h number legal.1 fresh) there left.id_is)
+              ]
         ]
 
     earlier : (i label : ℕ) (modules : List (ℕ × ℕ)) → i < length h →

@@ -9,13 +9,12 @@ use Rattle.dm_print_ledger.specs.declared.range.Range.{Range}
 use Rattle.dm_event_history.specs.declared.stop.Stop.{Stop}
 use Rattle.dm_event_history.specs.declared.event.Event.{Event}
 use Rattle.dm_event_history.specs.declared.event.Event.TheVariants.{Scan}
-use Rattle.dm_event_history.specs.declared.reply.Reply.{Reply}
 use Rattle.dm_event_history.specs.declared.reply.Reply.TheVariants.{NoSuch}
 use Rattle.dm_event_history.specs.History.{Entry, History, CutDocument, LabelName, names_from, docs, out}
 use Rattle.dm_event_history.specs.Legal as laws
 use Rattle.dm_event_history.specs.Legal.{IsThere, IsLegal, Fits}
 use Rattle.dm_event_history.specs.Headline.{Batch, count_of, labels_of, sizes_of, HasModules}
-use Rattle.dm_event_history.proofs.Batches.{batch_of, batches_of, in_either, names_count, name_at, out_is, label_in, unused_is_none, whole_before}
+use Rattle.dm_event_history.proofs.Batches.{batches_of, in_either, names_count, name_at, out_is, label_in, unused_is_none, whole_before}
 use Rattle.dm_event_history.proofs.Gotten.{get_beyond}
 use Rattle.dm_event_history.proofs.Printed.{is_unused}
 use Rattle.dm_event_history.proofs.PrintedBatches.{printed_at}

@@ -27,7 +27,7 @@ use Rattle.dm_event_history.specs.declared.stop.Stop.TheVariants as stops
 use Rattle.dm_event_history.specs.Actors.{PrinterAt, DeskAt, actor_of}
 use Rattle.dm_event_history.specs.History.{CutDocument, LabelName, names_from}
 use Rattle.dm_event_history.specs.Saving.{may_save}
-use Rattle.dm_event_history.specs.Numbers.{is_in_some, is_on}
+use Rattle.dm_event_history.specs.Numbers.{is_in_some}
 use Rattle.dm_event_history.specs.Places.{IsOpened}
 use Rattle.dm_event_history.specs.Replying.{has_failed_before, AreReplies}
 use Rattle.dm_event_history.specs.Counts.{HasNumber}
@@ -105,6 +105,13 @@ pub record AllLeft (batches : List (Option Batch)) (i id first count : ℕ) : Ty
   pub all : batch.left ≡ count
   pub first_is : first ≡ length (labels_of (take i batches))
 
+-- the batch under this identification left before event number i
+pub record LeftBefore (batches : List (Option Batch)) (i id : ℕ) (batch : Batch) : Type 0 where
+  pub j : ℕ
+  pub before : j < i
+  pub there : slice_get batches j ≡ Some (Some batch)
+  pub id_is : batch.id ≡ id
+
 -- ---- identifications that move
 
 -- event number k and its reply are so
@@ -116,10 +123,12 @@ pub record IsAt {A : Type 0} (events : List (Event A)) (replies : List (Reply A)
   pub answered : slice_get replies k ≡ Some reply
   pub is_so : IsSo event reply
 
--- a take by this printer may have saved, of a ticket with the number on it; these had been given
+-- a take by this printer may have saved, of a ticket for it with the number on it; these had been given
 abbrev pub MayGain : {A : Type 0} → List TicketView → Event A → Reply A → ℕ → ℕ → Type 0
-MayGain tickets (Take at ticket stop) reply printer number =
-    (at ≡ printer) × (may_save (Take at ticket stop) reply ≡ true) × (is_on (slice_get tickets ticket) number ≡ true)
+MayGain tickets (Take at index stop) reply printer number =
+    (at ≡ printer) × (may_save (Take at index stop) reply ≡ true)
+    × (ticket : TicketView) × (slice_get tickets index ≡ Some ticket) × (ticket.receiver ≡ printer)
+    × (is_in ticket.range number ≡ true)
 MayGain tickets event reply printer number = ⊥
 
 -- a give of the number by this printer was told
@@ -129,11 +138,12 @@ GivesAway (Give at receiver range stop) (Given index ticket) printer number =
 GivesAway event reply printer number = ⊥
 
 -- before event number i a number may be free at a printer, if it was not printed: the printer began with it, or a take
--- may have brought it, and no later give was told by which it went
+-- may have brought it, while no save had failed since the last restart, and no later give was told by which it went
 abbrev pub MayBeFree : {A : Type 0} → List Range → List (Event A) → List (Reply A) → ℕ → ℕ → ℕ → Type 0
 MayBeFree ranges events replies zero printer number = is_in_some (slice_get ranges printer) number ≡ true
 MayBeFree ranges events replies (suc k) printer number =
-    IsAt events replies k (λ event reply. MayGain (tickets_in (take k replies)) event reply printer number)
+    IsAt events replies k (λ event reply. MayGain (tickets_in (take k replies)) event reply printer number
+    × (has_failed_before events replies k (PrinterAt printer) ≡ false))
     ⊎ ((¬ IsAt events replies k (λ event reply. GivesAway event reply printer number))
     × MayBeFree ranges events replies k printer number)
 
@@ -155,14 +165,14 @@ pub record PrintsOnceBy {A : Type 0} (ranges : List Range) (desks : ℕ) (batche
   pub printed : (i : ℕ) (batch : Batch) → slice_get batches i ≡ Some (Some batch) → LeftBy events replies i batch
   -- under an identification that a printer began with
   pub opened : (i : ℕ) (batch : Batch) → slice_get batches i ≡ Some (Some batch) → IsOpened ranges batch.id
-  -- which may be free at its printer, and so may be each number that is given
+  -- which may be free at its printer; and so may be each number that is given, under which no label had left
   pub owned : (i printer : ℕ) (document : List ℕ) (size : Size) (scheme : Scheme) (stop : Stop) (batch : Batch) →
       slice_get batches i ≡ Some (Some batch) → slice_get events i ≡ Some (Print printer document size scheme stop) →
       MayBeFree ranges events replies i printer batch.id
   pub gives_own : (i printer receiver : ℕ) (range : Range) (stop : Stop) (index : ℕ) (ticket : TicketView) →
       slice_get events i ≡ Some (Give printer receiver range stop) →
       slice_get replies i ≡ Some (Given index ticket) → (number : ℕ) → is_in range number ≡ true →
-      MayBeFree ranges events replies i printer number
+      MayBeFree ranges events replies i printer number × ((batch : Batch) → ¬ LeftBefore batches i number batch)
   -- none left by a printer that had answered `Save`, and was not restarted since
   pub unfailed : (i : ℕ) (batch : Batch) (event : Event A) → slice_get batches i ≡ Some (Some batch) →
       slice_get events i ≡ Some event → has_failed_before events replies i (actor_of event) ≡ false
@@ -255,13 +265,6 @@ pub record WasScanned {A : Type 0} (batches : List (Option Batch)) (events : Lis
   pub scan : IsScanOf batches events k (record { id = id; number = m; count = n })
   pub saved : MayHaveSaved events replies k
 
--- the batch under this identification left before event number i
-pub record LeftBefore (batches : List (Option Batch)) (i id : ℕ) (batch : Batch) : Type 0 where
-  pub j : ℕ
-  pub before : j < i
-  pub there : slice_get batches j ≡ Some (Some batch)
-  pub id_is : batch.id ≡ id
-
 -- the document was printed under this identification before event number i, and each of its labels was scanned before
 pub record WasPrinted {A : Type 0} (batches : List (Option Batch)) (events : List (Event A)) (replies : List (Reply A))
     (i id : ℕ) (bytes : List ℕ) : Type 0 where
@@ -291,7 +294,7 @@ known_before batches events replies i = record {
   sent = λ export name. slice_get (exports_in (take i replies)) export ≡ Some name;
 }
 
--- modules of the finder patterns are wrong
+-- the fault is told as one of the finder patterns
 abbrev pub IsOfFrame : LabelFault → Type 0
 IsOfFrame (Border wrong) = Unit {0}
 IsOfFrame fault = ⊥
@@ -324,7 +327,7 @@ pub record IsFaithfulBy {A : Type 0} (ranges : List Range) (capacities : List �
       slice_get events i ≡ Some (Scan desk label flips stop) → slice_get replies i ≡ Some (Scanned accepted) →
       slice_get marks i ≡ Some true →
       IsScanOf batches events i (record { id = accepted.id; number = accepted.m; count = accepted.n })
-  -- and none is refused for its label, unless modules of its finder patterns are wrong
+  -- and none is refused for its label, but for its finder patterns
   pub framed : (i desk label : ℕ) (flips : List (ℕ × ℕ)) (stop : Stop) (fault : LabelFault) →
       slice_get events i ≡ Some (Scan desk label flips stop) →
       slice_get replies i ≡ Some (ScanRefused (scan_fault.Label fault)) → slice_get marks i ≡ Some true →

@@ -134,16 +134,19 @@ pub record MayHoldOthers (known : Known) (desk id count : ℕ) : Type 0 where
   pub each : (i other : ℕ) → slice_get others i ≡ Some other →
       (other ≢ id) × (m : ℕ) × known.may_hold desk other m
 
--- the desk, of those with this room for documents, may be full with others than that of the label
+-- The desk, of those with this room for documents, may be full with others than that of the label, of which it surely
+-- holds no page.
 pub record IsFullForLabel (capacities : List ℕ) (known : Known) (desk label : ℕ) : Type 0 where
   pub name : LabelName
   pub has_left : known.labelled label name
+  pub not_held : IsNotSurelyHeld known desk name.id
   pub full : IsSomeAnd (slice_get capacities desk) (MayHoldOthers known desk name.id)
 
--- the same, with others than that of the export
+-- the same, of the document of the export
 pub record IsFullForExport (capacities : List ℕ) (known : Known) (desk export : ℕ) : Type 0 where
   pub name : ExportName
   pub has_left : known.sent export name
+  pub not_held : IsNotSurelyHeld known desk name.id
   pub full : IsSomeAnd (slice_get capacities desk) (MayHoldOthers known desk name.id)
 
 -- ---- any reply

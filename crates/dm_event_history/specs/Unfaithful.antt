@@ -352,6 +352,18 @@ given_again A =
     (Give 0 1 (range 0 4) None, Given 0 (ticket 0 (range 0 4))) ∷
     (Give 0 1 (range 4 6) None, Given 1 (ticket 1 (range 4 6))) ∷ []
 
+-- `gives_own`: a number is given under which a label left
+abbrev pub given_though_printed : (A : Type 0) → Run A
+given_though_printed A =
+    (print 0 digits None, Printed 0 0 2) ∷ (Give 0 1 (range 0 0) None, Given 0 (ticket 0 (range 0 0))) ∷ []
+
+-- `owned`: a printer prints under a number that it gave, after it asked for the ticket, which is for another
+abbrev pub printed_of_anothers_ticket : (A : Type 0) → Run A
+printed_of_anothers_ticket A =
+    (Give 0 1 (range 0 4) None, Given 0 (ticket 0 (range 0 4))) ∷
+    (Take 0 0 (AfterLabels 0), Stopped) ∷
+    (RestartPrinter 0, Restarted) ∷ (print 0 digits None, Printed 3 0 2) ∷ []
+
 -- `unfailed`: a label is told that left by a printer whose last save failed
 abbrev pub left_though_failed : (A : Type 0) → Run A
 left_though_failed A =
@@ -653,6 +665,8 @@ pub record AreUnfaithful (A : Type 0) : Type 0 where
   pub printed_untaken_is : ¬ IsFaithfulRun (printed_untaken A)
   pub given_of_another_is : ¬ IsFaithfulRun (given_of_another A)
   pub given_again_is : ¬ IsFaithfulRun (given_again A)
+  pub given_though_printed_is : ¬ IsFaithfulRun (given_though_printed A)
+  pub printed_of_anothers_ticket_is : ¬ IsFaithfulRun (printed_of_anothers_ticket A)
   pub left_though_failed_is : ¬ IsFaithfulRun (left_though_failed A)
   pub never_left_is : ¬ IsFaithfulRun (never_left A)
   pub saved_though_failed_is : ¬ IsFaithfulRun (saved_though_failed A)

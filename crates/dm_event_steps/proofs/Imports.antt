@@ -55,7 +55,7 @@ use Rattle.dm_event_steps.specs.DeskActs.{ImportsIn, desk_planned, StopsDesk, Ca
 use Rattle.dm_event_steps.specs.Exports.{export_name_of, AreParts, ShowsPages}
 use Rattle.dm_event_steps.specs.Goes.{quiet, DeskGoes}
 use Rattle.dm_event_steps.proofs.DeskFacts.{get_other}
-use Rattle.dm_event_steps.proofs.Asks.{counted_is, page_is, some_none}
+use Rattle.dm_event_steps.proofs.Asks.{not_surely, counted_is, page_is, some_none}
 use Rattle.dm_event_steps.proofs.Scans.{other_held}
 use Rattle.dm_event_steps.proofs.Exports.{named_there, there_named}
 use Rattle.dm_event_steps.proofs.Gathering.{HoldsFileToo, gathered_keeps, gathered_with_file}
@@ -448,6 +448,7 @@ file_goes ranges capacities grids h d number capacity stop view mid export
     (λ clean honest. record {
       name = export_name_of export;
       has_left = s.named;
+      not_held = not_surely h d export.id view.held (s.runs.gathered honest) full.0;
       full = subst (λ (o : Option ℕ). IsSomeAnd o (MayHoldOthers (known_of h) d export.id)) (sym s.at)
           (subst (λ (c : ℕ). MayHoldOthers (known_of h) d export.id c) s.runs.capacity_is
           (other_held h d export.id view order (s.runs.gathered honest) full.0 full.1));

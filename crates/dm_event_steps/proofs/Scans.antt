@@ -59,6 +59,7 @@ use Rattle.dm_event_steps.specs.DeskStands.{SetStands, DeskRuns}
 use Rattle.dm_event_steps.specs.DeskActs.{Accepts, desk_planned, StopsDesk, scan_reply, ScanActs}
 use Rattle.dm_event_steps.specs.Goes.{quiet, DeskGoes}
 use Rattle.dm_event_steps.proofs.PrinterGoing.{IsFine, not_both}
+use Rattle.dm_event_steps.proofs.Asks.{not_surely}
 use Rattle.dm_event_steps.proofs.DeskFacts.{HoldsPage, is_free, holds_also, holds_all_others, lacks_another, Disagrees, holds_again, disagrees, is_full, some_page}
 use Rattle.dm_event_steps.proofs.Gathering.{gathered_keeps, gathered_with}
 use Rattle.dm_event_steps.proofs.DeskGoing.{none_leaves, not_failed, memory_goes, lacks_same, IsTold, set_keeps, fine_desk, done_with_none, faulted_with, desk_kept, set_saved, desk_saves, kept_held, desk_fails, desk_stopped}
@@ -513,6 +514,7 @@ page_goes {A} ranges capacities grids h d number capacity flips stop view mid la
       λ honest. record {
         name = page_name opened.page;
         has_left = s.named ∙ ap Some (sym is.name_is);
+        not_held = not_surely h d opened.page.id view.held (s.runs.gathered honest) full.0;
         full = subst (λ (o : Option ℕ). IsSomeAnd o (MayHoldOthers (known_of h) d opened.page.id)) (sym s.at)
             (subst (λ (c : ℕ). MayHoldOthers (known_of h) d opened.page.id c) s.runs.capacity_is
             (other_held h d opened.page.id view order (s.runs.gathered honest) full.0 full.1));

@@ -1,4 +1,3 @@
-use Rattle.std.proofs.Common.{length}
 use Rattle.dm_event_world.specs.Watched.{given, marks, replies}
 use Rattle.dm_event_world.proofs.Runs.{runs_marked, runs_by, faithful_by}
 use Rattle.dm_event_world.proofs.running.watch.Goals as goal
