@@ -76,8 +76,8 @@ once_next {A} ranges desks h e apart legal never f = record {
   opened = begun;
   owned = owned_of ranges desks (events_of (e ∷ h)) (replies_of (e ∷ h)) (e ∷ h) (first_whole (e ∷ h)) legal;
   gives_own = λ i printer receiver range stop index ticket asked answered number within. (
-    gives_of ranges desks (events_of (e ∷ h)) (replies_of (e ∷ h)) (e ∷ h) (first_whole (e ∷ h)) legal i printer receiver
-        range stop index ticket asked answered number within,
+    gives_of ranges desks (events_of (e ∷ h)) (replies_of (e ∷ h)) (e ∷ h) (first_whole (e ∷ h)) legal i printer
+        receiver range stop index ticket asked answered number within,
     gives_unprinted i printer receiver range stop index ticket asked answered number within,
   );
   unfailed = runs;
@@ -266,8 +266,10 @@ once_next {A} ranges desks h e apart legal never f = record {
                     let free : free_at ranges h printer number ≡ true =
                     subst (λ (v : Event A). MayMove ranges h e.id v) last.1 (fits.moves saved) number within in
                     let fresh : docs h number ≡ None =
-                    free_is_fresh ranges desks h printer number legal.1 (all_placed ranges desks h apart legal.1) free in
-                    unused_is_none h left.j number batch (is_unused ranges desks h number legal.1 fresh) there left.id_is)
+                    free_is_fresh ranges desks h printer number legal.1
+                    (all_placed ranges desks h apart legal.1) free in
+                    unused_is_none h left.j number batch (is_unused ranges desks h number legal.1 fresh) there
+                    left.id_is)
               ]
         ]
 
