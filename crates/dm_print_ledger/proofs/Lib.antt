@@ -13,3 +13,4 @@ pub mod PlanningLaws
 pub mod OpeningLaws
 pub mod PrintingLaws
 pub mod RefusalLaws
+pub mod LastingLaws

@@ -1,6 +1,7 @@
 pub mod Creating
 pub mod FaultNames
 pub mod Givers
+pub mod Lasting
 pub mod Ledger
 pub mod Moving
 pub mod Numbers

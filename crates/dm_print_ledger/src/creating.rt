@@ -5,6 +5,7 @@ ghost use Rattle.dm_store.specs.Saved.{Replaces, MemoryOpen};
 ghost use Rattle.dm_print_ledger.specs.Creating.{FailsToCreate, opening};
 ghost use Rattle.dm_print_ledger.specs.Ledger.{IsSound, ledger_bytes};
 ghost use Rattle.dm_print_ledger.specs.Ranges.{IsRange};
+ghost use Rattle.dm_print_ledger.specs.Lasting.{LeavesLedger};
 
 use crate::fault::CreateFault;
 use crate::format::bytes_of;
@@ -82,6 +83,8 @@ fn save_first<S: Store>(store: &mut S, ledger: &Ledger) -> Result<(), CreateFaul
     requires { IsSound ledger.now }
     ensures empty { OnOk result (IsTrue (S.state store.old).is_honest → (S.state store.old).content ≡ None) }
     ensures ok { OnOk result (Replaces (S.state store.old) (ledger_bytes ledger.now) (Ok tt) (S.state store.new)) }
+    // Whatever a stop leaves then is this ledger.
+    ensures leaves { OnOk result ((S.left store.new).is_told → LeavesLedger (S.left store.new) ledger.now) }
     ensures exists { IsErrOf result CreateFault.Exists → IsTrue (S.state store.old).is_honest →
         IsSome (S.state store.old).content }
     ensures same { IfErr result (λ fault. fault ≢ CreateFault.Device → S.state store.new ≡ S.state store.old) }

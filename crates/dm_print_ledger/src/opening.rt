@@ -4,6 +4,7 @@ ghost use Rattle.std.specs.Prelude.{◌≡◌, IsTrue, IfOk, IfErr, MatchResult}
 ghost use Rattle.dm_print_ledger.specs.Ledger.{IsSound};
 ghost use Rattle.dm_print_ledger.specs.Opening.{HasOpenFault};
 ghost use Rattle.dm_print_ledger.specs.Saving.{HoldsLedger};
+ghost use Rattle.dm_print_ledger.specs.Lasting.{LeavesLedger};
 
 use crate::fault::OpenFault;
 use crate::format::{LedgerFault, parse};
@@ -61,6 +62,9 @@ fn load_ledger<S: Store>(store: &mut S, number: u16) -> Result<Ledger, OpenFault
     ensures ok { IfOk result (λ ledger. IsTrue (S.state store.old).is_honest → HoldsLedger (S.state store.old) ledger) }
     ensures number { IfOk result (λ ledger. ledger.number ≡ number) }
     ensures sound { IfOk result IsSound }
+    // Whatever a stop leaves then is this ledger.
+    ensures leaves { IfOk result (λ ledger.
+        IsTrue (S.state store.old).is_honest → (S.left store.new).is_told → LeavesLedger (S.left store.new) ledger) }
     ensures fault { IfErr result (HasOpenFault (S.state store.old) number) }
     ensures same { S.state store.new ≡ S.state store.old }
 {

@@ -22,19 +22,20 @@ pub struct Printer<S: Store, A: Allocator + Copy = Global> {
 
 impl<S: Store, A: Allocator + Copy> Model for Printer<S, A> {
     ghost use Rattle.dm_print_ledger.specs.Views.{PrinterView};
-    ghost use Rattle.dm_print_ledger.specs.Saving.{IsInOrder};
+    ghost use Rattle.dm_print_ledger.specs.Lasting.{IsInOrder};
 
     ghost Value = { PrinterView };
 
     ghost view = { λ p. record { saved = S.state p.store; ledger = p.ledger; is_failed = p.is_failed } };
 
-    ghost invariant = { λ p. IsInOrder (S.state p.store) p.ledger p.is_failed };
+    ghost invariant = { λ p. IsInOrder (S.state p.store) (S.left p.store) p.ledger p.is_failed };
 }
 
 impl<S: Store, A: Allocator + Copy> Printer<S, A> {
     ghost use Rattle.dm_print_ledger.specs.Ledger.{IsSound};
     ghost use Rattle.dm_print_ledger.specs.Ranges.{free_count};
     ghost use Rattle.dm_print_ledger.specs.Saving.{Saves, FailsToSave};
+    ghost use Rattle.dm_print_ledger.specs.Lasting.{IsNext, Lasts};
     ghost use Rattle.dm_store.specs.Saved.{MemoryOpen};
 
     /// How many identifications are free, as last known to be saved: 0 to 64,516.
@@ -45,9 +46,18 @@ impl<S: Store, A: Allocator + Copy> Printer<S, A> {
         count(self.ledger.free.as_slice())
     }
 
+    /// Its store, lent: what a stop of the machine may leave of the printer at this moment.
+    pub fn store(&self) -> &S
+        ensures state { S.state result.now ≡ self.now.saved }
+        ensures lasts { Lasts self.now.saved (S.left result.now) self.now.ledger self.now.is_failed }
+    {
+        &self.store
+    }
+
     /// Gives its store back.
     pub fn close(self) -> S
-        ensures { S.state result ≡ self.saved }
+        ensures state { S.state result ≡ self.saved }
+        ensures lasts { Lasts self.saved (S.left result) self.ledger self.is_failed }
     {
         let Printer {
             alloc: _,
@@ -62,6 +72,7 @@ impl<S: Store, A: Allocator + Copy> Printer<S, A> {
     pub(crate) fn save(&mut self, next: Ledger) -> Result<(), ReplaceFault>
         requires running { self.old.is_failed ≡ false }
         requires sound { IsSound next }
+        requires next { IsNext self.old.ledger next }
         ensures ok { OnOk result (Saves self.old next self.new) }
         ensures memory { IsErrOf result ReplaceFault.Memory → self.new ≡ self.old }
         ensures plan { IsErrOf result ReplaceFault.Memory → self.old.saved.memory_plan ≡ MemoryOpen }

@@ -14,19 +14,19 @@ told_apart q n apart = grind arith
 told_same : (n : ℕ) → eq_by_cmp nat_cmp n n ≡ true
 told_same n = grind arith
 
-inserted_other : (m : Contents) (n q : ℕ) (bytes : List ℕ) → q ≢ n → get (insert m n bytes) q ≡ get m q
+pub inserted_other : (m : Contents) (n q : ℕ) (bytes : List ℕ) → q ≢ n → get (insert m n bytes) q ≡ get m q
 inserted_other m n q bytes apart =
     get-insert nat_cmp_total m n bytes q ∙ ap (λ b. cond b (Some bytes) (get m q)) (told_apart q n apart)
 
-inserted_same : (m : Contents) (n : ℕ) (bytes : List ℕ) → get (insert m n bytes) n ≡ Some bytes
+pub inserted_same : (m : Contents) (n : ℕ) (bytes : List ℕ) → get (insert m n bytes) n ≡ Some bytes
 inserted_same m n bytes =
     get-insert nat_cmp_total m n bytes n ∙ ap (λ b. cond b (Some bytes) (get m n)) (told_same n)
 
-removed_other : (m : Contents) (n q : ℕ) → q ≢ n → get (remove m n) q ≡ get m q
+pub removed_other : (m : Contents) (n q : ℕ) → q ≢ n → get (remove m n) q ≡ get m q
 removed_other m n q apart =
     get-remove nat_cmp_total m n q ∙ ap (λ b. cond b None (get m q)) (told_apart q n apart)
 
-removed_same : (m : Contents) (n : ℕ) → get (remove m n) n ≡ None
+pub removed_same : (m : Contents) (n : ℕ) → get (remove m n) n ≡ None
 removed_same m n = get-remove nat_cmp_total m n n ∙ ap (λ b. cond b None (get m n)) (told_same n)
 
 found_other : (m : Contents) (n q : ℕ) (found : Content) → q ≢ n → get (with_found m n found) q ≡ get m q

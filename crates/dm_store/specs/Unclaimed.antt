@@ -4,6 +4,7 @@ use Rattle.std.specs.FinMap as map
 use Rattle.dm_store.specs.Saved.{MemoryOpen, LoadsOpen, SavesOpen}
 use Rattle.dm_store.specs.Sets.{SavedSet}
 use Rattle.dm_store.specs.Disk.{DiskState}
+use Rattle.dm_store.specs.Left.{Left, SetLeft}
 
 -- a disk that is not honest, so that no law speaks of what a reader finds or a stop leaves
 abbrev pub unclaimed : DiskState
@@ -23,3 +24,11 @@ unclaimed_set = record {
   load_plan = LoadsOpen;
   save_plan = SavesOpen;
 }
+
+-- it is not told what a stop leaves of a store
+abbrev pub untold : Left
+untold = record { is_told = ⊥; may_leave = λ content. ⊤ }
+
+-- nor of a set
+abbrev pub untold_set : SetLeft
+untold_set = record { is_told = ⊥; may_leave = λ key content. ⊤ }

@@ -1,6 +1,6 @@
 //! A set of stores in a folder of a disk, with a file for each key.
 
-ghost use Rattle.std.specs.Prelude.{◌≡◌, ◌<◌, ◌≢◌, ◌^◌, ℕ, IfOk, IsErrOf, IsSome, IsTrue};
+ghost use Rattle.std.specs.Prelude.{◌≡◌, ◌<◌, ◌≢◌, ◌^◌, ℕ, IfOk, IsErrOf, IsSome, IsTrue, true, false};
 ghost use Rattle.std.specs.String.{string_bytes};
 ghost use Rattle.dm_store.specs.Disk.{
   Keeps,
@@ -27,32 +27,53 @@ use std::marker::Model;
 /// The file of a key has the key as its name, in four lower-case hexadecimal digits, and is replaced as that of a
 /// [`FileStore`](crate::FileStore). Files of other names are not looked at. A folder that isn't there has no keys, and
 /// the first `replace` makes it (but not the folders that it lies in). Each `replace` brings the folder's own entry to
-/// the disk first, and each `remove` that of the key, also if no file has it.
+/// the disk first, and each `remove` that of the key, also if no file has it. What a stop leaves is told of a set that
+/// was made by [`FileSet::of_synced`], and not of one by [`FileSet::new`].
 #[derive(Drop)]
-pub struct FileSet<D, A: Allocator + Copy = Global> {
+pub struct FileSet<D: Folders, A: Allocator + Copy = Global> {
     alloc: A,
     disk: D,
     folder: String<A>,
+    is_synced: bool,
 }
 
-impl<D, A: Allocator + Copy> Model for FileSet<D, A> {
+impl<D: Folders, A: Allocator + Copy> Model for FileSet<D, A> {
     ghost use Rattle.std.specs.String.{string_bytes};
     ghost use Rattle.dm_store.specs.Filed.{Filed};
+    ghost use Rattle.dm_store.specs.Left.{AreOnDisk};
 
     ghost Value = { Filed D };
 
-    ghost view = { λ f. record { disk = f.disk; path = string_bytes f.folder } };
+    ghost view = { λ f. record { disk = f.disk; path = string_bytes f.folder; is_synced = f.is_synced } };
+
+    ghost invariant = { λ f. AreOnDisk f.is_synced (D.state f.disk) (string_bytes f.folder) };
 }
 
 impl<D: Folders, A: Allocator + Copy> FileSet<D, A> {
     /// A set in the folder `folder` of the disk, which need not be there. It takes no memory, and makes no call.
     pub fn new(alloc: A, disk: D, folder: String<A>) -> FileSet<D, A>
-        ensures { result ≡ record { disk = disk; path = string_bytes folder } }
+        ensures { result ≡ record { disk = disk; path = string_bytes folder; is_synced = false } }
     {
         FileSet {
             alloc,
             disk,
             folder,
+            is_synced: false,
+        }
+    }
+
+    /// The same, of a folder in which the bytes of each key's file that is there are on the disk, as those that a save
+    /// put there are. Then it is told what a stop leaves.
+    pub fn of_synced(alloc: A, disk: D, folder: String<A>) -> FileSet<D, A>
+        requires on_disk { IsTrue (D.state disk).is_honest
+            → (key : ℕ) → key < 2 ^ 16 → (D.state disk).is_synced (key_path (string_bytes folder) key) }
+        ensures { result ≡ record { disk = disk; path = string_bytes folder; is_synced = true } }
+    {
+        FileSet {
+            alloc,
+            disk,
+            folder,
+            is_synced: true,
         }
     }
 
@@ -136,15 +157,25 @@ fn load_key<D: Disk, A: Allocator + Copy>(
 impl<D: Folders, A: Allocator + Copy> StoreSet for FileSet<D, A> {
     ghost use Rattle.dm_store.specs.Sets.{ListsKeys, LoadsKey, ReplacesKey, RemovesKey};
     ghost use Rattle.dm_store.specs.Folder.{set_in};
+    ghost use Rattle.std.specs.Prelude.{Some, None};
+    ghost use Rattle.std.specs.FinMap as map;
+    ghost use Rattle.dm_store.specs.Saved.{outcome_of};
+    ghost use Rattle.dm_store.specs.Sets.{outcome_of_remove};
+    ghost use Rattle.dm_store.specs.Left.{KeysLeave, LoadKeyLeaves, SaveKeyLeaves, left_in};
 
     type Memory = D::Memory;
 
     ghost state = { λ f. set_in (D.state f.disk) f.path };
 
+    ghost left = { λ f. left_in f.is_synced (D.state f.disk) f.path };
+
     fn keys(&mut self, limit: usize) -> Result<Vec<u16, D::Memory>, LoadFault>
         ensures lists { ListsKeys (λ keys. keys.items) (set_in (D.state self.old.disk) self.old.path) limit result
             (set_in (D.state self.new.disk) self.new.path) }
+        ensures leaves { KeysLeave (left_in self.old.is_synced (D.state self.old.disk) self.old.path)
+            (left_in self.new.is_synced (D.state self.new.disk) self.new.path) }
         ensures folder { self.new.path ≡ self.old.path }
+        ensures synced { self.new.is_synced ≡ self.old.is_synced }
         ensures kept { KeepsAll (D.state self.old.disk) (D.state self.new.disk) }
     {
         self.disk.keys(self.folder.as_str(), limit)
@@ -153,7 +184,11 @@ impl<D: Folders, A: Allocator + Copy> StoreSet for FileSet<D, A> {
     fn load(&mut self, key: u16, limit: usize) -> Result<Option<Vec<u8, D::Memory>>, LoadFault>
         ensures loads { LoadsKey (λ bytes. bytes.items) (set_in (D.state self.old.disk) self.old.path) key limit result
             (set_in (D.state self.new.disk) self.new.path) }
+        ensures leaves { LoadKeyLeaves (left_in self.old.is_synced (D.state self.old.disk) self.old.path) key
+            (map.get (set_in (D.state self.old.disk) self.old.path).content key) result
+            (left_in self.new.is_synced (D.state self.new.disk) self.new.path) }
         ensures folder { self.new.path ≡ self.old.path }
+        ensures synced { self.new.is_synced ≡ self.old.is_synced }
         ensures kept { KeepsAll (D.state self.old.disk) (D.state self.new.disk) }
         // No stop takes back what is loaded, if the file's bytes are on the disk, as those of a save are.
         ensures settles { IsTrue (D.state self.old.disk).is_honest
@@ -167,7 +202,11 @@ impl<D: Folders, A: Allocator + Copy> StoreSet for FileSet<D, A> {
     fn replace(&mut self, key: u16, bytes: &[u8]) -> Result<(), ReplaceFault>
         ensures replaces { ReplacesKey (set_in (D.state self.old.disk) self.old.path) key bytes.now result
             (set_in (D.state self.new.disk) self.new.path) }
+        ensures leaves { SaveKeyLeaves (left_in self.old.is_synced (D.state self.old.disk) self.old.path) key
+            (Some bytes.now) (outcome_of result)
+            (left_in self.new.is_synced (D.state self.new.disk) self.new.path) }
         ensures folder { self.new.path ≡ self.old.path }
+        ensures synced { self.new.is_synced ≡ self.old.is_synced }
         ensures refused { IsErrOf result ReplaceFault.Memory
             → KeepsAll (D.state self.old.disk) (D.state self.new.disk) }
         // Whenever the machine stops, in this save or after it, the old content of the key is left or the new, and the
@@ -184,7 +223,11 @@ impl<D: Folders, A: Allocator + Copy> StoreSet for FileSet<D, A> {
     fn remove(&mut self, key: u16) -> Result<(), RemoveFault>
         ensures removes { RemovesKey (set_in (D.state self.old.disk) self.old.path) key result
             (set_in (D.state self.new.disk) self.new.path) }
+        ensures leaves { SaveKeyLeaves (left_in self.old.is_synced (D.state self.old.disk) self.old.path) key None
+            (outcome_of_remove result)
+            (left_in self.new.is_synced (D.state self.new.disk) self.new.path) }
         ensures folder { self.new.path ≡ self.old.path }
+        ensures synced { self.new.is_synced ≡ self.old.is_synced }
         ensures refused { IsErrOf result RemoveFault.Memory
             → KeepsAll (D.state self.old.disk) (D.state self.new.disk) }
         // Whenever the machine stops, in this remove or after it, the old content of the key is left or none, and none

@@ -1,6 +1,6 @@
 //! A store in a file of a disk.
 
-ghost use Rattle.std.specs.Prelude.{◌≡◌, ◌≢◌, ◌++◌, ℕ, List, Some, IfOk, IsErrOf, IsSome, codes, IsTrue};
+ghost use Rattle.std.specs.Prelude.{◌≡◌, ◌≢◌, ◌++◌, ℕ, List, Some, IfOk, IsErrOf, IsSome, codes, IsTrue, true, false};
 ghost use Rattle.std.specs.String.{string_bytes};
 ghost use Rattle.dm_store.specs.Disk.{
   KeepsAll,
@@ -26,29 +26,53 @@ use std::marker::Model;
 ///
 /// A `load` syncs the folder before it answers, so that no stop takes back what it gives of a file whose bytes are on
 /// the disk, as those of a save are. It does not sync the bytes: those of a file that somebody else put there, and did
-/// not sync, a stop may take back. It answers `None` if the file or its folder isn't there.
+/// not sync, a stop may take back. So what a stop leaves is told of a store that was made by [`FileStore::of_synced`],
+/// and not of one by [`FileStore::new`]. A load answers `None` if the file or its folder isn't there.
 #[derive(Drop)]
-pub struct FileStore<D, A: Allocator + Copy = Global> {
+pub struct FileStore<D: Disk, A: Allocator + Copy = Global> {
     alloc: A,
     disk: D,
     path: String<A>,
+    is_synced: bool,
 }
 
-impl<D, A: Allocator + Copy> Model for FileStore<D, A> {
+impl<D: Disk, A: Allocator + Copy> Model for FileStore<D, A> {
     ghost use Rattle.std.specs.String.{string_bytes};
     ghost use Rattle.dm_store.specs.Filed.{Filed};
+    ghost use Rattle.dm_store.specs.Left.{IsOnDisk};
 
     ghost Value = { Filed D };
 
-    ghost view = { λ f. record { disk = f.disk; path = string_bytes f.path } };
+    ghost view = { λ f. record { disk = f.disk; path = string_bytes f.path; is_synced = f.is_synced } };
+
+    ghost invariant = { λ f. IsOnDisk f.is_synced (D.state f.disk) (string_bytes f.path) };
 }
 
 impl<D: Disk, A: Allocator + Copy> FileStore<D, A> {
     /// A store in the file at `path` of the disk, which need not be there. It takes no memory, and makes no call.
     pub fn new(alloc: A, disk: D, path: String<A>) -> FileStore<D, A>
-        ensures { result ≡ record { disk = disk; path = string_bytes path } }
+        ensures { result ≡ record { disk = disk; path = string_bytes path; is_synced = false } }
     {
-        FileStore { alloc, disk, path }
+        FileStore {
+            alloc,
+            disk,
+            path,
+            is_synced: false,
+        }
+    }
+
+    /// The same, of a file whose bytes are on the disk if it is there, as those that a save put there are. Then it is
+    /// told what a stop leaves: whenever the machine stops, what a load gave stays, and so does what was saved.
+    pub fn of_synced(alloc: A, disk: D, path: String<A>) -> FileStore<D, A>
+        requires on_disk { IsTrue (D.state disk).is_honest → (D.state disk).is_synced (string_bytes path) }
+        ensures { result ≡ record { disk = disk; path = string_bytes path; is_synced = true } }
+    {
+        FileStore {
+            alloc,
+            disk,
+            path,
+            is_synced: true,
+        }
     }
 
     /// The disk, as the calls left it.
@@ -134,15 +158,23 @@ impl<D: Disk, A: Allocator + Copy> Store for FileStore<D, A> {
     ghost use Rattle.dm_store.specs.Saved.{Loads, Replaces};
     ghost use Rattle.dm_store.specs.Disk.{IsSettled};
     ghost use Rattle.dm_store.specs.Filed.{saved_under};
+    ghost use Rattle.dm_store.specs.Left.{LoadLeaves, SaveLeaves, left_under};
+    ghost use Rattle.dm_store.specs.Saved.{outcome_of};
 
     type Memory = D::Memory;
 
     ghost state = { λ f. saved_under (D.state f.disk) f.path };
 
+    ghost left = { λ f. left_under f.is_synced (D.state f.disk) f.path };
+
     fn load(&mut self, limit: usize) -> Result<Option<Vec<u8, D::Memory>>, LoadFault>
         ensures loads { Loads (λ bytes. bytes.items) (saved_under (D.state self.old.disk) self.old.path) limit result
             (saved_under (D.state self.new.disk) self.new.path) }
+        ensures leaves { LoadLeaves (left_under self.old.is_synced (D.state self.old.disk) self.old.path)
+            ((D.state self.old.disk).seen self.old.path) result
+            (left_under self.new.is_synced (D.state self.new.disk) self.new.path) }
         ensures path { self.new.path ≡ self.old.path }
+        ensures synced { self.new.is_synced ≡ self.old.is_synced }
         ensures kept { KeepsAll (D.state self.old.disk) (D.state self.new.disk) }
         // No stop takes back what is loaded, if the file's bytes are on the disk, as those of a save are.
         ensures settles { IsTrue (D.state self.old.disk).is_honest
@@ -155,7 +187,10 @@ impl<D: Disk, A: Allocator + Copy> Store for FileStore<D, A> {
     fn replace(&mut self, bytes: &[u8]) -> Result<(), ReplaceFault>
         ensures replaces { Replaces (saved_under (D.state self.old.disk) self.old.path) bytes.now result
             (saved_under (D.state self.new.disk) self.new.path) }
+        ensures leaves { SaveLeaves (left_under self.old.is_synced (D.state self.old.disk) self.old.path) bytes.now
+            (outcome_of result) (left_under self.new.is_synced (D.state self.new.disk) self.new.path) }
         ensures path { self.new.path ≡ self.old.path }
+        ensures synced { self.new.is_synced ≡ self.old.is_synced }
         ensures refused { IsErrOf result ReplaceFault.Memory
             → KeepsAll (D.state self.old.disk) (D.state self.new.disk) }
         // Whenever the machine stops, in this save or after it, the old content is left or the new, and the new once it is

@@ -51,7 +51,8 @@ impl<S: Store> FuseStore<S> {
 
 impl<S: Store> Store for FuseStore<S> {
     ghost use Rattle.std.specs.Prelude.{Err};
-    ghost use Rattle.dm_store.specs.Saved.{Loads, Replaces};
+    ghost use Rattle.dm_store.specs.Saved.{Loads, Replaces, outcome_of};
+    ghost use Rattle.dm_store.specs.Left.{LoadLeaves, SaveLeaves};
     ghost use Rattle.dm_store.specs.Turns.{turn_of_load, turn_of_save, after_call};
     ghost use Rattle.dm_store.specs.Fused.{with_open_plans, IsMadeAndStopped};
 
@@ -59,9 +60,13 @@ impl<S: Store> Store for FuseStore<S> {
 
     ghost state = { λ fused. with_open_plans (S.state fused.inner) };
 
+    ghost left = { λ fused. S.left fused.inner };
+
     fn load(&mut self, limit: usize) -> Result<Option<Vec<u8, S::Memory>>, LoadFault>
         ensures loads { Loads (λ bytes. bytes.items) (with_open_plans (S.state self.old.inner)) limit result
             (with_open_plans (S.state self.new.inner)) }
+        ensures leaves { LoadLeaves (S.left self.old.inner) (S.state self.old.inner).content result
+            (S.left self.new.inner) }
         ensures passes { turn_of_load self.old.left ≡ Turn.Passes
             → Loads (λ bytes. bytes.items) (S.state self.old.inner) limit result (S.state self.new.inner) }
         ensures stopped { turn_of_load self.old.left ≡ Turn.Stopped
@@ -77,6 +82,7 @@ impl<S: Store> Store for FuseStore<S> {
     fn replace(&mut self, bytes: &[u8]) -> Result<(), ReplaceFault>
         ensures replaces { Replaces (with_open_plans (S.state self.old.inner)) bytes.now result
             (with_open_plans (S.state self.new.inner)) }
+        ensures leaves { SaveLeaves (S.left self.old.inner) bytes.now (outcome_of result) (S.left self.new.inner) }
         ensures passes { turn_of_save self.old.left self.old.kept ≡ Turn.Passes
             → Replaces (S.state self.old.inner) bytes.now result (S.state self.new.inner) }
         ensures made { turn_of_save self.old.left self.old.kept ≡ Turn.Made

@@ -116,14 +116,61 @@ impl<A: Allocator + Copy> MemSet<A> {
     }
 }
 
+impl<A: Allocator + Copy> MemSet<A> {
+    ghost use Rattle.std.specs.Prelude.{◌≢◌, Err, IsTrue};
+    ghost use Rattle.dm_store.specs.Sets.{ReplacesKey, RemovesKey};
+
+    // Puts the bytes in place of those saved under a key.
+    fn put(&mut self, key: u16, bytes: &[u8]) -> Result<(), ReplaceFault>
+        ensures honest { IsTrue self.old.is_honest }
+        ensures replaces { ReplacesKey self.old key bytes.now result self.new }
+    {
+        let Ok(copy) = Vec::from_slice(self.alloc, bytes) else {
+            return Err(ReplaceFault::Memory);
+        };
+        if self.next_save != NextSave::FaultOld {
+            let saved = SavedBytes::new(copy);
+            if self.held.insert(key, saved).is_err() {
+                return Err(ReplaceFault::Memory);
+            }
+        }
+        match mem::replace(&mut self.next_save, NextSave::Fine) {
+            NextSave::Fine => Ok(()),
+            NextSave::FaultOld | NextSave::FaultNew => Err(ReplaceFault::Device),
+        }
+    }
+
+    // Takes away what is saved under a key. It takes no memory.
+    fn take_away(&mut self, key: u16) -> Result<(), RemoveFault>
+        ensures honest { IsTrue self.old.is_honest }
+        ensures removes { RemovesKey self.old key result self.new }
+        ensures memory { result ≢ Err RemoveFault.Memory }
+    {
+        if self.held.get(key).is_none() {
+            return Ok(());
+        }
+        let next = mem::replace(&mut self.next_save, NextSave::Fine);
+        if next != NextSave::FaultOld {
+            self.held.remove(key);
+        }
+        match next {
+            NextSave::Fine => Ok(()),
+            NextSave::FaultOld | NextSave::FaultNew => Err(RemoveFault::Device),
+        }
+    }
+}
+
 impl<A: Allocator + Copy> StoreSet for MemSet<A> {
     ghost use Rattle.dm_store.specs.Saved.{LoadsOpen};
-    ghost use Rattle.std.specs.Prelude.{◌≢◌, Err};
-    ghost use Rattle.dm_store.specs.Sets.{ListsKeys, LoadsKey, RemovesKey};
+    ghost use Rattle.std.specs.Prelude.{◌≢◌, Err, None};
+    ghost use Rattle.dm_store.specs.Sets.{ListsKeys, LoadsKey, RemovesKey, outcome_of_remove};
+    ghost use Rattle.dm_store.specs.Left.{SaveKeyLeaves, set_left_as_held};
 
     type Memory = A;
 
     ghost state = { λ set. set };
+
+    ghost left = { λ set. set_left_as_held set.content };
 
     fn keys(&mut self, limit: usize) -> Result<Vec<u16, A>, LoadFault>
         ensures lists { ListsKeys (λ keys. keys.items) self.old limit result self.new }
@@ -157,36 +204,16 @@ impl<A: Allocator + Copy> StoreSet for MemSet<A> {
     }
 
     fn replace(&mut self, key: u16, bytes: &[u8]) -> Result<(), ReplaceFault> {
-        let Ok(copy) = Vec::from_slice(self.alloc, bytes) else {
-            return Err(ReplaceFault::Memory);
-        };
-        if self.next_save != NextSave::FaultOld {
-            let saved = SavedBytes::new(copy);
-            if self.held.insert(key, saved).is_err() {
-                return Err(ReplaceFault::Memory);
-            }
-        }
-        match mem::replace(&mut self.next_save, NextSave::Fine) {
-            NextSave::Fine => Ok(()),
-            NextSave::FaultOld | NextSave::FaultNew => Err(ReplaceFault::Device),
-        }
+        self.put(key, bytes)
     }
 
     fn remove(&mut self, key: u16) -> Result<(), RemoveFault>
         ensures removes { RemovesKey self.old key result self.new }
+        ensures leaves { SaveKeyLeaves (set_left_as_held self.old.content) key None (outcome_of_remove result)
+            (set_left_as_held self.new.content) }
         // It takes no memory.
         ensures memory { result ≢ Err RemoveFault.Memory }
     {
-        if self.held.get(key).is_none() {
-            return Ok(());
-        }
-        let next = mem::replace(&mut self.next_save, NextSave::Fine);
-        if next != NextSave::FaultOld {
-            self.held.remove(key);
-        }
-        match next {
-            NextSave::Fine => Ok(()),
-            NextSave::FaultOld | NextSave::FaultNew => Err(RemoveFault::Device),
-        }
+        self.take_away(key)
     }
 }

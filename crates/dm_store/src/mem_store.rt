@@ -130,10 +130,13 @@ pub(crate) fn copy_of<A: Allocator + Copy>(
 
 impl<A: Allocator + Copy> Store for MemStore<A> {
     ghost use Rattle.dm_store.specs.Saved.{Loads, LoadsOpen};
+    ghost use Rattle.dm_store.specs.Left.{left_as_held};
 
     type Memory = A;
 
     ghost state = { λ store. store };
+
+    ghost left = { λ store. left_as_held store.content };
 
     fn load(&mut self, limit: usize) -> Result<Option<Vec<u8, A>>, LoadFault>
         ensures loads { Loads (λ bytes. bytes.items) self.old limit result self.new }

@@ -19,7 +19,11 @@ pub enum RemoveFault {
 
 /// A place for one list of bytes under each key.
 pub trait StoreSet: Drop {
-    ghost use Rattle.dm_store.specs.Sets.{SavedSet, ListsKeys, LoadsKey, ReplacesKey, RemovesKey};
+    ghost use Rattle.std.specs.Prelude.{Some, None};
+    ghost use Rattle.std.specs.FinMap as map;
+    ghost use Rattle.dm_store.specs.Saved.{outcome_of};
+    ghost use Rattle.dm_store.specs.Sets.{SavedSet, ListsKeys, LoadsKey, ReplacesKey, RemovesKey, outcome_of_remove};
+    ghost use Rattle.dm_store.specs.Left.{SetLeft, KeysLeave, LoadKeyLeaves, SaveKeyLeaves};
 
     /// What the keys and the bytes that a load gives are allocated in.
     type Memory: Allocator;
@@ -27,19 +31,27 @@ pub trait StoreSet: Drop {
     /// What it holds, whether it is honest, and its plans.
     ghost state: { Self → SavedSet };
 
+    /// What a stop of the machine may leave under each key, and whether that is told.
+    ghost left: { Self → SetLeft };
+
     /// The keys under which bytes are saved, rising: all, or the first `limit + 1` where there are more.
     fn keys(&mut self, limit: usize) -> Result<Vec<u16, Self::Memory>, LoadFault>
-        ensures { ListsKeys (λ keys. keys.items) (state self.old) limit result (state self.new) };
+        ensures lists { ListsKeys (λ keys. keys.items) (state self.old) limit result (state self.new) }
+        ensures leaves { KeysLeave (left self.old) (left self.new) };
 
     /// The bytes saved under a key, or their first `limit + 1` where they are longer, or `None` where nothing is saved.
     fn load(&mut self, key: u16, limit: usize) -> Result<Option<Vec<u8, Self::Memory>>, LoadFault>
-        ensures { LoadsKey (λ bytes. bytes.items) (state self.old) key limit result (state self.new) };
+        ensures loads { LoadsKey (λ bytes. bytes.items) (state self.old) key limit result (state self.new) }
+        ensures leaves { LoadKeyLeaves (left self.old) key (map.get (state self.old).content key) result
+            (left self.new) };
 
     /// Puts the bytes in place of those saved under a key, if any.
     fn replace(&mut self, key: u16, bytes: &[u8]) -> Result<(), ReplaceFault>
-        ensures { ReplacesKey (state self.old) key bytes.now result (state self.new) };
+        ensures replaces { ReplacesKey (state self.old) key bytes.now result (state self.new) }
+        ensures leaves { SaveKeyLeaves (left self.old) key (Some bytes.now) (outcome_of result) (left self.new) };
 
     /// Takes away what is saved under a key.
     fn remove(&mut self, key: u16) -> Result<(), RemoveFault>
-        ensures { RemovesKey (state self.old) key result (state self.new) };
+        ensures removes { RemovesKey (state self.old) key result (state self.new) }
+        ensures leaves { SaveKeyLeaves (left self.old) key None (outcome_of_remove result) (left self.new) };
 }

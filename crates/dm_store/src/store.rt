@@ -29,7 +29,8 @@ pub enum ReplaceFault {
 
 /// A place for one list of bytes.
 pub trait Store: Drop {
-    ghost use Rattle.dm_store.specs.Saved.{Saved, Loads, Replaces};
+    ghost use Rattle.dm_store.specs.Saved.{Saved, Loads, Replaces, outcome_of};
+    ghost use Rattle.dm_store.specs.Left.{Left, LoadLeaves, SaveLeaves};
 
     /// What the bytes that a load gives are allocated in.
     type Memory: Allocator;
@@ -37,11 +38,16 @@ pub trait Store: Drop {
     /// What it holds, whether it is honest, and its plans.
     ghost state: { Self → Saved };
 
+    /// What a stop of the machine may leave of it, and whether that is told.
+    ghost left: { Self → Left };
+
     /// The saved bytes, or their first `limit + 1` where they are longer, or `None` where nothing is saved.
     fn load(&mut self, limit: usize) -> Result<Option<Vec<u8, Self::Memory>>, LoadFault>
-        ensures { Loads (λ bytes. bytes.items) (state self.old) limit result (state self.new) };
+        ensures loads { Loads (λ bytes. bytes.items) (state self.old) limit result (state self.new) }
+        ensures leaves { LoadLeaves (left self.old) (state self.old).content result (left self.new) };
 
     /// Puts the bytes in place of the saved ones.
     fn replace(&mut self, bytes: &[u8]) -> Result<(), ReplaceFault>
-        ensures { Replaces (state self.old) bytes.now result (state self.new) };
+        ensures replaces { Replaces (state self.old) bytes.now result (state self.new) }
+        ensures leaves { SaveLeaves (left self.old) bytes.now (outcome_of result) (left self.new) };
 }

@@ -69,21 +69,27 @@ impl<'a, R: Files, S: Store> GuardedStore<'a, R, S> {
 }
 
 impl<R: Files, S: Store> Store for GuardedStore<'_, R, S> {
-    ghost use Rattle.dm_store.specs.Saved.{Loads, Replaces};
+    ghost use Rattle.dm_store.specs.Saved.{Loads, Replaces, outcome_of};
+    ghost use Rattle.dm_store.specs.Left.{LoadLeaves, SaveLeaves};
+    ghost use Rattle.dm_store.specs.Unclaimed.{untold};
     ghost use Rattle.relay.specs.Unclaimed.{unclaimed};
 
     type Memory = S::Memory;
 
     ghost state = { λ _. unclaimed };
 
+    ghost left = { λ _. untold };
+
     fn load(&mut self, limit: usize) -> Result<Option<Vec<u8, S::Memory>>, LoadFault>
-        ensures { Loads (λ bytes. bytes.items) unclaimed limit result unclaimed }
+        ensures loads { Loads (λ bytes. bytes.items) unclaimed limit result unclaimed }
+        ensures leaves { LoadLeaves untold unclaimed.content result untold }
     {
         self.store.load(limit)
     }
 
     fn replace(&mut self, bytes: &[u8]) -> Result<(), ReplaceFault>
-        ensures { Replaces unclaimed bytes.now result unclaimed }
+        ensures replaces { Replaces unclaimed bytes.now result unclaimed }
+        ensures leaves { SaveLeaves untold bytes.now (outcome_of result) untold }
     {
         if !self.guard.holds() {
             return Err(ReplaceFault::Device);
@@ -106,27 +112,36 @@ impl<'a, R: Files, T: StoreSet> GuardedSet<'a, R, T> {
 }
 
 impl<R: Files, T: StoreSet> StoreSet for GuardedSet<'_, R, T> {
-    ghost use Rattle.dm_store.specs.Sets.{ListsKeys, LoadsKey, ReplacesKey, RemovesKey};
-    ghost use Rattle.dm_store.specs.Unclaimed.{unclaimed_set};
+    ghost use Rattle.std.specs.Prelude.{Some, None};
+    ghost use Rattle.std.specs.FinMap as map;
+    ghost use Rattle.dm_store.specs.Saved.{outcome_of};
+    ghost use Rattle.dm_store.specs.Sets.{ListsKeys, LoadsKey, ReplacesKey, RemovesKey, outcome_of_remove};
+    ghost use Rattle.dm_store.specs.Left.{KeysLeave, LoadKeyLeaves, SaveKeyLeaves};
+    ghost use Rattle.dm_store.specs.Unclaimed.{unclaimed_set, untold_set};
 
     type Memory = T::Memory;
 
     ghost state = { λ _. unclaimed_set };
 
+    ghost left = { λ _. untold_set };
+
     fn keys(&mut self, limit: usize) -> Result<Vec<u16, T::Memory>, LoadFault>
-        ensures { ListsKeys (λ keys. keys.items) unclaimed_set limit result unclaimed_set }
+        ensures lists { ListsKeys (λ keys. keys.items) unclaimed_set limit result unclaimed_set }
+        ensures leaves { KeysLeave untold_set untold_set }
     {
         self.set.keys(limit)
     }
 
     fn load(&mut self, key: u16, limit: usize) -> Result<Option<Vec<u8, T::Memory>>, LoadFault>
-        ensures { LoadsKey (λ bytes. bytes.items) unclaimed_set key limit result unclaimed_set }
+        ensures loads { LoadsKey (λ bytes. bytes.items) unclaimed_set key limit result unclaimed_set }
+        ensures leaves { LoadKeyLeaves untold_set key (map.get unclaimed_set.content key) result untold_set }
     {
         self.set.load(key, limit)
     }
 
     fn replace(&mut self, key: u16, bytes: &[u8]) -> Result<(), ReplaceFault>
-        ensures { ReplacesKey unclaimed_set key bytes.now result unclaimed_set }
+        ensures replaces { ReplacesKey unclaimed_set key bytes.now result unclaimed_set }
+        ensures leaves { SaveKeyLeaves untold_set key (Some bytes.now) (outcome_of result) untold_set }
     {
         if !self.guard.holds() {
             return Err(ReplaceFault::Device);
@@ -135,7 +150,8 @@ impl<R: Files, T: StoreSet> StoreSet for GuardedSet<'_, R, T> {
     }
 
     fn remove(&mut self, key: u16) -> Result<(), RemoveFault>
-        ensures { RemovesKey unclaimed_set key result unclaimed_set }
+        ensures removes { RemovesKey unclaimed_set key result unclaimed_set }
+        ensures leaves { SaveKeyLeaves untold_set key None (outcome_of_remove result) untold_set }
     {
         if !self.guard.holds() {
             return Err(RemoveFault::Device);

@@ -14,38 +14,38 @@ pub returns-in-Ok-None-clause-kept : goal.returns-in-Ok-None-clause-kept
 returns-in-Ok-None-clause-kept g c =
     let old : Saved = g.O.Store.state c.args.old.now in
     let set : SavedSet = g.S.StoreSet.state c.args.set.now in
-    subst (λ (s : Saved). KeepsFiles old set s set) (sym c.load.ensures.same) (stays old set)
+    subst (λ (s : Saved). KeepsFiles old set s set) (sym c.load.ensures.loads.same) (stays old set)
 
 pub returns-in-Err-Device-clause-kept : goal.returns-in-Err-Device-clause-kept
 returns-in-Err-Device-clause-kept g c =
     let old : Saved = g.O.Store.state c.args.old.now in
     let set : SavedSet = g.S.StoreSet.state c.args.set.now in
-    subst (λ (s : Saved). KeepsFiles old set s set) (sym c.load.ensures.same) (stays old set)
+    subst (λ (s : Saved). KeepsFiles old set s set) (sym c.load.ensures.loads.same) (stays old set)
 
 pub returns-in-Err-Memory-clause-kept : goal.returns-in-Err-Memory-clause-kept
 returns-in-Err-Memory-clause-kept g c =
     let old : Saved = g.O.Store.state c.args.old.now in
     let set : SavedSet = g.S.StoreSet.state c.args.set.now in
-    subst (λ (s : Saved). KeepsFiles old set s set) (sym c.load.ensures.same) (stays old set)
+    subst (λ (s : Saved). KeepsFiles old set s set) (sym c.load.ensures.loads.same) (stays old set)
 
 pub returns-in-Err-clause-kept : goal.returns-in-Err-clause-kept
 returns-in-Err-clause-kept g c =
     let old : Saved = g.O.Store.state c.args.old.now in
     let set : SavedSet = g.S.StoreSet.state c.args.set.now in
-    subst (λ (s : Saved). KeepsFiles old set s set) (sym c.load.ensures.same) (stays old set)
+    subst (λ (s : Saved). KeepsFiles old set s set) (sym c.load.ensures.loads.same) (stays old set)
 
 pub returns-then-count-eq0-clause-kept : goal.returns-then-count-eq0-clause-kept
 returns-then-count-eq0-clause-kept g c =
     let old : Saved = g.O.Store.state c.args.old.now in
     let set : SavedSet = g.S.StoreSet.state c.args.set.now in
-    subst (λ (s : Saved). KeepsFiles old set s set) (sym c.load.ensures.same) (stays old set)
+    subst (λ (s : Saved). KeepsFiles old set s set) (sym c.load.ensures.loads.same) (stays old set)
 
 pub returns-in-Ok-None-clause-ok : goal.returns-in-Ok-None-clause-ok
 returns-in-Ok-None-clause-ok g c =
     let old : Saved = g.O.Store.state c.args.old.now in
     let set : SavedSet = g.S.StoreSet.state c.args.set.now in
-    subst (λ (s : Saved). Moves old set 0 s set) (sym c.load.ensures.same)
-    (moves_none old set (λ honest. rw c.in-Ok-None.field-0-is at (c.in-Ok-None.ensures.saved honest)))
+    subst (λ (s : Saved). Moves old set 0 s set) (sym c.load.ensures.loads.same)
+    (moves_none old set (λ honest. rw c.in-Ok-None.field-0-is at (c.in-Ok-None.ensures.loads.saved honest)))
 
 pub returns-in-Err-clause-fault : goal.returns-in-Err-clause-fault
 returns-in-Err-clause-fault g c =
@@ -54,8 +54,8 @@ returns-in-Err-clause-fault g c =
     let loaded : List ℕ = c.deref.result.now in
     let loads : IsTrue old.is_honest → Some loaded ≡ option_map (take (42636295 + 1)) old.content =
     λ honest. ap (λ (bs : List ℕ). Some bs) c.deref.ensures.value ∙
-    (rw c.in-Ok-Some.field-0-is at (c.in-Ok-Some.ensures.saved honest)) in
-    subst (λ (s : Saved). HasMoveFault old set c.in-Err.fault s set) (sym c.load.ensures.same)
+    (rw c.in-Ok-Some.field-0-is at (c.in-Ok-Some.ensures.loads.saved honest)) in
+    subst (λ (s : Saved). HasMoveFault old set c.in-Err.fault s set) (sym c.load.ensures.loads.same)
     (faulty old set loaded c.in-Err.fault loads c.in-Err.ensures.fault)
 
 pub returns-then-count-eq0-clause-ok : goal.returns-then-count-eq0-clause-ok
@@ -65,8 +65,8 @@ returns-then-count-eq0-clause-ok g c =
     let loaded : List ℕ = c.deref.result.now in
     let loads : IsTrue old.is_honest → Some loaded ≡ option_map (take (42636295 + 1)) old.content =
     λ honest. ap (λ (bs : List ℕ). Some bs) c.deref.ensures.value ∙
-    (rw c.in-Ok-Some.field-0-is at (c.in-Ok-Some.ensures.saved honest)) in
-    subst (λ (s : Saved). Moves old set 0 s set) (sym c.load.ensures.same)
+    (rw c.in-Ok-Some.field-0-is at (c.in-Ok-Some.ensures.loads.saved honest)) in
+    subst (λ (s : Saved). Moves old set 0 s set) (sym c.load.ensures.loads.same)
     (moves_nothing old set loaded (map_keys set.content) c.in-Ok.found.0 c.in-Ok.found.1.now c.in-Ok.ensures.found loads
     (λ _. refl) c.if-count-eq0.true)
 
@@ -74,15 +74,15 @@ pub returns-in-Err-Device-keys-clause-kept : goal.returns-in-Err-Device-keys-cla
 returns-in-Err-Device-keys-clause-kept g c =
     let old : Saved = g.O.Store.state c.args.old.now in
     let set : SavedSet = g.S.StoreSet.state c.args.set.now in
-    subst (λ (s : Saved). KeepsFiles old set s (g.S.StoreSet.state c.keys.new.self)) (sym c.load.ensures.same)
-    (subst (λ (s : SavedSet). KeepsFiles old set old s) (sym c.keys.ensures.same) (stays old set))
+    subst (λ (s : Saved). KeepsFiles old set s (g.S.StoreSet.state c.keys.new.self)) (sym c.load.ensures.loads.same)
+    (subst (λ (s : SavedSet). KeepsFiles old set old s) (sym c.keys.ensures.lists.same) (stays old set))
 
 pub returns-in-Err-Memory-keys-clause-kept : goal.returns-in-Err-Memory-keys-clause-kept
 returns-in-Err-Memory-keys-clause-kept g c =
     let old : Saved = g.O.Store.state c.args.old.now in
     let set : SavedSet = g.S.StoreSet.state c.args.set.now in
-    subst (λ (s : Saved). KeepsFiles old set s (g.S.StoreSet.state c.keys.new.self)) (sym c.load.ensures.same)
-    (subst (λ (s : SavedSet). KeepsFiles old set old s) (sym c.keys.ensures.same) (stays old set))
+    subst (λ (s : Saved). KeepsFiles old set s (g.S.StoreSet.state c.keys.new.self)) (sym c.load.ensures.loads.same)
+    (subst (λ (s : SavedSet). KeepsFiles old set old s) (sym c.keys.ensures.lists.same) (stays old set))
 
 pub returns-in-Err-Device-move_entries-clause-kept : goal.returns-in-Err-Device-move_entries-clause-kept
 returns-in-Err-Device-move_entries-clause-kept g c =
@@ -91,16 +91,16 @@ returns-in-Err-Device-move_entries-clause-kept g c =
     let loaded : List ℕ = c.deref.result.now in
     let loads : IsTrue old.is_honest → Some loaded ≡ option_map (take (42636295 + 1)) old.content =
     λ honest. ap (λ (bs : List ℕ). Some bs) c.deref.ensures.value ∙
-    (rw c.in-Ok-Some.field-0-is at (c.in-Ok-Some.ensures.saved honest)) in
+    (rw c.in-Ok-Some.field-0-is at (c.in-Ok-Some.ensures.loads.saved honest)) in
     let ks : List ℕ = c.deref-3.result.now in
     let known : IsTrue set.is_honest → ks ≡ map_keys set.content = λ honest.
     all_of_them set.content ks (λ i. rw (c.deref-3.ensures.value ∙ sym c.deref-2.ensures.value) (c.keys_fit.ensures i))
-    (c.deref-3.ensures.value ∙ c.in-Ok-keys.ensures.saved honest) in
+    (c.deref-3.ensures.value ∙ c.in-Ok-keys.ensures.lists.saved honest) in
     let after : SavedSet = g.S.StoreSet.state c.move_entries.new.set in
     let m : MovesEntries set ks c.in-Ok.found.0 c.in-Ok.found.1.now (Err replaces.Device) after =
     subst (λ (s : SavedSet). MovesEntries s ks c.in-Ok.found.0 c.in-Ok.found.1.now (Err replaces.Device) after)
-    c.keys.ensures.same (rw c.in-Err-Device-move_entries.field-0-is at c.in-Err-Device-move_entries.ensures) in
-    subst (λ (s : Saved). KeepsFiles old set s after) (sym c.load.ensures.same)
+    c.keys.ensures.lists.same (rw c.in-Err-Device-move_entries.field-0-is at c.in-Err-Device-move_entries.ensures) in
+    subst (λ (s : Saved). KeepsFiles old set s after) (sym c.load.ensures.loads.same)
     (abandoned old set loaded ks c.in-Ok.found.0 c.in-Ok.found.1.now c.in-Ok.ensures.found loads known after
     replaces.Device m)
 
@@ -111,16 +111,16 @@ returns-in-Err-Memory-move_entries-clause-kept g c =
     let loaded : List ℕ = c.deref.result.now in
     let loads : IsTrue old.is_honest → Some loaded ≡ option_map (take (42636295 + 1)) old.content =
     λ honest. ap (λ (bs : List ℕ). Some bs) c.deref.ensures.value ∙
-    (rw c.in-Ok-Some.field-0-is at (c.in-Ok-Some.ensures.saved honest)) in
+    (rw c.in-Ok-Some.field-0-is at (c.in-Ok-Some.ensures.loads.saved honest)) in
     let ks : List ℕ = c.deref-3.result.now in
     let known : IsTrue set.is_honest → ks ≡ map_keys set.content = λ honest.
     all_of_them set.content ks (λ i. rw (c.deref-3.ensures.value ∙ sym c.deref-2.ensures.value) (c.keys_fit.ensures i))
-    (c.deref-3.ensures.value ∙ c.in-Ok-keys.ensures.saved honest) in
+    (c.deref-3.ensures.value ∙ c.in-Ok-keys.ensures.lists.saved honest) in
     let after : SavedSet = g.S.StoreSet.state c.move_entries.new.set in
     let m : MovesEntries set ks c.in-Ok.found.0 c.in-Ok.found.1.now (Err replaces.Memory) after =
     subst (λ (s : SavedSet). MovesEntries s ks c.in-Ok.found.0 c.in-Ok.found.1.now (Err replaces.Memory) after)
-    c.keys.ensures.same (rw c.in-Err-Memory-move_entries.field-0-is at c.in-Err-Memory-move_entries.ensures) in
-    subst (λ (s : Saved). KeepsFiles old set s after) (sym c.load.ensures.same)
+    c.keys.ensures.lists.same (rw c.in-Err-Memory-move_entries.field-0-is at c.in-Err-Memory-move_entries.ensures) in
+    subst (λ (s : Saved). KeepsFiles old set s after) (sym c.load.ensures.loads.same)
     (abandoned old set loaded ks c.in-Ok.found.0 c.in-Ok.found.1.now c.in-Ok.ensures.found loads known after
     replaces.Memory m)
 
@@ -131,19 +131,19 @@ returns-in-Ok-replace-clause-ok g c =
     let loaded : List ℕ = c.deref.result.now in
     let loads : IsTrue old.is_honest → Some loaded ≡ option_map (take (42636295 + 1)) old.content =
     λ honest. ap (λ (bs : List ℕ). Some bs) c.deref.ensures.value ∙
-    (rw c.in-Ok-Some.field-0-is at (c.in-Ok-Some.ensures.saved honest)) in
+    (rw c.in-Ok-Some.field-0-is at (c.in-Ok-Some.ensures.loads.saved honest)) in
     let ks : List ℕ = c.deref-3.result.now in
     let known : IsTrue set.is_honest → ks ≡ map_keys set.content = λ honest.
     all_of_them set.content ks (λ i. rw (c.deref-3.ensures.value ∙ sym c.deref-2.ensures.value) (c.keys_fit.ensures i))
-    (c.deref-3.ensures.value ∙ c.in-Ok-keys.ensures.saved honest) in
+    (c.deref-3.ensures.value ∙ c.in-Ok-keys.ensures.lists.saved honest) in
     let after : SavedSet = g.S.StoreSet.state c.move_entries.new.set in
     let m : MovesEntries set ks c.in-Ok.found.0 c.in-Ok.found.1.now (Ok c.in-Ok-move_entries.written) after =
     subst (λ (s : SavedSet). MovesEntries s ks c.in-Ok.found.0 c.in-Ok.found.1.now
-    (Ok c.in-Ok-move_entries.written) after) c.keys.ensures.same c.in-Ok-move_entries.ensures in
+    (Ok c.in-Ok-move_entries.written) after) c.keys.ensures.lists.same c.in-Ok-move_entries.ensures in
     let emptied : Saved = g.O.Store.state c.replace.new.self in
     let p : Replaces old (68 ∷ 77 ∷ 80 ∷ 71 ∷ 1 ∷ 0 ∷ 0 ∷ []) (Ok tt) emptied =
-    subst (λ (s : Saved). Replaces s (68 ∷ 77 ∷ 80 ∷ 71 ∷ 1 ∷ 0 ∷ 0 ∷ []) (Ok tt) emptied) c.load.ensures.same
-    (c.in-Ok-replace.ensures) in
+    subst (λ (s : Saved). Replaces s (68 ∷ 77 ∷ 80 ∷ 71 ∷ 1 ∷ 0 ∷ 0 ∷ []) (Ok tt) emptied) c.load.ensures.loads.same
+    (c.in-Ok-replace.ensures.replaces) in
     moves_done old set loaded ks c.in-Ok.found.0 c.in-Ok.found.1.now c.in-Ok.ensures.found loads known after
     c.in-Ok-move_entries.written m emptied c.if-count-eq0.false p
 
@@ -154,19 +154,19 @@ returns-in-Ok-replace-clause-kept g c =
     let loaded : List ℕ = c.deref.result.now in
     let loads : IsTrue old.is_honest → Some loaded ≡ option_map (take (42636295 + 1)) old.content =
     λ honest. ap (λ (bs : List ℕ). Some bs) c.deref.ensures.value ∙
-    (rw c.in-Ok-Some.field-0-is at (c.in-Ok-Some.ensures.saved honest)) in
+    (rw c.in-Ok-Some.field-0-is at (c.in-Ok-Some.ensures.loads.saved honest)) in
     let ks : List ℕ = c.deref-3.result.now in
     let known : IsTrue set.is_honest → ks ≡ map_keys set.content = λ honest.
     all_of_them set.content ks (λ i. rw (c.deref-3.ensures.value ∙ sym c.deref-2.ensures.value) (c.keys_fit.ensures i))
-    (c.deref-3.ensures.value ∙ c.in-Ok-keys.ensures.saved honest) in
+    (c.deref-3.ensures.value ∙ c.in-Ok-keys.ensures.lists.saved honest) in
     let after : SavedSet = g.S.StoreSet.state c.move_entries.new.set in
     let m : MovesEntries set ks c.in-Ok.found.0 c.in-Ok.found.1.now (Ok c.in-Ok-move_entries.written) after =
     subst (λ (s : SavedSet). MovesEntries s ks c.in-Ok.found.0 c.in-Ok.found.1.now
-    (Ok c.in-Ok-move_entries.written) after) c.keys.ensures.same c.in-Ok-move_entries.ensures in
+    (Ok c.in-Ok-move_entries.written) after) c.keys.ensures.lists.same c.in-Ok-move_entries.ensures in
     let emptied : Saved = g.O.Store.state c.replace.new.self in
     let p : Replaces old (68 ∷ 77 ∷ 80 ∷ 71 ∷ 1 ∷ 0 ∷ 0 ∷ []) (Ok tt) emptied =
-    subst (λ (s : Saved). Replaces s (68 ∷ 77 ∷ 80 ∷ 71 ∷ 1 ∷ 0 ∷ 0 ∷ []) (Ok tt) emptied) c.load.ensures.same
-    (c.in-Ok-replace.ensures) in
+    subst (λ (s : Saved). Replaces s (68 ∷ 77 ∷ 80 ∷ 71 ∷ 1 ∷ 0 ∷ 0 ∷ []) (Ok tt) emptied) c.load.ensures.loads.same
+    (c.in-Ok-replace.ensures.replaces) in
     joined_done old set loaded ks c.in-Ok.found.0 c.in-Ok.found.1.now c.in-Ok.ensures.found loads known after
     c.in-Ok-move_entries.written m emptied p
 
@@ -177,19 +177,19 @@ returns-in-Err-Device-replace-clause-kept g c =
     let loaded : List ℕ = c.deref.result.now in
     let loads : IsTrue old.is_honest → Some loaded ≡ option_map (take (42636295 + 1)) old.content =
     λ honest. ap (λ (bs : List ℕ). Some bs) c.deref.ensures.value ∙
-    (rw c.in-Ok-Some.field-0-is at (c.in-Ok-Some.ensures.saved honest)) in
+    (rw c.in-Ok-Some.field-0-is at (c.in-Ok-Some.ensures.loads.saved honest)) in
     let ks : List ℕ = c.deref-3.result.now in
     let known : IsTrue set.is_honest → ks ≡ map_keys set.content = λ honest.
     all_of_them set.content ks (λ i. rw (c.deref-3.ensures.value ∙ sym c.deref-2.ensures.value) (c.keys_fit.ensures i))
-    (c.deref-3.ensures.value ∙ c.in-Ok-keys.ensures.saved honest) in
+    (c.deref-3.ensures.value ∙ c.in-Ok-keys.ensures.lists.saved honest) in
     let after : SavedSet = g.S.StoreSet.state c.move_entries.new.set in
     let m : MovesEntries set ks c.in-Ok.found.0 c.in-Ok.found.1.now (Ok c.in-Ok-move_entries.written) after =
     subst (λ (s : SavedSet). MovesEntries s ks c.in-Ok.found.0 c.in-Ok.found.1.now
-    (Ok c.in-Ok-move_entries.written) after) c.keys.ensures.same c.in-Ok-move_entries.ensures in
+    (Ok c.in-Ok-move_entries.written) after) c.keys.ensures.lists.same c.in-Ok-move_entries.ensures in
     let emptied : Saved = g.O.Store.state c.replace.new.self in
     let p : Replaces old (68 ∷ 77 ∷ 80 ∷ 71 ∷ 1 ∷ 0 ∷ 0 ∷ []) (Err replaces.Device) emptied =
     subst (λ (s : Saved). Replaces s (68 ∷ 77 ∷ 80 ∷ 71 ∷ 1 ∷ 0 ∷ 0 ∷ []) (Err replaces.Device) emptied)
-    c.load.ensures.same (rw c.in-Err-Device-replace.field-0-is at c.in-Err-Device-replace.ensures) in
+    c.load.ensures.loads.same (rw c.in-Err-Device-replace.field-0-is at c.in-Err-Device-replace.ensures.replaces) in
     joined_faulted old set loaded ks c.in-Ok.found.0 c.in-Ok.found.1.now c.in-Ok.ensures.found loads known after
     c.in-Ok-move_entries.written m emptied replaces.Device p
 
@@ -200,19 +200,19 @@ returns-clause-kept g c =
     let loaded : List ℕ = c.deref.result.now in
     let loads : IsTrue old.is_honest → Some loaded ≡ option_map (take (42636295 + 1)) old.content =
     λ honest. ap (λ (bs : List ℕ). Some bs) c.deref.ensures.value ∙
-    (rw c.in-Ok-Some.field-0-is at (c.in-Ok-Some.ensures.saved honest)) in
+    (rw c.in-Ok-Some.field-0-is at (c.in-Ok-Some.ensures.loads.saved honest)) in
     let ks : List ℕ = c.deref-3.result.now in
     let known : IsTrue set.is_honest → ks ≡ map_keys set.content = λ honest.
     all_of_them set.content ks (λ i. rw (c.deref-3.ensures.value ∙ sym c.deref-2.ensures.value) (c.keys_fit.ensures i))
-    (c.deref-3.ensures.value ∙ c.in-Ok-keys.ensures.saved honest) in
+    (c.deref-3.ensures.value ∙ c.in-Ok-keys.ensures.lists.saved honest) in
     let after : SavedSet = g.S.StoreSet.state c.move_entries.new.set in
     let m : MovesEntries set ks c.in-Ok.found.0 c.in-Ok.found.1.now (Ok c.in-Ok-move_entries.written) after =
     subst (λ (s : SavedSet). MovesEntries s ks c.in-Ok.found.0 c.in-Ok.found.1.now
-    (Ok c.in-Ok-move_entries.written) after) c.keys.ensures.same c.in-Ok-move_entries.ensures in
+    (Ok c.in-Ok-move_entries.written) after) c.keys.ensures.lists.same c.in-Ok-move_entries.ensures in
     let emptied : Saved = g.O.Store.state c.replace.new.self in
     let p : Replaces old (68 ∷ 77 ∷ 80 ∷ 71 ∷ 1 ∷ 0 ∷ 0 ∷ []) (Err replaces.Memory) emptied =
     subst (λ (s : Saved). Replaces s (68 ∷ 77 ∷ 80 ∷ 71 ∷ 1 ∷ 0 ∷ 0 ∷ []) (Err replaces.Memory) emptied)
-    c.load.ensures.same (rw c.in-Err-Memory-replace.field-0-is at c.in-Err-Memory-replace.ensures) in
+    c.load.ensures.loads.same (rw c.in-Err-Memory-replace.field-0-is at c.in-Err-Memory-replace.ensures.replaces) in
     joined_faulted old set loaded ks c.in-Ok.found.0 c.in-Ok.found.1.now c.in-Ok.ensures.found loads known after
     c.in-Ok-move_entries.written m emptied replaces.Memory p
 
@@ -220,45 +220,45 @@ pub returns-in-Ok-None-clause-plans : goal.returns-in-Ok-None-clause-plans
 returns-in-Ok-None-clause-plans g c =
     let old : Saved = g.O.Store.state c.args.old.now in
     let set : SavedSet = g.S.StoreSet.state c.args.set.now in
-    subst (λ (s : Saved). KeepsPlans old set s set) (sym c.load.ensures.same) (plans_stay old set)
+    subst (λ (s : Saved). KeepsPlans old set s set) (sym c.load.ensures.loads.same) (plans_stay old set)
 
 pub returns-in-Err-Device-clause-plans : goal.returns-in-Err-Device-clause-plans
 returns-in-Err-Device-clause-plans g c =
     let old : Saved = g.O.Store.state c.args.old.now in
     let set : SavedSet = g.S.StoreSet.state c.args.set.now in
-    subst (λ (s : Saved). KeepsPlans old set s set) (sym c.load.ensures.same) (plans_stay old set)
+    subst (λ (s : Saved). KeepsPlans old set s set) (sym c.load.ensures.loads.same) (plans_stay old set)
 
 pub returns-in-Err-Memory-clause-plans : goal.returns-in-Err-Memory-clause-plans
 returns-in-Err-Memory-clause-plans g c =
     let old : Saved = g.O.Store.state c.args.old.now in
     let set : SavedSet = g.S.StoreSet.state c.args.set.now in
-    subst (λ (s : Saved). KeepsPlans old set s set) (sym c.load.ensures.same) (plans_stay old set)
+    subst (λ (s : Saved). KeepsPlans old set s set) (sym c.load.ensures.loads.same) (plans_stay old set)
 
 pub returns-in-Err-clause-plans : goal.returns-in-Err-clause-plans
 returns-in-Err-clause-plans g c =
     let old : Saved = g.O.Store.state c.args.old.now in
     let set : SavedSet = g.S.StoreSet.state c.args.set.now in
-    subst (λ (s : Saved). KeepsPlans old set s set) (sym c.load.ensures.same) (plans_stay old set)
+    subst (λ (s : Saved). KeepsPlans old set s set) (sym c.load.ensures.loads.same) (plans_stay old set)
 
 pub returns-then-count-eq0-clause-plans : goal.returns-then-count-eq0-clause-plans
 returns-then-count-eq0-clause-plans g c =
     let old : Saved = g.O.Store.state c.args.old.now in
     let set : SavedSet = g.S.StoreSet.state c.args.set.now in
-    subst (λ (s : Saved). KeepsPlans old set s set) (sym c.load.ensures.same) (plans_stay old set)
+    subst (λ (s : Saved). KeepsPlans old set s set) (sym c.load.ensures.loads.same) (plans_stay old set)
 
 pub returns-in-Err-Device-keys-clause-plans : goal.returns-in-Err-Device-keys-clause-plans
 returns-in-Err-Device-keys-clause-plans g c =
     let old : Saved = g.O.Store.state c.args.old.now in
     let set : SavedSet = g.S.StoreSet.state c.args.set.now in
-    subst (λ (s : Saved). KeepsPlans old set s (g.S.StoreSet.state c.keys.new.self)) (sym c.load.ensures.same)
-    (subst (λ (s : SavedSet). KeepsPlans old set old s) (sym c.keys.ensures.same) (plans_stay old set))
+    subst (λ (s : Saved). KeepsPlans old set s (g.S.StoreSet.state c.keys.new.self)) (sym c.load.ensures.loads.same)
+    (subst (λ (s : SavedSet). KeepsPlans old set old s) (sym c.keys.ensures.lists.same) (plans_stay old set))
 
 pub returns-in-Err-Memory-keys-clause-plans : goal.returns-in-Err-Memory-keys-clause-plans
 returns-in-Err-Memory-keys-clause-plans g c =
     let old : Saved = g.O.Store.state c.args.old.now in
     let set : SavedSet = g.S.StoreSet.state c.args.set.now in
-    subst (λ (s : Saved). KeepsPlans old set s (g.S.StoreSet.state c.keys.new.self)) (sym c.load.ensures.same)
-    (subst (λ (s : SavedSet). KeepsPlans old set old s) (sym c.keys.ensures.same) (plans_stay old set))
+    subst (λ (s : Saved). KeepsPlans old set s (g.S.StoreSet.state c.keys.new.self)) (sym c.load.ensures.loads.same)
+    (subst (λ (s : SavedSet). KeepsPlans old set old s) (sym c.keys.ensures.lists.same) (plans_stay old set))
 
 pub returns-in-Err-Device-move_entries-clause-plans : goal.returns-in-Err-Device-move_entries-clause-plans
 returns-in-Err-Device-move_entries-clause-plans g c =
@@ -268,8 +268,8 @@ returns-in-Err-Device-move_entries-clause-plans g c =
     let after : SavedSet = g.S.StoreSet.state c.move_entries.new.set in
     let m : MovesEntries set ks c.in-Ok.found.0 c.in-Ok.found.1.now (Err replaces.Device) after =
     subst (λ (s : SavedSet). MovesEntries s ks c.in-Ok.found.0 c.in-Ok.found.1.now (Err replaces.Device) after)
-    c.keys.ensures.same (rw c.in-Err-Device-move_entries.field-0-is at c.in-Err-Device-move_entries.ensures) in
-    subst (λ (s : Saved). KeepsPlans old set s after) (sym c.load.ensures.same)
+    c.keys.ensures.lists.same (rw c.in-Err-Device-move_entries.field-0-is at c.in-Err-Device-move_entries.ensures) in
+    subst (λ (s : Saved). KeepsPlans old set s after) (sym c.load.ensures.loads.same)
     (plans_abandoned old set ks c.in-Ok.found.0 c.in-Ok.found.1.now after replaces.Device m)
 
 pub returns-in-Err-Memory-move_entries-clause-plans : goal.returns-in-Err-Memory-move_entries-clause-plans
@@ -280,8 +280,8 @@ returns-in-Err-Memory-move_entries-clause-plans g c =
     let after : SavedSet = g.S.StoreSet.state c.move_entries.new.set in
     let m : MovesEntries set ks c.in-Ok.found.0 c.in-Ok.found.1.now (Err replaces.Memory) after =
     subst (λ (s : SavedSet). MovesEntries s ks c.in-Ok.found.0 c.in-Ok.found.1.now (Err replaces.Memory) after)
-    c.keys.ensures.same (rw c.in-Err-Memory-move_entries.field-0-is at c.in-Err-Memory-move_entries.ensures) in
-    subst (λ (s : Saved). KeepsPlans old set s after) (sym c.load.ensures.same)
+    c.keys.ensures.lists.same (rw c.in-Err-Memory-move_entries.field-0-is at c.in-Err-Memory-move_entries.ensures) in
+    subst (λ (s : Saved). KeepsPlans old set s after) (sym c.load.ensures.loads.same)
     (plans_abandoned old set ks c.in-Ok.found.0 c.in-Ok.found.1.now after replaces.Memory m)
 
 pub returns-in-Ok-replace-clause-plans : goal.returns-in-Ok-replace-clause-plans
@@ -292,11 +292,11 @@ returns-in-Ok-replace-clause-plans g c =
     let after : SavedSet = g.S.StoreSet.state c.move_entries.new.set in
     let m : MovesEntries set ks c.in-Ok.found.0 c.in-Ok.found.1.now (Ok c.in-Ok-move_entries.written) after =
     subst (λ (s : SavedSet). MovesEntries s ks c.in-Ok.found.0 c.in-Ok.found.1.now
-    (Ok c.in-Ok-move_entries.written) after) c.keys.ensures.same c.in-Ok-move_entries.ensures in
+    (Ok c.in-Ok-move_entries.written) after) c.keys.ensures.lists.same c.in-Ok-move_entries.ensures in
     let emptied : Saved = g.O.Store.state c.replace.new.self in
     let p : Replaces old (68 ∷ 77 ∷ 80 ∷ 71 ∷ 1 ∷ 0 ∷ 0 ∷ []) (Ok tt) emptied =
-    subst (λ (s : Saved). Replaces s (68 ∷ 77 ∷ 80 ∷ 71 ∷ 1 ∷ 0 ∷ 0 ∷ []) (Ok tt) emptied) c.load.ensures.same
-    (c.in-Ok-replace.ensures) in
+    subst (λ (s : Saved). Replaces s (68 ∷ 77 ∷ 80 ∷ 71 ∷ 1 ∷ 0 ∷ 0 ∷ []) (Ok tt) emptied) c.load.ensures.loads.same
+    (c.in-Ok-replace.ensures.replaces) in
     plans_replaced old set ks c.in-Ok.found.0 c.in-Ok.found.1.now after c.in-Ok-move_entries.written m
     (68 ∷ 77 ∷ 80 ∷ 71 ∷ 1 ∷ 0 ∷ 0 ∷ []) (Ok tt) emptied p
 
@@ -308,11 +308,11 @@ returns-in-Err-Device-replace-clause-plans g c =
     let after : SavedSet = g.S.StoreSet.state c.move_entries.new.set in
     let m : MovesEntries set ks c.in-Ok.found.0 c.in-Ok.found.1.now (Ok c.in-Ok-move_entries.written) after =
     subst (λ (s : SavedSet). MovesEntries s ks c.in-Ok.found.0 c.in-Ok.found.1.now
-    (Ok c.in-Ok-move_entries.written) after) c.keys.ensures.same c.in-Ok-move_entries.ensures in
+    (Ok c.in-Ok-move_entries.written) after) c.keys.ensures.lists.same c.in-Ok-move_entries.ensures in
     let emptied : Saved = g.O.Store.state c.replace.new.self in
     let p : Replaces old (68 ∷ 77 ∷ 80 ∷ 71 ∷ 1 ∷ 0 ∷ 0 ∷ []) (Err replaces.Device) emptied =
     subst (λ (s : Saved). Replaces s (68 ∷ 77 ∷ 80 ∷ 71 ∷ 1 ∷ 0 ∷ 0 ∷ []) (Err replaces.Device) emptied)
-    c.load.ensures.same (rw c.in-Err-Device-replace.field-0-is at c.in-Err-Device-replace.ensures) in
+    c.load.ensures.loads.same (rw c.in-Err-Device-replace.field-0-is at c.in-Err-Device-replace.ensures.replaces) in
     plans_replaced old set ks c.in-Ok.found.0 c.in-Ok.found.1.now after c.in-Ok-move_entries.written m
     (68 ∷ 77 ∷ 80 ∷ 71 ∷ 1 ∷ 0 ∷ 0 ∷ []) (Err replaces.Device) emptied p
 
@@ -324,11 +324,11 @@ returns-clause-plans g c =
     let after : SavedSet = g.S.StoreSet.state c.move_entries.new.set in
     let m : MovesEntries set ks c.in-Ok.found.0 c.in-Ok.found.1.now (Ok c.in-Ok-move_entries.written) after =
     subst (λ (s : SavedSet). MovesEntries s ks c.in-Ok.found.0 c.in-Ok.found.1.now
-    (Ok c.in-Ok-move_entries.written) after) c.keys.ensures.same c.in-Ok-move_entries.ensures in
+    (Ok c.in-Ok-move_entries.written) after) c.keys.ensures.lists.same c.in-Ok-move_entries.ensures in
     let emptied : Saved = g.O.Store.state c.replace.new.self in
     let p : Replaces old (68 ∷ 77 ∷ 80 ∷ 71 ∷ 1 ∷ 0 ∷ 0 ∷ []) (Err replaces.Memory) emptied =
     subst (λ (s : Saved). Replaces s (68 ∷ 77 ∷ 80 ∷ 71 ∷ 1 ∷ 0 ∷ 0 ∷ []) (Err replaces.Memory) emptied)
-    c.load.ensures.same (rw c.in-Err-Memory-replace.field-0-is at c.in-Err-Memory-replace.ensures) in
+    c.load.ensures.loads.same (rw c.in-Err-Memory-replace.field-0-is at c.in-Err-Memory-replace.ensures.replaces) in
     plans_replaced old set ks c.in-Ok.found.0 c.in-Ok.found.1.now after c.in-Ok-move_entries.written m
     (68 ∷ 77 ∷ 80 ∷ 71 ∷ 1 ∷ 0 ∷ 0 ∷ []) (Err replaces.Memory) emptied p
 
@@ -336,22 +336,22 @@ pub returns-in-Ok-None-clause-exact : goal.returns-in-Ok-None-clause-exact
 returns-in-Ok-None-clause-exact g c =
     let old : Saved = g.O.Store.state c.args.old.now in
     let set : SavedSet = g.S.StoreSet.state c.args.set.now in
-    subst (λ (s : Saved). LeavesAlone old set (Ok 0) s set) (sym c.load.ensures.same)
-    (leaves_none old set (λ honest. rw c.in-Ok-None.field-0-is at (c.in-Ok-None.ensures.saved honest)))
+    subst (λ (s : Saved). LeavesAlone old set (Ok 0) s set) (sym c.load.ensures.loads.same)
+    (leaves_none old set (λ honest. rw c.in-Ok-None.field-0-is at (c.in-Ok-None.ensures.loads.saved honest)))
 
 pub returns-in-Err-Device-clause-exact : goal.returns-in-Err-Device-clause-exact
 returns-in-Err-Device-clause-exact g c =
     let old : Saved = g.O.Store.state c.args.old.now in
     let set : SavedSet = g.S.StoreSet.state c.args.set.now in
-    subst (λ (s : Saved). LeavesAlone old set (Err moves.Device) s set) (sym c.load.ensures.same)
-    (leaves_failed old set (c.load.ensures.device (search rules)))
+    subst (λ (s : Saved). LeavesAlone old set (Err moves.Device) s set) (sym c.load.ensures.loads.same)
+    (leaves_failed old set (c.load.ensures.loads.device (search rules)))
 
 pub returns-in-Err-Memory-clause-exact : goal.returns-in-Err-Memory-clause-exact
 returns-in-Err-Memory-clause-exact g c =
     let old : Saved = g.O.Store.state c.args.old.now in
     let set : SavedSet = g.S.StoreSet.state c.args.set.now in
-    subst (λ (s : Saved). LeavesAlone old set (Err moves.Memory) s set) (sym c.load.ensures.same)
-    (leaves_refused old set (c.load.ensures.memory (search rules)))
+    subst (λ (s : Saved). LeavesAlone old set (Err moves.Memory) s set) (sym c.load.ensures.loads.same)
+    (leaves_refused old set (c.load.ensures.loads.memory (search rules)))
 
 pub returns-in-Err-clause-exact : goal.returns-in-Err-clause-exact
 returns-in-Err-clause-exact g c =
@@ -360,8 +360,8 @@ returns-in-Err-clause-exact g c =
     let loaded : List ℕ = c.deref.result.now in
     let loads : IsTrue old.is_honest → Some loaded ≡ option_map (take (42636295 + 1)) old.content =
     λ honest. ap (λ (bs : List ℕ). Some bs) c.deref.ensures.value ∙
-    (rw c.in-Ok-Some.field-0-is at (c.in-Ok-Some.ensures.saved honest)) in
-    subst (λ (s : Saved). LeavesAlone old set (Err c.in-Err.fault) s set) (sym c.load.ensures.same)
+    (rw c.in-Ok-Some.field-0-is at (c.in-Ok-Some.ensures.loads.saved honest)) in
+    subst (λ (s : Saved). LeavesAlone old set (Err c.in-Err.fault) s set) (sym c.load.ensures.loads.same)
     (leaves_faulty old set loaded loads c.in-Err.fault c.in-Err.ensures.fault)
 
 pub returns-then-count-eq0-clause-exact : goal.returns-then-count-eq0-clause-exact
@@ -371,8 +371,8 @@ returns-then-count-eq0-clause-exact g c =
     let loaded : List ℕ = c.deref.result.now in
     let loads : IsTrue old.is_honest → Some loaded ≡ option_map (take (42636295 + 1)) old.content =
     λ honest. ap (λ (bs : List ℕ). Some bs) c.deref.ensures.value ∙
-    (rw c.in-Ok-Some.field-0-is at (c.in-Ok-Some.ensures.saved honest)) in
-    subst (λ (s : Saved). LeavesAlone old set (Ok 0) s set) (sym c.load.ensures.same)
+    (rw c.in-Ok-Some.field-0-is at (c.in-Ok-Some.ensures.loads.saved honest)) in
+    subst (λ (s : Saved). LeavesAlone old set (Ok 0) s set) (sym c.load.ensures.loads.same)
     (leaves_empty old set loaded loads c.in-Ok.found.0 c.in-Ok.found.1.now c.in-Ok.ensures.found)
 
 pub returns-in-Err-Device-keys-clause-exact : goal.returns-in-Err-Device-keys-clause-exact
@@ -382,7 +382,7 @@ returns-in-Err-Device-keys-clause-exact g c =
     let loaded : List ℕ = c.deref.result.now in
     let loads : IsTrue old.is_honest → Some loaded ≡ option_map (take (42636295 + 1)) old.content =
     λ honest. ap (λ (bs : List ℕ). Some bs) c.deref.ensures.value ∙
-    (rw c.in-Ok-Some.field-0-is at (c.in-Ok-Some.ensures.saved honest)) in
+    (rw c.in-Ok-Some.field-0-is at (c.in-Ok-Some.ensures.loads.saved honest)) in
     leaves_some old set loaded loads c.in-Ok.found.0 c.in-Ok.found.1.now c.in-Ok.ensures.found c.if-count-eq0.false
     (Err moves.Device) (g.O.Store.state c.load.new.self) (g.S.StoreSet.state c.keys.new.self)
 
@@ -393,7 +393,7 @@ returns-in-Err-Memory-keys-clause-exact g c =
     let loaded : List ℕ = c.deref.result.now in
     let loads : IsTrue old.is_honest → Some loaded ≡ option_map (take (42636295 + 1)) old.content =
     λ honest. ap (λ (bs : List ℕ). Some bs) c.deref.ensures.value ∙
-    (rw c.in-Ok-Some.field-0-is at (c.in-Ok-Some.ensures.saved honest)) in
+    (rw c.in-Ok-Some.field-0-is at (c.in-Ok-Some.ensures.loads.saved honest)) in
     leaves_some old set loaded loads c.in-Ok.found.0 c.in-Ok.found.1.now c.in-Ok.ensures.found c.if-count-eq0.false
     (Err moves.Memory) (g.O.Store.state c.load.new.self) (g.S.StoreSet.state c.keys.new.self)
 
@@ -404,7 +404,7 @@ returns-in-Err-Device-move_entries-clause-exact g c =
     let loaded : List ℕ = c.deref.result.now in
     let loads : IsTrue old.is_honest → Some loaded ≡ option_map (take (42636295 + 1)) old.content =
     λ honest. ap (λ (bs : List ℕ). Some bs) c.deref.ensures.value ∙
-    (rw c.in-Ok-Some.field-0-is at (c.in-Ok-Some.ensures.saved honest)) in
+    (rw c.in-Ok-Some.field-0-is at (c.in-Ok-Some.ensures.loads.saved honest)) in
     leaves_some old set loaded loads c.in-Ok.found.0 c.in-Ok.found.1.now c.in-Ok.ensures.found c.if-count-eq0.false
     (Err moves.Device) (g.O.Store.state c.load.new.self) (g.S.StoreSet.state c.move_entries.new.set)
 
@@ -415,7 +415,7 @@ returns-in-Err-Memory-move_entries-clause-exact g c =
     let loaded : List ℕ = c.deref.result.now in
     let loads : IsTrue old.is_honest → Some loaded ≡ option_map (take (42636295 + 1)) old.content =
     λ honest. ap (λ (bs : List ℕ). Some bs) c.deref.ensures.value ∙
-    (rw c.in-Ok-Some.field-0-is at (c.in-Ok-Some.ensures.saved honest)) in
+    (rw c.in-Ok-Some.field-0-is at (c.in-Ok-Some.ensures.loads.saved honest)) in
     leaves_some old set loaded loads c.in-Ok.found.0 c.in-Ok.found.1.now c.in-Ok.ensures.found c.if-count-eq0.false
     (Err moves.Memory) (g.O.Store.state c.load.new.self) (g.S.StoreSet.state c.move_entries.new.set)
 
@@ -426,7 +426,7 @@ returns-in-Ok-replace-clause-exact g c =
     let loaded : List ℕ = c.deref.result.now in
     let loads : IsTrue old.is_honest → Some loaded ≡ option_map (take (42636295 + 1)) old.content =
     λ honest. ap (λ (bs : List ℕ). Some bs) c.deref.ensures.value ∙
-    (rw c.in-Ok-Some.field-0-is at (c.in-Ok-Some.ensures.saved honest)) in
+    (rw c.in-Ok-Some.field-0-is at (c.in-Ok-Some.ensures.loads.saved honest)) in
     leaves_some old set loaded loads c.in-Ok.found.0 c.in-Ok.found.1.now c.in-Ok.ensures.found c.if-count-eq0.false
     (Ok c.in-Ok-move_entries.written) (g.O.Store.state c.replace.new.self)
     (g.S.StoreSet.state c.move_entries.new.set)
@@ -438,7 +438,7 @@ returns-in-Err-Device-replace-clause-exact g c =
     let loaded : List ℕ = c.deref.result.now in
     let loads : IsTrue old.is_honest → Some loaded ≡ option_map (take (42636295 + 1)) old.content =
     λ honest. ap (λ (bs : List ℕ). Some bs) c.deref.ensures.value ∙
-    (rw c.in-Ok-Some.field-0-is at (c.in-Ok-Some.ensures.saved honest)) in
+    (rw c.in-Ok-Some.field-0-is at (c.in-Ok-Some.ensures.loads.saved honest)) in
     leaves_some old set loaded loads c.in-Ok.found.0 c.in-Ok.found.1.now c.in-Ok.ensures.found c.if-count-eq0.false
     (Err moves.Device) (g.O.Store.state c.replace.new.self) (g.S.StoreSet.state c.move_entries.new.set)
 
@@ -449,7 +449,7 @@ returns-clause-exact g c =
     let loaded : List ℕ = c.deref.result.now in
     let loads : IsTrue old.is_honest → Some loaded ≡ option_map (take (42636295 + 1)) old.content =
     λ honest. ap (λ (bs : List ℕ). Some bs) c.deref.ensures.value ∙
-    (rw c.in-Ok-Some.field-0-is at (c.in-Ok-Some.ensures.saved honest)) in
+    (rw c.in-Ok-Some.field-0-is at (c.in-Ok-Some.ensures.loads.saved honest)) in
     leaves_some old set loaded loads c.in-Ok.found.0 c.in-Ok.found.1.now c.in-Ok.ensures.found c.if-count-eq0.false
     (Err moves.Memory) (g.O.Store.state c.replace.new.self) (g.S.StoreSet.state c.move_entries.new.set)
 
@@ -457,21 +457,21 @@ pub returns-in-Err-Device-clause-stops : goal.returns-in-Err-Device-clause-stops
 returns-in-Err-Device-clause-stops g c =
     let old : Saved = g.O.Store.state c.args.old.now in
     let set : SavedSet = g.S.StoreSet.state c.args.set.now in
-    subst (λ (s : Saved). StopsSomewhere old set moves.Device s set) (sym c.load.ensures.same)
+    subst (λ (s : Saved). StopsSomewhere old set moves.Device s set) (sym c.load.ensures.loads.same)
     (not_begun old set moves.Device)
 
 pub returns-in-Err-Memory-clause-stops : goal.returns-in-Err-Memory-clause-stops
 returns-in-Err-Memory-clause-stops g c =
     let old : Saved = g.O.Store.state c.args.old.now in
     let set : SavedSet = g.S.StoreSet.state c.args.set.now in
-    subst (λ (s : Saved). StopsSomewhere old set moves.Memory s set) (sym c.load.ensures.same)
+    subst (λ (s : Saved). StopsSomewhere old set moves.Memory s set) (sym c.load.ensures.loads.same)
     (not_begun old set moves.Memory)
 
 pub returns-in-Err-clause-stops : goal.returns-in-Err-clause-stops
 returns-in-Err-clause-stops g c =
     let old : Saved = g.O.Store.state c.args.old.now in
     let set : SavedSet = g.S.StoreSet.state c.args.set.now in
-    subst (λ (s : Saved). StopsSomewhere old set c.in-Err.fault s set) (sym c.load.ensures.same)
+    subst (λ (s : Saved). StopsSomewhere old set c.in-Err.fault s set) (sym c.load.ensures.loads.same)
     (not_begun old set c.in-Err.fault)
 
 pub returns-in-Err-Device-keys-clause-stops : goal.returns-in-Err-Device-keys-clause-stops
@@ -479,8 +479,8 @@ returns-in-Err-Device-keys-clause-stops g c =
     let old : Saved = g.O.Store.state c.args.old.now in
     let set : SavedSet = g.S.StoreSet.state c.args.set.now in
     subst (λ (s : Saved). StopsSomewhere old set moves.Device s (g.S.StoreSet.state c.keys.new.self))
-    (sym c.load.ensures.same)
-    (subst (λ (s : SavedSet). StopsSomewhere old set moves.Device old s) (sym c.keys.ensures.same)
+    (sym c.load.ensures.loads.same)
+    (subst (λ (s : SavedSet). StopsSomewhere old set moves.Device old s) (sym c.keys.ensures.lists.same)
     (not_begun old set moves.Device))
 
 pub returns-in-Err-Memory-keys-clause-stops : goal.returns-in-Err-Memory-keys-clause-stops
@@ -488,8 +488,8 @@ returns-in-Err-Memory-keys-clause-stops g c =
     let old : Saved = g.O.Store.state c.args.old.now in
     let set : SavedSet = g.S.StoreSet.state c.args.set.now in
     subst (λ (s : Saved). StopsSomewhere old set moves.Memory s (g.S.StoreSet.state c.keys.new.self))
-    (sym c.load.ensures.same)
-    (subst (λ (s : SavedSet). StopsSomewhere old set moves.Memory old s) (sym c.keys.ensures.same)
+    (sym c.load.ensures.loads.same)
+    (subst (λ (s : SavedSet). StopsSomewhere old set moves.Memory old s) (sym c.keys.ensures.lists.same)
     (not_begun old set moves.Memory))
 
 pub returns-in-Err-Device-move_entries-clause-stops : goal.returns-in-Err-Device-move_entries-clause-stops
@@ -499,16 +499,16 @@ returns-in-Err-Device-move_entries-clause-stops g c =
     let loaded : List ℕ = c.deref.result.now in
     let loads : IsTrue old.is_honest → Some loaded ≡ option_map (take (42636295 + 1)) old.content =
     λ honest. ap (λ (bs : List ℕ). Some bs) c.deref.ensures.value ∙
-    (rw c.in-Ok-Some.field-0-is at (c.in-Ok-Some.ensures.saved honest)) in
+    (rw c.in-Ok-Some.field-0-is at (c.in-Ok-Some.ensures.loads.saved honest)) in
     let ks : List ℕ = c.deref-3.result.now in
     let known : IsTrue set.is_honest → ks ≡ map_keys set.content = λ honest.
     all_of_them set.content ks (λ i. rw (c.deref-3.ensures.value ∙ sym c.deref-2.ensures.value) (c.keys_fit.ensures i))
-    (c.deref-3.ensures.value ∙ c.in-Ok-keys.ensures.saved honest) in
+    (c.deref-3.ensures.value ∙ c.in-Ok-keys.ensures.lists.saved honest) in
     let after : SavedSet = g.S.StoreSet.state c.move_entries.new.set in
     let m : MovesEntries set ks c.in-Ok.found.0 c.in-Ok.found.1.now (Err replaces.Device) after =
     subst (λ (s : SavedSet). MovesEntries s ks c.in-Ok.found.0 c.in-Ok.found.1.now (Err replaces.Device) after)
-    c.keys.ensures.same (rw c.in-Err-Device-move_entries.field-0-is at c.in-Err-Device-move_entries.ensures) in
-    subst (λ (s : Saved). StopsSomewhere old set moves.Device s after) (sym c.load.ensures.same)
+    c.keys.ensures.lists.same (rw c.in-Err-Device-move_entries.field-0-is at c.in-Err-Device-move_entries.ensures) in
+    subst (λ (s : Saved). StopsSomewhere old set moves.Device s after) (sym c.load.ensures.loads.same)
     (stopped_at_key old set loaded ks c.in-Ok.found.0 c.in-Ok.found.1.now c.in-Ok.ensures.found loads known after
     replaces.Device m)
 
@@ -519,16 +519,16 @@ returns-in-Err-Memory-move_entries-clause-stops g c =
     let loaded : List ℕ = c.deref.result.now in
     let loads : IsTrue old.is_honest → Some loaded ≡ option_map (take (42636295 + 1)) old.content =
     λ honest. ap (λ (bs : List ℕ). Some bs) c.deref.ensures.value ∙
-    (rw c.in-Ok-Some.field-0-is at (c.in-Ok-Some.ensures.saved honest)) in
+    (rw c.in-Ok-Some.field-0-is at (c.in-Ok-Some.ensures.loads.saved honest)) in
     let ks : List ℕ = c.deref-3.result.now in
     let known : IsTrue set.is_honest → ks ≡ map_keys set.content = λ honest.
     all_of_them set.content ks (λ i. rw (c.deref-3.ensures.value ∙ sym c.deref-2.ensures.value) (c.keys_fit.ensures i))
-    (c.deref-3.ensures.value ∙ c.in-Ok-keys.ensures.saved honest) in
+    (c.deref-3.ensures.value ∙ c.in-Ok-keys.ensures.lists.saved honest) in
     let after : SavedSet = g.S.StoreSet.state c.move_entries.new.set in
     let m : MovesEntries set ks c.in-Ok.found.0 c.in-Ok.found.1.now (Err replaces.Memory) after =
     subst (λ (s : SavedSet). MovesEntries s ks c.in-Ok.found.0 c.in-Ok.found.1.now (Err replaces.Memory) after)
-    c.keys.ensures.same (rw c.in-Err-Memory-move_entries.field-0-is at c.in-Err-Memory-move_entries.ensures) in
-    subst (λ (s : Saved). StopsSomewhere old set moves.Memory s after) (sym c.load.ensures.same)
+    c.keys.ensures.lists.same (rw c.in-Err-Memory-move_entries.field-0-is at c.in-Err-Memory-move_entries.ensures) in
+    subst (λ (s : Saved). StopsSomewhere old set moves.Memory s after) (sym c.load.ensures.loads.same)
     (stopped_at_key old set loaded ks c.in-Ok.found.0 c.in-Ok.found.1.now c.in-Ok.ensures.found loads known after
     replaces.Memory m)
 
@@ -539,19 +539,19 @@ returns-in-Err-Device-replace-clause-stops g c =
     let loaded : List ℕ = c.deref.result.now in
     let loads : IsTrue old.is_honest → Some loaded ≡ option_map (take (42636295 + 1)) old.content =
     λ honest. ap (λ (bs : List ℕ). Some bs) c.deref.ensures.value ∙
-    (rw c.in-Ok-Some.field-0-is at (c.in-Ok-Some.ensures.saved honest)) in
+    (rw c.in-Ok-Some.field-0-is at (c.in-Ok-Some.ensures.loads.saved honest)) in
     let ks : List ℕ = c.deref-3.result.now in
     let known : IsTrue set.is_honest → ks ≡ map_keys set.content = λ honest.
     all_of_them set.content ks (λ i. rw (c.deref-3.ensures.value ∙ sym c.deref-2.ensures.value) (c.keys_fit.ensures i))
-    (c.deref-3.ensures.value ∙ c.in-Ok-keys.ensures.saved honest) in
+    (c.deref-3.ensures.value ∙ c.in-Ok-keys.ensures.lists.saved honest) in
     let after : SavedSet = g.S.StoreSet.state c.move_entries.new.set in
     let m : MovesEntries set ks c.in-Ok.found.0 c.in-Ok.found.1.now (Ok c.in-Ok-move_entries.written) after =
     subst (λ (s : SavedSet). MovesEntries s ks c.in-Ok.found.0 c.in-Ok.found.1.now
-    (Ok c.in-Ok-move_entries.written) after) c.keys.ensures.same c.in-Ok-move_entries.ensures in
+    (Ok c.in-Ok-move_entries.written) after) c.keys.ensures.lists.same c.in-Ok-move_entries.ensures in
     let emptied : Saved = g.O.Store.state c.replace.new.self in
     let p : Replaces old (68 ∷ 77 ∷ 80 ∷ 71 ∷ 1 ∷ 0 ∷ 0 ∷ []) (Err replaces.Device) emptied =
     subst (λ (s : Saved). Replaces s (68 ∷ 77 ∷ 80 ∷ 71 ∷ 1 ∷ 0 ∷ 0 ∷ []) (Err replaces.Device) emptied)
-    c.load.ensures.same (rw c.in-Err-Device-replace.field-0-is at c.in-Err-Device-replace.ensures) in
+    c.load.ensures.loads.same (rw c.in-Err-Device-replace.field-0-is at c.in-Err-Device-replace.ensures.replaces) in
     stopped_at_last old set loaded ks c.in-Ok.found.0 c.in-Ok.found.1.now c.in-Ok.ensures.found loads known after
     c.in-Ok-move_entries.written m emptied replaces.Device p
 
@@ -562,18 +562,18 @@ returns-clause-stops g c =
     let loaded : List ℕ = c.deref.result.now in
     let loads : IsTrue old.is_honest → Some loaded ≡ option_map (take (42636295 + 1)) old.content =
     λ honest. ap (λ (bs : List ℕ). Some bs) c.deref.ensures.value ∙
-    (rw c.in-Ok-Some.field-0-is at (c.in-Ok-Some.ensures.saved honest)) in
+    (rw c.in-Ok-Some.field-0-is at (c.in-Ok-Some.ensures.loads.saved honest)) in
     let ks : List ℕ = c.deref-3.result.now in
     let known : IsTrue set.is_honest → ks ≡ map_keys set.content = λ honest.
     all_of_them set.content ks (λ i. rw (c.deref-3.ensures.value ∙ sym c.deref-2.ensures.value) (c.keys_fit.ensures i))
-    (c.deref-3.ensures.value ∙ c.in-Ok-keys.ensures.saved honest) in
+    (c.deref-3.ensures.value ∙ c.in-Ok-keys.ensures.lists.saved honest) in
     let after : SavedSet = g.S.StoreSet.state c.move_entries.new.set in
     let m : MovesEntries set ks c.in-Ok.found.0 c.in-Ok.found.1.now (Ok c.in-Ok-move_entries.written) after =
     subst (λ (s : SavedSet). MovesEntries s ks c.in-Ok.found.0 c.in-Ok.found.1.now
-    (Ok c.in-Ok-move_entries.written) after) c.keys.ensures.same c.in-Ok-move_entries.ensures in
+    (Ok c.in-Ok-move_entries.written) after) c.keys.ensures.lists.same c.in-Ok-move_entries.ensures in
     let emptied : Saved = g.O.Store.state c.replace.new.self in
     let p : Replaces old (68 ∷ 77 ∷ 80 ∷ 71 ∷ 1 ∷ 0 ∷ 0 ∷ []) (Err replaces.Memory) emptied =
     subst (λ (s : Saved). Replaces s (68 ∷ 77 ∷ 80 ∷ 71 ∷ 1 ∷ 0 ∷ 0 ∷ []) (Err replaces.Memory) emptied)
-    c.load.ensures.same (rw c.in-Err-Memory-replace.field-0-is at c.in-Err-Memory-replace.ensures) in
+    c.load.ensures.loads.same (rw c.in-Err-Memory-replace.field-0-is at c.in-Err-Memory-replace.ensures.replaces) in
     stopped_at_last old set loaded ks c.in-Ok.found.0 c.in-Ok.found.1.now c.in-Ok.ensures.found loads known after
     c.in-Ok-move_entries.written m emptied replaces.Memory p

@@ -15,7 +15,7 @@ returns-then-len-capacity-clause-fault g c =
     let lt : c.args.capacity < length c.in-Ok.keys.items = search rules in (
       c.requires,
       too_many (g.S.StoreSet.state c.args.set.now) c.args.capacity c.in-Ok.keys.items
-          c.in-Ok.ensures.saved lt,
+          c.in-Ok.ensures.lists.saved lt,
     )
 
 pub loop-key-init : goal.loop-key-init
@@ -24,12 +24,12 @@ loop-key-init g c =
     let saved : SavedSet = g.S.StoreSet.state c.args.set.now in
     let empty : c.new-documents.result ≡ Rattle.std.specs.FinMap.empty = c.new-documents.ensures in
     record {
-      same = c.in-Ok.ensures.same;
+      same = c.in-Ok.ensures.lists.same;
       entries = subst AreEntries (sym empty) entries_empty;
       few = rw (empty, len-empty nat_cmp Pages) (omega arith);
       so_far = λ honest. subst (λ (d : Documents). SoFar saved.content d true c.deref-key-items.result.now) (sym empty)
           (subst (SoFar saved.content Rattle.std.specs.FinMap.empty true) (sym c.deref-key-items.ensures.value)
-          (begins saved c.args.capacity c.in-Ok.keys.items c.in-Ok.ensures.saved le honest));
+          (begins saved c.args.capacity c.in-Ok.keys.items c.in-Ok.ensures.lists.saved le honest));
     }
 
 pub returns-in-Err-clause-fault : goal.returns-in-Err-clause-fault
@@ -41,7 +41,7 @@ returns-in-Err-clause-fault g c =
     let here : drop i items ≡ get_or items i 0 ∷ drop (suc i) items = drop-cons items i 0 c.loop-key-test.true in
     desk_fault saved c.args.capacity (get_or items i 0) c.loop-key.documents c.load_key.new.documents c.in-Err.fault
     c.requires
-    (few_enough saved c.args.capacity c.in-Ok.keys.items c.in-Ok.ensures.saved le) c.loop-key.has_memory
+    (few_enough saved c.args.capacity c.in-Ok.keys.items c.in-Ok.ensures.lists.saved le) c.loop-key.has_memory
     (drop (suc i) items)
     (λ honest. subst (SoFar saved.content c.loop-key.documents c.loop-key.has_memory) here
     (c.loop-key.invariant.so_far honest))

@@ -9,7 +9,7 @@ use Rattle.dm_assembly_desk.proofs.opening.load_key.Goals as goal
 pub returns-in-Ok-None-clause-loads : goal.returns-in-Ok-None-clause-loads
 returns-in-Ok-None-clause-loads g c =
     goes_past (g.S.StoreSet.state c.args.set.now) c.args.key c.args.documents.now
-    (λ honest. rw c.in-Ok-None.field-0-is at (c.in-Ok-None.ensures.saved honest))
+    (λ honest. rw c.in-Ok-None.field-0-is at (c.in-Ok-None.ensures.loads.saved honest))
 
 pub returns-in-Ok-clause-loads : goal.returns-in-Ok-clause-loads
 returns-in-Ok-clause-loads g c =
@@ -17,7 +17,7 @@ returns-in-Ok-clause-loads g c =
     let loads : IsTrue saved.is_honest →
     Some c.deref.result.now ≡ option_map (take (41642 + 1)) (get saved.content c.args.key) =
     λ honest. ap (λ (bs : List ℕ). Some bs) c.deref.ensures.value ∙
-    (rw c.in-Ok-Some.field-0-is at (c.in-Ok-Some.ensures.saved honest)) in
+    (rw c.in-Ok-Some.field-0-is at (c.in-Ok-Some.ensures.loads.saved honest)) in
     takes_one saved c.args.key c.deref.result.now c.args.documents.now c.take_in.new.documents loads c.in-Ok.has_memory
     c.in-Ok.ensures
 
@@ -37,7 +37,7 @@ returns-in-Err-NotPages-clause-loads g c =
     let loads : IsTrue saved.is_honest →
     Some c.deref.result.now ≡ option_map (take (41642 + 1)) (get saved.content c.args.key) =
     λ honest. ap (λ (bs : List ℕ). Some bs) c.deref.ensures.value ∙
-    (rw c.in-Ok-Some.field-0-is at (c.in-Ok-Some.ensures.saved honest)) in
+    (rw c.in-Ok-Some.field-0-is at (c.in-Ok-Some.ensures.loads.saved honest)) in
     ends_there saved c.args.key c.deref.result.now c.args.documents.now c.take_in.new.documents loads NotPages
     (rw c.in-Err-NotPages.field-0-is at c.in-Err-NotPages.ensures)
 
@@ -57,7 +57,7 @@ returns-in-Err-Version-clause-loads g c =
     let loads : IsTrue saved.is_honest →
     Some c.deref.result.now ≡ option_map (take (41642 + 1)) (get saved.content c.args.key) =
     λ honest. ap (λ (bs : List ℕ). Some bs) c.deref.ensures.value ∙
-    (rw c.in-Ok-Some.field-0-is at (c.in-Ok-Some.ensures.saved honest)) in
+    (rw c.in-Ok-Some.field-0-is at (c.in-Ok-Some.ensures.loads.saved honest)) in
     ends_there saved c.args.key c.deref.result.now c.args.documents.now c.take_in.new.documents loads Version
     (rw c.in-Err-Version.field-0-is at c.in-Err-Version.ensures)
 
@@ -77,7 +77,7 @@ returns-clause-loads g c =
     let loads : IsTrue saved.is_honest →
     Some c.deref.result.now ≡ option_map (take (41642 + 1)) (get saved.content c.args.key) =
     λ honest. ap (λ (bs : List ℕ). Some bs) c.deref.ensures.value ∙
-    (rw c.in-Ok-Some.field-0-is at (c.in-Ok-Some.ensures.saved honest)) in
+    (rw c.in-Ok-Some.field-0-is at (c.in-Ok-Some.ensures.loads.saved honest)) in
     ends_there saved c.args.key c.deref.result.now c.args.documents.now c.take_in.new.documents loads Damaged
     (rw c.in-Err-Damaged.field-0-is at c.in-Err-Damaged.ensures)
 

@@ -20,7 +20,7 @@ invariant_of-self g c =
     let running : old.is_failed ≡ false = c.if-self.false in
     let some : IsSome (get old.held c.number-id.result) = search rules in
     subst (λ (d : Documents). IsInOrder (done_view old set d)) (sym c.remove-in-Ok.ensures.after)
-    (lets_go_order old c.number-id.result set c.self.invariant running some c.in-Ok.ensures)
+    (lets_go_order old c.number-id.result set c.self.invariant running some c.in-Ok.ensures.removes)
 
 pub returns-in-Ok-clause-after : goal.returns-in-Ok-clause-after
 returns-in-Ok-clause-after g c =
@@ -34,7 +34,7 @@ returns-in-Ok-clause-after g c =
     let running : old.is_failed ≡ false = c.if-self.false in
     let some : IsSome (get old.held c.number-id.result) = search rules in
     subst (λ (d : Documents). IsInOrder (done_view old set d)) (sym c.remove-in-Ok.ensures.after)
-    (lets_go_order old c.number-id.result set c.self.invariant running some c.in-Ok.ensures)
+    (lets_go_order old c.number-id.result set c.self.invariant running some c.in-Ok.ensures.removes)
 
 pub returns-in-Ok-clause-forgotten : goal.returns-in-Ok-clause-forgotten
 returns-in-Ok-clause-forgotten g c = λ _.
@@ -51,7 +51,7 @@ returns-in-Ok-clause-forgotten g c = λ _.
     (subst (λ (before : DeskView). LetsGo c.number-id.result before (done_view old set c.remove-in-Ok.new.self))
     c.self.view_is
     (subst (λ (d : Documents). LetsGo c.number-id.result old (done_view old set d)) (sym c.remove-in-Ok.ensures.after)
-    (lets_go old c.number-id.result set c.self.invariant running some c.in-Ok.ensures)))
+    (lets_go old c.number-id.result set c.self.invariant running some c.in-Ok.ensures.removes)))
 
 pub returns-in-Err-Device-clause-forgotten : goal.returns-in-Err-Device-clause-forgotten
 returns-in-Err-Device-clause-forgotten g c = λ _.
@@ -67,4 +67,4 @@ returns-in-Err-Device-clause-forgotten g c = λ _.
     subst (λ (i : ℕ). FailsToLetGo i c.args.self.now (failed_view old set)) c.number-id.ensures.same
     (subst (λ (before : DeskView). FailsToLetGo c.number-id.result before (failed_view old set)) c.self.view_is
     (fails_to_let_go old c.number-id.result set c.self.invariant running some
-    (rw c.in-Err-Device.field-0-is at c.in-Err-Device.ensures)))
+    (rw c.in-Err-Device.field-0-is at c.in-Err-Device.ensures.removes)))

@@ -1,3 +1,4 @@
+use Rattle.dm_store.proofs.Leaving.{remove_leaves, removed_on_disk}
 use Rattle.dm_store.proofs.InFolder.{remove_keeps, set_removes}
 use Rattle.dm_store.proofs.file_set.FileSetStoreSet.remove.Goals as goal
 
@@ -13,3 +14,12 @@ pub returns-clause-others : goal.returns-clause-others
 returns-clause-others g c = rw (← c.self.view_is) (rw c.as_str.ensures.value at
     (remove_keeps _ _ _ c.remove_key.ensures.honesty _ c.remove_key.result c.ranges.key.fits
     c.remove_key.ensures.removes))
+
+pub returns-clause-leaves : goal.returns-clause-leaves
+returns-clause-leaves g c = rw (← c.self.view_is) (rw c.as_str.ensures.value at
+    (remove_leaves _ _ _ c.remove_key.ensures.honesty c.self.inside.is_synced _ _ c.ranges.key.fits
+    c.remove_key.ensures.refused c.remove_key.ensures.removes))
+
+pub invariant_of-self : goal.invariant_of-self
+invariant_of-self g c = removed_on_disk _ _ _ c.remove_key.ensures.honesty _ _ _ c.ranges.key.fits
+    (rw c.as_str.ensures.value at c.remove_key.ensures.removes) c.self.invariant
