@@ -14,6 +14,7 @@ use Rattle.dm_placement.specs.declared.stepping.Walk.{Walk}
 use Rattle.dm_placement.specs.Cells.{cell_at, shapes, shape_cells, bit_cells, anchors, corner_before, is_anchor, is_left_out, is_in_square, rising_diagonal, falling_diagonal}
 use Rattle.dm_placement.specs.inner.WalkSteps.{IsMappingSide, IsPlaceable, AllIn, cells_of_all, word_at, corner_at}
 use Rattle.dm_placement.specs.inner.WalkAhead.{shapes_ahead, IsAhead, IsNearby, Steps, ends, is_over}
+use Rattle.dm_placement.specs.inner.WordsSoFar.{HasWalked}
 use Rattle.dm_placement.proofs.CellLists.{length-shape_cells}
 use Rattle.dm_placement.proofs.ShapesSound.{AllSound, AllSound-append, length-words}
 
@@ -34,16 +35,6 @@ starts n h = record {
 }
 
 -- ---- the words so far
-
--- k words are placed, and the others are ahead
-pub record HasWalked (n : ℕ) (w : Walk) (k : ℕ) : Type 0 where
-  pub side : w.side ≡ n
-  pub nearby : IsNearby w
-  pub done : List Shape
-  pub later : List Shape
-  pub ahead : IsAhead w later
-  pub whole : done ++ later ≡ shapes n
-  pub count : length done ≡ k
 
 -- at the start none is placed
 pub none_walked : (n : ℕ) (w : Walk) → w.side ≡ n → IsNearby w → IsAhead w (shapes n) → HasWalked n w 0

@@ -1,6 +1,6 @@
 //! The shapes in which the eight bits of a word stand on the mapping matrix.
 
-ghost use Rattle.std.specs.Prelude.{◌≡◌, ◌<◌, ◌≤◌, ℕ};
+ghost use Rattle.std.specs.Prelude.{◌≡◌, ◌<◌, ◌≤◌};
 ghost use Rattle.dm_placement.specs.Cells.{cell_from_anchor, shape_cells};
 ghost use Rattle.dm_placement.specs.inner.WalkSteps.{MayBeAnchor, IsPlaceable, AllIn, IsSideSound};
 
@@ -96,25 +96,4 @@ pub(crate) fn cells_of(side: u16, shape: Shape) -> [Cell; 8]
             cell_at(1, side - 1),
         ],
     }
-}
-
-/// The cells of bits 1 to 8 of a word whose anchor stands at least two rows and two columns inside of the matrix, so that
-/// none of them wraps.
-pub(crate) fn cells_at(anchor: Cell) -> [Cell; 8]
-    requires row { 2 ≤ anchor.row }
-    requires column { 2 ≤ anchor.column }
-    ensures cells { (n : ℕ) → anchor.row < n → anchor.column < n → result ≡ shape_cells n (Shape.Plain anchor) }
-    ensures in_matrix { (n : ℕ) → anchor.row < n → anchor.column < n → AllIn n result }
-{
-    let (row, column) = (anchor.row, anchor.column);
-    [
-        cell_at(row - 2, column - 2),
-        cell_at(row - 2, column - 1),
-        cell_at(row - 1, column - 2),
-        cell_at(row - 1, column - 1),
-        cell_at(row - 1, column),
-        cell_at(row, column - 2),
-        cell_at(row, column - 1),
-        cell_at(row, column),
-    ]
 }
