@@ -10,7 +10,7 @@ use Rattle.dm_placement.specs.declared.shape.Shape.TheVariants.{Plain}
 use Rattle.dm_placement.specs.Cells.{cell_at, cell_from_anchor, is_left_out, shape_cells}
 use Rattle.dm_placement.specs.declared.stepping.Sweep.{Sweep}
 use Rattle.dm_placement.specs.declared.stepping.Sweep.TheVariants.{Start, Up, Down}
-use Rattle.dm_placement.specs.inner.WalkAhead.{IsAhead, IsNearby, StandInside, Steps, shapes_ahead, word_here}
+use Rattle.dm_placement.specs.inner.WalkAhead.{IsAhead, IsNearby, StandInside, rises, Steps, shapes_ahead, word_here}
 use Rattle.dm_placement.specs.inner.WalkSteps.{word_at}
 use Rattle.dm_placement.proofs.CellLists.{same_cell}
 
@@ -64,7 +64,7 @@ ahead_down (suc steps) n r c ss a b d e h =
     (m.0, m.1, record { steps = steps; walked = m.2 })
 
 -- the walk goes past such a word upward
-pub steps_up : (n : ℕ) (sweep : Sweep) (r c : ℕ) → sweep ≡ Up → n ≤ 120 → StandInside n sweep r c 1 →
+pub steps_up : (n : ℕ) (sweep : Sweep) (r c : ℕ) → true ≡ rises sweep → n ≤ 120 → StandInside n sweep r c 1 →
     Steps record { side = n; sweep = sweep; row = r; column = c }
     record { side = n; sweep = sweep; row = r - 2; column = c + 2 } (Some (Plain (cell_at (r - 2) (c - 2))))
 steps_up n Start r c e small h = absurd (cc)
@@ -77,10 +77,10 @@ steps_up n Up r c e small (a, b, d, f) = record {
 steps_up n Down r c e small h = absurd (cc)
 
 -- the walk goes past such a word downward
-pub steps_down : (n : ℕ) (sweep : Sweep) (r c : ℕ) → sweep ≡ Down → n ≤ 120 → StandInside n sweep r c 1 →
+pub steps_down : (n : ℕ) (sweep : Sweep) (r c : ℕ) → false ≡ rises sweep → n ≤ 120 → StandInside n sweep r c 1 →
     Steps record { side = n; sweep = sweep; row = r; column = c }
     record { side = n; sweep = sweep; row = r + 2; column = c - 2 } (Some (Plain (cell_at (r - 2) (c - 2))))
-steps_down n Start r c e small h = absurd (cc)
+steps_down n Start r c e small h = absurd h
 steps_down n Up r c e small h = absurd (cc)
 steps_down n Down r c e small (a, b, d, f) = record {
   same_side = refl;

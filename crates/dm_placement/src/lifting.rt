@@ -4,7 +4,7 @@ ghost use Rattle.std.specs.Prelude.{◌≡◌, ◌<◌, ◌≤◌, ◌+◌, IfOk
 ghost use Rattle.dm_check_blocks.specs.Sizes.{mapping, all_words};
 ghost use Rattle.dm_placement.specs.Placement.{lifted, word_from};
 ghost use Rattle.dm_placement.specs.Cells.{cell_at, shape_cells};
-ghost use Rattle.dm_placement.specs.inner.WalkAhead.{is_over, steps_left};
+ghost use Rattle.dm_placement.specs.inner.WalkAhead.{is_over, rises, steps_left};
 ghost use Rattle.dm_placement.specs.inner.WalkSteps.{AllIn, IsMappingSide, IsPlaceable, IsSideSound};
 ghost use Rattle.dm_placement.specs.inner.WordsSoFar.{HasLifted};
 
@@ -61,23 +61,26 @@ fn word_inside<A: Allocator>(matrix: &Matrix<A>, row: usize, column: usize) -> u
     ])
 }
 
-// Lifts the words that come next and stand inside of the matrix. Answers how many words are lifted then.
+// Lifts the words that come next in an upward sweep, or one down, and stand inside of the matrix. Answers how many words
+// are lifted then.
 #[inline(always)]
 fn lift_inside<A: Allocator>(
     matrix: &Matrix<A>,
     walk: &mut Walk,
     words: &mut [u8],
     from: usize,
+    up: bool,
 ) -> usize
     requires mapping { IsMappingSide matrix.now.side }
     requires lifted { HasLifted matrix.now walk.old words.old from }
+    requires up { up ≡ rises walk.old.sweep }
     ensures lifted { HasLifted matrix.now walk.new words.new result }
     ensures nearer { steps_left walk.new ≤ steps_left walk.old }
 {
     let mut count = from;
     let mut left = walk.inside();
     while left > 0 {
-        let (row, column) = walk.pass();
+        let (row, column) = walk.pass(up);
         words[count] = word_inside(matrix, row, column);
         count += 1;
         left -= 1;
@@ -129,9 +132,9 @@ pub fn lift<A: Allocator + Copy>(
         count = lift_step(matrix, &mut walk, &mut words, count);
         // a loop for each direction, so that neither asks which it is at each word
         count = if walk.is_rising() {
-            lift_inside(matrix, &mut walk, &mut words, count)
+            lift_inside(matrix, &mut walk, &mut words, count, true)
         } else {
-            lift_inside(matrix, &mut walk, &mut words, count)
+            lift_inside(matrix, &mut walk, &mut words, count, false)
         };
     }
     Ok(words)

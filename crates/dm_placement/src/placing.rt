@@ -7,7 +7,7 @@ ghost use Rattle.dm_placement.specs.Cells.{cell_at, dark_cells, shape_cells};
 ghost use Rattle.dm_placement.specs.Placement.{placed};
 ghost use Rattle.dm_placement.specs.Square.{light_square, with_dark};
 ghost use Rattle.dm_placement.specs.inner.DrawnBits.{with_bits};
-ghost use Rattle.dm_placement.specs.inner.WalkAhead.{is_over, steps_left};
+ghost use Rattle.dm_placement.specs.inner.WalkAhead.{is_over, rises, steps_left};
 ghost use Rattle.dm_placement.specs.inner.WalkSteps.{AllIn, IsMappingSide, IsPlaceable, IsSideSound};
 ghost use Rattle.dm_placement.specs.inner.WordsSoFar.{HasDrawn};
 
@@ -74,23 +74,26 @@ fn draw_at<A: Allocator>(matrix: &mut Matrix<A>, row: usize, column: usize, word
     matrix.make(row, column, bits[7]);
 }
 
-// Draws the words that come next and stand inside of the matrix. Answers how many words are drawn then.
+// Draws the words that come next in an upward sweep, or one down, and stand inside of the matrix. Answers how many words
+// are drawn then.
 #[inline(always)]
 fn draw_inside<A: Allocator>(
     matrix: &mut Matrix<A>,
     walk: &mut Walk,
     words: &[u8],
     from: usize,
+    up: bool,
 ) -> usize
     requires mapping { IsMappingSide matrix.old.side }
     requires drawn { HasDrawn matrix.old.side words.now walk.old matrix.old from }
+    requires up { up ≡ rises walk.old.sweep }
     ensures drawn { HasDrawn matrix.old.side words.now walk.new matrix.new result }
     ensures nearer { steps_left walk.new ≤ steps_left walk.old }
 {
     let mut count = from;
     let mut left = walk.inside();
     while left > 0 {
-        let (row, column) = walk.pass();
+        let (row, column) = walk.pass(up);
         draw_at(matrix, row, column, words[count]);
         count += 1;
         left -= 1;
@@ -142,9 +145,9 @@ pub fn place<A: Allocator + Copy>(
         count = draw_step(&mut matrix, &mut walk, words, count);
         // a loop for each direction, so that neither asks which it is at each word
         count = if walk.is_rising() {
-            draw_inside(&mut matrix, &mut walk, words, count)
+            draw_inside(&mut matrix, &mut walk, words, count, true)
         } else {
-            draw_inside(&mut matrix, &mut walk, words, count)
+            draw_inside(&mut matrix, &mut walk, words, count, false)
         };
     }
     Ok(matrix)

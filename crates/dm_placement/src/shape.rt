@@ -29,6 +29,7 @@ fn cell_at(row: u16, column: u16) -> Cell
 
 // The cell that stands `up` rows above and `left` columns left of an anchor. What leaves the matrix at the top comes in
 // again at the bottom, and what leaves it at the left comes in again at the right.
+#[inline(always)]
 #[tactic(auto, unfolding(crate::specs::Cells::cell_from_anchor))]
 fn cell_from_anchor(side: u16, anchor: Cell, up: u16, left: u16) -> Cell
     requires side { IsSideSound side }
@@ -57,6 +58,7 @@ fn cell_from_anchor(side: u16, anchor: Cell, up: u16, left: u16) -> Cell
 }
 
 /// The cells of bits 1 to 8 of a word.
+#[inline(always)]
 #[tactic(auto, unfolding(crate::specs::Cells::shape_cells))]
 pub(crate) fn cells_of(side: u16, shape: Shape) -> [Cell; 8]
     requires side { IsSideSound side }

@@ -118,27 +118,26 @@ impl Walk {
         }
     }
 
-    /// Goes past a word that stands inside, and gives the row and the column of its anchor.
+    /// Goes past a word that stands inside, and gives the row and the column of its anchor. Its caller knows whether it
+    /// goes up.
     #[inline(always)]
-    pub(crate) fn pass(&mut self) -> (usize, usize)
+    pub(crate) fn pass(&mut self, up: bool) -> (usize, usize)
         requires nearby { IsNearby self.old }
         requires inside { IsInside self.old 1 }
+        requires up { up ≡ rises self.old.sweep }
+        ensures same_sweep { self.new.sweep ≡ self.old.sweep }
         ensures rows { (2 ≤ result.0) × (result.0 < self.old.side) }
         ensures columns { (2 ≤ result.1) × (result.1 < self.old.side) }
         ensures steps { Steps self.old self.new (Some (Shape.Plain (cell_at result.0 result.1))) }
         ensures inside { (count : ℕ) → IsInside self.old (count + 1) → IsInside self.new count }
     {
         let anchor = (self.row - MARGIN, self.column - MARGIN);
-        match self.sweep {
-            Sweep::Up => {
-                self.row -= 2;
-                self.column += 2;
-            }
-            Sweep::Down => {
-                self.row += 2;
-                self.column -= 2;
-            }
-            Sweep::Start => unreachable!(),
+        if up {
+            self.row -= 2;
+            self.column += 2;
+        } else {
+            self.row += 2;
+            self.column -= 2;
         }
         anchor
     }

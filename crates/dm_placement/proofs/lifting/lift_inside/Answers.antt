@@ -1,7 +1,7 @@
 use Rattle.std.proofs.Common.{◌≡◌, ◌+◌, ◌-◌, ℕ, arith, ap, sym, ◌∙◌, subst}
 use Rattle.dm_placement.specs.declared.shape.Shape.TheVariants.{Plain}
 use Rattle.dm_placement.specs.Cells.{cell_at, shape_cells}
-use Rattle.dm_placement.specs.inner.WalkAhead.{IsInside}
+use Rattle.dm_placement.specs.inner.WalkAhead.{IsInside, rises}
 use Rattle.dm_placement.proofs.WordsSoFar.{few_in, lifted_next, room_at}
 use Rattle.dm_placement.proofs.lifting.lift_inside.Goals as goal
 
@@ -28,5 +28,6 @@ loop-left-preserved g c =
           c.word_inside.result _ c.requires.mapping c.loop-left.invariant.lifted steps c.word_inside.ensures;
       inside = c.pass-row.ensures.inside (c.loop-left.left - 1)
           (subst (λ (k : ℕ). IsInside c.loop-left.walk k) (sym next) c.loop-left.invariant.inside);
+      up = c.loop-left.invariant.up ∙ ap rises (sym c.pass-row.ensures.same_sweep);
       nearer = omega (arith, steps.nearer, c.loop-left.invariant.nearer);
     }

@@ -3,7 +3,7 @@ use Rattle.dm_placement.specs.declared.shape.Shape.TheVariants.{Plain}
 use Rattle.dm_placement.specs.Bits.{byte_bits}
 use Rattle.dm_placement.specs.Cells.{cell_at, shape_cells}
 use Rattle.dm_placement.specs.inner.DrawnBits.{with_bits}
-use Rattle.dm_placement.specs.inner.WalkAhead.{IsInside}
+use Rattle.dm_placement.specs.inner.WalkAhead.{IsInside, rises}
 use Rattle.dm_placement.proofs.WordsSoFar.{drawn_next, few_in, room_at}
 use Rattle.dm_placement.proofs.placing.draw_inside.Goals as goal
 
@@ -35,5 +35,6 @@ loop-left-preserved g c =
           c.loop-left.invariant.drawn.drawn.side);
       inside = c.pass-row.ensures.inside (c.loop-left.left - 1)
           (subst (λ (k : ℕ). IsInside c.loop-left.walk k) (sym next) c.loop-left.invariant.inside);
+      up = c.loop-left.invariant.up ∙ ap rises (sym c.pass-row.ensures.same_sweep);
       nearer = omega (arith, steps.nearer, c.loop-left.invariant.nearer);
     }
