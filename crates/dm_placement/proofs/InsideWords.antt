@@ -2,7 +2,7 @@
 -- is their anchor.
 use Rattle.std.specs.Prelude.{not}
 use Rattle.std.specs.Option.{option_map}
-use Rattle.std.proofs.Common.{◌≡◌, ℕ, zero, suc, ◌+◌, ◌-◌, ◌*◌, ◌%◌, ◌<◌, ◌≤◌, ◌++◌, Option, None, Some, refl, List, [], ◌∷◌, Bool, true, false, cond, eqb, ltb, leb, ◌&&◌, ◌||◌, ap, ◌∙◌, arith}
+use Rattle.std.proofs.Common.{◌≡◌, ℕ, zero, suc, ◌+◌, ◌-◌, ◌%◌, ◌<◌, ◌≤◌, ◌++◌, Option, None, Some, refl, List, [], ◌∷◌, Bool, true, false, cond, eqb, ltb, leb, ◌&&◌, ◌||◌, ap, ◌∙◌, arith}
 use Rattle.std.proofs.lemmas.Bool.Decides.{nat_tests}
 use Rattle.dm_placement.specs.declared.shape.Cell.{Cell}
 use Rattle.dm_placement.specs.declared.shape.Shape.{Shape}
@@ -10,7 +10,7 @@ use Rattle.dm_placement.specs.declared.shape.Shape.TheVariants.{Plain}
 use Rattle.dm_placement.specs.Cells.{cell_at, cell_from_anchor, is_left_out, shape_cells}
 use Rattle.dm_placement.specs.declared.stepping.Sweep.{Sweep}
 use Rattle.dm_placement.specs.declared.stepping.Sweep.TheVariants.{Start, Up, Down}
-use Rattle.dm_placement.specs.inner.WalkAhead.{IsAhead, IsNearby, StandInside, rises, Steps, shapes_ahead, word_here}
+use Rattle.dm_placement.specs.inner.WalkAhead.{IsAhead, StandInside, rises, Steps, shapes_ahead, word_here}
 use Rattle.dm_placement.specs.inner.WalkSteps.{word_at}
 use Rattle.dm_placement.proofs.CellLists.{same_cell}
 

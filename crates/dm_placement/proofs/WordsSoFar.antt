@@ -1,6 +1,6 @@
 -- What one word more does to what the loops of `lift` and `place` keep: the next word's cells are the next eight, so it
 -- is read, or drawn, where its bits stand.
-use Rattle.std.proofs.Common.{◌≡◌, ℕ, ◌+◌, ◌*◌, ◌<◌, ◌≤◌, true, List, length, get_or, set, Some, ◌⊎◌, inl, inr, ap, sym, ◌∙◌, subst, arith, length-set, get_or-set_same, get_or-set_other}
+use Rattle.std.proofs.Common.{◌≡◌, ℕ, ◌+◌, ◌*◌, ◌<◌, true, List, length, get_or, set, Some, ◌⊎◌, inl, inr, ap, sym, ◌∙◌, subst, arith, length-set, get_or-set_same, get_or-set_other}
 use Rattle.std.proofs.lemmas.List.FromFn.{fill_by_all}
 use Rattle.dm_check_blocks.specs.declared.size.Size.{Size}
 use Rattle.dm_check_blocks.specs.Sizes.{all_words, mapping}
@@ -23,29 +23,25 @@ use Rattle.dm_placement.proofs.ShapesSound.{AllSound, bit_count, sound_size}
 use Rattle.dm_placement.proofs.Tiled.{tiled_size}
 use Rattle.dm_placement.proofs.WalkedWords.{IsWord, all_walked, next_word, none_walked, walked_one}
 
+-- word k may stand at this shape, its cells are those of its bits, and a list has room for it
+pub record IsNext (n : ℕ) (words : List ℕ) (k : ℕ) (shape : Shape) : Type 0 where
+  pub word : IsWord n k shape
+  pub room : k < length words
+  pub few : k < 1800
+
 -- the word that a step comes to is the next one
-pub word_of_step : (n : ℕ) (w w' : Walk) (k : ℕ) (shape : Shape) → IsMappingSide n → HasWalked n w k
-    → Steps w w' (Some shape) → IsWord n k shape
-word_of_step n w w' k shape mapping h s =
-    next_word n w w' k shape (subst (λ (j : ℕ). AllSound j (shapes j)) mapping.1 (sound_size mapping.0)) h s
+pub next_here : (n : ℕ) (w w' : Walk) (words : List ℕ) (k : ℕ) (shape : Shape) → IsMappingSide n → HasWalked n w k
+    → 8 * length words ≡ length (bit_cells n) → Steps w w' (Some shape) → IsNext n words k shape
+next_here n w w' words k shape mapping h room s =
+    let sound = subst (λ (j : ℕ). AllSound j (shapes j)) mapping.1 (sound_size mapping.0) in
+    let all = subst (λ (j : ℕ). length (bit_cells j) ≡ 8 * all_words mapping.0) mapping.1 (bit_count mapping.0) in
+    let few = few_words mapping.0 in
+    let word = next_word n w w' k shape sound h s in
+    record { word = word; room = omega (arith, word.room, room); few = omega (arith, word.room, all, few) }
 
 -- the side of a walk over a mapping matrix
 pub walk_side : (n : ℕ) (w : Walk) (k : ℕ) → IsMappingSide n → HasWalked n w k → IsSideSound w.side
 walk_side n w k mapping h = subst (λ (j : ℕ). IsSideSound j) (sym h.side) (mapping_is_sound n mapping)
-
--- there is room for the word that a step comes to
-pub room_at : (n : ℕ) (w w' : Walk) (words : List ℕ) (k : ℕ) (shape : Shape) → IsMappingSide n
-    → HasWalked n w k → 8 * length words ≡ length (bit_cells n) → Steps w w' (Some shape) → k < length words
-room_at n w w' words k shape mapping h room s =
-    let next = word_of_step n w w' k shape mapping h s in
-    omega (arith, next.room, room)
-
--- the words of a matrix are few
-pub few_in : (n : ℕ) (words : List ℕ) → IsMappingSide n → 8 * length words ≡ length (bit_cells n) → length words ≤ 1800
-few_in n words mapping room =
-    let all = subst (λ (j : ℕ). length (bit_cells j) ≡ 8 * all_words mapping.0) mapping.1 (bit_count mapping.0) in
-    let few = few_words mapping.0 in
-    omega (arith, room, all, few)
 
 -- one word more is lifted
 pub lifted_next : (m : Square) (w w' : Walk) (words : List ℕ) (k word : ℕ) (shape : Shape) → IsMappingSide m.side
@@ -53,15 +49,14 @@ pub lifted_next : (m : Square) (w w' : Walk) (words : List ℕ) (k word : ℕ) (
     → HasLifted m w' (set words k word) (k + 1)
 lifted_next m w w' words k word shape mapping h s e =
     let n = m.side in
-    let next = word_of_step n w w' k shape mapping h.walked s in
-    let lt = room_at n w w' words k shape mapping h.walked h.room s in
+    let next = next_here n w w' words k shape mapping h.walked h.room s in
     record {
       walked = walked_one n w w' k shape h.walked s;
       room = ap (λ (l : ℕ). 8 * l) (length-set words k word) ∙ h.room;
       lifted = λ i l. elim (split i k l) [
         | inl b ↦ get_or-set_other words k i word 0 (λ q. omega arith) ∙ h.lifted i b
         | inr q ↦ subst (λ (j : ℕ). get_or (set words k word) j 0 ≡ word_from m (bit_cells n) (8 * j)) (sym q)
-            (get_or-set_same words k word 0 lt ∙ e ∙ word_at_shape n k m shape next)
+            (get_or-set_same words k word 0 next.room ∙ e ∙ word_at_shape n k m shape next.word)
       ];
     }
   where
@@ -86,9 +81,11 @@ unfolding lifted
 all_lifted s m w words k side h over =
     let all : length (bit_cells m.side) ≡ 8 * all_words s = ap (λ (n : ℕ). length (bit_cells n)) side ∙ bit_count s in
     let whole = all_walked m.side w k h.walked over in
-    let count : length words ≡ all_words s = omega (arith, all, h.room) in
-    (count, fill_by_all (λ word. word_from m (bit_cells (mapping s)) (8 * word)) words (all_words s) 0 count
-      (λ i l. h.lifted i (omega (arith, all, whole)) ∙ ap (λ (n : ℕ). word_from m (bit_cells n) (8 * i)) side))
+    let count : length words ≡ all_words s = omega (arith, all, h.room) in (
+      count,
+      fill_by_all (λ word. word_from m (bit_cells (mapping s)) (8 * word)) words (all_words s) 0 count
+          (λ i l. h.lifted i (omega (arith, all, whole)) ∙ ap (λ (n : ℕ). word_from m (bit_cells n) (8 * i)) side),
+    )
 
 -- one word more is drawn
 pub drawn_next : (n : ℕ) (words : List ℕ) (w w' : Walk) (m m' : Square) (k : ℕ) (shape : Shape) → IsMappingSide n
@@ -98,7 +95,7 @@ drawn_next n words w w' m m' k shape mapping h s e = record {
   walked = walked_one n w w' k shape h.walked s;
   room = h.room;
   drawn = placing_word n words m m' k shape (subst (λ (j : ℕ). IsTiled j) mapping.1 (tiled_size mapping.0)) h.drawn
-      (word_of_step n w w' k shape mapping h.walked s) e;
+      (next_here n w w' words k shape mapping h.walked h.room s).word e;
 }
 
 -- in the blank matrix no word is drawn

@@ -1,23 +1,20 @@
 use Rattle.std.proofs.Common.{◌≡◌, ◌+◌, ◌-◌, ℕ, arith, ap, sym, ◌∙◌, subst}
-use Rattle.dm_placement.specs.declared.shape.Shape.TheVariants.{Plain}
-use Rattle.dm_placement.specs.Cells.{cell_at, shape_cells}
 use Rattle.dm_placement.specs.inner.WalkAhead.{IsInside, rises}
-use Rattle.dm_placement.proofs.WordsSoFar.{few_in, lifted_next, room_at}
+use Rattle.dm_placement.proofs.WordsSoFar.{lifted_next, next_here}
 use Rattle.dm_placement.proofs.lifting.lift_inside.Goals as goal
 
 pub bounds-words-count : goal.bounds-words-count
 bounds-words-count g c =
     let so_far = c.loop-left.invariant.lifted in
-    room_at c.args.matrix.now.side c.loop-left.walk c.pass-row.new.self c.loop-left.words c.loop-left.count _
-    c.requires.mapping so_far.walked so_far.room c.pass-row.ensures.steps
+    (next_here c.args.matrix.now.side c.loop-left.walk c.pass-row.new.self c.loop-left.words c.loop-left.count _
+    c.requires.mapping so_far.walked so_far.room c.pass-row.ensures.steps).room
 
 pub overflow_add-count : goal.overflow_add-count
 overflow_add-count g c =
     let so_far = c.loop-left.invariant.lifted in
-    let few = few_in c.args.matrix.now.side c.loop-left.words c.requires.mapping so_far.room in
-    let room = room_at c.args.matrix.now.side c.loop-left.walk c.pass-row.new.self c.loop-left.words c.loop-left.count _
+    let next = next_here c.args.matrix.now.side c.loop-left.walk c.pass-row.new.self c.loop-left.words c.loop-left.count _
     c.requires.mapping so_far.walked so_far.room c.pass-row.ensures.steps in
-    omega (arith, few, room)
+    omega (arith, next.few)
 
 pub loop-left-preserved : goal.loop-left-preserved
 loop-left-preserved g c =

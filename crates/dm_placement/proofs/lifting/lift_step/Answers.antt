@@ -1,6 +1,6 @@
 use Rattle.std.proofs.Common.{arith}
 use Rattle.dm_placement.proofs.EachSize.{mapping_is_sound}
-use Rattle.dm_placement.proofs.WordsSoFar.{few_in, lifted_next, room_at, walk_side, word_of_step}
+use Rattle.dm_placement.proofs.WordsSoFar.{lifted_next, next_here, walk_side}
 use Rattle.dm_placement.proofs.lifting.lift_step.Goals as goal
 
 pub step-requires-clause-side : goal.step-requires-clause-side
@@ -12,20 +12,19 @@ word_of-requires-clause-side g c = mapping_is_sound c.args.matrix.now.side c.req
 
 pub word_of-requires-clause-fits : goal.word_of-requires-clause-fits
 word_of-requires-clause-fits g c =
-    (word_of_step c.args.matrix.now.side c.args.walk.now c.step.new.self c.args.from c.in-Some.shape
-    c.requires.mapping c.requires.lifted.walked c.in-Some.ensures).fits
+    (next_here c.args.matrix.now.side c.args.walk.now c.step.new.self c.args.words.now c.args.from c.in-Some.shape
+    c.requires.mapping c.requires.lifted.walked c.requires.lifted.room c.in-Some.ensures).word.fits
 
 pub bounds-words-from : goal.bounds-words-from
 bounds-words-from g c =
-    room_at c.args.matrix.now.side c.args.walk.now c.step.new.self c.args.words.now c.args.from c.in-Some.shape
-    c.requires.mapping c.requires.lifted.walked c.requires.lifted.room c.in-Some.ensures
+    (next_here c.args.matrix.now.side c.args.walk.now c.step.new.self c.args.words.now c.args.from c.in-Some.shape
+    c.requires.mapping c.requires.lifted.walked c.requires.lifted.room c.in-Some.ensures).room
 
 pub overflow_add-result : goal.overflow_add-result
 overflow_add-result g c =
-    let few = few_in c.args.matrix.now.side c.args.words.now c.requires.mapping c.requires.lifted.room in
-    let room = room_at c.args.matrix.now.side c.args.walk.now c.step.new.self c.args.words.now c.args.from
-    c.in-Some.shape c.requires.mapping c.requires.lifted.walked c.requires.lifted.room c.in-Some.ensures in
-    omega (arith, few, room)
+    let next = next_here c.args.matrix.now.side c.args.walk.now c.step.new.self c.args.words.now c.args.from c.in-Some.shape
+    c.requires.mapping c.requires.lifted.walked c.requires.lifted.room c.in-Some.ensures in
+    omega (arith, next.few)
 
 pub returns-in-Some-clause-lifted : goal.returns-in-Some-clause-lifted
 returns-in-Some-clause-lifted g c =

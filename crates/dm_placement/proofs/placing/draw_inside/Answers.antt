@@ -4,22 +4,21 @@ use Rattle.dm_placement.specs.Bits.{byte_bits}
 use Rattle.dm_placement.specs.Cells.{cell_at, shape_cells}
 use Rattle.dm_placement.specs.inner.DrawnBits.{with_bits}
 use Rattle.dm_placement.specs.inner.WalkAhead.{IsInside, rises}
-use Rattle.dm_placement.proofs.WordsSoFar.{drawn_next, few_in, room_at}
+use Rattle.dm_placement.proofs.WordsSoFar.{drawn_next, next_here}
 use Rattle.dm_placement.proofs.placing.draw_inside.Goals as goal
 
 pub bounds-words-count : goal.bounds-words-count
 bounds-words-count g c =
     let so_far = c.loop-left.invariant.drawn in
-    room_at c.args.matrix.now.side c.loop-left.walk c.pass-row.new.self c.args.words.now c.loop-left.count _
-    c.requires.mapping so_far.walked so_far.room c.pass-row.ensures.steps
+    (next_here c.args.matrix.now.side c.loop-left.walk c.pass-row.new.self c.args.words.now c.loop-left.count _
+    c.requires.mapping so_far.walked so_far.room c.pass-row.ensures.steps).room
 
 pub overflow_add-count : goal.overflow_add-count
 overflow_add-count g c =
     let so_far = c.loop-left.invariant.drawn in
-    let few = few_in c.args.matrix.now.side c.args.words.now c.requires.mapping so_far.room in
-    let room = room_at c.args.matrix.now.side c.loop-left.walk c.pass-row.new.self c.args.words.now c.loop-left.count _
+    let next = next_here c.args.matrix.now.side c.loop-left.walk c.pass-row.new.self c.args.words.now c.loop-left.count _
     c.requires.mapping so_far.walked so_far.room c.pass-row.ensures.steps in
-    omega (arith, few, room)
+    omega (arith, next.few)
 
 pub loop-left-preserved : goal.loop-left-preserved
 loop-left-preserved g c =

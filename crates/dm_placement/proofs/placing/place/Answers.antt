@@ -1,7 +1,6 @@
 use Rattle.std.proofs.Common.{ℕ, ap, sym, ◌∙◌}
 use Rattle.dm_placement.specs.Cells.{dark_cells}
 use Rattle.dm_placement.specs.Square.{light_square, with_dark}
-use Rattle.dm_check_blocks.specs.Sizes.{mapping}
 use Rattle.dm_placement.proofs.WordsSoFar.{all_drawn, none_drawn}
 use Rattle.dm_placement.proofs.placing.place.Goals as goal
 
