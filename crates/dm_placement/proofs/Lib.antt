@@ -18,3 +18,5 @@ pub mod PlacedMatrix
 pub mod BinaryDigits
 pub mod LiftedWords
 pub mod FlippedBits
+pub mod InsideWords
+pub mod WordsSoFar

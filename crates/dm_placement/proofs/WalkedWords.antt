@@ -1,7 +1,7 @@
 -- How the words come in the walk without a table. For each size the checker computes that this walk gives the closed
 -- form; so after k words the next one has the k-th shape, and its cells are the next eight.
 use Rattle.std.specs.Option.{option_map}
-use Rattle.std.proofs.Common.{◌≡◌, ℕ, zero, suc, ◌+◌, ◌*◌, ◌<◌, ◌≤◌, refl, length, List, [], ◌∷◌, ◌++◌, Option, Some, None, Bool, true, false, ltb, ◌||◌, get_or, ap, sym, ◌∙◌, subst, arith, append_assoc, append-nil, length-append}
+use Rattle.std.proofs.Common.{◌≡◌, ℕ, zero, suc, ◌+◌, ◌*◌, ◌<◌, ◌≤◌, refl, length, List, [], ◌∷◌, ◌++◌, Option, Some, Bool, true, false, ltb, ◌||◌, get_or, ap, sym, ◌∙◌, subst, arith, append_assoc, append-nil, length-append}
 use Rattle.std.proofs.lemmas.List.{get_or-append-add, get_or_append_left}
 use Rattle.std.proofs.lemmas.Grind.{flat_map-append}
 use Rattle.dm_check_blocks.specs.declared.size.Size.{Size}
@@ -14,6 +14,7 @@ use Rattle.dm_placement.specs.declared.stepping.Walk.{Walk}
 use Rattle.dm_placement.specs.Cells.{cell_at, shapes, shape_cells, bit_cells, anchors, corner_before, is_anchor, is_left_out, is_in_square, rising_diagonal, falling_diagonal}
 use Rattle.dm_placement.specs.inner.WalkSteps.{IsMappingSide, IsPlaceable, AllIn, cells_of_all, word_at, corner_at}
 use Rattle.dm_placement.specs.inner.WalkAhead.{shapes_ahead, IsAhead, IsNearby, Steps, ends, is_over}
+use Rattle.dm_placement.specs.inner.WordsSoFar.{HasWalked}
 use Rattle.dm_placement.proofs.CellLists.{length-shape_cells}
 use Rattle.dm_placement.proofs.ShapesSound.{AllSound, AllSound-append, length-words}
 
@@ -35,16 +36,6 @@ starts n h = record {
 
 -- ---- the words so far
 
--- k words are placed, and the others are ahead
-pub record HasWalked (n : ℕ) (w : Walk) (k : ℕ) : Type 0 where
-  pub side : w.side ≡ n
-  pub nearby : IsNearby w
-  pub done : List Shape
-  pub later : List Shape
-  pub ahead : IsAhead w later
-  pub whole : done ++ later ≡ shapes n
-  pub count : length done ≡ k
-
 -- at the start none is placed
 pub none_walked : (n : ℕ) (w : Walk) → w.side ≡ n → IsNearby w → IsAhead w (shapes n) → HasWalked n w 0
 none_walked n w side nearby ahead = record {
@@ -56,20 +47,6 @@ none_walked n w side nearby ahead = record {
   whole = refl;
   count = refl;
 }
-
--- a step that places no word
-pub walked_on : (n : ℕ) (w w' : Walk) (k : ℕ) → HasWalked n w k → Steps w w' None → HasWalked n w' k
-walked_on n w w' k h s =
-    let a = s.ahead h.later h.ahead in
-    record {
-      side = s.same_side ∙ h.side;
-      nearby = s.stays;
-      done = h.done;
-      later = a.0;
-      ahead = a.2;
-      whole = ap (λ l. h.done ++ l) (sym a.1) ∙ h.whole;
-      count = h.count;
-    }
 
 -- a step that places a word
 pub walked_one : (n : ℕ) (w w' : Walk) (k : ℕ) (shape : Shape) → HasWalked n w k → Steps w w' (Some shape)

@@ -2,3 +2,4 @@
 pub mod WalkSteps
 pub mod WalkAhead
 pub mod DrawnBits
+pub mod WordsSoFar

@@ -49,6 +49,16 @@ impl<A: Allocator> Matrix<A> {
         requires column_in { column < self.now.side }
         ensures { result ≡ module_at self.now row column }
     {
+        self.is_dark(row as usize, column as usize)
+    }
+
+    /// `module`, for loops: an index from numbers of its own width costs them less.
+    #[inline(always)]
+    pub(crate) fn is_dark(&self, row: usize, column: usize) -> bool
+        requires row_in { row < self.now.side }
+        requires column_in { column < self.now.side }
+        ensures { result ≡ module_at self.now row column }
+    {
         self.modules[self.index(row, column)]
     }
 
@@ -77,17 +87,28 @@ impl<A: Allocator> Matrix<A> {
     }
 
     // Where the module of a row and a column stands, row by row.
-    fn index(&self, row: u16, column: u16) -> usize
+    #[inline(always)]
+    fn index(&self, row: usize, column: usize) -> usize
         requires row_in { row < self.now.side }
         requires column_in { column < self.now.side }
         ensures value { result ≡ row * self.now.side + column }
         ensures within { result < self.now.side * self.now.side }
     {
-        row as usize * self.side as usize + column as usize
+        row * self.side as usize + column
     }
 
     /// Makes the module of a row and a column, both from 0, dark or light.
     pub fn set(&mut self, row: u16, column: u16, dark: bool)
+        requires row_in { row < self.old.side }
+        requires column_in { column < self.old.side }
+        ensures { self.new ≡ with_module self.old row column dark }
+    {
+        self.make(row as usize, column as usize, dark);
+    }
+
+    /// `set`, for loops.
+    #[inline(always)]
+    pub(crate) fn make(&mut self, row: usize, column: usize, dark: bool)
         requires row_in { row < self.old.side }
         requires column_in { column < self.old.side }
         ensures { self.new ≡ with_module self.old row column dark }

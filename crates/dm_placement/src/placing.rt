@@ -1,18 +1,20 @@
 //! The mapping matrix of the words of a symbol.
 
-ghost use Rattle.std.specs.Prelude.{◌≡◌, IfOk, length};
+ghost use Rattle.std.specs.Prelude.{◌≡◌, ◌<◌, ◌≤◌, IfOk, false, length};
 ghost use Rattle.dm_check_blocks.specs.Sizes.{all_words};
 ghost use Rattle.dm_placement.specs.Bits.{byte_bits};
-ghost use Rattle.dm_placement.specs.Cells.{dark_cells, shape_cells};
+ghost use Rattle.dm_placement.specs.Cells.{cell_at, dark_cells, shape_cells};
 ghost use Rattle.dm_placement.specs.Placement.{placed};
 ghost use Rattle.dm_placement.specs.Square.{light_square, with_dark};
-ghost use Rattle.dm_placement.specs.inner.WalkSteps.{IsSideSound, IsPlaceable, AllIn};
 ghost use Rattle.dm_placement.specs.inner.DrawnBits.{with_bits};
+ghost use Rattle.dm_placement.specs.inner.WalkAhead.{is_over, rises, steps_left};
+ghost use Rattle.dm_placement.specs.inner.WalkSteps.{AllIn, IsMappingSide, IsPlaceable, IsSideSound};
+ghost use Rattle.dm_placement.specs.inner.WordsSoFar.{HasDrawn};
 
 use crate::bits::bits_of;
 use crate::layout::Layout;
 use crate::matrix::{Matrix, light_of_side};
-use crate::shape::{Cell, Shape, cells_at, cells_of};
+use crate::shape::{Cell, Shape, cells_of};
 use crate::stepping::Walk;
 use dm_check_blocks::Size;
 use std::alloc::{AllocError, Allocator};
@@ -42,10 +44,10 @@ fn draw_bits<A: Allocator>(matrix: &mut Matrix<A>, cells: &[Cell; 8], bits: &[bo
     }
 }
 
-// Draws a word whose shape spans two sides of the matrix, or two corners.
+// Draws a word at the eight cells of its shape, which may span two sides of the matrix, or two corners.
 #[cold]
 #[inline(never)]
-fn draw_wrapped<A: Allocator>(matrix: &mut Matrix<A>, shape: Shape, word: u8)
+fn draw_word<A: Allocator>(matrix: &mut Matrix<A>, shape: Shape, word: u8)
     requires side { IsSideSound matrix.old.side }
     requires fits { IsPlaceable matrix.old.side shape }
     ensures { matrix.new ≡ with_bits matrix.old (shape_cells matrix.old.side shape) (byte_bits word) }
@@ -53,18 +55,72 @@ fn draw_wrapped<A: Allocator>(matrix: &mut Matrix<A>, shape: Shape, word: u8)
     draw_bits(matrix, &cells_of(matrix.side(), shape), &bits_of(word));
 }
 
-// Draws a word at the eight cells of its shape.
+// Draws a word in the plain shape at an anchor two rows and two columns or more inside of the matrix.
 #[inline(always)]
-fn draw_word<A: Allocator>(matrix: &mut Matrix<A>, shape: Shape, word: u8)
-    requires side { IsSideSound matrix.old.side }
-    requires fits { IsPlaceable matrix.old.side shape }
-    ensures { matrix.new ≡ with_bits matrix.old (shape_cells matrix.old.side shape) (byte_bits word) }
+fn draw_at<A: Allocator>(matrix: &mut Matrix<A>, row: usize, column: usize, word: u8)
+    requires rows { (2 ≤ row) × (row < matrix.old.side) }
+    requires columns { (2 ≤ column) × (column < matrix.old.side) }
+    ensures { matrix.new
+        ≡ with_bits matrix.old (shape_cells matrix.old.side (Shape.Plain (cell_at row column))) (byte_bits word) }
 {
-    match shape {
-        Shape::Plain(anchor) if anchor.row >= 2 && anchor.column >= 2 => {
-            draw_bits(matrix, &cells_at(anchor), &bits_of(word));
+    let bits = bits_of(word);
+    matrix.make(row - 2, column - 2, bits[0]);
+    matrix.make(row - 2, column - 1, bits[1]);
+    matrix.make(row - 1, column - 2, bits[2]);
+    matrix.make(row - 1, column - 1, bits[3]);
+    matrix.make(row - 1, column, bits[4]);
+    matrix.make(row, column - 2, bits[5]);
+    matrix.make(row, column - 1, bits[6]);
+    matrix.make(row, column, bits[7]);
+}
+
+// Draws the words that come next in an upward sweep, or one down, and stand inside of the matrix. Answers how many words
+// are drawn then.
+#[inline(always)]
+fn draw_inside<A: Allocator>(
+    matrix: &mut Matrix<A>,
+    walk: &mut Walk,
+    words: &[u8],
+    from: usize,
+    up: bool,
+) -> usize
+    requires mapping { IsMappingSide matrix.old.side }
+    requires drawn { HasDrawn matrix.old.side words.now walk.old matrix.old from }
+    requires up { up ≡ rises walk.old.sweep }
+    ensures drawn { HasDrawn matrix.old.side words.now walk.new matrix.new result }
+    ensures nearer { steps_left walk.new ≤ steps_left walk.old }
+{
+    let mut count = from;
+    let mut left = walk.inside();
+    while left > 0 {
+        let (row, column) = walk.pass(up);
+        draw_at(matrix, row, column, words[count]);
+        count += 1;
+        left -= 1;
+    }
+    count
+}
+
+// Goes one step on, and draws the word that comes there, if any. Answers how many words are drawn then.
+#[inline(always)]
+fn draw_step<A: Allocator>(
+    matrix: &mut Matrix<A>,
+    walk: &mut Walk,
+    words: &[u8],
+    from: usize,
+) -> usize
+    requires mapping { IsMappingSide matrix.old.side }
+    requires drawn { HasDrawn matrix.old.side words.now walk.old matrix.old from }
+    requires goes_on { is_over walk.old ≡ false }
+    ensures drawn { HasDrawn matrix.old.side words.now walk.new matrix.new result }
+    ensures nearer { steps_left walk.new < steps_left walk.old }
+{
+    match walk.step() {
+        Some(shape) => {
+            draw_word(matrix, shape, words[from]);
+            from + 1
         }
-        _ => draw_wrapped(matrix, shape, word),
+        None => from,
     }
 }
 
@@ -86,10 +142,13 @@ pub fn place<A: Allocator + Copy>(
     let mut walk = Walk::of_side(side);
     let mut count = 0;
     while !walk.is_over() {
-        if let Some(shape) = walk.step() {
-            draw_word(&mut matrix, shape, words[count]);
-            count += 1;
-        }
+        count = draw_step(&mut matrix, &mut walk, words, count);
+        // a loop for each direction, so that neither asks which it is at each word
+        count = if walk.is_rising() {
+            draw_inside(&mut matrix, &mut walk, words, count, true)
+        } else {
+            draw_inside(&mut matrix, &mut walk, words, count, false)
+        };
     }
     Ok(matrix)
 }

@@ -1,6 +1,6 @@
 //! The shapes in which the eight bits of a word stand on the mapping matrix.
 
-ghost use Rattle.std.specs.Prelude.{◌≡◌, ◌<◌, ◌≤◌, ℕ};
+ghost use Rattle.std.specs.Prelude.{◌≡◌, ◌<◌, ◌≤◌};
 ghost use Rattle.dm_placement.specs.Cells.{cell_from_anchor, shape_cells};
 ghost use Rattle.dm_placement.specs.inner.WalkSteps.{MayBeAnchor, IsPlaceable, AllIn, IsSideSound};
 
@@ -29,6 +29,7 @@ fn cell_at(row: u16, column: u16) -> Cell
 
 // The cell that stands `up` rows above and `left` columns left of an anchor. What leaves the matrix at the top comes in
 // again at the bottom, and what leaves it at the left comes in again at the right.
+#[inline(always)]
 #[tactic(auto, unfolding(crate::specs::Cells::cell_from_anchor))]
 fn cell_from_anchor(side: u16, anchor: Cell, up: u16, left: u16) -> Cell
     requires side { IsSideSound side }
@@ -57,6 +58,7 @@ fn cell_from_anchor(side: u16, anchor: Cell, up: u16, left: u16) -> Cell
 }
 
 /// The cells of bits 1 to 8 of a word.
+#[inline(always)]
 #[tactic(auto, unfolding(crate::specs::Cells::shape_cells))]
 pub(crate) fn cells_of(side: u16, shape: Shape) -> [Cell; 8]
     requires side { IsSideSound side }
@@ -96,25 +98,4 @@ pub(crate) fn cells_of(side: u16, shape: Shape) -> [Cell; 8]
             cell_at(1, side - 1),
         ],
     }
-}
-
-/// The cells of bits 1 to 8 of a word whose anchor stands at least two rows and two columns inside of the matrix, so that
-/// none of them wraps.
-pub(crate) fn cells_at(anchor: Cell) -> [Cell; 8]
-    requires row { 2 ≤ anchor.row }
-    requires column { 2 ≤ anchor.column }
-    ensures cells { (n : ℕ) → anchor.row < n → anchor.column < n → result ≡ shape_cells n (Shape.Plain anchor) }
-    ensures in_matrix { (n : ℕ) → anchor.row < n → anchor.column < n → AllIn n result }
-{
-    let (row, column) = (anchor.row, anchor.column);
-    [
-        cell_at(row - 2, column - 2),
-        cell_at(row - 2, column - 1),
-        cell_at(row - 1, column - 2),
-        cell_at(row - 1, column - 1),
-        cell_at(row - 1, column),
-        cell_at(row, column - 2),
-        cell_at(row, column - 1),
-        cell_at(row, column),
-    ]
 }

@@ -2,14 +2,16 @@
 //! are taken before it comes to them are the two that are left out for the second corner shape
 //! (ISO/IEC 16022:2006, Annex F).
 
-ghost use Rattle.std.specs.Prelude.{◌≡◌, false};
+ghost use Rattle.std.specs.Prelude.{◌≡◌, ◌+◌, ◌<◌, ◌≤◌, ℕ, false, Some};
 ghost use Rattle.std.specs.Option.{option_to_list};
-ghost use Rattle.dm_placement.specs.Cells.{is_left_out, shapes};
-ghost use Rattle.dm_placement.specs.inner.WalkAhead.{IsAhead, IsNearby, Steps, is_over, word_here};
+ghost use Rattle.dm_placement.specs.Cells.{cell_at, is_left_out, shapes};
+ghost use Rattle.dm_placement.specs.inner.WalkAhead.{IsAhead, IsInside, IsNearby, Steps, is_over, rises, word_here};
 ghost use Rattle.dm_placement.specs.inner.WalkSteps.{IsSideSound, IsMappingSide};
 
 use crate::shape::{Cell, Shape};
-use crate::walk::{MARGIN, corner_at};
+use crate::walk::{self, corner_at};
+
+const MARGIN: usize = walk::MARGIN as usize;
 
 /// What the walk does next: it begins an upward sweep, or goes on with one up or one down.
 #[derive(Clone, Copy)]
@@ -23,10 +25,10 @@ pub(crate) enum Sweep {
 /// the matrix.
 #[derive(Clone, Copy)]
 pub(crate) struct Walk {
-    side: u16,
+    side: usize,
     sweep: Sweep,
-    row: u16,
-    column: u16,
+    row: usize,
+    column: usize,
 }
 
 // Whether a cell is one of the two that no word has as its anchor, since the second corner shape stands there.
@@ -41,7 +43,7 @@ fn is_left_out(side: u16, cell: Cell) -> bool
 
 // The word at a position of the walk, if any.
 #[tactic(auto, unfolding(crate::specs::inner::WalkSteps::word_at))]
-fn word_here(side: u16, row: u16, column: u16) -> Option<Shape>
+fn word_here(side: usize, row: usize, column: usize) -> Option<Shape>
     requires { IsSideSound side }
     ensures { option_to_list result ≡ word_here side row column }
 {
@@ -49,10 +51,10 @@ fn word_here(side: u16, row: u16, column: u16) -> Option<Shape>
         return None;
     }
     let anchor = Cell {
-        row: row - MARGIN,
-        column: column - MARGIN,
+        row: (row - MARGIN) as u16,
+        column: (column - MARGIN) as u16,
     };
-    if is_left_out(side, anchor) {
+    if is_left_out(side as u16, anchor) {
         return None;
     }
     Some(Shape::Plain(anchor))
@@ -68,7 +70,7 @@ impl Walk {
         ensures ahead { IsAhead result (shapes side) }
     {
         Walk {
-            side,
+            side: side as usize,
             sweep: Sweep::Start,
             row: 4 + MARGIN,
             column: MARGIN,
@@ -86,6 +88,60 @@ impl Walk {
         }
     }
 
+    /// Whether it goes up.
+    #[inline(always)]
+    pub(crate) fn is_rising(&self) -> bool
+        ensures { result ≡ rises self.now.sweep }
+    {
+        match self.sweep {
+            Sweep::Up => true,
+            Sweep::Start | Sweep::Down => false,
+        }
+    }
+
+    /// How many words come next that stand two rows and two columns or more inside of the matrix, so that none of them
+    /// wraps.
+    #[inline(always)]
+    pub(crate) fn inside(&self) -> usize
+        requires { IsNearby self.now }
+        ensures { IsInside self.now result }
+    {
+        let least = 2 + MARGIN;
+        let end = self.side + MARGIN;
+        if self.row < least || self.column < least || self.row >= end || self.column >= end {
+            return 0;
+        }
+        match self.sweep {
+            Sweep::Start => 0,
+            Sweep::Up => (self.row / 2 - 1).min((end + 1 - self.column) / 2),
+            Sweep::Down => (self.column / 2 - 1).min((end + 1 - self.row) / 2),
+        }
+    }
+
+    /// Goes past a word that stands inside, and gives the row and the column of its anchor. Its caller knows whether it
+    /// goes up.
+    #[inline(always)]
+    pub(crate) fn pass(&mut self, up: bool) -> (usize, usize)
+        requires nearby { IsNearby self.old }
+        requires inside { IsInside self.old 1 }
+        requires up { up ≡ rises self.old.sweep }
+        ensures same_sweep { self.new.sweep ≡ self.old.sweep }
+        ensures rows { (2 ≤ result.0) × (result.0 < self.old.side) }
+        ensures columns { (2 ≤ result.1) × (result.1 < self.old.side) }
+        ensures steps { Steps self.old self.new (Some (Shape.Plain (cell_at result.0 result.1))) }
+        ensures inside { (count : ℕ) → IsInside self.old (count + 1) → IsInside self.new count }
+    {
+        let anchor = (self.row - MARGIN, self.column - MARGIN);
+        if up {
+            self.row -= 2;
+            self.column += 2;
+        } else {
+            self.row += 2;
+            self.column -= 2;
+        }
+        anchor
+    }
+
     /// Goes one step on, and gives the shape of the word that it places, if any.
     #[inline(always)]
     pub(crate) fn step(&mut self) -> Option<Shape>
@@ -97,7 +153,7 @@ impl Walk {
         match self.sweep {
             Sweep::Start => {
                 self.sweep = Sweep::Up;
-                corner_at(self.side, self.row, self.column)
+                corner_at(self.side as u16, self.row as u16, self.column as u16)
             }
             Sweep::Up if self.row >= MARGIN && self.column < self.side + MARGIN => {
                 let word = word_here(self.side, self.row, self.column);

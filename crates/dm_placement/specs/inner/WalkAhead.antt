@@ -46,6 +46,12 @@ ends Down inside = false
 abbrev pub is_over : Walk → Bool
 is_over w = ends w.sweep (nat_lt w.row (w.side + 2) || nat_lt w.column (w.side + 2))
 
+-- whether the walk goes up
+abbrev pub rises : Sweep → Bool
+rises Start = false
+rises Up = true
+rises Down = false
+
 -- how far outside of the matrix the walk may be
 abbrev pub MayStand : ℕ → Sweep → ℕ → ℕ → Type 0
 MayStand n Start r c = (r < n + 2 → c ≤ 2) × (c < n + 2 → r ≤ n + 6)
@@ -56,6 +62,15 @@ MayStand n Down r c = (r ≤ n + 7) × (c ≤ n + 6) × (c < n + 2 → r ≤ n +
 pub record IsNearby (w : Walk) : Type 0 where
   pub small : w.side ≤ 120
   pub nearby : MayStand w.side w.sweep w.row w.column
+
+-- the next words of a sweep, as many as this, stand two rows and two columns or more inside of the matrix
+abbrev pub StandInside : ℕ → Sweep → ℕ → ℕ → ℕ → Type 0
+StandInside n Start r c count = ⊥
+StandInside n Up r c count = (4 ≤ c) × (r < n + 2) × (2 * count + 2 ≤ r) × (c + 2 * count ≤ n + 3)
+StandInside n Down r c count = (4 ≤ r) × (c < n + 2) × (2 * count + 2 ≤ c) × (r + 2 * count ≤ n + 3)
+
+abbrev pub IsInside : Walk → ℕ → Type 0
+IsInside w count = 0 < count → StandInside w.side w.sweep w.row w.column count
 
 -- more than the steps that the walk has left
 abbrev pub left_in : Sweep → ℕ → ℕ → ℕ

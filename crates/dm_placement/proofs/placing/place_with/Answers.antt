@@ -8,7 +8,8 @@ use Rattle.dm_placement.specs.Square.{Square, with_module, with_dark, light_squa
 use Rattle.dm_placement.specs.inner.WalkSteps.{AllIn}
 use Rattle.dm_placement.proofs.CellLists.{all_in_at}
 use Rattle.dm_placement.proofs.EachSize.{side_is_sound}
-use Rattle.dm_placement.proofs.PlacedBits.{Placing, placing_start, placing_step, placing_end}
+use Rattle.dm_placement.specs.inner.WordsSoFar.{Placing}
+use Rattle.dm_placement.proofs.PlacedBits.{placing_start, placing_step, placing_end}
 use Rattle.dm_placement.proofs.PlacedMatrix.{placed_only}
 use Rattle.dm_placement.proofs.ShapesSound.{all_in_bits, bit_count}
 use Rattle.dm_placement.proofs.Tiled.{tiled_size}
