@@ -19,6 +19,7 @@
 
 mod ascii;
 mod base256;
+mod between;
 mod characters;
 mod counter;
 mod counting;
