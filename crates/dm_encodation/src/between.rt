@@ -8,13 +8,15 @@ const TOGETHER: usize = 16;
 
 // Whether the next bytes lie between two bounds. All are looked at, with no way out before the last, so that the
 // compiler can do it in a few instructions.
+#[inline(always)]
 fn are_next_between(bytes: &[u8], from: usize, low: u8, high: u8) -> bool
     requires { from + TOGETHER ≤ length bytes.now }
     ensures { result ≡ true → AreBetween low high bytes.now from (from + TOGETHER) }
 {
     let mut all = true;
-    for at in from..from + TOGETHER {
-        if bytes[at] < low || bytes[at] > high {
+    for ahead in 0..TOGETHER {
+        let byte = bytes[from + ahead];
+        if byte < low || byte > high {
             all = false;
         }
     }
@@ -23,6 +25,7 @@ fn are_next_between(bytes: &[u8], from: usize, low: u8, high: u8) -> bool
 
 // An index to which the bytes from another on lie between two bounds: fewer than are looked at together follow it that
 // do too.
+#[inline(always)]
 fn near_end(bytes: &[u8], from: usize, low: u8, high: u8) -> usize
     requires { from ≤ length bytes.now }
     ensures after { from ≤ result }
@@ -37,6 +40,7 @@ fn near_end(bytes: &[u8], from: usize, low: u8, high: u8) -> usize
 }
 
 /// The end of the bytes between two bounds that stand from an index on.
+#[inline(always)]
 pub(crate) fn between_end(bytes: &[u8], from: usize, low: u8, high: u8) -> usize
     requires { from ≤ length bytes.now }
     ensures after { from ≤ result }

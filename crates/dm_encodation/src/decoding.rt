@@ -77,6 +77,7 @@ fn check(words: &[u8], from: usize) -> Result<usize, DecodeFault>
 }
 
 // Writes the bytes that a word gives.
+#[inline(always)]
 fn push_output<A: Allocator>(out: &mut Vec<u8, A>, output: Decoded) -> Result<(), AllocError>
     ensures { OnOk result (out.new.items ≡ out.old.items ++ bytes_of output) }
 {
