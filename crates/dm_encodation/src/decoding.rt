@@ -68,6 +68,9 @@ fn check(words: &[u8], from: usize) -> Result<usize, DecodeFault>
     let mut count = (start - from).saturating_mul(2);
     let mut mode = Mode::Ascii;
     for at in start..words.len() {
+        if let Mode::Padded = mode {
+            return Ok(count);
+        }
         let (next, output) = step(mode, at + 1, words[at])?;
         count = count.saturating_add(output.len());
         mode = next;
@@ -112,6 +115,9 @@ fn collect<A: Allocator + Copy>(
     let mut out = digits_of_pairs(alloc, words, from, start, count)?;
     let mut mode = Mode::Ascii;
     for at in start..words.len() {
+        if let Mode::Padded = mode {
+            return Ok(out);
+        }
         let (next, output) = step(mode, at + 1, words[at])?;
         push_output(&mut out, output)?;
         mode = next;
