@@ -96,13 +96,19 @@ fn push_pairs<A: Allocator>(
     Ok(())
 }
 
-// Writes the words of the pairs of digits that a text begins with, and gives the text after them.
+// A text of fewer bytes is written sooner piece by piece.
+const FEW: usize = 16;
+
+// Writes the words of pairs of digits that a text begins with, and gives the text after them.
 fn push_digits<'a, A: Allocator>(
     out: &mut Vec<u8, A>,
     bytes: &'a [u8],
 ) -> Result<&'a [u8], AllocError>
     ensures { IfOk result (λ rest. out.new.items ++ ascii rest.now ≡ out.old.items ++ ascii bytes.now) }
 {
+    if bytes.len() < FEW {
+        return Ok(bytes);
+    }
     let pairs = digit_pairs(bytes);
     push_pairs(out, bytes, pairs)?;
     Ok(&bytes[2 * pairs..])
