@@ -1,10 +1,11 @@
--- A text in ASCII: the piece at its front, and one byte more at its end.
-use Rattle.std.proofs.Common.{◌≡◌, ℕ, suc, ◌+◌, ◌-◌, ◌*◌, ◌<◌, ◌≤◌, ◌≢◌, ltb, Bool, true, false, ◌&&◌, List, [], ◌∷◌, ◌++◌, length, get_or, drop, refl, sym, ap, ◌∙◌, arith, ◌⊎◌, inl, inr}
+-- A text in ASCII: the piece at its front, all pairs of digits at its front, and one byte more at its end.
+use Rattle.std.proofs.Common.{◌≡◌, ℕ, zero, suc, ◌+◌, ◌-◌, ◌*◌, ◌<◌, ◌≤◌, ◌≢◌, ltb, Bool, true, false, ◌&&◌, List, [], ◌∷◌, ◌++◌, length, get_or, drop, refl, sym, ap, ◌∙◌, append_assoc, arith, ◌⊎◌, inl, inr}
 use Rattle.std.specs.Char.{is_ascii_digit}
-use Rattle.std.proofs.lemmas.Bool.{and_parts, leb-true, lt-ltb, le-ltb, cond_both}
-use Rattle.std.proofs.lemmas.List.{append-nil, length-append}
+use Rattle.std.proofs.lemmas.Bool.{and_parts, leb-true, le-leb, lt-ltb, le-ltb, cond_both}
+use Rattle.std.proofs.lemmas.List.{append-nil, length-append, drop_more}
 use Rattle.dm_encodation.specs.Written.{ascii_byte, ascii}
 use Rattle.dm_encodation.specs.inner.Pieces.{has_digits}
+use Rattle.dm_encodation.specs.inner.Pairs.{AreBetween, word_of, words_of_pairs}
 use Rattle.dm_encodation.specs.declared.counter.AsciiCounter.{AsciiCounter}
 use Rattle.dm_encodation.specs.inner.Counting.{has_lone_digit, CountsAscii}
 
@@ -29,6 +30,30 @@ unfolding ascii
 ascii-digits [] x = absurd cc
 ascii-digits (a ∷ []) x = absurd cc
 ascii-digits (a ∷ b ∷ bs) x = rw x refl
+
+-- two digits are one word
+two_digits : (a b : ℕ) (rest : List ℕ) → (48 ≤ a) × (a ≤ 57) → (48 ≤ b) × (b ≤ 57)
+    → ascii (a ∷ b ∷ rest) ≡ word_of a b ∷ ascii rest
+unfolding ascii
+two_digits a b rest tens ones =
+    rw (le-leb 48 a tens.0, le-leb a 57 tens.1, le-leb 48 b ones.0, le-leb b 57 ones.1) refl
+
+-- the words of the first pairs of digits of a text, and then those of the rest
+pub pairs_first : (bytes : List ℕ) (count : ℕ) → 2 * count ≤ length bytes → AreBetween 48 57 bytes 0 (2 * count)
+    → words_of_pairs bytes count ++ ascii (drop (2 * count) bytes) ≡ ascii bytes
+pairs_first bytes zero fits digits = refl
+pairs_first bytes (suc count) fits digits =
+    let k = 2 * count in
+    let rest = drop (2 * suc count) bytes in
+    let w = word_of (get_or bytes k 0) (get_or bytes (k + 1) 0) in
+    let next : k + 1 + 1 ≡ 2 * suc count = omega arith in
+    let two : drop k bytes ≡ get_or bytes k 0 ∷ get_or bytes (k + 1) 0 ∷ rest =
+    drop_more bytes k 0 (omega arith) ∙ ap (λ l. get_or bytes k 0 ∷ l) (drop_more bytes (k + 1) 0 (omega arith)
+    ∙ ap (λ n. get_or bytes (k + 1) 0 ∷ drop n bytes) next) in
+    append_assoc (words_of_pairs bytes count) (w ∷ []) (ascii rest)
+    ∙ ap (λ l. words_of_pairs bytes count ++ l) (sym (ap ascii two ∙ two_digits _ _ rest
+    (digits k (omega arith) (omega arith)) (digits (k + 1) (omega arith) (omega arith))))
+    ∙ pairs_first bytes count (omega arith) (λ i a b. digits i a (omega arith))
 
 ascii-byte : (bytes : List ℕ) → length bytes ≢ 0 → has_digits bytes ≡ false
     → ascii bytes ≡ ascii_byte (get_or bytes 0 0) ++ ascii (drop 1 bytes)

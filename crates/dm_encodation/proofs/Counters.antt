@@ -1,7 +1,8 @@
 -- What a counter of words says, and how large its numbers are.
-use Rattle.std.proofs.Common.{◌≡◌, ℕ, ◌+◌, ◌*◌, ◌<◌, ◌≤◌, ◌^◌, inl, inr, false, cond, eqb, leb, List, [], length, take, drop, refl, sym, ap, ◌∙◌, arith}
+use Rattle.std.proofs.Common.{◌≡◌, ℕ, zero, suc, ◌+◌, ◌*◌, ◌<◌, ◌≤◌, ◌^◌, inl, inr, false, cond, eqb, leb, List, [], length, take, drop, refl, sym, ap, ◌∙◌, arith}
 use Rattle.std.proofs.lemmas.Bool.{cases_lt, leb-false, lt-leb, ne_eqb, cond_both}
-use Rattle.std.proofs.lemmas.List.{length-take-le, length-drop}
+use Rattle.std.proofs.lemmas.List.{length-append, length-take-le, length-drop}
+use Rattle.dm_encodation.specs.inner.Pairs.{AreBetween, words_of_pairs}
 use Rattle.dm_encodation.specs.inner.Counting.{Counts, CountsRun, IsSmall, IsSmallRun, base_256_need, run_need}
 use Rattle.dm_encodation.specs.declared.counter.AsciiCounter.{AsciiCounter}
 use Rattle.dm_encodation.specs.declared.counter.RunCounter.{RunCounter}
@@ -12,7 +13,7 @@ use Rattle.dm_encodation.specs.declared.letters.Letters.TheVariants.{Capital, Sm
 use Rattle.dm_encodation.specs.declared.scheme.Scheme.{Scheme}
 use Rattle.dm_encodation.specs.declared.scheme.Scheme.TheVariants.{Ascii, C40, Text, Base256}
 use Rattle.dm_encodation.specs.Written.{ascii, base_256, run_length, run_and_rest, text, need_of}
-use Rattle.dm_encodation.proofs.AsciiWords.{length-ascii}
+use Rattle.dm_encodation.proofs.AsciiWords.{length-ascii, pairs_first}
 use Rattle.dm_encodation.proofs.Base256Words.{length-base_256}
 use Rattle.dm_encodation.proofs.RunWords.{run_length-nil, run_within, length-values, words_run, run_few}
 
@@ -75,6 +76,21 @@ short_base_256 bytes le =
           let e : need_of Base256 bytes ≡ length bytes + 3 = need-base_256 bytes ∙ rw (a, b) refl in
           absurd (omega arith)
     ]
+
+-- each word that pairs of digits have is one
+length-words_of_pairs : (digits : List ℕ) (count : ℕ) → length (words_of_pairs digits count) ≡ count
+length-words_of_pairs digits zero = refl
+length-words_of_pairs digits (suc count) =
+    let l = length-words_of_pairs digits count in simp length-append (omega arith)
+
+-- pairs of digits at the front of a text need a word each
+pub need-pairs : (bytes : List ℕ) (count : ℕ) → 2 * count ≤ length bytes → AreBetween 48 57 bytes 0 (2 * count) →
+    need_of Ascii bytes ≡ count + need_of Ascii (drop (2 * count) bytes)
+unfolding need_of text
+need-pairs bytes count fits digits =
+    let rest = ascii (drop (2 * count) bytes) in
+    sym (ap length (pairs_first bytes count fits digits)) ∙ length-append (words_of_pairs bytes count) rest
+    ∙ ap (λ n. n + length rest) (length-words_of_pairs bytes count)
 
 -- ---- what a counter says
 

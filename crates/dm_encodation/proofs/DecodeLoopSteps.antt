@@ -1,12 +1,13 @@
 -- A turn of a loop over the words, and its end.
 use Rattle.std.proofs.Common.{◌≡◌, ℕ, ◌+◌, ◌<◌, ◌≤◌, List, [], ◌∷◌, ◌++◌, length, get_or, drop, Result, Ok, Err, refl, sym, ap, ◌∙◌, arith}
-use Rattle.std.proofs.lemmas.List.{drop_more, drop_all}
+use Rattle.std.proofs.lemmas.List.{append-nil, drop_more, drop_all}
 use Rattle.dm_encodation.specs.declared.mode.Mode.{Mode}
+use Rattle.dm_encodation.specs.declared.mode.Mode.TheVariants.{Padded}
 use Rattle.dm_encodation.specs.declared.fault.DecodeFault.{DecodeFault}
 use Rattle.dm_encodation.specs.declared.fault.DecodeFault.TheVariants.{Unsupported, Reserved, Cut, Memory}
 use Rattle.dm_encodation.specs.inner.Reading.{◌>>=◌, prepend, Stepped, step, finish, reading}
 use Rattle.dm_encodation.specs.inner.StepViews.{Fails}
-use Rattle.dm_encodation.proofs.ReadsToReading.{reading_step, prepend-prepend}
+use Rattle.dm_encodation.proofs.ReadsToReading.{reading_step, prepend-prepend, padded_read}
 
 -- a step that succeeds
 pub goes_on : (m next : Mode) (at : ℕ) (words front bs : List ℕ) (total : Result (List ℕ) DecodeFault) →
@@ -63,3 +64,9 @@ fails_so Memory total e = tt
 pub start : (r : Result (List ℕ) DecodeFault) → prepend [] r ≡ r
 start (Ok x) = refl
 start (Err f) = refl
+
+-- pads end what is read
+pub padded_so : (p : ℕ) (words front : List ℕ) (total : Result (List ℕ) DecodeFault)
+    → prepend front (reading Padded p words) ≡ total → total ≡ Ok front
+padded_so p words front total so_far =
+    sym so_far ∙ ap (prepend front) (padded_read p words) ∙ ap (λ (l : List ℕ). Ok l) (append-nil front)

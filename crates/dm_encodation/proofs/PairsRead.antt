@@ -2,12 +2,12 @@
 use Rattle.std.proofs.Common.{◌≡◌, ℕ, zero, suc, ◌+◌, ◌-◌, ◌≤◌, List, ◌++◌, length, get_or, drop, Ok, true, false, eqb, leb, ap, ◌∙◌, subst, arith}
 use Rattle.std.proofs.lemmas.Bool.Decides.{nat_tests}
 use Rattle.dm_encodation.specs.declared.mode.Mode.TheVariants.{Ascii}
-use Rattle.dm_encodation.specs.inner.Pairs.{IsPair, ArePairs, digits_of, digits_from}
+use Rattle.dm_encodation.specs.inner.Pairs.{ArePairs, digits_of, digits_from}
 use Rattle.dm_encodation.specs.inner.Reading.{prepend, reading, step, ascii_step}
 use Rattle.dm_encodation.proofs.DecodeLoopSteps.{goes_on, start}
 
 -- one such word
-pair_step : (p w : ℕ) → IsPair w → Ok (Ascii, digits_of w) ≡ step Ascii p w
+pair_step : (p w : ℕ) → (130 ≤ w) × (w ≤ 229) → Ok (Ascii, digits_of w) ≡ step Ascii p w
 unfolding step ascii_step
 pair_step p w h =
     let a : eqb w 0 ≡ false = grind (arith, nat_tests) in

@@ -8,6 +8,7 @@ ghost use Rattle.dm_encodation.specs.inner.StepViews.{bytes_of, Checks, Fails};
 ghost use Rattle.dm_encodation.specs.declared.fault.DecodeFault.TheVariants.{Memory};
 ghost use Rattle.dm_encodation.specs.declared.mode.Mode.TheVariants.{Ascii};
 
+use crate::between::between_end;
 use crate::fault::DecodeFault;
 use crate::mode::Mode;
 use crate::reader::{Decoded, finish, step};
@@ -20,32 +21,41 @@ fn pairs_end(words: &[u8], from: usize) -> usize
     ensures within { result ≤ length words.now }
     ensures pairs { ArePairs words.now from result }
 {
-    for at in from..words.len() {
-        if words[at] < 130 || words[at] > 229 {
-            return at;
-        }
-    }
-    words.len()
+    between_end(words, from, 130, 229)
 }
 
-// Writes the digits of words of two digits each.
-fn push_pairs<A: Allocator>(
-    out: &mut Vec<u8, A>,
+// Writes the digits of that many words of two digits each over others.
+fn write_digits(digits: &mut [u8], words: &[u8], from: usize, count: usize)
+    requires room { length digits.old ≡ 2 * count }
+    requires within { from + count ≤ length words.now }
+    requires pairs { ArePairs words.now from (from + count) }
+    ensures { digits.new ≡ digits_from words.now from count }
+{
+    for at in 0..count {
+        let number = words[from + at] - 130;
+        digits[2 * at] = b'0' + number / 10;
+        digits[2 * at + 1] = b'0' + number % 10;
+    }
+}
+
+// The digits of words of two digits each, with memory for `room` bytes asked for at first.
+fn digits_of_pairs<A: Allocator>(
+    alloc: A,
     words: &[u8],
     from: usize,
     end: usize,
-) -> Result<(), AllocError>
+    room: usize,
+) -> Result<Vec<u8, A>, AllocError>
     requires after { from ≤ end }
     requires within { end ≤ length words.now }
     requires pairs { ArePairs words.now from end }
-    ensures { OnOk result (out.new.items ≡ out.old.items ++ digits_from words.now from (end - from)) }
+    ensures { IfOk result (λ v. v.items ≡ digits_from words.now from (end - from)) }
 {
-    for at in from..end {
-        let number = words[at] - 130;
-        out.push(b'0' + number / 10)?;
-        out.push(b'0' + number % 10)?;
-    }
-    Ok(())
+    let mut out = Vec::with_capacity(alloc, room)?;
+    let count = end - from;
+    out.resize(2 * count, 0)?;
+    write_digits(&mut out[..], words, from, count);
+    Ok(out)
 }
 
 // Whether the words are a text; no memory is asked for. Gives the number of its bytes, by which
@@ -58,6 +68,9 @@ fn check(words: &[u8], from: usize) -> Result<usize, DecodeFault>
     let mut count = (start - from).saturating_mul(2);
     let mut mode = Mode::Ascii;
     for at in start..words.len() {
+        if let Mode::Padded = mode {
+            return Ok(count);
+        }
         let (next, output) = step(mode, at + 1, words[at])?;
         count = count.saturating_add(output.len());
         mode = next;
@@ -67,6 +80,7 @@ fn check(words: &[u8], from: usize) -> Result<usize, DecodeFault>
 }
 
 // Writes the bytes that a word gives.
+#[inline(always)]
 fn push_output<A: Allocator>(out: &mut Vec<u8, A>, output: Decoded) -> Result<(), AllocError>
     ensures { OnOk result (out.new.items ≡ out.old.items ++ bytes_of output) }
 {
@@ -97,11 +111,13 @@ fn collect<A: Allocator + Copy>(
     ensures given { IfOk result (λ v. reading Ascii (from + 1) (drop from words.now) ≡ Ok v.items) }
     ensures fails { IfErr result (λ f. Fails f (reading Ascii (from + 1) (drop from words.now))) }
 {
-    let mut out = Vec::with_capacity(alloc, count)?;
     let start = pairs_end(words, from);
-    push_pairs(&mut out, words, from, start)?;
+    let mut out = digits_of_pairs(alloc, words, from, start, count)?;
     let mut mode = Mode::Ascii;
     for at in start..words.len() {
+        if let Mode::Padded = mode {
+            return Ok(out);
+        }
         let (next, output) = step(mode, at + 1, words[at])?;
         push_output(&mut out, output)?;
         mode = next;

@@ -69,7 +69,9 @@ fn upper_step(position: usize, word: u8) -> Result<(Mode, Decoded), DecodeFault>
     }
 }
 
-// A word taken out of the 255-state algorithm.
+// A word taken out of the 255-state algorithm. It is kept apart from `step`: drawn into a loop over all words, its shift
+// would be worked out for each of them, in every mode.
+#[inline(never)]
 #[tactic(auto, unfolding(crate::specs::inner::Reading::value_255))]
 fn value_255(position: usize, word: u8) -> u8
     ensures { result ≡ Reading.value_255 position word }
@@ -129,6 +131,7 @@ fn long_length_step(first: u8, position: usize, word: u8) -> Result<(Mode, Decod
 }
 
 /// What one word does in a mode: the next mode, and the bytes that it gives.
+#[inline(always)]
 #[tactic(auto, unfolding(crate::specs::inner::Reading::step))]
 pub(crate) fn step(mode: Mode, position: usize, word: u8) -> Result<(Mode, Decoded), DecodeFault>
     requires place { 0 < position }

@@ -1,12 +1,9 @@
-use Rattle.std.proofs.Common.{arith, take}
-use Rattle.std.proofs.lemmas.List.{length-take}
-use Rattle.dm_encodation.proofs.Counters.{small}
+use Rattle.std.proofs.Common.{arith}
+use Rattle.std.proofs.lemmas.List.{take_rest}
+use Rattle.dm_encodation.proofs.Counters.{need_below}
 use Rattle.dm_encodation.proofs.counting.word_count.Goals as goal
 
-pub with-counter-requires : goal.with-counter-requires
-with-counter-requires c = small c.args.scheme (take c.loop-byte.byte-index c.args.bytes.now) c.loop-byte.counter
-    (simp length-take (omega arith)) c.loop-byte.invariant
-
-pub words-requires : goal.words-requires
-words-requires c = small c.args.scheme (take c.loop-byte.byte-index c.args.bytes.now) c.loop-byte.counter
-    (simp length-take (omega arith)) c.loop-byte.invariant
+pub overflow_add-result : goal.overflow_add-result
+overflow_add-result c =
+    let below = need_below c.args.scheme c.args.bytes.now in
+    omega (arith, c.front_pairs-pairs.ensures.words, rw take_rest at c.counted.ensures)

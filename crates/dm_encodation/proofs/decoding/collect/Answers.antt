@@ -1,11 +1,10 @@
-use Rattle.std.proofs.Common.{drop, ◌+◌, ◌-◌, ◌++◌, arith, sym, ap, ◌∙◌, List, ℕ, Ok}
+use Rattle.std.proofs.Common.{drop, ◌+◌, arith, sym, ap, ◌∙◌, List, ℕ, Ok}
 use Rattle.std.proofs.lemmas.Result.{err_from_is_err_and}
 use Rattle.dm_encodation.specs.inner.StepViews.{bytes_of}
 use Rattle.dm_encodation.specs.inner.Reading.{reading, prepend}
 use Rattle.dm_encodation.specs.declared.mode.Mode.TheVariants.{Ascii}
-use Rattle.dm_encodation.proofs.DecodeLoopSteps.{goes_on, fails_at, finishes, fails_last, fails_so}
+use Rattle.dm_encodation.proofs.DecodeLoopSteps.{goes_on, fails_at, finishes, fails_last, fails_so, padded_so}
 use Rattle.dm_encodation.proofs.PairsRead.{pairs_between}
-use Rattle.dm_encodation.specs.inner.Pairs.{digits_from}
 use Rattle.dm_encodation.proofs.decoding.collect.Goals as goal
 
 pub loop-at-init : goal.loop-at-init
@@ -14,12 +13,16 @@ loop-at-init g c =
     let rest = reading Ascii (start.result + 1) (drop start.result c.args.words.now) in
     record {
       mode = tt;
-      so_far = ap (λ (l : List ℕ). prepend l rest) (c.in_ok-push_pairs.ensures
-          ∙ ap (λ l. l ++ digits_from c.args.words.now c.args.from (start.result - c.args.from))
-          c.in_ok-out.ensures.items)
+      so_far = ap (λ (l : List ℕ). prepend l rest) c.in_ok-out.ensures
           ∙ pairs_between c.args.words.now c.args.from start.result start.ensures.after start.ensures.within
           start.ensures.pairs;
     }
+
+pub returns-in-Padded-clause-given : goal.returns-in-Padded-clause-given
+returns-in-Padded-clause-given g c =
+    padded_so (c.loop-at.at + 1) (drop c.loop-at.at c.args.words.now) c.loop-at.out.items
+    (reading Ascii (c.args.from + 1) (drop c.args.from c.args.words.now))
+    (rw c.in-Padded.is at c.loop-at.invariant.so_far)
 
 pub returns-in_err-next-clause-fails : goal.returns-in_err-next-clause-fails
 returns-in_err-next-clause-fails g c =

@@ -1,0 +1,5 @@
+use Rattle.dm_encodation.specs.inner.Pairs.{AreBetween}
+use Rattle.dm_encodation.proofs.between.between_end.Given as goal
+
+abbrev pub invariant-loop-at : goal.invariant-loop-at
+invariant-loop-at l = AreBetween l.low l.high l.bytes l.from l.at
