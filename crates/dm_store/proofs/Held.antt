@@ -14,19 +14,19 @@ told_apart q n apart = grind arith
 told_same : (n : ℕ) → eq_by_cmp nat_cmp n n ≡ true
 told_same n = grind arith
 
-inserted_other : (m : Contents) (n q : ℕ) (bytes : List ℕ) → q ≢ n → get (insert m n bytes) q ≡ get m q
+pub inserted_other : (m : Contents) (n q : ℕ) (bytes : List ℕ) → q ≢ n → get (insert m n bytes) q ≡ get m q
 inserted_other m n q bytes apart =
     get-insert nat_cmp_total m n bytes q ∙ ap (λ b. cond b (Some bytes) (get m q)) (told_apart q n apart)
 
-inserted_same : (m : Contents) (n : ℕ) (bytes : List ℕ) → get (insert m n bytes) n ≡ Some bytes
+pub inserted_same : (m : Contents) (n : ℕ) (bytes : List ℕ) → get (insert m n bytes) n ≡ Some bytes
 inserted_same m n bytes =
     get-insert nat_cmp_total m n bytes n ∙ ap (λ b. cond b (Some bytes) (get m n)) (told_same n)
 
-removed_other : (m : Contents) (n q : ℕ) → q ≢ n → get (remove m n) q ≡ get m q
+pub removed_other : (m : Contents) (n q : ℕ) → q ≢ n → get (remove m n) q ≡ get m q
 removed_other m n q apart =
     get-remove nat_cmp_total m n q ∙ ap (λ b. cond b None (get m q)) (told_apart q n apart)
 
-removed_same : (m : Contents) (n : ℕ) → get (remove m n) n ≡ None
+pub removed_same : (m : Contents) (n : ℕ) → get (remove m n) n ≡ None
 removed_same m n = get-remove nat_cmp_total m n n ∙ ap (λ b. cond b None (get m n)) (told_same n)
 
 found_other : (m : Contents) (n q : ℕ) (found : Content) → q ≢ n → get (with_found m n found) q ≡ get m q
@@ -56,7 +56,7 @@ held_at found (suc n) q lt = ⊎_elim
 
 module _ (found later : ℕ → Content) (n : ℕ) where
   -- a map is known by what it has below n, if it has nothing above
-  known : (m : Contents) → ((q : ℕ) → q < n → get m q ≡ later q) → ((q : ℕ) → n ≤ q → get m q ≡ None) →
+  pub known : (m : Contents) → ((q : ℕ) → q < n → get m q ≡ later q) → ((q : ℕ) → n ≤ q → get m q ≡ None) →
       held_below later n ≡ m
   known m below above = same_map nat_cmp_total nat_cmp-IsAntisymmetric (held_below later n) m (λ q. ⊎_elim
       (λ (lt : q < n). held_at later n q lt ∙ sym (below q lt))

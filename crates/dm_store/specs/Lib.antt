@@ -11,3 +11,4 @@ pub mod DiskCalls
 pub mod Filed
 pub mod SeenIsLeft
 pub mod Folder
+pub mod inner
