@@ -56,7 +56,7 @@ held_at found (suc n) q lt = ⊎_elim
 
 module _ (found later : ℕ → Content) (n : ℕ) where
   -- a map is known by what it has below n, if it has nothing above
-  known : (m : Contents) → ((q : ℕ) → q < n → get m q ≡ later q) → ((q : ℕ) → n ≤ q → get m q ≡ None) →
+  pub known : (m : Contents) → ((q : ℕ) → q < n → get m q ≡ later q) → ((q : ℕ) → n ≤ q → get m q ≡ None) →
       held_below later n ≡ m
   known m below above = same_map nat_cmp_total nat_cmp-IsAntisymmetric (held_below later n) m (λ q. ⊎_elim
       (λ (lt : q < n). held_at later n q lt ∙ sym (below q lt))

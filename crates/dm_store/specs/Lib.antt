@@ -12,3 +12,4 @@ pub mod Filed
 pub mod SeenIsLeft
 pub mod Folder
 pub mod Left
+pub mod inner

@@ -69,12 +69,9 @@ impl<D: Folders, A: Allocator + Copy> FileSet<D, A> {
             → (key : ℕ) → key < 2 ^ 16 → (D.state disk).is_synced (key_path (string_bytes folder) key) }
         ensures { result ≡ record { disk = disk; path = string_bytes folder; is_synced = true } }
     {
-        FileSet {
-            alloc,
-            disk,
-            folder,
-            is_synced: true,
-        }
+        let mut set = FileSet::new(alloc, disk, folder);
+        set.is_synced = true;
+        set
     }
 
     /// The disk, as the calls left it.

@@ -67,12 +67,9 @@ impl<D: Disk, A: Allocator + Copy> FileStore<D, A> {
         requires on_disk { IsTrue (D.state disk).is_honest → (D.state disk).is_synced (string_bytes path) }
         ensures { result ≡ record { disk = disk; path = string_bytes path; is_synced = true } }
     {
-        FileStore {
-            alloc,
-            disk,
-            path,
-            is_synced: true,
-        }
+        let mut store = FileStore::new(alloc, disk, path);
+        store.is_synced = true;
+        store
     }
 
     /// The disk, as the calls left it.

@@ -21,10 +21,10 @@
 //! save are. [`FileSet`] is a set in a folder of a disk that has the calls of [`Folders`], and the same is proved of
 //! the file of each key; a remove leaves the old bytes or none, and none once it has answered `Ok`.
 //!
-//! [`MemDisk`] is a disk in memory of which a stop may leave whatever the contract allows after calls that were done;
-//! a call that fails changes nothing there. [`FuseDisk`] is one that stops after a number of calls. [`RealDisk`] is
-//! the system's own files: it claims nothing. That its few lines do what the contract says is trusted, and tested; so
-//! is the sync by which a folder that was made is kept, which no clause speaks of.
+//! [`MemDisk`] is a disk in memory, with folders, of which a stop may leave whatever the contract allows after calls
+//! that were done; a call that fails changes nothing there. [`FuseDisk`] is one that stops after a number of calls.
+//! [`RealDisk`] is the system's own files: it claims nothing. That its few lines do what the contract says is trusted,
+//! and tested; so is the sync by which a folder that was made is kept, which no clause speaks of.
 #![tactic(auto)]
 
 mod disk;
@@ -38,6 +38,7 @@ mod fuse_store;
 mod key_files;
 mod key_map;
 mod mem_disk;
+mod mem_folder;
 mod mem_set;
 mod mem_store;
 mod real_disk;

@@ -29,12 +29,12 @@ pub enum DiskCall<A: Allocator = Global> {
 /// more: here it changes nothing. And after a rename nothing has the file's old name here.
 #[derive(Drop)]
 pub struct MemDisk<A: Allocator + Copy = Global> {
-    alloc: A,
-    calls: Vec<DiskCall<A>, A>,
+    pub(crate) alloc: A,
+    pub(crate) calls: Vec<DiskCall<A>, A>,
 }
 
 // What a reader finds under the name.
-fn seen_in<'a, A: Allocator>(calls: &'a [DiskCall<A>], name: &str) -> Option<&'a [u8]>
+pub(crate) fn seen_in<'a, A: Allocator>(calls: &'a [DiskCall<A>], name: &str) -> Option<&'a [u8]>
     ensures { option_map (λ bytes. bytes.now) result ≡ seen_after calls.now name.now }
 {
     let [call, before @ ..] = calls else {
