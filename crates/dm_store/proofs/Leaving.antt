@@ -74,9 +74,11 @@ module _ (old new : DiskState) (folder : List ℕ) (honesty : new.is_honest ≡ 
       SaveKeyLeaves (left_in is_synced old folder) key (Some bytes) (outcome_of answer) (left_in is_synced new folder)
   replace_leaves key bytes answer lt refused saves = record {
     told = told_both;
-    others = λ told other apart content leaves. (leaves.0,
-        (replace_keeps old new folder honesty key bytes answer lt saves (was_honest told) other leaves.0 apart).left
-        content leaves.1);
+    others = λ told other apart content leaves. (
+      leaves.0,
+      (replace_keeps old new folder honesty key bytes answer lt saves (was_honest told) other leaves.0 apart).left
+          content leaves.1,
+    );
     kept = λ is told content leaves.
         (leaves.0, (refused (refused_replace answer is) (key_path folder key)).left content leaves.1);
     either = λ told content leaves. ⊎_elim (λ before. inl (leaves.0, before)) (λ after. inr after)
@@ -91,9 +93,11 @@ module _ (old new : DiskState) (folder : List ℕ) (honesty : new.is_honest ≡ 
       SaveKeyLeaves (left_in is_synced old folder) key None (outcome_of_remove answer) (left_in is_synced new folder)
   remove_leaves key answer lt refused removes = record {
     told = told_both;
-    others = λ told other apart content leaves. (leaves.0,
-        (remove_keeps old new folder honesty key answer lt removes (was_honest told) other leaves.0 apart).left
-        content leaves.1);
+    others = λ told other apart content leaves. (
+      leaves.0,
+      (remove_keeps old new folder honesty key answer lt removes (was_honest told) other leaves.0 apart).left
+          content leaves.1,
+    );
     kept = λ is told content leaves.
         (leaves.0, (refused (refused_remove answer is) (key_path folder key)).left content leaves.1);
     either = λ told content leaves. ⊎_elim (λ before. inl (leaves.0, before)) (λ after. inr after)
