@@ -3,7 +3,9 @@ use Rattle.std.proofs.Common.{◌≡◌, ℕ, ◌-◌, ◌<◌, ◌≤◌, List,
 use Rattle.std.specs.Prelude.{IsSome, IfSome, IsSomeAnd, slice_set, unwrap_or}
 use Rattle.std.specs.FinMap.{get, insert, remove}
 use Rattle.dm_append_label.specs.Pages.{PageView}
+use Rattle.dm_store.specs.Saved.{Outcome}
 use Rattle.dm_store.specs.Sets.{SavedSet, SavesKey}
+use Rattle.dm_store.specs.Left.{SetLeft, SaveKeyLeaves}
 use Rattle.dm_store.specs.declared.store.ReplaceFault.{ReplaceFault}
 use Rattle.dm_assembly_desk.specs.Pages.{Pages, page}
 use Rattle.dm_assembly_desk.specs.Files.{IsEntry, file}
@@ -48,6 +50,13 @@ module _ (held put : Documents) (p : PageView) (after : put ≡ with_page held p
   saved_there id is set after answer r =
       saved_at set after answer (subst (λ (i : ℕ). SavesKey set i
       (file i (unwrap_or (get put i) [])) answer after) is r)
+
+  pub leaves_there : (id : ℕ) → id ≡ p.id → (old new : SetLeft) (outcome : Outcome) →
+      SaveKeyLeaves old id (Some (file id (unwrap_or (get put id) []))) outcome new →
+      SaveKeyLeaves old p.id (Some (file p.id (pages_with held p))) outcome new
+  leaves_there id is old new outcome r =
+      subst (λ (o : Option Pages). SaveKeyLeaves old p.id (Some (file p.id (unwrap_or o []))) outcome new) now
+      (subst (λ (i : ℕ). SaveKeyLeaves old i (Some (file i (unwrap_or (get put i) []))) outcome new) is r)
 
   pub back_first : (id : ℕ) → id ≡ p.id → get held id ≡ None → remove put id ≡ held
   back_first id is none = ap (λ (i : ℕ). remove put i) is ∙ ap (λ (d : Documents). remove d p.id) after ∙

@@ -5,6 +5,7 @@ pub mod ReadPages
 pub mod FileLaws
 pub mod Loading
 pub mod Adding
+pub mod LastingLaws
 pub mod KeptPages
 pub mod Reopening
 pub mod OneRefusal

@@ -195,7 +195,7 @@ is_there content held id h some = subst IsSome (sym (h.files id)) (mapped (get h
     mapped None some = absurd cc
     mapped (Some pages) some = refl
 
-same_honesty : (old : SavedSet) (id : ℕ) (answer : Result (Unit {0}) RemoveFault) (set : SavedSet) →
+pub same_honesty : (old : SavedSet) (id : ℕ) (answer : Result (Unit {0}) RemoveFault) (set : SavedSet) →
     RemovesKey old id answer set → set.is_honest ≡ old.is_honest
 same_honesty old id answer set r =
     elim (get old.content id) as (λ o. get old.content id ≡ o → set.is_honest ≡ old.is_honest) [

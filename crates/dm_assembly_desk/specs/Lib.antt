@@ -15,6 +15,7 @@ pub mod Merging
 pub mod Importing
 pub mod JointFiles
 pub mod Moving
+pub mod Lasting
 pub mod Looking
 pub mod FaultOrigin
 pub mod FaultNames

@@ -1,9 +1,11 @@
 //! Scanned labels, whose pages are held and saved.
 
-ghost use Rattle.std.specs.Prelude.{◌≡◌, ◌≤◌, [], length, true, false, Err, OnOk, OnErr, IsSomeAnd, unwrap_or};
+ghost use Rattle.std.specs.Prelude.{◌≡◌, ◌≤◌, [], length, true, false, Err, Some, OnOk, OnErr, IsSomeAnd, unwrap_or};
 ghost use Rattle.std.specs.FinMap as map;
 ghost use Rattle.dm_append_label.specs.declared.opening.TheConstants.{MOST_PAGE_BYTES};
 ghost use Rattle.dm_store.specs.Sets.{SavesKey};
+ghost use Rattle.dm_store.specs.Saved.{outcome_of};
+ghost use Rattle.dm_store.specs.Left.{SaveKeyLeaves};
 ghost use Rattle.dm_assembly_desk.specs.Files.{file, IsEntry};
 ghost use Rattle.dm_assembly_desk.specs.Documents.{AreEntries, pages_with, with_page};
 ghost use Rattle.dm_assembly_desk.specs.Answers.{answer};
@@ -124,6 +126,8 @@ fn keep<S: StoreSet, A: Allocator + Copy>(
     ensures err { OnErr result (documents.new ≡ documents.old) }
     ensures replaced { SavesKey (S.state set.old) page.id (file page.id (pages_with documents.old page)) result
         (S.state set.new) }
+    ensures leaves { SaveKeyLeaves (S.left set.old) page.id (Some (file page.id (pages_with documents.old page)))
+        (outcome_of result) (S.left set.new) }
 {
     let id = page.id().number();
     let m = page.m();
@@ -154,8 +158,10 @@ fn save<S: StoreSet, A: Allocator + Copy>(
     id: u16,
 ) -> Result<(), ReplaceFault>
     requires { IsSomeAnd (map.get documents.now id) (IsEntry id) }
-    ensures { SavesKey (S.state set.old) id (file id (unwrap_or (map.get documents.now id) [])) result
+    ensures replaced { SavesKey (S.state set.old) id (file id (unwrap_or (map.get documents.now id) [])) result
         (S.state set.new) }
+    ensures leaves { SaveKeyLeaves (S.left set.old) id (Some (file id (unwrap_or (map.get documents.now id) [])))
+        (outcome_of result) (S.left set.new) }
 {
     let Some(document) = documents.get(id) else {
         unreachable!()

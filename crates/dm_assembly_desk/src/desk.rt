@@ -23,7 +23,8 @@ pub struct Desk<S: StoreSet, A: Allocator + Copy = Global> {
 }
 
 impl<S: StoreSet, A: Allocator + Copy> Model for Desk<S, A> {
-    ghost use Rattle.dm_assembly_desk.specs.Views.{DeskView, IsInOrder};
+    ghost use Rattle.dm_assembly_desk.specs.Views.{DeskView};
+    ghost use Rattle.dm_assembly_desk.specs.Lasting.{IsKept};
     ghost use Rattle.dm_assembly_desk.specs.Codes.{desk_code};
 
     ghost Value = { DeskView };
@@ -37,12 +38,12 @@ impl<S: StoreSet, A: Allocator + Copy> Model for Desk<S, A> {
       is_failed = d.is_failed;
     } };
 
-    ghost invariant = { λ d. IsInOrder (record {
+    ghost invariant = { λ d. IsKept (record {
       saved = S.state d.set;
       held = d.documents;
       capacity = d.capacity;
       is_failed = d.is_failed;
-    }) };
+    }) (S.left d.set) };
 }
 
 impl<S: StoreSet, A: Allocator + Copy> Desk<S, A> {
@@ -51,6 +52,7 @@ impl<S: StoreSet, A: Allocator + Copy> Desk<S, A> {
     ghost use Rattle.dm_assembly_desk.specs.Asking.{Asks, NamesMissing};
     ghost use Rattle.dm_assembly_desk.specs.Summaries.{summaries};
     ghost use Rattle.dm_assembly_desk.specs.Views.{IsInOrder};
+    ghost use Rattle.dm_assembly_desk.specs.Lasting.{Lasts};
 
     /// What is held of a document, lent and not copied, also after a save that failed. It takes no memory.
     pub fn pages(&self, id: FileId) -> Option<Pages<'_, A>>
@@ -96,9 +98,18 @@ impl<S: StoreSet, A: Allocator + Copy> Desk<S, A> {
         list_of(self.alloc, &self.documents)
     }
 
+    /// Its set, lent: what a stop of the machine may leave of the desk at this moment.
+    pub fn set(&self) -> &S
+        ensures state { S.state result.now ≡ self.now.saved }
+        ensures lasts { Lasts self.now (S.left result.now) }
+    {
+        &self.set
+    }
+
     /// Gives its set back.
     pub fn close(self) -> S
-        ensures { S.state result ≡ self.saved }
+        ensures state { S.state result ≡ self.saved }
+        ensures lasts { Lasts self (S.left result) }
     {
         let Desk {
             alloc: _,

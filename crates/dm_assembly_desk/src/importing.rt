@@ -1,10 +1,12 @@
 //! Files of pages that are handed in: the pages that were not held are held and saved at once.
 
 ghost use Rattle.std.specs.Prelude.{map as each};
-ghost use Rattle.std.specs.Prelude.{◌≡◌, ◌≤◌, true, false, Err, [], length, unwrap_or, IfOk, OnOk, OnErr};
+ghost use Rattle.std.specs.Prelude.{◌≡◌, ◌≤◌, true, false, Err, Some, [], length, unwrap_or, IfOk, OnOk, OnErr};
 ghost use Rattle.std.specs.FinMap as map;
 ghost use Rattle.std.specs.Option.{option_copied};
 ghost use Rattle.dm_store.specs.Sets.{SavesKey};
+ghost use Rattle.dm_store.specs.Saved.{outcome_of};
+ghost use Rattle.dm_store.specs.Left.{SaveKeyLeaves};
 ghost use Rattle.dm_assembly_desk.specs.Pages.{lent_bytes};
 ghost use Rattle.dm_assembly_desk.specs.Files.{file, IsEntry};
 ghost use Rattle.dm_assembly_desk.specs.Merging.{union_of};
@@ -153,6 +155,7 @@ fn keep_document<S: StoreSet, A: Allocator + Copy>(
     ensures ok { OnOk result (documents.new ≡ map.insert documents.old id document) }
     ensures err { OnErr result (documents.new ≡ documents.old) }
     ensures replaced { SavesKey (S.state set.old) id (file id document) result (S.state set.new) }
+    ensures leaves { SaveKeyLeaves (S.left set.old) id (Some (file id document)) (outcome_of result) (S.left set.new) }
 {
     let Ok(bytes) = write_file(alloc, id, &document) else {
         return Err(ReplaceFault::Memory);

@@ -5,6 +5,7 @@ ghost use Rattle.std.specs.FinMap as map;
 ghost use Rattle.dm_assembly_desk.specs.Documents.{AreEntries};
 ghost use Rattle.dm_assembly_desk.specs.Views.{IsCapacity};
 ghost use Rattle.dm_assembly_desk.specs.Opening.{HasDeskFault};
+ghost use Rattle.dm_assembly_desk.specs.Lasting.{LeavesFiles};
 ghost use Rattle.dm_assembly_desk.specs.inner.Loading.{FindsAll, TakesIn, LoadsFile};
 
 use crate::desk::Desk;
@@ -96,6 +97,10 @@ fn load_key<S: StoreSet, A: Allocator + Copy>(
     ensures loads { LoadsFile (S.state set.old) key documents.old result documents.new }
     ensures entries { AreEntries documents.old → AreEntries documents.new }
     ensures few { map.len documents.new ≤ map.len documents.old + 1 }
+    ensures told { (S.left set.new).is_told → (S.left set.old).is_told }
+    // What a stop leaves then is still the files of what is held.
+    ensures leaves { IsTrue (S.state set.old).is_honest → (S.left set.new).is_told
+        → LeavesFiles (S.left set.old) documents.old → LeavesFiles (S.left set.new) documents.new }
 {
     let bytes = match set.load(key, MOST_FILE_BYTES) {
         Ok(Some(bytes)) => bytes,
@@ -121,6 +126,8 @@ fn load_all<S: StoreSet, A: Allocator + Copy>(
     requires { IsCapacity capacity }
     ensures same { S.state set.new ≡ S.state set.old }
     ensures ok { IfOk result (FindsAll (S.state set.old) capacity) }
+    ensures leaves { IfOk result (λ held.
+        IsTrue (S.state set.old).is_honest → (S.left set.new).is_told → LeavesFiles (S.left set.new) held) }
     ensures fault { IfErr result (HasDeskFault (S.state set.old) capacity) }
 {
     let keys = match set.keys(capacity as usize) {

@@ -2,9 +2,10 @@ use Rattle.std.proofs.Common.{◌≡◌, ◌∙◌, None, Ok, Err, arith, rules}
 use Rattle.std.specs.Prelude.{IsSome}
 use Rattle.std.specs.FinMap.{get}
 use Rattle.dm_append_label.specs.Pages.{PageView}
+use Rattle.dm_store.specs.Saved.{outcome_of}
 use Rattle.dm_assembly_desk.specs.Documents.{Documents, with_page}
 use Rattle.dm_assembly_desk.proofs.Adding.{IsPage}
-use Rattle.dm_assembly_desk.proofs.Keeping.{some_there, entry_there, saved_there, back_first, back_held, long_there}
+use Rattle.dm_assembly_desk.proofs.Keeping.{some_there, entry_there, saved_there, leaves_there, back_first, back_held, long_there}
 use Rattle.dm_assembly_desk.proofs.accepting.keep.Goals as goal
 
 pub save-requires : goal.save-requires
@@ -42,7 +43,7 @@ returns-then-is_first-clause-replaced g c =
     let after : put ≡ with_page held p = search rules in
     let id_is : c.number-id.result ≡ p.id = search rules in
     saved_there held put p after c.number-id.result id_is (g.S.StoreSet.state c.args.set.now)
-    (g.S.StoreSet.state c.save.new.set) (Err c.in-Err.fault) c.in-Err.ensures
+    (g.S.StoreSet.state c.save.new.set) (Err c.in-Err.fault) c.in-Err.ensures.replaced
 
 pub take_back-requires-clause-held : goal.take_back-requires-clause-held
 take_back-requires-clause-held g c =
@@ -80,7 +81,7 @@ returns-in-Ok-clause-replaced g c =
     let after : put ≡ with_page held p = search rules in
     let id_is : c.number-id.result ≡ p.id = search rules in
     saved_there held put p after c.number-id.result id_is (g.S.StoreSet.state c.args.set.now)
-    (g.S.StoreSet.state c.save.new.set) (Ok tt) c.in-Ok.ensures
+    (g.S.StoreSet.state c.save.new.set) (Ok tt) c.in-Ok.ensures.replaced
 
 pub returns-else-is_first-clause-err : goal.returns-else-is_first-clause-err
 returns-else-is_first-clause-err g c =
@@ -109,4 +110,34 @@ returns-else-is_first-clause-replaced g c =
     let after : put ≡ with_page held p = search rules in
     let id_is : c.number-id.result ≡ p.id = search rules in
     saved_there held put p after c.number-id.result id_is (g.S.StoreSet.state c.args.set.now)
-    (g.S.StoreSet.state c.save.new.set) (Err c.in-Err.fault) c.in-Err.ensures
+    (g.S.StoreSet.state c.save.new.set) (Err c.in-Err.fault) c.in-Err.ensures.replaced
+
+pub returns-then-is_first-clause-leaves : goal.returns-then-is_first-clause-leaves
+returns-then-is_first-clause-leaves g c =
+    let p : PageView = c.args.page in
+    let held : Documents = c.args.documents.now in
+    let put : Documents = c.put.new.documents in
+    let after : put ≡ with_page held p = search rules in
+    let id_is : c.number-id.result ≡ p.id = search rules in
+    leaves_there held put p after c.number-id.result id_is (g.S.StoreSet.left c.args.set.now)
+    (g.S.StoreSet.left c.save.new.set) (outcome_of (Err c.in-Err.fault)) c.in-Err.ensures.leaves
+
+pub returns-in-Ok-clause-leaves : goal.returns-in-Ok-clause-leaves
+returns-in-Ok-clause-leaves g c =
+    let p : PageView = c.args.page in
+    let held : Documents = c.args.documents.now in
+    let put : Documents = c.put.new.documents in
+    let after : put ≡ with_page held p = search rules in
+    let id_is : c.number-id.result ≡ p.id = search rules in
+    leaves_there held put p after c.number-id.result id_is (g.S.StoreSet.left c.args.set.now)
+    (g.S.StoreSet.left c.save.new.set) (outcome_of (Ok tt)) c.in-Ok.ensures.leaves
+
+pub returns-else-is_first-clause-leaves : goal.returns-else-is_first-clause-leaves
+returns-else-is_first-clause-leaves g c =
+    let p : PageView = c.args.page in
+    let held : Documents = c.args.documents.now in
+    let put : Documents = c.put.new.documents in
+    let after : put ≡ with_page held p = search rules in
+    let id_is : c.number-id.result ≡ p.id = search rules in
+    leaves_there held put p after c.number-id.result id_is (g.S.StoreSet.left c.args.set.now)
+    (g.S.StoreSet.left c.save.new.set) (outcome_of (Err c.in-Err.fault)) c.in-Err.ensures.leaves

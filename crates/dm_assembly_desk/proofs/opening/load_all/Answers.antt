@@ -7,6 +7,8 @@ use Rattle.dm_assembly_desk.specs.Pages.{Pages}
 use Rattle.dm_assembly_desk.specs.Documents.{Documents, AreEntries}
 use Rattle.dm_assembly_desk.specs.inner.Loading.{SoFar, LoadsFile}
 use Rattle.std.specs.Prelude.{Result, Err}
+use Rattle.dm_assembly_desk.specs.Lasting.{LeavesFiles}
+use Rattle.dm_assembly_desk.proofs.LastingLaws.{lasts_empty}
 use Rattle.dm_assembly_desk.proofs.Loading.{too_many, few_enough, begins, desk_fault, entries_empty}
 use Rattle.dm_assembly_desk.proofs.opening.load_all.Goals as goal
 
@@ -30,6 +32,8 @@ loop-key-init g c =
       so_far = λ honest. subst (λ (d : Documents). SoFar saved.content d true c.deref-key-items.result.now) (sym empty)
           (subst (SoFar saved.content Rattle.std.specs.FinMap.empty true) (sym c.deref-key-items.ensures.value)
           (begins saved c.args.capacity c.in-Ok.keys.items c.in-Ok.ensures.lists.saved le honest));
+      leaves = λ honest told. subst (λ (d : Documents). LeavesFiles (g.S.StoreSet.left c.keys.new.self) d) (sym empty)
+          (lasts_empty (g.S.StoreSet.left c.keys.new.self));
     }
 
 pub returns-in-Err-clause-fault : goal.returns-in-Err-clause-fault
@@ -66,4 +70,7 @@ loop-key-preserved g c =
           honest c.loop-key.has_memory (drop (suc i) items)
           (subst (SoFar saved.content c.loop-key.documents c.loop-key.has_memory) here
           (c.loop-key.invariant.so_far honest)));
+      leaves = λ honest told. c.in-Ok-load_key.ensures.leaves
+          (subst (λ (s : SavedSet). IsTrue s.is_honest) (sym c.loop-key.invariant.same) honest) told
+          (c.loop-key.invariant.leaves honest (c.in-Ok-load_key.ensures.told told));
     }

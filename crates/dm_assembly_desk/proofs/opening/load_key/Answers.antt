@@ -1,9 +1,10 @@
-use Rattle.std.proofs.Common.{◌≡◌, ◌∙◌, ◌+◌, List, ℕ, Some, ap}
+use Rattle.std.proofs.Common.{◌≡◌, ◌∙◌, ◌+◌, List, ℕ, Some, refl, ap}
 use Rattle.std.specs.Prelude.{IsTrue, option_map, take}
 use Rattle.std.specs.FinMap.{get}
 use Rattle.dm_store.specs.Sets.{SavedSet}
 use Rattle.dm_assembly_desk.specs.declared.file.FileFault.TheVariants.{NotPages, Version, Damaged}
 use Rattle.dm_assembly_desk.proofs.Loading.{goes_past, takes_one, ends_there, entries_taken, few_taken}
+use Rattle.dm_assembly_desk.proofs.LastingLaws.{lasts_loaded}
 use Rattle.dm_assembly_desk.proofs.opening.load_key.Goals as goal
 
 pub returns-in-Ok-None-clause-loads : goal.returns-in-Ok-None-clause-loads
@@ -88,3 +89,15 @@ returns-clause-entries g c = entries_taken c.args.key c.deref.result.now c.args.
 pub returns-clause-few : goal.returns-clause-few
 returns-clause-few g c = few_taken c.args.key c.deref.result.now c.args.documents.now c.take_in.new.documents
     c.take_in.result c.take_in.ensures
+
+pub returns-in-Ok-clause-leaves : goal.returns-in-Ok-clause-leaves
+returns-in-Ok-clause-leaves g c = λ honest told lasts.
+    let saved : SavedSet = g.S.StoreSet.state c.args.set.now in
+    let loads : Some c.deref.result.now ≡ option_map (take (41642 + 1)) (get saved.content c.args.key) =
+    ap (λ (bs : List ℕ). Some bs) c.deref.ensures.value ∙
+    (rw c.in-Ok-Some.field-0-is at (c.in-Ok-Some.ensures.loads.saved honest)) in
+    lasts_loaded (g.S.StoreSet.left c.args.set.now) (g.S.StoreSet.left c.load.new.self) saved.content c.args.key
+    c.deref.result.now c.args.documents.now c.take_in.new.documents loads told
+    (λ k content. c.in-Ok-Some.ensures.leaves.keeps.kept told k content)
+    ((rw c.in-Ok-Some.field-0-is at (c.in-Ok-Some.ensures.leaves.settles told)) refl) lasts c.in-Ok.has_memory
+    c.in-Ok.ensures

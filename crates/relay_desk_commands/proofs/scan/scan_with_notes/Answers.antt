@@ -9,6 +9,6 @@ pub returns : goal.returns
 returns g c =
     let told = rw c.in-Ok.ensures.1 at c.each_image-status.ensures.told in
     let kept = c.each_image-status.ensures.kept in
-    rw c.close-set.ensures (opened (g.S.Store.state c.in-Ok.opened.store) c.in-Ok.opened.desk
+    rw c.close-set.ensures.state (opened (g.S.Store.state c.in-Ok.opened.store) c.in-Ok.opened.desk
     c.each_image-status.new.command.desk c.in-Ok.ensures.0
     (record { told = told; kept = kept.0; in_order = kept.1 c.in-Ok.ensures.2 }))

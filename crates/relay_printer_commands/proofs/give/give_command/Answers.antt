@@ -6,5 +6,5 @@ returns-in-Err g c = not_opened c.in-Err.ensures
 
 pub returns : goal.returns
 returns g c =
-    rw c.close-store.ensures (opened c.in-Ok.printer c.give-status.new.printer c.in-Ok.ensures.0
+    rw c.close-store.ensures.state (opened c.in-Ok.printer c.give-status.new.printer c.in-Ok.ensures.0
     (rw c.in-Ok.ensures.1 at c.give-status.ensures))

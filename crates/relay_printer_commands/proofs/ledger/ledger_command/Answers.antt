@@ -4,7 +4,7 @@ use Rattle.relay_printer_commands.proofs.ledger.ledger_command.Goals as goal
 
 pub returns-in-Ok : goal.returns-in-Ok
 returns-in-Ok g c =
-    rw c.close-store.ensures (created c.in-Ok.printer c.in-Ok.ensures.ok
+    rw c.close-store.ensures.state (created c.in-Ok.printer c.in-Ok.ensures.ok
     (told _ c.args.output.now c.put_left.new.output _ c.put_left.result
     (rw c.left.ensures.value at c.put_left.ensures.written)
     (rw c.left.ensures.value at c.put_left.ensures.part) c.put_left.ensures.failed

@@ -7,7 +7,7 @@ returns-in-Err-clause-ends g c = not_opened c.in-Err.ensures
 
 pub returns-clause-ends : goal.returns-clause-ends
 returns-clause-ends g c =
-    rw c.close-store.ensures (opened c.in-Ok.printer c.print-status.new.printer c.in-Ok.ensures.0
+    rw c.close-store.ensures.state (opened c.in-Ok.printer c.print-status.new.printer c.in-Ok.ensures.0
     (rw c.in-Ok.ensures.1 at c.print-status.ensures))
 
 pub returns-clause-line_first : goal.returns-clause-line_first

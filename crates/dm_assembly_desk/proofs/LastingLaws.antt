@@ -1,0 +1,121 @@
+-- What a stop may leave of what a desk holds, after a save of one document: it is told of the other documents by what
+-- the set leaves of keys that were not saved, and of the one by how the save ended.
+use Rattle.std.proofs.Common.{◌≡◌, ◌⊎◌, ℕ, Bool, true, false, cond, List, Option, Some, None, Result, Ok, Err, inl, inr, ⊎_elim, refl, sym, ap, subst, ◌∙◌}
+use Rattle.std.specs.Prelude.{◌≢◌, ◌+◌, option_map, take, IsTrue}
+use Rattle.std.specs.Ordering.{nat_cmp, eq_by_cmp}
+use Rattle.std.specs.Cmp.{nat_cmp_total}
+use Rattle.std.specs.FinMap.{get, insert, remove, get-insert, get-remove, get-empty}
+use Rattle.std.proofs.lemmas.Bool.{cases_eq}
+use Rattle.dm_store.specs.Disk.{Content}
+use Rattle.dm_store.specs.Saved.{Outcome, SavePlan, Done, Faulted, Refused}
+use Rattle.dm_store.specs.Left.{SetLeft, SaveKeyLeaves}
+use Rattle.dm_store.specs.Sets.{Contents}
+use Rattle.dm_assembly_desk.specs.Pages.{Pages}
+use Rattle.dm_assembly_desk.specs.Files.{file, Spells}
+use Rattle.dm_assembly_desk.specs.Documents.{Documents}
+use Rattle.dm_assembly_desk.specs.inner.Loading.{TakesIn}
+use Rattle.dm_assembly_desk.specs.Views.{DeskView}
+use Rattle.dm_assembly_desk.specs.Lasting.{LeavesFiles, IsNext, LeavesNext, IsKept}
+use Rattle.dm_assembly_desk.proofs.Loading.{apart, itself, some_saved}
+use Rattle.dm_assembly_desk.proofs.Adding.{get_here}
+use Rattle.dm_assembly_desk.proofs.FileLaws.{spelled_whole}
+
+pub get_elsewhere : (held : Documents) (id : ℕ) (pages : Pages) (q : ℕ) → q ≢ id → get (insert held id pages) q ≡ get held q
+get_elsewhere held id pages q other =
+    get-insert nat_cmp_total held id pages q ∙ ap (λ b. cond b (Some pages) (get held q)) (apart q id other)
+
+pub gone_here : (held : Documents) (id : ℕ) → get (remove held id) id ≡ None
+gone_here held id = get-remove nat_cmp_total held id id ∙ ap (λ b. cond b None (get held id)) (itself id)
+
+kept_elsewhere : (held : Documents) (id q : ℕ) → q ≢ id → get (remove held id) q ≡ get held q
+kept_elsewhere held id q other =
+    get-remove nat_cmp_total held id q ∙ ap (λ b. cond b None (get held q)) (apart q id other)
+
+none_is_some : {X A : Type 0} (o : Option X) (x : X) → o ≡ None → o ≡ Some x → A
+none_is_some o x none some = absurd cc
+
+same_pages : {X : Type 0} (o : Option X) (x y : X) → o ≡ Some x → o ≡ Some y → x ≡ y
+same_pages o x y is other = cc
+
+module _ (old new : SetLeft) (held : Documents) (id : ℕ) (lasts : old.is_told → LeavesFiles old held) where
+  -- of another document a stop leaves what it left before
+  others : {next : Content} {outcome : Outcome} → SaveKeyLeaves old id next outcome new →
+      new.is_told → (q : ℕ) → q ≢ id → (pages : Pages) → get held q ≡ Some pages
+      → (content : Content) → new.may_leave q content → content ≡ Some (file q pages)
+  others saves told q other pages is content leaves =
+      lasts (saves.told.0 told) q pages is content (saves.others told q other content leaves)
+
+  pub lasts_saved : (pages : Pages) → SaveKeyLeaves old id (Some (file id pages)) Done new → new.is_told →
+      LeavesFiles new (insert held id pages)
+  lasts_saved pages saves told q ps is content leaves = ⊎_elim
+      (λ (same : q ≡ id). saves.lasting refl told content (subst (λ (k : ℕ). new.may_leave k content) same leaves)
+      ∙ ap (λ (p : Pages). Some (file id p)) (same_pages (get (insert held id pages) id) pages ps
+      (get_here held id pages) (ap (get (insert held id pages)) (sym same) ∙ is))
+      ∙ ap (λ (k : ℕ). Some (file k ps)) (sym same))
+      (λ (other : q ≢ id). others saves told q other ps (sym (get_elsewhere held id pages q other) ∙ is) content leaves)
+      (cases_eq q id)
+
+  pub lasts_removed : SaveKeyLeaves old id None Done new → new.is_told → LeavesFiles new (remove held id)
+  lasts_removed saves told q ps is content leaves = ⊎_elim
+      (λ (same : q ≡ id). none_is_some (get (remove held id) q) ps
+      (ap (get (remove held id)) same ∙ gone_here held id) is)
+      (λ (other : q ≢ id). others saves told q other ps (sym (kept_elsewhere held id q other) ∙ is) content leaves)
+      (cases_eq q id)
+
+  pub lasts_refused : {next : Content} → SaveKeyLeaves old id next Refused new → new.is_told → LeavesFiles new held
+  lasts_refused saves told q ps is content leaves = ⊎_elim
+      (λ (same : q ≡ id). lasts (saves.told.0 told) q ps is content (subst (λ (k : ℕ). old.may_leave k content) (sym same)
+      (saves.kept refl told content (subst (λ (k : ℕ). new.may_leave k content) same leaves))))
+      (λ (other : q ≢ id). others saves told q other ps is content leaves) (cases_eq q id)
+
+  pub lasts_failed : (next : Documents) → IsNext held next →
+      SaveKeyLeaves old id (option_map (file id) (get next id)) Faulted new → new.is_told → LeavesNext new held
+  lasts_failed next is_next saves told = (next, is_next, λ q ps is content leaves. ⊎_elim
+      (λ (same : q ≡ id). ⊎_elim
+      (λ (before : old.may_leave id content). inl (lasts (saves.told.0 told) q ps is content
+      (subst (λ (k : ℕ). old.may_leave k content) (sym same) before)))
+      (λ (after : content ≡ option_map (file id) (get next id)).
+      inr (after ∙ ap (λ (k : ℕ). option_map (file k) (get next k)) (sym same)))
+      (saves.either told content (subst (λ (k : ℕ). new.may_leave k content) same leaves)))
+      (λ (other : q ≢ id). inl (others saves told q other ps is content leaves)) (cases_eq q id))
+
+-- before the first key nothing is held
+pub lasts_empty : (left : SetLeft) → LeavesFiles left Rattle.std.specs.FinMap.empty
+lasts_empty left q ps is = none_is_some (get Rattle.std.specs.FinMap.empty q) ps (get-empty nat_cmp q) is
+
+-- a key's file was loaded, and is what the key holds: a stop leaves no other file there
+module _ (old new : SetLeft) (content : Contents) (key : ℕ) (loaded : List ℕ) (before after : Documents)
+    (loads : Some loaded ≡ option_map (take (41642 + 1)) (get content key)) (told : new.is_told)
+    (kept : (k : ℕ) (c : Content) → new.may_leave k c → old.may_leave k c)
+    (settles : (c : Content) → new.may_leave key c → c ≡ get content key) (lasts : LeavesFiles old before) where
+  held_on : LeavesFiles new before
+  held_on q ps is c leaves = lasts q ps is c (kept q c leaves)
+
+  pub lasts_loaded : (r : Bool) → TakesIn key loaded before (Ok r) after → LeavesFiles new after
+  lasts_loaded false t = subst (LeavesFiles new) (sym t.1) held_on
+  lasts_loaded true t = subst (LeavesFiles new) (sym t.2) (λ q ps is c leaves.
+      let whole = some_saved (41642 + 1) (get content key) loaded loads in
+      let spells : Spells key whole.0 t.0 = spelled_whole key whole.0 loaded whole.2 t.0 t.1 in ⊎_elim
+      (λ (same : q ≡ key). settles c (subst (λ (k : ℕ). new.may_leave k c) same leaves) ∙ whole.1
+      ∙ ap (λ (bs : List ℕ). Some bs) spells.spelled
+      ∙ ap (λ (p : Pages). Some (file key p)) (same_pages (get (insert before key t.0) key) t.0 ps
+      (get_here before key t.0) (ap (get (insert before key t.0)) (sym same) ∙ is))
+      ∙ ap (λ (k : ℕ). Some (file k ps)) (sym same))
+      (λ (other : q ≢ key). held_on q ps (sym (get_elsewhere before key t.0 q other) ∙ is) c leaves) (cases_eq q key))
+
+-- no truth value is both
+pub not_both : {A : Type 0} (b : Bool) → b ≡ true → b ≡ false → A
+not_both b is_true is_false = absurd cc
+
+-- the plan for the next save has no part in it
+pub kept_by_plan : (desk : DeskView) (left : SetLeft) (plan : SavePlan) → IsKept desk left →
+    IsKept (record desk { saved = record desk.saved { save_plan = plan } }) left
+kept_by_plan desk left plan kept = record {
+  order = record {
+    room = kept.order.room;
+    few = kept.order.few;
+    entries = kept.order.entries;
+    saved = kept.order.saved;
+  };
+  lasts = record { running = kept.lasts.running; failed = kept.lasts.failed };
+}
