@@ -1,5 +1,5 @@
--- Words that stand two rows and two columns or more inside of the matrix: none of their cells wraps, and no left-out cell
--- is their anchor.
+-- Words that stand two rows and two columns or more inside of the matrix: none of their cells wraps, and their anchor
+-- is none of the cells that are left out.
 use Rattle.std.specs.Prelude.{not}
 use Rattle.std.specs.Option.{option_map}
 use Rattle.std.proofs.Common.{◌≡◌, ℕ, zero, suc, ◌+◌, ◌-◌, ◌%◌, ◌<◌, ◌≤◌, ◌++◌, Option, None, Some, refl, List, [], ◌∷◌, Bool, true, false, cond, eqb, ltb, leb, ◌&&◌, ◌||◌, ap, ◌∙◌, arith}

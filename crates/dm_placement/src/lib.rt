@@ -3,8 +3,8 @@
 //!
 //! `place` draws the words of a symbol on its mapping matrix and `lift` reads them back. Both walk without Annex F's
 //! table of taken cells: a position is passed over if it lies outside of the matrix or is one of the two cells that
-//! are left out for the second corner shape. Of words that stand two rows and two columns inside nothing wraps: they are
-//! read and drawn in loops of their own. A `Layout` keeps the cell of every bit, by the walk with its table.
+//! are left out for the second corner shape. Words that stand two rows and two columns inside never wrap, and are read
+//! and drawn in loops of their own. A `Layout` keeps the cell of every bit, by the walk with its table.
 //!
 //! Proved: both walks give the closed form of `specs/Cells.antt`, for each size; every cell of the mapping matrix is
 //! that of exactly one bit, or free; `place` gives the one matrix that has each bit at its cell and the free cells as

@@ -61,8 +61,8 @@ fn word_inside<A: Allocator>(matrix: &Matrix<A>, row: usize, column: usize) -> u
     ])
 }
 
-// Lifts the words that come next in an upward sweep, or one down, and stand inside of the matrix. Answers how many words
-// are lifted then.
+// Lifts the words that come next and stand inside of the matrix; `up` says whether the sweep goes up. Answers how many
+// words are lifted then.
 #[inline(always)]
 fn lift_inside<A: Allocator>(
     matrix: &Matrix<A>,

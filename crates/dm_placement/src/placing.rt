@@ -74,8 +74,8 @@ fn draw_at<A: Allocator>(matrix: &mut Matrix<A>, row: usize, column: usize, word
     matrix.make(row, column, bits[7]);
 }
 
-// Draws the words that come next in an upward sweep, or one down, and stand inside of the matrix. Answers how many words
-// are drawn then.
+// Draws the words that come next and stand inside of the matrix; `up` says whether the sweep goes up. Answers how many
+// words are drawn then.
 #[inline(always)]
 fn draw_inside<A: Allocator>(
     matrix: &mut Matrix<A>,

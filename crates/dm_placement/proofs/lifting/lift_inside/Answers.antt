@@ -6,14 +6,14 @@ use Rattle.dm_placement.proofs.lifting.lift_inside.Goals as goal
 pub bounds-words-count : goal.bounds-words-count
 bounds-words-count g c =
     let so_far = c.loop-left.invariant.lifted in
-    (next_here c.args.matrix.now.side c.loop-left.walk c.pass-row.new.self c.loop-left.words c.loop-left.count _
-    c.requires.mapping so_far.walked so_far.room c.pass-row.ensures.steps).room
+    (next_here c.args.matrix.now.side c.loop-left.walk c.pass-row.new.self c.loop-left.words c.loop-left.count
+    _ c.requires.mapping so_far.walked so_far.room c.pass-row.ensures.steps).room
 
 pub overflow_add-count : goal.overflow_add-count
 overflow_add-count g c =
     let so_far = c.loop-left.invariant.lifted in
-    let next = next_here c.args.matrix.now.side c.loop-left.walk c.pass-row.new.self c.loop-left.words c.loop-left.count _
-    c.requires.mapping so_far.walked so_far.room c.pass-row.ensures.steps in
+    let next = next_here c.args.matrix.now.side c.loop-left.walk c.pass-row.new.self c.loop-left.words
+    c.loop-left.count _ c.requires.mapping so_far.walked so_far.room c.pass-row.ensures.steps in
     omega (arith, next.few)
 
 pub loop-left-preserved : goal.loop-left-preserved

@@ -22,8 +22,8 @@ bounds-words-from g c =
 
 pub overflow_add-result : goal.overflow_add-result
 overflow_add-result g c =
-    let next = next_here c.args.matrix.now.side c.args.walk.now c.step.new.self c.args.words.now c.args.from c.in-Some.shape
-    c.requires.mapping c.requires.lifted.walked c.requires.lifted.room c.in-Some.ensures in
+    let next = next_here c.args.matrix.now.side c.args.walk.now c.step.new.self c.args.words.now c.args.from
+    c.in-Some.shape c.requires.mapping c.requires.lifted.walked c.requires.lifted.room c.in-Some.ensures in
     omega (arith, next.few)
 
 pub returns-in-Some-clause-lifted : goal.returns-in-Some-clause-lifted
