@@ -70,14 +70,18 @@ module _ (old new : SetLeft) (held : Documents) (id : ℕ) (lasts : old.is_told 
 
   pub lasts_failed : (next : Documents) → IsNext held next →
       SaveKeyLeaves old id (option_map (file id) (get next id)) Faulted new → new.is_told → LeavesNext new held
-  lasts_failed next is_next saves told = (next, is_next, λ q ps is content leaves. ⊎_elim
-      (λ (same : q ≡ id). ⊎_elim
-      (λ (before : old.may_leave id content). inl (lasts (saves.told.0 told) q ps is content
-      (subst (λ (k : ℕ). old.may_leave k content) (sym same) before)))
-      (λ (after : content ≡ option_map (file id) (get next id)).
-      inr (after ∙ ap (λ (k : ℕ). option_map (file k) (get next k)) (sym same)))
-      (saves.either told content (subst (λ (k : ℕ). new.may_leave k content) same leaves)))
-      (λ (other : q ≢ id). inl (others saves told q other ps is content leaves)) (cases_eq q id))
+  lasts_failed next is_next saves told = (
+    next,
+    is_next,
+    λ q ps is content leaves. ⊎_elim
+        (λ (same : q ≡ id). ⊎_elim
+        (λ (before : old.may_leave id content). inl (lasts (saves.told.0 told) q ps is content
+        (subst (λ (k : ℕ). old.may_leave k content) (sym same) before)))
+        (λ (after : content ≡ option_map (file id) (get next id)).
+        inr (after ∙ ap (λ (k : ℕ). option_map (file k) (get next k)) (sym same)))
+        (saves.either told content (subst (λ (k : ℕ). new.may_leave k content) same leaves)))
+        (λ (other : q ≢ id). inl (others saves told q other ps is content leaves)) (cases_eq q id),
+  )
 
 -- before the first key nothing is held
 pub lasts_empty : (left : SetLeft) → LeavesFiles left Rattle.std.specs.FinMap.empty
