@@ -46,6 +46,13 @@ impl<S: Store, A: Allocator + Copy> Printer<S, A> {
         count(self.ledger.free.as_slice())
     }
 
+    /// Its number.
+    pub(crate) fn number(&self) -> u16
+        ensures { result ≡ self.now.ledger.number }
+    {
+        self.ledger.number
+    }
+
     /// Its store, lent: what a stop of the machine may leave of the printer at this moment.
     pub fn store(&self) -> &S
         ensures state { S.state result.now ≡ self.now.saved }
