@@ -20,7 +20,8 @@ use Rattle.dm_assembly_desk.proofs.Loading.{apart, itself, some_saved}
 use Rattle.dm_assembly_desk.proofs.Adding.{get_here}
 use Rattle.dm_assembly_desk.proofs.FileLaws.{spelled_whole}
 
-pub get_elsewhere : (held : Documents) (id : ℕ) (pages : Pages) (q : ℕ) → q ≢ id → get (insert held id pages) q ≡ get held q
+pub get_elsewhere : (held : Documents) (id : ℕ) (pages : Pages) (q : ℕ) → q ≢ id
+    → get (insert held id pages) q ≡ get held q
 get_elsewhere held id pages q other =
     get-insert nat_cmp_total held id pages q ∙ ap (λ b. cond b (Some pages) (get held q)) (apart q id other)
 
@@ -64,7 +65,8 @@ module _ (old new : SetLeft) (held : Documents) (id : ℕ) (lasts : old.is_told 
 
   pub lasts_refused : {next : Content} → SaveKeyLeaves old id next Refused new → new.is_told → LeavesFiles new held
   lasts_refused saves told q ps is content leaves = ⊎_elim
-      (λ (same : q ≡ id). lasts (saves.told.0 told) q ps is content (subst (λ (k : ℕ). old.may_leave k content) (sym same)
+      (λ (same : q ≡ id). lasts (saves.told.0 told) q ps is content
+      (subst (λ (k : ℕ). old.may_leave k content) (sym same)
       (saves.kept refl told content (subst (λ (k : ℕ). new.may_leave k content) same leaves))))
       (λ (other : q ≢ id). others saves told q other ps is content leaves) (cases_eq q id)
 

@@ -69,8 +69,8 @@ fn upper_step(position: usize, word: u8) -> Result<(Mode, Decoded), DecodeFault>
     }
 }
 
-// A word taken out of the 255-state algorithm. It is kept apart from `step`: drawn into a loop over all words, its shift
-// would be worked out for each of them, in every mode.
+// A word taken out of the 255-state algorithm. It is kept apart from `step`: drawn into a loop over all words, its
+// shift would be worked out for each of them, in every mode.
 #[inline(never)]
 #[tactic(auto, unfolding(crate::specs::inner::Reading::value_255))]
 fn value_255(position: usize, word: u8) -> u8

@@ -28,7 +28,8 @@ pub leaves_next : (old new : Left) (ledger next : LedgerView) → IsSound next �
     new.is_told → LeavesNext new ledger
 leaves_next old new ledger next sound is_next saves lasts told = λ content leaves. ⊎_elim
     (λ (before : old.may_leave content). or_next content ledger (lasts (saves.told.0 told) content before))
-    (λ (after : content ≡ Some (ledger_bytes next)). subst (λ (c : Content). IsSomeAnd c (SpellsOrNext ledger)) (sym after)
+    (λ (after : content ≡ Some (ledger_bytes next)).
+    subst (λ (c : Content). IsSomeAnd c (SpellsOrNext ledger)) (sym after)
     (inr (next, is_next, record { sound = sound; spelled = inl refl }))) (saves.either told content leaves)
 
 -- ---- a printer that is opened on what was left

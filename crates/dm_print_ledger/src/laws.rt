@@ -19,9 +19,9 @@ pub fn limits_by_number()
     ensures ticket { TICKET_BYTES ≡ 10 }
 {}
 
-/// The machine stops, and a printer is opened again on a store that holds what the stop left of its own. It goes on with
-/// the ledger that it had; if its last save failed, with that one or the one that was to be saved. Gives the old store
-/// too, of which the law speaks.
+/// The machine stops, and a printer is opened again on a store that holds what the stop left of its own. It goes on
+/// with the ledger that it had; if its last save failed, with that one or the one that was to be saved. Gives the old
+/// store too, of which the law speaks.
 pub fn opened_after_a_stop<S: Store, T: Store, A: Allocator + Copy>(
     alloc: A,
     printer: Printer<S, A>,

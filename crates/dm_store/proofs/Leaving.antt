@@ -21,7 +21,8 @@ if_ok : {T F : Type 0} {P Q : T → Type 0} (answer : Result T F) → ((x : T) �
 if_ok (Ok x) implies is = implies x is
 if_ok (Err fault) implies is = tt
 
-refused_replace : (answer : Result (Unit {0}) ReplaceFault) → outcome_of answer ≡ Refused → IsErrOf answer replacing.Memory
+refused_replace : (answer : Result (Unit {0}) ReplaceFault) → outcome_of answer ≡ Refused
+    → IsErrOf answer replacing.Memory
 refused_replace (Ok done) is = cc
 refused_replace (Err replacing.Device) is = cc
 refused_replace (Err replacing.Memory) is = refl
@@ -114,7 +115,8 @@ module _ (old new : DiskState) (folder : List ℕ) (honesty : new.is_honest ≡ 
   still_on_disk key itself others on_disk synced honest k k_lt =
       let was = sym honesty ∙ honest in
       let on = on_disk synced was k k_lt in
-      ⊎_elim (λ (is : k ≡ key). rw is (itself was (rw is at on))) (λ (apart : k ≢ key). (others was k k_lt apart).synced on)
+      ⊎_elim (λ (is : k ≡ key). rw is (itself was (rw is at on)))
+      (λ (apart : k ≢ key). (others was k k_lt apart).synced on)
       (cases_eq k key)
 
   pub replaced_on_disk : (key : ℕ) (bytes : List ℕ) (answer : Result (Unit {0}) ReplaceFault) → key < 2 ^ 16

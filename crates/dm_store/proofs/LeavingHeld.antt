@@ -11,7 +11,8 @@ use Rattle.dm_store.specs.declared.store.ReplaceFault.{ReplaceFault}
 use Rattle.dm_store.specs.declared.set.RemoveFault.{RemoveFault}
 use Rattle.dm_store.proofs.Held.{inserted_other, inserted_same, removed_other, removed_same}
 
-either_held : {X : Type 0} (plan : SavePlan) (old new held : X) → HeldAfterFault plan old new held → (held ≡ old) ⊎ (held ≡ new)
+either_held : {X : Type 0} (plan : SavePlan) (old new held : X) → HeldAfterFault plan old new held
+    → (held ≡ old) ⊎ (held ≡ new)
 either_held SavesFine old new held is = is
 either_held FaultOld old new held is = inl is
 either_held FaultNew old new held is = inr is
@@ -49,7 +50,8 @@ pub replace_held : (old new : SavedSet) (key : ℕ) (bytes : List ℕ) (answer :
     SaveKeyLeaves (set_left_as_held old.content) key (Some bytes) (outcome_of answer) (set_left_as_held new.content)
 replace_held old new key bytes answer honest replaces =
     held_leaves old new key (Some bytes) (map.insert old.content key bytes) (outcome_of answer) honest
-    (inserted_same old.content key bytes) (λ other apart. inserted_other old.content key other bytes apart) replaces.saves
+    (inserted_same old.content key bytes)
+    (λ other apart. inserted_other old.content key other bytes apart) replaces.saves
 
 -- a remove of a key that is there changes it alone, and one of a key that isn't changes nothing
 remove_held_if : (old new : SavedSet) (key : ℕ) (answer : Result (Unit {0}) RemoveFault) (there : Content) →

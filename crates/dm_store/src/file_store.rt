@@ -190,8 +190,8 @@ impl<D: Disk, A: Allocator + Copy> Store for FileStore<D, A> {
         ensures synced { self.new.is_synced ≡ self.old.is_synced }
         ensures refused { IsErrOf result ReplaceFault.Memory
             → KeepsAll (D.state self.old.disk) (D.state self.new.disk) }
-        // Whenever the machine stops, in this save or after it, the old content is left or the new, and the new once it is
-        // done. No file but this one and its draft is touched.
+        // Whenever the machine stops, in this save or after it, the old content is left or the new, and the new once it
+        // is done. No file but this one and its draft is touched.
         ensures saves { IsTrue (D.state self.old.disk).is_honest
             → SavesFile (D.state self.old.disk) self.old.path (draft_of self.old.path) bytes.now result
             (D.state self.new.disk) }

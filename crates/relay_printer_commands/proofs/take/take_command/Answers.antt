@@ -9,5 +9,5 @@ returns-in-Err g c = not_opened c.in-Some.ensures.0 c.in-Err.ensures
 
 pub returns : goal.returns
 returns g c =
-    rw c.close-store.ensures.state (opened c.in-Some.ticket c.in-Ok.printer c.take-status.new.printer c.in-Some.ensures.0
-    c.in-Some.ensures.1 c.in-Ok.ensures.0 (rw c.in-Ok.ensures.1 at c.take-status.ensures))
+    rw c.close-store.ensures.state (opened c.in-Some.ticket c.in-Ok.printer c.take-status.new.printer
+    c.in-Some.ensures.0 c.in-Some.ensures.1 c.in-Ok.ensures.0 (rw c.in-Ok.ensures.1 at c.take-status.ensures))

@@ -63,7 +63,8 @@ keep_document-requires g c =
     let given : Pages = map lent_bytes c.args.pages.now in
     let judged : import_answer old.capacity old.held id given ≡ Ok c.in_ok-kind.kind = search rules in
     let doc : c.in-Ok.document ≡ pages_with_file old.held id given = search rules in
-    subst (IsEntry id) (sym doc) (merged_entry old.capacity old.held id given c.self.invariant.order.entries c.requires.entry
+    subst (IsEntry id) (sym doc) (merged_entry old.capacity old.held id given c.self.invariant.order.entries
+    c.requires.entry
     (taken old.capacity old.held id given c.in_ok-kind.kind judged))
 
 pub invariant_of-self : goal.invariant_of-self

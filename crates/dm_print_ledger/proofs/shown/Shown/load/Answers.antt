@@ -17,7 +17,8 @@ returns-in-Err-NotALedger-clause-fault g c = (
       subst (λ (f : LedgerFault). IsSomeAnd (g.S.Store.state c.args.store.now).content (λ bytes. HasFault bytes n f))
       c.in-Err-NotALedger.field-0-is
       (fault_by_cut _ c.as_slice.result.now n c.in-Err-NotALedger.field-0 (ap Some c.as_slice.ensures.value
-      ∙ (rw c.in-Ok-Some.field-0-is at (c.in-Ok-Some.ensures.loads.saved honest))) (c.in-Err-NotALedger.ensures.fault.1 n)),
+      ∙ (rw c.in-Ok-Some.field-0-is at (c.in-Ok-Some.ensures.loads.saved honest)))
+      (c.in-Err-NotALedger.ensures.fault.1 n)),
 )
 
 pub returns-in-Err-Version-clause-fault : goal.returns-in-Err-Version-clause-fault
@@ -27,7 +28,8 @@ returns-in-Err-Version-clause-fault g c = (
       subst (λ (f : LedgerFault). IsSomeAnd (g.S.Store.state c.args.store.now).content (λ bytes. HasFault bytes n f))
       c.in-Err-Version.field-0-is
       (fault_by_cut _ c.as_slice.result.now n c.in-Err-Version.field-0 (ap Some c.as_slice.ensures.value
-      ∙ (rw c.in-Ok-Some.field-0-is at (c.in-Ok-Some.ensures.loads.saved honest))) (c.in-Err-Version.ensures.fault.1 n)),
+      ∙ (rw c.in-Ok-Some.field-0-is at (c.in-Ok-Some.ensures.loads.saved honest)))
+      (c.in-Err-Version.ensures.fault.1 n)),
 )
 
 pub returns-in-Err-Damaged-clause-fault : goal.returns-in-Err-Damaged-clause-fault
@@ -37,5 +39,6 @@ returns-in-Err-Damaged-clause-fault g c = (
       subst (λ (f : LedgerFault). IsSomeAnd (g.S.Store.state c.args.store.now).content (λ bytes. HasFault bytes n f))
       c.in-Err-Damaged.field-0-is
       (fault_by_cut _ c.as_slice.result.now n c.in-Err-Damaged.field-0 (ap Some c.as_slice.ensures.value
-      ∙ (rw c.in-Ok-Some.field-0-is at (c.in-Ok-Some.ensures.loads.saved honest))) (c.in-Err-Damaged.ensures.fault.1 n)),
+      ∙ (rw c.in-Ok-Some.field-0-is at (c.in-Ok-Some.ensures.loads.saved honest)))
+      (c.in-Err-Damaged.ensures.fault.1 n)),
 )

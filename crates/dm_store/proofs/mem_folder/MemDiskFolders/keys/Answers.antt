@@ -11,7 +11,10 @@ keys_after calls start = map.keys (held_below (λ key. seen_after calls (start +
 
 pub returns-clause-lists : goal.returns-clause-lists
 returns-clause-lists g c = λ _.
-    let begins : c.as_bytes.result.now ≡ c.args.folder.now ++ codes "/" = c.as_bytes.ensures.value ∙ c.in-Ok.ensures in
-    subst (λ start. IfOk c.keys_up_to.result (λ keys. keys.items ≡ take (c.args.limit + 1) (keys_after c.args.self.now.calls.items start)))
-    begins (subst (λ calls. IfOk c.keys_up_to.result (λ keys. keys.items ≡ take (c.args.limit + 1) (keys_after calls c.as_bytes.result.now)))
+    let begins : c.as_bytes.result.now ≡ c.args.folder.now ++ codes "/" =
+    c.as_bytes.ensures.value ∙ c.in-Ok.ensures in
+    subst (λ start. IfOk c.keys_up_to.result
+    (λ keys. keys.items ≡ take (c.args.limit + 1) (keys_after c.args.self.now.calls.items start)))
+    begins (subst (λ calls. IfOk c.keys_up_to.result
+    (λ keys. keys.items ≡ take (c.args.limit + 1) (keys_after calls c.as_bytes.result.now)))
     c.deref.ensures.value c.keys_up_to.ensures)
