@@ -1,7 +1,7 @@
 -- What a stop may leave of what a desk holds, after a save of one document: it is told of the other documents by what
 -- the set leaves of keys that were not saved, and of the one by how the save ended.
 use Rattle.std.proofs.Common.{◌≡◌, ◌⊎◌, ℕ, Bool, true, false, cond, List, Option, Some, None, Result, Ok, Err, inl, inr, ⊎_elim, refl, sym, ap, subst, ◌∙◌}
-use Rattle.std.specs.Prelude.{◌≢◌, ◌+◌, option_map, take, IsTrue}
+use Rattle.std.specs.Prelude.{◌≢◌, ◌+◌, option_map, take, IsTrue, IfOk}
 use Rattle.std.specs.Ordering.{nat_cmp, eq_by_cmp}
 use Rattle.std.specs.Cmp.{nat_cmp_total}
 use Rattle.std.specs.FinMap.{get, insert, remove, get-insert, get-remove, get-empty}
@@ -9,16 +9,18 @@ use Rattle.std.proofs.lemmas.Bool.{cases_eq}
 use Rattle.dm_store.specs.Disk.{Content}
 use Rattle.dm_store.specs.Saved.{Outcome, SavePlan, Done, Faulted, Refused}
 use Rattle.dm_store.specs.Left.{SetLeft, SaveKeyLeaves}
-use Rattle.dm_store.specs.Sets.{Contents}
+use Rattle.dm_store.specs.Sets.{Contents, SavedSet}
 use Rattle.dm_assembly_desk.specs.Pages.{Pages}
 use Rattle.dm_assembly_desk.specs.Files.{file, Spells}
-use Rattle.dm_assembly_desk.specs.Documents.{Documents}
+use Rattle.dm_assembly_desk.specs.Documents.{Documents, AreEntries}
+use Rattle.dm_assembly_desk.specs.Opening.{Opens}
 use Rattle.dm_assembly_desk.specs.inner.Loading.{TakesIn}
 use Rattle.dm_assembly_desk.specs.Views.{DeskView}
 use Rattle.dm_assembly_desk.specs.Lasting.{LeavesFiles, IsNext, LeavesNext, IsKept}
 use Rattle.dm_assembly_desk.proofs.Loading.{apart, itself, some_saved}
 use Rattle.dm_assembly_desk.proofs.Adding.{get_here}
 use Rattle.dm_assembly_desk.proofs.FileLaws.{spelled_whole}
+use Rattle.dm_assembly_desk.proofs.Reopening.{one_saved}
 
 pub get_elsewhere : (held : Documents) (id : ℕ) (pages : Pages) (q : ℕ) → q ≢ id
     → get (insert held id pages) q ≡ get held q
@@ -125,3 +127,14 @@ kept_by_plan desk left plan kept = record {
   };
   lasts = record { running = kept.lasts.running; failed = kept.lasts.failed };
 }
+
+-- a desk that is opened on what was left holds each document that was held
+pub opened_the_same : {F : Type 0} (left : SetLeft) (saved : SavedSet) (held : Documents) (capacity : ℕ)
+    (answer : Result DeskView F) → IsTrue saved.is_honest → AreEntries held → LeavesFiles left held
+    → ((key : ℕ) → left.may_leave key (get saved.content key)) → IfOk answer (Opens saved capacity)
+    → IfOk answer (λ opened. (id : ℕ) (pages : Pages) → get held id ≡ Some pages → get opened.held id ≡ Some pages)
+opened_the_same left saved held capacity (Ok opened) honest sound lasts leaves opens = λ id pages is.
+    let found = opens.found honest in
+    sym (one_saved id (get held id) (get opened.held id) (sound id) (found.entries id)
+    (ap (option_map (file id)) is ∙ sym (lasts id pages is (get saved.content id) (leaves id)) ∙ found.files id)) ∙ is
+opened_the_same left saved held capacity (Err fault) honest sound lasts leaves opens = opens

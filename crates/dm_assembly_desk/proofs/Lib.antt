@@ -5,9 +5,9 @@ pub mod ReadPages
 pub mod FileLaws
 pub mod Loading
 pub mod Adding
-pub mod LastingLaws
 pub mod KeptPages
 pub mod Reopening
+pub mod LastingLaws
 pub mod OneRefusal
 pub mod Saving
 pub mod Listing

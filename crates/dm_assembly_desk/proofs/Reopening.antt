@@ -37,7 +37,7 @@ one_file id a b one other is =
     entry_again id b [] other in
     ap (λ (x : (ℕ × Pages) × List ℕ). x.0.1) (pair_is ((id, a), []) ((id, b), []) again)
 
-one_saved : (id : ℕ) (a b : Option Pages) → ((pages : Pages) → a ≡ Some pages → IsEntry id pages) →
+pub one_saved : (id : ℕ) (a b : Option Pages) → ((pages : Pages) → a ≡ Some pages → IsEntry id pages) →
     ((pages : Pages) → b ≡ Some pages → IsEntry id pages) → option_map (file id) a ≡ option_map (file id) b → a ≡ b
 one_saved id None None one other is = refl
 one_saved id None (Some b) one other is = absurd cc
