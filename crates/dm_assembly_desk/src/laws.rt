@@ -26,9 +26,9 @@ pub fn files_of_documents()
         → length bytes ≤ MOST_FILE_BYTES }
 {}
 
-/// The machine stops, and a desk is opened again on a set that holds what the stop left of its own under each key. If no
-/// save had failed it holds each document that the desk held, with the same pages. Gives the old set too, of which the
-/// law speaks.
+/// The machine stops, and a desk is opened again on a set that holds what the stop left of its own under each key. If
+/// no save had failed it holds each document that the desk held, with the same pages. Gives the old set too, of which
+/// the law speaks.
 pub fn opened_after_a_stop<S: StoreSet, T: StoreSet, A: Allocator + Copy>(
     alloc: A,
     desk: Desk<S, A>,
