@@ -1,0 +1,109 @@
+//! A machine with a disk in memory, which all stores of a command share, and which stops after a number of calls.
+
+use dm_store::{Disk, DiskFault, Folders, FuseDisk, Kept, LoadFault, MemDisk};
+use std::alloc::Global;
+use std::cell::RefCell;
+
+/// The disk of a machine that stops.
+#[derive(Drop)]
+pub struct Machine {
+    disk: RefCell<FuseDisk<MemDisk>>,
+}
+
+impl Machine {
+    /// A machine that stops at the call of its disk after the first `passes`.
+    pub fn new(disk: MemDisk, passes: u32, kept: Kept) -> Machine {
+        Machine {
+            disk: RefCell::new(FuseDisk::new(disk, passes, kept)),
+        }
+    }
+
+    /// A machine that does not stop.
+    pub fn whole(disk: MemDisk) -> Machine {
+        Machine::new(disk, u32::MAX, Kept::Old)
+    }
+
+    /// Its disk, lent to a store.
+    pub fn disk(&self) -> MachineDisk<'_> {
+        MachineDisk { disk: &self.disk }
+    }
+
+    /// The disk, as the stop left it.
+    pub fn into_disk(self) -> MemDisk {
+        self.disk.into_inner().into_inner()
+    }
+}
+
+/// The disk of a machine, which several stores have. It claims nothing, since no contract sees into a cell.
+#[derive(Drop)]
+pub struct MachineDisk<'a> {
+    disk: &'a RefCell<FuseDisk<MemDisk>>,
+}
+
+impl Disk for MachineDisk<'_> {
+    ghost use Rattle.dm_store.specs.Unclaimed.{unclaimed};
+
+    type Memory = Global;
+
+    ghost state = { λ _. unclaimed };
+
+    ghost leaves_seen = { λ _ _ _. tt };
+
+    fn read(&mut self, name: &str, limit: usize) -> Result<Option<Vec<u8>>, LoadFault> {
+        match self.disk.try_borrow_mut() {
+            Ok(mut disk) => disk.read(name, limit),
+            Err(_) => Err(LoadFault::Device),
+        }
+    }
+
+    fn write(&mut self, name: &str, bytes: &[u8]) -> Result<(), DiskFault> {
+        match self.disk.try_borrow_mut() {
+            Ok(mut disk) => disk.write(name, bytes),
+            Err(_) => Err(DiskFault::Device),
+        }
+    }
+
+    fn sync(&mut self, name: &str) -> Result<(), DiskFault> {
+        match self.disk.try_borrow_mut() {
+            Ok(mut disk) => disk.sync(name),
+            Err(_) => Err(DiskFault::Device),
+        }
+    }
+
+    fn rename(&mut self, from: &str, to: &str) -> Result<(), DiskFault> {
+        match self.disk.try_borrow_mut() {
+            Ok(mut disk) => disk.rename(from, to),
+            Err(_) => Err(DiskFault::Device),
+        }
+    }
+
+    fn remove(&mut self, name: &str) -> Result<(), DiskFault> {
+        match self.disk.try_borrow_mut() {
+            Ok(mut disk) => disk.remove(name),
+            Err(_) => Err(DiskFault::Device),
+        }
+    }
+
+    fn sync_entry(&mut self, name: &str) -> Result<(), DiskFault> {
+        match self.disk.try_borrow_mut() {
+            Ok(mut disk) => disk.sync_entry(name),
+            Err(_) => Err(DiskFault::Device),
+        }
+    }
+}
+
+impl Folders for MachineDisk<'_> {
+    fn make_folder(&mut self, folder: &str) -> Result<(), DiskFault> {
+        match self.disk.try_borrow_mut() {
+            Ok(mut disk) => disk.make_folder(folder),
+            Err(_) => Err(DiskFault::Device),
+        }
+    }
+
+    fn keys(&mut self, folder: &str, limit: usize) -> Result<Vec<u16>, LoadFault> {
+        match self.disk.try_borrow_mut() {
+            Ok(mut disk) => disk.keys(folder, limit),
+            Err(_) => Err(LoadFault::Device),
+        }
+    }
+}
