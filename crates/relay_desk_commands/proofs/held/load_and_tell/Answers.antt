@@ -10,7 +10,8 @@ returns-in-Ok-Some-clause-tells g c = (
   documents_in c.read_joint.result,
   fault_in c.read_joint.result,
   c.read_joint.ensures (g.S.Store.state c.args.store.now) (λ honest.
-      ap (λ bs. Some bs) c.deref.ensures.value ∙ (rw c.in-Ok-Some.field-0-is at (c.in-Ok-Some.ensures.saved honest))),
+      ap (λ bs. Some bs) c.deref.ensures.value
+      ∙ (rw c.in-Ok-Some.field-0-is at (c.in-Ok-Some.ensures.loads.saved honest))),
   c.tell.ensures.tells,
 )
 
@@ -19,7 +20,7 @@ returns-in-Ok-None-clause-tells g c = (
   map.empty,
   None,
   none_there (g.S.Store.state c.args.store.now)
-      (λ honest. rw c.in-Ok-None.field-0-is at (c.in-Ok-None.ensures.saved honest)),
+      (λ honest. rw c.in-Ok-None.field-0-is at (c.in-Ok-None.ensures.loads.saved honest)),
   c.tell-in-Ok-None.ensures.tells,
 )
 
@@ -27,6 +28,6 @@ pub returns-in-Err-Device-clause-tells : goal.returns-in-Err-Device-clause-tells
 returns-in-Err-Device-clause-tells g c = (
   map.empty,
   Some Device,
-  (c.in-Err-Device.ensures.device (ap (λ fault. Err fault) c.in-Err-Device.field-0-is), refl),
+  (c.in-Err-Device.ensures.loads.device (ap (λ fault. Err fault) c.in-Err-Device.field-0-is), refl),
   c.tell-in-Err-Device.ensures.tells,
 )
