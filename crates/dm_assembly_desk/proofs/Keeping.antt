@@ -51,12 +51,12 @@ module _ (held put : Documents) (p : PageView) (after : put ≡ with_page held p
       saved_at set after answer (subst (λ (i : ℕ). SavesKey set i
       (file i (unwrap_or (get put i) [])) answer after) is r)
 
-  pub leaves_there : (id : ℕ) → id ≡ p.id → (old new : SetLeft) (outcome : Outcome) →
-      SaveKeyLeaves old id (Some (file id (unwrap_or (get put id) []))) outcome new →
-      SaveKeyLeaves old p.id (Some (file p.id (pages_with held p))) outcome new
-  leaves_there id is old new outcome r =
-      subst (λ (o : Option Pages). SaveKeyLeaves old p.id (Some (file p.id (unwrap_or o []))) outcome new) now
-      (subst (λ (i : ℕ). SaveKeyLeaves old i (Some (file i (unwrap_or (get put i) []))) outcome new) is r)
+  pub leaves_there : (id : ℕ) → id ≡ p.id → (set : SavedSet) (old new : SetLeft) (outcome : Outcome) →
+      SaveKeyLeaves set old id (Some (file id (unwrap_or (get put id) []))) outcome new →
+      SaveKeyLeaves set old p.id (Some (file p.id (pages_with held p))) outcome new
+  leaves_there id is set old new outcome r =
+      subst (λ (o : Option Pages). SaveKeyLeaves set old p.id (Some (file p.id (unwrap_or o []))) outcome new) now
+      (subst (λ (i : ℕ). SaveKeyLeaves set old i (Some (file i (unwrap_or (get put i) []))) outcome new) is r)
 
   pub back_first : (id : ℕ) → id ≡ p.id → get held id ≡ None → remove put id ≡ held
   back_first id is none = ap (λ (i : ℕ). remove put i) is ∙ ap (λ (d : Documents). remove d p.id) after ∙

@@ -8,7 +8,7 @@ use Rattle.std.specs.FinMap.{get, insert, remove, get-insert, get-remove, get-em
 use Rattle.std.proofs.lemmas.Bool.{cases_eq}
 use Rattle.dm_store.specs.Disk.{Content}
 use Rattle.dm_store.specs.Saved.{Outcome, SavePlan, Done, Faulted, Refused}
-use Rattle.dm_store.specs.Left.{SetLeft, SaveKeyLeaves}
+use Rattle.dm_store.specs.Left.{SetLeft, IsDurableSet, SetLeavesNoMore, SaveKeyLeaves}
 use Rattle.dm_store.specs.Sets.{Contents, SavedSet}
 use Rattle.dm_assembly_desk.specs.Pages.{Pages}
 use Rattle.dm_assembly_desk.specs.Files.{file, Spells}
@@ -40,52 +40,57 @@ none_is_some o x none some = absurd cc
 same_pages : {X : Type 0} (o : Option X) (x y : X) → o ≡ Some x → o ≡ Some y → x ≡ y
 same_pages o x y is other = cc
 
-module _ (old new : SetLeft) (held : Documents) (id : ℕ) (lasts : old.is_told → LeavesFiles old held) where
-  -- of another document a stop leaves what it left before
-  others : {next : Content} {outcome : Outcome} → SaveKeyLeaves old id next outcome new →
-      new.is_told → (q : ℕ) → q ≢ id → (pages : Pages) → get held q ≡ Some pages
-      → (content : Content) → new.may_leave q content → content ≡ Some (file q pages)
-  others saves told q other pages is content leaves =
-      lasts (saves.told.0 told) q pages is content (saves.others told q other content leaves)
+module _ (set : SavedSet) (old new : SetLeft) (held : Documents) (id : ℕ)
+    (lasts : IsDurableSet set → LeavesFiles old held)
+  where
+    -- of another document a stop leaves what it left before
+    others : {next : Content} {outcome : Outcome} → SaveKeyLeaves set old id next outcome new →
+        IsDurableSet set → (q : ℕ) → q ≢ id → (pages : Pages) → get held q ≡ Some pages
+        → (content : Content) → new q content → content ≡ Some (file q pages)
+    others saves durable q other pages is content leaves =
+        lasts durable q pages is content (saves.others durable q other content leaves)
 
-  pub lasts_saved : (pages : Pages) → SaveKeyLeaves old id (Some (file id pages)) Done new → new.is_told →
-      LeavesFiles new (insert held id pages)
-  lasts_saved pages saves told q ps is content leaves = ⊎_elim
-      (λ (same : q ≡ id). saves.lasting refl told content (subst (λ (k : ℕ). new.may_leave k content) same leaves)
-      ∙ ap (λ (p : Pages). Some (file id p)) (same_pages (get (insert held id pages) id) pages ps
-      (get_here held id pages) (ap (get (insert held id pages)) (sym same) ∙ is))
-      ∙ ap (λ (k : ℕ). Some (file k ps)) (sym same))
-      (λ (other : q ≢ id). others saves told q other ps (sym (get_elsewhere held id pages q other) ∙ is) content leaves)
-      (cases_eq q id)
+    pub lasts_saved : (pages : Pages) → SaveKeyLeaves set old id (Some (file id pages)) Done new → IsDurableSet set →
+        LeavesFiles new (insert held id pages)
+    lasts_saved pages saves durable q ps is content leaves = ⊎_elim
+        (λ (same : q ≡ id). saves.lasting refl durable content (subst (λ (k : ℕ). new k content) same leaves)
+        ∙ ap (λ (p : Pages). Some (file id p)) (same_pages (get (insert held id pages) id) pages ps
+        (get_here held id pages) (ap (get (insert held id pages)) (sym same) ∙ is))
+        ∙ ap (λ (k : ℕ). Some (file k ps)) (sym same))
+        (λ (other : q ≢ id).
+        others saves durable q other ps (sym (get_elsewhere held id pages q other) ∙ is) content leaves)
+        (cases_eq q id)
 
-  pub lasts_removed : SaveKeyLeaves old id None Done new → new.is_told → LeavesFiles new (remove held id)
-  lasts_removed saves told q ps is content leaves = ⊎_elim
-      (λ (same : q ≡ id). none_is_some (get (remove held id) q) ps
-      (ap (get (remove held id)) same ∙ gone_here held id) is)
-      (λ (other : q ≢ id). others saves told q other ps (sym (kept_elsewhere held id q other) ∙ is) content leaves)
-      (cases_eq q id)
+    pub lasts_removed : SaveKeyLeaves set old id None Done new → IsDurableSet set → LeavesFiles new (remove held id)
+    lasts_removed saves durable q ps is content leaves = ⊎_elim
+        (λ (same : q ≡ id). none_is_some (get (remove held id) q) ps
+        (ap (get (remove held id)) same ∙ gone_here held id) is)
+        (λ (other : q ≢ id). others saves durable q other ps (sym (kept_elsewhere held id q other) ∙ is) content leaves)
+        (cases_eq q id)
 
-  pub lasts_refused : {next : Content} → SaveKeyLeaves old id next Refused new → new.is_told → LeavesFiles new held
-  lasts_refused saves told q ps is content leaves = ⊎_elim
-      (λ (same : q ≡ id). lasts (saves.told.0 told) q ps is content
-      (subst (λ (k : ℕ). old.may_leave k content) (sym same)
-      (saves.kept refl told content (subst (λ (k : ℕ). new.may_leave k content) same leaves))))
-      (λ (other : q ≢ id). others saves told q other ps is content leaves) (cases_eq q id)
+    pub lasts_refused : {next : Content} → SaveKeyLeaves set old id next Refused new → IsDurableSet set →
+        LeavesFiles new held
+    lasts_refused saves durable q ps is content leaves = ⊎_elim
+        (λ (same : q ≡ id). lasts durable q ps is content
+        (subst (λ (k : ℕ). old k content) (sym same)
+        (saves.kept refl durable content (subst (λ (k : ℕ). new k content) same leaves))))
+        (λ (other : q ≢ id). others saves durable q other ps is content leaves) (cases_eq q id)
 
-  pub lasts_failed : (next : Documents) → IsNext held next →
-      SaveKeyLeaves old id (option_map (file id) (get next id)) Faulted new → new.is_told → LeavesNext new held
-  lasts_failed next is_next saves told = (
-    next,
-    is_next,
-    λ q ps is content leaves. ⊎_elim
-        (λ (same : q ≡ id). ⊎_elim
-        (λ (before : old.may_leave id content). inl (lasts (saves.told.0 told) q ps is content
-        (subst (λ (k : ℕ). old.may_leave k content) (sym same) before)))
-        (λ (after : content ≡ option_map (file id) (get next id)).
-        inr (after ∙ ap (λ (k : ℕ). option_map (file k) (get next k)) (sym same)))
-        (saves.either told content (subst (λ (k : ℕ). new.may_leave k content) same leaves)))
-        (λ (other : q ≢ id). inl (others saves told q other ps is content leaves)) (cases_eq q id),
-  )
+    pub lasts_failed : (next : Documents) → IsNext held next →
+        SaveKeyLeaves set old id (option_map (file id) (get next id)) Faulted new → IsDurableSet set →
+        LeavesNext new held
+    lasts_failed next is_next saves durable = (
+      next,
+      is_next,
+      λ q ps is content leaves. ⊎_elim
+          (λ (same : q ≡ id). ⊎_elim
+          (λ (before : old id content). inl (lasts durable q ps is content
+          (subst (λ (k : ℕ). old k content) (sym same) before)))
+          (λ (after : content ≡ option_map (file id) (get next id)).
+          inr (after ∙ ap (λ (k : ℕ). option_map (file k) (get next k)) (sym same)))
+          (saves.either durable content (subst (λ (k : ℕ). new k content) same leaves)))
+          (λ (other : q ≢ id). inl (others saves durable q other ps is content leaves)) (cases_eq q id),
+    )
 
 -- before the first key nothing is held
 pub lasts_empty : (left : SetLeft) → LeavesFiles left Rattle.std.specs.FinMap.empty
@@ -93,9 +98,8 @@ lasts_empty left q ps is = none_is_some (get Rattle.std.specs.FinMap.empty q) ps
 
 -- a key's file was loaded, and is what the key holds: a stop leaves no other file there
 module _ (old new : SetLeft) (content : Contents) (key : ℕ) (loaded : List ℕ) (before after : Documents)
-    (loads : Some loaded ≡ option_map (take (41642 + 1)) (get content key)) (told : new.is_told)
-    (kept : (k : ℕ) (c : Content) → new.may_leave k c → old.may_leave k c)
-    (settles : (c : Content) → new.may_leave key c → c ≡ get content key) (lasts : LeavesFiles old before) where
+    (loads : Some loaded ≡ option_map (take (41642 + 1)) (get content key)) (kept : SetLeavesNoMore old new)
+    (settles : (c : Content) → new key c → c ≡ get content key) (lasts : LeavesFiles old before) where
   held_on : LeavesFiles new before
   held_on q ps is c leaves = lasts q ps is c (kept q c leaves)
 
@@ -104,7 +108,7 @@ module _ (old new : SetLeft) (content : Contents) (key : ℕ) (loaded : List ℕ
   lasts_loaded true t = subst (LeavesFiles new) (sym t.2) (λ q ps is c leaves.
       let whole = some_saved (41642 + 1) (get content key) loaded loads in
       let spells : Spells key whole.0 t.0 = spelled_whole key whole.0 loaded whole.2 t.0 t.1 in ⊎_elim
-      (λ (same : q ≡ key). settles c (subst (λ (k : ℕ). new.may_leave k c) same leaves) ∙ whole.1
+      (λ (same : q ≡ key). settles c (subst (λ (k : ℕ). new k c) same leaves) ∙ whole.1
       ∙ ap (λ (bs : List ℕ). Some bs) spells.spelled
       ∙ ap (λ (p : Pages). Some (file key p)) (same_pages (get (insert before key t.0) key) t.0 ps
       (get_here before key t.0) (ap (get (insert before key t.0)) (sym same) ∙ is))
@@ -131,7 +135,7 @@ kept_by_plan desk left plan kept = record {
 -- a desk that is opened on what was left holds each document that was held
 pub opened_the_same : {F : Type 0} (left : SetLeft) (saved : SavedSet) (held : Documents) (capacity : ℕ)
     (answer : Result DeskView F) → IsTrue saved.is_honest → AreEntries held → LeavesFiles left held
-    → ((key : ℕ) → left.may_leave key (get saved.content key)) → IfOk answer (Opens saved capacity)
+    → ((key : ℕ) → left key (get saved.content key)) → IfOk answer (Opens saved capacity)
     → IfOk answer (λ opened. (id : ℕ) (pages : Pages) → get held id ≡ Some pages → get opened.held id ≡ Some pages)
 opened_the_same left saved held capacity (Ok opened) honest sound lasts leaves opens = λ id pages is.
     let found = opens.found honest in

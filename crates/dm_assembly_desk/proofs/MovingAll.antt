@@ -200,10 +200,12 @@ not_begun old set fault = inl (refl, refl)
 pub plans_stay : (old : Saved) (set : SavedSet) → KeepsPlans old set old set
 plans_stay old set = record {
   old_honesty = refl;
+  old_durability = refl;
   old_memory = refl;
   old_loads = refl;
   old_saves = λ e. e;
   set_honesty = refl;
+  set_durability = refl;
   set_memory = refl;
   set_loads = refl;
   set_saves = λ e. e;
@@ -215,10 +217,12 @@ module _ (old : Saved) (set : SavedSet) (ks : List ℕ) (count : ℕ) (rest : Li
       KeepsPlans old set old after
   plans_abandoned fault m = record {
     old_honesty = refl;
+    old_durability = refl;
     old_memory = refl;
     old_loads = refl;
     old_saves = λ e. e;
     set_honesty = m.2.same_honesty;
+    set_durability = m.2.same_durability;
     set_memory = m.2.same_memory_plan;
     set_loads = m.2.same_load_plan;
     set_saves = m.2.fine;
@@ -229,10 +233,12 @@ module _ (old : Saved) (set : SavedSet) (ks : List ℕ) (count : ℕ) (rest : Li
       Replaces old bytes answer old_after → KeepsPlans old set old_after after
   plans_replaced written m bytes answer old_after p = record {
     old_honesty = p.same_honesty;
+    old_durability = p.same_durability;
     old_memory = p.same_memory_plan;
     old_loads = p.same_load_plan;
     old_saves = λ e. stays_fine old.save_plan (outcome_of answer) old_after.save_plan p.follows e;
     set_honesty = m.2.same_honesty;
+    set_durability = m.2.same_durability;
     set_memory = m.2.same_memory_plan;
     set_loads = m.2.same_load_plan;
     set_saves = m.2.fine;

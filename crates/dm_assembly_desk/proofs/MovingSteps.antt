@@ -134,6 +134,7 @@ no_key content ks id is e = not_there content id (ap (among id) (sym is) ∙ e)
 pub begins_carrying : (s : SavedSet) (ks : List ℕ) (all : List (ℕ × Pages)) → Carries s s ks all all 0
 begins_carrying s ks all = record {
   same_honesty = refl;
+  same_durability = refl;
   same_memory_plan = refl;
   same_load_plan = refl;
   fine = λ e. e;
@@ -163,6 +164,7 @@ module _ (start now : SavedSet) (ks : List ℕ)
   pub passes : among e.0 ks ≡ true → Carries start now ks all rest written
   passes there = record {
     same_honesty = c.same_honesty;
+    same_durability = c.same_durability;
     same_memory_plan = c.same_memory_plan;
     same_load_plan = c.same_load_plan;
     fine = c.fine;
@@ -177,6 +179,7 @@ module _ (start now : SavedSet) (ks : List ℕ)
     pub writes : SavesKey now e.0 (file e.0 e.1) (Ok tt) after → Carries start after ks all rest (written + 1)
     writes r = record {
       same_honesty = r.same_honesty ∙ c.same_honesty;
+      same_durability = r.same_durability ∙ c.same_durability;
       same_memory_plan = r.same_memory_plan ∙ c.same_memory_plan;
       same_load_plan = r.same_load_plan ∙ c.same_load_plan;
       fine = λ fine. subst (λ (p : SavePlan). Follows p Done after.save_plan) (c.fine fine) r.follows;
@@ -232,6 +235,7 @@ module _ (start now : SavedSet) (ks : List ℕ)
         Abandons start after ks all fault
     abandons fault r = record {
       same_honesty = r.same_honesty ∙ c.same_honesty;
+      same_durability = r.same_durability ∙ c.same_durability;
       same_memory_plan = r.same_memory_plan ∙ c.same_memory_plan;
       same_load_plan = r.same_load_plan ∙ c.same_load_plan;
       fine = λ fine. stays_fine now.save_plan (outcome_of (Err fault)) after.save_plan r.follows (c.fine fine);

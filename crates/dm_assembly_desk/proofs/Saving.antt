@@ -6,6 +6,7 @@ use Rattle.std.specs.Cmp.{nat_cmp_total}
 use Rattle.std.specs.FinMap.{get, insert, remove, len, get-insert, get-remove, len-remove}
 use Rattle.dm_append_label.specs.Pages.{PageView}
 use Rattle.dm_store.specs.Saved.{SavePlan, SavesFine, FaultOld, FaultNew, SavesOpen, Done, Faulted, HeldAfterFault}
+use Rattle.dm_store.specs.Left.{IsDurableSet}
 use Rattle.dm_store.specs.Sets.{SavedSet, Contents, Saves, SavesKey, RemovesKey}
 use Rattle.dm_store.specs.declared.store.ReplaceFault.TheVariants as replacing
 use Rattle.dm_store.specs.declared.set.RemoveFault.{RemoveFault}
@@ -100,6 +101,10 @@ pub record IsToSave (old : DeskView) (content : Contents) (held : Documents) : T
   pub few : len held ≤ old.capacity
   pub entries : AreEntries held
   pub files : IsTrue old.saved.is_honest → HoldsFiles content held
+
+pub was_durable : (old new : SavedSet) → new.is_honest ≡ old.is_honest → new.is_durable ≡ old.is_durable
+    → IsDurableSet new → IsDurableSet old
+was_durable old new same still durable = (subst IsTrue same durable.0, subst IsTrue still durable.1)
 
 pub was_honest : (old new : SavedSet) → new.is_honest ≡ old.is_honest → IsTrue new.is_honest → IsTrue old.is_honest
 was_honest old new same honest = subst IsTrue same honest
@@ -201,6 +206,14 @@ same_honesty old id answer set r =
     elim (get old.content id) as (λ o. get old.content id ≡ o → set.is_honest ≡ old.is_honest) [
       | None ↦ λ is. ap (λ (s : SavedSet). s.is_honest) (r.absent is)
       | Some bytes ↦ λ is. (r.there (subst IsSome (sym is) refl)).same_honesty
+    ] refl
+
+pub same_durability : (old : SavedSet) (id : ℕ) (answer : Result (Unit {0}) RemoveFault) (set : SavedSet) →
+    RemovesKey old id answer set → set.is_durable ≡ old.is_durable
+same_durability old id answer set r =
+    elim (get old.content id) as (λ o. get old.content id ≡ o → set.is_durable ≡ old.is_durable) [
+      | None ↦ λ is. ap (λ (s : SavedSet). s.is_durable) (r.absent is)
+      | Some bytes ↦ λ is. (r.there (subst IsSome (sym is) refl)).same_durability
     ] refl
 
 forget_to_save : (old : DeskView) (id : ℕ) → IsInOrder old → old.is_failed ≡ false →

@@ -126,8 +126,8 @@ fn keep<S: StoreSet, A: Allocator + Copy>(
     ensures err { OnErr result (documents.new ≡ documents.old) }
     ensures replaced { SavesKey (S.state set.old) page.id (file page.id (pages_with documents.old page)) result
         (S.state set.new) }
-    ensures leaves { SaveKeyLeaves (S.left set.old) page.id (Some (file page.id (pages_with documents.old page)))
-        (outcome_of result) (S.left set.new) }
+    ensures leaves { SaveKeyLeaves (S.state set.old) (S.left set.old) page.id
+        (Some (file page.id (pages_with documents.old page))) (outcome_of result) (S.left set.new) }
 {
     let id = page.id().number();
     let m = page.m();
@@ -160,8 +160,8 @@ fn save<S: StoreSet, A: Allocator + Copy>(
     requires { IsSomeAnd (map.get documents.now id) (IsEntry id) }
     ensures replaced { SavesKey (S.state set.old) id (file id (unwrap_or (map.get documents.now id) [])) result
         (S.state set.new) }
-    ensures leaves { SaveKeyLeaves (S.left set.old) id (Some (file id (unwrap_or (map.get documents.now id) [])))
-        (outcome_of result) (S.left set.new) }
+    ensures leaves { SaveKeyLeaves (S.state set.old) (S.left set.old) id
+        (Some (file id (unwrap_or (map.get documents.now id) []))) (outcome_of result) (S.left set.new) }
 {
     let Some(document) = documents.get(id) else {
         unreachable!()

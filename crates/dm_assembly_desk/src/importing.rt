@@ -155,7 +155,8 @@ fn keep_document<S: StoreSet, A: Allocator + Copy>(
     ensures ok { OnOk result (documents.new ≡ map.insert documents.old id document) }
     ensures err { OnErr result (documents.new ≡ documents.old) }
     ensures replaced { SavesKey (S.state set.old) id (file id document) result (S.state set.new) }
-    ensures leaves { SaveKeyLeaves (S.left set.old) id (Some (file id document)) (outcome_of result) (S.left set.new) }
+    ensures leaves { SaveKeyLeaves (S.state set.old) (S.left set.old) id (Some (file id document))
+        (outcome_of result) (S.left set.new) }
 {
     let Ok(bytes) = write_file(alloc, id, &document) else {
         return Err(ReplaceFault::Memory);

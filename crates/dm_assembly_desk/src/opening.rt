@@ -2,6 +2,7 @@
 
 ghost use Rattle.std.specs.Prelude.{◌≡◌, ◌≤◌, ◌+◌, IfOk, IfErr, IsTrue, MatchResult};
 ghost use Rattle.std.specs.FinMap as map;
+ghost use Rattle.dm_store.specs.Left.{IsDurableSet, SetLeavesNoMore};
 ghost use Rattle.dm_assembly_desk.specs.Documents.{AreEntries};
 ghost use Rattle.dm_assembly_desk.specs.Views.{IsCapacity};
 ghost use Rattle.dm_assembly_desk.specs.Opening.{HasDeskFault};
@@ -42,6 +43,9 @@ impl<S: StoreSet, A: Allocator + Copy> Desk<S, A> {
         ensures order { IfOk result IsInOrder }
         ensures fault { IfErr result (λ refused. HasDeskFault (S.state set) capacity refused.fault) }
         ensures same { IfErr result (λ refused. S.state refused.store ≡ S.state set) }
+        // Nor does a stop leave more of it.
+        ensures leaves { IfErr result (λ refused.
+            IsDurableSet (S.state set) → SetLeavesNoMore (S.left set) (S.left refused.store)) }
         // Of an honest set each refusal stands wherever it applies, unless a load failed or memory was refused.
         ensures exact { (fault : DeskFault) → IsTrue (S.state set).is_honest → IsCapacity capacity
             → HoldsNone (S.state set) capacity fault →
@@ -97,9 +101,9 @@ fn load_key<S: StoreSet, A: Allocator + Copy>(
     ensures loads { LoadsFile (S.state set.old) key documents.old result documents.new }
     ensures entries { AreEntries documents.old → AreEntries documents.new }
     ensures few { map.len documents.new ≤ map.len documents.old + 1 }
-    ensures told { (S.left set.new).is_told → (S.left set.old).is_told }
+    ensures kept { IsDurableSet (S.state set.old) → SetLeavesNoMore (S.left set.old) (S.left set.new) }
     // What a stop leaves then is still the files of what is held.
-    ensures leaves { IsTrue (S.state set.old).is_honest → (S.left set.new).is_told
+    ensures leaves { IsDurableSet (S.state set.old)
         → LeavesFiles (S.left set.old) documents.old → LeavesFiles (S.left set.new) documents.new }
 {
     let bytes = match set.load(key, MOST_FILE_BYTES) {
@@ -126,8 +130,8 @@ fn load_all<S: StoreSet, A: Allocator + Copy>(
     requires { IsCapacity capacity }
     ensures same { S.state set.new ≡ S.state set.old }
     ensures ok { IfOk result (FindsAll (S.state set.old) capacity) }
-    ensures leaves { IfOk result (λ held.
-        IsTrue (S.state set.old).is_honest → (S.left set.new).is_told → LeavesFiles (S.left set.new) held) }
+    ensures leaves { IfOk result (λ held. IsDurableSet (S.state set.old) → LeavesFiles (S.left set.new) held) }
+    ensures kept { IsDurableSet (S.state set.old) → SetLeavesNoMore (S.left set.old) (S.left set.new) }
     ensures fault { IfErr result (HasDeskFault (S.state set.old) capacity) }
 {
     let keys = match set.keys(capacity as usize) {

@@ -627,8 +627,8 @@ printed_after_forgotten_is A (batches, f) = by_batches batches f
         let p = f.prints.printed 0 batch refl in
         let w = f.forgotten 3 0 0 stops.None refl refl (untainted (printed_after_forgotten A) 3 (AtDesk 0)) in
         let own : batch.id ≡ 0 = by_scan batch rest w.0 w.1 w.2.k p.not_none w.2.before w.2.scan in
-        let t = f.prints.told 4 0 1 2 refl in
-        let place : ◌≡◌ {A = ℕ} 0 4 = f.prints.once 0 4 batch t.batch refl t.there (own ∙ sym t.id_is) in omega arith
+        let t = f.prints.told 5 0 1 2 refl in
+        let place : ◌≡◌ {A = ℕ} 0 5 = f.prints.once 0 5 batch t.batch refl t.there (own ∙ sym t.id_is) in omega arith
 
 saved_though_failed_is : (A : Type 0) → ¬ IsFaithfulRun (saved_though_failed A)
 saved_though_failed_is A (batches, f) =

@@ -191,7 +191,8 @@ printed_after_forgotten A =
     (Scan 0 0 [] (AfterLabels 0), Stopped) ∷
     (RestartDesk 0, Restarted) ∷
     (Forget 0 0 None, Forgotten) ∷
-    (print 1 other_digits None, Printed 0 1 2) ∷ []
+    (RestartPrinter 0, Restarted) ∷
+    (print 0 other_digits None, Printed 0 1 2) ∷ []
 
 -- `unfailed` of what may have saved: a scan is stopped at a desk whose last save had failed, and its page is forgotten
 abbrev pub saved_though_failed : (A : Type 0) → Run A
@@ -326,7 +327,7 @@ unseen_labels =
 
 -- `once`: two prints that are told have one identification
 abbrev pub told_twice : (A : Type 0) → Run A
-told_twice A = (print 0 digits None, Printed 0 0 2) ∷ (print 1 other_digits None, Printed 0 2 2) ∷ []
+told_twice A = (print 0 digits None, Printed 0 0 2) ∷ (print 0 other_digits None, Printed 0 2 2) ∷ []
 
 -- `opened`: a document is printed under an identification that no printer began with
 abbrev pub printed_beyond : (A : Type 0) → Run A
@@ -370,7 +371,7 @@ left_though_failed A =
     (print 0 digits (SaveFault kept.Old), PrintRefused print_fault.Save) ∷
     (print 0 digits (AfterLabels 2), Stopped) ∷ (scan 0, Scanned (page 0 1 New)) ∷ []
 
--- `scanned`: the second label is told, which never left, although the first was scanned
+-- `scanned`, and `agrees`: the second label is told, which never left, although the first was scanned
 abbrev pub never_left : (A : Type 0) → Run A
 never_left A = (print 0 digits (AfterLabels 1), Stopped) ∷ (scan 0, Scanned (page 0 2 New)) ∷ []
 

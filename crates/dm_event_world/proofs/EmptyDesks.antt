@@ -26,6 +26,7 @@ abbrev pub empty_set : SavedSet
 empty_set = record {
   content = map.empty;
   is_honest = true;
+  is_durable = true;
   memory_plan = MemoryOpen;
   load_plan = LoadsFine;
   save_plan = SavesFine;

@@ -48,6 +48,7 @@ abbrev pub empty_store : Saved
 empty_store = record {
   content = None;
   is_honest = true;
+  is_durable = true;
   memory_plan = MemoryOpen;
   load_plan = LoadsFine;
   save_plan = SavesFine;

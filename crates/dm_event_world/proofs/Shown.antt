@@ -48,8 +48,8 @@ is_shown_for_good A (batches, f) = by_batches batches f
         let p = f.faithful.prints.printed 0 batch refl in
         let own : batch.id ≡ 7 =
         first_label batch [] (record { id = 7; number = 1; count = 2 }) p.not_none (had (Some batch ∷ rest) f) in
-        let t = f.faithful.prints.told 3 7 1 2 refl in
-        let place : ◌≡◌ {A = ℕ} 0 3 = f.faithful.prints.once 0 3 batch t.batch refl t.there (own ∙ sym t.id_is) in
+        let t = f.faithful.prints.told 4 7 1 2 refl in
+        let place : ◌≡◌ {A = ℕ} 0 4 = f.faithful.prints.once 0 4 batch t.batch refl t.there (own ∙ sym t.id_is) in
         omega arith
 
 pub are_answered_wrongly : (A : Type 0) → AreAnsweredWrongly A

@@ -17,16 +17,20 @@ use Rattle.dm_event_world.specs.Watched.{IsFaithfulIfHonest}
 -- ---- after a dishonest scan
 
 -- A scan that was honest shows that a label of the first print left under identification 7. After one that was not,
--- and told of another page, the second is told to be printed under 7 too.
+-- and told of another page, the second is told to be printed under 7 too, by the same printer.
 abbrev pub shown_events : (A : Type 0) → List (Event A)
 shown_events A =
-    print 0 digits (AfterLabels 1) ∷ scan 0 ∷ Scan 0 0 ((0, 0) ∷ []) None ∷ print 1 other_digits None ∷ []
+    print 0 digits (AfterLabels 1) ∷
+    scan 0 ∷
+    Scan 0 0 ((0, 0) ∷ []) None ∷
+    RestartPrinter 0 ∷ print 0 other_digits None ∷ []
 
 abbrev pub shown_answers : (A : Type 0) → List (Answer A)
 shown_answers A =
     Given true Stopped ∷
     Given true (Scanned (page 7 1 New)) ∷
-    Given false (Scanned (page 9 1 New)) ∷ Given true (Printed 7 1 2) ∷ []
+    Given false (Scanned (page 9 1 New)) ∷
+    Given true Restarted ∷ Given true (Printed 7 1 2) ∷ []
 
 -- what was shown while the scans were honest is shown for good
 abbrev pub IsShownForGood : Type 0 → Type 0

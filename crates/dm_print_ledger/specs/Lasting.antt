@@ -1,44 +1,40 @@
 -- What a stop of the machine may leave of a printer, at any moment: its ledger, or after a save that failed the one
 -- that was to be saved; and what holds of a printer between calls.
-use Rattle.std.specs.Prelude.{◌≡◌, ◌⊎◌, ℕ, List, Bool, true, false, IsTrue, IsSomeAnd}
+use Rattle.std.specs.Prelude.{◌≡◌, ◌⊎◌, ℕ, List, false, Option, Some, is_some, IsTrue, IfSome, IsSomeAnd}
 use Rattle.dm_store.specs.Disk.{Content}
 use Rattle.dm_store.specs.Saved.{Saved}
-use Rattle.dm_store.specs.Left.{Left}
+use Rattle.dm_store.specs.Left.{Left, IsDurable}
 use Rattle.dm_print_ledger.specs.declared.range.Range.{Range}
-use Rattle.dm_print_ledger.specs.Ledger.{IsSound, Spells}
-use Rattle.dm_print_ledger.specs.Views.{LedgerView, TicketView}
+use Rattle.dm_print_ledger.specs.declared.fault.CreateFault.{CreateFault}
+use Rattle.dm_print_ledger.specs.declared.fault.CreateFault.TheVariants as creating
+use Rattle.dm_print_ledger.specs.Creating.{opening}
+use Rattle.dm_print_ledger.specs.Ledger.{IsSound, Spells, ledger_bytes}
 use Rattle.dm_print_ledger.specs.Saving.{HoldsLedger}
-use Rattle.dm_print_ledger.specs.Printing.{Uses}
-use Rattle.dm_print_ledger.specs.Moving.{GivesAway, TakesIn}
+use Rattle.dm_print_ledger.specs.Views.{LedgerView, PrinterView}
 
--- one use, one give or one take makes the new ledger of the old
-pub data IsNext (old new : LedgerView) : Type 0 where
-  ByUse : (id : ℕ) → Uses old id new → IsNext old new
-  ByGive : (range : Range) → GivesAway old range new → IsNext old new
-  ByTake : (ticket : TicketView) → TakesIn old ticket new → IsNext old new
+-- the bytes spell the ledger, or the one that was not saved, if there is one
+abbrev pub SpellsEither : LedgerView → Option LedgerView → List ℕ → Type 0
+SpellsEither ledger unsaved bytes = Spells bytes ledger ⊎ IsSomeAnd unsaved (Spells bytes)
 
--- whatever a stop leaves spells this ledger
+-- whatever a stop leaves spells one of these
+abbrev pub LeavesEither : Left → LedgerView → Option LedgerView → Type 0
+LeavesEither left ledger unsaved =
+    (content : Content) → left content → IsSomeAnd content (SpellsEither ledger unsaved)
+
+-- whatever a stop leaves spells the ledger
 abbrev pub LeavesLedger : Left → LedgerView → Type 0
-LeavesLedger left ledger =
-    (content : Content) → left.may_leave content → IsSomeAnd content (λ bytes. Spells bytes ledger)
+LeavesLedger left ledger = (content : Content) → left content → IsSomeAnd content (λ bytes. Spells bytes ledger)
 
--- the bytes spell the ledger, or one that a use, a give or a take makes of it
-abbrev pub SpellsOrNext : LedgerView → List ℕ → Type 0
-SpellsOrNext ledger bytes =
-    Spells bytes ledger ⊎ ((next : LedgerView) × IsNext ledger next × Spells bytes next)
+-- The ledger is sound, and unless a save failed an honest store holds it. What a stop may leave of a durable store is
+-- the ledger, or the one whose save failed, which has the same number.
+pub record IsInOrder (printer : PrinterView) (left : Left) : Type 0 where
+  pub sound : IsSound printer.ledger
+  pub holds : printer.is_failed ≡ false → IsTrue printer.saved.is_honest → HoldsLedger printer.saved printer.ledger
+  pub failed : printer.is_failed ≡ is_some printer.unsaved
+  pub number : IfSome printer.unsaved (λ unsaved. unsaved.number ≡ printer.ledger.number)
+  pub lasts : IsDurable printer.saved → LeavesEither left printer.ledger printer.unsaved
 
--- whatever a stop leaves spells the ledger, or one that a use, a give or a take makes of it
-abbrev pub LeavesNext : Left → LedgerView → Type 0
-LeavesNext left ledger = (content : Content) → left.may_leave content → IsSomeAnd content (SpellsOrNext ledger)
-
--- Of an honest store that tells what a stop leaves: of a running printer it is its ledger, as last saved; and of one
--- whose save failed that ledger, or one made of it.
-pub record Lasts (saved : Saved) (left : Left) (ledger : LedgerView) (is_failed : Bool) : Type 0 where
-  pub running : is_failed ≡ false → IsTrue saved.is_honest → left.is_told → LeavesLedger left ledger
-  pub failed : is_failed ≡ true → IsTrue saved.is_honest → left.is_told → LeavesNext left ledger
-
--- the ledger is sound; unless a save failed an honest store holds it; and it lasts
-pub record IsInOrder (saved : Saved) (left : Left) (ledger : LedgerView) (is_failed : Bool) : Type 0 where
-  pub sound : IsSound ledger
-  pub holds : is_failed ≡ false → IsTrue saved.is_honest → HoldsLedger saved ledger
-  pub lasts : Lasts saved left ledger is_failed
+-- No printer was created, for this fault: a stop leaves what it left before, or, if a save failed, the first ledger.
+abbrev pub CreateLeaves : Saved → Left → ℕ → Range → CreateFault → Left → Type 0
+CreateLeaves saved old number range fault new = IsDurable saved → (content : Content) → new content
+    → old content ⊎ ((fault ≡ creating.Device) × (content ≡ Some (ledger_bytes (opening number range))))

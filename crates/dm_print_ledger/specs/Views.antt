@@ -1,5 +1,5 @@
 -- What contracts see of a ledger, of a ticket, of a printer and of a job.
-use Rattle.std.specs.Prelude.{ℕ, Bool, List}
+use Rattle.std.specs.Prelude.{ℕ, Bool, List, Option}
 use Rattle.dm_store.specs.Saved.{Saved}
 use Rattle.dm_finder_frame.specs.Grids.{GridView}
 use Rattle.dm_print_ledger.specs.declared.range.Range.{Range}
@@ -19,11 +19,12 @@ pub record TicketView : Type 0 where
   pub receiver : ℕ
   pub range : Range
 
--- its store, its ledger as last known to be saved, and whether a save failed
+-- its store, its ledger as last known to be saved, whether a save failed, and the ledger that was not saved then
 pub record PrinterView : Type 0 where
   pub saved : Saved
   pub ledger : LedgerView
   pub is_failed : Bool
+  pub unsaved : Option LedgerView
 
 -- its identification, how many labels it had, and those that were not taken yet, in order
 pub record JobView : Type 0 where

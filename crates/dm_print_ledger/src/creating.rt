@@ -1,10 +1,12 @@
 //! Printers that are new.
 
-ghost use Rattle.std.specs.Prelude.{Ok, Err, ◌≡◌, ◌≢◌, None, IsSome, IsTrue, IfOk, IfErr, OnOk, IsErrOf};
+ghost use Rattle.std.specs.Prelude.{Ok, Err, ◌≡◌, ◌≢◌, ◌⊎◌, None, Some, IsSome, IsTrue, IfOk, IfErr, OnOk, IsErrOf};
 ghost use Rattle.dm_store.specs.Saved.{Replaces, MemoryOpen};
 ghost use Rattle.dm_print_ledger.specs.Creating.{FailsToCreate, opening};
 ghost use Rattle.dm_print_ledger.specs.Ledger.{IsSound, ledger_bytes};
 ghost use Rattle.dm_print_ledger.specs.Ranges.{IsRange};
+ghost use Rattle.dm_store.specs.Disk.{Content};
+ghost use Rattle.dm_store.specs.Left.{IsDurable};
 ghost use Rattle.dm_print_ledger.specs.Lasting.{LeavesLedger};
 
 use crate::fault::CreateFault;
@@ -26,6 +28,7 @@ pub struct CreateRefused<S: Store> {
 
 impl<S: Store, A: Allocator + Copy> Printer<S, A> {
     ghost use Rattle.dm_print_ledger.specs.Creating.{Creates, HasCreateFault};
+    ghost use Rattle.dm_print_ledger.specs.Lasting.{CreateLeaves};
 
     /// The printer of a number to which a range is free, on a store that holds nothing: its first ledger is saved. It
     /// takes no memory but the store's.
@@ -43,6 +46,8 @@ impl<S: Store, A: Allocator + Copy> Printer<S, A> {
         ensures ok { IfOk result (Creates (S.state store) number range) }
         ensures fault { IfErr result (λ refused.
             HasCreateFault (S.state store) number range refused.fault (S.state refused.store)) }
+        ensures leaves { IfErr result (λ refused.
+            CreateLeaves (S.state store) (S.left store) number range refused.fault (S.left refused.store)) }
     {
         if !is_range(range) {
             let fault = CreateFault::Range;
@@ -55,7 +60,7 @@ impl<S: Store, A: Allocator + Copy> Printer<S, A> {
                 alloc,
                 store,
                 ledger,
-                is_failed: false,
+                unsaved: None,
             }),
             Err(fault) => Err(CreateRefused { fault, store }),
         }
@@ -84,7 +89,10 @@ fn save_first<S: Store>(store: &mut S, ledger: &Ledger) -> Result<(), CreateFaul
     ensures empty { OnOk result (IsTrue (S.state store.old).is_honest → (S.state store.old).content ≡ None) }
     ensures ok { OnOk result (Replaces (S.state store.old) (ledger_bytes ledger.now) (Ok tt) (S.state store.new)) }
     // Whatever a stop leaves then is this ledger.
-    ensures leaves { OnOk result ((S.left store.new).is_told → LeavesLedger (S.left store.new) ledger.now) }
+    ensures leaves { OnOk result (IsDurable (S.state store.old) → LeavesLedger (S.left store.new) ledger.now) }
+    ensures refused { IfErr result (λ fault. IsDurable (S.state store.old)
+        → (content : Content) → S.left store.new content → S.left store.old content
+        ⊎ ((fault ≡ CreateFault.Device) × (content ≡ Some (ledger_bytes ledger.now)))) }
     ensures exists { IsErrOf result CreateFault.Exists → IsTrue (S.state store.old).is_honest →
         IsSome (S.state store.old).content }
     ensures same { IfErr result (λ fault. fault ≢ CreateFault.Device → S.state store.new ≡ S.state store.old) }

@@ -1,8 +1,8 @@
 //! Laws of printers: each function's contract is the law.
 
-ghost use Rattle.std.specs.Prelude.{◌≡◌, ◌⊎◌, true, false, IsTrue, MatchResult};
+ghost use Rattle.std.specs.Prelude.{◌≡◌, ◌⊎◌, Some, IsTrue, MatchResult};
+ghost use Rattle.dm_store.specs.Left.{IsDurable};
 ghost use Rattle.dm_print_ledger.specs.Opening.{MayFailToLoad};
-ghost use Rattle.dm_print_ledger.specs.Lasting.{IsNext};
 
 use crate::limits::{GREATEST, MOST_BYTES, MOST_GIVERS, MOST_RANGES, TICKET_BYTES};
 use crate::opening::OpenRefused;
@@ -20,19 +20,16 @@ pub fn limits_by_number()
 {}
 
 /// The machine stops, and a printer is opened again on a store that holds what the stop left of its own. It goes on
-/// with the ledger that it had; if its last save failed, with that one or the one that was to be saved. Gives the old
-/// store too, of which the law speaks.
+/// with the ledger that it had, or with the one whose save failed, if one did. Gives the old store too, of which the
+/// law speaks.
 pub fn opened_after_a_stop<S: Store, T: Store, A: Allocator + Copy>(
     alloc: A,
     printer: Printer<S, A>,
     left: T,
 ) -> (S, Result<Printer<T, A>, OpenRefused<T>>)
-    ensures same { printer.is_failed ≡ false → IsTrue printer.saved.is_honest → IsTrue (T.state left).is_honest
-        → (S.left result.0).is_told → (S.left result.0).may_leave (T.state left).content →
-        MatchResult result.1 (λ opened. opened.ledger ≡ printer.ledger) (λ refused. MayFailToLoad refused.fault) }
-    ensures next { printer.is_failed ≡ true → IsTrue printer.saved.is_honest → IsTrue (T.state left).is_honest
-        → (S.left result.0).is_told → (S.left result.0).may_leave (T.state left).content →
-        MatchResult result.1 (λ opened. (opened.ledger ≡ printer.ledger) ⊎ IsNext printer.ledger opened.ledger)
+    ensures { IsDurable printer.saved → IsTrue (T.state left).is_honest → S.left result.0 (T.state left).content →
+        MatchResult result.1
+        (λ opened. (opened.ledger ≡ printer.ledger) ⊎ (printer.unsaved ≡ Some opened.ledger))
         (λ refused. MayFailToLoad refused.fault) }
 {
     let number = printer.number();

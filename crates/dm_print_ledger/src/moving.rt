@@ -24,7 +24,7 @@ impl<S: Store, A: Allocator + Copy> Printer<S, A> {
         ensures sound { IfOk result IsSound }
         ensures cannot { IfErr result (CannotGive self.now receiver range) }
     {
-        if self.is_failed {
+        if self.is_failed() {
             return Err(GiveFault::Failed);
         }
         if !is_range(range) {
@@ -76,7 +76,7 @@ impl<S: Store, A: Allocator + Copy> Printer<S, A> {
         ensures sound { IfOk result IsSound }
         ensures cannot { IfErr result (CannotTake self.now ticket) }
     {
-        if self.is_failed {
+        if self.is_failed() {
             return Err(TakeFault::Failed);
         }
         if ticket.receiver != self.ledger.number || ticket.giver == ticket.receiver {

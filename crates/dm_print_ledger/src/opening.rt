@@ -4,6 +4,7 @@ ghost use Rattle.std.specs.Prelude.{◌≡◌, IsTrue, IfOk, IfErr, MatchResult}
 ghost use Rattle.dm_print_ledger.specs.Ledger.{IsSound};
 ghost use Rattle.dm_print_ledger.specs.Opening.{HasOpenFault};
 ghost use Rattle.dm_print_ledger.specs.Saving.{HoldsLedger};
+ghost use Rattle.dm_store.specs.Left.{IsDurable, LeavesNoMore};
 ghost use Rattle.dm_print_ledger.specs.Lasting.{LeavesLedger};
 
 use crate::fault::OpenFault;
@@ -35,6 +36,9 @@ impl<S: Store, A: Allocator + Copy> Printer<S, A> {
         ensures ok { IfOk result (Opens (S.state store) number) }
         ensures fault { IfErr result (λ refused. HasOpenFault (S.state store) number refused.fault) }
         ensures same { IfErr result (λ refused. S.state refused.store ≡ S.state store) }
+        // Nor does a stop leave more of it.
+        ensures leaves { IfErr result (λ refused.
+            IsDurable (S.state store) → LeavesNoMore (S.left store) (S.left refused.store)) }
         // Of an honest store each refusal stands wherever it applies, unless the load failed.
         ensures exact { (fault : OpenFault) → IsTrue (S.state store).is_honest
             → HoldsNone (S.state store) number fault →
@@ -50,7 +54,7 @@ impl<S: Store, A: Allocator + Copy> Printer<S, A> {
                 alloc,
                 store,
                 ledger,
-                is_failed: false,
+                unsaved: None,
             }),
             Err(fault) => Err(OpenRefused { fault, store }),
         }
@@ -64,7 +68,8 @@ fn load_ledger<S: Store>(store: &mut S, number: u16) -> Result<Ledger, OpenFault
     ensures sound { IfOk result IsSound }
     // Whatever a stop leaves then is this ledger.
     ensures leaves { IfOk result (λ ledger.
-        IsTrue (S.state store.old).is_honest → (S.left store.new).is_told → LeavesLedger (S.left store.new) ledger) }
+        IsDurable (S.state store.old) → LeavesLedger (S.left store.new) ledger) }
+    ensures kept { IsDurable (S.state store.old) → LeavesNoMore (S.left store.old) (S.left store.new) }
     ensures fault { IfErr result (HasOpenFault (S.state store.old) number) }
     ensures same { S.state store.new ≡ S.state store.old }
 {

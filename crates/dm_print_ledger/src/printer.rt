@@ -17,25 +17,37 @@ pub struct Printer<S: Store, A: Allocator + Copy = Global> {
     pub(crate) alloc: A,
     pub(crate) store: S,
     pub(crate) ledger: Ledger,
-    pub(crate) is_failed: bool,
+    /// The ledger whose save failed, if one did.
+    pub(crate) unsaved: Option<Ledger>,
 }
 
 impl<S: Store, A: Allocator + Copy> Model for Printer<S, A> {
+    ghost use Rattle.std.specs.Prelude.{is_some};
     ghost use Rattle.dm_print_ledger.specs.Views.{PrinterView};
     ghost use Rattle.dm_print_ledger.specs.Lasting.{IsInOrder};
 
     ghost Value = { PrinterView };
 
-    ghost view = { λ p. record { saved = S.state p.store; ledger = p.ledger; is_failed = p.is_failed } };
+    ghost view = { λ p. record {
+      saved = S.state p.store;
+      ledger = p.ledger;
+      is_failed = is_some p.unsaved;
+      unsaved = p.unsaved;
+    } };
 
-    ghost invariant = { λ p. IsInOrder (S.state p.store) (S.left p.store) p.ledger p.is_failed };
+    ghost invariant = { λ p. IsInOrder (record {
+      saved = S.state p.store;
+      ledger = p.ledger;
+      is_failed = is_some p.unsaved;
+      unsaved = p.unsaved;
+    }) (S.left p.store) };
 }
 
 impl<S: Store, A: Allocator + Copy> Printer<S, A> {
     ghost use Rattle.dm_print_ledger.specs.Ledger.{IsSound};
     ghost use Rattle.dm_print_ledger.specs.Ranges.{free_count};
     ghost use Rattle.dm_print_ledger.specs.Saving.{Saves, FailsToSave};
-    ghost use Rattle.dm_print_ledger.specs.Lasting.{IsNext, Lasts};
+    ghost use Rattle.dm_print_ledger.specs.Lasting.{IsInOrder};
     ghost use Rattle.dm_store.specs.Saved.{MemoryOpen};
 
     /// How many identifications are free, as last known to be saved: 0 to 64,516.
@@ -53,10 +65,17 @@ impl<S: Store, A: Allocator + Copy> Printer<S, A> {
         self.ledger.number
     }
 
+    /// Whether a save failed, after which it saves no more.
+    pub(crate) fn is_failed(&self) -> bool
+        ensures { result ≡ self.now.is_failed }
+    {
+        self.unsaved.is_some()
+    }
+
     /// Its store, lent: what a stop of the machine may leave of the printer at this moment.
     pub fn store(&self) -> &S
         ensures state { S.state result.now ≡ self.now.saved }
-        ensures lasts { Lasts self.now.saved (S.left result.now) self.now.ledger self.now.is_failed }
+        ensures order { IsInOrder self.now (S.left result.now) }
     {
         &self.store
     }
@@ -64,13 +83,13 @@ impl<S: Store, A: Allocator + Copy> Printer<S, A> {
     /// Gives its store back.
     pub fn close(self) -> S
         ensures state { S.state result ≡ self.saved }
-        ensures lasts { Lasts self.saved (S.left result) self.ledger self.is_failed }
+        ensures order { IsInOrder self (S.left result) }
     {
         let Printer {
             alloc: _,
             store,
             ledger: _,
-            is_failed: _,
+            unsaved: _,
         } = self;
         store
     }
@@ -79,7 +98,7 @@ impl<S: Store, A: Allocator + Copy> Printer<S, A> {
     pub(crate) fn save(&mut self, next: Ledger) -> Result<(), ReplaceFault>
         requires running { self.old.is_failed ≡ false }
         requires sound { IsSound next }
-        requires next { IsNext self.old.ledger next }
+        requires number { next.number ≡ self.old.ledger.number }
         ensures ok { OnOk result (Saves self.old next self.new) }
         ensures memory { IsErrOf result ReplaceFault.Memory → self.new ≡ self.old }
         ensures plan { IsErrOf result ReplaceFault.Memory → self.old.saved.memory_plan ≡ MemoryOpen }
@@ -93,7 +112,7 @@ impl<S: Store, A: Allocator + Copy> Printer<S, A> {
             }
             Err(ReplaceFault::Memory) => Err(ReplaceFault::Memory),
             Err(ReplaceFault::Device) => {
-                self.is_failed = true;
+                self.unsaved = Some(next);
                 Err(ReplaceFault::Device)
             }
         }

@@ -27,7 +27,7 @@ impl<S: Store, A: Allocator + Copy> Printer<S, A> {
         ensures made { IfOk result (λ made. Makes self.now.ledger size scheme document.now made.0 made.1) }
         ensures none { IfErr result (MakesNone self.now size scheme document.now) }
     {
-        if self.is_failed {
+        if self.is_failed() {
             return Err(PrintFault::Failed);
         }
         let Ok(ends) = cut(document, size, scheme) else {

@@ -1,8 +1,7 @@
 -- What a stop may leave of a set, after a call on one key. In a folder it follows from what it may leave of the key's
 -- file, since no other key's file is touched; in memory a stop leaves what is held.
-use Rattle.std.proofs.Common.{◌≡◌, ◌≢◌, ◌⊎◌, ◌<◌, ◌^◌, ◌∙◌, ◌↔◌, inl, inr, ⊎_elim, ℕ, List, Bool, Option, Some, None, Result, Ok, Err, refl, sym, ap}
+use Rattle.std.proofs.Common.{◌≡◌, ◌≢◌, ◌⊎◌, ◌<◌, ◌^◌, ◌∙◌, inl, inr, ⊎_elim, ℕ, List, Bool, Option, Some, None, Result, Ok, Err, refl, sym, ap}
 use Rattle.std.specs.Prelude.{IsTrue, IsErrOf, IsOk, IfOk, IsSome}
-use Rattle.std.specs.FinMap as map
 use Rattle.std.proofs.lemmas.Bool.{cases_eq}
 use Rattle.dm_store.specs.declared.store.LoadFault.{LoadFault}
 use Rattle.dm_store.specs.declared.store.ReplaceFault.{ReplaceFault}
@@ -14,8 +13,8 @@ use Rattle.dm_store.specs.Sets.{outcome_of_remove}
 use Rattle.dm_store.specs.Disk.{DiskState, Content, Keeps, KeepsAll, SavesFile, RemovesFile, IsSettled, draft_of}
 use Rattle.dm_store.specs.Folder.{key_path, found_in, set_in}
 use Rattle.dm_store.specs.Left.{LoadKeyLeaves, SaveKeyLeaves, AreOnDisk, left_in}
-use Rattle.dm_store.proofs.Held.{held_at}
-use Rattle.dm_store.proofs.InFolder.{found_is, replace_keeps, remove_keeps}
+use Rattle.dm_store.specs.HeldIsLeft.{held_at, found_is}
+use Rattle.dm_store.proofs.InFolder.{replace_keeps, remove_keeps}
 
 if_ok : {T F : Type 0} {P Q : T → Type 0} (answer : Result T F) → ((x : T) → P x → Q x) → IfOk answer P → IfOk answer Q
 if_ok (Ok x) implies is = implies x is
@@ -44,67 +43,55 @@ done_remove (Err removing.Device) is = cc
 done_remove (Err removing.Memory) is = cc
 
 module _ (old new : DiskState) (folder : List ℕ) (honesty : new.is_honest ≡ old.is_honest) (is_synced : Bool) where
-  told_both : (left_in is_synced new folder).is_told ↔ (left_in is_synced old folder).is_told
-  told_both = ((λ told. (told.0, sym honesty ∙ told.1)), (λ told. (told.0, honesty ∙ told.1)))
-
-  was_honest : (left_in is_synced new folder).is_told → IsTrue old.is_honest
-  was_honest told = sym honesty ∙ told.1
-
   pub load_leaves : {V : Type 0} (key : ℕ) (answer : Result (Option V) LoadFault) → key < 2 ^ 16 → KeepsAll old new
       → (IsTrue old.is_honest → old.is_synced (key_path folder key)
       → IfOk answer (λ loaded. IsSome loaded → IsSettled new (key_path folder key)))
       → AreOnDisk is_synced old folder →
-      LoadKeyLeaves (left_in is_synced old folder) key (map.get (set_in old folder).content key) answer
-      (left_in is_synced new folder)
+      LoadKeyLeaves (set_in is_synced old folder) (left_in old folder) key answer (left_in new folder)
   load_leaves key answer lt kept settles on_disk = record {
-    keeps = record {
-      told = told_both;
-      kept = λ told other content leaves. (leaves.0, (kept (key_path folder other)).left content leaves.1);
-    };
-    settles = λ told. let honest = was_honest told in
+    kept = λ durable other content leaves. (leaves.0, (kept (key_path folder other)).left content leaves.1);
+    settles = λ durable.
         if_ok answer (λ loaded settled some content leaves. settled some content leaves.1
-        ∙ (kept (key_path folder key)).seen ∙ sym (found_is old folder key honest)
+        ∙ (kept (key_path folder key)).seen ∙ sym (found_is old folder key durable.0)
         ∙ sym (held_at (found_in old folder) (2 ^ 16) key lt))
-        (settles honest (on_disk told.0 honest key lt));
+        (settles durable.0 (on_disk durable.1 durable.0 key lt));
   }
 
   pub replace_leaves : (key : ℕ) (bytes : List ℕ) (answer : Result (Unit {0}) ReplaceFault) → key < 2 ^ 16
       → (IsErrOf answer replacing.Memory → KeepsAll old new)
       → (IsTrue old.is_honest
       → SavesFile old (key_path folder key) (draft_of (key_path folder key)) bytes answer new) →
-      SaveKeyLeaves (left_in is_synced old folder) key (Some bytes) (outcome_of answer) (left_in is_synced new folder)
+      SaveKeyLeaves (set_in is_synced old folder) (left_in old folder) key (Some bytes) (outcome_of answer)
+      (left_in new folder)
   replace_leaves key bytes answer lt refused saves = record {
-    told = told_both;
-    others = λ told other apart content leaves. (
+    others = λ durable other apart content leaves. (
       leaves.0,
-      (replace_keeps old new folder honesty key bytes answer lt saves (was_honest told) other leaves.0 apart).left
+      (replace_keeps old new folder honesty is_synced key bytes answer lt saves durable.0 other leaves.0 apart).left
           content leaves.1,
     );
-    kept = λ is told content leaves.
+    kept = λ is durable content leaves.
         (leaves.0, (refused (refused_replace answer is) (key_path folder key)).left content leaves.1);
-    either = λ told content leaves. ⊎_elim (λ before. inl (leaves.0, before)) (λ after. inr after)
-        ((saves (was_honest told)).left content leaves.1);
-    lasting = λ is told content leaves.
-        (saves (was_honest told)).lasting (done_replace answer is) content leaves.1;
+    either = λ durable content leaves. ⊎_elim (λ before. inl (leaves.0, before)) (λ after. inr after)
+        ((saves durable.0).left content leaves.1);
+    lasting = λ is durable content leaves. (saves durable.0).lasting (done_replace answer is) content leaves.1;
   }
 
   pub remove_leaves : (key : ℕ) (answer : Result (Unit {0}) RemoveFault) → key < 2 ^ 16
       → (IsErrOf answer removing.Memory → KeepsAll old new)
       → (IsTrue old.is_honest → RemovesFile old (key_path folder key) answer new) →
-      SaveKeyLeaves (left_in is_synced old folder) key None (outcome_of_remove answer) (left_in is_synced new folder)
+      SaveKeyLeaves (set_in is_synced old folder) (left_in old folder) key None (outcome_of_remove answer)
+      (left_in new folder)
   remove_leaves key answer lt refused removes = record {
-    told = told_both;
-    others = λ told other apart content leaves. (
+    others = λ durable other apart content leaves. (
       leaves.0,
-      (remove_keeps old new folder honesty key answer lt removes (was_honest told) other leaves.0 apart).left
+      (remove_keeps old new folder honesty is_synced key answer lt removes durable.0 other leaves.0 apart).left
           content leaves.1,
     );
-    kept = λ is told content leaves.
+    kept = λ is durable content leaves.
         (leaves.0, (refused (refused_remove answer is) (key_path folder key)).left content leaves.1);
-    either = λ told content leaves. ⊎_elim (λ before. inl (leaves.0, before)) (λ after. inr after)
-        ((removes (was_honest told)).removes.left content leaves.1);
-    lasting = λ is told content leaves.
-        (removes (was_honest told)).lasting (done_remove answer is) content leaves.1;
+    either = λ durable content leaves. ⊎_elim (λ before. inl (leaves.0, before)) (λ after. inr after)
+        ((removes durable.0).removes.left content leaves.1);
+    lasting = λ is durable content leaves. (removes durable.0).lasting (done_remove answer is) content leaves.1;
   }
 
   -- the bytes of each key's file stay on the disk: of the key itself, and of the others
@@ -124,10 +111,10 @@ module _ (old new : DiskState) (folder : List ℕ) (honesty : new.is_honest ≡ 
       → SavesFile old (key_path folder key) (draft_of (key_path folder key)) bytes answer new)
       → AreOnDisk is_synced old folder → AreOnDisk is_synced new folder
   replaced_on_disk key bytes answer lt saves = still_on_disk key (λ honest on. (saves honest).synced (inr on))
-      (replace_keeps old new folder honesty key bytes answer lt saves)
+      (replace_keeps old new folder honesty is_synced key bytes answer lt saves)
 
   pub removed_on_disk : (key : ℕ) (answer : Result (Unit {0}) RemoveFault) → key < 2 ^ 16
       → (IsTrue old.is_honest → RemovesFile old (key_path folder key) answer new)
       → AreOnDisk is_synced old folder → AreOnDisk is_synced new folder
   removed_on_disk key answer lt removes = still_on_disk key (λ honest on. (removes honest).removes.synced (inr on))
-      (remove_keeps old new folder honesty key answer lt removes)
+      (remove_keeps old new folder honesty is_synced key answer lt removes)

@@ -52,22 +52,33 @@ same_save SavesOpen = refl
 
 -- the parts of a store or a set whose content is of type X
 abbrev pub Parts : Type 0 → Type 0
-Parts X = X × (Bool × (Bool × (Bool × (Bool × Bool))))
+Parts X = X × (Bool × (Bool × (Bool × (Bool × (Bool × Bool)))))
 
 abbrev pub parts_code : {X : Type 0} → Coded X → Coded (Parts X)
 parts_code content =
-    coded× content (coded× coded_bool (coded× coded_bool (coded× coded_bool (coded× coded_bool coded_bool))))
+    coded× content (coded× coded_bool (coded× coded_bool
+    (coded× coded_bool (coded× coded_bool (coded× coded_bool coded_bool)))))
 
 abbrev pub saved_parts : Saved → Parts (Option (List ℕ))
-saved_parts s = (s.content, (s.is_honest, (memory_bit s.memory_plan, (load_bit s.load_plan, save_bits s.save_plan))))
+saved_parts s = (
+  s.content,
+  (
+    s.is_honest,
+    (
+      s.is_durable,
+      (memory_bit s.memory_plan, (load_bit s.load_plan, save_bits s.save_plan)),
+    ),
+  ),
+)
 
 abbrev pub saved_whole : Parts (Option (List ℕ)) → Saved
 saved_whole p = record {
   content = p.0;
   is_honest = p.1.0;
-  memory_plan = memory_of p.1.1.0;
-  load_plan = load_of p.1.1.1.0;
-  save_plan = save_of p.1.1.1.1;
+  is_durable = p.1.1.0;
+  memory_plan = memory_of p.1.1.1.0;
+  load_plan = load_of p.1.1.1.1.0;
+  save_plan = save_of p.1.1.1.1.1;
 }
 
 pub saved_whole-parts : (s : Saved) → saved_whole (saved_parts s) ≡ s
@@ -75,6 +86,7 @@ saved_whole-parts s = λ i.
     record {
       content = s.content;
       is_honest = s.is_honest;
+      is_durable = s.is_durable;
       memory_plan = same_memory s.memory_plan i;
       load_plan = same_load s.load_plan i;
       save_plan = same_save s.save_plan i;
@@ -87,15 +99,25 @@ saved_code =
     saved_whole-parts
 
 abbrev pub set_parts : SavedSet → Parts Contents
-set_parts s = (s.content, (s.is_honest, (memory_bit s.memory_plan, (load_bit s.load_plan, save_bits s.save_plan))))
+set_parts s = (
+  s.content,
+  (
+    s.is_honest,
+    (
+      s.is_durable,
+      (memory_bit s.memory_plan, (load_bit s.load_plan, save_bits s.save_plan)),
+    ),
+  ),
+)
 
 abbrev pub set_whole : Parts Contents → SavedSet
 set_whole p = record {
   content = p.0;
   is_honest = p.1.0;
-  memory_plan = memory_of p.1.1.0;
-  load_plan = load_of p.1.1.1.0;
-  save_plan = save_of p.1.1.1.1;
+  is_durable = p.1.1.0;
+  memory_plan = memory_of p.1.1.1.0;
+  load_plan = load_of p.1.1.1.1.0;
+  save_plan = save_of p.1.1.1.1.1;
 }
 
 pub set_whole-parts : (s : SavedSet) → set_whole (set_parts s) ≡ s
@@ -103,6 +125,7 @@ set_whole-parts s = λ i.
     record {
       content = s.content;
       is_honest = s.is_honest;
+      is_durable = s.is_durable;
       memory_plan = same_memory s.memory_plan i;
       load_plan = same_load s.load_plan i;
       save_plan = same_save s.save_plan i;

@@ -12,4 +12,5 @@ pub mod Filed
 pub mod SeenIsLeft
 pub mod Folder
 pub mod Left
+pub mod HeldIsLeft
 pub mod inner

@@ -30,10 +30,12 @@ pub data Outcome : Type 0 where
   Faulted : Outcome
   Refused : Outcome
 
--- what a store holds, whether it is honest (it holds what it was given to hold), and its plans
+-- What a store holds; whether it is honest: it holds what it was given to hold; whether it is durable: the laws of what
+-- a stop of the machine may leave of it (`Left`) hold, if it is honest; and its plans.
 pub record Saved : Type 0 where
   pub content : Option (List ℕ)
   pub is_honest : Bool
+  pub is_durable : Bool
   pub memory_plan : MemoryPlan
   pub load_plan : LoadPlan
   pub save_plan : SavePlan
@@ -81,6 +83,7 @@ HeldAfterFault SavesOpen old new held = (held ≡ old) ⊎ (held ≡ new)
 pub record Replaces
     (old : Saved) (bytes : List ℕ) (answer : Result (Unit {0}) ReplaceFault) (new : Saved) : Type 0 where
   pub same_honesty : new.is_honest ≡ old.is_honest
+  pub same_durability : new.is_durable ≡ old.is_durable
   pub same_memory_plan : new.memory_plan ≡ old.memory_plan
   pub same_load_plan : new.load_plan ≡ old.load_plan
   pub follows : Follows old.save_plan (outcome_of answer) new.save_plan

@@ -14,11 +14,12 @@ use Rattle.dm_store.specs.Saved.{MemoryPlan, MemoryOpen, LoadPlan, LoadsOpen, Sa
 abbrev pub Contents : Type 0
 Contents = map.FinMap nat_cmp (List ℕ)
 
--- what a set holds, whether it is honest, and its plans: one for memory, one for loads of bytes and of keys, one for
--- the next save
+-- what a set holds, whether it is honest and durable, and its plans: one for memory, one for loads of bytes and of
+-- keys, one for the next save
 pub record SavedSet : Type 0 where
   pub content : Contents
   pub is_honest : Bool
+  pub is_durable : Bool
   pub memory_plan : MemoryPlan
   pub load_plan : LoadPlan
   pub save_plan : SavePlan
@@ -43,6 +44,7 @@ pub record LoadsKey {V : Type 0} (bytes : V → List ℕ)
 -- the set before and after a save that is to leave this content, and how it ended
 pub record Saves (old : SavedSet) (content : Contents) (outcome : Outcome) (new : SavedSet) : Type 0 where
   pub same_honesty : new.is_honest ≡ old.is_honest
+  pub same_durability : new.is_durable ≡ old.is_durable
   pub same_memory_plan : new.memory_plan ≡ old.memory_plan
   pub same_load_plan : new.load_plan ≡ old.load_plan
   pub follows : Follows old.save_plan outcome new.save_plan

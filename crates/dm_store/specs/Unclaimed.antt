@@ -20,15 +20,16 @@ abbrev pub unclaimed_set : SavedSet
 unclaimed_set = record {
   content = map.empty;
   is_honest = false;
+  is_durable = false;
   memory_plan = MemoryOpen;
   load_plan = LoadsOpen;
   save_plan = SavesOpen;
 }
 
--- it is not told what a stop leaves of a store
-abbrev pub untold : Left
-untold = record { is_told = ⊥; may_leave = λ content. ⊤ }
+-- nothing is said of what a stop leaves of a store
+abbrev pub anything_left : Left
+anything_left = λ content. ⊤
 
 -- nor of a set
-abbrev pub untold_set : SetLeft
-untold_set = record { is_told = ⊥; may_leave = λ key content. ⊤ }
+abbrev pub anything_left_of_set : SetLeft
+anything_left_of_set = λ key content. ⊤

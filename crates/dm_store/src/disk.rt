@@ -87,7 +87,7 @@ pub trait Folders: Disk {
     ghost use Rattle.std.specs.Prelude.{◌+◌, IfOk, take};
     ghost use Rattle.std.specs.FinMap as map;
     ghost use Rattle.dm_store.specs.Disk.{KeepsAll};
-    ghost use Rattle.dm_store.specs.Folder.{set_in};
+    ghost use Rattle.dm_store.specs.Folder.{contents_in};
 
     /// Makes the folder, if it isn't there, and brings its entry in the folder above it to the disk in either case. What
     /// is said of the files in it rests on that.
@@ -101,5 +101,5 @@ pub trait Folders: Disk {
         ensures honesty { (Self.state self.new).is_honest ≡ (Self.state self.old).is_honest }
         ensures kept { KeepsAll (Self.state self.old) (Self.state self.new) }
         ensures lists { IsTrue (Self.state self.old).is_honest → IfOk result (λ keys.
-            keys.items ≡ take (limit + 1) (map.keys (set_in (Self.state self.old) folder.now).content)) };
+            keys.items ≡ take (limit + 1) (map.keys (contents_in (Self.state self.old) folder.now))) };
 }

@@ -27,8 +27,8 @@ use std::marker::Model;
 /// The file of a key has the key as its name, in four lower-case hexadecimal digits, and is replaced as that of a
 /// [`FileStore`](crate::FileStore). Files of other names are not looked at. A folder that isn't there has no keys, and
 /// the first `replace` makes it (but not the folders that it lies in). Each `replace` brings the folder's own entry to
-/// the disk first, and each `remove` that of the key, also if no file has it. What a stop leaves is told of a set that
-/// was made by [`FileSet::of_synced`], and not of one by [`FileSet::new`].
+/// the disk first, and each `remove` that of the key, also if no file has it. A set that was made by
+/// [`FileSet::of_synced`] is durable, and one that was made by [`FileSet::new`] isn't.
 #[derive(Drop)]
 pub struct FileSet<D: Folders, A: Allocator + Copy = Global> {
     alloc: A,
@@ -63,7 +63,7 @@ impl<D: Folders, A: Allocator + Copy> FileSet<D, A> {
     }
 
     /// The same, of a folder in which the bytes of each key's file that is there are on the disk, as those that a save
-    /// put there are. Then it is told what a stop leaves.
+    /// put there are. Such a set is durable.
     pub fn of_synced(alloc: A, disk: D, folder: String<A>) -> FileSet<D, A>
         requires on_disk { IsTrue (D.state disk).is_honest
             → (key : ℕ) → key < 2 ^ 16 → (D.state disk).is_synced (key_path (string_bytes folder) key) }
@@ -158,19 +158,30 @@ impl<D: Folders, A: Allocator + Copy> StoreSet for FileSet<D, A> {
     ghost use Rattle.std.specs.FinMap as map;
     ghost use Rattle.dm_store.specs.Saved.{outcome_of};
     ghost use Rattle.dm_store.specs.Sets.{outcome_of_remove};
-    ghost use Rattle.dm_store.specs.Left.{KeysLeave, LoadKeyLeaves, SaveKeyLeaves, left_in};
+    ghost use Rattle.dm_store.specs.HeldIsLeft.{held_is_left};
+    ghost use Rattle.dm_store.specs.Left.{
+      IsDurableSet,
+      SetLeavesNoMore,
+      LoadKeyLeaves,
+      SaveKeyLeaves,
+      left_in,
+    };
 
     type Memory = D::Memory;
 
-    ghost state = { λ f. set_in (D.state f.disk) f.path };
+    ghost state = { λ f. set_in f.is_synced (D.state f.disk) f.path };
 
-    ghost left = { λ f. left_in f.is_synced (D.state f.disk) f.path };
+    ghost left = { λ f. left_in (D.state f.disk) f.path };
+
+    ghost leaves_held = { λ f. held_is_left f.is_synced (D.state f.disk) f.path (D.leaves_seen f.disk) };
 
     fn keys(&mut self, limit: usize) -> Result<Vec<u16, D::Memory>, LoadFault>
-        ensures lists { ListsKeys (λ keys. keys.items) (set_in (D.state self.old.disk) self.old.path) limit result
-            (set_in (D.state self.new.disk) self.new.path) }
-        ensures leaves { KeysLeave (left_in self.old.is_synced (D.state self.old.disk) self.old.path)
-            (left_in self.new.is_synced (D.state self.new.disk) self.new.path) }
+        ensures lists { ListsKeys (λ keys. keys.items)
+            (set_in self.old.is_synced (D.state self.old.disk) self.old.path) limit result
+            (set_in self.new.is_synced (D.state self.new.disk) self.new.path) }
+        ensures leaves { IsDurableSet (set_in self.old.is_synced (D.state self.old.disk) self.old.path)
+            → SetLeavesNoMore (left_in (D.state self.old.disk) self.old.path)
+            (left_in (D.state self.new.disk) self.new.path) }
         ensures folder { self.new.path ≡ self.old.path }
         ensures synced { self.new.is_synced ≡ self.old.is_synced }
         ensures kept { KeepsAll (D.state self.old.disk) (D.state self.new.disk) }
@@ -179,11 +190,11 @@ impl<D: Folders, A: Allocator + Copy> StoreSet for FileSet<D, A> {
     }
 
     fn load(&mut self, key: u16, limit: usize) -> Result<Option<Vec<u8, D::Memory>>, LoadFault>
-        ensures loads { LoadsKey (λ bytes. bytes.items) (set_in (D.state self.old.disk) self.old.path) key limit result
-            (set_in (D.state self.new.disk) self.new.path) }
-        ensures leaves { LoadKeyLeaves (left_in self.old.is_synced (D.state self.old.disk) self.old.path) key
-            (map.get (set_in (D.state self.old.disk) self.old.path).content key) result
-            (left_in self.new.is_synced (D.state self.new.disk) self.new.path) }
+        ensures loads { LoadsKey (λ bytes. bytes.items)
+            (set_in self.old.is_synced (D.state self.old.disk) self.old.path) key limit result
+            (set_in self.new.is_synced (D.state self.new.disk) self.new.path) }
+        ensures leaves { LoadKeyLeaves (set_in self.old.is_synced (D.state self.old.disk) self.old.path)
+            (left_in (D.state self.old.disk) self.old.path) key result (left_in (D.state self.new.disk) self.new.path) }
         ensures folder { self.new.path ≡ self.old.path }
         ensures synced { self.new.is_synced ≡ self.old.is_synced }
         ensures kept { KeepsAll (D.state self.old.disk) (D.state self.new.disk) }
@@ -197,11 +208,11 @@ impl<D: Folders, A: Allocator + Copy> StoreSet for FileSet<D, A> {
     }
 
     fn replace(&mut self, key: u16, bytes: &[u8]) -> Result<(), ReplaceFault>
-        ensures replaces { ReplacesKey (set_in (D.state self.old.disk) self.old.path) key bytes.now result
-            (set_in (D.state self.new.disk) self.new.path) }
-        ensures leaves { SaveKeyLeaves (left_in self.old.is_synced (D.state self.old.disk) self.old.path) key
-            (Some bytes.now) (outcome_of result)
-            (left_in self.new.is_synced (D.state self.new.disk) self.new.path) }
+        ensures replaces { ReplacesKey (set_in self.old.is_synced (D.state self.old.disk) self.old.path) key bytes.now
+            result (set_in self.new.is_synced (D.state self.new.disk) self.new.path) }
+        ensures leaves { SaveKeyLeaves (set_in self.old.is_synced (D.state self.old.disk) self.old.path)
+            (left_in (D.state self.old.disk) self.old.path) key (Some bytes.now) (outcome_of result)
+            (left_in (D.state self.new.disk) self.new.path) }
         ensures folder { self.new.path ≡ self.old.path }
         ensures synced { self.new.is_synced ≡ self.old.is_synced }
         ensures refused { IsErrOf result ReplaceFault.Memory
@@ -218,11 +229,11 @@ impl<D: Folders, A: Allocator + Copy> StoreSet for FileSet<D, A> {
     }
 
     fn remove(&mut self, key: u16) -> Result<(), RemoveFault>
-        ensures removes { RemovesKey (set_in (D.state self.old.disk) self.old.path) key result
-            (set_in (D.state self.new.disk) self.new.path) }
-        ensures leaves { SaveKeyLeaves (left_in self.old.is_synced (D.state self.old.disk) self.old.path) key None
-            (outcome_of_remove result)
-            (left_in self.new.is_synced (D.state self.new.disk) self.new.path) }
+        ensures removes { RemovesKey (set_in self.old.is_synced (D.state self.old.disk) self.old.path) key result
+            (set_in self.new.is_synced (D.state self.new.disk) self.new.path) }
+        ensures leaves { SaveKeyLeaves (set_in self.old.is_synced (D.state self.old.disk) self.old.path)
+            (left_in (D.state self.old.disk) self.old.path) key None (outcome_of_remove result)
+            (left_in (D.state self.new.disk) self.new.path) }
         ensures folder { self.new.path ≡ self.old.path }
         ensures synced { self.new.is_synced ≡ self.old.is_synced }
         ensures refused { IsErrOf result RemoveFault.Memory

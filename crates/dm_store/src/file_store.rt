@@ -26,8 +26,8 @@ use std::marker::Model;
 ///
 /// A `load` syncs the folder before it answers, so that no stop takes back what it gives of a file whose bytes are on
 /// the disk, as those of a save are. It does not sync the bytes: those of a file that somebody else put there, and did
-/// not sync, a stop may take back. So what a stop leaves is told of a store that was made by [`FileStore::of_synced`],
-/// and not of one by [`FileStore::new`]. A load answers `None` if the file or its folder isn't there.
+/// not sync, a stop may take back. So a store that was made by [`FileStore::of_synced`] is durable, and one that was
+/// made by [`FileStore::new`] isn't. A load answers `None` if the file or its folder isn't there.
 #[derive(Drop)]
 pub struct FileStore<D: Disk, A: Allocator + Copy = Global> {
     alloc: A,
@@ -61,8 +61,8 @@ impl<D: Disk, A: Allocator + Copy> FileStore<D, A> {
         }
     }
 
-    /// The same, of a file whose bytes are on the disk if it is there, as those that a save put there are. Then it is
-    /// told what a stop leaves: whenever the machine stops, what a load gave stays, and so does what was saved.
+    /// The same, of a file whose bytes are on the disk if it is there, as those that a save put there are. Such a
+    /// store is durable: whenever the machine stops, what a load gave stays, and so does what was saved.
     pub fn of_synced(alloc: A, disk: D, path: String<A>) -> FileStore<D, A>
         requires on_disk { IsTrue (D.state disk).is_honest → (D.state disk).is_synced (string_bytes path) }
         ensures { result ≡ record { disk = disk; path = string_bytes path; is_synced = true } }
@@ -155,21 +155,24 @@ impl<D: Disk, A: Allocator + Copy> Store for FileStore<D, A> {
     ghost use Rattle.dm_store.specs.Saved.{Loads, Replaces};
     ghost use Rattle.dm_store.specs.Disk.{IsSettled};
     ghost use Rattle.dm_store.specs.Filed.{saved_under};
-    ghost use Rattle.dm_store.specs.Left.{LoadLeaves, SaveLeaves, left_under};
+    ghost use Rattle.dm_store.specs.Left.{LoadLeaves, SaveLeaves};
     ghost use Rattle.dm_store.specs.Saved.{outcome_of};
 
     type Memory = D::Memory;
 
-    ghost state = { λ f. saved_under (D.state f.disk) f.path };
+    ghost state = { λ f. saved_under f.is_synced (D.state f.disk) f.path };
 
-    ghost left = { λ f. left_under f.is_synced (D.state f.disk) f.path };
+    ghost left = { λ f. (D.state f.disk).may_leave f.path };
+
+    ghost leaves_held = { λ f durable. D.leaves_seen f.disk f.path durable.0 };
 
     fn load(&mut self, limit: usize) -> Result<Option<Vec<u8, D::Memory>>, LoadFault>
-        ensures loads { Loads (λ bytes. bytes.items) (saved_under (D.state self.old.disk) self.old.path) limit result
-            (saved_under (D.state self.new.disk) self.new.path) }
-        ensures leaves { LoadLeaves (left_under self.old.is_synced (D.state self.old.disk) self.old.path)
-            ((D.state self.old.disk).seen self.old.path) result
-            (left_under self.new.is_synced (D.state self.new.disk) self.new.path) }
+        ensures loads { Loads (λ bytes. bytes.items)
+            (saved_under self.old.is_synced (D.state self.old.disk) self.old.path) limit result
+            (saved_under self.new.is_synced (D.state self.new.disk) self.new.path) }
+        ensures leaves { LoadLeaves (saved_under self.old.is_synced (D.state self.old.disk) self.old.path)
+            ((D.state self.old.disk).may_leave self.old.path) result
+            ((D.state self.new.disk).may_leave self.new.path) }
         ensures path { self.new.path ≡ self.old.path }
         ensures synced { self.new.is_synced ≡ self.old.is_synced }
         ensures kept { KeepsAll (D.state self.old.disk) (D.state self.new.disk) }
@@ -182,10 +185,11 @@ impl<D: Disk, A: Allocator + Copy> Store for FileStore<D, A> {
     }
 
     fn replace(&mut self, bytes: &[u8]) -> Result<(), ReplaceFault>
-        ensures replaces { Replaces (saved_under (D.state self.old.disk) self.old.path) bytes.now result
-            (saved_under (D.state self.new.disk) self.new.path) }
-        ensures leaves { SaveLeaves (left_under self.old.is_synced (D.state self.old.disk) self.old.path) bytes.now
-            (outcome_of result) (left_under self.new.is_synced (D.state self.new.disk) self.new.path) }
+        ensures replaces { Replaces (saved_under self.old.is_synced (D.state self.old.disk) self.old.path) bytes.now
+            result (saved_under self.new.is_synced (D.state self.new.disk) self.new.path) }
+        ensures leaves { SaveLeaves (saved_under self.old.is_synced (D.state self.old.disk) self.old.path)
+            ((D.state self.old.disk).may_leave self.old.path) bytes.now (outcome_of result)
+            ((D.state self.new.disk).may_leave self.new.path) }
         ensures path { self.new.path ≡ self.old.path }
         ensures synced { self.new.is_synced ≡ self.old.is_synced }
         ensures refused { IsErrOf result ReplaceFault.Memory

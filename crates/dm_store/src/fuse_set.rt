@@ -56,7 +56,7 @@ impl<S: StoreSet> StoreSet for FuseSet<S> {
     ghost use Rattle.std.specs.FinMap as map;
     ghost use Rattle.dm_store.specs.Saved.{outcome_of};
     ghost use Rattle.dm_store.specs.Sets.{ListsKeys, LoadsKey, ReplacesKey, RemovesKey, outcome_of_remove};
-    ghost use Rattle.dm_store.specs.Left.{KeysLeave, LoadKeyLeaves, SaveKeyLeaves};
+    ghost use Rattle.dm_store.specs.Left.{IsDurableSet, SetLeavesNoMore, LoadKeyLeaves, SaveKeyLeaves};
     ghost use Rattle.dm_store.specs.Turns.{turn_of_load, turn_of_save, after_call};
     ghost use Rattle.dm_store.specs.Fused.{set_with_open_plans, IsMadeAndStopped};
 
@@ -66,10 +66,13 @@ impl<S: StoreSet> StoreSet for FuseSet<S> {
 
     ghost left = { λ fused. S.left fused.inner };
 
+    ghost leaves_held = { λ fused. S.leaves_held fused.inner };
+
     fn keys(&mut self, limit: usize) -> Result<Vec<u16, S::Memory>, LoadFault>
         ensures lists { ListsKeys (λ keys. keys.items) (set_with_open_plans (S.state self.old.inner)) limit result
             (set_with_open_plans (S.state self.new.inner)) }
-        ensures leaves { KeysLeave (S.left self.old.inner) (S.left self.new.inner) }
+        ensures leaves { IsDurableSet (set_with_open_plans (S.state self.old.inner))
+            → SetLeavesNoMore (S.left self.old.inner) (S.left self.new.inner) }
         ensures passes { turn_of_load self.old.left ≡ Turn.Passes
             → ListsKeys (λ keys. keys.items) (S.state self.old.inner) limit result (S.state self.new.inner) }
         ensures stopped { turn_of_load self.old.left ≡ Turn.Stopped
@@ -85,7 +88,7 @@ impl<S: StoreSet> StoreSet for FuseSet<S> {
     fn load(&mut self, key: u16, limit: usize) -> Result<Option<Vec<u8, S::Memory>>, LoadFault>
         ensures loads { LoadsKey (λ bytes. bytes.items) (set_with_open_plans (S.state self.old.inner)) key limit result
             (set_with_open_plans (S.state self.new.inner)) }
-        ensures leaves { LoadKeyLeaves (S.left self.old.inner) key (map.get (S.state self.old.inner).content key) result
+        ensures leaves { LoadKeyLeaves (set_with_open_plans (S.state self.old.inner)) (S.left self.old.inner) key result
             (S.left self.new.inner) }
         ensures passes { turn_of_load self.old.left ≡ Turn.Passes
             → LoadsKey (λ bytes. bytes.items) (S.state self.old.inner) key limit result (S.state self.new.inner) }
@@ -102,8 +105,8 @@ impl<S: StoreSet> StoreSet for FuseSet<S> {
     fn replace(&mut self, key: u16, bytes: &[u8]) -> Result<(), ReplaceFault>
         ensures replaces { ReplacesKey (set_with_open_plans (S.state self.old.inner)) key bytes.now result
             (set_with_open_plans (S.state self.new.inner)) }
-        ensures leaves { SaveKeyLeaves (S.left self.old.inner) key (Some bytes.now) (outcome_of result)
-            (S.left self.new.inner) }
+        ensures leaves { SaveKeyLeaves (set_with_open_plans (S.state self.old.inner)) (S.left self.old.inner) key
+            (Some bytes.now) (outcome_of result) (S.left self.new.inner) }
         ensures passes { turn_of_save self.old.left self.old.kept ≡ Turn.Passes
             → ReplacesKey (S.state self.old.inner) key bytes.now result (S.state self.new.inner) }
         ensures made { turn_of_save self.old.left self.old.kept ≡ Turn.Made
@@ -126,8 +129,8 @@ impl<S: StoreSet> StoreSet for FuseSet<S> {
     fn remove(&mut self, key: u16) -> Result<(), RemoveFault>
         ensures removes { RemovesKey (set_with_open_plans (S.state self.old.inner)) key result
             (set_with_open_plans (S.state self.new.inner)) }
-        ensures leaves { SaveKeyLeaves (S.left self.old.inner) key None (outcome_of_remove result)
-            (S.left self.new.inner) }
+        ensures leaves { SaveKeyLeaves (set_with_open_plans (S.state self.old.inner)) (S.left self.old.inner) key None
+            (outcome_of_remove result) (S.left self.new.inner) }
         ensures passes { turn_of_save self.old.left self.old.kept ≡ Turn.Passes
             → RemovesKey (S.state self.old.inner) key result (S.state self.new.inner) }
         ensures made { turn_of_save self.old.left self.old.kept ≡ Turn.Made

@@ -62,10 +62,12 @@ impl<S: Store> Store for FuseStore<S> {
 
     ghost left = { λ fused. S.left fused.inner };
 
+    ghost leaves_held = { λ fused. S.leaves_held fused.inner };
+
     fn load(&mut self, limit: usize) -> Result<Option<Vec<u8, S::Memory>>, LoadFault>
         ensures loads { Loads (λ bytes. bytes.items) (with_open_plans (S.state self.old.inner)) limit result
             (with_open_plans (S.state self.new.inner)) }
-        ensures leaves { LoadLeaves (S.left self.old.inner) (S.state self.old.inner).content result
+        ensures leaves { LoadLeaves (with_open_plans (S.state self.old.inner)) (S.left self.old.inner) result
             (S.left self.new.inner) }
         ensures passes { turn_of_load self.old.left ≡ Turn.Passes
             → Loads (λ bytes. bytes.items) (S.state self.old.inner) limit result (S.state self.new.inner) }
@@ -82,7 +84,8 @@ impl<S: Store> Store for FuseStore<S> {
     fn replace(&mut self, bytes: &[u8]) -> Result<(), ReplaceFault>
         ensures replaces { Replaces (with_open_plans (S.state self.old.inner)) bytes.now result
             (with_open_plans (S.state self.new.inner)) }
-        ensures leaves { SaveLeaves (S.left self.old.inner) bytes.now (outcome_of result) (S.left self.new.inner) }
+        ensures leaves { SaveLeaves (with_open_plans (S.state self.old.inner)) (S.left self.old.inner) bytes.now
+            (outcome_of result) (S.left self.new.inner) }
         ensures passes { turn_of_save self.old.left self.old.kept ≡ Turn.Passes
             → Replaces (S.state self.old.inner) bytes.now result (S.state self.new.inner) }
         ensures made { turn_of_save self.old.left self.old.kept ≡ Turn.Made

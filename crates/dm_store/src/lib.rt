@@ -1,15 +1,15 @@
 //! Places for saved bytes: one list of bytes, or one for each key; in memory, in files, and behind a fuse.
 //!
-//! What saves is generic over [`Store`] or [`StoreSet`]. Contracts see of each what it holds, whether it is honest,
-//! what its loads may do, and what its next save does. Proved of each store and set here:
+//! What saves is generic over [`Store`] or [`StoreSet`]. Contracts see of each what it holds, whether it is honest and
+//! durable, what its loads may do, and what its next save does. Proved of each store and set here:
 //!
 //! - A load changes nothing. Of an honest store it gives the content, cut after `limit + 1` bytes or keys. It meets a
 //!   device fault only where loads may.
 //! - After a save that answers `Ok` an honest store holds the new content. After `Memory` nothing has changed. After
 //!   `Device` it holds the old or the new content, as its plan for the save said. An honest set changes no other key.
-//! - No call changes the honesty or what loads may do.
-//! - What a stop of the machine may leave, where a store tells it, is what a load gave or what a save that is done put
-//!   there; in a save, or after one that failed, it is what might have been left before, or the new bytes.
+//! - No call changes the honesty, the durability or what loads may do.
+//! - What a stop of the machine may leave of a durable store is what a load gave or what a save that is done put there;
+//!   in a save, or after one that failed, it is what might have been left before, or the new bytes.
 //!
 //! [`MemStore`] and [`MemSet`] are honest, and meet a device fault exactly where they were set to. [`FuseStore`] and
 //! [`FuseSet`] stop after a number of calls, over any store or set. [`KeyMap`] is the map that a set in memory is made

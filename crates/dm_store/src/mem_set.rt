@@ -62,6 +62,7 @@ impl<A: Allocator + Copy> Model for MemSet<A> {
     ghost view = { λ m. record {
       content = m.held;
       is_honest = true;
+      is_durable = true;
       memory_plan = MemoryOpen;
       load_plan = load_plan_of m.fails_loads;
       save_plan = save_plan_of m.next_save;
@@ -77,6 +78,7 @@ impl<A: Allocator + Copy> MemSet<A> {
         ensures { result ≡ record {
           content = map.empty;
           is_honest = true;
+          is_durable = true;
           memory_plan = MemoryOpen;
           load_plan = LoadsFine;
           save_plan = SavesFine;
@@ -162,7 +164,7 @@ impl<A: Allocator + Copy> MemSet<A> {
 
 impl<A: Allocator + Copy> StoreSet for MemSet<A> {
     ghost use Rattle.dm_store.specs.Saved.{LoadsOpen};
-    ghost use Rattle.std.specs.Prelude.{◌≢◌, Err, None};
+    ghost use Rattle.std.specs.Prelude.{◌≢◌, refl, Err, None};
     ghost use Rattle.dm_store.specs.Sets.{ListsKeys, LoadsKey, RemovesKey, outcome_of_remove};
     ghost use Rattle.dm_store.specs.Left.{SaveKeyLeaves, set_left_as_held};
 
@@ -171,6 +173,8 @@ impl<A: Allocator + Copy> StoreSet for MemSet<A> {
     ghost state = { λ set. set };
 
     ghost left = { λ set. set_left_as_held set.content };
+
+    ghost leaves_held = { λ _ _ _ _. refl };
 
     fn keys(&mut self, limit: usize) -> Result<Vec<u16, A>, LoadFault>
         ensures lists { ListsKeys (λ keys. keys.items) self.old limit result self.new }
@@ -209,8 +213,8 @@ impl<A: Allocator + Copy> StoreSet for MemSet<A> {
 
     fn remove(&mut self, key: u16) -> Result<(), RemoveFault>
         ensures removes { RemovesKey self.old key result self.new }
-        ensures leaves { SaveKeyLeaves (set_left_as_held self.old.content) key None (outcome_of_remove result)
-            (set_left_as_held self.new.content) }
+        ensures leaves { SaveKeyLeaves self.old (set_left_as_held self.old.content) key None
+            (outcome_of_remove result) (set_left_as_held self.new.content) }
         // It takes no memory.
         ensures memory { result ≢ Err RemoveFault.Memory }
     {

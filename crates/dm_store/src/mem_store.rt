@@ -41,6 +41,7 @@ impl<A: Allocator + Copy> Model for MemStore<A> {
     ghost view = { λ m. record {
       content = option_map (λ bytes. bytes.items) m.held;
       is_honest = true;
+      is_durable = true;
       memory_plan = MemoryOpen;
       load_plan = load_plan_of m.fails_loads;
       save_plan = save_plan_of m.next_save;
@@ -56,6 +57,7 @@ impl<A: Allocator + Copy> MemStore<A> {
         ensures { result ≡ record {
           content = None;
           is_honest = true;
+          is_durable = true;
           memory_plan = MemoryOpen;
           load_plan = LoadsFine;
           save_plan = SavesFine;
@@ -74,6 +76,7 @@ impl<A: Allocator + Copy> MemStore<A> {
         ensures { result ≡ record {
           content = Some bytes.items;
           is_honest = true;
+          is_durable = true;
           memory_plan = MemoryOpen;
           load_plan = LoadsFine;
           save_plan = SavesFine;
@@ -130,6 +133,7 @@ pub(crate) fn copy_of<A: Allocator + Copy>(
 
 impl<A: Allocator + Copy> Store for MemStore<A> {
     ghost use Rattle.dm_store.specs.Saved.{Loads, LoadsOpen};
+    ghost use Rattle.std.specs.Prelude.{refl};
     ghost use Rattle.dm_store.specs.Left.{left_as_held};
 
     type Memory = A;
@@ -137,6 +141,8 @@ impl<A: Allocator + Copy> Store for MemStore<A> {
     ghost state = { λ store. store };
 
     ghost left = { λ store. left_as_held store.content };
+
+    ghost leaves_held = { λ _ _. refl };
 
     fn load(&mut self, limit: usize) -> Result<Option<Vec<u8, A>>, LoadFault>
         ensures loads { Loads (λ bytes. bytes.items) self.old limit result self.new }

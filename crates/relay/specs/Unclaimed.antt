@@ -7,6 +7,7 @@ abbrev pub unclaimed : Saved
 unclaimed = record {
   content = None;
   is_honest = false;
+  is_durable = false;
   memory_plan = MemoryOpen;
   load_plan = LoadsOpen;
   save_plan = SavesOpen;

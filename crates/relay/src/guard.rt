@@ -71,25 +71,27 @@ impl<'a, R: Files, S: Store> GuardedStore<'a, R, S> {
 impl<R: Files, S: Store> Store for GuardedStore<'_, R, S> {
     ghost use Rattle.dm_store.specs.Saved.{Loads, Replaces, outcome_of};
     ghost use Rattle.dm_store.specs.Left.{LoadLeaves, SaveLeaves};
-    ghost use Rattle.dm_store.specs.Unclaimed.{untold};
+    ghost use Rattle.dm_store.specs.Unclaimed.{anything_left};
     ghost use Rattle.relay.specs.Unclaimed.{unclaimed};
 
     type Memory = S::Memory;
 
     ghost state = { λ _. unclaimed };
 
-    ghost left = { λ _. untold };
+    ghost left = { λ _. anything_left };
+
+    ghost leaves_held = { λ _ _. tt };
 
     fn load(&mut self, limit: usize) -> Result<Option<Vec<u8, S::Memory>>, LoadFault>
         ensures loads { Loads (λ bytes. bytes.items) unclaimed limit result unclaimed }
-        ensures leaves { LoadLeaves untold unclaimed.content result untold }
+        ensures leaves { LoadLeaves unclaimed anything_left result anything_left }
     {
         self.store.load(limit)
     }
 
     fn replace(&mut self, bytes: &[u8]) -> Result<(), ReplaceFault>
         ensures replaces { Replaces unclaimed bytes.now result unclaimed }
-        ensures leaves { SaveLeaves untold bytes.now (outcome_of result) untold }
+        ensures leaves { SaveLeaves unclaimed anything_left bytes.now (outcome_of result) anything_left }
     {
         if !self.guard.holds() {
             return Err(ReplaceFault::Device);
@@ -116,32 +118,35 @@ impl<R: Files, T: StoreSet> StoreSet for GuardedSet<'_, R, T> {
     ghost use Rattle.std.specs.FinMap as map;
     ghost use Rattle.dm_store.specs.Saved.{outcome_of};
     ghost use Rattle.dm_store.specs.Sets.{ListsKeys, LoadsKey, ReplacesKey, RemovesKey, outcome_of_remove};
-    ghost use Rattle.dm_store.specs.Left.{KeysLeave, LoadKeyLeaves, SaveKeyLeaves};
-    ghost use Rattle.dm_store.specs.Unclaimed.{unclaimed_set, untold_set};
+    ghost use Rattle.dm_store.specs.Left.{IsDurableSet, SetLeavesNoMore, LoadKeyLeaves, SaveKeyLeaves};
+    ghost use Rattle.dm_store.specs.Unclaimed.{unclaimed_set, anything_left_of_set};
 
     type Memory = T::Memory;
 
     ghost state = { λ _. unclaimed_set };
 
-    ghost left = { λ _. untold_set };
+    ghost left = { λ _. anything_left_of_set };
+
+    ghost leaves_held = { λ _ _ _ _. tt };
 
     fn keys(&mut self, limit: usize) -> Result<Vec<u16, T::Memory>, LoadFault>
         ensures lists { ListsKeys (λ keys. keys.items) unclaimed_set limit result unclaimed_set }
-        ensures leaves { KeysLeave untold_set untold_set }
+        ensures leaves { IsDurableSet unclaimed_set → SetLeavesNoMore anything_left_of_set anything_left_of_set }
     {
         self.set.keys(limit)
     }
 
     fn load(&mut self, key: u16, limit: usize) -> Result<Option<Vec<u8, T::Memory>>, LoadFault>
         ensures loads { LoadsKey (λ bytes. bytes.items) unclaimed_set key limit result unclaimed_set }
-        ensures leaves { LoadKeyLeaves untold_set key (map.get unclaimed_set.content key) result untold_set }
+        ensures leaves { LoadKeyLeaves unclaimed_set anything_left_of_set key result anything_left_of_set }
     {
         self.set.load(key, limit)
     }
 
     fn replace(&mut self, key: u16, bytes: &[u8]) -> Result<(), ReplaceFault>
         ensures replaces { ReplacesKey unclaimed_set key bytes.now result unclaimed_set }
-        ensures leaves { SaveKeyLeaves untold_set key (Some bytes.now) (outcome_of result) untold_set }
+        ensures leaves { SaveKeyLeaves unclaimed_set anything_left_of_set key (Some bytes.now) (outcome_of result)
+            anything_left_of_set }
     {
         if !self.guard.holds() {
             return Err(ReplaceFault::Device);
@@ -151,7 +156,8 @@ impl<R: Files, T: StoreSet> StoreSet for GuardedSet<'_, R, T> {
 
     fn remove(&mut self, key: u16) -> Result<(), RemoveFault>
         ensures removes { RemovesKey unclaimed_set key result unclaimed_set }
-        ensures leaves { SaveKeyLeaves untold_set key None (outcome_of_remove result) untold_set }
+        ensures leaves { SaveKeyLeaves unclaimed_set anything_left_of_set key None (outcome_of_remove result)
+            anything_left_of_set }
     {
         if !self.guard.holds() {
             return Err(RemoveFault::Device);

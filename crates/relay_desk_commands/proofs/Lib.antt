@@ -4,3 +4,4 @@ pub mod LoadedJoint
 pub mod HeldLists
 pub mod CopiedPages
 pub mod WriteFaults
+pub mod StoppedDesks

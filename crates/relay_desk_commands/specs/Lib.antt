@@ -1,5 +1,6 @@
 pub mod Desks
 pub mod Scan
 pub mod Held
+pub mod Lasting
 pub mod inner
 pub mod Copy

@@ -1,6 +1,7 @@
 //! The desk that a command works with.
 
 ghost use Rattle.std.specs.Prelude.{◌≡◌, MatchResult};
+ghost use Rattle.dm_assembly_desk.specs.Lasting.{IsKept};
 ghost use Rattle.dm_assembly_desk.specs.Views.{IsInOrder};
 ghost use Rattle.relay_desk_commands.specs.Desks.{HasNoDesk, OpensDesk};
 
@@ -24,6 +25,7 @@ impl<S: Store, T: StoreSet, A: Allocator + Copy> OpenDesk<S, T, A> {
         ensures status { result.status ≡ status }
         ensures store { S.state result.store ≡ S.state self.store }
         ensures set { T.state result.set ≡ self.desk.saved }
+        ensures kept { IsKept self.desk (T.left result.set) }
     {
         let OpenDesk { store, desk } = self;
         EndedDesk {

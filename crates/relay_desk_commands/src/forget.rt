@@ -2,6 +2,7 @@
 
 ghost use Rattle.std.specs.Prelude.{◌≡◌, false};
 ghost use Rattle.relay_desk_commands.specs.Desks.{EndsForget, TellsForget};
+ghost use Rattle.relay_desk_commands.specs.Lasting.{LeavesFiles};
 
 use crate::desk_opening::open_desk;
 use crate::file_id::id_of;
@@ -37,8 +38,9 @@ pub fn forget_command<A: Allocator + Copy, S: Store, T: StoreSet, W: Write>(
     output: &mut Output<W>,
     text: &str,
 ) -> EndedDesk<S, T>
-    ensures { EndsForget (record { joint = S.state store; set = T.state set }) text.now output.old result.status
+    ensures ends { EndsForget (record { joint = S.state store; set = T.state set }) text.now output.old result.status
         (record { joint = S.state result.store; set = T.state result.set }) output.new }
+    ensures lasts { result.status ≡ 0 → LeavesFiles (T.state result.set) (T.left result.set) }
 {
     let Some(id) = id_of(text) else {
         let status = refuse(output, Refusal::FileId.name());

@@ -3,6 +3,7 @@
 ghost use Rattle.std.specs.Prelude.{◌≡◌, false};
 ghost use Rattle.relay_streams.specs.Streams.{TakesPart};
 ghost use Rattle.relay_desk_commands.specs.Desks.{EndsImport, TellsImport};
+ghost use Rattle.relay_desk_commands.specs.Lasting.{LeavesFiles};
 
 use crate::desk_opening::open_desk;
 use dm_assembly_desk::Desk;
@@ -45,6 +46,7 @@ pub fn import_command<A: Allocator + Copy, S: Store, T: StoreSet, R: Read, W: Wr
     ensures part { TakesPart input.old.remaining input.new.remaining IMPORT_BYTES }
     ensures ends { EndsImport (record { joint = S.state store; set = T.state set }) capacity input.old input.new
         output.old result.status (record { joint = S.state result.store; set = T.state result.set }) output.new }
+    ensures lasts { result.status ≡ 0 → LeavesFiles (T.state result.set) (T.left result.set) }
 {
     let bytes = match input.read_up_to(alloc, IMPORT_BYTES) {
         Ok(bytes) => bytes,

@@ -5,3 +5,4 @@ pub mod PlanSteps
 pub mod PrintedLabels
 pub mod Sizes
 pub mod SmallestSteps
+pub mod StoppedCommands

@@ -1,3 +1,4 @@
+pub mod Lasting
 pub mod Left
 pub mod Plan
 pub mod Print

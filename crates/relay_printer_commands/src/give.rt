@@ -1,5 +1,7 @@
 //! `relay give`: identifications for another printer.
 
+ghost use Rattle.dm_print_ledger.specs.Moving.{GivesAway};
+ghost use Rattle.relay_printer_commands.specs.Lasting.{StopLeaves};
 ghost use Rattle.relay_printer_commands.specs.Printers.{EndsGive, TellsGive};
 
 use crate::opening::open_printer;
@@ -35,7 +37,10 @@ pub fn give_command<A: Allocator + Copy, S: Store, W: Write>(
     to: u16,
     range: Range,
 ) -> Ended<S>
-    ensures { EndsGive (S.state store) number to range output.old result.status (S.state result.store) output.new }
+    ensures ends { EndsGive (S.state store) number to range output.old result.status (S.state result.store)
+        output.new }
+    ensures lasts { StopLeaves (λ held next. GivesAway held range next) (S.state store) (S.left store) result.status
+        (S.state result.store) (S.left result.store) }
 {
     let mut printer = match open_printer(alloc, store, output, number) {
         Ok(printer) => printer,

@@ -1,6 +1,7 @@
 //! The printer that a command works with.
 
-ghost use Rattle.std.specs.Prelude.{◌≡◌, MatchResult};
+ghost use Rattle.std.specs.Prelude.{◌≡◌, IfErr, MatchResult};
+ghost use Rattle.dm_store.specs.Left.{IsDurable, LeavesNoMore};
 ghost use Rattle.dm_print_ledger.specs.Opening.{Opens};
 ghost use Rattle.relay_printer_commands.specs.Printers.{IsNotOpened};
 
@@ -18,9 +19,11 @@ pub(crate) fn open_printer<A: Allocator + Copy, S: Store, W: Write>(
     output: &mut Output<W>,
     number: u16,
 ) -> Result<Printer<S, A>, Ended<S>>
-    ensures { MatchResult result
+    ensures opens { MatchResult result
         (λ printer. Opens (S.state store) number printer × (output.new ≡ output.old))
         (λ ended. IsNotOpened (S.state store) number output.old ended.status (S.state ended.store) output.new) }
+    ensures leaves { IfErr result (λ ended.
+        IsDurable (S.state store) → LeavesNoMore (S.left store) (S.left ended.store)) }
 {
     match Printer::open(alloc, store, number) {
         Ok(printer) => Ok(printer),

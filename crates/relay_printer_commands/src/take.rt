@@ -1,5 +1,6 @@
 //! `relay take`: identifications from another printer.
 
+ghost use Rattle.relay_printer_commands.specs.Lasting.{StopLeaves, TakesText};
 ghost use Rattle.relay_printer_commands.specs.Printers.{EndsTake, TellsTake};
 
 use crate::opening::open_printer;
@@ -34,7 +35,10 @@ pub fn take_command<A: Allocator + Copy, S: Store, W: Write>(
     number: u16,
     text: &str,
 ) -> Ended<S>
-    ensures { EndsTake (S.state store) number text.now output.old result.status (S.state result.store) output.new }
+    ensures ends { EndsTake (S.state store) number text.now output.old result.status (S.state result.store)
+        output.new }
+    ensures lasts { StopLeaves (TakesText text.now) (S.state store) (S.left store) result.status
+        (S.state result.store) (S.left result.store) }
 {
     let Some(ticket) = ticket_of(text) else {
         let status = refuse(output, Refusal::Ticket.name());

@@ -33,6 +33,7 @@ pub record Moving (start content : Contents) (held : Documents) (rest : List (�
 -- old store holds these documents, what is held together is as it was.
 pub record Carries (start now : SavedSet) (ks : List ℕ) (all rest : List (ℕ × Pages)) (written : ℕ) : Type 0 where
   pub same_honesty : now.is_honest ≡ start.is_honest
+  pub same_durability : now.is_durable ≡ start.is_durable
   pub same_memory_plan : now.memory_plan ≡ start.memory_plan
   pub same_load_plan : now.load_plan ≡ start.load_plan
   pub fine : start.save_plan ≡ SavesFine → now.save_plan ≡ SavesFine
@@ -47,6 +48,7 @@ fault_of replaces.Memory = moves.Memory
 -- A move was given up at one key. What is held together is as it was.
 pub record Abandons (start now : SavedSet) (ks : List ℕ) (all : List (ℕ × Pages)) (fault : ReplaceFault) : Type 0 where
   pub same_honesty : now.is_honest ≡ start.is_honest
+  pub same_durability : now.is_durable ≡ start.is_durable
   pub same_memory_plan : now.memory_plan ≡ start.memory_plan
   pub same_load_plan : now.load_plan ≡ start.load_plan
   pub fine : start.save_plan ≡ SavesFine → now.save_plan ≡ SavesFine

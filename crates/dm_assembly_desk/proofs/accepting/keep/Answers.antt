@@ -119,8 +119,9 @@ returns-then-is_first-clause-leaves g c =
     let put : Documents = c.put.new.documents in
     let after : put ≡ with_page held p = search rules in
     let id_is : c.number-id.result ≡ p.id = search rules in
-    leaves_there held put p after c.number-id.result id_is (g.S.StoreSet.left c.args.set.now)
-    (g.S.StoreSet.left c.save.new.set) (outcome_of (Err c.in-Err.fault)) c.in-Err.ensures.leaves
+    leaves_there held put p after c.number-id.result id_is (g.S.StoreSet.state c.args.set.now)
+    (g.S.StoreSet.left c.args.set.now) (g.S.StoreSet.left c.save.new.set) (outcome_of (Err c.in-Err.fault))
+    c.in-Err.ensures.leaves
 
 pub returns-in-Ok-clause-leaves : goal.returns-in-Ok-clause-leaves
 returns-in-Ok-clause-leaves g c =
@@ -129,8 +130,8 @@ returns-in-Ok-clause-leaves g c =
     let put : Documents = c.put.new.documents in
     let after : put ≡ with_page held p = search rules in
     let id_is : c.number-id.result ≡ p.id = search rules in
-    leaves_there held put p after c.number-id.result id_is (g.S.StoreSet.left c.args.set.now)
-    (g.S.StoreSet.left c.save.new.set) (outcome_of (Ok tt)) c.in-Ok.ensures.leaves
+    leaves_there held put p after c.number-id.result id_is (g.S.StoreSet.state c.args.set.now)
+    (g.S.StoreSet.left c.args.set.now) (g.S.StoreSet.left c.save.new.set) (outcome_of (Ok tt)) c.in-Ok.ensures.leaves
 
 pub returns-else-is_first-clause-leaves : goal.returns-else-is_first-clause-leaves
 returns-else-is_first-clause-leaves g c =
@@ -139,5 +140,6 @@ returns-else-is_first-clause-leaves g c =
     let put : Documents = c.put.new.documents in
     let after : put ≡ with_page held p = search rules in
     let id_is : c.number-id.result ≡ p.id = search rules in
-    leaves_there held put p after c.number-id.result id_is (g.S.StoreSet.left c.args.set.now)
-    (g.S.StoreSet.left c.save.new.set) (outcome_of (Err c.in-Err.fault)) c.in-Err.ensures.leaves
+    leaves_there held put p after c.number-id.result id_is (g.S.StoreSet.state c.args.set.now)
+    (g.S.StoreSet.left c.args.set.now) (g.S.StoreSet.left c.save.new.set) (outcome_of (Err c.in-Err.fault))
+    c.in-Err.ensures.leaves

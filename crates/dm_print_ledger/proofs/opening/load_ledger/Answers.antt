@@ -27,7 +27,7 @@ returns-in-Ok-Some-clause-fault g c = λ honest.
     ∙ (rw c.in-Ok-Some.field-0-is at (c.in-Ok-Some.ensures.loads.saved honest))) c.in-Err-Number.ensures.fault)
 
 pub returns-in-Ok-clause-leaves : goal.returns-in-Ok-clause-leaves
-returns-in-Ok-clause-leaves g c = λ honest told.
+returns-in-Ok-clause-leaves g c = λ durable.
     leaves_ledger (g.S.Store.left c.load.new.self) (g.S.Store.state c.args.store.now).content c.in-Ok.ledger
-    ((rw c.in-Ok-Some.field-0-is at (c.in-Ok-Some.ensures.leaves.settles told)) refl)
-    (returns-in-Ok-clause-ok g c honest)
+    ((rw c.in-Ok-Some.field-0-is at (c.in-Ok-Some.ensures.leaves.settles durable)) refl)
+    (returns-in-Ok-clause-ok g c durable.0)

@@ -1,4 +1,5 @@
-use Rattle.dm_store.proofs.Held.{inserted_same, inserted_other, removed_same, removed_other}
+use Rattle.dm_store.specs.HeldIsLeft.{inserted_same, inserted_other}
+use Rattle.dm_store.proofs.Held.{removed_same, removed_other}
 use Rattle.dm_store.proofs.mem_folder.hold.Goals as goal
 
 pub returns-in_ok-insert-in-Some-clause-same : goal.returns-in_ok-insert-in-Some-clause-same

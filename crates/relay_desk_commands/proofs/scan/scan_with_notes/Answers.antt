@@ -1,14 +1,24 @@
 use Rattle.std.proofs.Common.{refl}
 use Rattle.relay_desk_commands.specs.Scan.EndsScan.{no_desk, opened}
+use Rattle.relay_desk_commands.proofs.StoppedDesks as stopped
 use Rattle.relay_desk_commands.proofs.scan.scan_with_notes.Goals as goal
 
-pub returns-in-Err : goal.returns-in-Err
-returns-in-Err g c = no_desk c.in-Err.ensures refl
+pub returns-in-Err-clause-ends : goal.returns-in-Err-clause-ends
+returns-in-Err-clause-ends g c = no_desk c.in-Err.ensures refl
 
-pub returns : goal.returns
-returns g c =
+pub returns-clause-ends : goal.returns-clause-ends
+returns-clause-ends g c =
     let told = rw c.in-Ok.ensures.1 at c.each_image-status.ensures.told in
     let kept = c.each_image-status.ensures.kept in
     rw c.close-set.ensures.state (opened (g.S.Store.state c.in-Ok.opened.store) c.in-Ok.opened.desk
     c.each_image-status.new.command.desk c.in-Ok.ensures.0
     (record { told = told; kept = kept.0; in_order = kept.1 c.in-Ok.ensures.2 }))
+
+pub returns-in-Err-clause-lasts : goal.returns-in-Err-clause-lasts
+returns-in-Err-clause-lasts g c = stopped.not_done _ (stopped.no_desk_done _ _ _ _ _ _ c.in-Err.ensures)
+
+pub returns-clause-lasts : goal.returns-clause-lasts
+returns-clause-lasts g c =
+    rw c.close-set.ensures.state (λ zero. stopped.leaves_files _ _
+    (record { order = c.close-set.ensures.order; lasts = c.close-set.ensures.lasts })
+    (stopped.scan_done _ _ _ _ _ _ _ _ c.in-Ok.ensures.0.opens.running c.each_image-status.ensures.told zero))

@@ -1,6 +1,7 @@
 use Rattle.std.proofs.Common.{Err, ap, refl}
 use Rattle.relay_printer_commands.specs.Print.EndsPrint.{no_side, not_read}
 use Rattle.relay_printer_commands.proofs.OpenedPrints.{ends_print}
+use Rattle.relay_printer_commands.proofs.StoppedCommands as stopped
 use Rattle.relay_printer_commands.proofs.print.print_command.Goals as goal
 
 pub returns-in_default-clause-ends : goal.returns-in_default-clause-ends
@@ -16,3 +17,12 @@ pub returns-clause-ends : goal.returns-clause-ends
 returns-clause-ends g c =
     ends_print _ _ _ _ _ _ _ _ _ _ _ _ _ _ c.in-Some.ensures.found c.in-Ok.ensures.taken
     (rw c.deref.ensures.value at c.open_and_print.ensures.ends)
+
+pub returns-in_default-clause-lasts : goal.returns-in_default-clause-lasts
+returns-in_default-clause-lasts g c =
+    stopped.not_begun _ _ _ _ _ _ (stopped.refused_by c.refuse-status.ensures)
+    (λ durable content leaves. leaves)
+
+pub returns-in-Err-clause-lasts : goal.returns-in-Err-clause-lasts
+returns-in-Err-clause-lasts g c = stopped.not_begun _ _ _ _ _ _
+    (stopped.refused_by c.refuse-status-in-Err.ensures) (λ durable content leaves. leaves)

@@ -17,7 +17,7 @@ use Rattle.dm_assembly_desk.specs.Lasting.{LeavesFiles, LeavesNext, ByPages}
 use Rattle.dm_assembly_desk.proofs.LastingLaws.{lasts_saved, lasts_failed, not_both}
 use Rattle.dm_assembly_desk.proofs.Adding.{IsPage, can_be_added, get_here}
 use Rattle.dm_assembly_desk.proofs.KeptPages.{pages_kept}
-use Rattle.dm_assembly_desk.proofs.Saving.{was_honest, done_view, failed_view, keeps, keeps_order, fails_to_keep, fails_order, adds, changes}
+use Rattle.dm_assembly_desk.proofs.Saving.{was_durable, done_view, failed_view, keeps, keeps_order, fails_to_keep, fails_order, adds, changes}
 use Rattle.dm_assembly_desk.proofs.desk.Desk.accept_page.Goals as goal
 
 pub invariant_of-self : goal.invariant_of-self
@@ -50,10 +50,10 @@ invariant_of-self g c =
       order = subst (λ (d : Documents). IsInOrder (done_view old set d)) (sym c.in-Ok.ensures.ok)
           (keeps_order old p set c.self.invariant.order running q adding c.in-Ok.ensures.replaced);
       lasts = record {
-        running = λ _ honest told. subst (λ (d : Documents). LeavesFiles after d) (sym c.in-Ok.ensures.ok)
-            (lasts_saved before after old.held p.id (c.self.invariant.lasts.running running
-            (was_honest old.saved set c.in-Ok.ensures.replaced.same_honesty honest)) (pages_with old.held p)
-            c.in-Ok.ensures.leaves told);
+        running = λ _ durable. subst (λ (d : Documents). LeavesFiles after d) (sym c.in-Ok.ensures.ok)
+            (lasts_saved old.saved before after old.held p.id (c.self.invariant.lasts.running running)
+            (pages_with old.held p) c.in-Ok.ensures.leaves (was_durable old.saved set
+            c.in-Ok.ensures.replaced.same_honesty c.in-Ok.ensures.replaced.same_durability durable));
         failed = λ failed. not_both old.is_failed failed running;
       };
     }
@@ -77,8 +77,8 @@ invariant_of-self-in-Err-Device g c =
     let before : SetLeft = g.S.StoreSet.left c.self.inside.set in
     let after : SetLeft = g.S.StoreSet.left c.keep.new.set in
     let next : Documents = with_page old.held p in
-    let saves : SaveKeyLeaves before p.id (option_map (file p.id) (get next p.id)) Faulted after =
-    subst (λ (o : Option Pages). SaveKeyLeaves before p.id (option_map (file p.id) o) Faulted after)
+    let saves : SaveKeyLeaves old.saved before p.id (option_map (file p.id) (get next p.id)) Faulted after =
+    subst (λ (o : Option Pages). SaveKeyLeaves old.saved before p.id (option_map (file p.id) o) Faulted after)
     (sym (get_here old.held p.id (pages_with old.held p)))
     (rw c.in-Err-Device.field-0-is at c.in-Err-Device.ensures.leaves) in
     record {
@@ -87,10 +87,10 @@ invariant_of-self-in-Err-Device g c =
           (sym same) (fails_order old set c.self.invariant.order);
       lasts = record {
         running = λ running. not_both true refl running;
-        failed = λ _ honest told. subst (λ (d : Documents). LeavesNext after d) (sym same)
-            (lasts_failed before after old.held p.id (c.self.invariant.lasts.running running
-            (was_honest old.saved set c.in-Err-Device.ensures.replaced.same_honesty honest)) next
-            (ByPages (pages_kept old.held p (omega arith) free)) saves told);
+        failed = λ _ durable. subst (λ (d : Documents). LeavesNext after d) (sym same)
+            (lasts_failed old.saved before after old.held p.id (c.self.invariant.lasts.running running) next
+            (ByPages (pages_kept old.held p (omega arith) free)) saves (was_durable old.saved set
+            c.in-Err-Device.ensures.replaced.same_honesty c.in-Err-Device.ensures.replaced.same_durability durable));
       };
     }
 

@@ -11,7 +11,7 @@ use Rattle.dm_assembly_desk.specs.Documents.{Documents}
 use Rattle.dm_assembly_desk.specs.Views.{DeskView, IsInOrder}
 use Rattle.dm_assembly_desk.specs.Forgetting.{LetsGo, FailsToLetGo}
 use Rattle.dm_assembly_desk.specs.Lasting.{LeavesFiles, ByForget}
-use Rattle.dm_assembly_desk.proofs.Saving.{was_honest, same_honesty, done_view, failed_view, fails_order, lets_go, lets_go_order, fails_to_let_go}
+use Rattle.dm_assembly_desk.proofs.Saving.{was_durable, same_honesty, same_durability, done_view, failed_view, fails_order, lets_go, lets_go_order, fails_to_let_go}
 use Rattle.dm_assembly_desk.proofs.LastingLaws.{lasts_removed, lasts_failed, gone_here, not_both}
 use Rattle.dm_assembly_desk.proofs.desk.Desk.forget.Goals as goal
 
@@ -33,9 +33,11 @@ invariant_of-self g c =
       order = subst (λ (d : Documents). IsInOrder (done_view old set d)) (sym c.remove-in-Ok.ensures.after)
           (lets_go_order old id set c.self.invariant.order running some c.in-Ok.ensures.removes);
       lasts = record {
-        running = λ _ honest told. subst (λ (d : Documents). LeavesFiles after d) (sym c.remove-in-Ok.ensures.after)
-            (lasts_removed before after old.held id (c.self.invariant.lasts.running running (was_honest old.saved set
-            (same_honesty old.saved id (Ok tt) set c.in-Ok.ensures.removes) honest)) c.in-Ok.ensures.leaves told);
+        running = λ _ durable. subst (λ (d : Documents). LeavesFiles after d) (sym c.remove-in-Ok.ensures.after)
+            (lasts_removed old.saved before after old.held id (c.self.invariant.lasts.running running)
+            c.in-Ok.ensures.leaves (was_durable old.saved set
+            (same_honesty old.saved id (Ok tt) set c.in-Ok.ensures.removes)
+            (same_durability old.saved id (Ok tt) set c.in-Ok.ensures.removes) durable));
         failed = λ failed. not_both old.is_failed failed running;
       };
     }
@@ -55,18 +57,19 @@ invariant_of-self-in-Err-Device g c =
     let after : SetLeft = g.S.StoreSet.left c.remove.new.self in
     let removes : RemovesKey old.saved id (Err removing.Device) set =
     rw c.in-Err-Device.field-0-is at c.in-Err-Device.ensures.removes in
-    let gone : SaveKeyLeaves before id None Faulted after =
+    let gone : SaveKeyLeaves old.saved before id None Faulted after =
     rw c.in-Err-Device.field-0-is at c.in-Err-Device.ensures.leaves in
-    let saves : SaveKeyLeaves before id (option_map (file id) (get (remove old.held id) id)) Faulted after =
-    subst (λ (o : Option Pages). SaveKeyLeaves before id (option_map (file id) o) Faulted after)
+    let saves : SaveKeyLeaves old.saved before id (option_map (file id) (get (remove old.held id) id)) Faulted after =
+    subst (λ (o : Option Pages). SaveKeyLeaves old.saved before id (option_map (file id) o) Faulted after)
     (sym (gone_here old.held id)) gone in
     record {
       order = fails_order old set c.self.invariant.order;
       lasts = record {
         running = λ running. not_both true refl running;
-        failed = λ _ honest told. lasts_failed before after old.held id (c.self.invariant.lasts.running running
-            (was_honest old.saved set (same_honesty old.saved id (Err removing.Device) set removes) honest))
-            (remove old.held id) (ByForget id refl) saves told;
+        failed = λ _ durable. lasts_failed old.saved before after old.held id (c.self.invariant.lasts.running running)
+            (remove old.held id) (ByForget id refl) saves (was_durable old.saved set
+            (same_honesty old.saved id (Err removing.Device) set removes)
+            (same_durability old.saved id (Err removing.Device) set removes) durable);
       };
     }
 

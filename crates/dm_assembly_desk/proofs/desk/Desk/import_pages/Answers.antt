@@ -16,7 +16,7 @@ use Rattle.dm_assembly_desk.specs.Answers.{NeedsSave}
 use Rattle.dm_assembly_desk.specs.Lasting.{LeavesFiles, LeavesNext, ByPages}
 use Rattle.dm_assembly_desk.specs.declared.reply.Kind.TheVariants.{Again}
 use Rattle.dm_assembly_desk.specs.declared.reply.Imported.{Imported}
-use Rattle.dm_assembly_desk.proofs.Saving.{was_honest, done_view, failed_view, fails_order}
+use Rattle.dm_assembly_desk.proofs.Saving.{was_durable, done_view, failed_view, fails_order}
 use Rattle.dm_assembly_desk.proofs.LastingLaws.{lasts_saved, lasts_failed, not_both}
 use Rattle.dm_assembly_desk.proofs.Adding.{get_here}
 use Rattle.dm_assembly_desk.proofs.ImportLaws.{kept_with, taken, merged_entry, keeps_pages, keeps_pages_order, fails_to_keep_pages, adds_pages, merges, merges_nothing, names_pages}
@@ -91,16 +91,17 @@ invariant_of-self g c =
     c.in-Ok-keep_document.ensures.replaced in
     let before : SetLeft = g.S.StoreSet.left c.self.inside.set in
     let after : SetLeft = g.S.StoreSet.left c.keep_document.new.set in
-    let saves : SaveKeyLeaves before id (Some (file id (pages_with_file old.held id given))) Done after =
-    subst (λ (pages : Pages). SaveKeyLeaves before id (Some (file id pages)) Done after) doc
+    let saves : SaveKeyLeaves old.saved before id (Some (file id (pages_with_file old.held id given))) Done after =
+    subst (λ (pages : Pages). SaveKeyLeaves old.saved before id (Some (file id pages)) Done after) doc
     c.in-Ok-keep_document.ensures.leaves in
     record {
       order = subst (λ (d : Documents). IsInOrder (done_view old set d)) (sym held_is)
           (keeps_pages_order old id given set c.self.invariant.order running c.requires.entry adding replaced);
       lasts = record {
-        running = λ _ honest told. subst (λ (d : Documents). LeavesFiles after d) (sym held_is)
-            (lasts_saved before after old.held id (c.self.invariant.lasts.running running
-            (was_honest old.saved set replaced.same_honesty honest)) (pages_with_file old.held id given) saves told);
+        running = λ _ durable. subst (λ (d : Documents). LeavesFiles after d) (sym held_is)
+            (lasts_saved old.saved before after old.held id (c.self.invariant.lasts.running running)
+            (pages_with_file old.held id given) saves
+            (was_durable old.saved set replaced.same_honesty replaced.same_durability durable));
         failed = λ failed. not_both old.is_failed failed running;
       };
     }
@@ -123,22 +124,22 @@ invariant_of-self-in-Err-Device g c =
     let before : SetLeft = g.S.StoreSet.left c.self.inside.set in
     let after : SetLeft = g.S.StoreSet.left c.keep_document.new.set in
     let next : Documents = with_file old.held id given in
-    let device : SaveKeyLeaves before id (Some (file id c.in-Ok.document)) Faulted after =
+    let device : SaveKeyLeaves old.saved before id (Some (file id c.in-Ok.document)) Faulted after =
     rw c.in-Err-Device.field-0-is at c.in-Err-Device.ensures.leaves in
-    let saves : SaveKeyLeaves before id (option_map (file id) (get next id)) Faulted after =
-    subst (λ (o : Option Pages). SaveKeyLeaves before id (option_map (file id) o) Faulted after)
+    let saves : SaveKeyLeaves old.saved before id (option_map (file id) (get next id)) Faulted after =
+    subst (λ (o : Option Pages). SaveKeyLeaves old.saved before id (option_map (file id) o) Faulted after)
     (sym (get_here old.held id (pages_with_file old.held id given)))
-    (subst (λ (pages : Pages). SaveKeyLeaves before id (Some (file id pages)) Faulted after) doc device) in
+    (subst (λ (pages : Pages). SaveKeyLeaves old.saved before id (Some (file id pages)) Faulted after) doc device) in
     record {
       order = subst (λ (d : Documents). IsInOrder
           (record { saved = set; held = d; capacity = old.capacity; is_failed = true }))
           (sym same) (fails_order old set c.self.invariant.order);
       lasts = record {
         running = λ running. not_both true refl running;
-        failed = λ _ honest told. subst (λ (d : Documents). LeavesNext after d) (sym same)
-            (lasts_failed before after old.held id (c.self.invariant.lasts.running running
-            (was_honest old.saved set c.in-Err-Device.ensures.replaced.same_honesty honest)) next
-            (ByPages (kept_with old.held id given)) saves told);
+        failed = λ _ durable. subst (λ (d : Documents). LeavesNext after d) (sym same)
+            (lasts_failed old.saved before after old.held id (c.self.invariant.lasts.running running) next
+            (ByPages (kept_with old.held id given)) saves (was_durable old.saved set
+            c.in-Err-Device.ensures.replaced.same_honesty c.in-Err-Device.ensures.replaced.same_durability durable));
       };
     }
 

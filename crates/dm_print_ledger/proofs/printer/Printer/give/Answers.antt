@@ -1,4 +1,3 @@
-use Rattle.dm_print_ledger.specs.Lasting.{ByGive}
 use Rattle.dm_print_ledger.proofs.RefusalLaws.{can_give}
 use Rattle.dm_print_ledger.proofs.printer.Printer.give.Goals as goal
 
@@ -13,6 +12,3 @@ returns-in-Err-Memory-clause-exact g c = λ fault h. absurd (can_give c.args.sel
 pub returns-in-Err-Device-clause-exact : goal.returns-in-Err-Device-clause-exact
 returns-in-Err-Device-clause-exact g c = λ fault h. absurd (can_give c.args.self.now c.args.receiver c.args.range fault
     c.in_ok-next.ensures.can h)
-
-pub save-requires-clause-next : goal.save-requires-clause-next
-save-requires-clause-next g c = ByGive c.args.range c.in_ok-next.ensures.given

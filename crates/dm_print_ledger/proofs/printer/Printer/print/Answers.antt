@@ -1,6 +1,5 @@
 use Rattle.std.proofs.Common.{◌≡◌, ◌∙◌, ap, Err}
 use Rattle.std.proofs.lemmas.Result.{err_from_is_err_and}
-use Rattle.dm_print_ledger.specs.Lasting.{ByUse}
 use Rattle.dm_print_ledger.proofs.PrintingLaws.{can_print, print_once}
 use Rattle.dm_print_ledger.proofs.printer.Printer.print.Goals as goal
 
@@ -25,6 +24,3 @@ pub returns-clause-exact : goal.returns-clause-exact
 returns-clause-exact g c = λ fault
     h. absurd (can_print c.args.self.now c.args.size c.args.scheme c.args.document.now fault
     c.in_ok-job.ensures.can h)
-
-pub save-requires-clause-next : goal.save-requires-clause-next
-save-requires-clause-next g c = ByUse c.in_ok-job.job.id c.in_ok-job.ensures.made.used

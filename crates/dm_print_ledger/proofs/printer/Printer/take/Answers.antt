@@ -1,6 +1,5 @@
 use Rattle.std.proofs.Common.{◌≡◌, ◌∙◌, ap, Err}
 use Rattle.std.proofs.lemmas.Result.{err_from_is_err_and}
-use Rattle.dm_print_ledger.specs.Lasting.{ByTake}
 use Rattle.dm_print_ledger.proofs.RefusalLaws.{can_take, take_once}
 use Rattle.dm_print_ledger.proofs.printer.Printer.take.Goals as goal
 
@@ -23,6 +22,3 @@ returns-in-Err-Memory-clause-exact g c =
 pub returns-in-Err-Device-clause-exact : goal.returns-in-Err-Device-clause-exact
 returns-in-Err-Device-clause-exact g c =
     λ fault h. absurd (can_take c.args.self.now c.args.ticket.now fault c.in_ok-next.ensures.can h)
-
-pub save-requires-clause-next : goal.save-requires-clause-next
-save-requires-clause-next g c = ByTake c.args.ticket.now c.in_ok-next.ensures.taken

@@ -4,7 +4,7 @@ use Rattle.dm_store.proofs.file_set.FileSetStoreSet.remove.Goals as goal
 
 pub returns-clause-removes : goal.returns-clause-removes
 returns-clause-removes g c = rw (← c.self.view_is) (rw c.as_str.ensures.value at
-    (set_removes _ _ _ c.remove_key.ensures.honesty _ _ c.ranges.key.fits
+    (set_removes _ _ _ c.remove_key.ensures.honesty c.self.inside.is_synced _ _ c.ranges.key.fits
     c.remove_key.ensures.refused c.remove_key.ensures.removes))
 
 pub returns-clause-refused : goal.returns-clause-refused
@@ -12,7 +12,7 @@ returns-clause-refused g c = rw (← c.self.view_is) c.remove_key.ensures.refuse
 
 pub returns-clause-others : goal.returns-clause-others
 returns-clause-others g c = rw (← c.self.view_is) (rw c.as_str.ensures.value at
-    (remove_keeps _ _ _ c.remove_key.ensures.honesty _ c.remove_key.result c.ranges.key.fits
+    (remove_keeps _ _ _ c.remove_key.ensures.honesty c.self.inside.is_synced _ c.remove_key.result c.ranges.key.fits
     c.remove_key.ensures.removes))
 
 pub returns-clause-leaves : goal.returns-clause-leaves

@@ -1,0 +1,164 @@
+-- Why a stop leaves the files of a desk whose command is done: no save of the desk failed then, so its set holds just
+-- the files of what it holds, and of such a desk it is known what a stop leaves.
+use Rattle.std.proofs.Common.{◌≡◌, ◌⊎◌, inl, inr, ℕ, List, Bool, true, false, Option, Some, None, Result, Ok, Err, refl, sym, ap, subst, ◌∙◌}
+use Rattle.std.specs.Prelude.{option_map, if◌then◌else◌, ◌||◌}
+use Rattle.std.specs.FinMap.{get}
+use Rattle.dm_store.specs.Disk.{Content}
+use Rattle.dm_store.specs.Left.{SetLeft}
+use Rattle.dm_append_label.specs.Pages.{PageView}
+use Rattle.dm_append_label.specs.declared.opening.Opened.{Opened}
+use Rattle.dm_append_label.specs.declared.fault.LabelFault.{LabelFault}
+use Rattle.dm_pbm_io.specs.Image.{Picture}
+use Rattle.dm_assembly_desk.specs.Accepting.{AcceptsGrid, ChangesByPage, Scans}
+use Rattle.dm_assembly_desk.specs.FaultOrigin.{scan_fault}
+use Rattle.dm_assembly_desk.specs.Files.{file}
+use Rattle.dm_assembly_desk.specs.Importing.{ChangesByFile, ImportsBytes, IsReadAs}
+use Rattle.dm_assembly_desk.specs.Lasting.{IsKept}
+use Rattle.dm_assembly_desk.specs.Pages.{Pages}
+use Rattle.dm_assembly_desk.specs.Views.{DeskView}
+use Rattle.dm_assembly_desk.specs.declared.reply.Accepted.{Accepted}
+use Rattle.dm_assembly_desk.specs.declared.reply.Imported.{Imported}
+use Rattle.dm_assembly_desk.specs.declared.reply.Kind.{Kind}
+use Rattle.dm_assembly_desk.specs.declared.reply.Kind.TheVariants.{New, Again, Complete}
+use Rattle.relay_streams.specs.Streams.{InputView, OutputView}
+use Rattle.relay_shared.specs.EachImage.{AnswersImages, Comes, EndsImages, TellsImages}
+use Rattle.relay_shared.specs.EachImage.AnswersImages.{none as no_images, another}
+use Rattle.relay_shared.specs.EachImage.Comes.{image, unread, too_many}
+use Rattle.relay_shared.specs.EachImage.EndsImages.{no_image, last_line}
+use Rattle.relay_shared.specs.Telling.{Tells}
+use Rattle.relay_desk_commands.specs.Desks.{HasNoDesk, DeskFiles, TellsForget, TellsImport}
+use Rattle.relay_desk_commands.specs.Desks.HasNoDesk.{not_moved, not_opened}
+use Rattle.relay_desk_commands.specs.Desks.TellsForget.{forgotten, refused as forget_refused}
+use Rattle.relay_desk_commands.specs.Desks.TellsImport.{imported as import_told, refused as import_refused}
+use Rattle.relay_desk_commands.specs.Lasting.{LeavesFiles}
+use Rattle.relay_desk_commands.specs.Scan.{ScansPicture, scan_images}
+use Rattle.relay_desk_commands.specs.Scan.ScansPicture.{accepted as scan_accepted, refused as scan_refused, shape as scan_shape, memory as scan_memory}
+
+-- ---- a desk that has not failed
+
+file_left : (left : SetLeft) (key : ℕ) (bytes : List ℕ) (found : Option Pages)
+    → Some bytes ≡ option_map (file key) found
+    → ((pages : Pages) → found ≡ Some pages → (content : Content) → left key content → content ≡ Some (file key pages))
+    → (content : Content) → left key content → content ≡ Some bytes
+file_left left key bytes None is lasts content leaves = absurd cc
+file_left left key bytes (Some pages) is lasts content leaves = lasts pages refl content leaves ∙ sym is
+
+pub leaves_files : (desk : DeskView) (left : SetLeft) → IsKept desk left → desk.is_failed ≡ false →
+    LeavesFiles desk.saved left
+leaves_files desk left kept running durable key bytes is =
+    file_left left key bytes (get desk.held key) (sym is ∙ (kept.order.saved running durable.0).files key)
+    (λ pages held content leaves. kept.lasts.running running durable key pages held content leaves)
+
+-- ---- a command that is done
+
+-- a line of a refusal was told, or its output has failed
+pub refused : {P Q R : Type 0} {status : ℕ} → (P × (status ≡ 1)) ⊎ (Q × R × (status ≡ 1)) → status ≡ 1
+refused (inl whole) = whole.1
+refused (inr part) = part.2
+
+pub not_done : {P : Type 0} (status : ℕ) → status ≡ 1 → status ≡ 0 → P
+not_done status is zero = absurd cc
+
+pub no_desk_done : (before : DeskFiles) (capacity : ℕ) (old : OutputView) (status : ℕ) (after : DeskFiles)
+    (new : OutputView) → HasNoDesk before capacity old status after new → status ≡ 1
+no_desk_done before capacity old _ _ _ (not_moved fault moves kept plans tells) = refused tells
+no_desk_done before capacity old _ _ _ (not_opened fault moves has tells) = refused tells
+
+pub forget_done : (id : ℕ) (before : DeskView) (old : OutputView) (status : ℕ) (after : DeskView) (new : OutputView)
+    → TellsForget id before old status after new → status ≡ 0 → after.is_failed ≡ false
+forget_done id before old _ _ _ (forgotten lets_go tells) zero = lets_go.holding.running
+forget_done id before old _ _ _ (forget_refused fault lets_go tells) zero = not_done _ (refused tells) zero
+
+changed_file : (kind : Kind) (id : ℕ) (pages : Pages) (before after : DeskView) → before.is_failed ≡ false
+    → ChangesByFile kind id pages before after → after.is_failed ≡ false
+changed_file Again id pages before after running same = ap (λ (d : DeskView). d.is_failed) same ∙ running
+changed_file New id pages before after running keeps = keeps.holding.running
+changed_file Complete id pages before after running keeps = keeps.holding.running
+
+imported : (bytes : List ℕ) (before : DeskView) (reply : Imported) (after : DeskView) → before.is_failed ≡ false
+    → ImportsBytes bytes before (Ok reply) after → after.is_failed ≡ false
+imported bytes before reply after running takes =
+    elim takes.read as (λ read. IsReadAs bytes read → after.is_failed ≡ false) [
+      | Ok found ↦ λ is.
+          changed_file reply.kind found.0 found.1 before after running (takes.spelled found.0 found.1 is).2
+      | Err fault ↦ λ is. absurd (let not = (takes.faulty fault is).0 in cc)
+    ] takes.is_read
+
+pub import_done : (bytes : List ℕ) (before : DeskView) (old : OutputView) (status : ℕ) (after : DeskView)
+    (new : OutputView) → before.is_failed ≡ false → TellsImport bytes before old status after new → status ≡ 0
+    → after.is_failed ≡ false
+import_done bytes before old _ _ _ running (import_told reply takes tells) zero =
+    imported bytes before reply _ running takes
+import_done bytes before old _ _ _ running (import_refused fault takes tells) zero =
+    not_done _ (refused tells) zero
+
+-- ---- a scan that is done
+
+changed_page : (kind : Kind) (p : PageView) (before after : DeskView) → before.is_failed ≡ false
+    → ChangesByPage kind p before after → after.is_failed ≡ false
+changed_page Again p before after running same = ap (λ (d : DeskView). d.is_failed) same ∙ running
+changed_page New p before after running keeps = keeps.holding.running
+changed_page Complete p before after running keeps = keeps.holding.running
+
+module _ (A : Type 0) where
+  scanned : (opened : Result (Opened A) LabelFault) (before : DeskView) (reply : Accepted) (after : DeskView)
+      → before.is_failed ≡ false → Scans opened before (Ok reply) after → after.is_failed ≡ false
+  scanned (Ok opened) before reply after running s = changed_page reply.kind opened.page before after running s.2
+  scanned (Err fault) before reply after running s = absurd (let not = s.0 in cc)
+
+  -- a picture whose line names no refusal
+  accepted : (p : Picture) (before : DeskView) (line : List ℕ) (is_refused : Bool) (after : DeskView)
+      → before.is_failed ≡ false → ScansPicture A p before line is_refused after → is_refused ≡ false
+      → after.is_failed ≡ false
+  accepted p before _ _ _ running (scan_accepted grid reply shape inside accepts) is =
+      scanned accepts.opened before reply _ running accepts.scans
+  accepted p before _ _ _ running (scan_refused grid fault shape inside accepts) is = absurd cc
+  accepted p before _ _ _ running (scan_shape bad) is = absurd cc
+  accepted p before _ _ _ running (scan_memory shape) is = absurd cc
+
+  or_false : (a b : Bool) → (a || b) ≡ false → b ≡ false
+  or_false false b is = is
+  or_false true b is = absurd cc
+
+  goes_on : (count : ℕ) (now : DeskView) (taken : List ℕ) (rest : InputView) (line : List ℕ) (also last : Bool)
+      (after : DeskView) → Comes (scan_images A) count now taken rest line also last after → last ≡ false
+      → after.is_failed ≡ false
+  goes_on count now taken rest _ _ _ _ (image p few spelled answers is) not_last =
+      or_false p.plain _ (sym is ∙ not_last)
+  goes_on count now taken rest _ _ _ _ (unread fault few bytes) not_last = absurd cc
+  goes_on count now taken rest _ _ _ _ (too_many is more) not_last = absurd cc
+
+  -- after images that others may follow
+  running_on : (start : DeskView) (count : ℕ) (bytes text : List ℕ) (any : Bool) (now : DeskView)
+      → start.is_failed ≡ false → AnswersImages (scan_images A) start count bytes text any now
+      → now.is_failed ≡ false
+  running_on start _ _ _ _ _ running no_images = running
+  running_on start _ _ _ _ _ running (another before next) = goes_on _ _ _ _ _ _ _ _ next refl
+
+  last_accepted : (count : ℕ) (now : DeskView) (taken : List ℕ) (rest : InputView) (line : List ℕ) (also last : Bool)
+      (after : DeskView) → now.is_failed ≡ false → Comes (scan_images A) count now taken rest line also last after
+      → also ≡ false → after.is_failed ≡ false
+  last_accepted count now taken rest _ _ _ _ running (image p few spelled answers is) none =
+      accepted p now _ _ _ running answers none
+  last_accepted count now taken rest _ _ _ _ running (unread fault few bytes) none = absurd cc
+  last_accepted count now taken rest _ _ _ _ running (too_many is more) none = absurd cc
+
+  ended : (count : ℕ) (now : DeskView) (taken : List ℕ) (rest : InputView) (line : List ℕ) (is_refused : Bool)
+      (after : DeskView) → now.is_failed ≡ false
+      → EndsImages (scan_images A) count now taken rest line is_refused after → is_refused ≡ false
+      → after.is_failed ≡ false
+  ended count now _ _ _ _ _ running (no_image few at_end) none = running
+  ended count now _ _ _ _ _ running (last_line next) none = last_accepted _ _ _ _ _ _ _ _ running next none
+
+  none_refused : (any last : Bool) (status : ℕ) → status ≡ (if any || last then 1 else 0) → status ≡ 0 → last ≡ false
+  none_refused any false status is zero = refl
+  none_refused false true status is zero = absurd cc
+  none_refused true true status is zero = absurd cc
+
+  pub scan_done : (start : DeskView) (input rest : InputView) (old : OutputView) (status : ℕ) (after : DeskView)
+      (new : OutputView) → start.is_failed ≡ false
+      → TellsImages (scan_images A) start input rest old status after new → status ≡ 0 → after.is_failed ≡ false
+  scan_done start input rest old status after new running (inl told) zero =
+      ended told.count told.now _ _ _ _ after (running_on start _ _ _ _ _ running told.answered) told.ended
+      (none_refused told.any_refused told.end_refused status told.status_is zero)
+  scan_done start input rest old status after new running (inr stopped) zero = not_done status stopped.status_is zero

@@ -1,0 +1,228 @@
+-- Why a stop leaves what it may of the store of a command: the printer that was opened on it held the store's ledger;
+-- its call left that as it was, or saved the next one, or met a fault as it saved that; and of each of these printers
+-- it is known what a stop leaves.
+use Rattle.std.proofs.Common.{◌≡◌, ◌⊎◌, inl, inr, ℕ, List, Option, Some, None, Ok, Err, false, refl, sym, ap, subst, ◌∙◌, IsSomeAnd}
+use Rattle.std.specs.Prelude.{Result, is_some}
+use Rattle.dm_check_blocks.specs.declared.size.Size.{Size}
+use Rattle.dm_encodation.specs.declared.scheme.Scheme.{Scheme}
+use Rattle.dm_store.specs.Disk.{Content}
+use Rattle.dm_store.specs.Saved.{Saved, Replaces}
+use Rattle.dm_store.specs.declared.store.ReplaceFault.{ReplaceFault}
+use Rattle.dm_store.specs.Left.{Left, IsDurable, LeavesNoMore}
+use Rattle.dm_print_ledger.specs.Ledger.{Spells}
+use Rattle.dm_print_ledger.specs.Lasting.{IsInOrder, SpellsEither}
+use Rattle.dm_print_ledger.specs.Moving.{Gives, GivesAway, Takes}
+use Rattle.dm_print_ledger.specs.Opening.{Opens}
+use Rattle.dm_print_ledger.specs.Printing.{Prints}
+use Rattle.dm_print_ledger.specs.Saving.{Saves, FailsToSave}
+use Rattle.dm_print_ledger.specs.Views.{JobView, LedgerView, PrinterView, TicketView}
+use Rattle.dm_print_ledger.specs.declared.fault.GiveFault.{GiveFault}
+use Rattle.dm_print_ledger.specs.declared.fault.GiveFault.TheVariants as giving
+use Rattle.dm_print_ledger.specs.declared.fault.PrintFault.{PrintFault}
+use Rattle.dm_print_ledger.specs.declared.fault.PrintFault.TheVariants as printing
+use Rattle.dm_print_ledger.specs.declared.fault.TakeFault.{TakeFault}
+use Rattle.dm_print_ledger.specs.declared.fault.TakeFault.TheVariants as taking
+use Rattle.dm_print_ledger.specs.declared.range.Range.{Range}
+use Rattle.relay_streams.specs.Streams.{OutputView}
+use Rattle.relay_printer_commands.specs.Lasting.{SpellsThisOrNext, StopLeaves, TakesText, UsesOne}
+use Rattle.relay_printer_commands.specs.Print.{TellsPrint}
+use Rattle.relay_printer_commands.specs.Print.TellsPrint.{printed, refused as print_refused}
+use Rattle.relay_printer_commands.specs.Printers.{IsNotOpened, TellsGive, TellsTake}
+use Rattle.relay_printer_commands.specs.Tickets.{IsTextOf}
+use Rattle.relay_printer_commands.specs.Printers.IsNotOpened.{refused as open_refused}
+use Rattle.relay_printer_commands.specs.Printers.TellsGive.{given, refused as give_refused}
+use Rattle.relay_printer_commands.specs.Printers.TellsTake.{taken, refused as take_refused}
+
+-- ---- what a call makes of a printer
+
+pub data GoesOn (Makes : LedgerView → LedgerView → Type 0) (before after : PrinterView) : Type 0 where
+  stays : after ≡ before → GoesOn Makes before after
+  saves : Makes before.ledger after.ledger → Saves before after.ledger after → GoesOn Makes before after
+  fails : (next : LedgerView) → Makes before.ledger next → FailsToSave before next after → GoesOn Makes before after
+
+printed_on : (before : PrinterView) (size : Size) (scheme : Scheme) (document : List ℕ)
+    (answer : Result JobView PrintFault) (after : PrinterView) → Prints before size scheme document answer after
+    → GoesOn UsesOne before after
+printed_on before size scheme document (Ok job) after p = saves (job.id, p.3.used) p.3.saved
+printed_on before size scheme document (Err printing.Memory) after p = stays p.1
+printed_on before size scheme document (Err printing.Save) after p = fails p.1.unsaved (p.1.id, p.1.used) p.1.failed
+printed_on before size scheme document (Err printing.Failed) after p = stays p.1
+printed_on before size scheme document (Err printing.TooLong) after p = stays p.1
+printed_on before size scheme document (Err printing.Exhausted) after p = stays p.1
+
+-- what `give` makes of a ledger
+abbrev pub GivesOne : Range → LedgerView → LedgerView → Type 0
+GivesOne range old new = GivesAway old range new
+
+given_on : (before : PrinterView) (to : ℕ) (range : Range) (answer : Result TicketView GiveFault)
+    (after : PrinterView) → Gives before to range answer after → GoesOn (GivesOne range) before after
+given_on before to range (Ok ticket) after p = saves p.2 p.3
+given_on before to range (Err giving.Memory) after p = stays p.1
+given_on before to range (Err giving.Save) after p = fails p.1 p.2 p.3
+given_on before to range (Err giving.Failed) after p = stays p.1
+given_on before to range (Err giving.Range) after p = stays p.1
+given_on before to range (Err giving.Receiver) after p = stays p.1
+given_on before to range (Err giving.NotFree) after p = stays p.1
+given_on before to range (Err giving.Serials) after p = stays p.1
+given_on before to range (Err giving.Ranges) after p = stays p.1
+
+taken_on : (text : List ℕ) (before : PrinterView) (ticket : TicketView) (answer : Result (Unit {0}) TakeFault)
+    (after : PrinterView) → IsTextOf text ticket → Takes before ticket answer after
+    → GoesOn (TakesText text) before after
+taken_on text before ticket (Ok done) after is p = saves (ticket, is, p.1) p.2
+taken_on text before ticket (Err taking.Memory) after is p = stays p.1
+taken_on text before ticket (Err taking.Save) after is p = fails p.1 (ticket, is, p.2) p.3
+taken_on text before ticket (Err taking.Failed) after is p = stays p.1
+taken_on text before ticket (Err taking.Receiver) after is p = stays p.1
+taken_on text before ticket (Err taking.Old) after is p = stays p.1
+taken_on text before ticket (Err taking.Overlap) after is p = stays p.1
+taken_on text before ticket (Err taking.Ranges) after is p = stays p.1
+taken_on text before ticket (Err taking.Givers) after is p = stays p.1
+
+-- ---- what a stop leaves of it
+
+none_there : {X : Type 0} (o : Option X) → is_some o ≡ false → o ≡ None
+none_there None is = refl
+none_there (Some x) is = absurd cc
+
+module _ (Makes : LedgerView → LedgerView → Type 0) (ledger : LedgerView) where
+  this : (content : Content) → IsSomeAnd content (SpellsEither ledger None)
+      → IsSomeAnd content (SpellsThisOrNext Makes ledger)
+  this (Some bytes) (inl spells) = inl spells
+  this (Some bytes) (inr none) = absurd none
+  this None is = is
+
+  made : (next : LedgerView) → Makes ledger next → (content : Content) → IsSomeAnd content (SpellsEither next None)
+      → IsSomeAnd content (SpellsThisOrNext Makes ledger)
+  made next makes (Some bytes) (inl spells) = inr (next, makes, spells)
+  made next makes (Some bytes) (inr none) = absurd none
+  made next makes None is = is
+
+  either_of : (next : LedgerView) → Makes ledger next → (content : Content)
+      → IsSomeAnd content (SpellsEither ledger (Some next)) → IsSomeAnd content (SpellsThisOrNext Makes ledger)
+  either_of next makes (Some bytes) (inl spells) = inl spells
+  either_of next makes (Some bytes) (inr spells) = inr (next, makes, spells)
+  either_of next makes None is = is
+
+alone : (ledger : LedgerView) (content : Content) → IsSomeAnd content (SpellsEither ledger None)
+    → IsSomeAnd content (λ bytes. Spells bytes ledger)
+alone ledger (Some bytes) (inl spells) = spells
+alone ledger (Some bytes) (inr none) = absurd none
+alone ledger None is = is
+
+-- of a running printer
+running_leaves : (printer : PrinterView) (left : Left) → IsInOrder printer left → printer.is_failed ≡ false
+    → IsDurable printer.saved → (content : Content) → left content
+    → IsSomeAnd content (SpellsEither printer.ledger None)
+running_leaves printer left order running durable content leaves =
+    subst (λ (o : Option LedgerView). IsSomeAnd content (SpellsEither printer.ledger o))
+    (none_there printer.unsaved (sym order.failed ∙ running)) (order.lasts durable content leaves)
+
+module _ (Makes : LedgerView → LedgerView → Type 0) (saved : Saved) (number : ℕ) (before : PrinterView)
+    (opens : Opens saved number before)
+  where
+    durable_before : IsDurable saved → IsDurable before.saved
+    durable_before durable = subst IsDurable (sym opens.same) durable
+
+    durable_after : {bytes : List ℕ} {answer : Result (Unit {0}) ReplaceFault} (after : Saved)
+        → Replaces before.saved bytes answer after → IsDurable saved → IsDurable after
+    durable_after after replaced durable = let was = durable_before durable in
+        (replaced.same_honesty ∙ was.0, replaced.same_durability ∙ was.1)
+
+    -- however the command ended
+    left_after : (after : PrinterView) (left : Left) → GoesOn Makes before after → IsInOrder after left
+        → IsDurable saved → (content : Content) → left content
+        → IsSomeAnd content (SpellsThisOrNext Makes before.ledger)
+    left_after after left (stays same) order durable content leaves =
+        this Makes before.ledger content (subst (λ (l : LedgerView). IsSomeAnd content (SpellsEither l None))
+        (ap (λ (p : PrinterView). p.ledger) same)
+        (running_leaves after left order (ap (λ (p : PrinterView). p.is_failed) same ∙ opens.running)
+        (subst (λ (p : PrinterView). IsDurable p.saved) (sym same) (durable_before durable)) content leaves))
+    left_after after left (saves makes now) order durable content leaves =
+        made Makes before.ledger after.ledger makes content
+        (running_leaves after left order now.running (durable_after after.saved now.replaced durable) content leaves)
+    left_after after left (fails next makes failed) order durable content leaves =
+        either_of Makes before.ledger next makes content
+        (subst (λ (l : LedgerView). IsSomeAnd content (SpellsEither l (Some next))) failed.ledger
+        (subst (λ (o : Option LedgerView). IsSomeAnd content (SpellsEither after.ledger o)) failed.unsaved
+        (order.lasts (durable_after after.saved failed.replaced durable) content leaves)))
+
+    -- the printer was closed after its call, which was done if the status is 0
+    pub closed : (old : Left) (status : ℕ) (after : PrinterView) (left : Left) → GoesOn Makes before after
+        → (status ≡ 0 → Saves before after.ledger after) → IsInOrder after left
+        → StopLeaves Makes saved old status after.saved left
+    closed old status after left goes is_done order = record {
+      done = λ is durable. let s = is_done is in
+          let durable_now = durable_after after.saved s.replaced durable in (
+            after.ledger,
+            order.holds s.running durable_now.0,
+            λ content leaves. alone after.ledger content
+                (running_leaves after left order s.running durable_now content leaves),
+          );
+      either = λ durable content leaves.
+          inr (before.ledger, opens.found durable.0, left_after after left goes order durable content leaves);
+    }
+
+-- nothing was done, and a stop leaves no more
+pub not_begun : (Makes : LedgerView → LedgerView → Type 0) (saved : Saved) (old : Left) (status : ℕ)
+    (after : Saved) (new : Left) → status ≡ 1
+    → (IsDurable saved → LeavesNoMore old new) → StopLeaves Makes saved old status after new
+not_begun Makes saved old status after new is kept = record {
+  done = λ zero. absurd cc;
+  either = λ durable content leaves. inl (kept durable content leaves);
+}
+
+-- ---- the status of a command
+
+-- a line of a refusal was told, or its output has failed
+pub refused_by : {P Q R : Type 0} {status : ℕ} → (P × (status ≡ 1)) ⊎ (Q × R × (status ≡ 1)) → status ≡ 1
+refused_by (inl whole) = whole.1
+refused_by (inr part) = part.2
+
+pub not_opened : (saved : Saved) (number : ℕ) (old : OutputView) (status : ℕ) (after : Saved) (new : OutputView)
+    → IsNotOpened saved number old status after new → status ≡ 1
+not_opened saved number old _ _ _ (open_refused fault has tells) = refused_by tells
+
+pub print_done : (before : PrinterView) (size : Size) (scheme : Scheme) (document : List ℕ)
+    (old old_errors : OutputView) (status : ℕ) (after : PrinterView) (new errors : OutputView)
+    → TellsPrint before size scheme document old old_errors status after new errors → status ≡ 0
+    → Saves before after.ledger after
+print_done before size scheme document old old_errors _ _ _ _ (printed job prints labels) is =
+    prints.3.saved
+print_done before size scheme document old old_errors _ _ _ _ (print_refused fault prints tells) is =
+    absurd (let one = refused_by tells in cc)
+
+pub print_on : (before : PrinterView) (size : Size) (scheme : Scheme) (document : List ℕ)
+    (old old_errors : OutputView) (status : ℕ) (after : PrinterView) (new errors : OutputView)
+    → TellsPrint before size scheme document old old_errors status after new errors → GoesOn UsesOne before after
+print_on before size scheme document old old_errors _ _ _ _ (printed job prints labels) =
+    printed_on _ _ _ _ (Ok job) _ prints
+print_on before size scheme document old old_errors _ _ _ _ (print_refused fault prints tells) =
+    printed_on _ _ _ _ (Err fault) _ prints
+
+pub give_done : (before : PrinterView) (to : ℕ) (range : Range) (old : OutputView) (status : ℕ)
+    (after : PrinterView) (new : OutputView) → TellsGive before to range old status after new → status ≡ 0
+    → Saves before after.ledger after
+give_done before to range old _ _ _ (given ticket gives tells) is = gives.3
+give_done before to range old _ _ _ (give_refused fault gives tells) is =
+    absurd (let one = refused_by tells in cc)
+
+pub give_on : (before : PrinterView) (to : ℕ) (range : Range) (old : OutputView) (status : ℕ)
+    (after : PrinterView) (new : OutputView) → TellsGive before to range old status after new
+    → GoesOn (GivesOne range) before after
+give_on before to range old _ _ _ (given ticket gives tells) = given_on _ _ _ (Ok ticket) _ gives
+give_on before to range old _ _ _ (give_refused fault gives tells) = given_on _ _ _ (Err fault) _ gives
+
+pub take_done : (before : PrinterView) (ticket : TicketView) (old : OutputView) (status : ℕ)
+    (after : PrinterView) (new : OutputView) → TellsTake before ticket old status after new → status ≡ 0
+    → Saves before after.ledger after
+take_done before ticket old _ _ _ (taken takes tells) is = takes.2
+take_done before ticket old _ _ _ (take_refused fault takes tells) is =
+    absurd (let one = refused_by tells in cc)
+
+pub take_on : (text : List ℕ) (before : PrinterView) (ticket : TicketView) (old : OutputView) (status : ℕ)
+    (after : PrinterView) (new : OutputView) → IsTextOf text ticket → TellsTake before ticket old status after new
+    → GoesOn (TakesText text) before after
+take_on text before ticket old _ _ _ is (taken takes tells) = taken_on text _ _ (Ok tt) _ is takes
+take_on text before ticket old _ _ _ is (take_refused fault takes tells) =
+    taken_on text _ _ (Err fault) _ is takes
