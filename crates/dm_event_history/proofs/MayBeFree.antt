@@ -1,6 +1,6 @@
 -- A number that is free at a printer by a legal history may be free there by the events and replies of its run. So the
 -- identification of each batch may have been, and each number that was given.
-use Rattle.std.proofs.Common.{◌≡◌, ◌==◌, not, inl, inr, ℕ, Bool, true, false, Option, Some, List, [], ◌∷◌, ◌++◌, length, take, slice_get, refl, ap, sym, ◌∙◌, subst}
+use Rattle.std.proofs.Common.{◌≡◌, ◌==◌, ◌<◌, not, inl, inr, ℕ, zero, suc, arith, Bool, true, false, Option, Some, List, [], ◌∷◌, ◌++◌, length, take, slice_get, refl, ap, sym, ◌∙◌, subst}
 use Rattle.dm_check_blocks.specs.declared.size.Size.{Size}
 use Rattle.dm_encodation.specs.declared.scheme.Scheme.{Scheme}
 use Rattle.dm_print_ledger.specs.declared.range.Range.{Range}
@@ -12,15 +12,18 @@ use Rattle.dm_event_history.specs.declared.reply.Reply.{Reply}
 use Rattle.dm_event_history.specs.declared.reply.Reply.TheVariants.{Given}
 use Rattle.dm_event_history.specs.declared.stop.Stop.{Stop}
 use Rattle.dm_event_history.specs.Actors.{Actor, PrinterAt, actor_of}
-use Rattle.dm_event_history.specs.History.{Entry, History, replies_of, tickets}
+use Rattle.dm_event_history.specs.History.{Entry, History, events_of, replies_of, tickets}
+use Rattle.dm_event_history.specs.Places.{is_taken}
 use Rattle.dm_event_history.specs.Saving.{may_save, tells_of_save}
 use Rattle.dm_event_history.specs.Numbers.{free_at, free_after, saved_at, is_of, is_on}
 use Rattle.dm_event_history.specs.Running.{is_failed}
 use Rattle.dm_event_history.specs.Replying.{has_failed_before}
 use Rattle.dm_event_history.specs.Legal.{Fits, IsLegal, MayMove, MayBeTaken}
-use Rattle.dm_event_history.specs.Tickets.{tickets_in}
+use Rattle.dm_event_history.specs.Tickets.{TakesTicket, tickets_in}
 use Rattle.dm_event_history.specs.Headline.{Batch, IsAt, MayGain, GivesAway, MayBeFree}
-use Rattle.dm_event_history.proofs.Batches.{batch_of, batches_of, batches_count, replies_count, before_or_last, batch_means, take_whole}
+use Rattle.dm_event_history.proofs.TakenTickets.{not_taken}
+use Rattle.dm_event_history.proofs.RisingTickets.{was_taken}
+use Rattle.dm_event_history.proofs.Batches.{batch_of, batches_of, batches_count, events_count, replies_count, before_or_last, batch_means, take_whole}
 use Rattle.dm_event_history.proofs.Deciding.{both, decided, if_not, if_so, or_means, and_so, true_false}
 use Rattle.dm_event_history.proofs.NumberedTickets.{tickets_are}
 use Rattle.dm_event_history.proofs.Tainting.{IsFirst, first_less, last_asked}
@@ -37,6 +40,31 @@ tickets_before {A} events replies h first =
     (take_whole (replies_of h) first.later_replies)) ∙
     tickets_are h
 
+-- what is at a place of the first part of a list
+within : {X : Type 0} (xs ys : List X) (i : ℕ) (x : X) → i < length xs → slice_get (xs ++ ys) i ≡ Some x
+    → slice_get xs i ≡ Some x
+within [] ys i x lt is = absurd (omega (arith, lt))
+within (z ∷ zs) ys zero x lt is = is
+within (z ∷ zs) ys (suc i) x lt is = within zs ys i x (omega (arith, lt)) is
+
+-- no take of a ticket was told before one that may still take it
+untaken : {A : Type 0} (events : List (Event A)) (replies : List (Reply A)) (h : History A) →
+    IsFirst events replies h → (ranges : List Range) (desks : ℕ) → IsLegal ranges desks h →
+    (at ticket : ℕ) → MayBeTaken h at ticket → (j other : ℕ) → j < length h →
+    ¬ TakesTicket events replies j other ticket
+untaken {A} events replies h first ranges desks legal at ticket may j other before t =
+    true_false (is_taken h ticket)
+    (was_taken ranges desks h j other ticket legal (record {
+      stop = t.stop;
+      event = within (events_of h) first.later_events j (Take other ticket t.stop) (rw (events_count h) before)
+          (subst (λ (l : List (Event A)). slice_get l j ≡ Some (Take other ticket t.stop)) first.events_are t.event);
+      reply = t.reply;
+      answered = within (replies_of h) first.later_replies j t.reply (rw (replies_count h) before)
+          (subst (λ (l : List (Reply A)). slice_get l j ≡ Some t.reply) first.replies_are t.answered);
+      taken = t.taken;
+    }))
+    (not_taken ranges desks h at ticket legal may)
+
 -- a give that is told saved, at the printer that it names
 gives_saved : {A : Type 0} (event : Event A) (reply : Reply A) (printer number : ℕ) →
     GivesAway event reply printer number →
@@ -52,10 +80,11 @@ gives_range at receiver range stop reply printer number away = absurd away
 
 -- a number that is free after an entry may be free by the run, if it may have been where it was free before
 free_next : {A : Type 0} (ranges : List Range) (desks : ℕ) (events : List (Event A)) (replies : List (Reply A))
-    (e : Entry A) (h : History A) → IsFirst events replies (e ∷ h) → Fits ranges desks h e → (printer number : ℕ) →
+    (e : Entry A) (h : History A) → IsFirst events replies (e ∷ h) → Fits ranges desks h e → IsLegal ranges desks h →
+    (printer number : ℕ) →
     (free_at ranges h printer number ≡ true → MayBeFree ranges events replies (length h) printer number) →
     free_at ranges (e ∷ h) printer number ≡ true → MayBeFree ranges events replies (length (e ∷ h)) printer number
-free_next {A} ranges desks events replies e h first fits printer number rest free =
+free_next {A} ranges desks events replies e h first fits legal printer number rest free =
     elim (decided (saved_at e printer)) [
       | inl saved ↦ by_event saved e.event refl
           (sym (if_so (saved_at e printer) (after e.event) before saved) ∙ free)
@@ -104,24 +133,21 @@ free_next {A} ranges desks events replies e h first fits printer number rest fre
           | inl on ↦
               (let own : e.saved ≡ true = (both e.saved (is_of e printer) saved).0 in
               let m : MayBeTaken h at ticket = subst (λ (v : Event A). MayMove ranges h e.id v) is (fits.moves own) in
-              inl (at_end events replies e h
-              (λ event reply. MayGain (tickets_in (take (length h) replies)) event reply printer number
-              × (has_failed_before events replies (length h) (PrinterAt printer) ≡ false)) first (
-                subst (λ (v : Event A). MayGain (tickets_in (take (length h) replies)) v e.reply printer number)
-                    (sym is) (
-                      owner saved at ticket stop is,
-                      subst (λ (v : Event A). may_save v e.reply ≡ true) is (fits.saved own),
-                      m.ticket,
-                      ap (λ (l : List TicketView). slice_get l ticket) (tickets_before events replies h less) ∙ m.there,
-                      m.receiver ∙ owner saved at ticket stop is,
-                      sym (ap (λ (o : Option TicketView). is_on o number) m.there) ∙ on,
-                    ),
+              inl (at_end events replies e h (MayGain events replies (length h) printer number) first
+              (subst (λ (v : Event A). MayGain events replies (length h) printer number v e.reply) (sym is) (
+                owner saved at ticket stop is,
+                subst (λ (v : Event A). may_save v e.reply ≡ true) is (fits.saved own),
+                m.ticket,
+                ap (λ (l : List TicketView). slice_get l ticket) (tickets_before events replies h less) ∙ m.there,
+                m.receiver ∙ owner saved at ticket stop is,
+                sym (ap (λ (o : Option TicketView). is_on o number) m.there) ∙ on,
                 failed_before_is events replies h less (PrinterAt printer) ∙
                     ap (λ (a : Actor). is_failed h a)
                     (sym (same_means (actor_of e.event) (PrinterAt printer)
                     (both e.saved (is_of e printer) saved).1)) ∙
                     saved_unfailed ranges desks h e fits own,
-              )))
+                untaken events replies h less ranges desks legal at ticket m,
+              ))))
           | inr was ↦ inr (
             (λ given. absurd (subst (λ (v : Event A). GivesAway v e.reply printer number) is (given_now given))),
             rest was,
@@ -142,7 +168,7 @@ pub may_be_free : {A : Type 0} (ranges : List Range) (desks : ℕ) (events : Lis
     free_at ranges h printer number ≡ true → MayBeFree ranges events replies (length h) printer number
 may_be_free ranges desks events replies [] first legal printer number free = free
 may_be_free ranges desks events replies (e ∷ h) first legal printer number free =
-    free_next ranges desks events replies e h first legal.0 printer number
+    free_next ranges desks events replies e h first legal.0 legal.1 printer number
     (λ was. may_be_free ranges desks events replies h (first_less events replies e h first) legal.1 printer number was)
     free
 

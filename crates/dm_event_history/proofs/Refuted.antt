@@ -48,7 +48,7 @@ use Rattle.dm_event_history.specs.Saving.{may_save}
 use Rattle.dm_event_history.specs.Tickets.{WasGiven, WasReached, tickets_in}
 use Rattle.dm_event_history.specs.Worked.{digits, range, two_ranges, first_ticket}
 use Rattle.dm_event_history.specs.Telling.{Known, IsImportKindSafe, MayHoldOthers, IsFullForLabel, IsFullForExport}
-use Rattle.dm_event_history.specs.Unfaithful.{Run, IsFaithfulRun, missing_first_label, lost_by_a_refused_forget, imported_at_last, printed_untaken, given_to_another, old_by_another_giver, imported_none_of_another, wrong_after_a_refused_scan, old_by_another_ticket, printed_of_another, given_of_another, given_again, given_though_printed, printed_of_anothers_ticket, taken_though_kept, saved_though_failed, held_and_missing, forgotten_elsewhere, forgotten_twice, again_at_first, new_twice, new_at_last, complete_at_first, missing_though_held, given_elsewhere, conflicting_label, exported_in_part, added_again, refused_label, exhausted_at_first, too_long_of_few, IsFaithfulMarked, IsTaintedIn, IsTaintedSo, wrong_at, imported, PrintsOnceRun, AreRepliesRun, TakesOnceRun, ImportsExportsRun, other_digits, scan, page, ticket, another_call, stopped_unasked, forgotten_with_a_fault, scanned_though_stopped, failed_without_a_fault, damaged_by_itself, answered_while_down, down_unstopped, failed_before_a_fault, given_though_failed, missing_printer, numbered_above, second_ticket, taken_falling, old_at_first, old_after_a_lower, old_unsaved, old_though_failed, refused_ungiven, missing_ticket, exported_above, refused_unexported, missing_export, never_saved, refused_import, scanned_outside, given_to_itself, refused_range, refused_receiver, full_at_first, full_with_one, two_desks, four_desks, wrong_of_two, refused_unprinted, missing_label, third_desk, begun_unscanned, exported_unscanned, printed_after_forgotten, one_serial, given_falling, taken_though_old, imported_another_document, imported_another_page, exported_twice, half_printed, printed_unseen, unseen_labels, print, never_printed, wrong_document, another_document, never_scanned, two_documents, printed_twice, told_twice, printed_beyond, left_though_failed, never_left, numbered_twice, taken_twice, taken_elsewhere, overlaps, AreUnfaithful}
+use Rattle.dm_event_history.specs.Unfaithful.{Run, IsFaithfulRun, missing_first_label, lost_by_a_refused_forget, imported_at_last, printed_untaken, given_after_taken, ticket_back, given_to_another, old_by_another_giver, imported_none_of_another, wrong_after_a_refused_scan, old_by_another_ticket, printed_of_another, given_of_another, given_again, given_though_printed, printed_of_anothers_ticket, taken_though_kept, saved_though_failed, held_and_missing, forgotten_elsewhere, forgotten_twice, again_at_first, new_twice, new_at_last, complete_at_first, missing_though_held, given_elsewhere, conflicting_label, exported_in_part, added_again, refused_label, exhausted_at_first, too_long_of_few, IsFaithfulMarked, IsTaintedIn, IsTaintedSo, wrong_at, imported, PrintsOnceRun, AreRepliesRun, TakesOnceRun, ImportsExportsRun, other_digits, scan, page, ticket, another_call, stopped_unasked, forgotten_with_a_fault, scanned_though_stopped, failed_without_a_fault, damaged_by_itself, answered_while_down, down_unstopped, failed_before_a_fault, given_though_failed, missing_printer, numbered_above, second_ticket, taken_falling, old_at_first, old_after_a_lower, old_unsaved, old_though_failed, refused_ungiven, missing_ticket, exported_above, refused_unexported, missing_export, never_saved, refused_import, scanned_outside, given_to_itself, refused_range, refused_receiver, full_at_first, full_with_one, two_desks, four_desks, wrong_of_two, refused_unprinted, missing_label, third_desk, begun_unscanned, exported_unscanned, printed_after_forgotten, one_serial, given_falling, taken_though_old, imported_another_document, imported_another_page, exported_twice, half_printed, printed_unseen, unseen_labels, print, never_printed, wrong_document, another_document, never_scanned, two_documents, printed_twice, told_twice, printed_beyond, left_though_failed, never_left, numbered_twice, taken_twice, taken_elsewhere, overlaps, AreUnfaithful}
 
 -- each event of a run was found honest
 abbrev marks : {A : Type 0} → Run A → List Bool
@@ -1440,15 +1440,12 @@ printed_untaken_is A (batches, f) =
 
     by_free : MayBeFree two_ranges events replies 3 1 5 → ⊥
     by_free (inl gained) = not_at events replies 2 (RestartPrinter 1) Restarted
-        (λ event reply. MayGain (tickets_in (take 2 replies)) event reply 1 5
-        × (has_failed_before events replies 2 (PrinterAt 1) ≡ false)) refl refl (λ t. t.0) gained
+        (MayGain events replies 2 1 5) refl refl (λ t. t) gained
     by_free (inr (stays, inl gained)) = not_at events replies 1 (Take 1 0 stops.BeforeSave) Stopped
-        (λ event reply. MayGain (tickets_in (take 1 replies)) event reply 1 5
-        × (has_failed_before events replies 1 (PrinterAt 1) ≡ false)) refl refl (λ t. cc (t.0.1)) gained
+        (MayGain events replies 1 1 5) refl refl (λ t. cc (t.1)) gained
     by_free (inr (stays, inr (still, inl gained))) =
         not_at events replies 0 (Give 0 1 first_ticket.range stops.None) (Given 0 first_ticket)
-        (λ event reply. MayGain (tickets_in (take 0 replies)) event reply 1 5
-        × (has_failed_before events replies 0 (PrinterAt 1) ≡ false)) refl refl (λ t. t.0) gained
+        (MayGain events replies 0 1 5) refl refl (λ t. t) gained
     by_free (inr (stays, inr (still, inr (again, began)))) = cc (began)
 
 given_of_another_is : (A : Type 0) → ¬ IsFaithfulRun (given_of_another A)
@@ -1482,16 +1479,12 @@ printed_of_anothers_ticket_is A (batches, f) =
 
     by_free : MayBeFree two_ranges events replies 3 0 3 → ⊥
     by_free (inl gained) = not_at events replies 2 (RestartPrinter 0) Restarted
-        (λ event reply. MayGain (tickets_in (take 2 replies)) event reply 0 3
-        × (has_failed_before events replies 2 (PrinterAt 0) ≡ false)) refl refl (λ t. t.0) gained
+        (MayGain events replies 2 0 3) refl refl (λ t. t) gained
     by_free (inr (stays, inl gained)) = not_at events replies 1 (Take 0 0 (stops.AfterLabels 0)) Stopped
-        (λ event reply. MayGain (tickets_in (take 1 replies)) event reply 0 3
-        × (has_failed_before events replies 1 (PrinterAt 0) ≡ false)) refl refl
-        (λ t. for_another t.0.2 t.0.3 t.0.4) gained
+        (MayGain events replies 1 0 3) refl refl (λ t. for_another t.2 t.3 t.4) gained
     by_free (inr (stays, inr (still, inl gained))) =
         not_at events replies 0 (Give 0 1 (range 0 4) stops.None) (Given 0 (ticket 0 (range 0 4)))
-        (λ event reply. MayGain (tickets_in (take 0 replies)) event reply 0 3
-        × (has_failed_before events replies 0 (PrinterAt 0) ≡ false)) refl refl (λ t. t.0) gained
+        (MayGain events replies 0 0 3) refl refl (λ t. t) gained
     by_free (inr (stays, inr (still, inr again))) = again.0 (record {
       event = Give 0 1 (range 0 4) stops.None;
       asked = refl;
@@ -1512,12 +1505,39 @@ given_again_is A (batches, f) =
 
     by_free : MayBeFree two_ranges events replies 1 0 4 → ⊥
     by_free (inl gained) = not_at events replies 0 (Give 0 1 (range 0 4) stops.None) (Given 0 (ticket 0 (range 0 4)))
-        (λ event reply. MayGain (tickets_in (take 0 replies)) event reply 0 4
-        × (has_failed_before events replies 0 (PrinterAt 0) ≡ false)) refl refl (λ t. t.0) gained
+        (MayGain events replies 0 0 4) refl refl (λ t. t) gained
     by_free (inr stays) = stays.0 (record {
       event = Give 0 1 (range 0 4) stops.None;
       asked = refl;
       reply = Given 0 (ticket 0 (range 0 4));
+      answered = refl;
+      is_so = (refl, refl);
+    })
+
+given_after_taken_is : (A : Type 0) → ¬ IsFaithfulRun (given_after_taken A)
+given_after_taken_is A (batches, f) =
+    by_free (f.prints.gives_own 5 1 0 (range 7 9) stops.None 2 (ticket_back 1 (range 7 9)) refl refl 7 refl).0
+  where
+    events : List (Event A)
+    events = map (λ one. one.0) (given_after_taken A)
+
+    replies : List (Reply A)
+    replies = map (λ one. one.1) (given_after_taken A)
+
+    by_free : MayBeFree two_ranges events replies 5 1 7 → ⊥
+    by_free (inl gained) = not_at events replies 4 (RestartPrinter 1) Restarted
+        (MayGain events replies 4 1 7) refl refl (λ t. t) gained
+    by_free (inr (stays, inl gained)) = not_at events replies 3 (Take 1 0 (stops.AfterLabels 0)) Stopped
+        (MayGain events replies 3 1 7) refl refl
+        (λ t. t.7 1 1 (omega arith)
+        (record { stop = stops.None; event = refl; reply = Taken; answered = refl; taken = tt })) gained
+    by_free (inr (stays, inr (still, inl gained))) =
+        not_at events replies 2 (Give 1 0 (range 5 9) stops.None) (Given 1 (ticket_back 0 (range 5 9)))
+        (MayGain events replies 2 1 7) refl refl (λ t. t) gained
+    by_free (inr (stays, inr (still, inr again))) = again.0 (record {
+      event = Give 1 0 (range 5 9) stops.None;
+      asked = refl;
+      reply = Given 1 (ticket_back 0 (range 5 9));
       answered = refl;
       is_so = (refl, refl);
     })
@@ -1691,6 +1711,7 @@ are_unfaithful A = record {
   given_again_is = given_again_is A;
   given_though_printed_is = given_though_printed_is A;
   printed_of_anothers_ticket_is = printed_of_anothers_ticket_is A;
+  given_after_taken_is = given_after_taken_is A;
   left_though_failed_is = left_though_failed_is A;
   never_left_is = never_left_is A;
   saved_though_failed_is = saved_though_failed_is A;

@@ -34,7 +34,7 @@ use Rattle.dm_event_history.specs.Counts.{HasNumber}
 use Rattle.dm_event_history.specs.Holding.{Takes, MayTake, Forgets, MayForget}
 use Rattle.dm_event_history.specs.Telling.{Known, IsReplyTrue, IsFullForLabel, IsFullForExport}
 use Rattle.dm_event_history.specs.Imports.{exports_in}
-use Rattle.dm_event_history.specs.Tickets.{tickets_in}
+use Rattle.dm_event_history.specs.Tickets.{TakesTicket, tickets_in}
 use Rattle.dm_event_history.specs.Tainted.{AtDesk, InExport, IsTainted}
 
 -- ---- the labels that left
@@ -123,13 +123,16 @@ pub record IsAt {A : Type 0} (events : List (Event A)) (replies : List (Reply A)
   pub answered : slice_get replies k ≡ Some reply
   pub is_so : IsSo event reply
 
--- a take by this printer may have saved, of a ticket for it with the number on it; these had been given
-abbrev pub MayGain : {A : Type 0} → List TicketView → Event A → Reply A → ℕ → ℕ → Type 0
-MayGain tickets (Take at index stop) reply printer number =
+-- Event number k is a take by this printer that may have saved, of a ticket for it with the number on it. The ticket
+-- had been given, no take of it had been told, and no save of the printer had failed since its last restart.
+abbrev pub MayGain : {A : Type 0} → List (Event A) → List (Reply A) → ℕ → ℕ → ℕ → Event A → Reply A → Type 0
+MayGain events replies k printer number (Take at index stop) reply =
     (at ≡ printer) × (may_save (Take at index stop) reply ≡ true)
-    × (ticket : TicketView) × (slice_get tickets index ≡ Some ticket) × (ticket.receiver ≡ printer)
-    × (is_in ticket.range number ≡ true)
-MayGain tickets event reply printer number = ⊥
+    × (ticket : TicketView) × (slice_get (tickets_in (take k replies)) index ≡ Some ticket)
+    × (ticket.receiver ≡ printer) × (is_in ticket.range number ≡ true)
+    × (has_failed_before events replies k (PrinterAt printer) ≡ false)
+    × ((j other : ℕ) → j < k → ¬ TakesTicket events replies j other index)
+MayGain events replies k printer number event reply = ⊥
 
 -- a give of the number by this printer was told
 abbrev pub GivesAway : {A : Type 0} → Event A → Reply A → ℕ → ℕ → Type 0
@@ -138,12 +141,11 @@ GivesAway (Give at receiver range stop) (Given index ticket) printer number =
 GivesAway event reply printer number = ⊥
 
 -- before event number i a number may be free at a printer, if it was not printed: the printer began with it, or a take
--- may have brought it, while no save had failed since the last restart, and no later give was told by which it went
+-- may have brought it, and no later give was told by which it went
 abbrev pub MayBeFree : {A : Type 0} → List Range → List (Event A) → List (Reply A) → ℕ → ℕ → ℕ → Type 0
 MayBeFree ranges events replies zero printer number = is_in_some (slice_get ranges printer) number ≡ true
 MayBeFree ranges events replies (suc k) printer number =
-    IsAt events replies k (λ event reply. MayGain (tickets_in (take k replies)) event reply printer number
-    × (has_failed_before events replies k (PrinterAt printer) ≡ false))
+    IsAt events replies k (MayGain events replies k printer number)
     ⊎ ((¬ IsAt events replies k (λ event reply. GivesAway event reply printer number))
     × MayBeFree ranges events replies k printer number)
 

@@ -365,6 +365,20 @@ printed_of_anothers_ticket A =
     (Take 0 0 (AfterLabels 0), Stopped) ∷
     (RestartPrinter 0, Restarted) ∷ (print 0 digits None, Printed 3 0 2) ∷ []
 
+-- a ticket of printer 1 for printer 0
+abbrev pub ticket_back : ℕ → Range → TicketView
+ticket_back serial range = record { giver = 1; serial = serial; receiver = 0; range = range }
+
+-- `gives_own`: numbers are given that a printer had given back, after it was stopped as it took, a second time, the
+-- ticket that had brought them
+abbrev pub given_after_taken : (A : Type 0) → Run A
+given_after_taken A =
+    (Give 0 1 (range 5 9) None, Given 0 (ticket 0 (range 5 9))) ∷
+    (Take 1 0 None, Taken) ∷
+    (Give 1 0 (range 5 9) None, Given 1 (ticket_back 0 (range 5 9))) ∷
+    (Take 1 0 (AfterLabels 0), Stopped) ∷
+    (RestartPrinter 1, Restarted) ∷ (Give 1 0 (range 7 9) None, Given 2 (ticket_back 1 (range 7 9))) ∷ []
+
 -- `unfailed`: a label is told that left by a printer whose last save failed
 abbrev pub left_though_failed : (A : Type 0) → Run A
 left_though_failed A =
@@ -668,6 +682,7 @@ pub record AreUnfaithful (A : Type 0) : Type 0 where
   pub given_again_is : ¬ IsFaithfulRun (given_again A)
   pub given_though_printed_is : ¬ IsFaithfulRun (given_though_printed A)
   pub printed_of_anothers_ticket_is : ¬ IsFaithfulRun (printed_of_anothers_ticket A)
+  pub given_after_taken_is : ¬ IsFaithfulRun (given_after_taken A)
   pub left_though_failed_is : ¬ IsFaithfulRun (left_though_failed A)
   pub never_left_is : ¬ IsFaithfulRun (never_left A)
   pub saved_though_failed_is : ¬ IsFaithfulRun (saved_though_failed A)
