@@ -1,7 +1,7 @@
 //! The documents of a file of version 1, moved to a set with a file for each.
 
 ghost use Rattle.std.specs.Prelude.{◌≡◌, ◌<◌, ◌∷◌, ℕ, slice_index_or, IsSome, IfOk, IfErr};
-ghost use Rattle.dm_store.specs.Sets.{SavesKey};
+ghost use Rattle.dm_store.specs.Sets.{ListsKeys, SavesKey};
 ghost use Rattle.dm_assembly_desk.specs.Moving.{Moves, HasMoveFault, StopsSomewhere};
 ghost use Rattle.dm_assembly_desk.specs.Moving.{KeepsFiles, KeepsPlans, LeavesAlone};
 ghost use Rattle.dm_assembly_desk.specs.inner.ReadingJoint.{entries_at};
@@ -16,7 +16,8 @@ use std::alloc::Allocator;
 
 /// Moves the documents of a file of version 1, in which all stand together, to a set with a file for each, and then
 /// puts a file of no documents in its place. What the set has under a key stays as it is. On every outcome the two
-/// hold together what they held, so a second call finishes the first. It answers how many keys were written.
+/// hold together what they held, so a second call finishes the first. What the set has is loaded first, so that no stop
+/// takes it back. It answers how many keys were written.
 ///
 /// # Errors
 /// The load's `Device` or `Memory`, `NotPages`, `Version`, `Damaged`, and `Device` or `Memory` of the keys, of the
@@ -50,7 +51,7 @@ pub fn move_pages<O: Store, S: StoreSet, A: Allocator + Copy>(
     if count == 0 {
         return Ok(0);
     }
-    let keys = match set.keys(65_536) {
+    let keys = match settled_keys(set) {
         Ok(keys) => keys,
         Err(LoadFault::Device) => return Err(MoveFault::Device),
         Err(LoadFault::Memory) => return Err(MoveFault::Memory),
@@ -66,6 +67,18 @@ pub fn move_pages<O: Store, S: StoreSet, A: Allocator + Copy>(
         Err(ReplaceFault::Device) => Err(MoveFault::Device),
         Err(ReplaceFault::Memory) => Err(MoveFault::Memory),
     }
+}
+
+// The keys of a set. What is under each of them is loaded, since a stop may take back a file that a save put there and
+// that no load has given: such a file is not written again, though the old one is emptied.
+fn settled_keys<S: StoreSet>(set: &mut S) -> Result<Vec<u16, S::Memory>, LoadFault>
+    ensures lists { ListsKeys (λ keys. keys.items) (S.state set.old) 65536 result (S.state set.new) }
+{
+    let keys = set.keys(65_536)?;
+    for key in &keys {
+        set.load(*key, 0)?;
+    }
+    Ok(keys)
 }
 
 // Keys are numbers of two bytes.

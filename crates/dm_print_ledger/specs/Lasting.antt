@@ -1,5 +1,5 @@
--- What a stop of the machine may leave of a printer, at any moment: its ledger, or after a save that failed the one
--- that was to be saved; and what holds of a printer between calls.
+-- What a stop of the machine may leave of a printer, at any moment: its ledger or, if a save has failed, the ledger of
+-- that save; and what holds of a printer between calls.
 use Rattle.std.specs.Prelude.{◌≡◌, ◌⊎◌, ℕ, List, false, Option, Some, is_some, IsTrue, IfSome, IsSomeAnd}
 use Rattle.dm_store.specs.Disk.{Content}
 use Rattle.dm_store.specs.Saved.{Saved}
@@ -12,7 +12,7 @@ use Rattle.dm_print_ledger.specs.Ledger.{IsSound, Spells, ledger_bytes}
 use Rattle.dm_print_ledger.specs.Saving.{HoldsLedger}
 use Rattle.dm_print_ledger.specs.Views.{LedgerView, PrinterView}
 
--- the bytes spell the ledger, or the one that was not saved, if there is one
+-- the bytes spell the ledger, or the one whose save failed, if one did
 abbrev pub SpellsEither : LedgerView → Option LedgerView → List ℕ → Type 0
 SpellsEither ledger unsaved bytes = Spells bytes ledger ⊎ IsSomeAnd unsaved (Spells bytes)
 

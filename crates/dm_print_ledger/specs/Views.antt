@@ -19,7 +19,8 @@ pub record TicketView : Type 0 where
   pub receiver : ℕ
   pub range : Range
 
--- its store, its ledger as last known to be saved, whether a save failed, and the ledger that was not saved then
+-- its store, its ledger as last known to be saved, whether a save failed, and the ledger whose save that was, which may
+-- be saved or not
 pub record PrinterView : Type 0 where
   pub saved : Saved
   pub ledger : LedgerView

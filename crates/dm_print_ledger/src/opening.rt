@@ -36,7 +36,7 @@ impl<S: Store, A: Allocator + Copy> Printer<S, A> {
         ensures ok { IfOk result (Opens (S.state store) number) }
         ensures fault { IfErr result (λ refused. HasOpenFault (S.state store) number refused.fault) }
         ensures same { IfErr result (λ refused. S.state refused.store ≡ S.state store) }
-        // Nor does a stop leave more of it.
+        // A stop can then leave only what it could leave before.
         ensures leaves { IfErr result (λ refused.
             IsDurable (S.state store) → LeavesNoMore (S.left store) (S.left refused.store)) }
         // Of an honest store each refusal stands wherever it applies, unless the load failed.

@@ -77,7 +77,7 @@ pub trait Disk: Drop {
         ensures syncs { IsTrue (state self.old).is_honest
             → SyncsEntry (state self.old) name.now result (state self.new) };
 
-    /// What a reader finds, a stop may leave.
+    /// A stop may leave what a reader finds.
     ghost leaves_seen: { (disk : Self) (name : List ℕ) → IsTrue (state disk).is_honest
         → (state disk).may_leave name ((state disk).seen name) };
 }

@@ -50,6 +50,8 @@ impl<D: Folders, A: Allocator + Copy> Model for FileSet<D, A> {
 }
 
 impl<D: Folders, A: Allocator + Copy> FileSet<D, A> {
+    ghost use Rattle.dm_store.specs.Left.{AreOnDisk};
+
     /// A set in the folder `folder` of the disk, which need not be there. It takes no memory, and makes no call.
     pub fn new(alloc: A, disk: D, folder: String<A>) -> FileSet<D, A>
         ensures { result ≡ record { disk = disk; path = string_bytes folder; is_synced = false } }
@@ -74,9 +76,10 @@ impl<D: Folders, A: Allocator + Copy> FileSet<D, A> {
         set
     }
 
-    /// The disk, as the calls left it.
+    /// The disk, as the calls left it. The bytes of the files of a synced set's keys are still on it.
     pub fn into_disk(self) -> D
-        ensures { result ≡ self.disk }
+        ensures disk { result ≡ self.disk }
+        ensures on_disk { AreOnDisk self.is_synced (D.state result) self.path }
     {
         self.disk
     }

@@ -49,6 +49,8 @@ impl<D: Disk, A: Allocator + Copy> Model for FileStore<D, A> {
 }
 
 impl<D: Disk, A: Allocator + Copy> FileStore<D, A> {
+    ghost use Rattle.dm_store.specs.Left.{IsOnDisk};
+
     /// A store in the file at `path` of the disk, which need not be there. It takes no memory, and makes no call.
     pub fn new(alloc: A, disk: D, path: String<A>) -> FileStore<D, A>
         ensures { result ≡ record { disk = disk; path = string_bytes path; is_synced = false } }
@@ -72,9 +74,10 @@ impl<D: Disk, A: Allocator + Copy> FileStore<D, A> {
         store
     }
 
-    /// The disk, as the calls left it.
+    /// The disk, as the calls left it. The bytes of a synced store's file are still on it.
     pub fn into_disk(self) -> D
-        ensures { result ≡ self.disk }
+        ensures disk { result ≡ self.disk }
+        ensures on_disk { IsOnDisk self.is_synced (D.state result) self.path }
     {
         self.disk
     }

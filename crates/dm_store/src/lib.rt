@@ -8,8 +8,8 @@
 //! - After a save that answers `Ok` an honest store holds the new content. After `Memory` nothing has changed. After
 //!   `Device` it holds the old or the new content, as its plan for the save said. An honest set changes no other key.
 //! - No call changes the honesty, the durability or what loads may do.
-//! - What a stop of the machine may leave of a durable store is what a load gave or what a save that is done put there;
-//!   in a save, or after one that failed, it is what might have been left before, or the new bytes.
+//! - Of a durable store a stop of the machine leaves, after a load that gave bytes or a save that is done, only these.
+//!   During a save, or after one that failed, it leaves what it might have left before, or the new bytes.
 //!
 //! [`MemStore`] and [`MemSet`] are honest, and meet a device fault exactly where they were set to. [`FuseStore`] and
 //! [`FuseSet`] stop after a number of calls, over any store or set. [`KeyMap`] is the map that a set in memory is made

@@ -19,7 +19,7 @@ pub enum NextSave {
 }
 
 /// A store in memory, which is honest and meets a device fault exactly where it was set to. Its calls may be refused
-/// for lack of memory.
+/// for lack of memory. It stands for a perfect device: a stop of the machine is taken to leave what it holds.
 #[derive(Drop)]
 pub struct MemStore<A: Allocator + Copy = Global> {
     alloc: A,

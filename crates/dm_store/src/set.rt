@@ -9,7 +9,7 @@ use thiserror::Error;
 /// Why a remove failed.
 #[derive(Clone, Copy, Debug, PartialEq, Eq, Error)]
 pub enum RemoveFault {
-    /// The key holds its old bytes or nothing, and which of them is settled.
+    /// The device failed. From then on a reader finds the key's old bytes, or nothing.
     #[error("the device failed")]
     Device,
     /// There was no memory for the call, and the key holds its old bytes.
@@ -57,7 +57,7 @@ pub trait StoreSet: Drop {
         ensures leaves { SaveKeyLeaves (state self.old) (left self.old) key None (outcome_of_remove result)
             (left self.new) };
 
-    /// What a durable set holds, a stop may leave.
+    /// A stop may leave what a durable set holds.
     ghost leaves_held: { (set : Self) → IsDurableSet (state set) → (key : ℕ) → key < 2 ^ 16
         → left set key (map.get (state set).content key) };
 }

@@ -19,7 +19,7 @@ pub enum LoadFault {
 /// Why a replace failed.
 #[derive(Clone, Copy, Debug, PartialEq, Eq, Error)]
 pub enum ReplaceFault {
-    /// The device holds the old or the new bytes, and which of them is settled.
+    /// The device failed. From then on a reader finds the old bytes, or the new ones.
     #[error("the device failed")]
     Device,
     /// There was no memory for the call, and the old bytes are held.
@@ -52,6 +52,6 @@ pub trait Store: Drop {
         ensures replaces { Replaces (state self.old) bytes.now result (state self.new) }
         ensures leaves { SaveLeaves (state self.old) (left self.old) bytes.now (outcome_of result) (left self.new) };
 
-    /// What a durable store holds, a stop may leave.
+    /// A stop may leave what a durable store holds.
     ghost leaves_held: { (store : Self) → IsDurable (state store) → left store (state store).content };
 }

@@ -55,7 +55,7 @@ impl<'a, R: Files> Guard<'a, R> {
     }
 }
 
-/// A store whose saves are refused where its lock was lost.
+/// A store whose saves are refused where its lock was lost: else it is the store within.
 #[derive(Drop)]
 pub(crate) struct GuardedStore<'a, R: Files, S: Store> {
     guard: &'a Guard<'a, R>,
@@ -69,30 +69,21 @@ impl<'a, R: Files, S: Store> GuardedStore<'a, R, S> {
 }
 
 impl<R: Files, S: Store> Store for GuardedStore<'_, R, S> {
-    ghost use Rattle.dm_store.specs.Saved.{Loads, Replaces, outcome_of};
-    ghost use Rattle.dm_store.specs.Left.{LoadLeaves, SaveLeaves};
-    ghost use Rattle.dm_store.specs.Unclaimed.{anything_left};
-    ghost use Rattle.relay.specs.Unclaimed.{unclaimed};
+    ghost use Rattle.dm_store.specs.Fused.{with_open_plans};
 
     type Memory = S::Memory;
 
-    ghost state = { λ _. unclaimed };
+    ghost state = { λ guarded. with_open_plans (S.state guarded.store) };
 
-    ghost left = { λ _. anything_left };
+    ghost left = { λ guarded. S.left guarded.store };
 
-    ghost leaves_held = { λ _ _. tt };
+    ghost leaves_held = { λ guarded. S.leaves_held guarded.store };
 
-    fn load(&mut self, limit: usize) -> Result<Option<Vec<u8, S::Memory>>, LoadFault>
-        ensures loads { Loads (λ bytes. bytes.items) unclaimed limit result unclaimed }
-        ensures leaves { LoadLeaves unclaimed anything_left result anything_left }
-    {
+    fn load(&mut self, limit: usize) -> Result<Option<Vec<u8, S::Memory>>, LoadFault> {
         self.store.load(limit)
     }
 
-    fn replace(&mut self, bytes: &[u8]) -> Result<(), ReplaceFault>
-        ensures replaces { Replaces unclaimed bytes.now result unclaimed }
-        ensures leaves { SaveLeaves unclaimed anything_left bytes.now (outcome_of result) anything_left }
-    {
+    fn replace(&mut self, bytes: &[u8]) -> Result<(), ReplaceFault> {
         if !self.guard.holds() {
             return Err(ReplaceFault::Device);
         }
@@ -100,7 +91,7 @@ impl<R: Files, S: Store> Store for GuardedStore<'_, R, S> {
     }
 }
 
-/// A set whose saves are refused where its lock was lost.
+/// A set whose saves are refused where its lock was lost: else it is the set within.
 #[derive(Drop)]
 pub(crate) struct GuardedSet<'a, R: Files, T: StoreSet> {
     guard: &'a Guard<'a, R>,
@@ -114,51 +105,32 @@ impl<'a, R: Files, T: StoreSet> GuardedSet<'a, R, T> {
 }
 
 impl<R: Files, T: StoreSet> StoreSet for GuardedSet<'_, R, T> {
-    ghost use Rattle.std.specs.Prelude.{Some, None};
-    ghost use Rattle.std.specs.FinMap as map;
-    ghost use Rattle.dm_store.specs.Saved.{outcome_of};
-    ghost use Rattle.dm_store.specs.Sets.{ListsKeys, LoadsKey, ReplacesKey, RemovesKey, outcome_of_remove};
-    ghost use Rattle.dm_store.specs.Left.{IsDurableSet, SetLeavesNoMore, LoadKeyLeaves, SaveKeyLeaves};
-    ghost use Rattle.dm_store.specs.Unclaimed.{unclaimed_set, anything_left_of_set};
+    ghost use Rattle.dm_store.specs.Fused.{set_with_open_plans};
 
     type Memory = T::Memory;
 
-    ghost state = { λ _. unclaimed_set };
+    ghost state = { λ guarded. set_with_open_plans (T.state guarded.set) };
 
-    ghost left = { λ _. anything_left_of_set };
+    ghost left = { λ guarded. T.left guarded.set };
 
-    ghost leaves_held = { λ _ _ _ _. tt };
+    ghost leaves_held = { λ guarded. T.leaves_held guarded.set };
 
-    fn keys(&mut self, limit: usize) -> Result<Vec<u16, T::Memory>, LoadFault>
-        ensures lists { ListsKeys (λ keys. keys.items) unclaimed_set limit result unclaimed_set }
-        ensures leaves { IsDurableSet unclaimed_set → SetLeavesNoMore anything_left_of_set anything_left_of_set }
-    {
+    fn keys(&mut self, limit: usize) -> Result<Vec<u16, T::Memory>, LoadFault> {
         self.set.keys(limit)
     }
 
-    fn load(&mut self, key: u16, limit: usize) -> Result<Option<Vec<u8, T::Memory>>, LoadFault>
-        ensures loads { LoadsKey (λ bytes. bytes.items) unclaimed_set key limit result unclaimed_set }
-        ensures leaves { LoadKeyLeaves unclaimed_set anything_left_of_set key result anything_left_of_set }
-    {
+    fn load(&mut self, key: u16, limit: usize) -> Result<Option<Vec<u8, T::Memory>>, LoadFault> {
         self.set.load(key, limit)
     }
 
-    fn replace(&mut self, key: u16, bytes: &[u8]) -> Result<(), ReplaceFault>
-        ensures replaces { ReplacesKey unclaimed_set key bytes.now result unclaimed_set }
-        ensures leaves { SaveKeyLeaves unclaimed_set anything_left_of_set key (Some bytes.now) (outcome_of result)
-            anything_left_of_set }
-    {
+    fn replace(&mut self, key: u16, bytes: &[u8]) -> Result<(), ReplaceFault> {
         if !self.guard.holds() {
             return Err(ReplaceFault::Device);
         }
         self.set.replace(key, bytes)
     }
 
-    fn remove(&mut self, key: u16) -> Result<(), RemoveFault>
-        ensures removes { RemovesKey unclaimed_set key result unclaimed_set }
-        ensures leaves { SaveKeyLeaves unclaimed_set anything_left_of_set key None (outcome_of_remove result)
-            anything_left_of_set }
-    {
+    fn remove(&mut self, key: u16) -> Result<(), RemoveFault> {
         if !self.guard.holds() {
             return Err(RemoveFault::Device);
         }

@@ -80,7 +80,8 @@ impl<R: AllocGlobal + Print + Eprint + Files<File = File> + Clone, I: Read, W: W
 
     fn try_up_to_its_save(&mut self, place: &Workplace) -> Result<Rehearsal, WorkplaceFault> {
         let alloc = self.rt.alloc();
-        let ledger = FileStore::new(alloc, RealDisk::new(alloc, self.rt), place.file.clone()?);
+        let disk = RealDisk::new(alloc, self.rt);
+        let ledger = FileStore::of_synced(alloc, disk, place.file.clone()?);
         Ok(before_a_save(alloc, ledger, self.command))
     }
 
@@ -91,12 +92,12 @@ impl<R: AllocGlobal + Print + Eprint + Files<File = File> + Clone, I: Read, W: W
     fn run(&mut self, place: &Workplace, lock: &Option<Lock>) -> Result<u8, WorkplaceFault> {
         let rt = self.rt;
         let guard = Guard::new(rt, lock);
-        let ledger = FileStore::new(
+        let ledger = FileStore::of_synced(
             rt.alloc(),
             RealDisk::new(rt.alloc(), rt),
             place.file.clone()?,
         );
-        let pages = FileSet::new(
+        let pages = FileSet::of_synced(
             rt.alloc(),
             RealDisk::new(rt.alloc(), rt),
             place.folder.clone()?,

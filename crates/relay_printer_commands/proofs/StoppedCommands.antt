@@ -24,7 +24,7 @@ use Rattle.dm_print_ledger.specs.declared.fault.TakeFault.{TakeFault}
 use Rattle.dm_print_ledger.specs.declared.fault.TakeFault.TheVariants as taking
 use Rattle.dm_print_ledger.specs.declared.range.Range.{Range}
 use Rattle.relay_streams.specs.Streams.{OutputView}
-use Rattle.relay_printer_commands.specs.Lasting.{SpellsThisOrNext, StopLeaves, TakesText, UsesOne}
+use Rattle.relay_printer_commands.specs.Lasting.{HasPrinted, SpellsThisOrNext, StopLeaves, TakesText, UsesOne}
 use Rattle.relay_printer_commands.specs.Print.{TellsPrint}
 use Rattle.relay_printer_commands.specs.Print.TellsPrint.{printed, refused as print_refused}
 use Rattle.relay_printer_commands.specs.Printers.{IsNotOpened, TellsGive, TellsTake}
@@ -147,11 +147,11 @@ module _ (Makes : LedgerView → LedgerView → Type 0) (saved : Saved) (number 
         (subst (λ (o : Option LedgerView). IsSomeAnd content (SpellsEither after.ledger o)) failed.unsaved
         (order.lasts (durable_after after.saved failed.replaced durable) content leaves)))
 
-    -- the printer was closed after its call, which was done if the status is 0
-    pub closed : (old : Left) (status : ℕ) (after : PrinterView) (left : Left) → GoesOn Makes before after
-        → (status ≡ 0 → Saves before after.ledger after) → IsInOrder after left
-        → StopLeaves Makes saved old status after.saved left
-    closed old status after left goes is_done order = record {
+    -- the printer was closed after its call, which was done if this is so
+    pub closed : (IsDone : Type 0) (old : Left) (after : PrinterView) (left : Left) → GoesOn Makes before after
+        → (IsDone → Saves before after.ledger after) → IsInOrder after left
+        → StopLeaves Makes IsDone saved old after.saved left
+    closed IsDone old after left goes is_done order = record {
       done = λ is durable. let s = is_done is in
           let durable_now = durable_after after.saved s.replaced durable in (
             after.ledger,
@@ -164,11 +164,11 @@ module _ (Makes : LedgerView → LedgerView → Type 0) (saved : Saved) (number 
     }
 
 -- nothing was done, and a stop leaves no more
-pub not_begun : (Makes : LedgerView → LedgerView → Type 0) (saved : Saved) (old : Left) (status : ℕ)
-    (after : Saved) (new : Left) → status ≡ 1
-    → (IsDurable saved → LeavesNoMore old new) → StopLeaves Makes saved old status after new
-not_begun Makes saved old status after new is kept = record {
-  done = λ zero. absurd cc;
+pub not_begun : (Makes : LedgerView → LedgerView → Type 0) (IsDone : Type 0) (saved : Saved) (old : Left)
+    (after : Saved) (new : Left) → ¬ IsDone → (IsDurable saved → LeavesNoMore old new)
+    → StopLeaves Makes IsDone saved old after new
+not_begun Makes IsDone saved old after new not_done kept = record {
+  done = λ done. absurd (not_done done);
   either = λ durable content leaves. inl (kept durable content leaves);
 }
 
@@ -179,18 +179,25 @@ pub refused_by : {P Q R : Type 0} {status : ℕ} → (P × (status ≡ 1)) ⊎ (
 refused_by (inl whole) = whole.1
 refused_by (inr part) = part.2
 
+pub not_zero : {status : ℕ} → status ≡ 1 → ¬ (status ≡ 0)
+not_zero is zero = cc
+
+-- nothing went to the output
+pub not_printed : {status : ℕ} {old : OutputView} → status ≡ 1 → ¬ HasPrinted status old old
+not_printed is (inl zero) = not_zero is zero
+not_printed is (inr other) = other refl
+
 pub not_opened : (saved : Saved) (number : ℕ) (old : OutputView) (status : ℕ) (after : Saved) (new : OutputView)
     → IsNotOpened saved number old status after new → status ≡ 1
 not_opened saved number old _ _ _ (open_refused fault has tells) = refused_by tells
 
 pub print_done : (before : PrinterView) (size : Size) (scheme : Scheme) (document : List ℕ)
     (old old_errors : OutputView) (status : ℕ) (after : PrinterView) (new errors : OutputView)
-    → TellsPrint before size scheme document old old_errors status after new errors → status ≡ 0
+    → TellsPrint before size scheme document old old_errors status after new errors → HasPrinted status old new
     → Saves before after.ledger after
-print_done before size scheme document old old_errors _ _ _ _ (printed job prints labels) is =
-    prints.3.saved
+print_done before size scheme document old old_errors _ _ _ _ (printed job prints labels) is = prints.3.saved
 print_done before size scheme document old old_errors _ _ _ _ (print_refused fault prints tells) is =
-    absurd (let one = refused_by tells in cc)
+    absurd (not_printed (refused_by tells) is)
 
 pub print_on : (before : PrinterView) (size : Size) (scheme : Scheme) (document : List ℕ)
     (old old_errors : OutputView) (status : ℕ) (after : PrinterView) (new errors : OutputView)

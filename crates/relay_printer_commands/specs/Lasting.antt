@@ -1,6 +1,6 @@
 -- What a stop of the machine may leave of the store of a printer's ledger, once a command has given it back. A stop in
 -- the middle of the command leaves one of these too: the call that it cuts short is a save that meets a device fault.
-use Rattle.std.specs.Prelude.{◌≡◌, ◌⊎◌, ℕ, List, IsSomeAnd}
+use Rattle.std.specs.Prelude.{◌≡◌, ◌≢◌, ◌⊎◌, ℕ, List, IsSomeAnd}
 use Rattle.dm_store.specs.Disk.{Content}
 use Rattle.dm_store.specs.Saved.{Saved}
 use Rattle.dm_store.specs.Left.{Left, IsDurable}
@@ -10,6 +10,7 @@ use Rattle.dm_print_ledger.specs.Moving.{TakesIn}
 use Rattle.dm_print_ledger.specs.Printing.{Uses}
 use Rattle.dm_print_ledger.specs.Saving.{HoldsLedger}
 use Rattle.dm_print_ledger.specs.Views.{LedgerView, TicketView}
+use Rattle.relay_streams.specs.Streams.{OutputView}
 use Rattle.relay_printer_commands.specs.Tickets.{IsTextOf}
 
 -- the bytes spell the ledger, or one that the command makes of it
@@ -17,16 +18,20 @@ abbrev pub SpellsThisOrNext : (LedgerView → LedgerView → Type 0) → LedgerV
 SpellsThisOrNext Makes ledger bytes =
     Spells bytes ledger ⊎ ((next : LedgerView) × Makes ledger next × Spells bytes next)
 
--- Of a durable store, from what a stop might have left before the command and the exit status to the store afterwards;
--- `Makes` says which ledger the command makes of one. Once the command is done a stop leaves the ledger that the store
--- then holds. Whether it is done or not, a stop leaves what it might have left before; or the ledger that was held
--- before, or one that the command makes of it.
-pub record StopLeaves (Makes : LedgerView → LedgerView → Type 0) (before : Saved) (old : Left) (status : ℕ)
+-- `before` and `after` are the store, and `old` and `new` what a stop may leave of it, before and after a command that
+-- may make the ledger b of the ledger a if `Makes a b`. If the store is durable, a stop leaves, once it `IsDone`, the
+-- ledger that the store then holds. Whether it is done or not, a stop leaves what it might have left before; or the
+-- ledger that was held before, or one that the command makes of it.
+pub record StopLeaves (Makes : LedgerView → LedgerView → Type 0) (IsDone : Type 0) (before : Saved) (old : Left)
     (after : Saved) (new : Left) : Type 0 where
-  pub done : status ≡ 0 → IsDurable before → (ledger : LedgerView) × HoldsLedger after ledger × LeavesLedger new ledger
+  pub done : IsDone → IsDurable before → (ledger : LedgerView) × HoldsLedger after ledger × LeavesLedger new ledger
   pub either : IsDurable before → (content : Content) → new content
       → old content
       ⊎ ((ledger : LedgerView) × HoldsLedger before ledger × IsSomeAnd content (SpellsThisOrNext Makes ledger))
+
+-- `print` is done, or a byte of a label is out
+abbrev pub HasPrinted : ℕ → OutputView → OutputView → Type 0
+HasPrinted status old new = (status ≡ 0) ⊎ (new ≢ old)
 
 -- what `print` makes of a ledger: an identification is used
 abbrev pub UsesOne : LedgerView → LedgerView → Type 0

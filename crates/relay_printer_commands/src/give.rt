@@ -1,5 +1,6 @@
 //! `relay give`: identifications for another printer.
 
+ghost use Rattle.std.specs.Prelude.{◌≡◌};
 ghost use Rattle.dm_print_ledger.specs.Moving.{GivesAway};
 ghost use Rattle.relay_printer_commands.specs.Lasting.{StopLeaves};
 ghost use Rattle.relay_printer_commands.specs.Printers.{EndsGive, TellsGive};
@@ -39,8 +40,8 @@ pub fn give_command<A: Allocator + Copy, S: Store, W: Write>(
 ) -> Ended<S>
     ensures ends { EndsGive (S.state store) number to range output.old result.status (S.state result.store)
         output.new }
-    ensures lasts { StopLeaves (λ held next. GivesAway held range next) (S.state store) (S.left store) result.status
-        (S.state result.store) (S.left result.store) }
+    ensures lasts { StopLeaves (λ held next. GivesAway held range next) (result.status ≡ 0) (S.state store)
+        (S.left store) (S.state result.store) (S.left result.store) }
 {
     let mut printer = match open_printer(alloc, store, output, number) {
         Ok(printer) => printer,

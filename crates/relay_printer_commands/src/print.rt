@@ -4,7 +4,7 @@ ghost use Rattle.std.specs.Prelude.{OnOk, IfErr};
 ghost use Rattle.std.specs.Io.KnownBytes.{Appends};
 ghost use Rattle.dm_pbm_io.specs.SymbolImage.{p4};
 ghost use Rattle.relay_streams.specs.Streams.{AppendsPart, TakesPart};
-ghost use Rattle.relay_printer_commands.specs.Lasting.{StopLeaves, UsesOne};
+ghost use Rattle.relay_printer_commands.specs.Lasting.{HasPrinted, StopLeaves, UsesOne};
 ghost use Rattle.relay_printer_commands.specs.Print.{EndsPrint, PrintsLabels, PrintsLineFirst, TellsPrint, images_of};
 ghost use Rattle.relay_printer_commands.specs.inner.Images.{LosesImage, LosesImages};
 ghost use Rattle.relay_printer_commands.specs.inner.Opened.{OpensAndPrints};
@@ -116,8 +116,8 @@ pub(crate) fn open_and_print<A: Allocator + Copy, S: Store, W: Write, E: Write>(
     ensures line_first { PrintsLineFirst output.old errors.old output.new errors.new }
     ensures ends { OpensAndPrints (S.state store) number form.0 form.1 document.now output.old errors.old
         result.status (S.state result.store) output.new errors.new }
-    ensures lasts { StopLeaves UsesOne (S.state store) (S.left store) result.status (S.state result.store)
-        (S.left result.store) }
+    ensures lasts { StopLeaves UsesOne (HasPrinted result.status output.old output.new) (S.state store)
+        (S.left store) (S.state result.store) (S.left result.store) }
 {
     let mut printer = match open_printer(alloc, store, errors, number) {
         Ok(printer) => printer,
@@ -145,8 +145,8 @@ pub fn print_command<A: Allocator + Copy, S: Store, R: Read, W: Write, E: Write>
     ensures line_first { PrintsLineFirst output.old errors.old output.new errors.new }
     ensures ends { EndsPrint (S.state store) options.number options.side options.scheme input.old input.new
         output.old errors.old result.status (S.state result.store) output.new errors.new }
-    ensures lasts { StopLeaves UsesOne (S.state store) (S.left store) result.status (S.state result.store)
-        (S.left result.store) }
+    ensures lasts { StopLeaves UsesOne (HasPrinted result.status output.old output.new) (S.state store)
+        (S.left store) (S.state result.store) (S.left result.store) }
 {
     let Some(size) = Size::of_side(options.side) else {
         let status = refuse(errors, Refusal::Side.name());

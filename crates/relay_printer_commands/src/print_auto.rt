@@ -1,7 +1,7 @@
 //! `relay print` with the smallest side that needs few enough labels.
 
 ghost use Rattle.relay_streams.specs.Streams.{TakesPart};
-ghost use Rattle.relay_printer_commands.specs.Lasting.{StopLeaves, UsesOne};
+ghost use Rattle.relay_printer_commands.specs.Lasting.{HasPrinted, StopLeaves, UsesOne};
 ghost use Rattle.relay_printer_commands.specs.Print.{PrintsLineFirst};
 ghost use Rattle.relay_printer_commands.specs.PrintAuto.{EndsPrintAuto};
 
@@ -41,8 +41,8 @@ pub fn print_auto_command<A: Allocator + Copy, S: Store, R: Read, W: Write, E: W
     ensures line_first { PrintsLineFirst output.old errors.old output.new errors.new }
     ensures ends { EndsPrintAuto (S.state store) options.number options.most_labels options.scheme input.old input.new
         output.old errors.old result.status (S.state result.store) output.new errors.new }
-    ensures lasts { StopLeaves UsesOne (S.state store) (S.left store) result.status (S.state result.store)
-        (S.left result.store) }
+    ensures lasts { StopLeaves UsesOne (HasPrinted result.status output.old output.new) (S.state store)
+        (S.left store) (S.state result.store) (S.left result.store) }
 {
     let document = match read_document(alloc, input) {
         Ok(document) => document,

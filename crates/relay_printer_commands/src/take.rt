@@ -1,5 +1,6 @@
 //! `relay take`: identifications from another printer.
 
+ghost use Rattle.std.specs.Prelude.{◌≡◌};
 ghost use Rattle.relay_printer_commands.specs.Lasting.{StopLeaves, TakesText};
 ghost use Rattle.relay_printer_commands.specs.Printers.{EndsTake, TellsTake};
 
@@ -37,7 +38,7 @@ pub fn take_command<A: Allocator + Copy, S: Store, W: Write>(
 ) -> Ended<S>
     ensures ends { EndsTake (S.state store) number text.now output.old result.status (S.state result.store)
         output.new }
-    ensures lasts { StopLeaves (TakesText text.now) (S.state store) (S.left store) result.status
+    ensures lasts { StopLeaves (TakesText text.now) (result.status ≡ 0) (S.state store) (S.left store)
         (S.state result.store) (S.left result.store) }
 {
     let Some(ticket) = ticket_of(text) else {

@@ -70,19 +70,21 @@ returns-then-count-eq0-clause-ok g c =
     (moves_nothing old set loaded (map_keys set.content) c.in-Ok.found.0 c.in-Ok.found.1.now c.in-Ok.ensures.found loads
     (λ _. refl) c.if-count-eq0.true)
 
-pub returns-in-Err-Device-keys-clause-kept : goal.returns-in-Err-Device-keys-clause-kept
-returns-in-Err-Device-keys-clause-kept g c =
+pub returns-in-Err-Device-settled_keys-clause-kept : goal.returns-in-Err-Device-settled_keys-clause-kept
+returns-in-Err-Device-settled_keys-clause-kept g c =
     let old : Saved = g.O.Store.state c.args.old.now in
     let set : SavedSet = g.S.StoreSet.state c.args.set.now in
-    subst (λ (s : Saved). KeepsFiles old set s (g.S.StoreSet.state c.keys.new.self)) (sym c.load.ensures.loads.same)
-    (subst (λ (s : SavedSet). KeepsFiles old set old s) (sym c.keys.ensures.lists.same) (stays old set))
+    subst (λ (s : Saved). KeepsFiles old set s (g.S.StoreSet.state c.settled_keys.new.set))
+    (sym c.load.ensures.loads.same)
+    (subst (λ (s : SavedSet). KeepsFiles old set old s) (sym c.settled_keys.ensures.lists.same) (stays old set))
 
-pub returns-in-Err-Memory-keys-clause-kept : goal.returns-in-Err-Memory-keys-clause-kept
-returns-in-Err-Memory-keys-clause-kept g c =
+pub returns-in-Err-Memory-settled_keys-clause-kept : goal.returns-in-Err-Memory-settled_keys-clause-kept
+returns-in-Err-Memory-settled_keys-clause-kept g c =
     let old : Saved = g.O.Store.state c.args.old.now in
     let set : SavedSet = g.S.StoreSet.state c.args.set.now in
-    subst (λ (s : Saved). KeepsFiles old set s (g.S.StoreSet.state c.keys.new.self)) (sym c.load.ensures.loads.same)
-    (subst (λ (s : SavedSet). KeepsFiles old set old s) (sym c.keys.ensures.lists.same) (stays old set))
+    subst (λ (s : Saved). KeepsFiles old set s (g.S.StoreSet.state c.settled_keys.new.set))
+    (sym c.load.ensures.loads.same)
+    (subst (λ (s : SavedSet). KeepsFiles old set old s) (sym c.settled_keys.ensures.lists.same) (stays old set))
 
 pub returns-in-Err-Device-move_entries-clause-kept : goal.returns-in-Err-Device-move_entries-clause-kept
 returns-in-Err-Device-move_entries-clause-kept g c =
@@ -95,11 +97,12 @@ returns-in-Err-Device-move_entries-clause-kept g c =
     let ks : List ℕ = c.deref-3.result.now in
     let known : IsTrue set.is_honest → ks ≡ map_keys set.content = λ honest.
     all_of_them set.content ks (λ i. rw (c.deref-3.ensures.value ∙ sym c.deref-2.ensures.value) (c.keys_fit.ensures i))
-    (c.deref-3.ensures.value ∙ c.in-Ok-keys.ensures.lists.saved honest) in
+    (c.deref-3.ensures.value ∙ c.in-Ok-settled_keys.ensures.lists.saved honest) in
     let after : SavedSet = g.S.StoreSet.state c.move_entries.new.set in
     let m : MovesEntries set ks c.in-Ok.found.0 c.in-Ok.found.1.now (Err replaces.Device) after =
     subst (λ (s : SavedSet). MovesEntries s ks c.in-Ok.found.0 c.in-Ok.found.1.now (Err replaces.Device) after)
-    c.keys.ensures.lists.same (rw c.in-Err-Device-move_entries.field-0-is at c.in-Err-Device-move_entries.ensures) in
+    c.settled_keys.ensures.lists.same
+    (rw c.in-Err-Device-move_entries.field-0-is at c.in-Err-Device-move_entries.ensures) in
     subst (λ (s : Saved). KeepsFiles old set s after) (sym c.load.ensures.loads.same)
     (abandoned old set loaded ks c.in-Ok.found.0 c.in-Ok.found.1.now c.in-Ok.ensures.found loads known after
     replaces.Device m)
@@ -115,11 +118,12 @@ returns-in-Err-Memory-move_entries-clause-kept g c =
     let ks : List ℕ = c.deref-3.result.now in
     let known : IsTrue set.is_honest → ks ≡ map_keys set.content = λ honest.
     all_of_them set.content ks (λ i. rw (c.deref-3.ensures.value ∙ sym c.deref-2.ensures.value) (c.keys_fit.ensures i))
-    (c.deref-3.ensures.value ∙ c.in-Ok-keys.ensures.lists.saved honest) in
+    (c.deref-3.ensures.value ∙ c.in-Ok-settled_keys.ensures.lists.saved honest) in
     let after : SavedSet = g.S.StoreSet.state c.move_entries.new.set in
     let m : MovesEntries set ks c.in-Ok.found.0 c.in-Ok.found.1.now (Err replaces.Memory) after =
     subst (λ (s : SavedSet). MovesEntries s ks c.in-Ok.found.0 c.in-Ok.found.1.now (Err replaces.Memory) after)
-    c.keys.ensures.lists.same (rw c.in-Err-Memory-move_entries.field-0-is at c.in-Err-Memory-move_entries.ensures) in
+    c.settled_keys.ensures.lists.same
+    (rw c.in-Err-Memory-move_entries.field-0-is at c.in-Err-Memory-move_entries.ensures) in
     subst (λ (s : Saved). KeepsFiles old set s after) (sym c.load.ensures.loads.same)
     (abandoned old set loaded ks c.in-Ok.found.0 c.in-Ok.found.1.now c.in-Ok.ensures.found loads known after
     replaces.Memory m)
@@ -135,11 +139,11 @@ returns-in-Ok-replace-clause-ok g c =
     let ks : List ℕ = c.deref-3.result.now in
     let known : IsTrue set.is_honest → ks ≡ map_keys set.content = λ honest.
     all_of_them set.content ks (λ i. rw (c.deref-3.ensures.value ∙ sym c.deref-2.ensures.value) (c.keys_fit.ensures i))
-    (c.deref-3.ensures.value ∙ c.in-Ok-keys.ensures.lists.saved honest) in
+    (c.deref-3.ensures.value ∙ c.in-Ok-settled_keys.ensures.lists.saved honest) in
     let after : SavedSet = g.S.StoreSet.state c.move_entries.new.set in
     let m : MovesEntries set ks c.in-Ok.found.0 c.in-Ok.found.1.now (Ok c.in-Ok-move_entries.written) after =
     subst (λ (s : SavedSet). MovesEntries s ks c.in-Ok.found.0 c.in-Ok.found.1.now
-    (Ok c.in-Ok-move_entries.written) after) c.keys.ensures.lists.same c.in-Ok-move_entries.ensures in
+    (Ok c.in-Ok-move_entries.written) after) c.settled_keys.ensures.lists.same c.in-Ok-move_entries.ensures in
     let emptied : Saved = g.O.Store.state c.replace.new.self in
     let p : Replaces old (68 ∷ 77 ∷ 80 ∷ 71 ∷ 1 ∷ 0 ∷ 0 ∷ []) (Ok tt) emptied =
     subst (λ (s : Saved). Replaces s (68 ∷ 77 ∷ 80 ∷ 71 ∷ 1 ∷ 0 ∷ 0 ∷ []) (Ok tt) emptied) c.load.ensures.loads.same
@@ -158,11 +162,11 @@ returns-in-Ok-replace-clause-kept g c =
     let ks : List ℕ = c.deref-3.result.now in
     let known : IsTrue set.is_honest → ks ≡ map_keys set.content = λ honest.
     all_of_them set.content ks (λ i. rw (c.deref-3.ensures.value ∙ sym c.deref-2.ensures.value) (c.keys_fit.ensures i))
-    (c.deref-3.ensures.value ∙ c.in-Ok-keys.ensures.lists.saved honest) in
+    (c.deref-3.ensures.value ∙ c.in-Ok-settled_keys.ensures.lists.saved honest) in
     let after : SavedSet = g.S.StoreSet.state c.move_entries.new.set in
     let m : MovesEntries set ks c.in-Ok.found.0 c.in-Ok.found.1.now (Ok c.in-Ok-move_entries.written) after =
     subst (λ (s : SavedSet). MovesEntries s ks c.in-Ok.found.0 c.in-Ok.found.1.now
-    (Ok c.in-Ok-move_entries.written) after) c.keys.ensures.lists.same c.in-Ok-move_entries.ensures in
+    (Ok c.in-Ok-move_entries.written) after) c.settled_keys.ensures.lists.same c.in-Ok-move_entries.ensures in
     let emptied : Saved = g.O.Store.state c.replace.new.self in
     let p : Replaces old (68 ∷ 77 ∷ 80 ∷ 71 ∷ 1 ∷ 0 ∷ 0 ∷ []) (Ok tt) emptied =
     subst (λ (s : Saved). Replaces s (68 ∷ 77 ∷ 80 ∷ 71 ∷ 1 ∷ 0 ∷ 0 ∷ []) (Ok tt) emptied) c.load.ensures.loads.same
@@ -181,11 +185,11 @@ returns-in-Err-Device-replace-clause-kept g c =
     let ks : List ℕ = c.deref-3.result.now in
     let known : IsTrue set.is_honest → ks ≡ map_keys set.content = λ honest.
     all_of_them set.content ks (λ i. rw (c.deref-3.ensures.value ∙ sym c.deref-2.ensures.value) (c.keys_fit.ensures i))
-    (c.deref-3.ensures.value ∙ c.in-Ok-keys.ensures.lists.saved honest) in
+    (c.deref-3.ensures.value ∙ c.in-Ok-settled_keys.ensures.lists.saved honest) in
     let after : SavedSet = g.S.StoreSet.state c.move_entries.new.set in
     let m : MovesEntries set ks c.in-Ok.found.0 c.in-Ok.found.1.now (Ok c.in-Ok-move_entries.written) after =
     subst (λ (s : SavedSet). MovesEntries s ks c.in-Ok.found.0 c.in-Ok.found.1.now
-    (Ok c.in-Ok-move_entries.written) after) c.keys.ensures.lists.same c.in-Ok-move_entries.ensures in
+    (Ok c.in-Ok-move_entries.written) after) c.settled_keys.ensures.lists.same c.in-Ok-move_entries.ensures in
     let emptied : Saved = g.O.Store.state c.replace.new.self in
     let p : Replaces old (68 ∷ 77 ∷ 80 ∷ 71 ∷ 1 ∷ 0 ∷ 0 ∷ []) (Err replaces.Device) emptied =
     subst (λ (s : Saved). Replaces s (68 ∷ 77 ∷ 80 ∷ 71 ∷ 1 ∷ 0 ∷ 0 ∷ []) (Err replaces.Device) emptied)
@@ -204,11 +208,11 @@ returns-clause-kept g c =
     let ks : List ℕ = c.deref-3.result.now in
     let known : IsTrue set.is_honest → ks ≡ map_keys set.content = λ honest.
     all_of_them set.content ks (λ i. rw (c.deref-3.ensures.value ∙ sym c.deref-2.ensures.value) (c.keys_fit.ensures i))
-    (c.deref-3.ensures.value ∙ c.in-Ok-keys.ensures.lists.saved honest) in
+    (c.deref-3.ensures.value ∙ c.in-Ok-settled_keys.ensures.lists.saved honest) in
     let after : SavedSet = g.S.StoreSet.state c.move_entries.new.set in
     let m : MovesEntries set ks c.in-Ok.found.0 c.in-Ok.found.1.now (Ok c.in-Ok-move_entries.written) after =
     subst (λ (s : SavedSet). MovesEntries s ks c.in-Ok.found.0 c.in-Ok.found.1.now
-    (Ok c.in-Ok-move_entries.written) after) c.keys.ensures.lists.same c.in-Ok-move_entries.ensures in
+    (Ok c.in-Ok-move_entries.written) after) c.settled_keys.ensures.lists.same c.in-Ok-move_entries.ensures in
     let emptied : Saved = g.O.Store.state c.replace.new.self in
     let p : Replaces old (68 ∷ 77 ∷ 80 ∷ 71 ∷ 1 ∷ 0 ∷ 0 ∷ []) (Err replaces.Memory) emptied =
     subst (λ (s : Saved). Replaces s (68 ∷ 77 ∷ 80 ∷ 71 ∷ 1 ∷ 0 ∷ 0 ∷ []) (Err replaces.Memory) emptied)
@@ -246,19 +250,21 @@ returns-then-count-eq0-clause-plans g c =
     let set : SavedSet = g.S.StoreSet.state c.args.set.now in
     subst (λ (s : Saved). KeepsPlans old set s set) (sym c.load.ensures.loads.same) (plans_stay old set)
 
-pub returns-in-Err-Device-keys-clause-plans : goal.returns-in-Err-Device-keys-clause-plans
-returns-in-Err-Device-keys-clause-plans g c =
+pub returns-in-Err-Device-settled_keys-clause-plans : goal.returns-in-Err-Device-settled_keys-clause-plans
+returns-in-Err-Device-settled_keys-clause-plans g c =
     let old : Saved = g.O.Store.state c.args.old.now in
     let set : SavedSet = g.S.StoreSet.state c.args.set.now in
-    subst (λ (s : Saved). KeepsPlans old set s (g.S.StoreSet.state c.keys.new.self)) (sym c.load.ensures.loads.same)
-    (subst (λ (s : SavedSet). KeepsPlans old set old s) (sym c.keys.ensures.lists.same) (plans_stay old set))
+    subst (λ (s : Saved). KeepsPlans old set s (g.S.StoreSet.state c.settled_keys.new.set))
+    (sym c.load.ensures.loads.same)
+    (subst (λ (s : SavedSet). KeepsPlans old set old s) (sym c.settled_keys.ensures.lists.same) (plans_stay old set))
 
-pub returns-in-Err-Memory-keys-clause-plans : goal.returns-in-Err-Memory-keys-clause-plans
-returns-in-Err-Memory-keys-clause-plans g c =
+pub returns-in-Err-Memory-settled_keys-clause-plans : goal.returns-in-Err-Memory-settled_keys-clause-plans
+returns-in-Err-Memory-settled_keys-clause-plans g c =
     let old : Saved = g.O.Store.state c.args.old.now in
     let set : SavedSet = g.S.StoreSet.state c.args.set.now in
-    subst (λ (s : Saved). KeepsPlans old set s (g.S.StoreSet.state c.keys.new.self)) (sym c.load.ensures.loads.same)
-    (subst (λ (s : SavedSet). KeepsPlans old set old s) (sym c.keys.ensures.lists.same) (plans_stay old set))
+    subst (λ (s : Saved). KeepsPlans old set s (g.S.StoreSet.state c.settled_keys.new.set))
+    (sym c.load.ensures.loads.same)
+    (subst (λ (s : SavedSet). KeepsPlans old set old s) (sym c.settled_keys.ensures.lists.same) (plans_stay old set))
 
 pub returns-in-Err-Device-move_entries-clause-plans : goal.returns-in-Err-Device-move_entries-clause-plans
 returns-in-Err-Device-move_entries-clause-plans g c =
@@ -268,7 +274,8 @@ returns-in-Err-Device-move_entries-clause-plans g c =
     let after : SavedSet = g.S.StoreSet.state c.move_entries.new.set in
     let m : MovesEntries set ks c.in-Ok.found.0 c.in-Ok.found.1.now (Err replaces.Device) after =
     subst (λ (s : SavedSet). MovesEntries s ks c.in-Ok.found.0 c.in-Ok.found.1.now (Err replaces.Device) after)
-    c.keys.ensures.lists.same (rw c.in-Err-Device-move_entries.field-0-is at c.in-Err-Device-move_entries.ensures) in
+    c.settled_keys.ensures.lists.same
+    (rw c.in-Err-Device-move_entries.field-0-is at c.in-Err-Device-move_entries.ensures) in
     subst (λ (s : Saved). KeepsPlans old set s after) (sym c.load.ensures.loads.same)
     (plans_abandoned old set ks c.in-Ok.found.0 c.in-Ok.found.1.now after replaces.Device m)
 
@@ -280,7 +287,8 @@ returns-in-Err-Memory-move_entries-clause-plans g c =
     let after : SavedSet = g.S.StoreSet.state c.move_entries.new.set in
     let m : MovesEntries set ks c.in-Ok.found.0 c.in-Ok.found.1.now (Err replaces.Memory) after =
     subst (λ (s : SavedSet). MovesEntries s ks c.in-Ok.found.0 c.in-Ok.found.1.now (Err replaces.Memory) after)
-    c.keys.ensures.lists.same (rw c.in-Err-Memory-move_entries.field-0-is at c.in-Err-Memory-move_entries.ensures) in
+    c.settled_keys.ensures.lists.same
+    (rw c.in-Err-Memory-move_entries.field-0-is at c.in-Err-Memory-move_entries.ensures) in
     subst (λ (s : Saved). KeepsPlans old set s after) (sym c.load.ensures.loads.same)
     (plans_abandoned old set ks c.in-Ok.found.0 c.in-Ok.found.1.now after replaces.Memory m)
 
@@ -292,7 +300,7 @@ returns-in-Ok-replace-clause-plans g c =
     let after : SavedSet = g.S.StoreSet.state c.move_entries.new.set in
     let m : MovesEntries set ks c.in-Ok.found.0 c.in-Ok.found.1.now (Ok c.in-Ok-move_entries.written) after =
     subst (λ (s : SavedSet). MovesEntries s ks c.in-Ok.found.0 c.in-Ok.found.1.now
-    (Ok c.in-Ok-move_entries.written) after) c.keys.ensures.lists.same c.in-Ok-move_entries.ensures in
+    (Ok c.in-Ok-move_entries.written) after) c.settled_keys.ensures.lists.same c.in-Ok-move_entries.ensures in
     let emptied : Saved = g.O.Store.state c.replace.new.self in
     let p : Replaces old (68 ∷ 77 ∷ 80 ∷ 71 ∷ 1 ∷ 0 ∷ 0 ∷ []) (Ok tt) emptied =
     subst (λ (s : Saved). Replaces s (68 ∷ 77 ∷ 80 ∷ 71 ∷ 1 ∷ 0 ∷ 0 ∷ []) (Ok tt) emptied) c.load.ensures.loads.same
@@ -308,7 +316,7 @@ returns-in-Err-Device-replace-clause-plans g c =
     let after : SavedSet = g.S.StoreSet.state c.move_entries.new.set in
     let m : MovesEntries set ks c.in-Ok.found.0 c.in-Ok.found.1.now (Ok c.in-Ok-move_entries.written) after =
     subst (λ (s : SavedSet). MovesEntries s ks c.in-Ok.found.0 c.in-Ok.found.1.now
-    (Ok c.in-Ok-move_entries.written) after) c.keys.ensures.lists.same c.in-Ok-move_entries.ensures in
+    (Ok c.in-Ok-move_entries.written) after) c.settled_keys.ensures.lists.same c.in-Ok-move_entries.ensures in
     let emptied : Saved = g.O.Store.state c.replace.new.self in
     let p : Replaces old (68 ∷ 77 ∷ 80 ∷ 71 ∷ 1 ∷ 0 ∷ 0 ∷ []) (Err replaces.Device) emptied =
     subst (λ (s : Saved). Replaces s (68 ∷ 77 ∷ 80 ∷ 71 ∷ 1 ∷ 0 ∷ 0 ∷ []) (Err replaces.Device) emptied)
@@ -324,7 +332,7 @@ returns-clause-plans g c =
     let after : SavedSet = g.S.StoreSet.state c.move_entries.new.set in
     let m : MovesEntries set ks c.in-Ok.found.0 c.in-Ok.found.1.now (Ok c.in-Ok-move_entries.written) after =
     subst (λ (s : SavedSet). MovesEntries s ks c.in-Ok.found.0 c.in-Ok.found.1.now
-    (Ok c.in-Ok-move_entries.written) after) c.keys.ensures.lists.same c.in-Ok-move_entries.ensures in
+    (Ok c.in-Ok-move_entries.written) after) c.settled_keys.ensures.lists.same c.in-Ok-move_entries.ensures in
     let emptied : Saved = g.O.Store.state c.replace.new.self in
     let p : Replaces old (68 ∷ 77 ∷ 80 ∷ 71 ∷ 1 ∷ 0 ∷ 0 ∷ []) (Err replaces.Memory) emptied =
     subst (λ (s : Saved). Replaces s (68 ∷ 77 ∷ 80 ∷ 71 ∷ 1 ∷ 0 ∷ 0 ∷ []) (Err replaces.Memory) emptied)
@@ -375,8 +383,8 @@ returns-then-count-eq0-clause-exact g c =
     subst (λ (s : Saved). LeavesAlone old set (Ok 0) s set) (sym c.load.ensures.loads.same)
     (leaves_empty old set loaded loads c.in-Ok.found.0 c.in-Ok.found.1.now c.in-Ok.ensures.found)
 
-pub returns-in-Err-Device-keys-clause-exact : goal.returns-in-Err-Device-keys-clause-exact
-returns-in-Err-Device-keys-clause-exact g c =
+pub returns-in-Err-Device-settled_keys-clause-exact : goal.returns-in-Err-Device-settled_keys-clause-exact
+returns-in-Err-Device-settled_keys-clause-exact g c =
     let old : Saved = g.O.Store.state c.args.old.now in
     let set : SavedSet = g.S.StoreSet.state c.args.set.now in
     let loaded : List ℕ = c.deref.result.now in
@@ -384,10 +392,10 @@ returns-in-Err-Device-keys-clause-exact g c =
     λ honest. ap (λ (bs : List ℕ). Some bs) c.deref.ensures.value ∙
     (rw c.in-Ok-Some.field-0-is at (c.in-Ok-Some.ensures.loads.saved honest)) in
     leaves_some old set loaded loads c.in-Ok.found.0 c.in-Ok.found.1.now c.in-Ok.ensures.found c.if-count-eq0.false
-    (Err moves.Device) (g.O.Store.state c.load.new.self) (g.S.StoreSet.state c.keys.new.self)
+    (Err moves.Device) (g.O.Store.state c.load.new.self) (g.S.StoreSet.state c.settled_keys.new.set)
 
-pub returns-in-Err-Memory-keys-clause-exact : goal.returns-in-Err-Memory-keys-clause-exact
-returns-in-Err-Memory-keys-clause-exact g c =
+pub returns-in-Err-Memory-settled_keys-clause-exact : goal.returns-in-Err-Memory-settled_keys-clause-exact
+returns-in-Err-Memory-settled_keys-clause-exact g c =
     let old : Saved = g.O.Store.state c.args.old.now in
     let set : SavedSet = g.S.StoreSet.state c.args.set.now in
     let loaded : List ℕ = c.deref.result.now in
@@ -395,7 +403,7 @@ returns-in-Err-Memory-keys-clause-exact g c =
     λ honest. ap (λ (bs : List ℕ). Some bs) c.deref.ensures.value ∙
     (rw c.in-Ok-Some.field-0-is at (c.in-Ok-Some.ensures.loads.saved honest)) in
     leaves_some old set loaded loads c.in-Ok.found.0 c.in-Ok.found.1.now c.in-Ok.ensures.found c.if-count-eq0.false
-    (Err moves.Memory) (g.O.Store.state c.load.new.self) (g.S.StoreSet.state c.keys.new.self)
+    (Err moves.Memory) (g.O.Store.state c.load.new.self) (g.S.StoreSet.state c.settled_keys.new.set)
 
 pub returns-in-Err-Device-move_entries-clause-exact : goal.returns-in-Err-Device-move_entries-clause-exact
 returns-in-Err-Device-move_entries-clause-exact g c =
@@ -474,22 +482,22 @@ returns-in-Err-clause-stops g c =
     subst (λ (s : Saved). StopsSomewhere old set c.in-Err.fault s set) (sym c.load.ensures.loads.same)
     (not_begun old set c.in-Err.fault)
 
-pub returns-in-Err-Device-keys-clause-stops : goal.returns-in-Err-Device-keys-clause-stops
-returns-in-Err-Device-keys-clause-stops g c =
+pub returns-in-Err-Device-settled_keys-clause-stops : goal.returns-in-Err-Device-settled_keys-clause-stops
+returns-in-Err-Device-settled_keys-clause-stops g c =
     let old : Saved = g.O.Store.state c.args.old.now in
     let set : SavedSet = g.S.StoreSet.state c.args.set.now in
-    subst (λ (s : Saved). StopsSomewhere old set moves.Device s (g.S.StoreSet.state c.keys.new.self))
+    subst (λ (s : Saved). StopsSomewhere old set moves.Device s (g.S.StoreSet.state c.settled_keys.new.set))
     (sym c.load.ensures.loads.same)
-    (subst (λ (s : SavedSet). StopsSomewhere old set moves.Device old s) (sym c.keys.ensures.lists.same)
+    (subst (λ (s : SavedSet). StopsSomewhere old set moves.Device old s) (sym c.settled_keys.ensures.lists.same)
     (not_begun old set moves.Device))
 
-pub returns-in-Err-Memory-keys-clause-stops : goal.returns-in-Err-Memory-keys-clause-stops
-returns-in-Err-Memory-keys-clause-stops g c =
+pub returns-in-Err-Memory-settled_keys-clause-stops : goal.returns-in-Err-Memory-settled_keys-clause-stops
+returns-in-Err-Memory-settled_keys-clause-stops g c =
     let old : Saved = g.O.Store.state c.args.old.now in
     let set : SavedSet = g.S.StoreSet.state c.args.set.now in
-    subst (λ (s : Saved). StopsSomewhere old set moves.Memory s (g.S.StoreSet.state c.keys.new.self))
+    subst (λ (s : Saved). StopsSomewhere old set moves.Memory s (g.S.StoreSet.state c.settled_keys.new.set))
     (sym c.load.ensures.loads.same)
-    (subst (λ (s : SavedSet). StopsSomewhere old set moves.Memory old s) (sym c.keys.ensures.lists.same)
+    (subst (λ (s : SavedSet). StopsSomewhere old set moves.Memory old s) (sym c.settled_keys.ensures.lists.same)
     (not_begun old set moves.Memory))
 
 pub returns-in-Err-Device-move_entries-clause-stops : goal.returns-in-Err-Device-move_entries-clause-stops
@@ -503,11 +511,12 @@ returns-in-Err-Device-move_entries-clause-stops g c =
     let ks : List ℕ = c.deref-3.result.now in
     let known : IsTrue set.is_honest → ks ≡ map_keys set.content = λ honest.
     all_of_them set.content ks (λ i. rw (c.deref-3.ensures.value ∙ sym c.deref-2.ensures.value) (c.keys_fit.ensures i))
-    (c.deref-3.ensures.value ∙ c.in-Ok-keys.ensures.lists.saved honest) in
+    (c.deref-3.ensures.value ∙ c.in-Ok-settled_keys.ensures.lists.saved honest) in
     let after : SavedSet = g.S.StoreSet.state c.move_entries.new.set in
     let m : MovesEntries set ks c.in-Ok.found.0 c.in-Ok.found.1.now (Err replaces.Device) after =
     subst (λ (s : SavedSet). MovesEntries s ks c.in-Ok.found.0 c.in-Ok.found.1.now (Err replaces.Device) after)
-    c.keys.ensures.lists.same (rw c.in-Err-Device-move_entries.field-0-is at c.in-Err-Device-move_entries.ensures) in
+    c.settled_keys.ensures.lists.same
+    (rw c.in-Err-Device-move_entries.field-0-is at c.in-Err-Device-move_entries.ensures) in
     subst (λ (s : Saved). StopsSomewhere old set moves.Device s after) (sym c.load.ensures.loads.same)
     (stopped_at_key old set loaded ks c.in-Ok.found.0 c.in-Ok.found.1.now c.in-Ok.ensures.found loads known after
     replaces.Device m)
@@ -523,11 +532,12 @@ returns-in-Err-Memory-move_entries-clause-stops g c =
     let ks : List ℕ = c.deref-3.result.now in
     let known : IsTrue set.is_honest → ks ≡ map_keys set.content = λ honest.
     all_of_them set.content ks (λ i. rw (c.deref-3.ensures.value ∙ sym c.deref-2.ensures.value) (c.keys_fit.ensures i))
-    (c.deref-3.ensures.value ∙ c.in-Ok-keys.ensures.lists.saved honest) in
+    (c.deref-3.ensures.value ∙ c.in-Ok-settled_keys.ensures.lists.saved honest) in
     let after : SavedSet = g.S.StoreSet.state c.move_entries.new.set in
     let m : MovesEntries set ks c.in-Ok.found.0 c.in-Ok.found.1.now (Err replaces.Memory) after =
     subst (λ (s : SavedSet). MovesEntries s ks c.in-Ok.found.0 c.in-Ok.found.1.now (Err replaces.Memory) after)
-    c.keys.ensures.lists.same (rw c.in-Err-Memory-move_entries.field-0-is at c.in-Err-Memory-move_entries.ensures) in
+    c.settled_keys.ensures.lists.same
+    (rw c.in-Err-Memory-move_entries.field-0-is at c.in-Err-Memory-move_entries.ensures) in
     subst (λ (s : Saved). StopsSomewhere old set moves.Memory s after) (sym c.load.ensures.loads.same)
     (stopped_at_key old set loaded ks c.in-Ok.found.0 c.in-Ok.found.1.now c.in-Ok.ensures.found loads known after
     replaces.Memory m)
@@ -543,11 +553,11 @@ returns-in-Err-Device-replace-clause-stops g c =
     let ks : List ℕ = c.deref-3.result.now in
     let known : IsTrue set.is_honest → ks ≡ map_keys set.content = λ honest.
     all_of_them set.content ks (λ i. rw (c.deref-3.ensures.value ∙ sym c.deref-2.ensures.value) (c.keys_fit.ensures i))
-    (c.deref-3.ensures.value ∙ c.in-Ok-keys.ensures.lists.saved honest) in
+    (c.deref-3.ensures.value ∙ c.in-Ok-settled_keys.ensures.lists.saved honest) in
     let after : SavedSet = g.S.StoreSet.state c.move_entries.new.set in
     let m : MovesEntries set ks c.in-Ok.found.0 c.in-Ok.found.1.now (Ok c.in-Ok-move_entries.written) after =
     subst (λ (s : SavedSet). MovesEntries s ks c.in-Ok.found.0 c.in-Ok.found.1.now
-    (Ok c.in-Ok-move_entries.written) after) c.keys.ensures.lists.same c.in-Ok-move_entries.ensures in
+    (Ok c.in-Ok-move_entries.written) after) c.settled_keys.ensures.lists.same c.in-Ok-move_entries.ensures in
     let emptied : Saved = g.O.Store.state c.replace.new.self in
     let p : Replaces old (68 ∷ 77 ∷ 80 ∷ 71 ∷ 1 ∷ 0 ∷ 0 ∷ []) (Err replaces.Device) emptied =
     subst (λ (s : Saved). Replaces s (68 ∷ 77 ∷ 80 ∷ 71 ∷ 1 ∷ 0 ∷ 0 ∷ []) (Err replaces.Device) emptied)
@@ -566,11 +576,11 @@ returns-clause-stops g c =
     let ks : List ℕ = c.deref-3.result.now in
     let known : IsTrue set.is_honest → ks ≡ map_keys set.content = λ honest.
     all_of_them set.content ks (λ i. rw (c.deref-3.ensures.value ∙ sym c.deref-2.ensures.value) (c.keys_fit.ensures i))
-    (c.deref-3.ensures.value ∙ c.in-Ok-keys.ensures.lists.saved honest) in
+    (c.deref-3.ensures.value ∙ c.in-Ok-settled_keys.ensures.lists.saved honest) in
     let after : SavedSet = g.S.StoreSet.state c.move_entries.new.set in
     let m : MovesEntries set ks c.in-Ok.found.0 c.in-Ok.found.1.now (Ok c.in-Ok-move_entries.written) after =
     subst (λ (s : SavedSet). MovesEntries s ks c.in-Ok.found.0 c.in-Ok.found.1.now
-    (Ok c.in-Ok-move_entries.written) after) c.keys.ensures.lists.same c.in-Ok-move_entries.ensures in
+    (Ok c.in-Ok-move_entries.written) after) c.settled_keys.ensures.lists.same c.in-Ok-move_entries.ensures in
     let emptied : Saved = g.O.Store.state c.replace.new.self in
     let p : Replaces old (68 ∷ 77 ∷ 80 ∷ 71 ∷ 1 ∷ 0 ∷ 0 ∷ []) (Err replaces.Memory) emptied =
     subst (λ (s : Saved). Replaces s (68 ∷ 77 ∷ 80 ∷ 71 ∷ 1 ∷ 0 ∷ 0 ∷ []) (Err replaces.Memory) emptied)

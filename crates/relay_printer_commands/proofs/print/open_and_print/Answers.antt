@@ -16,7 +16,8 @@ returns-clause-line_first g c =
     rw c.in-Ok.ensures.opens.1 at (line_first _ _ _ _ _ _ _ _ _ _ c.print-status.ensures)
 
 pub returns-in-Err-clause-lasts : goal.returns-in-Err-clause-lasts
-returns-in-Err-clause-lasts g c = stopped.not_begun _ _ _ _ _ _ (stopped.not_opened _ _ _ _ _ _ c.in-Err.ensures.opens)
+returns-in-Err-clause-lasts g c =
+    stopped.not_begun _ _ _ _ _ _ (stopped.not_printed (stopped.not_opened _ _ _ _ _ _ c.in-Err.ensures.opens))
     c.in-Err.ensures.leaves
 
 pub returns-clause-lasts : goal.returns-clause-lasts

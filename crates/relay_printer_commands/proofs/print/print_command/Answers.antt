@@ -20,9 +20,9 @@ returns-clause-ends g c =
 
 pub returns-in_default-clause-lasts : goal.returns-in_default-clause-lasts
 returns-in_default-clause-lasts g c =
-    stopped.not_begun _ _ _ _ _ _ (stopped.refused_by c.refuse-status.ensures)
+    stopped.not_begun _ _ _ _ _ _ (stopped.not_printed (stopped.refused_by c.refuse-status.ensures))
     (λ durable content leaves. leaves)
 
 pub returns-in-Err-clause-lasts : goal.returns-in-Err-clause-lasts
 returns-in-Err-clause-lasts g c = stopped.not_begun _ _ _ _ _ _
-    (stopped.refused_by c.refuse-status-in-Err.ensures) (λ durable content leaves. leaves)
+    (stopped.not_printed (stopped.refused_by c.refuse-status-in-Err.ensures)) (λ durable content leaves. leaves)

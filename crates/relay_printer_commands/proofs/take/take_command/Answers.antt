@@ -16,11 +16,12 @@ returns-clause-ends g c =
 
 pub returns-in_default-clause-lasts : goal.returns-in_default-clause-lasts
 returns-in_default-clause-lasts g c =
-    stopped.not_begun _ _ _ _ _ _ (stopped.refused_by c.refuse-status.ensures)
+    stopped.not_begun _ _ _ _ _ _ (stopped.not_zero (stopped.refused_by c.refuse-status.ensures))
     (λ durable content leaves. leaves)
 
 pub returns-in-Err-clause-lasts : goal.returns-in-Err-clause-lasts
-returns-in-Err-clause-lasts g c = stopped.not_begun _ _ _ _ _ _ (stopped.not_opened _ _ _ _ _ _ c.in-Err.ensures.opens)
+returns-in-Err-clause-lasts g c =
+    stopped.not_begun _ _ _ _ _ _ (stopped.not_zero (stopped.not_opened _ _ _ _ _ _ c.in-Err.ensures.opens))
     c.in-Err.ensures.leaves
 
 pub returns-clause-lasts : goal.returns-clause-lasts
