@@ -23,6 +23,8 @@ mod refused_calls;
 #[cfg(test)]
 mod stopped_machine;
 #[cfg(test)]
+mod stopped_twice;
+#[cfg(test)]
 mod streams;
 #[cfg(test)]
 mod texts;

@@ -189,17 +189,17 @@ const PRINTERS: &[Case] = &[
 ];
 
 // The file of both pages of `1234`, and that of a page of another document.
-const BOTH: &[u8] = b"DMPG\x02\x01\x01\x02\0\x03\0\x0212\0\x0234";
+pub(crate) const BOTH: &[u8] = b"DMPG\x02\x01\x01\x02\0\x03\0\x0212\0\x0234";
 
-const OTHER: &[u8] = b"DMPG\x02\x01\x03\x02\0\x01\0\x0212";
+pub(crate) const OTHER: &[u8] = b"DMPG\x02\x01\x03\x02\0\x01\0\x0212";
 
-const OTHER_IS_HELD: &[u8] = b"0103 2 added 0000 again\n";
+pub(crate) const OTHER_IS_HELD: &[u8] = b"0103 2 added 0000 again\n";
 
 // What an import of both pages answers where neither is held, or the second alone, the first alone, or
 // both.
 const ADDED_BOTH: &[u8] = b"0101 2 added 0003 complete\n";
 
-const ADDED_FIRST: &[u8] = b"0101 2 added 0001 complete\n";
+pub(crate) const ADDED_FIRST: &[u8] = b"0101 2 added 0001 complete\n";
 
 const ADDED_SECOND: &[u8] = b"0101 2 added 0002 complete\n";
 
