@@ -1,7 +1,8 @@
 -- Why a stop leaves the files of a desk whose command is done: no save of the desk failed then, so its set holds just
 -- the files of what it holds, and of such a desk it is known what a stop leaves.
 use Rattle.std.proofs.Common.{◌≡◌, ◌⊎◌, inl, inr, ℕ, List, Bool, true, false, Option, Some, None, Result, Ok, Err, refl, sym, ap, subst, ◌∙◌}
-use Rattle.std.specs.Prelude.{option_map, if◌then◌else◌, ◌||◌}
+use Rattle.std.specs.Prelude.{option_map, if◌then◌else◌, ◌||◌, ◌++◌}
+use Rattle.std.specs.Io.KnownBytes.{Appends}
 use Rattle.std.specs.FinMap.{get}
 use Rattle.dm_store.specs.Disk.{Content}
 use Rattle.dm_store.specs.Left.{SetLeft}
@@ -9,17 +10,20 @@ use Rattle.dm_append_label.specs.Pages.{PageView}
 use Rattle.dm_append_label.specs.declared.opening.Opened.{Opened}
 use Rattle.dm_append_label.specs.declared.fault.LabelFault.{LabelFault}
 use Rattle.dm_pbm_io.specs.Image.{Picture}
-use Rattle.dm_assembly_desk.specs.Accepting.{AcceptsGrid, ChangesByPage, Scans}
-use Rattle.dm_assembly_desk.specs.FaultOrigin.{scan_fault}
+use Rattle.dm_assembly_desk.specs.Accepting.{AcceptsPage, ChangesByPage, Scans}
+use Rattle.dm_assembly_desk.specs.FaultNames.{scan_fault_name}
 use Rattle.dm_assembly_desk.specs.Files.{file}
 use Rattle.dm_assembly_desk.specs.Importing.{ChangesByFile, ImportsBytes, IsReadAs}
 use Rattle.dm_assembly_desk.specs.Lasting.{IsKept}
 use Rattle.dm_assembly_desk.specs.Pages.{Pages}
 use Rattle.dm_assembly_desk.specs.Views.{DeskView}
+use Rattle.dm_assembly_desk.specs.declared.fault.ScanFault.{ScanFault}
+use Rattle.dm_assembly_desk.specs.declared.fault.ScanFault.TheVariants as faults
 use Rattle.dm_assembly_desk.specs.declared.reply.Accepted.{Accepted}
 use Rattle.dm_assembly_desk.specs.declared.reply.Imported.{Imported}
 use Rattle.dm_assembly_desk.specs.declared.reply.Kind.{Kind}
 use Rattle.dm_assembly_desk.specs.declared.reply.Kind.TheVariants.{New, Again, Complete}
+use Rattle.relay_streams.specs.Refusal.{refused_line}
 use Rattle.relay_streams.specs.Streams.{InputView, OutputView}
 use Rattle.relay_shared.specs.EachImage.{AnswersImages, Comes, EndsImages, TellsImages}
 use Rattle.relay_shared.specs.EachImage.AnswersImages.{none as no_images, another}
@@ -30,7 +34,8 @@ use Rattle.relay_desk_commands.specs.Desks.{HasNoDesk, DeskFiles, TellsForget, T
 use Rattle.relay_desk_commands.specs.Desks.HasNoDesk.{not_moved, not_opened}
 use Rattle.relay_desk_commands.specs.Desks.TellsForget.{forgotten, refused as forget_refused}
 use Rattle.relay_desk_commands.specs.Desks.TellsImport.{imported as import_told, refused as import_refused}
-use Rattle.relay_desk_commands.specs.Lasting.{LeavesFiles}
+use Rattle.relay_desk_commands.specs.Lasting.{LeavesFiles, ScanLeaves}
+use Rattle.relay_desk_commands.specs.Lasting.ScanLeaves.{all, save_failed, output_failed}
 use Rattle.relay_desk_commands.specs.Scan.{ScansPicture, scan_images}
 use Rattle.relay_desk_commands.specs.Scan.ScansPicture.{accepted as scan_accepted, refused as scan_refused, shape as scan_shape, memory as scan_memory}
 
@@ -92,7 +97,13 @@ import_done bytes before old _ _ _ running (import_told reply takes tells) zero 
 import_done bytes before old _ _ _ running (import_refused fault takes tells) zero =
     not_done _ (refused tells) zero
 
--- ---- a scan that is done
+-- ---- a scan
+
+-- a desk that is as it was has not failed
+as_it_was : {P : Type 0} (before after : DeskView) → before.is_failed ≡ false → after ≡ before
+    → after.is_failed ≡ true → P
+as_it_was before after running same failed =
+    absurd (let not = ap (λ (d : DeskView). d.is_failed) same ∙ running in cc)
 
 changed_page : (kind : Kind) (p : PageView) (before after : DeskView) → before.is_failed ≡ false
     → ChangesByPage kind p before after → after.is_failed ≡ false
@@ -100,21 +111,45 @@ changed_page Again p before after running same = ap (λ (d : DeskView). d.is_fai
 changed_page New p before after running keeps = keeps.holding.running
 changed_page Complete p before after running keeps = keeps.holding.running
 
+-- only a save that failed makes it fail
+page_refused : (p : PageView) (before : DeskView) (fault : ScanFault) (after : DeskView) → before.is_failed ≡ false
+    → AcceptsPage p before (Err fault) after → after.is_failed ≡ true → fault ≡ faults.Save
+page_refused p before faults.Conflict after running a failed = as_it_was before after running a.1 failed
+page_refused p before faults.Full after running a failed = as_it_was before after running a.1 failed
+page_refused p before faults.Memory after running a failed = as_it_was before after running a.1 failed
+page_refused p before faults.Save after running a failed = refl
+page_refused p before faults.Failed after running a failed = absurd a
+page_refused p before (faults.Label fault) after running a failed = absurd a
+
 module _ (A : Type 0) where
+  -- the line of a save that failed, which is one of a refusal
+  abbrev IsSaveLine : List ℕ → Bool → Type 0
+  IsSaveLine line is_refused = (line ≡ refused_line (scan_fault_name faults.Save)) × (is_refused ≡ true)
+
   scanned : (opened : Result (Opened A) LabelFault) (before : DeskView) (reply : Accepted) (after : DeskView)
       → before.is_failed ≡ false → Scans opened before (Ok reply) after → after.is_failed ≡ false
   scanned (Ok opened) before reply after running s = changed_page reply.kind opened.page before after running s.2
   scanned (Err fault) before reply after running s = absurd (let not = s.0 in cc)
 
-  -- a picture whose line names no refusal
-  accepted : (p : Picture) (before : DeskView) (line : List ℕ) (is_refused : Bool) (after : DeskView)
-      → before.is_failed ≡ false → ScansPicture A p before line is_refused after → is_refused ≡ false
-      → after.is_failed ≡ false
-  accepted p before _ _ _ running (scan_accepted grid reply shape inside accepts) is =
-      scanned accepts.opened before reply _ running accepts.scans
-  accepted p before _ _ _ running (scan_refused grid fault shape inside accepts) is = absurd cc
-  accepted p before _ _ _ running (scan_shape bad) is = absurd cc
-  accepted p before _ _ _ running (scan_memory shape) is = absurd cc
+  scan_refusal : (opened : Result (Opened A) LabelFault) (before : DeskView) (fault : ScanFault) (after : DeskView)
+      → before.is_failed ≡ false → Scans opened before (Err fault) after → after.is_failed ≡ true
+      → fault ≡ faults.Save
+  scan_refusal (Ok opened) before fault after running s failed =
+      page_refused opened.page before fault after running s failed
+  scan_refusal (Err label) before fault after running s failed = as_it_was before after running s.1 failed
+
+  picture_failed : (p : Picture) (before : DeskView) (line : List ℕ) (is_refused : Bool) (after : DeskView)
+      → before.is_failed ≡ false → ScansPicture A p before line is_refused after → after.is_failed ≡ true
+      → IsSaveLine line is_refused
+  picture_failed p before _ _ _ running (scan_accepted grid reply shape inside accepts) failed =
+      absurd (let not = scanned accepts.opened before reply _ running accepts.scans in cc)
+  picture_failed p before _ _ _ running (scan_refused grid fault shape inside accepts) failed = (
+    ap (λ (f : ScanFault). refused_line (scan_fault_name f))
+        (scan_refusal accepts.opened before fault _ running accepts.scans failed),
+    refl,
+  )
+  picture_failed p before _ _ _ running (scan_shape bad) failed = absurd cc
+  picture_failed p before _ _ _ running (scan_memory shape) failed = absurd cc
 
   or_false : (a b : Bool) → (a || b) ≡ false → b ≡ false
   or_false false b is = is
@@ -135,30 +170,47 @@ module _ (A : Type 0) where
   running_on start _ _ _ _ _ running no_images = running
   running_on start _ _ _ _ _ running (another before next) = goes_on _ _ _ _ _ _ _ _ next refl
 
-  last_accepted : (count : ℕ) (now : DeskView) (taken : List ℕ) (rest : InputView) (line : List ℕ) (also last : Bool)
+  last_failed : (count : ℕ) (now : DeskView) (taken : List ℕ) (rest : InputView) (line : List ℕ) (also last : Bool)
       (after : DeskView) → now.is_failed ≡ false → Comes (scan_images A) count now taken rest line also last after
-      → also ≡ false → after.is_failed ≡ false
-  last_accepted count now taken rest _ _ _ _ running (image p few spelled answers is) none =
-      accepted p now _ _ _ running answers none
-  last_accepted count now taken rest _ _ _ _ running (unread fault few bytes) none = absurd cc
-  last_accepted count now taken rest _ _ _ _ running (too_many is more) none = absurd cc
+      → after.is_failed ≡ true → IsSaveLine line also
+  last_failed count now taken rest _ _ _ _ running (image p few spelled answers is) failed =
+      picture_failed p now _ _ _ running answers failed
+  last_failed count now taken rest _ _ _ _ running (unread fault few bytes) failed = absurd cc
+  last_failed count now taken rest _ _ _ _ running (too_many is more) failed = absurd cc
 
-  ended : (count : ℕ) (now : DeskView) (taken : List ℕ) (rest : InputView) (line : List ℕ) (is_refused : Bool)
+  ended_failed : (count : ℕ) (now : DeskView) (taken : List ℕ) (rest : InputView) (line : List ℕ) (is_refused : Bool)
       (after : DeskView) → now.is_failed ≡ false
-      → EndsImages (scan_images A) count now taken rest line is_refused after → is_refused ≡ false
-      → after.is_failed ≡ false
-  ended count now _ _ _ _ _ running (no_image few at_end) none = running
-  ended count now _ _ _ _ _ running (last_line next) none = last_accepted _ _ _ _ _ _ _ _ running next none
+      → EndsImages (scan_images A) count now taken rest line is_refused after → after.is_failed ≡ true
+      → IsSaveLine line is_refused
+  ended_failed count now _ _ _ _ _ running (no_image few at_end) failed = absurd cc
+  ended_failed count now _ _ _ _ _ running (last_line next) failed = last_failed _ _ _ _ _ _ _ _ running next failed
 
-  none_refused : (any last : Bool) (status : ℕ) → status ≡ (if any || last then 1 else 0) → status ≡ 0 → last ≡ false
-  none_refused any false status is zero = refl
-  none_refused false true status is zero = absurd cc
-  none_refused true true status is zero = absurd cc
+  refused_status : (any last : Bool) (status : ℕ) → last ≡ true → status ≡ (if any || last then 1 else 0)
+      → status ≡ 1
+  refused_status any false status is told = absurd cc
+  refused_status false true status is told = told
+  refused_status true true status is told = told
 
-  pub scan_done : (start : DeskView) (input rest : InputView) (old : OutputView) (status : ℕ) (after : DeskView)
-      (new : OutputView) → start.is_failed ≡ false
-      → TellsImages (scan_images A) start input rest old status after new → status ≡ 0 → after.is_failed ≡ false
-  scan_done start input rest old status after new running (inl told) zero =
-      ended told.count told.now _ _ _ _ after (running_on start _ _ _ _ _ running told.answered) told.ended
-      (none_refused told.any_refused told.end_refused status told.status_is zero)
-  scan_done start input rest old status after new running (inr stopped) zero = not_done status stopped.status_is zero
+  -- the desk has failed, and the command told so
+  failed_leaves : (start : DeskView) (input rest : InputView) (old : OutputView) (status : ℕ) (after : DeskView)
+      (new : OutputView) (left : SetLeft) → start.is_failed ≡ false
+      → TellsImages (scan_images A) start input rest old status after new → after.is_failed ≡ true
+      → ScanLeaves input rest old new status after.saved left
+  failed_leaves start input rest old status after new left running (inl told) failed =
+      let line : IsSaveLine told.end_line told.end_refused = ended_failed told.count told.now _ _ _ _ after
+      (running_on start _ _ _ _ _ running told.answered) told.ended failed in
+      save_failed (refused_status told.any_refused told.end_refused status line.1 told.status_is) told.image_lines
+      (subst (λ (l : List ℕ). Appends old.contents new.contents (told.image_lines ++ l)) line.0 told.appended)
+  failed_leaves start input rest old status after new left running (inr stopped) failed =
+      output_failed stopped.status_is stopped.failed
+
+  pub scan_leaves : (start : DeskView) (input rest : InputView) (old : OutputView) (status : ℕ) (after : DeskView)
+      (new : OutputView) (left : SetLeft) → start.is_failed ≡ false
+      → TellsImages (scan_images A) start input rest old status after new → IsKept after left
+      → ScanLeaves input rest old new status after.saved left
+  scan_leaves start input rest old status after new left running told kept =
+      elim after.is_failed as
+      (λ b. after.is_failed ≡ b → ScanLeaves input rest old new status after.saved left) [
+        | false ↦ λ not. all (leaves_files after left kept not)
+        | true ↦ λ failed. failed_leaves start input rest old status after new left running told failed
+      ] refl

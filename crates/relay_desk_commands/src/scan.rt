@@ -3,7 +3,7 @@
 ghost use Rattle.std.specs.Prelude.{◌≡◌, false, true};
 ghost use Rattle.dm_assembly_desk.specs.Documents.{KeepsPages};
 ghost use Rattle.dm_assembly_desk.specs.Views.{IsInOrder};
-ghost use Rattle.relay_desk_commands.specs.Lasting.{LeavesFiles};
+ghost use Rattle.relay_desk_commands.specs.Lasting.{ScanLeaves};
 ghost use Rattle.relay_desk_commands.specs.Scan.{EndsScan, scan_images};
 
 use crate::desk_opening::{OpenDesk, open_desk};
@@ -115,7 +115,8 @@ pub fn scan_with_notes<A: Allocator + Copy, S: Store, T: StoreSet, R: Read, W: W
 ) -> EndedDesk<S, T>
     ensures ends { EndsScan A (record { joint = S.state store; set = T.state set }) capacity input.old input.new
         output.old result.status (record { joint = S.state result.store; set = T.state result.set }) output.new }
-    ensures lasts { result.status ≡ 0 → LeavesFiles (T.state result.set) (T.left result.set) }
+    ensures lasts { ScanLeaves input.old input.new output.old output.new result.status (T.state result.set)
+        (T.left result.set) }
 {
     let OpenDesk { store, desk } = match open_desk(alloc, store, set, output, capacity) {
         Ok(opened) => opened,
@@ -138,7 +139,8 @@ pub fn scan_command<A: Allocator + Copy, S: Store, T: StoreSet, R: Read, W: Writ
 ) -> EndedDesk<S, T>
     ensures ends { EndsScan A (record { joint = S.state store; set = T.state set }) capacity input.old input.new
         output.old result.status (record { joint = S.state result.store; set = T.state result.set }) output.new }
-    ensures lasts { result.status ≡ 0 → LeavesFiles (T.state result.set) (T.left result.set) }
+    ensures lasts { ScanLeaves input.old input.new output.old output.new result.status (T.state result.set)
+        (T.left result.set) }
 {
     scan_with_notes(alloc, store, set, input, output, &mut NoNotes, capacity)
 }

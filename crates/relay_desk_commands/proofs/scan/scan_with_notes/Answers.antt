@@ -1,4 +1,5 @@
 use Rattle.std.proofs.Common.{refl}
+use Rattle.relay_desk_commands.specs.Lasting.ScanLeaves.{nothing_read}
 use Rattle.relay_desk_commands.specs.Scan.EndsScan.{no_desk, opened}
 use Rattle.relay_desk_commands.proofs.StoppedDesks as stopped
 use Rattle.relay_desk_commands.proofs.scan.scan_with_notes.Goals as goal
@@ -15,10 +16,10 @@ returns-clause-ends g c =
     (record { told = told; kept = kept.0; in_order = kept.1 c.in-Ok.ensures.2 }))
 
 pub returns-in-Err-clause-lasts : goal.returns-in-Err-clause-lasts
-returns-in-Err-clause-lasts g c = stopped.not_done _ (stopped.no_desk_done _ _ _ _ _ _ c.in-Err.ensures)
+returns-in-Err-clause-lasts g c = nothing_read (stopped.no_desk_done _ _ _ _ _ _ c.in-Err.ensures) refl
 
 pub returns-clause-lasts : goal.returns-clause-lasts
 returns-clause-lasts g c =
-    rw c.close-set.ensures.state (λ zero. stopped.leaves_files _ _
-    (record { order = c.close-set.ensures.order; lasts = c.close-set.ensures.lasts })
-    (stopped.scan_done _ _ _ _ _ _ _ _ c.in-Ok.ensures.0.opens.running c.each_image-status.ensures.told zero))
+    rw c.close-set.ensures.state (rw c.in-Ok.ensures.1 at (stopped.scan_leaves _ _ _ _ _ _ _ _ _
+    c.in-Ok.ensures.0.opens.running c.each_image-status.ensures.told
+    (record { order = c.close-set.ensures.order; lasts = c.close-set.ensures.lasts })))
