@@ -19,6 +19,7 @@ pub mod MovingSteps
 pub mod JointFileLaws
 pub mod JointDocuments
 pub mod MovingAll
+pub mod MoveEnds
 pub mod MergingLaws
 pub mod AnyFile
 pub mod ImportLaws

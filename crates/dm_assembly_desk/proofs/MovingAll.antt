@@ -16,7 +16,8 @@ use Rattle.dm_assembly_desk.specs.Documents.{Documents}
 use Rattle.dm_assembly_desk.specs.JointFiles.{entries_of, joint_file, SpellsAll, HoldsJointFile, IsOfOtherJointVersion, HasJointFileFault}
 use Rattle.dm_assembly_desk.specs.inner.ReadingJoint.{entries_at, ReadsJointFile}
 use Rattle.dm_assembly_desk.specs.Moving.{file_in_either, StopsSomewhere, AllFine, HasMoveFault, KeepsFiles, KeepsPlans, LeavesAlone, AnswersNone, Moves}
-use Rattle.dm_assembly_desk.specs.inner.MovingOn.{Moving, MovesEntries, fault_of}
+use Rattle.dm_assembly_desk.specs.inner.MovingOn.{Moving, MovesEntries}
+use Rattle.dm_assembly_desk.specs.FaultOrigin.{save_fault}
 use Rattle.dm_assembly_desk.specs.declared.fault.MoveFault.{MoveFault}
 use Rattle.dm_assembly_desk.specs.declared.fault.MoveFault.TheVariants.{NotPages, Version, Damaged, Device, Memory}
 use Rattle.dm_assembly_desk.proofs.FileLaws.{all_taken, four_of, fifth_of}
@@ -262,7 +263,7 @@ module _ (old : Saved) (set : SavedSet) (loaded : List ℕ) (ks : List ℕ) (cou
       (held, h, λ id. m.2.joined set_honest (known set_honest) held (these m.0 m.1 honest held h) id)
 
   pub stopped_at_key : (after : SavedSet) (fault : ReplaceFault) → MovesEntries set ks count rest (Err fault) after →
-      StopsSomewhere old set (fault_of fault) old after
+      StopsSomewhere old set (save_fault fault) old after
   stopped_at_key after fault m = inr (λ honest set_honest.
       let h : HoldsJointFile old.content r.held = old_content old.content loaded r.held (loads honest) r.spelled in (
         r.held,
@@ -322,19 +323,19 @@ module _ (old : Saved) (set : SavedSet) (loaded : List ℕ) (ks : List ℕ) (cou
     joint_after : (after : Saved) (fault : ReplaceFault) →
         Replaces old (68 ∷ 77 ∷ 80 ∷ 71 ∷ 1 ∷ 0 ∷ 0 ∷ []) (Err fault) after → IsTrue old.is_honest →
         (after.content ≡ old.content)
-        ⊎ ((fault_of fault ≡ Device) × (after.content ≡ Some (joint_file empty)))
+        ⊎ ((save_fault fault ≡ Device) × (after.content ≡ Some (joint_file empty)))
     joint_after after replaces.Memory p honest = inl (ap (λ (s : Saved). s.content) (p.refused refl))
     joint_after after replaces.Device p honest =
         elim (either old.save_plan old.content (Some (68 ∷ 77 ∷ 80 ∷ 71 ∷ 1 ∷ 0 ∷ 0 ∷ [])) after.content
         (p.faulted refl honest)) as (λ _. (after.content ≡ old.content)
-        ⊎ ((fault_of replaces.Device ≡ Device) × (after.content ≡ Some (joint_file empty)))) [
+        ⊎ ((save_fault replaces.Device ≡ Device) × (after.content ≡ Some (joint_file empty)))) [
           | inl is ↦ inl is
           | inr is ↦ inr (refl, is ∙ ap (λ (bs : List ℕ). Some bs) (sym emptied))
         ]
 
     pub stopped_at_last : (after : Saved) (fault : ReplaceFault) →
         Replaces old (68 ∷ 77 ∷ 80 ∷ 71 ∷ 1 ∷ 0 ∷ 0 ∷ []) (Err fault) after →
-        StopsSomewhere old set (fault_of fault) after set_after
+        StopsSomewhere old set (save_fault fault) after set_after
     stopped_at_last after fault p = inr (λ honest set_honest.
         let h : HoldsJointFile old.content r.held = old_content old.content loaded r.held (loads honest) r.spelled in (
           r.held,

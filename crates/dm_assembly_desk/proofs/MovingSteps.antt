@@ -17,7 +17,8 @@ use Rattle.dm_assembly_desk.specs.Documents.{Documents}
 use Rattle.dm_assembly_desk.specs.inner.Loading.{among}
 use Rattle.dm_assembly_desk.specs.inner.ReadingJoint.{entries_at}
 use Rattle.dm_assembly_desk.specs.Moving.{file_in_either, StopsAtKey}
-use Rattle.dm_assembly_desk.specs.inner.MovingOn.{Moving, Carries, Abandons, fault_of}
+use Rattle.dm_assembly_desk.specs.inner.MovingOn.{Moving, Carries, Abandons}
+use Rattle.dm_assembly_desk.specs.FaultOrigin.{save_fault}
 use Rattle.dm_assembly_desk.specs.declared.fault.MoveFault.TheVariants as moves
 use Rattle.dm_assembly_desk.proofs.EntryLaws.{IsBytes, entry_takes}
 use Rattle.dm_assembly_desk.proofs.Loading.{apart, itself, not_there}
@@ -209,7 +210,7 @@ module _ (start now : SavedSet) (ks : List ℕ)
 
     stopped_here : (fault : ReplaceFault) → SavesKey now e.0 (file e.0 e.1) (Err fault) after →
         IsTrue start.is_honest → ks ≡ keys start.content → (held : Documents) → entries held ≡ all →
-        StopsAtKey start.content after.content held (fault_of fault)
+        StopsAtKey start.content after.content held (save_fault fault)
     stopped_here replaces.Memory r honest known held is =
         subst (λ (s : SavedSet). StopsAtKey start.content s.content held moves.Memory) (sym (r.refused refl))
         (stops_before start.content now.content held e rest written (c.moving honest known held is) moves.Memory

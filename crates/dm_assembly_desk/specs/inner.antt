@@ -5,3 +5,4 @@ pub mod Loading
 pub mod ReadingJoint
 pub mod MovingOn
 pub mod LookingAt
+pub mod MoveEnds

@@ -1,10 +1,11 @@
 //! Why a desk refuses, each with its name as it is printed.
 
 ghost use Rattle.std.specs.Prelude.{◌≡◌};
-ghost use Rattle.dm_assembly_desk.specs.FaultOrigin.{scan_fault, import_fault};
+ghost use Rattle.dm_assembly_desk.specs.FaultOrigin.{scan_fault, import_fault, load_fault, save_fault};
 
 use crate::file::FileFault;
 use dm_append_label::LabelFault;
+use dm_store::{LoadFault, ReplaceFault};
 use thiserror::Error;
 
 /// Why no desk was opened.
@@ -174,6 +175,28 @@ impl From<LabelFault> for ScanFault {
         match fault {
             LabelFault::Memory => ScanFault::Memory,
             _ => ScanFault::Label(fault),
+        }
+    }
+}
+
+impl From<LoadFault> for MoveFault {
+    ghost from_gives = { λ given fault. fault ≡ load_fault given };
+
+    fn from(fault: LoadFault) -> Self {
+        match fault {
+            LoadFault::Device => MoveFault::Device,
+            LoadFault::Memory => MoveFault::Memory,
+        }
+    }
+}
+
+impl From<ReplaceFault> for MoveFault {
+    ghost from_gives = { λ given fault. fault ≡ save_fault given };
+
+    fn from(fault: ReplaceFault) -> Self {
+        match fault {
+            ReplaceFault::Device => MoveFault::Device,
+            ReplaceFault::Memory => MoveFault::Memory,
         }
     }
 }
