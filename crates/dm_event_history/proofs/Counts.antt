@@ -1,7 +1,7 @@
 -- How many identifications are left to a printer by events and replies is as many as by their history: one event more
 -- counts the same in both.
 use Rattle.std.proofs.Common.{◌≡◌, ◌<◌, ◌≤◌, ◌+◌, ℕ, if◌then◌else◌, List, [], ◌∷◌, ◌++◌, length, take, refl, ap, sym, ◌∙◌, subst, arith, append_assoc}
-use Rattle.std.specs.Prelude.{◌&&◌}
+use Rattle.std.specs.Prelude.{Bool, false}
 use Rattle.std.proofs.lemmas.List.{append-nil}
 use Rattle.dm_print_ledger.specs.declared.range.Range.{Range}
 use Rattle.dm_print_ledger.specs.Views.{TicketView}
@@ -9,33 +9,42 @@ use Rattle.dm_event_history.specs.declared.event.Event.{Event}
 use Rattle.dm_event_history.specs.declared.reply.Reply.{Reply}
 use Rattle.dm_event_history.specs.Actors.{PrinterAt, actor_of, is_same}
 use Rattle.dm_event_history.specs.History.{Entry, History, events_of, replies_of, given, tickets}
-use Rattle.dm_event_history.specs.Saving.{may_save}
-use Rattle.dm_event_history.specs.Numbers.{opening_count, takes_away, comes_by, gone, came}
+use Rattle.dm_event_history.specs.Running.{failed_after, is_failed}
+use Rattle.dm_event_history.specs.Replying.{goes_on}
+use Rattle.dm_event_history.specs.Numbers.{opening_count, goes_by, comes_by, gone, came}
 use Rattle.dm_event_history.specs.Tickets.{tickets_in}
 use Rattle.dm_event_history.specs.Counts.{gone_by, came_by, HasNumber}
 use Rattle.dm_event_history.proofs.Batches.{events_count, replies_count, take_keeps, take_whole}
 use Rattle.dm_event_history.proofs.NumberedTickets.{tickets_are}
+use Rattle.dm_event_history.proofs.Replied.{failed_is}
 
 swapped : (a b c : ℕ) → a + (b + c) ≡ b + (a + c)
 swapped a b c = omega arith
 
 -- ---- one event more
 
--- how many an event takes away from a printer, if it may save
-abbrev goes : {A : Type 0} → Event A → Reply A → ℕ → ℕ
-goes event reply printer =
-    if is_same (actor_of event) (PrinterAt printer) && may_save event reply then takes_away event else 0
+-- how many go from a printer by an event
+abbrev goes : {A : Type 0} → Event A → Reply A → ℕ → Bool → ℕ
+goes event reply printer had_failed =
+    if is_same (actor_of event) (PrinterAt printer) then goes_by had_failed event reply else 0
 
 gone_more : {A : Type 0} (events : List (Event A)) (replies : List (Reply A)) (event : Event A) (reply : Reply A)
-    (printer : ℕ) → length events ≡ length replies →
-    gone_by (events ++ event ∷ []) (replies ++ reply ∷ []) printer
-    ≡ goes event reply printer + gone_by events replies printer
-gone_more [] [] event reply printer same = refl
-gone_more (v ∷ events) (r ∷ replies) event reply printer same =
-    ap (λ (n : ℕ). goes v r printer + n) (gone_more events replies event reply printer (omega arith)) ∙
-    swapped (goes v r printer) (goes event reply printer) (gone_by events replies printer)
-gone_more [] (r ∷ replies) event reply printer same = absurd (omega arith)
-gone_more (v ∷ events) [] event reply printer same = absurd (omega arith)
+    (printer : ℕ) (had_failed : Bool) → length events ≡ length replies →
+    gone_by (events ++ event ∷ []) (replies ++ reply ∷ []) printer had_failed
+    ≡ goes event reply printer (goes_on failed_after events replies (PrinterAt printer) had_failed)
+    + gone_by events replies printer had_failed
+gone_more [] [] event reply printer had_failed same = refl
+gone_more {A} (v ∷ events) (r ∷ replies) event reply printer had_failed same =
+    ap (λ (n : ℕ). goes v r printer had_failed + n)
+    (gone_more events replies event reply printer after (omega arith)) ∙
+    swapped (goes v r printer had_failed)
+    (goes event reply printer (goes_on failed_after events replies (PrinterAt printer) after))
+    (gone_by events replies printer after)
+  where
+    after : Bool
+    after = if is_same (actor_of v) (PrinterAt printer) then failed_after r had_failed else had_failed
+gone_more [] (r ∷ replies) event reply printer had_failed same = absurd (omega arith)
+gone_more (v ∷ events) [] event reply printer had_failed same = absurd (omega arith)
 
 -- how many come to a printer by an event
 abbrev comes : {A : Type 0} → List TicketView → Event A → Reply A → ℕ → ℕ
@@ -63,11 +72,14 @@ came_more tickets (v ∷ events) [] event reply printer same = absurd (omega ari
 counts : {A : Type 0} (h : History A) → length (events_of h) ≡ length (replies_of h)
 counts h = events_count h ∙ sym (replies_count h)
 
-gone_is : {A : Type 0} (h : History A) (printer : ℕ) → gone_by (events_of h) (replies_of h) printer ≡ gone h printer
+gone_is : {A : Type 0} (h : History A) (printer : ℕ) →
+    gone_by (events_of h) (replies_of h) printer false ≡ gone h printer
 gone_is [] printer = refl
 gone_is (e ∷ h) printer =
-    gone_more (events_of h) (replies_of h) e.event e.reply printer (counts h) ∙
-    ap (λ (n : ℕ). goes e.event e.reply printer + n) (gone_is h printer)
+    gone_more (events_of h) (replies_of h) e.event e.reply printer false (counts h) ∙
+    ap (λ (b : Bool). goes e.event e.reply printer b + gone_by (events_of h) (replies_of h) printer false)
+    (failed_is h (PrinterAt printer)) ∙
+    ap (λ (n : ℕ). goes e.event e.reply printer (is_failed h (PrinterAt printer)) + n) (gone_is h printer)
 
 came_is : {A : Type 0} (h : History A) (printer : ℕ) →
     came_by [] (events_of h) (replies_of h) printer ≡ came h printer

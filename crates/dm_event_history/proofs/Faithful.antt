@@ -1,7 +1,7 @@
 -- A legal and safe history is faithful: what the replies of desks that are not tainted tell of documents and pages is
 -- so, by its events and replies alone.
 use Rattle.std.proofs.lemmas.List.{append-nil}
-use Rattle.std.proofs.Common.{◌≡◌, ◌≢◌, ◌<◌, ◌+◌, inl, inr, ℕ, Bool, true, false, Option, Some, List, [], ◌∷◌, ◌++◌, length, slice_get, zero, suc, ◌≤◌, take, refl, ap, sym, ◌∙◌, subst, arith}
+use Rattle.std.proofs.Common.{◌≡◌, ◌≢◌, ◌<◌, ◌+◌, ◌*◌, inl, inr, ℕ, Bool, true, false, Option, Some, List, [], ◌∷◌, ◌++◌, length, slice_get, zero, suc, ◌≤◌, take, refl, ap, sym, ◌∙◌, subst, arith}
 use Rattle.dm_finder_frame.specs.Grids.{GridView}
 use Rattle.dm_print_ledger.specs.declared.range.Range.{Range}
 use Rattle.dm_assembly_desk.specs.declared.fault.AskFault.TheVariants.{Incomplete}
@@ -180,7 +180,8 @@ scans_more h e id m scans =
 -- a desk is clean after an event with this reply
 abbrev CleanAfter : {A : Type 0} → List GridView → History A → Event A → Reply A → ℕ → Type 0
 CleanAfter grids h event reply desk =
-    (actor_of event ≡ DeskAt desk → may_save event reply ≡ true → BringsClean grids h event)
+    (actor_of event ≡ DeskAt desk → may_save event reply ≡ true → is_failed h (DeskAt desk) ≡ false →
+    BringsClean grids h event)
     × IsClean grids h (AtDesk desk)
 
 -- if it is, the reply is safe
@@ -220,7 +221,8 @@ held_next {A} ranges grids h e fine safe was = record {
     only x y (suc i) is = absurd (cc (is))
 
     takes : (event : Event A) → e.event ≡ event → (desk id m : ℕ) →
-        (actor_of event ≡ DeskAt desk → may_save event e.reply ≡ true → BringsClean grids h event) →
+        (actor_of event ≡ DeskAt desk → may_save event e.reply ≡ true → is_failed h (DeskAt desk) ≡ false →
+        BringsClean grids h event) →
         MayTake (out h) (exports h) event e.reply desk id m → is_failed h (DeskAt desk) ≡ false → Scans (e ∷ h) id m
     takes (Scan d label flips stop) is desk id m brings may unfailed = record {
       name = may.2.0;
@@ -241,7 +243,8 @@ held_next {A} ranges grids h e fine safe was = record {
     takes (Import d export stop) is desk id m brings may unfailed =
         subst (λ (i : ℕ). Scans (e ∷ h) i m) may.2.2
         (scans_more h e may.2.0.id m
-        (was.exported export may.2.0 m (brings (ap DeskAt may.0) may.1) may.2.1 may.2.3))
+        (was.exported export may.2.0 m (brings (ap DeskAt may.0) may.1 unfailed) may.2.1
+        may.2.3))
     takes event is desk id m brings may unfailed = absurd may
 
     leaves : (event : Event A) (reply : Reply A) → IsReply ranges h e.id e.left event reply →
@@ -258,7 +261,7 @@ held_next {A} ranges grids h e fine safe was = record {
         let number : index ≡ export = omega arith in
         let clean : IsClean grids h (AtDesk d) =
         from d asked id n mask refl (ap (λ (k : ℕ). Exported k id n mask) number) in
-        let left = safe d refl ((λ actor saves. tt), clean) in
+        let left = safe d refl ((λ actor saves unfailed. tt), clean) in
         subst (λ (k : ℕ). Scans h k m) (sym fine.id_is ∙ ap (λ (x : ExportName). x.id) same)
         (was.held d asked m clean (left.possibly m
         (subst (λ (k : ℕ). HasPage k m) (sym (ap (λ (x : ExportName). x.mask) same)) page)))
@@ -403,10 +406,15 @@ of_scan grids capacities h known f desk label flips scan_fault.Full clean honest
     label_follows capacities (known_of h) known f desk label (honest.1 clean)
 of_scan grids capacities h known f desk label flips fault clean honest = tt
 
+-- more than an eighth of the modules are wrong, so one is
+some_wrong : (count wrong found : ℕ) → count < 8 * found → wrong ≡ found → 1 ≤ wrong
+some_wrong count wrong found few same = omega arith
+
 -- and any for its frame
 of_label : (grids : List GridView) (label : ℕ) (flips : List (ℕ × ℕ)) (fault : LabelFault) →
-    IsBeyond grids label flips fault → IsOfFrame fault
-of_label grids label flips (label_fault.Border wrong) honest = tt
+    IsBeyond grids label flips fault → IsOfFrame flips fault
+of_label grids label flips (label_fault.Border wrong) honest =
+    (some_wrong _ wrong _ honest.0.frame.0 honest.0.frame.1, honest.1)
 of_label grids label flips fault honest = absurd honest
 
 -- an import that is honestly refused at a clean desk is refused by its state
@@ -424,7 +432,7 @@ abbrev IsAnsweredSo : {A : Type 0} → List ℕ → Known → (ℕ → Type 0) �
 IsAnsweredSo capacities known IsUntaintedDesk (Scan desk label flips stop) (Scanned accepted) =
     IsPageOf known label accepted
 IsAnsweredSo capacities known IsUntaintedDesk (Scan desk label flips stop) (ScanRefused (scan_fault.Label fault)) =
-    IsOfFrame fault
+    IsOfFrame flips fault
 IsAnsweredSo capacities known IsUntaintedDesk (Scan desk label flips stop) (ScanRefused fault) =
     IsUntaintedDesk desk → MayRefuse capacities known desk label fault
 IsAnsweredSo capacities known IsUntaintedDesk (Import desk export stop) (ImportRefused fault) =
@@ -473,13 +481,13 @@ tells_last {A} ranges desks h e grids legal safe clean once = by_reply e.event e
     by_reply (Ask desk id) (Document bytes) is safe clean =
         printed_more (batches_of h) (batch_of e) (events_of h) (replies_of h) e.event e.reply (length h) id bytes
         within (true_document ranges desks grids h desk id bytes legal.1 own_safe (clean desk refl) once
-        (safe desk refl ((λ actor saves. tt), clean desk refl)))
+        (safe desk refl ((λ actor saves unfailed. tt), clean desk refl)))
     by_reply (Ask desk id) (AskRefused (Incomplete missing)) is safe clean =
         begun_more (batches_of h) (batch_of e) (events_of h) (replies_of h) e.event e.reply (length h) id missing
         within (truly_missing ranges desks grids h desk id missing legal.1 own_safe (clean desk refl) once
-        (safe desk refl ((λ actor saves. tt), clean desk refl)))
+        (safe desk refl ((λ actor saves unfailed. tt), clean desk refl)))
     by_reply (Forget desk id stop) Forgotten is safe clean =
-        (let s = safe desk refl ((λ actor saves. tt), clean desk refl) in
+        (let s = safe desk refl ((λ actor saves unfailed. tt), clean desk refl) in
         let t : Scans h id s.0 =
         (held_scanned ranges desks grids h legal.1 own_safe).held desk id s.0 (clean desk refl) s.1 in (
           s.0,
@@ -490,7 +498,7 @@ tells_last {A} ranges desks h e grids legal safe clean once = by_reply e.event e
     by_reply (Export desk id) (Exported index told n mask) is safe clean = λ m named.
         scanned_more (batches_of h) (batch_of e) (events_of h) (replies_of h) e.event e.reply (length h) id m n within
         (pages_scanned ranges desks grids h desk id n mask legal.1 own_safe (clean desk refl) once
-        (safe desk refl ((λ actor saves. tt), clean desk refl)) m named)
+        (safe desk refl ((λ actor saves unfailed. tt), clean desk refl)) m named)
     by_reply event reply is safe clean = tt
 
 -- and of each whose desk is not tainted in the run of which these are the first entries

@@ -12,21 +12,19 @@ use Rattle.dm_event_history.specs.declared.event.Event.{Event}
 use Rattle.dm_event_history.specs.declared.event.Event.TheVariants.{Scan, Ask, Forget, Export, Import}
 use Rattle.dm_event_history.specs.declared.reply.Reply.{Reply}
 use Rattle.dm_event_history.specs.declared.reply.Reply.TheVariants.{Scanned, Document, AskRefused, Forgotten, ForgetRefused, Exported, ExportRefused, Imported}
-use Rattle.dm_event_history.specs.History.{Entry, History, LabelName, ExportName, CutDocument, events_of, replies_of, out, exports}
-use Rattle.dm_event_history.specs.Actors.{Actor, DeskAt}
-use Rattle.dm_event_history.specs.Running.{is_failed, failed_after}
-use Rattle.dm_event_history.specs.Replying.{goes_on, has_failed_before}
+use Rattle.dm_event_history.specs.History.{Entry, History, LabelName, ExportName, CutDocument, replies_of, out, exports}
+use Rattle.dm_event_history.specs.Actors.{DeskAt}
+use Rattle.dm_event_history.specs.Replying.{has_failed_before}
 use Rattle.dm_event_history.specs.Legal.{IsLegal}
 use Rattle.dm_event_history.specs.Holding.{Takes, MayTake, Forgets, MayForget, IsSurelyHeld, IsPossiblyHeld, known_of}
 use Rattle.dm_event_history.specs.Imports.{exports_in}
 use Rattle.dm_event_history.specs.Telling.{Known, IsPageOf, IsKindSafe, IsImportKindSafe, MayHoldOthers, IsFullForLabel, IsFullForExport, IsReplyTrue}
 use Rattle.dm_event_history.specs.Headline.{Batch, labels_of, IsAt, MayHold, Holds, known_before}
-use Rattle.dm_event_history.proofs.Batches.{batches_of, batch_of, batches_count, events_count, replies_count, take_whole, out_is}
+use Rattle.dm_event_history.proofs.Batches.{batches_of, batch_of, batches_count, replies_count, take_whole, out_is}
 use Rattle.dm_event_history.proofs.Gotten.{get_more}
 use Rattle.dm_event_history.proofs.PrintedBatches.{printed_at}
-use Rattle.dm_event_history.proofs.Replied.{failed_is}
 use Rattle.dm_event_history.proofs.NumberedTickets.{exports_are}
-use Rattle.dm_event_history.proofs.Tainting.{IsFirst, first_less, last_asked, last_answered}
+use Rattle.dm_event_history.proofs.Tainting.{IsFirst, first_less, last_asked, last_answered, failed_before_is}
 
 -- ---- one that says more
 
@@ -208,23 +206,6 @@ from_end {A} events replies e h IsSo first at =
     let told : slice_get replies (length h) ≡ Some e.reply = last_answered events replies e h first in
     let reply_is : at.reply ≡ e.reply = cc (other, told) in
     subst (λ (v : Event A). IsSo v e.reply) event_is (subst (λ (r : Reply A). IsSo at.event r) reply_is at.is_so)
-
--- who has failed by the history has failed by the run
-pub failed_before_is : {A : Type 0} (events : List (Event A)) (replies : List (Reply A)) (h : History A) →
-    IsFirst events replies h → (actor : Actor) →
-    has_failed_before events replies (length h) actor ≡ is_failed h actor
-failed_before_is {A} events replies h first actor =
-    ap (λ (l : List (Event A)). goes_on failed_after (take (length h) l) (take (length h) replies) actor false)
-    first.events_are ∙
-    ap (λ (l : List (Event A)). goes_on failed_after l (take (length h) replies) actor false)
-    (subst (λ (k : ℕ). take k (events_of h ++ first.later_events) ≡ events_of h) (events_count h)
-    (take_whole (events_of h) first.later_events)) ∙
-    ap (λ (l : List (Reply A)). goes_on failed_after (events_of h) (take (length h) l) actor false)
-    first.replies_are ∙
-    ap (λ (l : List (Reply A)). goes_on failed_after (events_of h) l actor false)
-    (subst (λ (k : ℕ). take k (replies_of h ++ first.later_replies) ≡ replies_of h) (replies_count h)
-    (take_whole (replies_of h) first.later_replies)) ∙
-    failed_is h actor
 
 may_hold : {A : Type 0} (batches : List (Option Batch)) (events : List (Event A)) (replies : List (Reply A))
     (h : History A) → IsFirstOf batches events replies h → (desk id m : ℕ) →

@@ -6,28 +6,26 @@ use Rattle.dm_encodation.specs.declared.scheme.Scheme.{Scheme}
 use Rattle.dm_print_ledger.specs.declared.range.Range.{Range}
 use Rattle.dm_print_ledger.specs.Ranges.{is_in}
 use Rattle.dm_print_ledger.specs.Views.{TicketView}
+use Rattle.dm_print_ledger.specs.declared.fault.PrintFault.TheVariants as print_fault
 use Rattle.dm_event_history.specs.declared.event.Event.{Event}
 use Rattle.dm_event_history.specs.declared.event.Event.TheVariants.{Print, Give, Take}
 use Rattle.dm_event_history.specs.declared.reply.Reply.{Reply}
-use Rattle.dm_event_history.specs.declared.reply.Reply.TheVariants.{Given}
+use Rattle.dm_event_history.specs.declared.reply.Reply.TheVariants.{PrintRefused, Given}
 use Rattle.dm_event_history.specs.declared.stop.Stop.{Stop}
 use Rattle.dm_event_history.specs.Actors.{Actor, PrinterAt, actor_of}
 use Rattle.dm_event_history.specs.History.{Entry, History, events_of, replies_of, tickets}
-use Rattle.dm_event_history.specs.Places.{is_taken}
 use Rattle.dm_event_history.specs.Saving.{may_save, tells_of_save}
 use Rattle.dm_event_history.specs.Numbers.{free_at, free_after, saved_at, is_of, is_on}
 use Rattle.dm_event_history.specs.Running.{is_failed}
-use Rattle.dm_event_history.specs.Replying.{has_failed_before}
-use Rattle.dm_event_history.specs.Legal.{Fits, IsLegal, MayMove, MayBeTaken}
-use Rattle.dm_event_history.specs.Tickets.{TakesTicket, tickets_in}
-use Rattle.dm_event_history.specs.Headline.{Batch, IsAt, MayGain, GivesAway, MayBeFree}
-use Rattle.dm_event_history.proofs.TakenTickets.{not_taken}
-use Rattle.dm_event_history.proofs.RisingTickets.{was_taken}
+use Rattle.dm_event_history.specs.Legal.{Fits, IsLegal, IsReply, MayMove, MayBeTaken}
+use Rattle.dm_event_history.specs.Tickets.{IsDoneWith, tickets_in}
+use Rattle.dm_event_history.specs.Headline.{Batch, IsAt, MayGain, TellsGone, MayBeFree}
+use Rattle.dm_event_history.proofs.RisingTickets.{one_ticket, above_taken, was_done}
 use Rattle.dm_event_history.proofs.Batches.{batch_of, batches_of, batches_count, events_count, replies_count, before_or_last, batch_means, take_whole}
 use Rattle.dm_event_history.proofs.Deciding.{both, decided, if_not, if_so, or_means, and_so, true_false}
 use Rattle.dm_event_history.proofs.NumberedTickets.{tickets_are}
-use Rattle.dm_event_history.proofs.Tainting.{IsFirst, first_less, last_asked}
-use Rattle.dm_event_history.proofs.Knowing.{at_end, from_end, failed_before_is}
+use Rattle.dm_event_history.proofs.Tainting.{IsFirst, first_less, last_asked, failed_before_is}
+use Rattle.dm_event_history.proofs.Knowing.{at_end, from_end}
 use Rattle.dm_event_history.proofs.Replied.{saved_unfailed}
 use Rattle.dm_event_history.proofs.WhoActs.{printer_is, same_means, same_so}
 
@@ -47,36 +45,47 @@ within [] ys i x lt is = absurd (omega (arith, lt))
 within (z ∷ zs) ys zero x lt is = is
 within (z ∷ zs) ys (suc i) x lt is = within zs ys i x (omega (arith, lt)) is
 
--- no take of a ticket was told before one that may still take it
-untaken : {A : Type 0} (events : List (Event A)) (replies : List (Reply A)) (h : History A) →
+-- a ticket that may still be taken is later than each of its giver, for the same printer, that is done with
+above_done : {A : Type 0} (events : List (Event A)) (replies : List (Reply A)) (h : History A) →
     IsFirst events replies h → (ranges : List Range) (desks : ℕ) → IsLegal ranges desks h →
-    (at ticket : ℕ) → MayBeTaken h at ticket → (j other : ℕ) → j < length h →
-    ¬ TakesTicket events replies j other ticket
-untaken {A} events replies h first ranges desks legal at ticket may j other before t =
-    true_false (is_taken h ticket)
-    (was_taken ranges desks h j other ticket legal (record {
-      stop = t.stop;
-      event = within (events_of h) first.later_events j (Take other ticket t.stop) (rw (events_count h) before)
-          (subst (λ (l : List (Event A)). slice_get l j ≡ Some (Take other ticket t.stop)) first.events_are t.event);
-      reply = t.reply;
-      answered = within (replies_of h) first.later_replies j t.reply (rw (replies_count h) before)
-          (subst (λ (l : List (Reply A)). slice_get l j ≡ Some t.reply) first.replies_are t.answered);
-      taken = t.taken;
-    }))
-    (not_taken ranges desks h at ticket legal may)
+    (at ticket : ℕ) (m : MayBeTaken h at ticket) (j other number : ℕ) (before : TicketView) → j < length h →
+    IsDoneWith events replies j other number →
+    slice_get (tickets_in (take (length h) replies)) number ≡ Some before → before.giver ≡ m.ticket.giver →
+    before.receiver ≡ at → before.serial < m.ticket.serial
+above_done {A} events replies h first ranges desks legal at ticket m j other number before below d is from to =
+    let own : IsDoneWith (events_of h) (replies_of h) j other number = record {
+      stop = d.stop;
+      event = within (events_of h) first.later_events j (Take other number d.stop) (rw (events_count h) below)
+          (subst (λ (l : List (Event A)). slice_get l j ≡ Some (Take other number d.stop)) first.events_are d.event);
+      reply = d.reply;
+      answered = within (replies_of h) first.later_replies j d.reply (rw (replies_count h) below)
+          (subst (λ (l : List (Reply A)). slice_get l j ≡ Some d.reply) first.replies_are d.answered);
+      done = d.done;
+    } in
+    let w = (was_done ranges desks h j other number legal own).was in
+    let there : slice_get (tickets h) number ≡ Some before =
+    ap (λ (l : List TicketView). slice_get l number) (sym (tickets_before events replies h first)) ∙ is in
+    let same : w.ticket ≡ before = one_ticket (tickets h) number w.ticket before w.there there in
+    let rise : w.ticket.serial < m.ticket.serial =
+    above_taken h at number ticket w (ap (λ (t : TicketView). t.receiver) same ∙ to) m
+    (ap (λ (t : TicketView). t.giver) same ∙ from) in
+    let serial : w.ticket.serial ≡ before.serial = ap (λ (t : TicketView). t.serial) same in omega arith
 
 -- a give that is told saved, at the printer that it names
-gives_saved : {A : Type 0} (event : Event A) (reply : Reply A) (printer number : ℕ) →
-    GivesAway event reply printer number →
-    (tells_of_save reply ≡ true) × (actor_of event ≡ PrinterAt printer)
-gives_saved (Give at receiver range stop) (Given index ticket) printer number away = (refl, ap PrinterAt away.0)
-gives_saved (Give at receiver range stop) reply printer number away = absurd away
-gives_saved event reply printer number away = absurd away
+gives_saved : {A : Type 0} (at receiver : ℕ) (range : Range) (stop : Stop) (reply : Reply A) (printer number : ℕ) →
+    TellsGone (Give at receiver range stop) reply printer number →
+    (tells_of_save reply ≡ true) × (at ≡ printer) × (is_in range number ≡ true)
+gives_saved at receiver range stop (Given index ticket) printer number gone = (refl, gone.0, gone.1)
+gives_saved at receiver range stop reply printer number gone = absurd gone
 
-gives_range : {A : Type 0} (at receiver : ℕ) (range : Range) (stop : Stop) (reply : Reply A) (printer number : ℕ) →
-    GivesAway (Give at receiver range stop) reply printer number → is_in range number ≡ true
-gives_range at receiver range stop (Given index ticket) printer number away = away.1
-gives_range at receiver range stop reply printer number away = absurd away
+-- a printer of which a print is refused as it has no number left has none
+none_left : {A : Type 0} (ranges : List Range) (h : History A) (id left at : ℕ) (document : List ℕ) (size : Size)
+    (scheme : Scheme) (stop : Stop) (reply : Reply A) (printer number : ℕ) →
+    IsReply ranges h id left (Print at document size scheme stop) reply →
+    TellsGone (Print at document size scheme stop) reply printer number → free_at ranges h printer number ≡ false
+none_left ranges h id left at document size scheme stop (PrintRefused print_fault.Exhausted) printer number fine gone =
+    subst (λ (p : ℕ). free_at ranges h p number ≡ false) gone (fine.1 number)
+none_left ranges h id left at document size scheme stop reply printer number fine gone = absurd gone
 
 -- a number that is free after an entry may be free by the run, if it may have been where it was free before
 free_next : {A : Type 0} (ranges : List Range) (desks : ℕ) (events : List (Event A)) (replies : List (Reply A))
@@ -88,15 +97,10 @@ free_next {A} ranges desks events replies e h first fits legal printer number re
     elim (decided (saved_at e printer)) [
       | inl saved ↦ by_event saved e.event refl
           (sym (if_so (saved_at e printer) (after e.event) before saved) ∙ free)
-      | inr unsaved ↦ inr (
-        (λ given. (let away = given_now given in
-            let g = gives_saved e.event e.reply printer number away in
-            true_false (saved_at e printer)
-            (and_so e.saved (is_of e printer) (fits.told g.0)
-            (same_so (actor_of e.event) (PrinterAt printer) g.1)) unsaved)),
-        rest (sym (if_not (saved_at e printer) (after e.event) before
-            (λ so. true_false (saved_at e printer) so unsaved)) ∙ free),
-      )
+      | inr unsaved ↦
+          (let was : before ≡ true = sym (if_not (saved_at e printer) (after e.event) before
+          (λ so. true_false (saved_at e printer) so unsaved)) ∙ free in
+          inr ((λ gone. unsaved_keeps unsaved was e.event refl (gone_now gone)), rest was))
     ]
   where
     before : Bool
@@ -108,9 +112,32 @@ free_next {A} ranges desks events replies e h first fits legal printer number re
     less : IsFirst events replies h
     less = first_less events replies e h first
 
-    given_now : IsAt events replies (length h) (λ event reply. GivesAway event reply printer number) →
-        GivesAway e.event e.reply printer number
-    given_now at = from_end events replies e h (λ event reply. GivesAway event reply printer number) first at
+    gone_now : IsAt events replies (length h) (λ event reply. TellsGone event reply printer number) →
+        TellsGone e.event e.reply printer number
+    gone_now at = from_end events replies e h (λ event reply. TellsGone event reply printer number) first at
+
+    -- a print tells of nothing gone where a number is free
+    prints_on : before ≡ true → (at : ℕ) (document : List ℕ) (size : Size) (scheme : Scheme) (stop : Stop) →
+        e.event ≡ Print at document size scheme stop → TellsGone e.event e.reply printer number → ⊥
+    prints_on was at document size scheme stop is gone =
+        true_false before was
+        (none_left ranges h e.id e.left at document size scheme stop e.reply printer number
+        (subst (λ (v : Event A). IsReply ranges h e.id e.left v e.reply) is fits.reply)
+        (subst (λ (v : Event A). TellsGone v e.reply printer number) is gone))
+
+    -- and nothing that saved nothing does
+    unsaved_keeps : saved_at e printer ≡ false → before ≡ true → (event : Event A) → e.event ≡ event →
+        TellsGone e.event e.reply printer number → ⊥
+    unsaved_keeps unsaved was (Give at receiver range stop) is gone =
+        let g = gives_saved at receiver range stop e.reply printer number
+        (subst (λ (v : Event A). TellsGone v e.reply printer number) is gone) in
+        true_false (saved_at e printer)
+        (and_so e.saved (is_of e printer) (fits.told g.0)
+        (same_so (actor_of e.event) (PrinterAt printer) (ap actor_of is ∙ ap PrinterAt g.1))) unsaved
+    unsaved_keeps unsaved was (Print at document size scheme stop) is gone =
+        prints_on was at document size scheme stop is gone
+    unsaved_keeps unsaved was event is gone =
+        absurd (subst (λ (v : Event A). TellsGone v e.reply printer number) is gone)
 
     owner : saved_at e printer ≡ true → (at ticket : ℕ) (stop : Stop) → e.event ≡ Take at ticket stop → at ≡ printer
     owner saved at ticket stop is =
@@ -122,9 +149,9 @@ free_next {A} ranges desks events replies e h first fits legal printer number re
         MayBeFree ranges events replies (length (e ∷ h)) printer number
     by_event saved (Give at receiver range stop) is now =
         (let t = both (free_at ranges h printer number) (not (is_in range number)) now in inr (
-          (λ given. (let own : is_in range number ≡ true =
-              gives_range at receiver range stop e.reply printer number
-              (subst (λ (v : Event A). GivesAway v e.reply printer number) is (given_now given)) in
+          (λ gone. (let own : is_in range number ≡ true =
+              (gives_saved at receiver range stop e.reply printer number
+              (subst (λ (v : Event A). TellsGone v e.reply printer number) is (gone_now gone))).2 in
               let none : not (is_in range number) ≡ false = ap not own in cc (none, t.1))),
           rest t.0,
         ))
@@ -146,19 +173,20 @@ free_next {A} ranges desks events replies e h first fits legal printer number re
                     (sym (same_means (actor_of e.event) (PrinterAt printer)
                     (both e.saved (is_of e printer) saved).1)) ∙
                     saved_unfailed ranges desks h e fits own,
-                untaken events replies h less ranges desks legal at ticket m,
+                (λ j other number before below done there from to.
+                    above_done events replies h less ranges desks legal at ticket m j other number before below done
+                    there from (to ∙ sym (owner saved at ticket stop is))),
               ))))
           | inr was ↦ inr (
-            (λ given. absurd (subst (λ (v : Event A). GivesAway v e.reply printer number) is (given_now given))),
+            (λ gone. absurd (subst (λ (v : Event A). TellsGone v e.reply printer number) is (gone_now gone))),
             rest was,
           )
         ]
-    by_event saved (Print at document size scheme stop) is now = inr (
-      (λ given. absurd (subst (λ (v : Event A). GivesAway v e.reply printer number) is (given_now given))),
-      rest (both (free_at ranges h printer number) (not (e.id == number)) now).0,
-    )
+    by_event saved (Print at document size scheme stop) is now =
+        (let was = (both (free_at ranges h printer number) (not (e.id == number)) now).0 in
+        inr ((λ gone. prints_on was at document size scheme stop is (gone_now gone)), rest was))
     by_event saved event is now = inr (
-      (λ given. absurd (subst (λ (v : Event A). GivesAway v e.reply printer number) is (given_now given))),
+      (λ gone. absurd (subst (λ (v : Event A). TellsGone v e.reply printer number) is (gone_now gone))),
       rest now,
     )
 

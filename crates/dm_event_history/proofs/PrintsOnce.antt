@@ -229,7 +229,7 @@ once_next {A} ranges desks h e apart legal never f = record {
               f.exhausted i printer document size scheme stop before.1 before.2
               (number_before ranges h e i printer (omega arith) has))
           | inr last ↦
-              (let none = last_refuses printer document size scheme stop print_fault.Exhausted last.1 last.2 in
+              (let none = (last_refuses printer document size scheme stop print_fault.Exhausted last.1 last.2).0 in
               let some = number_at_last ranges h e printer (subst (λ (k : ℕ). HasNumber ranges
               (take k (events_of (e ∷ h))) (take k (replies_of (e ∷ h))) printer) last.0 has) in omega arith)
         ]

@@ -13,7 +13,7 @@ use Rattle.dm_encodation.specs.declared.scheme.Scheme.TheVariants.{Ascii}
 use Rattle.dm_assembly_desk.specs.declared.reply.Kind.TheVariants.{New, Again, Complete}
 use Rattle.dm_assembly_desk.specs.declared.fault.ImportFault.{ImportFault}
 use Rattle.dm_assembly_desk.specs.declared.fault.ImportFault.TheVariants as import_fault
-use Rattle.dm_append_label.specs.declared.fault.LabelFault.TheVariants.{Block}
+use Rattle.dm_append_label.specs.declared.fault.LabelFault.TheVariants.{Block, Border}
 use Rattle.dm_assembly_desk.specs.declared.fault.AskFault.TheVariants as ask_fault
 use Rattle.dm_assembly_desk.specs.declared.fault.ForgetFault.TheVariants as forget_fault
 use Rattle.dm_assembly_desk.specs.declared.fault.ScanFault.TheVariants as scan_fault
@@ -24,7 +24,7 @@ use Rattle.dm_append_label.proofs.CutParts.{each_cut_is}
 use Rattle.dm_event_history.specs.declared.event.Event.{Event}
 use Rattle.dm_event_history.specs.declared.event.Event.TheVariants.{Print, Scan, RestartPrinter, RestartDesk, Ask, Forget, Give, Take, Export, Import}
 use Rattle.dm_event_history.specs.declared.reply.Reply.{Reply}
-use Rattle.dm_event_history.specs.declared.reply.Reply.TheVariants.{Printed, AskRefused, ForgetRefused, Scanned, ScanRefused, Document, Forgotten, Given, GiveRefused, Taken, TakeRefused, Exported, Imported, Restarted, PrinterRefused, Stopped, Down, Memory, ImportRefused}
+use Rattle.dm_event_history.specs.declared.reply.Reply.TheVariants.{Printed, PrintRefused, AskRefused, ForgetRefused, Scanned, ScanRefused, Document, Forgotten, Given, GiveRefused, Taken, TakeRefused, Exported, Imported, Restarted, PrinterRefused, Stopped, Down, Memory, ImportRefused}
 use Rattle.dm_event_history.specs.declared.stop.Stop.{Stop}
 use Rattle.dm_event_history.specs.declared.stop.Stop.TheVariants as stops
 use Rattle.dm_event_history.specs.History.{CutDocument, LabelName, ExportName, names_from}
@@ -34,6 +34,8 @@ use Rattle.dm_event_history.specs.Imports.{exports_in}
 use Rattle.dm_event_history.specs.Tainted.{AtDesk, InExport}
 use Rattle.dm_event_history.proofs.Tainting.{untainted, is_tainted, untainted_by}
 use Rattle.dm_print_ledger.specs.declared.range.Range.{Range}
+use Rattle.dm_print_ledger.specs.Ranges.{is_in}
+use Rattle.dm_print_ledger.specs.declared.fault.PrintFault.TheVariants as print_fault
 use Rattle.dm_print_ledger.specs.declared.fault.GiveFault.TheVariants as give_fault
 use Rattle.dm_print_ledger.specs.declared.fault.TakeFault.TheVariants as take_fault
 use Rattle.dm_event_history.specs.Actors.{PrinterAt, DeskAt, actor_of}
@@ -45,10 +47,10 @@ use Rattle.dm_event_history.proofs.Right.{are_parts}
 use Rattle.dm_print_ledger.specs.Views.{TicketView}
 use Rattle.dm_event_history.specs.Masks.{HasPage}
 use Rattle.dm_event_history.specs.Saving.{may_save}
-use Rattle.dm_event_history.specs.Tickets.{WasGiven, WasReached, tickets_in}
+use Rattle.dm_event_history.specs.Tickets.{WasGiven, WasReached}
 use Rattle.dm_event_history.specs.Worked.{digits, range, two_ranges, first_ticket}
 use Rattle.dm_event_history.specs.Telling.{Known, IsImportKindSafe, MayHoldOthers, IsFullForLabel, IsFullForExport}
-use Rattle.dm_event_history.specs.Unfaithful.{Run, IsFaithfulRun, missing_first_label, lost_by_a_refused_forget, imported_at_last, printed_untaken, given_after_taken, ticket_back, given_to_another, old_by_another_giver, imported_none_of_another, wrong_after_a_refused_scan, old_by_another_ticket, printed_of_another, given_of_another, given_again, given_though_printed, printed_of_anothers_ticket, taken_though_kept, saved_though_failed, held_and_missing, forgotten_elsewhere, forgotten_twice, again_at_first, new_twice, new_at_last, complete_at_first, missing_though_held, given_elsewhere, conflicting_label, exported_in_part, added_again, refused_label, exhausted_at_first, too_long_of_few, IsFaithfulMarked, IsTaintedIn, IsTaintedSo, wrong_at, imported, PrintsOnceRun, AreRepliesRun, TakesOnceRun, ImportsExportsRun, other_digits, scan, page, ticket, another_call, stopped_unasked, forgotten_with_a_fault, scanned_though_stopped, failed_without_a_fault, damaged_by_itself, answered_while_down, down_unstopped, failed_before_a_fault, given_though_failed, missing_printer, numbered_above, second_ticket, taken_falling, old_at_first, old_after_a_lower, old_unsaved, old_though_failed, refused_ungiven, missing_ticket, exported_above, refused_unexported, missing_export, never_saved, refused_import, scanned_outside, given_to_itself, refused_range, refused_receiver, full_at_first, full_with_one, two_desks, four_desks, wrong_of_two, refused_unprinted, missing_label, third_desk, begun_unscanned, exported_unscanned, printed_after_forgotten, one_serial, given_falling, taken_though_old, imported_another_document, imported_another_page, exported_twice, half_printed, printed_unseen, unseen_labels, print, never_printed, wrong_document, another_document, never_scanned, two_documents, printed_twice, told_twice, printed_beyond, left_though_failed, never_left, numbered_twice, taken_twice, taken_elsewhere, overlaps, AreUnfaithful}
+use Rattle.dm_event_history.specs.Unfaithful.{Run, IsFaithfulRun, missing_first_label, lost_by_a_refused_forget, imported_at_last, printed_untaken, given_after_taken, after_overtaken, printed_of_overtaken, given_of_overtaken, printed_of_old, taken_below_old, ticket_back, given_to_another, old_by_another_giver, imported_none_of_another, wrong_after_a_refused_scan, wrong_after_a_failed_scan, wrong_after_a_failed_import, old_by_another_ticket, printed_of_another, given_of_another, given_again, given_though_printed, printed_of_anothers_ticket, taken_though_kept, saved_though_failed, held_and_missing, forgotten_elsewhere, forgotten_twice, again_at_first, new_twice, new_at_last, complete_at_first, missing_though_held, given_elsewhere, conflicting_label, exported_in_part, added_again, refused_label, refused_frame, exhausted_at_first, exhausted_by_itself, exhausted_by_no_range, exhausted_though_failed, after_exhausted, printed_after_exhausted, given_after_exhausted, too_long_of_few, IsFaithfulMarked, IsTaintedIn, IsTaintedSo, wrong_at, imported, PrintsOnceRun, AreRepliesRun, TakesOnceRun, ImportsExportsRun, other_digits, scan, page, ticket, another_call, stopped_unasked, forgotten_with_a_fault, scanned_though_stopped, failed_without_a_fault, damaged_by_itself, answered_while_down, down_unstopped, failed_before_a_fault, given_though_failed, missing_printer, numbered_above, second_ticket, taken_falling, old_at_first, old_after_a_lower, old_unsaved, old_though_failed, refused_ungiven, missing_ticket, exported_above, refused_unexported, missing_export, never_saved, refused_import, scanned_outside, given_to_itself, refused_range, refused_receiver, full_at_first, full_with_one, two_desks, four_desks, wrong_of_two, refused_unprinted, missing_label, third_desk, begun_unscanned, exported_unscanned, printed_after_forgotten, one_serial, given_falling, taken_though_old, imported_another_document, imported_another_page, exported_twice, half_printed, printed_unseen, unseen_labels, print, never_printed, wrong_document, another_document, never_scanned, two_documents, printed_twice, told_twice, printed_beyond, left_though_failed, never_left, numbered_twice, taken_twice, taken_elsewhere, overlaps, AreUnfaithful}
 
 -- each event of a run was found honest
 abbrev marks : {A : Type 0} → Run A → List Bool
@@ -1004,6 +1006,14 @@ refused_label_is : (A : Type 0) → ¬ IsFaithfulRun (refused_label A)
 refused_label_is A (batches, f) =
     f.framed 1 0 0 [] stops.None (Block 0) refl refl refl
 
+refused_for_nothing_is : (A : Type 0) → ¬ IsFaithfulRun (refused_frame A 0)
+refused_for_nothing_is A (batches, f) =
+    let some : 1 ≤ 0 = (f.framed 1 0 0 [] stops.None (Border 0) refl refl refl).0 in omega arith
+
+refused_frame_is : (A : Type 0) → ¬ IsFaithfulRun (refused_frame A 6)
+refused_frame_is A (batches, f) =
+    let few : 6 ≤ 0 = (f.framed 1 0 0 [] stops.None (Border 6) refl refl refl).1 in omega arith
+
 conflicting_label_is : (A : Type 0) → ¬ IsFaithfulRun (conflicting_label A)
 conflicting_label_is A (batches, f) =
     f.not_refused 1 0 0 [] stops.None scan_fault.Conflict refl refl refl
@@ -1012,6 +1022,18 @@ conflicting_label_is A (batches, f) =
 exhausted_at_first_is : (A : Type 0) → ¬ IsFaithfulRun (exhausted_at_first A)
 exhausted_at_first_is A (batches, f) =
     let has : 0 < 10 = omega arith in f.prints.exhausted 0 0 digits Side12 Ascii stops.None refl refl has
+
+exhausted_by_itself_is : (A : Type 0) → ¬ IsFaithfulRun (exhausted_by_itself A)
+exhausted_by_itself_is A (batches, f) =
+    let has : 0 < 10 = omega arith in f.prints.exhausted 2 0 digits Side12 Ascii stops.None refl refl has
+
+exhausted_by_no_range_is : (A : Type 0) → ¬ IsFaithfulRun (exhausted_by_no_range A)
+exhausted_by_no_range_is A (batches, f) =
+    let has : 0 < 10 = omega arith in f.prints.exhausted 2 0 digits Side12 Ascii stops.None refl refl has
+
+exhausted_though_failed_is : (A : Type 0) → ¬ IsFaithfulRun (exhausted_though_failed A)
+exhausted_though_failed_is A (batches, f) =
+    let has : 0 < 10 = omega arith in f.prints.exhausted 3 0 digits Side12 Ascii stops.None refl refl has
 
 too_long_of_few_is : (A : Type 0) → ¬ IsFaithfulRun (too_long_of_few A)
 too_long_of_few_is A (batches, f) =
@@ -1068,6 +1090,52 @@ wrong_after_a_refused_scan_is A (batches, f) =
     by_print (suc zero) batch before left bytes = (let x = left.is_print.event in cc (x))
     by_print (suc (suc j)) batch before left bytes = omega arith
 
+wrong_after_a_failed_scan_is : (A : Type 0) → ¬ IsFaithfulMarked (wrong_after_a_failed_scan A)
+wrong_after_a_failed_scan_is A (batches, f) =
+    let w = f.given 4 0 0 other_digits refl refl (untainted_by events found replies 4 (AtDesk 0) refl) in
+    by_print w.printed.j w.batch w.printed.before (f.prints.printed w.printed.j w.batch w.printed.there) w.bytes_are
+  where
+    events : List (Event A)
+    events = map (λ one. one.0) (wrong_after_a_failed_scan A)
+
+    found : List Bool
+    found = map (λ one. one.1) (wrong_after_a_failed_scan A)
+
+    replies : List (Reply A)
+    replies = map (λ one. one.2) (wrong_after_a_failed_scan A)
+
+    by_print : (j : ℕ) (batch : Batch) → j < 4 → LeftBy events replies j batch → batch.document.bytes ≡ other_digits → ⊥
+    by_print zero batch before left bytes =
+        digits_differ (sym (document_is events replies 0 0 batch digits stops.None refl left) ∙ bytes)
+    by_print (suc zero) batch before left bytes = (let x = left.is_print.event in cc (x))
+    by_print (suc (suc zero)) batch before left bytes = (let x = left.is_print.event in cc (x))
+    by_print (suc (suc (suc zero))) batch before left bytes = (let x = left.is_print.event in cc (x))
+    by_print (suc (suc (suc (suc j)))) batch before left bytes = omega arith
+
+wrong_after_a_failed_import_is : (A : Type 0) → ¬ IsFaithfulMarked (wrong_after_a_failed_import A)
+wrong_after_a_failed_import_is A (batches, f) =
+    let w = f.given 6 1 0 other_digits refl refl (untainted_by events found replies 6 (AtDesk 1) refl) in
+    by_print w.printed.j w.batch w.printed.before (f.prints.printed w.printed.j w.batch w.printed.there) w.bytes_are
+  where
+    events : List (Event A)
+    events = map (λ one. one.0) (wrong_after_a_failed_import A)
+
+    found : List Bool
+    found = map (λ one. one.1) (wrong_after_a_failed_import A)
+
+    replies : List (Reply A)
+    replies = map (λ one. one.2) (wrong_after_a_failed_import A)
+
+    by_print : (j : ℕ) (batch : Batch) → j < 6 → LeftBy events replies j batch → batch.document.bytes ≡ other_digits → ⊥
+    by_print zero batch before left bytes =
+        digits_differ (sym (document_is events replies 0 0 batch digits stops.None refl left) ∙ bytes)
+    by_print (suc zero) batch before left bytes = (let x = left.is_print.event in cc (x))
+    by_print (suc (suc zero)) batch before left bytes = (let x = left.is_print.event in cc (x))
+    by_print (suc (suc (suc zero))) batch before left bytes = (let x = left.is_print.event in cc (x))
+    by_print (suc (suc (suc (suc zero)))) batch before left bytes = (let x = left.is_print.event in cc (x))
+    by_print (suc (suc (suc (suc (suc zero))))) batch before left bytes = (let x = left.is_print.event in cc (x))
+    by_print (suc (suc (suc (suc (suc (suc j)))))) batch before left bytes = omega arith
+
 -- it is not computed to be tainted
 wrong_untainted : (A : Type 0) (desk : ℕ) →
     is_tainted (map (λ one. one.0) (wrong_at A desk)) (map (λ one. one.1) (wrong_at A desk))
@@ -1088,7 +1156,7 @@ are_tainted A = record {
     marked = refl;
     reply = Imported (imported 9 1);
     answered = refl;
-    taints = (refl, inr sent, refl);
+    taints = (refl, inr sent, refl, refl);
   }));
 }
   where
@@ -1100,7 +1168,7 @@ are_tainted A = record {
       marked = refl;
       reply = Scanned (page 9 1 New);
       answered = refl;
-      taints = (refl, refl, refl);
+      taints = (refl, refl, refl, refl);
     })
 
     sent : IsTaintedIn (wrong_at A 0) 5 (InExport 1)
@@ -1221,8 +1289,15 @@ given_falling_is A t =
 
 taken_though_old_is : (A : Type 0) → ¬ TakesOnceRun (taken_though_old A)
 taken_though_old_is A t =
-    let before : 4 < 3 = t.old 3 4 1 0 stops.None refl refl
-    (record { stop = stops.None; event = refl; reply = Taken; answered = refl; taken = tt }) in omega arith
+    let before : 4 < 3 = t.old 3 4 1 0 0 stops.None first_ticket first_ticket refl refl
+    (record { stop = stops.None; event = refl; reply = Taken; answered = refl; taken = tt }) refl refl refl
+    (omega arith) in omega arith
+
+taken_below_old_is : (A : Type 0) → ¬ TakesOnceRun (taken_below_old A)
+taken_below_old_is A t =
+    let before : 6 < 5 = t.old 5 6 1 1 0 stops.None (ticket 1 (range 3 5)) (ticket 0 (range 0 2)) refl refl
+    (record { stop = stops.None; event = refl; reply = Taken; answered = refl; taken = tt }) refl refl refl
+    (omega arith) in omega arith
 
 taken_elsewhere_is : (A : Type 0) → ¬ TakesOnceRun (taken_elsewhere A)
 taken_elsewhere_is A t = by_give (t.given 1 2 0
@@ -1514,6 +1589,14 @@ given_again_is A (batches, f) =
       is_so = (refl, refl);
     })
 
+-- a ticket that is there is not above one with a serial that is not lower
+not_above : (own found : TicketView) (serial : ℕ) → Some own ≡ Some found →
+    (own.giver ≡ found.giver → serial < found.serial) → own.serial ≤ serial → ⊥
+not_above own found serial is above low =
+    let same : own ≡ found = cc (is) in
+    let serials : own.serial ≡ found.serial = ap (λ (t : TicketView). t.serial) same in
+    let high : serial < found.serial = above (ap (λ (t : TicketView). t.giver) same) in omega arith
+
 given_after_taken_is : (A : Type 0) → ¬ IsFaithfulRun (given_after_taken A)
 given_after_taken_is A (batches, f) =
     by_free (f.prints.gives_own 5 1 0 (range 7 9) stops.None 2 (ticket_back 1 (range 7 9)) refl refl 7 refl).0
@@ -1529,8 +1612,9 @@ given_after_taken_is A (batches, f) =
         (MayGain events replies 4 1 7) refl refl (λ t. t) gained
     by_free (inr (stays, inl gained)) = not_at events replies 3 (Take 1 0 (stops.AfterLabels 0)) Stopped
         (MayGain events replies 3 1 7) refl refl
-        (λ t. t.7 1 1 (omega arith)
-        (record { stop = stops.None; event = refl; reply = Taken; answered = refl; taken = tt })) gained
+        (λ t. not_above (ticket 0 (range 5 9)) t.2 0 t.3 (λ from. t.7 1 1 0 (ticket 0 (range 5 9)) (omega arith)
+        (record { stop = stops.None; event = refl; reply = Taken; answered = refl; done = inl tt }) refl from refl)
+        (omega arith)) gained
     by_free (inr (stays, inr (still, inl gained))) =
         not_at events replies 2 (Give 1 0 (range 5 9) stops.None) (Given 1 (ticket_back 0 (range 5 9)))
         (MayGain events replies 2 1 7) refl refl (λ t. t) gained
@@ -1541,6 +1625,121 @@ given_after_taken_is A (batches, f) =
       answered = refl;
       is_so = (refl, refl);
     })
+
+-- none of the numbers of the earlier ticket came to the printer
+not_overtaken : (A : Type 0) (last : Event A × Reply A) →
+    ¬ MayBeFree two_ranges (map (λ one. one.0) (after_overtaken A last)) (map (λ one. one.1) (after_overtaken A last))
+    5 1 0
+not_overtaken A last = by_free
+  where
+    events : List (Event A)
+    events = map (λ one. one.0) (after_overtaken A last)
+
+    replies : List (Reply A)
+    replies = map (λ one. one.1) (after_overtaken A last)
+
+    -- the number is not on the later ticket
+    not_on : (found : TicketView) → Some (ticket 1 (range 5 9)) ≡ Some found → is_in found.range 0 ≡ true → ⊥
+    not_on found is within =
+        let same : ticket 1 (range 5 9) ≡ found = cc (is) in
+        let x : false ≡ true = subst (λ (t : TicketView). is_in t.range 0 ≡ true) (sym same) within in cc (x)
+
+    by_free : MayBeFree two_ranges events replies 5 1 0 → ⊥
+    by_free (inl gained) = not_at events replies 4 (RestartPrinter 1) Restarted
+        (MayGain events replies 4 1 0) refl refl (λ t. t) gained
+    by_free (inr (stays, inl gained)) = not_at events replies 3 (Take 1 0 (stops.AfterLabels 0)) Stopped
+        (MayGain events replies 3 1 0) refl refl
+        (λ t. not_above (ticket 0 (range 0 4)) t.2 1 t.3 (λ from. t.7 2 1 1 (ticket 1 (range 5 9)) (omega arith)
+        (record { stop = stops.None; event = refl; reply = Taken; answered = refl; done = inl tt }) refl from refl)
+        (omega arith)) gained
+    by_free (inr (stays, inr (still, inl gained))) = not_at events replies 2 (Take 1 1 stops.None) Taken
+        (MayGain events replies 2 1 0) refl refl (λ t. not_on t.2 t.3 t.5) gained
+    by_free (inr (stays, inr (still, inr (again, inl gained)))) =
+        not_at events replies 1 (Give 0 1 (range 5 9) stops.None) (Given 1 (ticket 1 (range 5 9)))
+        (MayGain events replies 1 1 0) refl refl (λ t. t) gained
+    by_free (inr (stays, inr (still, inr (again, inr (more, inl gained))))) =
+        not_at events replies 0 (Give 0 1 (range 0 4) stops.None) (Given 0 (ticket 0 (range 0 4)))
+        (MayGain events replies 0 1 0) refl refl (λ t. t) gained
+    by_free (inr (stays, inr (still, inr (again, inr (more, inr (first, began)))))) = cc (began)
+
+printed_of_overtaken_is : (A : Type 0) → ¬ IsFaithfulRun (printed_of_overtaken A)
+printed_of_overtaken_is A (batches, f) =
+    let t = f.prints.told 5 0 0 2 refl in
+    not_overtaken A (print 1 digits stops.None, Printed 0 0 2)
+    (subst (λ (id : ℕ). MayBeFree two_ranges (map (λ one. one.0) (printed_of_overtaken A))
+    (map (λ one. one.1) (printed_of_overtaken A)) 5 1 id) t.id_is
+    (f.prints.owned 5 1 digits Side12 Ascii stops.None t.batch t.there refl))
+
+given_of_overtaken_is : (A : Type 0) → ¬ IsFaithfulRun (given_of_overtaken A)
+given_of_overtaken_is A (batches, f) =
+    not_overtaken A (Give 1 0 (range 0 4) stops.None, Given 2 (ticket_back 0 (range 0 4)))
+    (f.prints.gives_own 5 1 0 (range 0 4) stops.None 2 (ticket_back 0 (range 0 4)) refl refl 0 refl).0
+
+printed_of_old_is : (A : Type 0) → ¬ IsFaithfulRun (printed_of_old A)
+printed_of_old_is A (batches, f) =
+    let t = f.prints.told 7 5 0 2 refl in
+    by_free (subst (λ (id : ℕ). MayBeFree two_ranges events replies 7 1 id) t.id_is
+    (f.prints.owned 7 1 digits Side12 Ascii stops.None t.batch t.there refl))
+  where
+    events : List (Event A)
+    events = map (λ one. one.0) (printed_of_old A)
+
+    replies : List (Reply A)
+    replies = map (λ one. one.1) (printed_of_old A)
+
+    by_free : MayBeFree two_ranges events replies 7 1 5 → ⊥
+    by_free (inl gained) = not_at events replies 6 (RestartPrinter 1) Restarted
+        (MayGain events replies 6 1 5) refl refl (λ t. t) gained
+    by_free (inr (stays, inl gained)) = not_at events replies 5 (Take 1 0 (stops.AfterLabels 0)) Stopped
+        (MayGain events replies 5 1 5) refl refl
+        (λ t. not_above (ticket 0 (range 5 9)) t.2 0 t.3 (λ from. t.7 3 1 0 (ticket 0 (range 5 9)) (omega arith)
+        (record {
+          stop = stops.None;
+          event = refl;
+          reply = TakeRefused take_fault.Old;
+          answered = refl;
+          done = inr refl;
+        }) refl from refl) (omega arith)) gained
+    by_free (inr (stays, inr (still, inl gained))) =
+        not_at events replies 4 (Give 1 0 (range 5 9) stops.None) (Given 1 (ticket_back 0 (range 5 9)))
+        (MayGain events replies 4 1 5) refl refl (λ t. t) gained
+    by_free (inr (stays, inr (still, inr again))) = again.0 (record {
+      event = Give 1 0 (range 5 9) stops.None;
+      asked = refl;
+      reply = Given 1 (ticket_back 0 (range 5 9));
+      answered = refl;
+      is_so = (refl, refl);
+    })
+
+-- the printer has none left
+none_after_exhausted : (A : Type 0) (last : Event A × Reply A) →
+    ¬ MayBeFree two_ranges (map (λ one. one.0) (after_exhausted A last)) (map (λ one. one.1) (after_exhausted A last))
+    3 0 0
+none_after_exhausted A last (inl gained) =
+    not_at (map (λ one. one.0) (after_exhausted A last)) (map (λ one. one.1) (after_exhausted A last)) 2
+    (print 0 digits stops.None) (PrintRefused print_fault.Exhausted)
+    (MayGain (map (λ one. one.0) (after_exhausted A last)) (map (λ one. one.1) (after_exhausted A last)) 2 0 0)
+    refl refl (λ t. t) gained
+none_after_exhausted A last (inr stays) = stays.0 (record {
+  event = print 0 digits stops.None;
+  asked = refl;
+  reply = PrintRefused print_fault.Exhausted;
+  answered = refl;
+  is_so = refl;
+})
+
+printed_after_exhausted_is : (A : Type 0) → ¬ IsFaithfulRun (printed_after_exhausted A)
+printed_after_exhausted_is A (batches, f) =
+    let t = f.prints.told 3 0 0 2 refl in
+    none_after_exhausted A (print 0 digits stops.None, Printed 0 0 2)
+    (subst (λ (id : ℕ). MayBeFree two_ranges (map (λ one. one.0) (printed_after_exhausted A))
+    (map (λ one. one.1) (printed_after_exhausted A)) 3 0 id) t.id_is
+    (f.prints.owned 3 0 digits Side12 Ascii stops.None t.batch t.there refl))
+
+given_after_exhausted_is : (A : Type 0) → ¬ IsFaithfulRun (given_after_exhausted A)
+given_after_exhausted_is A (batches, f) =
+    none_after_exhausted A (Give 0 1 (range 0 0) stops.None, Given 0 (ticket 1 (range 0 0)))
+    (f.prints.gives_own 3 0 1 (range 0 0) stops.None 0 (ticket 1 (range 0 0)) refl refl 0 refl).0
 
 left_though_failed_is : (A : Type 0) → ¬ IsFaithfulRun (left_though_failed A)
 left_though_failed_is A (batches, f) = by_batches batches f
@@ -1711,7 +1910,12 @@ are_unfaithful A = record {
   given_again_is = given_again_is A;
   given_though_printed_is = given_though_printed_is A;
   printed_of_anothers_ticket_is = printed_of_anothers_ticket_is A;
+  printed_after_exhausted_is = printed_after_exhausted_is A;
+  given_after_exhausted_is = given_after_exhausted_is A;
   given_after_taken_is = given_after_taken_is A;
+  printed_of_overtaken_is = printed_of_overtaken_is A;
+  given_of_overtaken_is = given_of_overtaken_is A;
+  printed_of_old_is = printed_of_old_is A;
   left_though_failed_is = left_though_failed_is A;
   never_left_is = never_left_is A;
   saved_though_failed_is = saved_though_failed_is A;
@@ -1729,10 +1933,17 @@ are_unfaithful A = record {
   exported_in_part_is = exported_in_part_is A;
   added_again_is = added_again_is A;
   refused_label_is = refused_label_is A;
+  refused_for_nothing_is = refused_for_nothing_is A;
+  refused_frame_is = refused_frame_is A;
   conflicting_label_is = conflicting_label_is A;
   exhausted_at_first_is = exhausted_at_first_is A;
+  exhausted_by_itself_is = exhausted_by_itself_is A;
+  exhausted_by_no_range_is = exhausted_by_no_range_is A;
+  exhausted_though_failed_is = exhausted_though_failed_is A;
   too_long_of_few_is = too_long_of_few_is A;
   wrong_after_a_refused_scan_is = wrong_after_a_refused_scan_is A;
+  wrong_after_a_failed_scan_is = wrong_after_a_failed_scan_is A;
+  wrong_after_a_failed_import_is = wrong_after_a_failed_import_is A;
   wrong_after_another_import_is = wrong_untainted A 0 refl;
   wrong_after_a_refused_import_is = wrong_untainted A 1 refl;
   another_call_is = another_call_is A;
@@ -1759,6 +1970,7 @@ are_unfaithful A = record {
   one_serial_is = one_serial_is A;
   given_falling_is = given_falling_is A;
   taken_though_old_is = taken_though_old_is A;
+  taken_below_old_is = taken_below_old_is A;
   numbered_above_is = numbered_above_is A;
   taken_falling_is = taken_falling_is A;
   old_at_first_is = old_at_first_is A;

@@ -33,7 +33,7 @@ use Rattle.dm_event_history.specs.Actors.{PrinterAt, DeskAt, actor_of}
 use Rattle.dm_event_history.specs.Legal.{NeedsRunning}
 use Rattle.dm_event_history.proofs.Deciding.{true_false}
 use Rattle.dm_event_history.specs.Worked.{digits, two_ranges}
-use Rattle.dm_event_history.specs.Headline.{Batch, LeftBy, labels_of, HasModules, AllLeft, IsScanOf, MayHaveSaved, WasScanned, WasPrinted, IsAt, GivesAway, MayBeFree, MayHold, Holds, known_before}
+use Rattle.dm_event_history.specs.Headline.{Batch, LeftBy, labels_of, HasModules, AllLeft, IsScanOf, MayHaveSaved, WasScanned, WasPrinted, IsAt, TellsGone, MayBeFree, MayHold, Holds, known_before}
 use Rattle.dm_event_history.specs.Holding.{Takes, MayTake, Forgets}
 use Rattle.dm_event_history.specs.Imports.{exports_in}
 use Rattle.dm_event_history.specs.Telling.{IsReplyTrue}
@@ -441,7 +441,7 @@ right_document_is A = (
         subst (λ (k : ℕ). slice_get events k ≡ Some (Print printer document size scheme stop)) t.0 asked in
         let printer_is : 1 ≡ printer = cc (at) in
         let began : MayBeFree two_ranges events replies 1 1 10 = inr (
-          not_at 0 (print 0 digits (stops.AfterLabels 0)) Stopped (λ event reply. GivesAway event reply 1 10) refl refl
+          not_at 0 (print 0 digits (stops.AfterLabels 0)) Stopped (λ event reply. TellsGone event reply 1 10) refl refl
               (λ t. t),
           refl,
         ) in

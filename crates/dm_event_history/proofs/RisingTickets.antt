@@ -18,13 +18,13 @@ use Rattle.dm_event_history.specs.Numbers.{is_of, saved_at, taken_by, serial_aft
 use Rattle.dm_event_history.specs.Saving.{may_save, tells_of_save}
 use Rattle.dm_event_history.specs.Running.{is_failed}
 use Rattle.dm_event_history.specs.Replying.{has_failed_before}
-use Rattle.dm_event_history.specs.Tickets.{IsTaken, TakesTicket, WasReached, tickets_in}
+use Rattle.dm_event_history.specs.Tickets.{IsTaken, TakesTicket, IsDoneWith, WasReached, tickets_in}
 use Rattle.dm_event_history.proofs.Batches.{events_count, replies_count, at_last, before_or_last}
 use Rattle.dm_event_history.proofs.Deciding.{and_so, or_left, or_right, both, decided, if_not, if_so, same_number, true_false}
 use Rattle.dm_event_history.proofs.Gotten.{get_more, get_beyond}
 use Rattle.dm_event_history.proofs.NumberedTickets.{tickets_are}
 use Rattle.dm_event_history.proofs.Replied.{asked_before_or_last, failed_before, failed_at_last, saved_unfailed}
-use Rattle.dm_event_history.proofs.TakenTickets.{WasTaken}
+use Rattle.dm_event_history.proofs.TakenTickets.{WasTaken, taken_more}
 use Rattle.dm_event_history.proofs.TakenTickets as taken_tickets
 use Rattle.dm_event_history.proofs.WhoActs.{printer_is, same_means}
 
@@ -93,7 +93,7 @@ was_taken {A} ranges desks (e ∷ h) i printer ticket legal t = elim (taken_eith
       (ap (λ (v : Event A). takes_ticket v ticket) last.2 ∙ eq-eqb ticket ticket refl))
 ]
 
--- ---- rising serials
+-- ---- tickets that were given
 
 -- a ticket that a printer took was given to it
 record GivenTo {A : Type 0} (h : History A) (printer k : ℕ) : Type 0 where
@@ -121,14 +121,15 @@ given_to {A} ranges desks (e ∷ h) i printer k legal t = elim (taken_either h e
 ]
 
 -- one ticket stands at a place of a list
-one_ticket : (given : List TicketView) (k : ℕ) (one other : TicketView) → slice_get given k ≡ Some one →
+pub one_ticket : (given : List TicketView) (k : ℕ) (one other : TicketView) → slice_get given k ≡ Some one →
     slice_get given k ≡ Some other → one ≡ other
 one_ticket given k one other a b =
     let e : Some one ≡ Some other = sym a ∙ b in cc (e)
 
 -- a ticket that may be taken has a higher serial than each of its giver that its receiver took
-above_taken : {A : Type 0} (h : History A) (printer k later : ℕ) → (w : WasTaken h k) → w.ticket.receiver ≡ printer →
-    (m : MayBeTaken h printer later) → w.ticket.giver ≡ m.ticket.giver → w.ticket.serial < m.ticket.serial
+pub above_taken : {A : Type 0} (h : History A) (printer k later : ℕ) → (w : WasTaken h k) →
+    w.ticket.receiver ≡ printer → (m : MayBeTaken h printer later) → w.ticket.giver ≡ m.ticket.giver →
+    w.ticket.serial < m.ticket.serial
 above_taken {A} h printer k later w to m from =
     let last : last_serial h printer m.ticket.giver ≡ Some w.last =
     ap (λ (q : ℕ). last_serial h q m.ticket.giver) (sym to) ∙
@@ -136,55 +137,6 @@ above_taken {A} h printer k later w to m from =
     let x : w.last < m.ticket.serial =
     subst (λ (o : Option ℕ). IfSome o (λ last. last < m.ticket.serial)) last m.above in
     let y : w.ticket.serial ≤ w.last = w.reached in omega arith
-
--- of two tickets of one giver that a printer took, the later has the higher serial
-pub serials_rise : {A : Type 0} (ranges : List Range) (desks : ℕ) (h : History A) (i j printer k later : ℕ)
-    (one other : TicketView) → IsLegal ranges desks h →
-    TakesTicket (events_of h) (replies_of h) i printer k → TakesTicket (events_of h) (replies_of h) j printer later →
-    slice_get (tickets h) k ≡ Some one → slice_get (tickets h) later ≡ Some other → one.giver ≡ other.giver → i < j →
-    one.serial < other.serial
-serials_rise ranges desks [] i j printer k later one other legal a b one_is other_is from order =
-    absurd (let x = a.answered in cc (x))
-serials_rise {A} ranges desks (e ∷ h) i j printer k later one other legal a b one_is other_is from order =
-    elim (taken_either h e i printer k a) [
-      | inl first ↦ elim (taken_either h e j printer later b) [
-        | inl second ↦
-            (let g = given_to ranges desks h i printer k legal.1 first in
-            let f = given_to ranges desks h j printer later legal.1 second in
-            let x = is_its k one g.ticket one_is g.there in
-            let y = is_its later other f.ticket other_is f.there in
-            let rise : g.ticket.serial < f.ticket.serial =
-            serials_rise ranges desks h i j printer k later g.ticket f.ticket legal.1 first second g.there f.there
-            (ap (λ (t : TicketView). t.giver) (sym x) ∙ from ∙ ap (λ (t : TicketView). t.giver) y) order in
-            let p : one.serial ≡ g.ticket.serial = ap (λ (t : TicketView). t.serial) x in
-            let q : other.serial ≡ f.ticket.serial = ap (λ (t : TicketView). t.serial) y in omega arith)
-        | inr last ↦
-            (let g = given_to ranges desks h i printer k legal.1 first in
-            let w = taken_tickets.was_taken ranges desks h k legal.1
-            (was_taken ranges desks h i printer k legal.1 first) in
-            let m : MayBeTaken h printer later =
-            (last_takes ranges desks h e printer later last.1 legal.0 last.2 last.3).1 in
-            let x = is_its k one w.ticket one_is w.there in
-            let y = is_its later other m.ticket other_is m.there in
-            let own = one_ticket (tickets h) k w.ticket g.ticket w.there g.there in
-            let to = ap (λ (t : TicketView). t.receiver) own ∙ g.receiver in
-            let rise : w.ticket.serial < m.ticket.serial =
-            above_taken h printer k later w to m
-            (ap (λ (t : TicketView). t.giver) (sym x) ∙ from ∙ ap (λ (t : TicketView). t.giver) y) in
-            let p : one.serial ≡ w.ticket.serial = ap (λ (t : TicketView). t.serial) x in
-            let q : other.serial ≡ m.ticket.serial = ap (λ (t : TicketView). t.serial) y in omega arith)
-      ]
-      | inr here ↦ elim (taken_either h e j printer later b) [
-        | inl second ↦ absurd (let below = get_beyond (replies_of h) j second.reply second.answered in
-            let all = replies_count h in let at = here.0 in omega arith)
-        | inr last ↦ absurd (let x = here.0 in let y = last.0 in omega arith)
-      ]
-    ]
-  where
-    is_its : (number : ℕ) (x y : TicketView) → slice_get (tickets (e ∷ h)) number ≡ Some x →
-        slice_get (tickets h) number ≡ Some y → x ≡ y
-    is_its number x y now before = one_ticket (tickets (e ∷ h)) number x y now
-        (get_more (tickets h) (given e.reply) number y before)
 
 -- ---- tickets that are old
 
@@ -384,3 +336,113 @@ was_reached {A} ranges desks h i printer k stop ticket legal asked answered ther
       giver_is = r.by.giver_is ∙ ap (λ (t : TicketView). t.giver) same;
       reached = omega arith;
     }
+
+-- ---- rising serials
+
+-- a ticket that a printer refused as old was taken
+old_was_taken : {A : Type 0} (ranges : List Range) (desks : ℕ) (h : History A) (i printer ticket : ℕ) (stop : Stop) →
+    IsLegal ranges desks h →
+    slice_get (events_of h) i ≡ Some (Take printer ticket stop) → slice_get (replies_of h) i ≡ Some (TakeRefused Old) →
+    WasTaken h ticket
+old_was_taken ranges desks [] i printer ticket stop legal asked answered = absurd (cc (asked))
+old_was_taken {A} ranges desks (e ∷ h) i printer ticket stop legal asked answered =
+    taken_more ranges desks h e ticket legal.0
+    (elim (asked_before_or_last h e i (Take printer ticket stop) (TakeRefused Old) asked answered) [
+      | inl before ↦ old_was_taken ranges desks h i printer ticket stop legal.1 before.1 before.2
+      | inr last ↦
+          (let fits : Fits ranges desks h e = legal.0 in
+          let is : IsReply ranges h e.id e.left (Take printer ticket stop) (TakeRefused Old) =
+          subst (λ (v : Event A). IsReply ranges h e.id e.left v (TakeRefused Old)) last.1
+          (subst (λ (r : Reply A). IsReply ranges h e.id e.left e.event r) last.2 fits.reply) in record {
+            ticket = is.ticket;
+            there = is.there;
+            last = is.last;
+            last_is = ap (λ (p : ℕ). last_serial h p is.ticket.giver) is.is_for ∙ is.last_is;
+            reached = is.reached;
+          })
+    ])
+
+-- a ticket that a printer is done with was taken, and is for it
+pub record WasDone {A : Type 0} (h : History A) (printer k : ℕ) : Type 0 where
+  pub was : WasTaken h k
+  pub receiver_is : was.ticket.receiver ≡ printer
+
+pub was_done : {A : Type 0} (ranges : List Range) (desks : ℕ) (h : History A) (i printer k : ℕ) →
+    IsLegal ranges desks h → IsDoneWith (events_of h) (replies_of h) i printer k → WasDone h printer k
+was_done {A} ranges desks h i printer k legal d = elim d.done [
+  | inl taken ↦
+      (let t : TakesTicket (events_of h) (replies_of h) i printer k = record {
+        stop = d.stop;
+        event = d.event;
+        reply = d.reply;
+        answered = d.answered;
+        taken = taken;
+      } in
+      let w = taken_tickets.was_taken ranges desks h k legal (was_taken ranges desks h i printer k legal t) in
+      let g = given_to ranges desks h i printer k legal t in record {
+        was = w;
+        receiver_is = ap (λ (v : TicketView). v.receiver)
+            (one_ticket (tickets h) k w.ticket g.ticket w.there g.there) ∙ g.receiver;
+      })
+  | inr old ↦
+      (let answered : slice_get (replies_of h) i ≡ Some (TakeRefused Old) =
+      d.answered ∙ ap (λ (r : Reply A). Some r) old in
+      let w = old_was_taken ranges desks h i printer k d.stop legal d.event answered in
+      let r = old_reached ranges desks h i printer k d.stop legal d.event answered in record {
+        was = w;
+        receiver_is = ap (λ (v : TicketView). v.receiver)
+            (one_ticket (tickets h) k w.ticket r.ticket w.there r.there) ∙ r.is_for;
+      })
+]
+
+-- of two tickets of one giver, of which a printer takes the second after it was done with the first, the second has the
+-- higher serial
+pub serials_rise : {A : Type 0} (ranges : List Range) (desks : ℕ) (h : History A) (i j printer k later : ℕ)
+    (one other : TicketView) → IsLegal ranges desks h →
+    IsDoneWith (events_of h) (replies_of h) i printer k → TakesTicket (events_of h) (replies_of h) j printer later →
+    slice_get (tickets h) k ≡ Some one → slice_get (tickets h) later ≡ Some other → one.giver ≡ other.giver → i < j →
+    one.serial < other.serial
+serials_rise ranges desks [] i j printer k later one other legal a b one_is other_is from order =
+    absurd (let x = b.answered in cc (x))
+serials_rise {A} ranges desks (e ∷ h) i j printer k later one other legal a b one_is other_is from order =
+    elim (asked_before_or_last h e i (Take printer k a.stop) a.reply a.event a.answered) [
+      | inl before ↦
+          (let first : IsDoneWith (events_of h) (replies_of h) i printer k = record {
+            stop = a.stop;
+            event = before.1;
+            reply = a.reply;
+            answered = before.2;
+            done = a.done;
+          } in
+          let d : WasDone h printer k = was_done ranges desks h i printer k legal.1 first in
+          let w = d.was in
+          let x = is_its k one w.ticket one_is w.there in
+          let p : one.serial ≡ w.ticket.serial = ap (λ (t : TicketView). t.serial) x in
+          elim (taken_either h e j printer later b) [
+            | inl second ↦
+                (let f = given_to ranges desks h j printer later legal.1 second in
+                let y = is_its later other f.ticket other_is f.there in
+                let rise : w.ticket.serial < f.ticket.serial =
+                serials_rise ranges desks h i j printer k later w.ticket f.ticket legal.1 first second w.there f.there
+                (ap (λ (t : TicketView). t.giver) (sym x) ∙ from ∙ ap (λ (t : TicketView). t.giver) y) order in
+                let q : other.serial ≡ f.ticket.serial = ap (λ (t : TicketView). t.serial) y in omega arith)
+            | inr last ↦
+                (let m : MayBeTaken h printer later =
+                (last_takes ranges desks h e printer later last.1 legal.0 last.2 last.3).1 in
+                let y = is_its later other m.ticket other_is m.there in
+                let rise : w.ticket.serial < m.ticket.serial =
+                above_taken h printer k later w d.receiver_is m
+                (ap (λ (t : TicketView). t.giver) (sym x) ∙ from ∙ ap (λ (t : TicketView). t.giver) y) in
+                let q : other.serial ≡ m.ticket.serial = ap (λ (t : TicketView). t.serial) y in omega arith)
+          ])
+      | inr here ↦ elim (taken_either h e j printer later b) [
+        | inl second ↦ absurd (let below = get_beyond (replies_of h) j second.reply second.answered in
+            let all = replies_count h in let at = here.0 in omega arith)
+        | inr last ↦ absurd (let x = here.0 in let y = last.0 in omega arith)
+      ]
+    ]
+  where
+    is_its : (number : ℕ) (x y : TicketView) → slice_get (tickets (e ∷ h)) number ≡ Some x →
+        slice_get (tickets h) number ≡ Some y → x ≡ y
+    is_its number x y now before = one_ticket (tickets (e ∷ h)) number x y now
+        (get_more (tickets h) (given e.reply) number y before)

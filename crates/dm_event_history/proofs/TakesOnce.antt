@@ -1,6 +1,7 @@
 -- In a legal history no ticket is taken twice: said of its events and replies alone.
-use Rattle.std.proofs.Common.{◌≡◌, ◌<◌, ◌+◌, ◌&&◌, inl, inr, ℕ, zero, suc, true, Some, List, [], ◌∷◌, ◌++◌, length, slice_get, refl, ap, sym, ◌∙◌, subst, arith, if◌then◌else◌}
+use Rattle.std.proofs.Common.{◌≡◌, ◌<◌, ◌≤◌, ◌+◌, ◌&&◌, inl, inr, nat_lt, ℕ, zero, suc, true, Some, List, [], ◌∷◌, ◌++◌, length, slice_get, refl, ap, sym, ◌∙◌, subst, arith, if◌then◌else◌}
 use Rattle.std.proofs.lemmas.List.{length-append}
+use Rattle.std.proofs.lemmas.Bool.Decides.{nat_tests}
 use Rattle.dm_print_ledger.specs.declared.range.Range.{Range}
 use Rattle.dm_print_ledger.specs.declared.fault.TakeFault.TheVariants.{Old, Overlap}
 use Rattle.dm_print_ledger.specs.Views.{TicketView}
@@ -18,12 +19,10 @@ use Rattle.dm_event_history.specs.Legal.{IsLegal, Fits, IsReply, MayBeTaken}
 use Rattle.dm_event_history.specs.Saving.{tells_of_save}
 use Rattle.dm_event_history.specs.Tickets.{IsTaken, TakesTicket, WasGiven, TakesOnce, tickets_in}
 use Rattle.dm_event_history.specs.Actors.{PrinterAt, actor_of}
-use Rattle.dm_event_history.specs.Numbers.{last_serial}
-use Rattle.dm_event_history.proofs.Deciding.{and_so, if_so, true_false}
+use Rattle.dm_event_history.proofs.Deciding.{and_so, decided, if_so, same_or_other, true_false}
 use Rattle.dm_event_history.proofs.WhoActs.{same_so}
-use Rattle.dm_event_history.proofs.Replied.{asked_before_or_last}
 use Rattle.dm_event_history.proofs.Gotten.{get_more, get_beyond}
-use Rattle.dm_event_history.proofs.TakenTickets.{WasTaken, taken_more, taken_once, not_taken}
+use Rattle.dm_event_history.proofs.TakenTickets.{not_taken}
 use Rattle.dm_event_history.proofs.NumberedTickets.{tickets_are, next_ticket, ticket_numbered, ticket_there, ticket_not_there}
 use Rattle.dm_event_history.proofs.RisingTickets.{taken_either, last_takes, was_taken, serials_rise, was_reached}
 use Rattle.dm_event_history.proofs.Batches.{events_count, replies_count, at_last, before_or_last, in_either}
@@ -157,29 +156,6 @@ serial_below {A} ranges desks (e ∷ h) i k ticket legal is =
           omega arith)
     ]
 
--- a ticket that a printer refused as old was taken
-old_was_taken : {A : Type 0} (ranges : List Range) (desks : ℕ) (h : History A) (i printer ticket : ℕ) (stop : Stop) →
-    IsLegal ranges desks h →
-    slice_get (events_of h) i ≡ Some (Take printer ticket stop) → slice_get (replies_of h) i ≡ Some (TakeRefused Old) →
-    WasTaken h ticket
-old_was_taken ranges desks [] i printer ticket stop legal asked answered = absurd (cc (asked))
-old_was_taken {A} ranges desks (e ∷ h) i printer ticket stop legal asked answered =
-    taken_more ranges desks h e ticket legal.0
-    (elim (asked_before_or_last h e i (Take printer ticket stop) (TakeRefused Old) asked answered) [
-      | inl before ↦ old_was_taken ranges desks h i printer ticket stop legal.1 before.1 before.2
-      | inr last ↦
-          (let fits : Fits ranges desks h e = legal.0 in
-          let is : IsReply ranges h e.id e.left (Take printer ticket stop) (TakeRefused Old) =
-          subst (λ (v : Event A). IsReply ranges h e.id e.left v (TakeRefused Old)) last.1
-          (subst (λ (r : Reply A). IsReply ranges h e.id e.left e.event r) last.2 fits.reply) in record {
-            ticket = is.ticket;
-            there = is.there;
-            last = is.last;
-            last_is = ap (λ (p : ℕ). last_serial h p is.ticket.giver) is.is_for ∙ is.last_is;
-            reached = is.reached;
-          })
-    ])
-
 -- ---- histories
 
 takes_first : {A : Type 0} (printers : ℕ) →
@@ -188,7 +164,7 @@ takes_first {A} printers = record {
   numbered = λ i j ticket one other a b. absurd (cc (a));
   given_rising = λ i j ticket number one other a b giver order. absurd (cc (a));
   serials = λ i j ticket number one other a b giver serial. absurd (cc (a));
-  old = λ i j printer ticket stop a b t. absurd (cc (a));
+  old = λ i j printer number ticket stop one other a b t one_is other_is from low. absurd (cc (a));
   once = λ i j printer other ticket a b. absurd (let x = a.answered in cc (x));
   given = λ i printer ticket a. absurd (let x = a.answered in cc (x));
   no_overlap = λ i is. cc (is);
@@ -226,7 +202,8 @@ takes_next {A} ranges desks h e fits legal f = record {
   old = old;
   next = λ i index ticket answered. ticket_numbered ranges desks (e ∷ h) i index ticket both answered;
   rising = λ i j printer number later one other a b one_is other_is from order.
-      serials_rise ranges desks (e ∷ h) i j printer number later one other both a b
+      serials_rise ranges desks (e ∷ h) i j printer number later one other both
+      (record { stop = a.stop; event = a.event; reply = a.reply; answered = a.answered; done = inl a.taken }) b
       (is_there number one one_is) (is_there later other other_is) from order;
   reached = λ i printer number stop ticket asked answered is.
       was_reached ranges desks (e ∷ h) i printer number stop ticket both asked answered is;
@@ -306,22 +283,33 @@ takes_next {A} ranges desks h e fits legal f = record {
               ]
         ]
 
-    old : (i j printer ticket : ℕ) (stop : Stop) → slice_get (events_of (e ∷ h)) i ≡ Some (Take printer ticket stop) →
+    old : (i j printer number ticket : ℕ) (stop : Stop) (one other : TicketView) →
+        slice_get (events_of (e ∷ h)) i ≡ Some (Take printer number stop) →
         slice_get (replies_of (e ∷ h)) i ≡ Some (TakeRefused Old) →
-        TakesTicket (events_of (e ∷ h)) (replies_of (e ∷ h)) j printer ticket → j < i
-    old i j printer ticket stop asked answered t =
-        elim (asked_before_or_last h e i (Take printer ticket stop) (TakeRefused Old) asked answered) [
-          | inl before ↦ elim (taken_either h e j printer ticket t) [
-            | inl taken ↦ f.old i j printer ticket stop before.1 before.2 taken
-            | inr last ↦ absurd (taken_once h printer ticket
-                (old_was_taken ranges desks h i printer ticket stop legal before.1 before.2)
-                (last_takes ranges desks h e printer ticket last.1 fits last.2 last.3).1)
-          ]
-          | inr now ↦ elim (taken_either h e j printer ticket t) [
-            | inl taken ↦
-                (let below = get_beyond (events_of h) j (Take printer ticket taken.stop) taken.event in
-                let all = events_count h in let at = now.0 in omega arith)
-            | inr last ↦ absurd (old_not_taken A last.1 (subst (λ (r : Reply A). IsTaken last.1 r) now.2 last.3))
+        TakesTicket (events_of (e ∷ h)) (replies_of (e ∷ h)) j printer ticket →
+        slice_get (tickets_in (replies_of (e ∷ h))) number ≡ Some one →
+        slice_get (tickets_in (replies_of (e ∷ h))) ticket ≡ Some other → one.giver ≡ other.giver →
+        other.serial ≤ one.serial → j < i
+    old i j printer number ticket stop one other asked answered t one_is other_is from low =
+        elim (decided (nat_lt j i)) [
+          | inl before ↦ grind (arith, nat_tests, before)
+          | inr not_before ↦ elim (same_or_other i j) [
+            | inl same ↦
+                (let at : slice_get (replies_of (e ∷ h)) i ≡ Some t.reply =
+                subst (λ (k : ℕ). slice_get (replies_of (e ∷ h)) k ≡ Some t.reply) (sym same) t.answered in
+                let reply_is : t.reply ≡ TakeRefused Old = cc (at, answered) in
+                absurd (old_not_taken A t.stop (subst (λ (r : Reply A). IsTaken t.stop r) reply_is t.taken)))
+            | inr apart ↦
+                (let order : i < j = grind (arith, nat_tests, not_before, apart) in
+                let rise : one.serial < other.serial =
+                serials_rise ranges desks (e ∷ h) i j printer number ticket one other both
+                (record {
+                  stop = stop;
+                  event = asked;
+                  reply = TakeRefused Old;
+                  answered = answered;
+                  done = inr refl;
+                }) t (is_there number one one_is) (is_there ticket other other_is) from order in omega arith)
           ]
         ]
 

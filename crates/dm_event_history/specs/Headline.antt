@@ -34,7 +34,7 @@ use Rattle.dm_event_history.specs.Counts.{HasNumber}
 use Rattle.dm_event_history.specs.Holding.{Takes, MayTake, Forgets, MayForget}
 use Rattle.dm_event_history.specs.Telling.{Known, IsReplyTrue, IsFullForLabel, IsFullForExport}
 use Rattle.dm_event_history.specs.Imports.{exports_in}
-use Rattle.dm_event_history.specs.Tickets.{TakesTicket, tickets_in}
+use Rattle.dm_event_history.specs.Tickets.{IsDoneWith, tickets_in}
 use Rattle.dm_event_history.specs.Tainted.{AtDesk, InExport, IsTainted}
 
 -- ---- the labels that left
@@ -124,29 +124,33 @@ pub record IsAt {A : Type 0} (events : List (Event A)) (replies : List (Reply A)
   pub is_so : IsSo event reply
 
 -- Event number k is a take by this printer that may have saved, of a ticket for it with the number on it. The ticket
--- had been given, no take of it had been told, and no save of the printer had failed since its last restart.
+-- had been given, no save of the printer had failed since its last restart, and the ticket is later than each of its
+-- giver for this printer that was told as taken, or as old, before.
 abbrev pub MayGain : {A : Type 0} → List (Event A) → List (Reply A) → ℕ → ℕ → ℕ → Event A → Reply A → Type 0
 MayGain events replies k printer number (Take at index stop) reply =
     (at ≡ printer) × (may_save (Take at index stop) reply ≡ true)
     × (ticket : TicketView) × (slice_get (tickets_in (take k replies)) index ≡ Some ticket)
     × (ticket.receiver ≡ printer) × (is_in ticket.range number ≡ true)
     × (has_failed_before events replies k (PrinterAt printer) ≡ false)
-    × ((j other : ℕ) → j < k → ¬ TakesTicket events replies j other index)
+    × ((j other done : ℕ) (before : TicketView) → j < k → IsDoneWith events replies j other done →
+    slice_get (tickets_in (take k replies)) done ≡ Some before → before.giver ≡ ticket.giver →
+    before.receiver ≡ printer → before.serial < ticket.serial)
 MayGain events replies k printer number event reply = ⊥
 
--- a give of the number by this printer was told
-abbrev pub GivesAway : {A : Type 0} → Event A → Reply A → ℕ → ℕ → Type 0
-GivesAway (Give at receiver range stop) (Given index ticket) printer number =
+-- the reply tells that the number isn't free at this printer then: the printer gave it, or has none left
+abbrev pub TellsGone : {A : Type 0} → Event A → Reply A → ℕ → ℕ → Type 0
+TellsGone (Give at receiver range stop) (Given index ticket) printer number =
     (at ≡ printer) × (is_in range number ≡ true)
-GivesAway event reply printer number = ⊥
+TellsGone (Print at document size scheme stop) (PrintRefused print_fault.Exhausted) printer number = at ≡ printer
+TellsGone event reply printer number = ⊥
 
 -- before event number i a number may be free at a printer, if it was not printed: the printer began with it, or a take
--- may have brought it, and no later give was told by which it went
+-- may have brought it, and no later reply told that it was gone
 abbrev pub MayBeFree : {A : Type 0} → List Range → List (Event A) → List (Reply A) → ℕ → ℕ → ℕ → Type 0
 MayBeFree ranges events replies zero printer number = is_in_some (slice_get ranges printer) number ≡ true
 MayBeFree ranges events replies (suc k) printer number =
     IsAt events replies k (MayGain events replies k printer number)
-    ⊎ ((¬ IsAt events replies k (λ event reply. GivesAway event reply printer number))
+    ⊎ ((¬ IsAt events replies k (λ event reply. TellsGone event reply printer number))
     × MayBeFree ranges events replies k printer number)
 
 -- ---- the headline of printers
@@ -296,10 +300,10 @@ known_before batches events replies i = record {
   sent = λ export name. slice_get (exports_in (take i replies)) export ≡ Some name;
 }
 
--- the fault is told as one of the finder patterns
-abbrev pub IsOfFrame : LabelFault → Type 0
-IsOfFrame (Border wrong) = Unit {0}
-IsOfFrame fault = ⊥
+-- the fault is told as one of the finder patterns, of which one module or more are wrong, and no more than were flipped
+abbrev pub IsOfFrame : List (ℕ × ℕ) → LabelFault → Type 0
+IsOfFrame flips (Border wrong) = (1 ≤ wrong) × (wrong ≤ length flips)
+IsOfFrame flips fault = ⊥
 
 -- An honest scan is not refused as its page disagrees with those that the desk holds; and as `Full` only by a desk that
 -- may be full. The desks have room for that many documents.
@@ -333,7 +337,7 @@ pub record IsFaithfulBy {A : Type 0} (ranges : List Range) (capacities : List �
   pub framed : (i desk label : ℕ) (flips : List (ℕ × ℕ)) (stop : Stop) (fault : LabelFault) →
       slice_get events i ≡ Some (Scan desk label flips stop) →
       slice_get replies i ≡ Some (ScanRefused (scan_fault.Label fault)) → slice_get marks i ≡ Some true →
-      IsOfFrame fault
+      IsOfFrame flips fault
   -- nor, by a desk that is not tainted, for a conflict with the pages that it holds; nor as it is full, unless it may
   -- be
   pub not_refused : (i desk label : ℕ) (flips : List (ℕ × ℕ)) (stop : Stop) (fault : ScanFault) →

@@ -1,6 +1,6 @@
 -- Which desks and exports are clean by their history, and how fair scans, and imports of clean exports, are answered.
 -- `grids` are the labels that left, in their order.
-use Rattle.std.specs.Prelude.{◌≡◌, ◌≢◌, ℕ, Bool, true, Some, List, [], ◌∷◌, length, slice_get}
+use Rattle.std.specs.Prelude.{◌≡◌, ◌≢◌, ◌≤◌, ℕ, Bool, true, false, Some, List, [], ◌∷◌, length, slice_get}
 use Rattle.dm_finder_frame.specs.Grids.{GridView, flipped}
 use Rattle.dm_finder_frame.specs.UnframeOutcome.{HasGoodFrame, HasBadFrame}
 use Rattle.dm_symbol.specs.Symbols.{IsNear}
@@ -17,6 +17,7 @@ use Rattle.dm_event_history.specs.declared.reply.Reply.TheVariants.{Scanned, Sca
 use Rattle.dm_event_history.specs.Actors.{DeskAt, actor_of}
 use Rattle.dm_event_history.specs.Tainted.{Holder, AtDesk, InExport}
 use Rattle.dm_event_history.specs.History.{History}
+use Rattle.dm_event_history.specs.Running.{is_failed}
 use Rattle.dm_event_history.specs.Saving.{may_save}
 use Rattle.dm_event_history.specs.Holding.{known_of}
 use Rattle.dm_event_history.specs.Telling.{IsPageOf, IsFullForLabel, IsFullForExport}
@@ -40,12 +41,13 @@ IsCleanBy {A} grids IsCleanExport (Scan desk label flips stop) = IsFair {A = A} 
 IsCleanBy grids IsCleanExport (Import desk export stop) = IsCleanExport export
 IsCleanBy grids IsCleanExport event = Unit {0}
 
--- What has pages is clean: a desk, if each scan and each import that may have saved pages there is so; and an export,
--- if it left a clean desk.
+-- What has pages is clean: a desk, if each scan and each import is so that may have saved pages there, while no save of
+-- it had failed since its last restart; and an export, if it left a clean desk.
 abbrev pub IsClean : {A : Type 0} → List GridView → History A → Holder → Type 0
 IsClean grids [] holder = Unit {0}
 IsClean grids (entry ∷ before) (AtDesk desk) =
     (actor_of entry.event ≡ DeskAt desk → may_save entry.event entry.reply ≡ true →
+    is_failed before (DeskAt desk) ≡ false →
     IsCleanBy grids (λ export. IsClean grids before (InExport export)) entry.event)
     × IsClean grids before (AtDesk desk)
 IsClean grids (entry ∷ before) (InExport number) =
@@ -70,9 +72,11 @@ pub record IsScannedWith (Frame : GridView → Type 0) (grids : List GridView) (
 abbrev pub IsFramed : List GridView → ℕ → List (ℕ × ℕ) → Type 0
 IsFramed grids label flips = IsScannedWith HasGoodFrame grids label flips
 
--- the label is refused for its finder patterns, since more than an eighth of their modules are wrong
+-- the label is refused for its finder patterns, since more than an eighth of their modules are wrong, and no more than
+-- were flipped
 abbrev pub IsBeyond : List GridView → ℕ → List (ℕ × ℕ) → LabelFault → Type 0
-IsBeyond grids label flips (Border wrong) = IsScannedWith (λ grid. HasBadFrame grid wrong) grids label flips
+IsBeyond grids label flips (Border wrong) =
+    IsScannedWith (λ grid. HasBadFrame grid wrong) grids label flips × (wrong ≤ length flips)
 IsBeyond grids label flips other = ⊥
 
 -- why a fair scan is refused: at a clean desk never for a conflict

@@ -116,12 +116,13 @@ pub record IsPrinted {A : Type 0} (before : History A) (stop : Stop) (id left na
   pub count_is : count ≡ left
 
 -- why a document is not printed; `Exhausted` is answered only where as many numbers may have gone, by prints and
--- gives, as the printer began with and as came
+-- gives, as the printer began with and as came, and none is free
 abbrev pub IsPrintRefused : {A : Type 0} → List Range → History A → ℕ → CutDocument → Stop → PrintFault → Type 0
 IsPrintRefused ranges before printer cut stop print_fault.Failed = is_failed before (PrinterAt printer) ≡ true
 IsPrintRefused ranges before printer cut stop print_fault.TooLong = HasNoEnds cut.size cut.scheme cut.bytes
 IsPrintRefused ranges before printer cut stop print_fault.Exhausted =
-    opening_count ranges printer + came before printer ≤ gone before printer
+    (opening_count ranges printer + came before printer ≤ gone before printer)
+    × ((number : ℕ) → free_at ranges before printer number ≡ false)
 IsPrintRefused ranges before printer cut stop print_fault.Memory = Unit {0}
 IsPrintRefused ranges before printer cut stop print_fault.Save = IsSaveFault stop
 

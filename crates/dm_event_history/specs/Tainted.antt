@@ -5,7 +5,9 @@ use Rattle.dm_event_history.specs.declared.event.Event.{Event}
 use Rattle.dm_event_history.specs.declared.event.Event.TheVariants.{Scan, Export, Import}
 use Rattle.dm_event_history.specs.declared.reply.Reply.{Reply}
 use Rattle.dm_event_history.specs.declared.reply.Reply.TheVariants.{Exported}
+use Rattle.dm_event_history.specs.Actors.{actor_of}
 use Rattle.dm_event_history.specs.Saving.{may_save}
+use Rattle.dm_event_history.specs.Replying.{has_failed_before}
 
 -- what has pages: a desk, or an export that left, each by its number
 pub data Holder : Type 0 where
@@ -13,16 +15,17 @@ pub data Holder : Type 0 where
   InExport : ℕ → Holder
 
 -- An event with this mark and this reply taints a desk by pages that it may have saved there: those of a scan that was
--- not found honest, or of an export that was tainted before. It taints an export that leaves a desk which was tainted
--- before. An export is named by the number that its reply tells.
-abbrev pub Taints : {A : Type 0} → (Holder → Type 0) → Event A → Bool → Reply A → Holder → Type 0
-Taints WasTainted (Scan desk label flips stop) mark reply (AtDesk at) =
-    (desk ≡ at) × (mark ≡ false) × (may_save (Scan desk label flips stop) reply ≡ true)
-Taints WasTainted (Import desk export stop) mark reply (AtDesk at) =
-    (desk ≡ at) × WasTainted (InExport export) × (may_save (Import desk export stop) reply ≡ true)
-Taints WasTainted (Export desk id) mark (Exported export told n mask) (InExport at) =
+-- not found honest, or of an export that was tainted before. It saves none if the desk had failed before, as `failed`
+-- tells. It taints an export that leaves a desk which was tainted before. An export is named by the number that its
+-- reply tells.
+abbrev pub Taints : {A : Type 0} → (Holder → Type 0) → Bool → Event A → Bool → Reply A → Holder → Type 0
+Taints WasTainted failed (Scan desk label flips stop) mark reply (AtDesk at) =
+    (desk ≡ at) × (mark ≡ false) × (may_save (Scan desk label flips stop) reply ≡ true) × (failed ≡ false)
+Taints WasTainted failed (Import desk export stop) mark reply (AtDesk at) =
+    (desk ≡ at) × WasTainted (InExport export) × (may_save (Import desk export stop) reply ≡ true) × (failed ≡ false)
+Taints WasTainted failed (Export desk id) mark (Exported export told n mask) (InExport at) =
     (export ≡ at) × WasTainted (AtDesk desk)
-Taints WasTainted event mark reply holder = ⊥
+Taints WasTainted failed event mark reply holder = ⊥
 
 -- event number k taints the holder
 pub record IsTaintedBy {A : Type 0} (WasTainted : Holder → Type 0) (events : List (Event A)) (marks : List Bool)
@@ -33,7 +36,7 @@ pub record IsTaintedBy {A : Type 0} (WasTainted : Holder → Type 0) (events : L
   pub marked : slice_get marks k ≡ Some mark
   pub reply : Reply A
   pub answered : slice_get replies k ≡ Some reply
-  pub taints : Taints WasTainted event mark reply holder
+  pub taints : Taints WasTainted (has_failed_before events replies k (actor_of event)) event mark reply holder
 
 -- what is tainted before event number i: an event before it did so
 abbrev pub IsTainted : {A : Type 0} → List (Event A) → List Bool → List (Reply A) → ℕ → Holder → Type 0

@@ -1,5 +1,5 @@
 -- No ticket is taken twice, said of the events and the replies of a run alone, both from the first on.
-use Rattle.std.specs.Prelude.{◌≡◌, ◌≢◌, ◌<◌, ◌≤◌, ℕ, true, false, Some, List, [], ◌∷◌, ◌++◌, length, slice_get, take}
+use Rattle.std.specs.Prelude.{◌≡◌, ◌≢◌, ◌<◌, ◌≤◌, ◌⊎◌, ℕ, true, false, Some, List, [], ◌∷◌, ◌++◌, length, slice_get, take}
 use Rattle.dm_print_ledger.specs.declared.range.Range.{Range}
 use Rattle.dm_print_ledger.specs.declared.fault.TakeFault.TheVariants.{Old, Overlap, Save}
 use Rattle.dm_print_ledger.specs.Views.{TicketView}
@@ -34,6 +34,15 @@ pub record TakesTicket {A : Type 0} (events : List (Event A)) (replies : List (R
   pub reply : Reply A
   pub answered : slice_get replies i ≡ Some reply
   pub taken : IsTaken stop reply
+
+-- event number i is a take of the ticket of this number by this printer, and took it or refused it as old
+pub record IsDoneWith {A : Type 0} (events : List (Event A)) (replies : List (Reply A)) (i printer ticket : ℕ)
+    : Type 0 where
+  pub stop : Stop
+  pub event : slice_get events i ≡ Some (Take printer ticket stop)
+  pub reply : Reply A
+  pub answered : slice_get replies i ≡ Some reply
+  pub done : IsTaken stop reply ⊎ (reply ≡ TakeRefused Old)
 
 -- event number j, before number i, gave the ticket of this number, and to this printer
 pub record WasGiven {A : Type 0} (events : List (Event A)) (replies : List (Reply A)) (i printer ticket : ℕ)
@@ -86,9 +95,11 @@ pub record TakesOnce {A : Type 0} (printers : ℕ) (events : List (Event A)) (re
   -- no ticket is taken twice, by whichever printers
   pub once : (i j printer other ticket : ℕ) → TakesTicket events replies i printer ticket →
       TakesTicket events replies j other ticket → i ≡ j
-  -- nor is one that the printer refused as old: it, or a later one of its giver, had been taken by it
-  pub old : (i j printer ticket : ℕ) (stop : Stop) → slice_get events i ≡ Some (Take printer ticket stop) →
-      slice_get replies i ≡ Some (TakeRefused Old) → TakesTicket events replies j printer ticket → j < i
+  -- a printer that refused a ticket as old takes neither that one nor an earlier one of its giver from then on
+  pub old : (i j printer number ticket : ℕ) (stop : Stop) (one other : TicketView) →
+      slice_get events i ≡ Some (Take printer number stop) → slice_get replies i ≡ Some (TakeRefused Old) →
+      TakesTicket events replies j printer ticket → slice_get (tickets_in replies) number ≡ Some one →
+      slice_get (tickets_in replies) ticket ≡ Some other → one.giver ≡ other.giver → other.serial ≤ one.serial → j < i
   -- what is taken was given before, to the printer that takes it
   pub given : (i printer ticket : ℕ) → TakesTicket events replies i printer ticket →
       WasGiven events replies i printer ticket

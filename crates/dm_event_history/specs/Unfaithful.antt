@@ -10,7 +10,7 @@ use Rattle.dm_print_ledger.specs.declared.fault.GiveFault.TheVariants as give_fa
 use Rattle.dm_print_ledger.specs.declared.fault.TakeFault.TheVariants.{Old, Overlap, Save}
 use Rattle.dm_print_ledger.specs.declared.range.Range.{Range}
 use Rattle.dm_print_ledger.specs.Views.{TicketView}
-use Rattle.dm_append_label.specs.declared.fault.LabelFault.TheVariants.{Block}
+use Rattle.dm_append_label.specs.declared.fault.LabelFault.TheVariants.{Block, Border}
 use Rattle.dm_assembly_desk.specs.declared.fault.ScanFault.TheVariants as scan_fault
 use Rattle.dm_print_ledger.specs.declared.fault.OpenFault.TheVariants as open_fault
 use Rattle.dm_store.specs.declared.fuse.Kept.TheVariants as kept
@@ -291,6 +291,11 @@ imported_at_last A =
 abbrev pub refused_label : (A : Type 0) → Run A
 refused_label A = (print 0 digits None, Printed 0 0 2) ∷ (scan 0, ScanRefused (scan_fault.Label (Block 0))) ∷ []
 
+-- `framed`: a perfect label is refused for its finder patterns, of which so many modules are told as wrong
+abbrev pub refused_frame : (A : Type 0) → ℕ → Run A
+refused_frame A wrong =
+    (print 0 digits None, Printed 0 0 2) ∷ (scan 0, ScanRefused (scan_fault.Label (Border wrong))) ∷ []
+
 -- `not_refused`: a perfect label is refused for a conflict
 abbrev pub conflicting_label : (A : Type 0) → Run A
 conflicting_label A = (print 0 digits None, Printed 0 0 2) ∷ (scan 0, ScanRefused scan_fault.Conflict) ∷ []
@@ -300,6 +305,23 @@ conflicting_label A = (print 0 digits None, Printed 0 0 2) ∷ (scan 0, ScanRefu
 -- `exhausted`: a printer has no identification left, though none had gone
 abbrev pub exhausted_at_first : (A : Type 0) → Run A
 exhausted_at_first A = (print 0 digits None, PrintRefused print_fault.Exhausted) ∷ []
+
+-- `exhausted`: a printer has no identification left, after a give by which none can have gone: it was to itself, of
+-- what is no range, or by a printer that had failed
+abbrev pub exhausted_by : (A : Type 0) → Event A → Run A
+exhausted_by A give =
+    (give, Stopped) ∷ (RestartPrinter 0, Restarted) ∷ (print 0 digits None, PrintRefused print_fault.Exhausted) ∷ []
+
+abbrev pub exhausted_by_itself : (A : Type 0) → Run A
+exhausted_by_itself A = exhausted_by A (Give 0 0 (range 0 9) (AfterLabels 0))
+
+abbrev pub exhausted_by_no_range : (A : Type 0) → Run A
+exhausted_by_no_range A = exhausted_by A (Give 0 1 (range 65000 65009) (AfterLabels 0))
+
+abbrev pub exhausted_though_failed : (A : Type 0) → Run A
+exhausted_though_failed A =
+    (print 0 digits (SaveFault kept.Old), PrintRefused print_fault.Save) ∷
+    exhausted_by A (Give 0 1 (range 0 9) (AfterLabels 0))
 
 -- `too_long`: a document of four digits can't be cut
 abbrev pub too_long_of_few : (A : Type 0) → Run A
@@ -365,6 +387,18 @@ printed_of_anothers_ticket A =
     (Take 0 0 (AfterLabels 0), Stopped) ∷
     (RestartPrinter 0, Restarted) ∷ (print 0 digits None, Printed 3 0 2) ∷ []
 
+-- `owned` and `gives_own`: a printer prints under a number, or gives one, after it told that it has none left
+abbrev pub after_exhausted : (A : Type 0) → Event A × Reply A → Run A
+after_exhausted A last =
+    (Give 0 1 (range 0 9) (AfterLabels 0), Stopped) ∷
+    (RestartPrinter 0, Restarted) ∷ (print 0 digits None, PrintRefused print_fault.Exhausted) ∷ last ∷ []
+
+abbrev pub printed_after_exhausted : (A : Type 0) → Run A
+printed_after_exhausted A = after_exhausted A (print 0 digits None, Printed 0 0 2)
+
+abbrev pub given_after_exhausted : (A : Type 0) → Run A
+given_after_exhausted A = after_exhausted A (Give 0 1 (range 0 0) None, Given 0 (ticket 1 (range 0 0)))
+
 -- a ticket of printer 1 for printer 0
 abbrev pub ticket_back : ℕ → Range → TicketView
 ticket_back serial range = record { giver = 1; serial = serial; receiver = 0; range = range }
@@ -378,6 +412,32 @@ given_after_taken A =
     (Give 1 0 (range 5 9) None, Given 1 (ticket_back 0 (range 5 9))) ∷
     (Take 1 0 (AfterLabels 0), Stopped) ∷
     (RestartPrinter 1, Restarted) ∷ (Give 1 0 (range 7 9) None, Given 2 (ticket_back 1 (range 7 9))) ∷ []
+
+-- `owned` and `gives_own`: a printer prints under a number, or gives one, of a ticket whose take was stopped after a
+-- later one of its giver was taken
+abbrev pub after_overtaken : (A : Type 0) → Event A × Reply A → Run A
+after_overtaken A last =
+    (Give 0 1 (range 0 4) None, Given 0 (ticket 0 (range 0 4))) ∷
+    (Give 0 1 (range 5 9) None, Given 1 (ticket 1 (range 5 9))) ∷
+    (Take 1 1 None, Taken) ∷ (Take 1 0 (AfterLabels 0), Stopped) ∷ (RestartPrinter 1, Restarted) ∷ last ∷ []
+
+abbrev pub printed_of_overtaken : (A : Type 0) → Run A
+printed_of_overtaken A = after_overtaken A (print 1 digits None, Printed 0 0 2)
+
+abbrev pub given_of_overtaken : (A : Type 0) → Run A
+given_of_overtaken A = after_overtaken A (Give 1 0 (range 0 4) None, Given 2 (ticket_back 0 (range 0 4)))
+
+-- `owned`: a printer prints under a number that it had given back, after it was stopped as it took the ticket which had
+-- brought it, and which it had refused as old
+abbrev pub printed_of_old : (A : Type 0) → Run A
+printed_of_old A =
+    (Give 0 1 (range 5 9) None, Given 0 (ticket 0 (range 5 9))) ∷
+    (Take 1 0 (AfterLabels 0), Stopped) ∷
+    (RestartPrinter 1, Restarted) ∷
+    (Take 1 0 None, TakeRefused Old) ∷
+    (Give 1 0 (range 5 9) None, Given 1 (ticket_back 0 (range 5 9))) ∷
+    (Take 1 0 (AfterLabels 0), Stopped) ∷
+    (RestartPrinter 1, Restarted) ∷ (print 1 digits None, Printed 5 0 2) ∷ []
 
 -- `unfailed`: a label is told that left by a printer whose last save failed
 abbrev pub left_though_failed : (A : Type 0) → Run A
@@ -492,6 +552,15 @@ taken_though_old A =
     (Take 1 0 (AfterLabels 0), Stopped) ∷
     (RestartPrinter 1, Restarted) ∷
     (Take 1 0 None, TakeRefused Old) ∷ (Take 1 0 None, Taken) ∷ []
+
+-- `old`: a ticket is taken after a later one of its giver was refused as old
+abbrev pub taken_below_old : (A : Type 0) → Run A
+taken_below_old A =
+    (Give 0 1 (range 0 2) None, Given 0 (ticket 0 (range 0 2))) ∷
+    (Give 0 1 (range 3 5) None, Given 1 (ticket 1 (range 3 5))) ∷
+    (Give 0 1 (range 6 8) None, Given 2 (ticket 2 (range 6 8))) ∷
+    (Take 1 2 (AfterLabels 0), Stopped) ∷
+    (RestartPrinter 1, Restarted) ∷ (Take 1 1 None, TakeRefused Old) ∷ (Take 1 0 None, Taken) ∷ []
 
 -- `given`: a ticket is taken by another printer than the one to which it was given
 abbrev pub taken_elsewhere : (A : Type 0) → Run A
@@ -638,6 +707,24 @@ wrong_after_a_refused_scan A =
     (Scan 0 0 ((0, 0) ∷ []) None, false, ScanRefused (scan_fault.Label (Block 0))) ∷
     (Ask 0 0, true, Document other_digits) ∷ []
 
+-- `given`, of a desk that is not tainted: it had failed as its dishonest scan was stopped, so that this saved nothing
+abbrev pub wrong_after_a_failed_scan : (A : Type 0) → MarkedRun A
+wrong_after_a_failed_scan A =
+    (print 0 digits None, true, Printed 0 0 2) ∷
+    (Scan 0 0 [] (SaveFault kept.Old), true, ScanRefused scan_fault.Save) ∷
+    (Scan 0 0 ((0, 0) ∷ []) (AfterLabels 0), false, Stopped) ∷
+    (RestartDesk 0, true, Restarted) ∷ (Ask 0 0, true, Document other_digits) ∷ []
+
+-- `given`, of a desk that is not tainted: it had failed as its import of a tainted export was stopped
+abbrev pub wrong_after_a_failed_import : (A : Type 0) → MarkedRun A
+wrong_after_a_failed_import A =
+    (print 0 digits None, true, Printed 0 0 2) ∷
+    (Scan 2 0 ((0, 0) ∷ []) None, false, Scanned (page 9 1 New)) ∷
+    (Export 2 9, true, Exported 0 9 2 1) ∷
+    (Scan 1 0 [] (SaveFault kept.Old), true, ScanRefused scan_fault.Save) ∷
+    (Import 1 0 (AfterLabels 0), true, Stopped) ∷
+    (RestartDesk 1, true, Restarted) ∷ (Ask 1 0, true, Document other_digits) ∷ []
+
 -- what the dishonest scan taints
 pub record IsTaintedSo (A : Type 0) : Type 0 where
   pub scanning : IsTaintedIn (wrong_at A 0) 8 (AtDesk 2)
@@ -682,7 +769,12 @@ pub record AreUnfaithful (A : Type 0) : Type 0 where
   pub given_again_is : ¬ IsFaithfulRun (given_again A)
   pub given_though_printed_is : ¬ IsFaithfulRun (given_though_printed A)
   pub printed_of_anothers_ticket_is : ¬ IsFaithfulRun (printed_of_anothers_ticket A)
+  pub printed_after_exhausted_is : ¬ IsFaithfulRun (printed_after_exhausted A)
+  pub given_after_exhausted_is : ¬ IsFaithfulRun (given_after_exhausted A)
   pub given_after_taken_is : ¬ IsFaithfulRun (given_after_taken A)
+  pub printed_of_overtaken_is : ¬ IsFaithfulRun (printed_of_overtaken A)
+  pub given_of_overtaken_is : ¬ IsFaithfulRun (given_of_overtaken A)
+  pub printed_of_old_is : ¬ IsFaithfulRun (printed_of_old A)
   pub left_though_failed_is : ¬ IsFaithfulRun (left_though_failed A)
   pub never_left_is : ¬ IsFaithfulRun (never_left A)
   pub saved_though_failed_is : ¬ IsFaithfulRun (saved_though_failed A)
@@ -700,10 +792,17 @@ pub record AreUnfaithful (A : Type 0) : Type 0 where
   pub exported_in_part_is : ¬ IsFaithfulRun (exported_in_part A)
   pub added_again_is : ¬ IsFaithfulRun (added_again A)
   pub refused_label_is : ¬ IsFaithfulRun (refused_label A)
+  pub refused_for_nothing_is : ¬ IsFaithfulRun (refused_frame A 0)
+  pub refused_frame_is : ¬ IsFaithfulRun (refused_frame A 6)
   pub conflicting_label_is : ¬ IsFaithfulRun (conflicting_label A)
   pub exhausted_at_first_is : ¬ IsFaithfulRun (exhausted_at_first A)
+  pub exhausted_by_itself_is : ¬ IsFaithfulRun (exhausted_by_itself A)
+  pub exhausted_by_no_range_is : ¬ IsFaithfulRun (exhausted_by_no_range A)
+  pub exhausted_though_failed_is : ¬ IsFaithfulRun (exhausted_though_failed A)
   pub too_long_of_few_is : ¬ IsFaithfulRun (too_long_of_few A)
   pub wrong_after_a_refused_scan_is : ¬ IsFaithfulMarked (wrong_after_a_refused_scan A)
+  pub wrong_after_a_failed_scan_is : ¬ IsFaithfulMarked (wrong_after_a_failed_scan A)
+  pub wrong_after_a_failed_import_is : ¬ IsFaithfulMarked (wrong_after_a_failed_import A)
   pub wrong_after_another_import_is : ¬ IsFaithfulMarked (wrong_at A 0)
   pub wrong_after_a_refused_import_is : ¬ IsFaithfulMarked (wrong_at A 1)
   pub another_call_is : ¬ AreRepliesRun (another_call A)
@@ -730,6 +829,7 @@ pub record AreUnfaithful (A : Type 0) : Type 0 where
   pub one_serial_is : ¬ TakesOnceRun (one_serial A)
   pub given_falling_is : ¬ TakesOnceRun (given_falling A)
   pub taken_though_old_is : ¬ TakesOnceRun (taken_though_old A)
+  pub taken_below_old_is : ¬ TakesOnceRun (taken_below_old A)
   pub numbered_above_is : ¬ TakesOnceRun (numbered_above A)
   pub taken_falling_is : ¬ TakesOnceRun (taken_falling A)
   pub old_at_first_is : ¬ TakesOnceRun (old_at_first A)

@@ -140,7 +140,7 @@ gathered_file {A} capacities grids h d number capacity stop reply view export ki
     honest =
     gathered_with_file (quiet (Import d number stop) reply) h d view.held
     (with_file view.held export.id s.shows.pages) export.id s.shows.pages
-    (λ x. none_leaves (Import d number stop) reply _ x) (s.shows.parts (honest.0 refl may))
+    (λ x. none_leaves (Import d number stop) reply _ x) (s.shows.parts (honest.0 refl may unfailed))
     (λ m some. (
       (refl, may, (export_name_of export, s.named, refl, has_page grids h export s.shows m some)),
       unfailed,

@@ -1,11 +1,12 @@
 -- The ledger of a printer goes on with its history.
-use Rattle.std.proofs.Common.{◌≡◌, ◌≢◌, inl, inr, ◌+◌, ◌≤◌, ◌==◌, ◌&&◌, ◌||◌, not, ℕ, Bool, true, false, Option, Some, List, ◌∷◌, if◌then◌else◌, slice_get, refl, ap, sym, ◌∙◌, arith, eq-eqb}
+use Rattle.std.proofs.Common.{◌≡◌, ◌≢◌, inl, inr, ◌⊎◌, ◌+◌, ◌-◌, ◌≤◌, ◌==◌, ◌&&◌, ◌||◌, not, ℕ, Bool, true, false, Option, Some, List, [], ◌∷◌, if◌then◌else◌, slice_get, refl, ap, sym, ◌∙◌, arith, eq-eqb}
 use Rattle.std.specs.Prelude.{nat_le}
 use Rattle.std.proofs.lemmas.Bool.Decides.{nat_tests}
 use Rattle.dm_check_blocks.specs.declared.size.Size.{Size}
 use Rattle.dm_encodation.specs.declared.scheme.Scheme.{Scheme}
 use Rattle.dm_print_ledger.specs.declared.range.Range.{Range}
-use Rattle.dm_print_ledger.specs.Ranges.{is_in, size_of}
+use Rattle.dm_print_ledger.specs.declared.limits.TheConstants.{GREATEST}
+use Rattle.dm_print_ledger.specs.Ranges.{IsRange, is_in, is_free, size_of, free_count}
 use Rattle.dm_print_ledger.specs.Givers.{last_taken}
 use Rattle.dm_print_ledger.specs.Views.{LedgerView, TicketView}
 use Rattle.dm_print_ledger.specs.Printing.{single, Uses}
@@ -17,12 +18,35 @@ use Rattle.dm_event_history.specs.declared.reply.Reply.TheVariants.{Taken}
 use Rattle.dm_event_history.specs.declared.stop.Stop.{Stop}
 use Rattle.dm_event_history.specs.Actors.{PrinterAt, actor_of, is_same}
 use Rattle.dm_event_history.specs.History.{Entry, History, tickets}
+use Rattle.dm_event_history.specs.Running.{is_failed}
 use Rattle.dm_event_history.specs.Saving.{may_save, tells_of_save}
-use Rattle.dm_event_history.specs.Numbers.{is_on, saved_at, free_at, is_give, gives, taken_by, serial_after, last_serial, takes_away, gone, size_on, comes_by, came}
-use Rattle.dm_event_history.proofs.Deciding.{if_not, if_so, both, decided, same_number}
+use Rattle.dm_event_history.specs.Numbers.{is_on, saved_at, free_at, is_give, gives, taken_by, serial_after, last_serial, takes_away, is_range, goes_by, gone, size_on, comes_by, came}
+use Rattle.dm_event_history.proofs.Deciding.{if_not, if_so, both, decided, or_no, other_number, same_number}
 use Rattle.dm_event_history.proofs.WhoActs.{same_means, same_so}
 use Rattle.dm_event_history.proofs.FreeNumbers.{saved_there, saved_elsewhere, free_stays, free_goes}
 use Rattle.dm_event_steps.specs.Stands.{IsLedgerOf}
+
+-- where no number is counted, none is free
+none_counted : (ranges : List Range) (number : ℕ) → free_count ranges ≡ 0 → is_free ranges number ≡ false
+none_counted [] number none = refl
+none_counted (range ∷ ranges) number none =
+    or_no (is_in range number) (is_free ranges number) (not_in (decided (is_in range number))) ∙
+    none_counted ranges number (omega arith)
+  where
+    some : range.last + 1 - range.first + free_count ranges ≡ 0
+    some = none
+
+    not_in : (is_in range number ≡ true) ⊎ (is_in range number ≡ false) → is_in range number ≡ false
+    not_in (inl within) =
+        let t = both (nat_le range.first number) (nat_le number range.last) within in
+        let from : range.first ≤ number = grind (arith, nat_tests, t.0) in
+        let to : number ≤ range.last = grind (arith, nat_tests, t.1) in
+        let count = some in absurd (omega arith)
+    not_in (inr beyond) = beyond
+
+pub none_free : {A : Type 0} (ranges : List Range) (h : History A) (p : ℕ) (ledger : LedgerView) →
+    IsLedgerOf ranges h p ledger → (number : ℕ) → free_count ledger.free ≡ 0 → free_at ranges h p number ≡ false
+none_free ranges h p ledger is number none = sym (is.free number) ∙ none_counted ledger.free number none
 
 -- an entry that leaves a printer's numbers as they are
 pub record KeepsNumbers {A : Type 0} (e : Entry A) (h : History A) (p : ℕ) : Type 0 where
@@ -94,20 +118,32 @@ gives_more e h p at give =
     (and_yes (saved_at e p) (is_give e.event) at give))
 
 pub gone_grows : {A : Type 0} (e : Entry A) (h : History A) (p : ℕ) → gone h p ≤ gone (e ∷ h) p
-gone_grows e h p = grown (if is_same (actor_of e.event)
-    (PrinterAt p) && may_save e.event e.reply then takes_away e.event else 0) (gone h p)
+gone_grows e h p = grown (if is_same (actor_of e.event) (PrinterAt p)
+    then goes_by (is_failed h (PrinterAt p)) e.event e.reply else 0) (gone h p)
   where
     grown : (m n : ℕ) → n ≤ m + n
     grown m n = omega arith
 
 pub gone_more : {A : Type 0} (e : Entry A) (h : History A) (p : ℕ) → actor_of e.event ≡ PrinterAt p →
-    may_save e.event e.reply ≡ true →
+    may_save e.event e.reply ≡ true → is_failed h (PrinterAt p) ≡ false →
     gone (e ∷ h) p ≡ takes_away e.event + gone h p
-gone_more e h p named may =
-    ap (λ (n : ℕ). n + gone h p) (if_so (is_same (actor_of e.event) (PrinterAt p) && may_save e.event e.reply)
-    (takes_away e.event) 0
-    (and_yes (is_same (actor_of e.event) (PrinterAt p)) (may_save e.event e.reply)
-    (same_so (actor_of e.event) (PrinterAt p) named) may))
+gone_more e h p named may unfailed =
+    let failed = is_failed h (PrinterAt p) in
+    ap (λ (n : ℕ). n + gone h p)
+    (if_so (is_same (actor_of e.event) (PrinterAt p)) (goes_by failed e.event e.reply) 0
+    (same_so (actor_of e.event) (PrinterAt p) named) ∙
+    if_so (may_save e.event e.reply && not failed) (takes_away e.event) 0
+    (and_yes (may_save e.event e.reply) (not failed) may (ap not unfailed)))
+
+-- a give of a range to another printer takes its numbers away
+gives_size : (A : Type 0) (p receiver : ℕ) (range : Range) (stop : Stop) → IsRange range → receiver ≢ p →
+    (let event : Event A = Give p receiver range stop in takes_away event ≡ size_of range)
+gives_size A p receiver range stop is other =
+    if_so (not (receiver == p) && is_range range) (size_of range) 0
+    (and_yes (not (receiver == p)) (is_range range) (ap not (other_number receiver p other))
+    (and_yes (nat_le range.first range.last) (nat_le range.last GREATEST)
+    (let some = is.not_empty in grind (arith, nat_tests, some))
+    (let within = is.within in grind (arith, nat_tests, within))))
 
 last_stays : {A : Type 0} (e : Entry A) (h : History A) (p giver : ℕ) → saved_at e p ≡ false →
     last_serial (e ∷ h) p giver ≡ last_serial h p giver
@@ -141,6 +177,7 @@ pub record SavedAt {A : Type 0} (e : Entry A) (h : History A) (p : ℕ) : Type 0
   pub named : actor_of e.event ≡ PrinterAt p
   pub saved : e.saved ≡ true
   pub may : may_save e.event e.reply ≡ true
+  pub unfailed : is_failed h (PrinterAt p) ≡ false
 
 -- the number alone is in its range
 single_is : (id n : ℕ) → is_in (single id) n ≡ (id == n)
@@ -194,7 +231,8 @@ ledger_used {A} ranges h p document size scheme stop reply id parts left l next 
       next_serial = uses.next_serial ∙ s.next_serial ∙ sym (gives_stay e h p (and_no (saved_at e p) false refl));
       givers = λ giver. ap (λ g. last_taken g giver) uses.givers ∙ s.givers giver ∙ sym (last_goes e h p giver there);
       bounded =
-          let a = s.bounded in let b = gone_more e h p refl at.may in let c = came_stays e h p none in
+          let a = s.bounded in let b = gone_more e h p refl at.may at.unfailed in
+          let c = came_stays e h p none in
           let d = uses.free.count in
           let one : size_of (single id) ≡ 1 = omega arith in omega arith;
     }
@@ -203,6 +241,7 @@ ledger_used {A} ranges h p document size scheme stop reply id parts left l next 
 pub ledger_gave : {A : Type 0} (ranges : List Range) (h : History A) (p receiver : ℕ) (range : Range) (stop : Stop)
     (reply : Reply A) (id : ℕ) (parts : List (List ℕ)) (left : ℕ) (l next : LedgerView) →
     may_save (Give p receiver range stop) reply ≡ true → comes_by (tickets h) (Give p receiver range stop) reply ≡ 0 →
+    is_failed h (PrinterAt p) ≡ false → IsRange range → receiver ≢ l.number →
     GivesAway l range next → IsLedgerOf ranges h p l →
     IsLedgerOf ranges (record {
       event = Give p receiver range stop;
@@ -212,7 +251,7 @@ pub ledger_gave : {A : Type 0} (ranges : List Range) (h : History A) (p receiver
       left = left;
       saved = true;
     } ∷ h) p next
-ledger_gave {A} ranges h p receiver range stop reply id parts left l next may none gave s =
+ledger_gave {A} ranges h p receiver range stop reply id parts left l next may none unfailed is other gave s =
     let e : Entry A = record {
       event = Give p receiver range stop;
       reply = reply;
@@ -230,7 +269,8 @@ ledger_gave {A} ranges h p receiver range stop reply id parts left l next may no
           omega arith;
       givers = λ giver. ap (λ g. last_taken g giver) gave.givers ∙ s.givers giver ∙ sym (last_goes e h p giver there);
       bounded =
-          let a = s.bounded in let b = gone_more e h p refl may in let c = came_stays e h p none in
+          let a = s.bounded in let b = gone_more e h p refl may unfailed in let c = came_stays e h p none in
+          let size = gives_size A p receiver range stop is (λ same. other (same ∙ sym s.number)) in
           let d = gave.free.count in omega arith;
     }
 

@@ -8,6 +8,7 @@ pub mod EachPrinter
 pub mod DeskFacts
 pub mod Gathering
 pub mod DeskGoing
+pub mod WrongModules
 pub mod Scans
 pub mod Asks
 pub mod Forgets

@@ -92,7 +92,8 @@ given_goes {A} ranges desks h p receiver range stop view mid ticket reply old ne
       moves = λ _. were_free ranges h p receiver range view s gave.0;
     }) (runs_saved ranges e h p view mid (next_save_of stop) mid.ledger s (is_down_same e h (PrinterAt p) refl)
     (is_failed_same e h (PrinterAt p) refl) gave.3
-    (ledger_gave ranges h p receiver range stop reply' 0 [] 0 view.ledger mid.ledger refl refl gave.2 now))
+    (ledger_gave ranges h p receiver range stop reply' 0 [] 0 view.ledger mid.ledger refl refl
+    (sym s.failed ∙ gave.0.0) gave.0.1 gave.0.2 gave.2 now))
     labels tells.1)
 
 -- a give whose save failed
@@ -152,7 +153,8 @@ give_failed {A} ranges desks h p receiver range k view mid unsaved old new there
           moves = λ _. were_free ranges h p receiver range view s can;
         }) (runs_failed ranges e h p New view mid unsaved s (is_down_same e h (PrinterAt p) refl)
         (is_failed_same e h (PrinterAt p) refl) f
-        (ledger_gave ranges h p receiver range (SaveFault New) reply 0 [] 0 view.ledger unsaved refl refl gave
+        (ledger_gave ranges h p receiver range (SaveFault New) reply 0 [] 0 view.ledger unsaved refl refl
+        (sym s.failed ∙ can.0) can.1 can.2 gave
         (ledger_now ranges h p view s can.0)))
         labels (same ∙ sym (append-nil old.tickets))
 
@@ -220,7 +222,8 @@ give_outcome {A} ranges h p receiver range stop view mid (Ok ticket) s may gave 
       did = true;
       stored = mid.ledger;
       store = store_saved ranges e h p view mid next_save.Fine mid.ledger s.store.ready gave.3
-          (ledger_gave ranges h p receiver range stop Stopped 0 [] 0 view.ledger mid.ledger may refl gave.2
+          (ledger_gave ranges h p receiver range stop Stopped 0 [] 0 view.ledger mid.ledger may refl
+          (sym s.failed ∙ gave.0.0) gave.0.1 gave.0.2 gave.2
           (ledger_now ranges h p view s gave.0.0));
       failed = not_failed ranges h p view s gave.0.0 _;
       may = λ _. may;

@@ -33,7 +33,7 @@ use Rattle.dm_event_steps.specs.Labels.{name_of, left_labels}
 use Rattle.dm_event_steps.specs.Stands.{Runs, PrinterStands}
 use Rattle.dm_event_steps.specs.Acts.{Left, IsCalled, next_save_of, planned, StopsPrinter, TellsPrint, stopped_labels, PrintActs}
 use Rattle.dm_event_steps.specs.Goes.{PrinterGoes}
-use Rattle.dm_event_steps.proofs.Ledgers.{numbers_quiet, numbers_keep, ledger_used}
+use Rattle.dm_event_steps.proofs.Ledgers.{numbers_quiet, numbers_keep, ledger_used, none_free}
 use Rattle.dm_event_steps.proofs.PrinterGoing.{plain, plain_goes, no_ticket, not_failed, ledger_now, saved_with_none, failed_with_fault, store_saved, runs_saved, runs_failed, IsOutcome, none_saved, none_changed, outcome_goes, kept_goes, refused_goes}
 use Rattle.dm_event_steps.proofs.JobLabels.{names_left, length-AreLabels, left_goes, length_take, take_left, some_there}
 
@@ -86,7 +86,7 @@ printed_goes {A} ranges desks h p document size scheme stop view mid job reply o
           (is_failed_same e h (PrinterAt p) refl)
           job_prints.saved
           (ledger_used ranges h p document size scheme stop reply' job.id prints.1 job.count view.ledger mid.ledger
-          (record { named = refl; saved = refl; may = refl })
+          (record { named = refl; saved = refl; may = refl; unfailed = sym s.failed ∙ was })
           refl job_prints.used (ledger_now ranges h p view s was));
       more = left_labels job.id job.count 1 job.labels;
       labels_are = tells.1;
@@ -189,7 +189,7 @@ failed_goes {A} ranges desks h p document size scheme k view mid old new there s
         }) (runs_failed ranges e h p New view mid f.unsaved s (is_down_same e h (PrinterAt p) refl)
         (is_failed_same e h (PrinterAt p) refl) f.failed
         (ledger_used ranges h p document size scheme (SaveFault New) reply f.id [] 0 view.ledger f.unsaved
-        (record { named = refl; saved = refl; may = refl })
+        (record { named = refl; saved = refl; may = refl; unfailed = sym s.failed ∙ f.failed.was_running })
         refl f.used (ledger_now ranges h p view s f.failed.was_running)))
         (ap (λ (l : Left A). l.labels) same) (no_ticket old new same)
 
@@ -237,7 +237,9 @@ called_goes {A} ranges desks h p document size scheme stop view mid
         (not_failed ranges h p view s x.0.0 _) x.0.1
     by_fault print_fault.Exhausted x = none_printed print_fault.Exhausted x.1 refl
         (not_failed ranges h p view s x.0.0 _)
-        (let b = (ledger_now ranges h p view s x.0.0).bounded in let z = x.0.2 in omega arith)
+        (let now = ledger_now ranges h p view s x.0.0 in
+        let b = now.bounded in
+        let z = x.0.2 in ((omega arith), (λ number. none_free ranges h p view.ledger now number z)))
     by_fault print_fault.Memory x = none_printed print_fault.Memory x.1 refl
         (not_failed ranges h p view s x.0.0 _) tt
     by_fault print_fault.Save x =
@@ -269,7 +271,7 @@ stopped_outcome {A} ranges desks h p document size scheme stop view mid (Ok job)
       stored = mid.ledger;
       store = store_saved ranges e h p view mid next_save.Fine mid.ledger s.store.ready saved
           (ledger_used ranges h p document size scheme stop Stopped job.id [] 0 view.ledger mid.ledger
-          (record { named = refl; saved = refl; may = may })
+          (record { named = refl; saved = refl; may = may; unfailed = sym s.failed ∙ was })
           refl prints.3.used (ledger_now ranges h p view s was));
       failed = not_failed ranges h p view s was _;
       may = λ _. may;
@@ -323,7 +325,7 @@ some_goes {A} ranges desks h p document size scheme most view mid job actor old 
         store = store_saved ranges e h p view mid next_save.Fine mid.ledger s.store.ready job_prints.saved
             (ledger_used ranges h p document size scheme
             (AfterLabels most) Stopped job.id prints.1 left view.ledger mid.ledger
-            (record { named = refl; saved = refl; may = refl }) refl job_prints.used
+            (record { named = refl; saved = refl; may = refl; unfailed = sym s.failed ∙ was }) refl job_prints.used
             (ledger_now ranges h p view s was));
       });
       more = left_labels job.id job.count 1 (take most job.labels);

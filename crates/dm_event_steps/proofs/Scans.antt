@@ -7,7 +7,9 @@ use Rattle.std.specs.FinMap.{len-insert, contains_key-keys}
 use Rattle.std.specs.List.{list_any}
 use Rattle.std.specs.Ordering.{nat_cmp, eq_by_cmp}
 use Rattle.dm_finder_frame.specs.Grids.{GridView, flipped}
+use Rattle.dm_finder_frame.specs.Frame.{wrong_frame_modules}
 use Rattle.dm_finder_frame.specs.UnframeOutcome.{HasGoodFrame}
+use Rattle.dm_finder_frame.proofs.FramedGrids.{frame_has_no_wrong_module}
 use Rattle.dm_symbol.specs.Symbols.{IsNear}
 use Rattle.dm_append_label.specs.Pages.{PageView}
 use Rattle.dm_append_label.specs.Heads.{IsHead, head_of}
@@ -58,6 +60,7 @@ use Rattle.dm_event_steps.specs.Gathered.{IsGathered}
 use Rattle.dm_event_steps.specs.DeskStands.{SetStands, DeskRuns}
 use Rattle.dm_event_steps.specs.DeskActs.{Accepts, desk_planned, StopsDesk, scan_reply, ScanActs}
 use Rattle.dm_event_steps.specs.Goes.{quiet, DeskGoes}
+use Rattle.dm_event_steps.proofs.WrongModules.{few_wrong}
 use Rattle.dm_event_steps.proofs.PrinterGoing.{IsFine, not_both}
 use Rattle.dm_event_steps.proofs.Asks.{not_surely}
 use Rattle.dm_event_steps.proofs.DeskFacts.{HoldsPage, is_free, holds_also, holds_all_others, lacks_another, Disagrees, holds_again, disagrees, is_full, some_page}
@@ -288,7 +291,7 @@ gathered_page {A} capacities grids h d number capacity flips stop reply view lab
     may takes stays unfailed honest =
     let event : Event A = Scan d number flips stop in
     let e : Entry A = quiet event reply in
-    let is = fair_page grids h number flips label opened s.left s.shows opens (honest.0 refl may) in
+    let is = fair_page grids h number flips label opened s.left s.shows opens (honest.0 refl may unfailed) in
     gathered_with e h d view.held (with_page view.held opened.page) opened.page s.shows.document
     (λ x. none_leaves event reply _ x)
     is.printed is.n_is is.part
@@ -356,8 +359,8 @@ again_goes {A} ranges capacities grids h d number capacity flips stop view mid l
     ))
     (λ id x. x)
     (λ honest. accepted_safe h d number view.capacity label view.held opened.page s.shows.document a s.named
-    (fair_page grids h number flips label opened s.left s.shows opens (honest.0 refl refl)) names
-    (s.runs.gathered honest.1) answered)
+    (fair_page grids h number flips label opened s.left s.shows opens
+    (honest.0 refl refl (sym s.runs.failed ∙ runs))) names (s.runs.gathered honest.1) answered)
     (λ fair. (
       framed grids number flips label.grid s.left opens.opens.read.frame,
       page_told h number label opened.page s.shows.document a s.named
@@ -394,8 +397,8 @@ took_goes {A} ranges capacities grids h d number capacity flips stop view mid la
     (λ id m t. (sym t.1 ∙ names.id_is, sym t.2 ∙ names.m_is)) (λ id x. x)
     (sym s.runs.failed ∙ keeps.holding.was_running))
     (λ honest. accepted_safe h d number view.capacity label view.held opened.page s.shows.document a s.named
-    (fair_page grids h number flips label opened s.left s.shows opens (honest.0 refl refl)) names
-    (s.runs.gathered honest.1) answered)
+    (fair_page grids h number flips label opened s.left s.shows opens
+    (honest.0 refl refl (sym s.runs.failed ∙ keeps.holding.was_running))) names (s.runs.gathered honest.1) answered)
     (λ fair. (
       framed grids number flips label.grid s.left opens.opens.read.frame,
       page_told h number label opened.page s.shows.document a s.named
@@ -593,7 +596,11 @@ opened_goes ranges capacities grids h d number capacity flips stop view mid labe
     (Err (labels.Border wrong)) given s called opens order runs acts =
     unopened_goes ranges capacities grids h d number capacity flips stop view mid label
     (labels.Border wrong) given s called runs acts.0 acts.1
-    (λ fair. record { grid = label.grid; has_left = s.left; frame = opens.opens })
+    (λ fair. (
+      record { grid = label.grid; has_left = s.left; frame = opens.opens },
+      few_wrong label.grid flips wrong
+          (ap wrong_frame_modules s.shows.carries.drawn ∙ frame_has_no_wrong_module _ _) opens.opens,
+    ))
 opened_goes ranges capacities grids h d number capacity flips stop view mid label
     (Err (labels.Block block)) given s called opens order runs acts =
     unopened_goes ranges capacities grids h d number capacity flips stop view mid label

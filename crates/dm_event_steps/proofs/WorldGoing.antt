@@ -114,9 +114,9 @@ clean_less : {A : Type 0} (grids more : List GridView) (h : History A) (holder :
     IsClean (grids ++ more) h holder → IsClean grids h holder
 clean_less grids more [] holder clean = tt
 clean_less grids more (e ∷ h) (AtDesk d) clean = (
-  (λ actor may. brings_less grids more (λ export. IsClean (grids ++ more) h (InExport export))
+  (λ actor may unfailed. brings_less grids more (λ export. IsClean (grids ++ more) h (InExport export))
       (λ export. IsClean grids h (InExport export)) (λ export is. clean_less grids more h (InExport export) is)
-      e.event (clean.0 actor may)),
+      e.event (clean.0 actor may unfailed)),
   clean_less grids more h (AtDesk d) clean.1,
 )
 clean_less grids more (e ∷ h) (InExport number) clean = (
@@ -156,7 +156,8 @@ framed_more Frame grids more number flips s = record {
 
 beyond_more : (grids more : List GridView) (number : ℕ) (flips : List (ℕ × ℕ)) (fault : LabelFault) →
     IsBeyond grids number flips fault → IsBeyond (grids ++ more) number flips fault
-beyond_more grids more number flips (label_faults.Border wrong) s = framed_more _ grids more number flips s
+beyond_more grids more number flips (label_faults.Border wrong) s =
+    (framed_more _ grids more number flips s.0, s.1)
 beyond_more grids more number flips fault s = absurd s
 
 refused_more : {A : Type 0} (grids more : List GridView) (capacities : List ℕ) (h : History A) (d number : ℕ)

@@ -12,3 +12,4 @@ pub mod OneStep
 pub mod ScannedLabels
 pub mod Runs
 pub mod Shown
+pub mod MachineStops

@@ -3,5 +3,6 @@ pub mod Left
 pub mod Openings
 pub mod Runs
 pub mod Watched
+pub mod MachineStops
 pub mod Shown
 pub mod inner

@@ -1,6 +1,7 @@
 //! Laws of the headline: each function's contract is the law. They speak of definitions alone, so the functions do
 //! nothing.
 
+ghost use Rattle.dm_event_world.specs.MachineStops.{IsMachineStopARun};
 ghost use Rattle.dm_event_world.specs.Shown.{AreAnsweredWrongly, IsShownForGood};
 
 use std::alloc::Allocator;
@@ -17,4 +18,11 @@ pub fn shown_for_good<A: Allocator>()
 /// even after a scan that was not honest, and can't have saved.
 pub fn answered_rightly<A: Allocator>()
     ensures { AreAnsweredWrongly A }
+{}
+
+/// A stop of the whole machine between two events is a run of stops that are there without it: one event for each
+/// printer and each desk, which ends a call before its save. So the headline speaks of such a stop too, and of the
+/// restarts after it. If it comes in a call, that call is stopped first, where the machine stopped it.
+pub fn a_machine_stop_is_a_run<A: Allocator>()
+    ensures { IsMachineStopARun A }
 {}

@@ -4,7 +4,7 @@
 //! An event is the single call on the printer or the desk that it names, with the plan of its stop for the next save
 //! ([`World::step`]). A call that is stopped after its save is made too; if its memory is refused it is not stopped,
 //! and the reply is `Memory`. A scan gives the desk the label's grid with some modules flipped. An event is honest
-//! ([`is_honest`]) unless it is a scan in which more codewords of a block are wrong than can be corrected.
+//! ([`is_honest`]) unless it is a scan in which more words of a block are wrong than can be corrected.
 //!
 //! Proved: a world that begins stands for the empty history, and one that stands for a history stands, after an event,
 //! for it with one entry more ([`World::new`], [`World::step`], [`run`]). So of each run that is watched from its

@@ -178,9 +178,9 @@ impl<A: Allocator + Copy> World<A> {
     }
 }
 
-/// Whether an event is honest: a scan, of a label that left and of modules of it at a desk that is there, is if the
-/// scanned grid has no more wrong codewords in any block than can be corrected. Every other event is. Memory is asked
-/// for only to look at such a grid.
+/// Whether an event is honest. A scan is honest if what it names is there (the desk, the label, and each module that it
+/// flips) and no block of the scanned grid has more wrong words than can be corrected; or if something that it names is
+/// not there. Every other event is honest. Memory is asked for only to look at such a grid.
 ///
 /// # Errors
 /// Where the allocator refuses its memory.
