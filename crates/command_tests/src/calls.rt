@@ -8,12 +8,12 @@ use relay_desk_commands::{
     import_command, scan_command,
 };
 use relay_printer_commands::{
-    AutoOptions, PrintOptions, give_command, ledger_command, left_command, plan_command,
-    print_auto_command, print_command, take_command, ticket_command,
+    AutoOptions, GiveOptions, LedgerOptions, PrintOptions, TakeOptions, give_command,
+    ledger_command, left_command, plan_command, print_auto_command, print_command, take_command,
+    ticket_command,
 };
-use relay_shared::EndedDesk;
-use relay_streams::{Input, Output};
-use relay_symbol_commands::{draw_command, read_command, words_command};
+use relay_shared::{Ended, EndedDesk, Streams};
+use relay_symbol_commands::{Form, draw_command, read_command, words_command};
 use relay_world_command::world_command;
 use std::alloc::{Allocator, Global};
 use std::io::{Read, Write};
@@ -136,9 +136,9 @@ impl Call {
     }
 }
 
-/// How a command ended: its status, what it wrote, and its store and its set.
+/// What a command has done: its status, what it wrote, and its store and its set.
 #[derive(Drop)]
-pub struct Ended<W: Write + Drop> {
+pub struct CallEnd<W: Write + Drop> {
     pub status: u8,
     pub writer: W,
     pub errors: Vec<u8>,
@@ -152,54 +152,76 @@ type Files = EndedDesk<MemStore, MemSet>;
 // The commands that name no file.
 fn symbol_call<A: Allocator + Copy, R: Read, W: Write>(
     memory: A,
-    input: &mut Input<R>,
-    output: &mut Output<W>,
-    errors: &mut Output<Vec<u8>>,
+    streams: &mut Streams<R, W, Vec<u8>>,
     call: Call,
 ) -> u8 {
-    let plain = call == Call::DrawPlain;
+    let form = Form {
+        side: 10,
+        scheme: Scheme::Ascii,
+    };
     match call {
-        Call::Words => words_command(memory, input, output, 10, Scheme::Ascii),
-        Call::Read => read_command(memory, input, output),
-        Call::Plan => plan_command(memory, input, output, Scheme::Ascii),
-        Call::Ticket => ticket_command(output, "00010000000000140015"),
-        Call::World => world_command(memory, input, output),
-        _ => draw_command(memory, input, output, errors, 10, Scheme::Ascii, plain),
+        Call::Words => words_command(memory, streams, form),
+        Call::Read => read_command(memory, streams),
+        Call::Plan => plan_command(memory, streams, Scheme::Ascii),
+        Call::Ticket => ticket_command(streams, "00010000000000140015"),
+        Call::World => world_command(memory, streams),
+        _ => draw_command(memory, streams, form, call == Call::DrawPlain),
     }
+}
+
+// A print with a side, or one that chooses it.
+fn print_call<A: Allocator + Copy, R: Read, W: Write>(
+    memory: A,
+    store: MemStore,
+    streams: &mut Streams<R, W, Vec<u8>>,
+    is_auto: bool,
+) -> Ended<MemStore> {
+    if is_auto {
+        let options = AutoOptions {
+            number: 0,
+            most_labels: 2,
+            scheme: Scheme::Ascii,
+        };
+        return print_auto_command(memory, store, streams, options);
+    }
+    let options = PrintOptions {
+        number: 0,
+        side: 12,
+        scheme: Scheme::Ascii,
+    };
+    print_command(memory, store, streams, options)
 }
 
 // The commands of printers.
 fn printer_call<A: Allocator + Copy, R: Read, W: Write>(
     memory: A,
     store: MemStore,
-    input: &mut Input<R>,
-    output: &mut Output<W>,
-    errors: &mut Output<Vec<u8>>,
+    streams: &mut Streams<R, W, Vec<u8>>,
     call: Call,
-) -> (u8, MemStore) {
-    let ended = match call {
-        Call::Ledger => ledger_command(memory, store, output, 0, Range { first: 0, last: 9 }),
-        Call::Give => give_command(memory, store, output, 0, 1, Range { first: 5, last: 9 }),
-        Call::Take => take_command(memory, store, output, 0, "00010000000000140015"),
-        Call::Left => left_command(store, output),
-        Call::PrintAuto => {
-            let options = AutoOptions {
-                number: 0,
-                most_labels: 2,
-                scheme: Scheme::Ascii,
-            };
-            print_auto_command(memory, store, input, output, errors, options)
+) -> Ended<MemStore> {
+    match call {
+        Call::Ledger => {
+            let range = Range { first: 0, last: 9 };
+            ledger_command(memory, store, streams, LedgerOptions { number: 0, range })
         }
-        _ => {
-            let options = PrintOptions {
+        Call::Give => {
+            let options = GiveOptions {
                 number: 0,
-                side: 12,
-                scheme: Scheme::Ascii,
+                to: 1,
+                range: Range { first: 5, last: 9 },
             };
-            print_command(memory, store, input, output, errors, options)
+            give_command(memory, store, streams, options)
         }
-    };
-    (ended.status, ended.store)
+        Call::Take => {
+            let options = TakeOptions {
+                number: 0,
+                text: "00010000000000140015",
+            };
+            take_command(memory, store, streams, options)
+        }
+        Call::Left => left_command(store, streams),
+        _ => print_call(memory, store, streams, call == Call::PrintAuto),
+    }
 }
 
 // The commands of desks.
@@ -207,18 +229,16 @@ fn desk_call<A: Allocator + Copy, R: Read, W: Write>(
     memory: A,
     store: MemStore,
     set: MemSet,
-    input: &mut Input<R>,
-    output: &mut Output<W>,
-    errors: &mut Output<Vec<u8>>,
+    streams: &mut Streams<R, W, Vec<u8>>,
     call: Call,
 ) -> Files {
     match call {
-        Call::Scan => scan_command(memory, store, set, input, output, 4),
-        Call::Deliver => deliver_command(memory, store, set, output, errors, "0101"),
-        Call::Forget => forget_command(memory, store, set, output, "0101"),
-        Call::Export => export_command(memory, store, set, output, errors, "0101"),
-        Call::Held => held_command(store, set, output, None),
-        Call::HeldOne => held_command(store, set, output, Some("0101")),
+        Call::Scan => scan_command(memory, store, set, streams, 4),
+        Call::Deliver => deliver_command(memory, store, set, streams, "0101"),
+        Call::Forget => forget_command(memory, store, set, streams, "0101"),
+        Call::Export => export_command(memory, store, set, streams, "0101"),
+        Call::Held => held_command(store, set, streams, None),
+        Call::HeldOne => held_command(store, set, streams, Some("0101")),
         Call::Copy => {
             let options = CopyOptions {
                 id: "0101",
@@ -226,9 +246,9 @@ fn desk_call<A: Allocator + Copy, R: Read, W: Write>(
                 side: 12,
                 scheme: Scheme::Ascii,
             };
-            copy_command(memory, store, set, output, errors, options)
+            copy_command(memory, store, set, streams, options)
         }
-        _ => import_command(memory, store, set, input, output, 4),
+        _ => import_command(memory, store, set, streams, 4),
     }
 }
 
@@ -249,20 +269,15 @@ fn set_of(alloc: Global, bytes: &[u8]) -> MemSet {
     set
 }
 
-/// Does a command over these streams and this memory. What it saves and its errors are in the other memory.
-pub fn done<A: Allocator + Copy, R: Read + Drop, W: Write + Drop>(
+// Does a command over a store, a set and streams.
+fn called<A: Allocator + Copy, R: Read, W: Write>(
     memory: A,
-    alloc: Global,
+    store: MemStore,
+    set: MemSet,
+    streams: &mut Streams<R, W, Vec<u8>>,
     call: Call,
-    reader: R,
-    writer: W,
-) -> Ended<W> {
-    let mut input = Input::new(reader);
-    let mut output = Output::new(writer);
-    let mut errors = Output::new(Vec::new(alloc));
-    let store = store_of(alloc, call.ledger());
-    let set = set_of(alloc, call.file());
-    let (status, store, set) = match call {
+) -> Files {
+    match call {
         Call::Words
         | Call::Draw
         | Call::DrawPlain
@@ -270,54 +285,51 @@ pub fn done<A: Allocator + Copy, R: Read + Drop, W: Write + Drop>(
         | Call::Plan
         | Call::Ticket
         | Call::World => {
-            let status = symbol_call(memory, &mut input, &mut output, &mut errors, call);
-            (status, store, set)
+            let status = symbol_call(memory, streams, call);
+            EndedDesk { status, store, set }
         }
         Call::Ledger | Call::Print | Call::PrintAuto | Call::Give | Call::Take | Call::Left => {
-            let (status, store) = printer_call(
-                memory,
-                store,
-                &mut input,
-                &mut output,
-                &mut errors,
-                call,
-            );
-            (status, store, set)
+            let Ended { status, store } = printer_call(memory, store, streams, call);
+            EndedDesk { status, store, set }
         }
-        _ => {
-            let ended = desk_call(
-                memory,
-                store,
-                set,
-                &mut input,
-                &mut output,
-                &mut errors,
-                call,
-            );
-            (ended.status, ended.store, ended.set)
-        }
-    };
-    Ended {
-        status,
+        _ => desk_call(memory, store, set, streams, call),
+    }
+}
+
+/// Does a command over these streams and this memory. What it saves and its errors are in the other memory.
+pub fn done<A: Allocator + Copy, R: Read + Drop, W: Write + Drop>(
+    memory: A,
+    alloc: Global,
+    call: Call,
+    reader: R,
+    writer: W,
+) -> CallEnd<W> {
+    let mut streams = Streams::new(reader, writer, Vec::new(alloc));
+    let store = store_of(alloc, call.ledger());
+    let set = set_of(alloc, call.file());
+    let ended = called(memory, store, set, &mut streams, call);
+    let Streams { output, errors, .. } = streams;
+    CallEnd {
+        status: ended.status,
         writer: output.into_writer(),
         errors: errors.into_writer(),
-        store,
-        set,
+        store: ended.store,
+        set: ended.set,
     }
 }
 
 /// Does a command over all the memory and the streams that it asks for.
-pub fn done_whole(alloc: Global, call: Call) -> Ended<Vec<u8>> {
+pub fn done_whole(alloc: Global, call: Call) -> CallEnd<Vec<u8>> {
     done(alloc, alloc, call, call.input(), Vec::new(alloc))
 }
 
 /// Whether two commands ended with the same saved bytes.
-pub fn saved_alike<V: Write + Drop, W: Write + Drop>(one: &Ended<V>, other: &Ended<W>) -> bool {
+pub fn saved_alike<V: Write + Drop, W: Write + Drop>(one: &CallEnd<V>, other: &CallEnd<W>) -> bool {
     one.store.content() == other.store.content() && one.set.content(0) == other.set.content(0)
 }
 
 /// Whether what is saved is what was there before.
-pub fn saves_nothing<W: Write + Drop>(ended: &Ended<W>, call: Call) -> bool {
+pub fn saves_nothing<W: Write + Drop>(ended: &CallEnd<W>, call: Call) -> bool {
     ended.store.content().unwrap_or(b"") == call.ledger()
         && ended.set.content(0).unwrap_or(b"") == call.file()
 }

@@ -3,8 +3,7 @@
 use crate::calls::{LABEL, LABELS};
 use dm_store::{FuseSet, FuseStore, Kept, MemSet, MemStore, NextSave};
 use relay_desk_commands::{export_command, forget_command, import_command, scan_command};
-use relay_shared::EndedDesk;
-use relay_streams::{Input, Output};
+use relay_shared::{EndedDesk, Streams};
 use std::alloc::Global;
 use std::io::{Read, Write};
 use test_helpers::{FailingReader, FailingWriter};
@@ -18,10 +17,14 @@ type Files = EndedDesk<MemStore, MemSet>;
 fn scan<R: Read, W: Write>(
     alloc: Global,
     set: MemSet,
-    input: &mut Input<R>,
-    lines: &mut Output<W>,
+    streams: &mut Streams<R, W, Vec<u8>>,
 ) -> Files {
-    scan_command(alloc, MemStore::new(alloc), set, input, lines, 64)
+    scan_command(alloc, MemStore::new(alloc), set, streams, 64)
+}
+
+// Streams with this reader, and outputs in memory.
+fn streams_from<R: Read>(alloc: Global, reader: R) -> Streams<R, Vec<u8>, Vec<u8>> {
+    Streams::new(reader, Vec::new(alloc), Vec::new(alloc))
 }
 
 // After a save that failed nothing more is read; opened again, the desk holds the old or the new.
@@ -31,17 +34,16 @@ fn ends_after_a_failed_save(rt: HostRuntime) {
         (NextSave::FaultOld, b"0101 1/2 new\n".as_slice()),
         (NextSave::FaultNew, b"0101 1/2 again\n".as_slice()),
     ] {
-        let mut lines = Output::new(Vec::new(rt.alloc()));
         let mut set = MemSet::new(rt.alloc());
         set.set_next(next);
-        let mut input = Input::new(LABELS);
-        let files = scan(rt.alloc(), set, &mut input, &mut lines);
+        let mut streams = streams_from(rt.alloc(), LABELS);
+        let files = scan(rt.alloc(), set, &mut streams);
         assert!(rt; files.status == 1);
-        assert!(rt; lines.writer().as_slice() == b"refused Save\n".as_slice());
-        assert!(rt; input.into_reader().len() == LABEL.len());
-        let mut lines = Output::new(Vec::new(rt.alloc()));
-        scan(rt.alloc(), files.set, &mut Input::new(LABEL), &mut lines);
-        assert!(rt; lines.writer().as_slice() == line);
+        assert!(rt; streams.output.writer().as_slice() == b"refused Save\n".as_slice());
+        assert!(rt; streams.input.into_reader().len() == LABEL.len());
+        let mut streams = streams_from(rt.alloc(), LABEL);
+        scan(rt.alloc(), files.set, &mut streams);
+        assert!(rt; streams.output.writer().as_slice() == line);
     }
 }
 
@@ -50,15 +52,14 @@ fn ends_after_a_failed_save(rt: HostRuntime) {
 #[test]
 fn scans_up_to_the_read_that_failed(rt: HostRuntime) {
     for passes in LABEL.len()..LABELS.len() {
-        let mut lines = Output::new(Vec::new(rt.alloc()));
-        let mut input = Input::new(FailingReader::new(LABELS, passes));
-        let files = scan(rt.alloc(), MemSet::new(rt.alloc()), &mut input, &mut lines);
+        let mut streams = streams_from(rt.alloc(), FailingReader::new(LABELS, passes));
+        let files = scan(rt.alloc(), MemSet::new(rt.alloc()), &mut streams);
         assert!(rt;
             files.status == 1 && files.set.content(0).is_some(),
             "{passes}"
         );
         assert!(rt;
-            lines.writer().as_slice() == b"0101 1/2 new\nrefused Read\n".as_slice(),
+            streams.output.writer().as_slice() == b"0101 1/2 new\nrefused Read\n".as_slice(),
             "{passes}"
         );
     }
@@ -67,11 +68,11 @@ fn scans_up_to_the_read_that_failed(rt: HostRuntime) {
 // After a line that could not be written no byte more is read.
 #[test]
 fn reads_nothing_after_a_line_that_failed(rt: HostRuntime) {
-    let mut lines = Output::new(FailingWriter::new(Vec::new(rt.alloc()), 5));
-    let mut input = Input::new(LABELS);
-    let files = scan(rt.alloc(), MemSet::new(rt.alloc()), &mut input, &mut lines);
+    let writer = FailingWriter::new(Vec::new(rt.alloc()), 5);
+    let mut streams = Streams::new(LABELS, writer, Vec::new(rt.alloc()));
+    let files = scan(rt.alloc(), MemSet::new(rt.alloc()), &mut streams);
     assert!(rt; files.status == 1);
-    assert!(rt; input.into_reader().len() == LABEL.len());
+    assert!(rt; streams.input.into_reader().len() == LABEL.len());
 }
 
 // Files of a desk of which every call fails, and that tell whether there was one.
@@ -86,17 +87,16 @@ fn untouched(alloc: Global) -> (FuseStore<MemStore>, FuseSet<MemSet>) {
 #[test]
 fn looks_at_the_text_before_any_file(rt: HostRuntime) {
     for text in ["", "0001", "ff01", "01fg"] {
-        let mut output = Output::new(Vec::new(rt.alloc()));
-        let mut errors = Output::new(Vec::new(rt.alloc()));
+        let mut streams = streams_from(rt.alloc(), b"".as_slice());
         let (store, set) = untouched(rt.alloc());
-        let forgot = forget_command(rt.alloc(), store, set, &mut output, text);
+        let forgot = forget_command(rt.alloc(), store, set, &mut streams, text);
         assert!(rt; forgot.status == 1, "{text}");
         let (store, set) = (forgot.store, forgot.set);
-        let given = export_command(rt.alloc(), store, set, &mut output, &mut errors, text);
+        let given = export_command(rt.alloc(), store, set, &mut streams, text);
         assert!(rt; given.status == 1, "{text}");
         assert!(rt; !given.store.spent() && !given.set.spent(), "{text}");
-        assert!(rt; output.writer().as_slice() == b"refused FileId\n".as_slice());
-        assert!(rt; errors.writer().as_slice() == b"refused FileId\n".as_slice());
+        assert!(rt; streams.output.writer().as_slice() == b"refused FileId\n".as_slice());
+        assert!(rt; streams.errors.writer().as_slice() == b"refused FileId\n".as_slice());
     }
 }
 
@@ -104,12 +104,11 @@ fn looks_at_the_text_before_any_file(rt: HostRuntime) {
 #[test]
 fn reads_an_import_before_any_file(rt: HostRuntime) {
     for passes in 0..PAGE_2.len() {
-        let mut lines = Output::new(Vec::new(rt.alloc()));
-        let mut input = Input::new(FailingReader::new(PAGE_2, passes));
+        let mut streams = streams_from(rt.alloc(), FailingReader::new(PAGE_2, passes));
         let (store, set) = untouched(rt.alloc());
-        let ended = import_command(rt.alloc(), store, set, &mut input, &mut lines, 64);
+        let ended = import_command(rt.alloc(), store, set, &mut streams, 64);
         assert!(rt; ended.status == 1, "{passes}");
-        assert!(rt; lines.writer().as_slice() == b"refused Read\n".as_slice());
+        assert!(rt; streams.output.writer().as_slice() == b"refused Read\n".as_slice());
         assert!(rt; !ended.store.spent() && !ended.set.spent(), "{passes}");
     }
 }

@@ -6,15 +6,16 @@ use dm_print_ledger::Range;
 use dm_store::{FileSet, FileStore, Store};
 use relay_desk_commands::{forget_command, import_command, scan_command};
 use relay_printer_commands::{
-    AutoOptions, PrintOptions, give_command, ledger_command, print_auto_command, print_command,
-    take_command,
+    AutoOptions, GiveOptions, LedgerOptions, PrintOptions, TakeOptions, give_command,
+    ledger_command, print_auto_command, print_command, take_command,
 };
-use relay_streams::{Input, Output};
+use relay_shared::Streams;
 use std::alloc::{AllocError, Global};
+use std::io::Read;
 
 /// A command, on the printer of a number or on the desk. A print has the document `1234` and labels of side 12.
 #[derive(Clone, Copy)]
-pub enum Call {
+pub enum MachineCall {
     Ledger(u16),
     Print,
     PrintAuto,
@@ -32,7 +33,7 @@ const JOINT: &[u8] = b"DMPG\x01\0\x02\x01\x01\x02\0\x02\0\x0234\x01\x03\x02\0\x0
 
 /// How a command ended: its status, the lines that it wrote, and what else it wrote.
 #[derive(Drop)]
-pub struct Ended {
+pub struct MachineEnd {
     pub status: u8,
     pub lines: Vec<u8>,
     pub others: Vec<u8>,
@@ -60,108 +61,135 @@ fn set_of(alloc: Global, machine: &Machine) -> Result<DiskSet<'_>, AllocError> {
 }
 
 // A print, whose lines go to the errors.
-fn print(
+fn print<R: Read>(
     alloc: Global,
     store: DiskStore<'_>,
-    output: &mut Output<Vec<u8>>,
-    errors: &mut Output<Vec<u8>>,
+    streams: &mut Streams<R, Vec<u8>, Vec<u8>>,
     is_auto: bool,
 ) -> u8 {
-    let mut input = Input::new(b"1234".as_slice());
     if is_auto {
         let options = AutoOptions {
             number: 0,
             most_labels: 2,
             scheme: Scheme::Ascii,
         };
-        return print_auto_command(alloc, store, &mut input, output, errors, options).status;
+        return print_auto_command(alloc, store, streams, options).status;
     }
     let options = PrintOptions {
         number: 0,
         side: 12,
         scheme: Scheme::Ascii,
     };
-    print_command(alloc, store, &mut input, output, errors, options).status
+    print_command(alloc, store, streams, options).status
 }
 
-// A call on a printer that prints nothing.
-fn call_printer(
+// A call on a printer.
+fn call_printer<R: Read>(
     alloc: Global,
     store: DiskStore<'_>,
-    output: &mut Output<Vec<u8>>,
-    call: Call,
+    streams: &mut Streams<R, Vec<u8>, Vec<u8>>,
+    call: MachineCall,
 ) -> u8 {
     match call {
-        Call::Ledger(number) => {
+        MachineCall::Ledger(number) => {
             let first = 10 * (number % 2);
             let range = Range {
                 first,
                 last: first + 9,
             };
-            ledger_command(alloc, store, output, number, range).status
+            ledger_command(alloc, store, streams, LedgerOptions { number, range }).status
         }
-        Call::Give => {
-            let range = Range { first: 5, last: 9 };
-            give_command(alloc, store, output, 0, 1, range).status
+        MachineCall::Give => {
+            let options = GiveOptions {
+                number: 0,
+                to: 1,
+                range: Range { first: 5, last: 9 },
+            };
+            give_command(alloc, store, streams, options).status
         }
-        _ => take_command(alloc, store, output, 1, "00000000000100050009").status,
+        MachineCall::Take => {
+            let options = TakeOptions {
+                number: 1,
+                text: "00000000000100050009",
+            };
+            take_command(alloc, store, streams, options).status
+        }
+        _ => print(
+            alloc,
+            store,
+            streams,
+            matches!(call, MachineCall::PrintAuto),
+        ),
     }
 }
 
 // A call on the desk.
-fn call_desk(
+fn call_desk<R: Read>(
     alloc: Global,
     store: DiskStore<'_>,
     set: DiskSet<'_>,
-    output: &mut Output<Vec<u8>>,
-    call: Call,
+    streams: &mut Streams<R, Vec<u8>, Vec<u8>>,
+    call: MachineCall,
 ) -> u8 {
     match call {
-        Call::Scan(images) => {
-            scan_command(alloc, store, set, &mut Input::new(images), output, 4).status
-        }
-        Call::Import(file) => {
-            import_command(alloc, store, set, &mut Input::new(file), output, 4).status
-        }
-        Call::Joint => {
+        MachineCall::Scan(_) => scan_command(alloc, store, set, streams, 4).status,
+        MachineCall::Import(_) => import_command(alloc, store, set, streams, 4).status,
+        MachineCall::Joint => {
             let mut store = store;
             u8::from(store.replace(JOINT).is_err())
         }
-        _ => forget_command(alloc, store, set, output, "0101").status,
+        _ => forget_command(alloc, store, set, streams, "0101").status,
+    }
+}
+
+impl MachineCall {
+    // What the command reads.
+    fn input(self) -> &'static [u8] {
+        match self {
+            MachineCall::Print | MachineCall::PrintAuto => b"1234",
+            MachineCall::Scan(bytes) | MachineCall::Import(bytes) => bytes,
+            _ => b"",
+        }
+    }
+
+    // Whether its lines go to the standard error.
+    fn tells_on_errors(self) -> bool {
+        matches!(self, MachineCall::Print | MachineCall::PrintAuto)
     }
 }
 
 /// Does a command over the disk of a machine.
-pub fn make_call(alloc: Global, machine: &Machine, call: Call) -> Result<Ended, AllocError> {
-    let mut output = Output::new(Vec::new(alloc));
-    let mut errors = Output::new(Vec::new(alloc));
-    match call {
-        Call::Print | Call::PrintAuto => {
-            let store = store_of(alloc, machine, "ledger")?;
-            let is_auto = matches!(call, Call::PrintAuto);
-            let status = print(alloc, store, &mut output, &mut errors, is_auto);
-            return Ok(Ended {
-                status,
-                lines: errors.into_writer(),
-                others: output.into_writer(),
-            });
-        }
-        _ => {}
-    }
+pub fn make_call(
+    alloc: Global,
+    machine: &Machine,
+    call: MachineCall,
+) -> Result<MachineEnd, AllocError> {
+    let mut streams = Streams::new(call.input(), Vec::new(alloc), Vec::new(alloc));
     let status = match call {
-        Call::Ledger(_) | Call::Give | Call::Take => {
+        MachineCall::Ledger(_)
+        | MachineCall::Print
+        | MachineCall::PrintAuto
+        | MachineCall::Give
+        | MachineCall::Take => {
             let store = store_of(alloc, machine, "ledger")?;
-            call_printer(alloc, store, &mut output, call)
+            call_printer(alloc, store, &mut streams, call)
         }
         _ => {
             let store = store_of(alloc, machine, "desk")?;
             let set = set_of(alloc, machine)?;
-            call_desk(alloc, store, set, &mut output, call)
+            call_desk(alloc, store, set, &mut streams, call)
         }
     };
-    Ok(Ended {
+    let Streams { output, errors, .. } = streams;
+    let (output, errors) = (output.into_writer(), errors.into_writer());
+    let (lines, others) = if call.tells_on_errors() {
+        (errors, output)
+    } else {
+        (output, errors)
+    };
+    Ok(MachineEnd {
         status,
-        lines: output.into_writer(),
-        others: errors.into_writer(),
+        lines,
+        others,
     })
 }

@@ -3,7 +3,7 @@
 use dm_encodation::Scheme;
 use dm_store::MemStore;
 use relay_printer_commands::{PrintOptions, print_command};
-use relay_streams::{Input, Output};
+use relay_shared::Streams;
 use std::test::Fail;
 use test_helpers::FailingWriter;
 
@@ -26,22 +26,14 @@ const LINE: &[u8] = b"printed 0101 2 left 9\n";
 fn prints_no_label_without_its_line(rt: HostRuntime) -> Result<(), Fail> {
     for passes in 0..LINE.len() {
         let store = MemStore::with(rt.alloc(), NEW.to_vec(rt.alloc())?);
-        let mut input = Input::new(b"1234".as_slice());
-        let mut output = Output::new(Vec::new(rt.alloc()));
-        let mut errors = Output::new(FailingWriter::new(Vec::new(rt.alloc()), passes));
-        let ended = print_command(
-            rt.alloc(),
-            store,
-            &mut input,
-            &mut output,
-            &mut errors,
-            OPTIONS,
-        );
+        let errors = FailingWriter::new(Vec::new(rt.alloc()), passes);
+        let mut streams = Streams::new(b"1234".as_slice(), Vec::new(rt.alloc()), errors);
+        let ended = print_command(rt.alloc(), store, &mut streams, OPTIONS);
         assert!(rt; ended.status == 1, "{passes}");
         assert!(rt; ended.store.content() == Some(AFTER_PRINT), "{passes}");
-        assert!(rt; output.writer().is_empty(), "{passes}");
+        assert!(rt; streams.output.writer().is_empty(), "{passes}");
         assert!(rt;
-            LINE.get(..passes) == Some(errors.writer().taken()),
+            LINE.get(..passes) == Some(streams.errors.writer().taken()),
             "{passes}"
         );
     }

@@ -1,6 +1,6 @@
 //! Each command over memory that is refused, growth by growth.
 
-use crate::calls::{CALLS, Call, Ended, done, done_whole, saved_alike, saves_nothing};
+use crate::calls::{CALLS, Call, CallEnd, done, done_whole, saved_alike, saves_nothing};
 use std::alloc::Global;
 use std::process::Abort;
 use test_helpers::Refusing;
@@ -11,7 +11,7 @@ const MOST_GROWTHS: u64 = 1_000;
 const LINE: &[u8] = b"refused Memory\n";
 
 // Whether a command was refused before it did anything: its one line says so.
-fn is_refused(ended: &Ended<Vec<u8>>, call: Call) -> bool {
+fn is_refused(ended: &CallEnd<Vec<u8>>, call: Call) -> bool {
     let (line, other) = if call.writes_no_lines() {
         (ended.errors.as_slice(), ended.writer.as_slice())
     } else {
@@ -22,7 +22,7 @@ fn is_refused(ended: &Ended<Vec<u8>>, call: Call) -> bool {
 
 // Whether a print was refused after its save: the identification is told of and used, and the labels before the refusal
 // are out.
-fn is_cut_short(ended: &Ended<Vec<u8>>, whole: &Ended<Vec<u8>>) -> bool {
+fn is_cut_short(ended: &CallEnd<Vec<u8>>, whole: &CallEnd<Vec<u8>>) -> bool {
     ended.status == 1
         && whole.writer.starts_with(&ended.writer)
         && ended.errors.strip_prefix(whole.errors.as_slice()) == Some(LINE)
@@ -31,13 +31,13 @@ fn is_cut_short(ended: &Ended<Vec<u8>>, whole: &Ended<Vec<u8>>) -> bool {
 
 // How a command ended while one growth was refused: nothing was done, or a print was cut short, or all was done, since
 // std asks for less where its first growth is refused.
-fn is_one_or_the_other(ended: &Ended<Vec<u8>>, whole: &Ended<Vec<u8>>, call: Call) -> bool {
+fn is_one_or_the_other(ended: &CallEnd<Vec<u8>>, whole: &CallEnd<Vec<u8>>, call: Call) -> bool {
     is_refused(ended, call)
         || (call == Call::Print || call == Call::PrintAuto) && is_cut_short(ended, whole)
         || is_whole(ended, whole)
 }
 
-fn is_whole(ended: &Ended<Vec<u8>>, whole: &Ended<Vec<u8>>) -> bool {
+fn is_whole(ended: &CallEnd<Vec<u8>>, whole: &CallEnd<Vec<u8>>) -> bool {
     ended.status == 0
         && ended.writer == whole.writer
         && ended.errors == whole.errors

@@ -5,7 +5,7 @@
 use crate::calls::{LABEL, LABELS};
 use crate::left_files::{Files, LeftFiles};
 use crate::machine::Machine;
-use crate::machine_calls::{Call, Ended, make_call};
+use crate::machine_calls::{MachineCall, MachineEnd, make_call};
 use dm_store::{Kept, MemDisk};
 use std::alloc::{AllocError, Global};
 use std::process::Abort;
@@ -16,7 +16,7 @@ const MOST_CALLS: u32 = 40;
 
 // A command that looks at what was saved, and what it writes after none of the saves, after the first, and so on.
 struct Look {
-    call: Call,
+    call: MachineCall,
     written: &'static [&'static [u8]],
 }
 
@@ -24,14 +24,14 @@ struct Look {
 // left, one after another.
 struct Case {
     name: &'static str,
-    before: &'static [Call],
-    call: Call,
+    before: &'static [MachineCall],
+    call: MachineCall,
     saves: u8,
     looks: &'static [Look],
 }
 
 // A disk on which the commands are done, or nothing where one is refused.
-fn disk_after(alloc: Global, calls: &[Call]) -> Result<Option<MemDisk>, AllocError> {
+fn disk_after(alloc: Global, calls: &[MachineCall]) -> Result<Option<MemDisk>, AllocError> {
     let machine = Machine::whole(MemDisk::new(alloc));
     for one in calls {
         if make_call(alloc, &machine, *one)?.status != 0 {
@@ -53,7 +53,7 @@ fn answered(lines: &[u8]) -> u8 {
 }
 
 // Whether a command was done, or else has named a refusal last, and has told of no more than it answered.
-fn ends_well(ended: &Ended, case: &Case) -> bool {
+fn ends_well(ended: &MachineEnd, case: &Case) -> bool {
     let count = answered(&ended.lines);
     if ended.status == 0 {
         return count == case.saves;
@@ -133,56 +133,56 @@ const PRINTERS: &[Case] = &[
     Case {
         name: "ledger",
         before: &[],
-        call: Call::Ledger(0),
+        call: MachineCall::Ledger(0),
         saves: 1,
         looks: &[Look {
-            call: Call::Ledger(0),
+            call: MachineCall::Ledger(0),
             written: &[b"left 10\n", b"refused Exists\n"],
         }],
     },
     Case {
         name: "print",
-        before: &[Call::Ledger(0), Call::Print],
-        call: Call::Print,
+        before: &[MachineCall::Ledger(0), MachineCall::Print],
+        call: MachineCall::Print,
         saves: 1,
         looks: &[Look {
-            call: Call::Print,
+            call: MachineCall::Print,
             written: &[b"printed 0102 2 left 8\n", b"printed 0103 2 left 7\n"],
         }],
     },
     Case {
         name: "print auto",
-        before: &[Call::Ledger(0), Call::Print],
-        call: Call::PrintAuto,
+        before: &[MachineCall::Ledger(0), MachineCall::Print],
+        call: MachineCall::PrintAuto,
         saves: 1,
         looks: &[Look {
-            call: Call::Print,
+            call: MachineCall::Print,
             written: &[b"printed 0102 2 left 8\n", b"printed 0103 2 left 7\n"],
         }],
     },
     Case {
         name: "give",
-        before: &[Call::Ledger(0), Call::Print],
-        call: Call::Give,
+        before: &[MachineCall::Ledger(0), MachineCall::Print],
+        call: MachineCall::Give,
         saves: 1,
         looks: &[
             Look {
-                call: Call::Print,
+                call: MachineCall::Print,
                 written: &[b"printed 0102 2 left 8\n", b"printed 0102 2 left 3\n"],
             },
             Look {
-                call: Call::Give,
+                call: MachineCall::Give,
                 written: &[b"ticket 00000000000100050009\n", b"refused NotFree\n"],
             },
         ],
     },
     Case {
         name: "take",
-        before: &[Call::Ledger(1)],
-        call: Call::Take,
+        before: &[MachineCall::Ledger(1)],
+        call: MachineCall::Take,
         saves: 1,
         looks: &[Look {
-            call: Call::Take,
+            call: MachineCall::Take,
             written: &[b"taken left 15\n", b"refused Old\n"],
         }],
     },
@@ -209,62 +209,62 @@ const DESKS: &[Case] = &[
     Case {
         name: "scan",
         before: &[],
-        call: Call::Scan(LABELS),
+        call: MachineCall::Scan(LABELS),
         saves: 2,
         looks: &[Look {
-            call: Call::Import(BOTH),
+            call: MachineCall::Import(BOTH),
             written: &[ADDED_BOTH, ADDED_SECOND, ADDED_NONE],
         }],
     },
     Case {
         name: "import",
-        before: &[Call::Scan(LABEL)],
-        call: Call::Import(BOTH),
+        before: &[MachineCall::Scan(LABEL)],
+        call: MachineCall::Import(BOTH),
         saves: 1,
         looks: &[Look {
-            call: Call::Import(BOTH),
+            call: MachineCall::Import(BOTH),
             written: &[ADDED_SECOND, ADDED_NONE],
         }],
     },
     Case {
         name: "forget",
-        before: &[Call::Import(BOTH)],
-        call: Call::Forget,
+        before: &[MachineCall::Import(BOTH)],
+        call: MachineCall::Forget,
         saves: 1,
         looks: &[Look {
-            call: Call::Import(BOTH),
+            call: MachineCall::Import(BOTH),
             written: &[ADDED_NONE, ADDED_BOTH],
         }],
     },
     // The documents of the joint file are moved first: the second page of the one, and a page of another.
     Case {
         name: "import after a move",
-        before: &[Call::Joint],
-        call: Call::Import(BOTH),
+        before: &[MachineCall::Joint],
+        call: MachineCall::Import(BOTH),
         saves: 1,
         looks: &[
             Look {
-                call: Call::Import(BOTH),
+                call: MachineCall::Import(BOTH),
                 written: &[ADDED_FIRST, ADDED_NONE],
             },
             Look {
-                call: Call::Import(OTHER),
+                call: MachineCall::Import(OTHER),
                 written: &[OTHER_IS_HELD, OTHER_IS_HELD],
             },
         ],
     },
     Case {
         name: "forget after a move",
-        before: &[Call::Joint],
-        call: Call::Forget,
+        before: &[MachineCall::Joint],
+        call: MachineCall::Forget,
         saves: 1,
         looks: &[
             Look {
-                call: Call::Import(BOTH),
+                call: MachineCall::Import(BOTH),
                 written: &[ADDED_FIRST, ADDED_BOTH],
             },
             Look {
-                call: Call::Import(OTHER),
+                call: MachineCall::Import(OTHER),
                 written: &[OTHER_IS_HELD, OTHER_IS_HELD],
             },
         ],

@@ -3,7 +3,7 @@
 
 use crate::left_files::{Files, LeftFiles};
 use crate::machine::Machine;
-use crate::machine_calls::{Call, make_call};
+use crate::machine_calls::{MachineCall, make_call};
 use crate::stopped_machine::{ADDED_FIRST, BOTH, OTHER, OTHER_IS_HELD};
 use dm_store::{Kept, MemDisk};
 use std::alloc::{AllocError, Global};
@@ -13,12 +13,12 @@ use std::test::Fail;
 const MOST_CALLS: u32 = 24;
 
 // A command that moves the documents first, and adds nothing to them.
-const MOVE: Call = Call::Import(OTHER);
+const MOVE: MachineCall = MachineCall::Import(OTHER);
 
 // A disk that has the old file.
 fn old_disk(alloc: Global) -> Result<MemDisk, AllocError> {
     let machine = Machine::whole(MemDisk::new(alloc));
-    let _ = make_call(alloc, &machine, Call::Joint)?;
+    let _ = make_call(alloc, &machine, MachineCall::Joint)?;
     Ok(machine.into_disk())
 }
 
@@ -32,7 +32,7 @@ fn disk_after(alloc: Global, disk: MemDisk, passes: u32) -> Result<MemDisk, Allo
 // Whether both documents of the old file are found among these files.
 fn has_both(alloc: Global, files: &Files) -> Result<bool, AllocError> {
     let machine = Machine::whole(files.on_a_disk(alloc)?);
-    let first = make_call(alloc, &machine, Call::Import(BOTH))?;
+    let first = make_call(alloc, &machine, MachineCall::Import(BOTH))?;
     let other = make_call(alloc, &machine, MOVE)?;
     Ok(first.lines.as_slice() == ADDED_FIRST && other.lines.as_slice() == OTHER_IS_HELD)
 }

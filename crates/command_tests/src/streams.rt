@@ -1,13 +1,13 @@
 //! Each command over readers and writers that fail, or are interrupted, after each number of bytes.
 
-use crate::calls::{CALLS, Call, Ended, done, done_whole, saved_alike, saves_nothing};
+use crate::calls::{CALLS, Call, CallEnd, done, done_whole, saved_alike, saves_nothing};
 use std::alloc::Global;
 use std::io::Write;
 use std::process::Abort;
 use test_helpers::{FailingReader, FailingWriter, InterruptedReader, InterruptedWriter};
 
 // Whether a command ended as it does over whole streams.
-fn is_whole<W: Write + Drop>(ended: &Ended<W>, taken: &[u8], whole: &Ended<Vec<u8>>) -> bool {
+fn is_whole<W: Write + Drop>(ended: &CallEnd<W>, taken: &[u8], whole: &CallEnd<Vec<u8>>) -> bool {
     ended.status == 0
         && taken == whole.writer.as_slice()
         && ended.errors == whole.errors
@@ -88,7 +88,7 @@ fn fails_to_write(
     rt: &impl Abort,
     alloc: Global,
     call: Call,
-    whole: &Ended<Vec<u8>>,
+    whole: &CallEnd<Vec<u8>>,
     passes: usize,
 ) {
     let writer = FailingWriter::new(Vec::new(alloc), passes);

@@ -2,12 +2,12 @@
 use Rattle.std.specs.Prelude.{ℕ, Bool, true, false, not, ◌&&◌, ◌||◌, ◌==◌, nat_lt, List, [], ◌∷◌, Option, Some, None, if◌then◌else◌, codes, string_bytes}
 use Rattle.dm_assembly_desk.specs.declared.limits.TheConstants.{MOST_CAPACITY}
 use Rattle.relay_line.specs.declared.command.Command.{Command}
-use Rattle.relay_line.specs.declared.command.Command.TheVariants.{Words, Draw, Read, Ticket, Ledger, Print, PrintAuto, Give, Take, Left, Scan, Deliver, Forget, Export, Import, Held, Copy, World}
-use Rattle.relay_line.specs.declared.command.Command.TheVariants as commands
+use Rattle.relay_line.specs.declared.command.Command.TheVariants.{Scan, Import}
 use Rattle.relay.specs.declared.plan.WorkplaceFault.{WorkplaceFault}
 use Rattle.relay.specs.declared.plan.WorkplaceFault.TheVariants as faults
-use Rattle.relay.specs.declared.plan.Work.{Work}
-use Rattle.relay.specs.declared.plan.Work.TheVariants as works
+use Rattle.relay.specs.Table.{work_of_command}
+use Rattle.relay.specs.declared.table.Work.{Work}
+use Rattle.relay.specs.declared.table.Work.TheVariants as works
 use Rattle.relay.specs.declared.plan.Found.{Found}
 use Rattle.relay.specs.declared.plan.Found.TheVariants as found
 use Rattle.relay.specs.declared.plan.Sight.{Sight}
@@ -24,35 +24,6 @@ fault_name faults.Device = codes "Device"
 fault_name faults.Linked = codes "Linked"
 fault_name faults.Lock = codes "Lock"
 fault_name faults.Memory = codes "Memory"
-
--- what a command does to the files at its path
-abbrev pub work_of_command : Command → Work
-work_of_command (Words side scheme) = works.Nothing
-work_of_command (Draw side scheme plain) = works.Nothing
-work_of_command Read = works.Nothing
-work_of_command (commands.Plan scheme) = works.Nothing
-work_of_command (Ticket ticket) = works.Nothing
-work_of_command (Ledger file number first last) = works.MakesLedger
-work_of_command (Print file number side scheme) = works.SavesLedger
-work_of_command (PrintAuto file number most scheme) = works.SavesLedger
-work_of_command (Give file number to first last) = works.SavesLedger
-work_of_command (Take file number ticket) = works.SavesLedger
-work_of_command (Left file) = works.ReadsLedger
-work_of_command (Scan file capacity) = works.Gathers
-work_of_command (Deliver file id) = works.Reads
-work_of_command (Forget file id) = works.Forgets
-work_of_command (Export file id) = works.Reads
-work_of_command (Import file capacity) = works.Gathers
-work_of_command (Held file id) = works.Looks
-work_of_command (Copy file id page side scheme) = works.Reads
-work_of_command World = works.Nothing
-
--- a command is tried up to its save, before anything is locked
-abbrev pub tries_its_save_by_command : Command → Bool
-tries_its_save_by_command (Ledger file number first last) = true
-tries_its_save_by_command (Give file number to first last) = true
-tries_its_save_by_command (Take file number ticket) = true
-tries_its_save_by_command _ = false
 
 -- a command asks for a desk with room for no number of documents, or for too many
 abbrev pub asks_for_no_room_by_command : Command → Bool
@@ -172,25 +143,3 @@ plan_for command sight =
     let work = work_of_command command in
     plan_by (refusal_at work sight) (is_done_over_nothing work (asks_for_no_room_by_command command) sight)
     (locked_for work (has_documents sight.file))
-
--- the refusals of a command go to the standard error, since its output is for images, documents or pages
-abbrev pub refuses_on_errors_by_command : Command → Bool
-refuses_on_errors_by_command (Words side scheme) = false
-refuses_on_errors_by_command (Draw side scheme plain) = true
-refuses_on_errors_by_command Read = false
-refuses_on_errors_by_command (commands.Plan scheme) = false
-refuses_on_errors_by_command (Ticket ticket) = false
-refuses_on_errors_by_command (Ledger file number first last) = false
-refuses_on_errors_by_command (Print file number side scheme) = true
-refuses_on_errors_by_command (PrintAuto file number most scheme) = true
-refuses_on_errors_by_command (Give file number to first last) = false
-refuses_on_errors_by_command (Take file number ticket) = false
-refuses_on_errors_by_command (Left file) = false
-refuses_on_errors_by_command (Scan file capacity) = false
-refuses_on_errors_by_command (Deliver file id) = true
-refuses_on_errors_by_command (Forget file id) = false
-refuses_on_errors_by_command (Export file id) = true
-refuses_on_errors_by_command (Import file capacity) = false
-refuses_on_errors_by_command (Held file id) = false
-refuses_on_errors_by_command (Copy file id page side scheme) = true
-refuses_on_errors_by_command World = false

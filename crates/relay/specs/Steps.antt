@@ -5,14 +5,15 @@
 use Rattle.std.specs.Prelude.{◌≡◌, ℕ, Bool, true, false, ◌==◌, List, Option, Some, None, if◌then◌else◌, codes}
 use Rattle.relay_line.specs.declared.command.Command.{Command}
 use Rattle.relay.specs.declared.plan.WorkplaceFault.{WorkplaceFault}
-use Rattle.relay.specs.declared.plan.Work.{Work}
-use Rattle.relay.specs.declared.plan.Work.TheVariants as works
+use Rattle.relay.specs.declared.table.Work.{Work}
+use Rattle.relay.specs.declared.table.Work.TheVariants as works
 use Rattle.relay.specs.declared.plan.Sight.{Sight}
 use Rattle.relay.specs.declared.plan.Locked.{Locked}
 use Rattle.relay.specs.declared.plan.Locked.TheVariants as locked
 use Rattle.relay.specs.declared.plan.Plan.{Plan}
 use Rattle.relay.specs.declared.plan.Plan.TheVariants as plans
-use Rattle.relay.specs.Places.{fault_name, work_of_command, tries_its_save_by_command, plan_for, refuses_on_errors_by_command}
+use Rattle.relay.specs.Places.{fault_name, plan_for}
+use Rattle.relay.specs.Table.{work_of_command, tries_its_save_by_command, refuses_on_errors_by_command}
 
 -- a refusal: whether it goes to the standard error, and its name
 pub record Refusal : Type 0 where

@@ -1,8 +1,10 @@
-//! The table of commands.
+//! The call of each command.
 
 ghost use Rattle.std.specs.Prelude.{◌≡◌};
-ghost use Rattle.relay.specs.Commands.{Does, DoesOnDesk, DoesOnLedger, DoesOnStreams, file_of_command, group_of_command};
+ghost use Rattle.relay.specs.Commands.{Does, DoesOnDesk, DoesOnLedger, DoesOnStreams};
+ghost use Rattle.relay.specs.Table.{group_of_command};
 
+use crate::table::{Group, group_of, work_of};
 use dm_print_ledger::Range;
 use dm_store::{Store, StoreSet};
 use relay_desk_commands::{
@@ -11,106 +13,36 @@ use relay_desk_commands::{
 };
 use relay_line::Command;
 use relay_printer_commands::{
-    AutoOptions, PrintOptions, give_command, ledger_command, left_command, plan_command,
-    print_auto_command, print_command, take_command, ticket_command,
+    AutoOptions, GiveOptions, LedgerOptions, PrintOptions, TakeOptions, give_command,
+    ledger_command, left_command, plan_command, print_auto_command, print_command, take_command,
+    ticket_command,
 };
-use relay_shared::{Ended, EndedDesk};
-use relay_streams::{Input, Output};
-use relay_symbol_commands::{draw_command, read_command, words_command};
+use relay_shared::{Ended, EndedDesk, Streams};
+use relay_symbol_commands::{Form, draw_command, read_command, words_command};
 use relay_world_command::world_command;
 use std::alloc::Allocator;
 use std::io::{Read, Write};
 
-/// The path of the file that a command names; a command that names none has the empty path.
-pub fn file_of<'a>(command: Command<'a>) -> &'a str
-    ensures { result.now ≡ file_of_command command.entry }
-{
-    match command {
-        Command::Words { .. }
-        | Command::Draw { .. }
-        | Command::Read
-        | Command::Plan { .. }
-        | Command::Ticket { .. }
-        | Command::World => "",
-        Command::Ledger { file, .. }
-        | Command::Print { file, .. }
-        | Command::PrintAuto { file, .. }
-        | Command::Give { file, .. }
-        | Command::Take { file, .. }
-        | Command::Left { file }
-        | Command::Scan { file, .. }
-        | Command::Deliver { file, .. }
-        | Command::Forget { file, .. }
-        | Command::Export { file, .. }
-        | Command::Import { file, .. }
-        | Command::Held { file, .. }
-        | Command::Copy { file, .. } => file,
-    }
-}
-
-// What a command works on.
-#[derive(Clone, Copy)]
-enum Group {
-    /// The input and the outputs alone; it names no file.
-    Streams,
-    /// The ledger of a printer.
-    Ledger,
-    /// The files of a desk.
-    Desk,
-}
-
-// What a command works on.
-fn group_of(command: Command) -> Group
-    ensures { result ≡ group_of_command command.entry }
-{
-    match command {
-        Command::Words { .. }
-        | Command::Draw { .. }
-        | Command::Read
-        | Command::Plan { .. }
-        | Command::Ticket { .. }
-        | Command::World => Group::Streams,
-        Command::Ledger { .. }
-        | Command::Print { .. }
-        | Command::PrintAuto { .. }
-        | Command::Give { .. }
-        | Command::Take { .. }
-        | Command::Left { .. } => Group::Ledger,
-        Command::Scan { .. }
-        | Command::Deliver { .. }
-        | Command::Forget { .. }
-        | Command::Export { .. }
-        | Command::Import { .. }
-        | Command::Held { .. }
-        | Command::Copy { .. } => Group::Desk,
-    }
-}
-
 // Does a command that names no file.
 fn do_stream_command<A: Allocator + Copy, R: Read, W: Write, E: Write>(
     alloc: A,
-    input: &mut Input<R>,
-    output: &mut Output<W>,
-    errors: &mut Output<E>,
+    streams: &mut Streams<R, W, E>,
     command: Command,
 ) -> u8
     requires { group_of_command command ≡ Group.Streams }
-    ensures { DoesOnStreams A command.entry
-        (record { input = input.old; output = output.old; errors = errors.old })
-        result
-        (record { input = input.new; output = output.new; errors = errors.new }) }
+    ensures { DoesOnStreams A command.entry streams.old result streams.new }
 {
     match command {
-        Command::Words { side, scheme } => words_command(alloc, input, output, side, scheme),
+        Command::Words { side, scheme } => words_command(alloc, streams, Form { side, scheme }),
         Command::Draw {
             side,
             scheme,
             plain,
-        } => draw_command(alloc, input, output, errors, side, scheme, plain),
-        Command::Read => read_command(alloc, input, output),
-        Command::Plan { scheme } => plan_command(alloc, input, output, scheme),
-        Command::Ticket { ticket } => ticket_command(output, ticket),
-        Command::World => world_command(alloc, input, output),
+        } => draw_command(alloc, streams, Form { side, scheme }, plain),
+        Command::Read => read_command(alloc, streams),
+        Command::Plan { scheme } => plan_command(alloc, streams, scheme),
+        Command::Ticket { ticket } => ticket_command(streams, ticket),
+        Command::World => world_command(alloc, streams),
         _ => unreachable!(),
     }
 }
@@ -119,22 +51,14 @@ fn do_stream_command<A: Allocator + Copy, R: Read, W: Write, E: Write>(
 fn do_ledger_command<A: Allocator + Copy, S: Store, R: Read, W: Write, E: Write>(
     alloc: A,
     store: S,
-    input: &mut Input<R>,
-    output: &mut Output<W>,
-    errors: &mut Output<E>,
+    streams: &mut Streams<R, W, E>,
     command: Command,
 ) -> Ended<S>
     requires { group_of_command command ≡ Group.Ledger }
     ensures { DoesOnLedger command.entry
-        (record {
-          saved = S.state store;
-          streams = record { input = input.old; output = output.old; errors = errors.old };
-        })
+        (record { saved = S.state store; streams = streams.old })
         result.status
-        (record {
-          saved = S.state result.store;
-          streams = record { input = input.new; output = output.new; errors = errors.new };
-        }) }
+        (record { saved = S.state result.store; streams = streams.new }) }
 {
     match command {
         Command::Ledger {
@@ -142,7 +66,10 @@ fn do_ledger_command<A: Allocator + Copy, S: Store, R: Read, W: Write, E: Write>
             first,
             last,
             ..
-        } => ledger_command(alloc, store, output, number, Range { first, last }),
+        } => {
+            let range = Range { first, last };
+            ledger_command(alloc, store, streams, LedgerOptions { number, range })
+        }
         Command::Print {
             number,
             side,
@@ -154,7 +81,7 @@ fn do_ledger_command<A: Allocator + Copy, S: Store, R: Read, W: Write, E: Write>
                 side,
                 scheme,
             };
-            print_command(alloc, store, input, output, errors, options)
+            print_command(alloc, store, streams, options)
         }
         Command::PrintAuto {
             number,
@@ -167,7 +94,7 @@ fn do_ledger_command<A: Allocator + Copy, S: Store, R: Read, W: Write, E: Write>
                 most_labels,
                 scheme,
             };
-            print_auto_command(alloc, store, input, output, errors, options)
+            print_auto_command(alloc, store, streams, options)
         }
         Command::Give {
             number,
@@ -175,9 +102,18 @@ fn do_ledger_command<A: Allocator + Copy, S: Store, R: Read, W: Write, E: Write>
             first,
             last,
             ..
-        } => give_command(alloc, store, output, number, to, Range { first, last }),
-        Command::Take { number, ticket, .. } => take_command(alloc, store, output, number, ticket),
-        Command::Left { .. } => left_command(store, output),
+        } => {
+            let range = Range { first, last };
+            give_command(alloc, store, streams, GiveOptions { number, to, range })
+        }
+        Command::Take { number, ticket, .. } => {
+            let options = TakeOptions {
+                number,
+                text: ticket,
+            };
+            take_command(alloc, store, streams, options)
+        }
+        Command::Left { .. } => left_command(store, streams),
         _ => unreachable!(),
     }
 }
@@ -195,35 +131,25 @@ fn do_desk_command<
     alloc: A,
     store: S,
     set: T,
-    input: &mut Input<R>,
-    output: &mut Output<W>,
-    errors: &mut Output<E>,
+    streams: &mut Streams<R, W, E>,
     notes: &mut N,
     command: Command,
 ) -> EndedDesk<S, T>
     requires { group_of_command command ≡ Group.Desk }
     ensures { DoesOnDesk A command.entry
-        (record {
-          files = record { joint = S.state store; set = T.state set };
-          streams = record { input = input.old; output = output.old; errors = errors.old };
-        })
+        (record { files = record { joint = S.state store; set = T.state set }; streams = streams.old })
         result.status
-        (record {
-          files = record { joint = S.state result.store; set = T.state result.set };
-          streams = record { input = input.new; output = output.new; errors = errors.new };
-        }) }
+        (record { files = record { joint = S.state result.store; set = T.state result.set }; streams = streams.new }) }
 {
     match command {
         Command::Scan { capacity, .. } => {
-            scan_with_notes(alloc, store, set, input, output, notes, capacity)
+            scan_with_notes(alloc, store, set, streams, notes, capacity)
         }
-        Command::Deliver { id, .. } => deliver_command(alloc, store, set, output, errors, id),
-        Command::Forget { id, .. } => forget_command(alloc, store, set, output, id),
-        Command::Export { id, .. } => export_command(alloc, store, set, output, errors, id),
-        Command::Import { capacity, .. } => {
-            import_command(alloc, store, set, input, output, capacity)
-        }
-        Command::Held { id, .. } => held_command(store, set, output, id),
+        Command::Deliver { id, .. } => deliver_command(alloc, store, set, streams, id),
+        Command::Forget { id, .. } => forget_command(alloc, store, set, streams, id),
+        Command::Export { id, .. } => export_command(alloc, store, set, streams, id),
+        Command::Import { capacity, .. } => { import_command(alloc, store, set, streams, capacity) }
+        Command::Held { id, .. } => held_command(store, set, streams, id),
         Command::Copy {
             id,
             page,
@@ -237,14 +163,14 @@ fn do_desk_command<
                 side,
                 scheme,
             };
-            copy_command(alloc, store, set, output, errors, options)
+            copy_command(alloc, store, set, streams, options)
         }
         _ => unreachable!(),
     }
 }
 
-/// Does a command over the store at the path that it names and the set beside it, an input, and outputs for what it
-/// writes and for what the standard error is for. `notes` learns which image of a `scan` was refused.
+/// Does a command over the store at the path that it names and the set beside it, and its streams. `notes` learns which
+/// image of a `scan` was refused.
 pub fn do_command<
     A: Allocator + Copy,
     S: Store,
@@ -257,36 +183,24 @@ pub fn do_command<
     alloc: A,
     store: S,
     set: T,
-    input: &mut Input<R>,
-    output: &mut Output<W>,
-    errors: &mut Output<E>,
+    streams: &mut Streams<R, W, E>,
     notes: &mut N,
     command: Command,
 ) -> EndedDesk<S, T>
     ensures { Does A command.entry
-        (record {
-          saved = S.state store;
-          set = T.state set;
-          streams = record { input = input.old; output = output.old; errors = errors.old };
-        })
+        (record { saved = S.state store; set = T.state set; streams = streams.old })
         result.status
-        (record {
-          saved = S.state result.store;
-          set = T.state result.set;
-          streams = record { input = input.new; output = output.new; errors = errors.new };
-        }) }
+        (record { saved = S.state result.store; set = T.state result.set; streams = streams.new }) }
 {
-    match group_of(command) {
+    match group_of(work_of(command)) {
         Group::Streams => {
-            let status = do_stream_command(alloc, input, output, errors, command);
+            let status = do_stream_command(alloc, streams, command);
             EndedDesk { status, store, set }
         }
         Group::Ledger => {
-            let Ended { status, store } = do_ledger_command(
-                alloc, store, input, output, errors, command,
-            );
+            let Ended { status, store } = do_ledger_command(alloc, store, streams, command);
             EndedDesk { status, store, set }
         }
-        Group::Desk => do_desk_command(alloc, store, set, input, output, errors, notes, command),
+        Group::Desk => do_desk_command(alloc, store, set, streams, notes, command),
     }
 }

@@ -1,10 +1,10 @@
 //! Which files are at fault where a command was refused: a line on the standard error names each.
 
-use crate::commands::file_of;
-use crate::plan::{Plan, Work, plan_of, work_of};
+use crate::plan::{Plan, plan_of};
+use crate::table::{Work, file_of, work_of};
 use crate::workplace::Workplace;
 use dm_assembly_desk::{Desk, DeskFault, MOST_CAPACITY, MOST_FILE_BYTES, MoveFault, move_pages};
-use dm_print_ledger::{OpenFault, Printer};
+use dm_print_ledger::{OpenFault, Shown};
 use dm_store::{
     FileSet, FileStore, FuseSet, FuseStore, Kept, LoadFault, MemSet, RealDisk, StoreSet,
 };
@@ -17,7 +17,8 @@ fn name_file<R: Eprint>(rt: &R, file: &str, name: &str) {
     let _ = eprint!(rt; "relay: {file}: {name}\n");
 }
 
-/// Says on the standard error which file or folder of a command is what it can't be.
+/// Names on the standard error the path of a command at which the wrong kind of thing is, as a folder in the place of a
+/// file.
 pub(crate) fn name_odd_place<R: AllocGlobal + Eprint + Files>(rt: &R, command: Command) {
     let file = file_of(command);
     let Ok(folder) = format!(in rt.alloc(); "{file}.pages") else {
@@ -56,34 +57,13 @@ pub(crate) fn name_missing_desk<R: Eprint>(rt: &R, command: Command) {
     }
 }
 
-// What a printer's number is, of a command on a ledger.
-fn number_of(command: Command) -> u16 {
-    match command {
-        Command::Print { number, .. }
-        | Command::PrintAuto { number, .. }
-        | Command::Give { number, .. }
-        | Command::Take { number, .. } => number,
-        _ => 0,
-    }
-}
-
-// Names the ledger where it can't be read, or its bytes spell none.
-fn name_ledger<R: AllocGlobal + Eprint + Files>(
-    rt: &R,
-    file: &str,
-    number: u16,
-) -> Result<(), AllocError> {
+// Names the ledger if it can't be read, or its bytes spell none.
+fn name_ledger<R: AllocGlobal + Eprint + Files>(rt: &R, file: &str) -> Result<(), AllocError> {
     let path = String::from_str(rt.alloc(), file)?;
-    let store = FileStore::new(rt.alloc(), RealDisk::new(rt.alloc(), rt), path);
-    let fault = match Printer::open(rt.alloc(), store, number) {
-        Ok(_) => return Ok(()),
-        Err(refused) => refused.fault,
-    };
-    match fault {
-        OpenFault::Absent | OpenFault::Number | OpenFault::Memory => {}
-        OpenFault::NotALedger | OpenFault::Version | OpenFault::Damaged | OpenFault::Device => {
-            name_file(rt, file, fault.name());
-        }
+    let mut store = FileStore::new(rt.alloc(), RealDisk::new(rt.alloc(), rt), path);
+    match Shown::load(&mut store) {
+        Ok(_) | Err(OpenFault::Absent | OpenFault::Number | OpenFault::Memory) => {}
+        Err(fault) => name_file(rt, file, fault.name()),
     }
     Ok(())
 }
@@ -160,9 +140,7 @@ fn name_files<R: AllocGlobal + Eprint + Files + Clone + Drop>(
 ) -> Result<(), AllocError> {
     match work_of(command) {
         Work::Nothing | Work::MakesLedger => Ok(()),
-        Work::SavesLedger | Work::ReadsLedger => {
-            name_ledger(rt, place.file.as_str(), number_of(command))
-        }
+        Work::SavesLedger | Work::ReadsLedger => name_ledger(rt, place.file.as_str()),
         Work::Gathers | Work::Forgets | Work::Reads | Work::Looks => {
             name_joint_file(rt, place.file.as_str())?;
             name_pages(rt, place.folder.as_str())

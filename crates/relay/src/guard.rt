@@ -55,7 +55,7 @@ impl<'a, R: Files> Guard<'a, R> {
     }
 }
 
-/// A store whose saves are refused where its lock was lost: else it is the store within.
+/// The store within, but every save is refused once the lock is lost.
 #[derive(Drop)]
 pub(crate) struct GuardedStore<'a, R: Files, S: Store> {
     guard: &'a Guard<'a, R>,

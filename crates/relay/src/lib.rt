@@ -1,6 +1,6 @@
-//! The table of the commands of `relay`, which stand in crates of their own and are offered here too: `do_command` does
-//! the one that a line names, over an input and outputs, and answers the exit status; `run` calls it with the program's
-//! own streams and files.
+//! The commands of `relay`, which stand in crates of their own and are offered here too: `table` has what is fixed of
+//! each, [`do_command`] does the one that a line names, over its streams, and answers the exit status; [`run`] calls it
+//! with the program's own streams and files.
 //!
 //! Proved, of inputs and outputs whose bytes a contract can name (slices and vectors; of the system's own streams none
 //! can): on status 0 a command has written exactly what it is for: `read` and `scan` a line for each image, `world` one
@@ -27,9 +27,10 @@ mod standard_streams;
 mod steps;
 mod stuck_writer;
 mod system_steps;
+mod table;
 mod workplace;
 
-pub use commands::{do_command, file_of};
+pub use commands::do_command;
 pub use program::run;
 pub use relay_desk_commands::{
     CopyOptions, IMPORT_BYTES, NoNotes, Notes, copy_command, deliver_command, export_command,
@@ -37,11 +38,13 @@ pub use relay_desk_commands::{
 };
 pub use relay_line::{Command, LineFault, command_line};
 pub use relay_printer_commands::{
-    AutoOptions, PrintOptions, give_command, ledger_command, left_command, plan_command,
-    print_auto_command, print_command, take_command, ticket_command,
+    AutoOptions, GiveOptions, LedgerOptions, PrintOptions, TakeOptions, give_command,
+    ledger_command, left_command, plan_command, print_auto_command, print_command, take_command,
+    ticket_command,
 };
-pub use relay_shared::{DOCUMENT_BYTES, Ended, EndedDesk, MOST_IMAGES};
+pub use relay_shared::{DOCUMENT_BYTES, Ended, EndedDesk, MOST_IMAGES, Streams};
 pub use relay_symbol_commands::{
-    ReadRefusal, SymbolRefusal, draw_command, read_command, words_command,
+    Form, ReadRefusal, SymbolRefusal, draw_command, read_command, words_command,
 };
 pub use relay_world_command::{INPUT_BYTES, world_command};
+pub use table::file_of;

@@ -16,10 +16,9 @@ ghost use Rattle.relay.specs.Places.{
   needs_folder_above,
   plan_for,
   refusal_at,
-  tries_its_save_by_command,
-  work_of_command,
 };
 
+use crate::table::{Work, work_of};
 use dm_assembly_desk::MOST_CAPACITY;
 use relay_line::Command;
 use std::alloc::AllocError;
@@ -66,62 +65,6 @@ impl From<AllocError> for WorkplaceFault {
     fn from(_: AllocError) -> Self {
         WorkplaceFault::Memory
     }
-}
-
-/// What a command does to the files at its path.
-#[derive(Clone, Copy)]
-pub(crate) enum Work {
-    /// It names none.
-    Nothing,
-    /// It makes a ledger.
-    MakesLedger,
-    /// It saves to a ledger that is there.
-    SavesLedger,
-    /// It reads a ledger that is there.
-    ReadsLedger,
-    /// It saves to a desk's files, and makes the desk where it isn't there.
-    Gathers,
-    /// It saves to the files of a desk that is there.
-    Forgets,
-    /// It reads a desk's files, and saves to them only where the joint file has documents, which it moves.
-    Reads,
-    /// It looks at a desk's files, and never saves to them.
-    Looks,
-}
-
-/// What a command does to the files at its path.
-pub(crate) fn work_of(command: Command) -> Work
-    ensures { result ≡ work_of_command command.entry }
-{
-    match command {
-        Command::Words { .. }
-        | Command::Draw { .. }
-        | Command::Read
-        | Command::Plan { .. }
-        | Command::Ticket { .. }
-        | Command::World => Work::Nothing,
-        Command::Ledger { .. } => Work::MakesLedger,
-        Command::Print { .. }
-        | Command::PrintAuto { .. }
-        | Command::Give { .. }
-        | Command::Take { .. } => Work::SavesLedger,
-        Command::Left { .. } => Work::ReadsLedger,
-        Command::Scan { .. } | Command::Import { .. } => Work::Gathers,
-        Command::Forget { .. } => Work::Forgets,
-        Command::Deliver { .. } | Command::Export { .. } | Command::Copy { .. } => Work::Reads,
-        Command::Held { .. } => Work::Looks,
-    }
-}
-
-/// Whether a command is tried up to its save before anything is locked: what comes to nothing then is said beside
-/// another program too.
-pub(crate) fn tries_its_save(command: Command) -> bool
-    ensures { result ≡ tries_its_save_by_command command.entry }
-{
-    matches!(
-        command,
-        Command::Ledger { .. } | Command::Give { .. } | Command::Take { .. }
-    )
 }
 
 // Whether a command asks for a desk with room for no number of documents, or for too many.

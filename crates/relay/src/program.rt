@@ -2,12 +2,11 @@
 
 ghost use Rattle.std.specs.Prelude.{◌≡◌};
 
-use crate::commands::file_of;
-use crate::plan::{Work, work_of};
 use crate::standard_streams::HeldPlaces;
-use crate::steps::{refuses_on_errors, take_steps};
+use crate::steps::take_steps;
 use crate::stuck_writer::StuckWriter;
 use crate::system_steps::{SystemSteps, refuse_at};
+use crate::table::{Work, file_of, refuses_on_errors, work_of};
 use relay_line::{Command, LineFault, command_line};
 use std::fs::File;
 use std::io::{BufReader, BufWriter, ErrorKind, Write};

@@ -4,14 +4,14 @@ use crate::commands::do_command;
 use dm_store::{FuseSet, FuseStore, Kept, MemSet, MemStore, Store};
 use relay_desk_commands::NoNotes;
 use relay_line::Command;
-use relay_streams::{Input, Output};
+use relay_shared::Streams;
 use std::alloc::Global;
 use std::io::Read;
 
 /// What came of a command over a store and a set that let a number of calls through.
 #[derive(Drop)]
 pub(crate) struct Rehearsal {
-    /// Whether it made more calls, so that this is not how it ends.
+    /// Whether it asked for more calls than were let through; the other fields say nothing then.
     pub(crate) goes_on: bool,
     /// Its exit status, if it doesn't go on.
     pub(crate) status: u8,
@@ -23,45 +23,35 @@ pub(crate) struct Rehearsal {
 
 // Does a command over a store that lets this many calls through, and over a set that lets none. What goes on was about
 // to look at a file, or to save to it, and has changed nothing.
-fn rehearse<S: Store, R: Read>(
+fn rehearse<S: Store, R: Read + Drop>(
     alloc: Global,
     store: S,
     passes: u32,
-    input: &mut Input<R>,
+    reader: R,
     command: Command,
 ) -> Rehearsal {
     let store = FuseStore::new(store, passes, Kept::Old);
     let set = FuseSet::new(MemSet::new(alloc), 0, Kept::Old);
-    let mut output = Output::new(Vec::new(alloc));
-    let mut errors = Output::new(Vec::new(alloc));
-    let ended = do_command(
-        alloc,
-        store,
-        set,
-        input,
-        &mut output,
-        &mut errors,
-        &mut NoNotes,
-        command,
-    );
+    let mut streams = Streams::new(reader, Vec::new(alloc), Vec::new(alloc));
+    let ended = do_command(alloc, store, set, &mut streams, &mut NoNotes, command);
     Rehearsal {
         goes_on: ended.store.spent() || ended.set.spent(),
         status: ended.status,
-        output: output.into_writer(),
-        errors: errors.into_writer(),
+        output: streams.output.into_writer(),
+        errors: streams.errors.into_writer(),
     }
 }
 
 /// Does a command up to its first look at a file.
-pub(crate) fn before_files<R: Read>(
+pub(crate) fn before_files<R: Read + Drop>(
     alloc: Global,
-    input: &mut Input<R>,
+    reader: R,
     command: Command,
 ) -> Rehearsal {
-    rehearse(alloc, MemStore::new(alloc), 0, input, command)
+    rehearse(alloc, MemStore::new(alloc), 0, reader, command)
 }
 
 /// Does a command on a ledger up to its save. It reads no input.
 pub(crate) fn before_a_save<S: Store>(alloc: Global, ledger: S, command: Command) -> Rehearsal {
-    rehearse(alloc, ledger, 1, &mut Input::new(b"".as_slice()), command)
+    rehearse(alloc, ledger, 1, b"".as_slice(), command)
 }

@@ -1,11 +1,11 @@
 //! The steps of a command, in their order.
 
 ghost use Rattle.std.specs.Prelude.{◌≡◌, MatchResult, None, is_some, if◌then◌else◌};
-ghost use Rattle.relay.specs.Places.{refuses_on_errors_by_command};
 ghost use Rattle.relay.specs.Steps.{HasEnded, begins, refusal_by, Ends, GoesOn, Tries, Ready, Holds, Refuses, Speaks, OverNothing};
 
-use crate::plan::{Locked, Plan, Work, WorkplaceFault, plan_of, tries_its_save, work_of};
+use crate::plan::{Locked, Plan, WorkplaceFault, plan_of};
 use crate::rehearsal::Rehearsal;
+use crate::table::{Work, refuses_on_errors, tries_its_save, work_of};
 use crate::workplace::Workplace;
 use relay_line::Command;
 
@@ -80,7 +80,8 @@ pub(crate) trait Steps {
 
     /// Writes the line of a refusal, and answers the exit status.
     fn refuse(&mut self, on_errors: bool, name: &str) -> u8
-        ensures stage { stage self.new ≡ after_refusal (stage self.old) (record { on_errors = on_errors; name = name.now }) }
+        ensures stage { stage self.new
+            ≡ after_refusal (stage self.old) (record { on_errors = on_errors; name = name.now }) }
         ensures status { result ≡ 1 };
 
     /// Lets other programs come.
@@ -98,33 +99,6 @@ pub(crate) trait Steps {
     /// Names the file or folder that is at fault, if one is.
     fn name_place(&mut self, fault: WorkplaceFault)
         ensures { stage self.new ≡ stage self.old };
-}
-
-/// Whether the refusals of a command go to the standard error.
-pub(crate) fn refuses_on_errors(command: Command) -> bool
-    ensures { result ≡ refuses_on_errors_by_command command.entry }
-{
-    match command {
-        Command::Draw { .. }
-        | Command::Print { .. }
-        | Command::PrintAuto { .. }
-        | Command::Deliver { .. }
-        | Command::Export { .. }
-        | Command::Copy { .. } => true,
-        Command::Words { .. }
-        | Command::Read
-        | Command::Plan { .. }
-        | Command::Ticket { .. }
-        | Command::Ledger { .. }
-        | Command::Give { .. }
-        | Command::Take { .. }
-        | Command::Left { .. }
-        | Command::Scan { .. }
-        | Command::Forget { .. }
-        | Command::Import { .. }
-        | Command::Held { .. }
-        | Command::World => false,
-    }
 }
 
 // Lets the end of an output out, and gives the exit status.
@@ -171,7 +145,8 @@ fn run_with<S: Steps>(
     place: &Workplace,
     lock: &Option<S::Lock>,
 ) -> Result<u8, WorkplaceFault>
-    ensures { S.stage steps.old ≡ (if is_some lock.now then (Holds command.entry) else (Ready command.entry None)) → MatchResult result
+    ensures { S.stage steps.old
+        ≡ (if is_some lock.now then (Holds command.entry) else (Ready command.entry None)) → MatchResult result
         (λ exit. HasEnded (S.stage steps.new) exit)
         (λ fault. S.stage steps.new ≡ Refuses (refusal_by command.entry fault)) }
 {

@@ -16,8 +16,8 @@ use crate::workplace::Workplace;
 use dm_store::{FileSet, FileStore, MemSet, MemStore, RealDisk};
 use relay_desk_commands::NoNotes;
 use relay_line::Command;
-use relay_shared::refuse;
-use relay_streams::{Input as StreamInput, Output};
+use relay_shared::{Streams, refuse};
+use relay_streams::Output;
 use std::fs::File;
 use std::io;
 use std::io::{Read, Write};
@@ -68,8 +68,7 @@ impl<R: AllocGlobal + Print + Eprint + Files<File = File> + Clone, I: Read, W: W
 
     fn rehearse(&mut self) -> Rehearsal {
         self.input.keep();
-        let mut input = StreamInput::new(&mut self.input);
-        let rehearsal = before_files(self.rt.alloc(), &mut input, self.command);
+        let rehearsal = before_files(self.rt.alloc(), &mut self.input, self.command);
         self.input.repeat();
         rehearsal
     }
@@ -102,13 +101,16 @@ impl<R: AllocGlobal + Print + Eprint + Files<File = File> + Clone, I: Read, W: W
             RealDisk::new(rt.alloc(), rt),
             place.folder.clone()?,
         );
+        let mut streams = Streams::new(
+            &mut self.input,
+            GuardedLines::new(&guard, &mut self.writer),
+            GuardedLines::new(&guard, ErrorWriter::new(rt)),
+        );
         let ended = do_command(
             rt.alloc(),
             GuardedStore::new(&guard, ledger),
             GuardedSet::new(&guard, pages),
-            &mut StreamInput::new(&mut self.input),
-            &mut Output::new(GuardedLines::new(&guard, &mut self.writer)),
-            &mut Output::new(GuardedLines::new(&guard, ErrorWriter::new(rt))),
+            &mut streams,
             &mut RefusedImages::new(rt, &guard),
             self.command,
         );
@@ -117,13 +119,12 @@ impl<R: AllocGlobal + Print + Eprint + Files<File = File> + Clone, I: Read, W: W
 
     fn run_over_nothing(&mut self) -> u8 {
         let rt = self.rt;
+        let mut streams = Streams::new(&mut self.input, &mut self.writer, ErrorWriter::new(rt));
         let ended = do_command(
             rt.alloc(),
             MemStore::new(rt.alloc()),
             MemSet::new(rt.alloc()),
-            &mut StreamInput::new(&mut self.input),
-            &mut Output::new(&mut self.writer),
-            &mut Output::new(ErrorWriter::new(rt)),
+            &mut streams,
             &mut NoNotes,
             self.command,
         );

@@ -3,9 +3,9 @@
 ghost use Rattle.std.specs.Prelude.{◌≡◌, ◌++◌, IfOk, codes, string_bytes};
 ghost use Rattle.relay.specs.Places.{path_of};
 
-use crate::commands::file_of;
 use crate::lock::Lock;
 use crate::plan::{Found, Locked, Sight, WorkplaceFault};
+use crate::table::file_of;
 use relay_line::Command;
 use std::fs::File;
 use std::io::ErrorKind;

@@ -4,8 +4,6 @@ use Rattle.std.proofs.Common.{◌≡◌, ℕ, List, Option, Result, Ok, Err, ref
 use Rattle.dm_gf256.specs.Polynomial.{differ}
 use Rattle.dm_gf256.proofs.OneBlockWord.{differ-self}
 use Rattle.dm_check_blocks.specs.Blocks.{block_of}
-use Rattle.dm_check_blocks.specs.declared.size.Size.{Size}
-use Rattle.dm_encodation.specs.declared.scheme.Scheme.{Scheme}
 use Rattle.dm_finder_frame.specs.Frame.{FrameHasNoWrongModule, wrong_frame_modules}
 use Rattle.dm_finder_frame.specs.Grids.{GridView}
 use Rattle.dm_symbol.specs.Correction.{CorrectedView}
@@ -19,14 +17,16 @@ use Rattle.dm_append_label.specs.declared.fault.LabelFault.TheVariants as labels
 use Rattle.dm_append_label.specs.declared.opening.Opened.{Opened}
 use Rattle.dm_assembly_desk.specs.Documents.{Documents}
 use Rattle.relay_desk_commands.specs.Copy.{Copies, HasCopyFault, IsPageHeld, OpensAsHeld, OpensAsNoOther}
+use Rattle.relay_desk_commands.specs.declared.copy.AskedPage.{AskedPage}
 use Rattle.relay_desk_commands.specs.declared.copy.CopyFault.TheVariants.{Memory}
+use Rattle.relay_desk_commands.specs.declared.copy.LabelForm.{LabelForm}
 
 -- a label that was made has room for its page, so that nothing but memory can keep its image back
-pub fits_there : (held : Documents) (id m : ℕ) (size : Size) (scheme : Scheme) (grid : GridView)
-    → Copies held id m size scheme grid → HasCopyFault held id m size scheme Memory
-fits_there held id m size scheme grid c =
-    subst (λ (found : Option (List ℕ)). IsSomeAnd found (λ bytes. Fits size scheme bytes)) (sym c.is_held.bytes_are)
-    c.label.fits
+pub fits_there : (held : Documents) (asked : AskedPage) (form : LabelForm) (grid : GridView)
+    → Copies held asked form grid → HasCopyFault held asked form Memory
+fits_there held asked form grid c =
+    subst (λ (found : Option (List ℕ)). IsSomeAnd found (λ bytes. Fits form.size form.scheme bytes))
+    (sym c.is_held.bytes_are) c.label.fits
 
 -- a grid is near itself
 near_itself : (grid : GridView) → IsNear grid grid
@@ -69,21 +69,21 @@ none_corrected page grid c law {other} {corrected} {wrong} opens =
     ∙ differ-self (words_of_grid grid)
 
 -- a page that is the same as the one held is the one held
-held_again : (held : Documents) (id m : ℕ) (one other : PageView) → IsPageHeld held id m one → other ≡ one
-    → IsPageHeld held id m other
-held_again held id m one other is same = subst (IsPageHeld held id m) (sym same) is
+held_again : (held : Documents) (asked : AskedPage) (one other : PageView) → IsPageHeld held asked one → other ≡ one
+    → IsPageHeld held asked other
+held_again held asked one other is same = subst (IsPageHeld held asked) (sym same) is
 
 -- a copy is opened as the page that is held
-pub opens_as_held : {A : Type 0} (held : Documents) (id m : ℕ) (size : Size) (scheme : Scheme) (grid : GridView)
-    (result : Result (Opened A) LabelFault) → Copies held id m size scheme grid → CarriesItsWords grid.size
-    → FrameHasNoWrongModule grid.size → LabelOpens grid result → OpensAsHeld held id m result
-opens_as_held {A} held id m size scheme grid result c words frame opened =
+pub opens_as_held : {A : Type 0} (held : Documents) (asked : AskedPage) (form : LabelForm) (grid : GridView)
+    (result : Result (Opened A) LabelFault) → Copies held asked form grid → CarriesItsWords grid.size
+    → FrameHasNoWrongModule grid.size → LabelOpens grid result → OpensAsHeld held asked result
+opens_as_held {A} held asked form grid result c words frame opened =
     let near = opened.near grid c.page c.label.carries (near_itself grid) in
     cases result near opened.opens
   where
-    cases : (r : Result (Opened A) LabelFault) → OpensNear c.page r → Opens grid r → OpensAsHeld held id m r
+    cases : (r : Result (Opened A) LabelFault) → OpensNear c.page r → Opens grid r → OpensAsHeld held asked r
     cases (Ok o) near opens = (
-      held_again held id m c.page o.page c.is_held near,
+      held_again held asked c.page o.page c.is_held near,
       none_corrected c.page grid c.label.carries words opens,
       opens.wrong_is ∙ none_wrong c.page grid c.label.carries frame,
     )
@@ -98,9 +98,9 @@ opens_as_held {A} held id m size scheme grid result c words frame opened =
     cases (Err labels.Memory) near opens = tt
 
 -- a grid near a copy is opened as no other page
-pub opens_as_no_other : {A : Type 0} (held : Documents) (id m : ℕ) (size : Size) (scheme : Scheme)
-    (grid copy : GridView) (result : Result (Opened A) LabelFault) → Copies held id m size scheme copy
-    → IsNear grid copy → LabelOpens grid result → OpensAsNoOther held id m result
-opens_as_no_other held id m size scheme grid copy (Ok o) c near opened =
-    held_again held id m c.page o.page c.is_held (opened.near copy c.page c.label.carries near)
-opens_as_no_other held id m size scheme grid copy (Err fault) c near opened = tt
+pub opens_as_no_other : {A : Type 0} (held : Documents) (asked : AskedPage) (form : LabelForm)
+    (grid copy : GridView) (result : Result (Opened A) LabelFault) → Copies held asked form copy
+    → IsNear grid copy → LabelOpens grid result → OpensAsNoOther held asked result
+opens_as_no_other held asked form grid copy (Ok o) c near opened =
+    held_again held asked c.page o.page c.is_held (opened.near copy c.page c.label.carries near)
+opens_as_no_other held asked form grid copy (Err fault) c near opened = tt

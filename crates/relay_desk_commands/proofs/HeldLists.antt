@@ -1,20 +1,18 @@
 -- The lines of what is held, one number after another: `one_more` adds the line of a number, `cut_before` and `cut_in`
 -- are the two ways in which the output fails, and `told_else` takes the answer of a write to a line with the status 1.
-use Rattle.std.proofs.Common.{◌≡◌, ◌≤◌, ◌+◌, ◌++◌, ◌||◌, ℕ, Bool, true, List, Option, Result, Ok, Err, inl, inr, refl, sym, ap, ◌∙◌, append_assoc, arith}
-use Rattle.std.specs.Prelude.{OnOk, OnErr, is_some}
+use Rattle.std.proofs.Common.{◌≡◌, ◌≤◌, ◌+◌, ◌++◌, ◌||◌, ℕ, Bool, true, List, Option, Result, Ok, Err, inl, inr}
+use Rattle.std.proofs.Common.{refl, sym, ap, ◌∙◌, append_assoc, arith}
+use Rattle.std.specs.Prelude.{OnOk, OnErr, is_err}
 use Rattle.std.specs.Io.KnownBytes.{Appends}
 use Rattle.std.proofs.KnownBytes.{Appends-trans}
-use Rattle.dm_store.specs.Sets.{SavedSet}
-use Rattle.dm_assembly_desk.specs.Documents.{Documents}
 use Rattle.dm_assembly_desk.specs.declared.fault.HeldFault.{HeldFault}
-use Rattle.dm_assembly_desk.specs.declared.fault.MoveFault.{MoveFault}
 use Rattle.dm_assembly_desk.specs.declared.reply.Held.{Held}
 use Rattle.relay_streams.specs.Streams.{AppendsPart, OutputView}
 use Rattle.relay_streams.specs.declared.fault.WriteFault.{WriteFault}
 use Rattle.relay_shared.specs.Telling.{Tells}
-use Rattle.relay_desk_commands.specs.Held.{SeesNumber, joint_line, seen_line, is_unsound}
+use Rattle.relay_desk_commands.specs.Held.{SeenFiles, SeesNumber, documents_in, joint_line, seen_line}
 use Rattle.relay_desk_commands.specs.Held.Lists.{begun, further}
-use Rattle.relay_desk_commands.specs.inner.SeenJoint.{CutsList, WritesList, documents_in, fault_in}
+use Rattle.relay_desk_commands.specs.inner.Listing.{CutsList, WritesList}
 
 -- the line was written, or the output has refused it and a part of it is out; the status is 1 either way
 pub told_else : (line : List ℕ) (old new : OutputView) (put : Result (Unit {0}) WriteFault) →
@@ -23,38 +21,38 @@ pub told_else : (line : List ℕ) (old new : OutputView) (put : Result (Unit {0}
 told_else line old new (Ok x) written part failed = inl (written, refl)
 told_else line old new (Err e) written part failed = inr (failed, part, refl)
 
-module _ (set : SavedSet) (joint : Result (Option Documents) MoveFault) where
-  pub first_line : (unsound : Bool) (old new : OutputView) → unsound ≡ is_some (fault_in joint) →
-      Appends old.contents new.contents (joint_line (fault_in joint)) → WritesList set joint 0 unsound old new
-  first_line unsound old new is appended =
-      (joint_line (fault_in joint), rw is begun, appended)
+module _ (seen : SeenFiles) where
+  pub first_line : (unsound : Bool) (old new : OutputView) → unsound ≡ is_err seen.joint →
+      Appends old.contents new.contents (joint_line seen.joint) → WritesList seen 0 unsound old new
+  first_line unsound old new is appended = (joint_line seen.joint, rw is begun, appended)
 
-  pub one_more : (number : ℕ) (unsound more : Bool) (seen : Result (Option Held) HeldFault) (old now new : OutputView) →
-      WritesList set joint number unsound old now → SeesNumber set (documents_in joint) number seen →
-      more ≡ is_unsound seen → Appends now.contents new.contents (seen_line number seen) →
-      WritesList set joint (number + 1) (unsound || more) old new
-  one_more number unsound more seen old now new written sees is appended = (
-    written.0 ++ seen_line number seen,
-    rw is (further seen written.1 sees),
-    Appends-trans old.contents now.contents new.contents written.0 (seen_line number seen) written.2 appended,
+  pub one_more : (number : ℕ) (unsound more : Bool) (found : Result (Option Held) HeldFault)
+      (old now new : OutputView) → WritesList seen number unsound old now →
+      SeesNumber seen.set (documents_in seen.joint) number found → more ≡ is_err found →
+      Appends now.contents new.contents (seen_line number found) →
+      WritesList seen (number + 1) (unsound || more) old new
+  one_more number unsound more found old now new written sees is appended = (
+    written.0 ++ seen_line number found,
+    rw is (further found written.1 sees),
+    Appends-trans old.contents now.contents new.contents written.0 (seen_line number found) written.2 appended,
   )
 
   -- the line of the joint file was cut off
   pub cut_before : (old new : OutputView) → new.has_failed ≡ true →
-      AppendsPart old.contents new.contents (joint_line (fault_in joint)) → CutsList set joint old new
+      AppendsPart old.contents new.contents (joint_line seen.joint) → CutsList seen old new
   cut_before old new failed part =
-      (0, joint_line (fault_in joint), is_some (fault_in joint), begun, omega arith, failed, part)
+      (0, joint_line seen.joint, is_err seen.joint, begun, omega arith, failed, part)
 
   -- the line of a number was cut off
-  pub cut_in : (number : ℕ) (unsound : Bool) (seen : Result (Option Held) HeldFault) (old now new : OutputView) →
-      number + 1 ≤ 65536 → WritesList set joint number unsound old now →
-      SeesNumber set (documents_in joint) number seen → new.has_failed ≡ true →
-      AppendsPart now.contents new.contents (seen_line number seen) → CutsList set joint old new
-  cut_in number unsound seen old now new few written sees failed part = (
+  pub cut_in : (number : ℕ) (unsound : Bool) (found : Result (Option Held) HeldFault) (old now new : OutputView) →
+      number + 1 ≤ 65536 → WritesList seen number unsound old now →
+      SeesNumber seen.set (documents_in seen.joint) number found → new.has_failed ≡ true →
+      AppendsPart now.contents new.contents (seen_line number found) → CutsList seen old new
+  cut_in number unsound found old now new few written sees failed part = (
     number + 1,
-    written.0 ++ seen_line number seen,
-    unsound || is_unsound seen,
-    further seen written.1 sees,
+    written.0 ++ seen_line number found,
+    unsound || is_err found,
+    further found written.1 sees,
     few,
     failed,
     (

@@ -1,6 +1,7 @@
 -- Why a stop leaves the files of a desk whose command is done: no save of the desk failed then, so its set holds just
 -- the files of what it holds, and of such a desk it is known what a stop leaves.
-use Rattle.std.proofs.Common.{◌≡◌, ◌⊎◌, inl, inr, ℕ, List, Bool, true, false, Option, Some, None, Result, Ok, Err, refl, sym, ap, subst, ◌∙◌}
+use Rattle.std.proofs.Common.{◌≡◌, ◌⊎◌, inl, inr, ℕ, List, Bool, true, false, Option, Some, None, Result, Ok, Err}
+use Rattle.std.proofs.Common.{refl, sym, ap, subst, ◌∙◌}
 use Rattle.std.specs.Prelude.{option_map, if◌then◌else◌, ◌||◌, ◌++◌}
 use Rattle.std.specs.Io.KnownBytes.{Appends}
 use Rattle.std.specs.FinMap.{get}
@@ -13,10 +14,13 @@ use Rattle.dm_pbm_io.specs.Image.{Picture}
 use Rattle.dm_assembly_desk.specs.Accepting.{AcceptsPage, ChangesByPage, Scans}
 use Rattle.dm_assembly_desk.specs.FaultNames.{scan_fault_name}
 use Rattle.dm_assembly_desk.specs.Files.{file}
+use Rattle.dm_assembly_desk.specs.Forgetting.{Forgets}
 use Rattle.dm_assembly_desk.specs.Importing.{ChangesByFile, ImportsBytes, IsReadAs}
 use Rattle.dm_assembly_desk.specs.Lasting.{IsKept}
 use Rattle.dm_assembly_desk.specs.Pages.{Pages}
 use Rattle.dm_assembly_desk.specs.Views.{DeskView}
+use Rattle.dm_assembly_desk.specs.declared.fault.ForgetFault.{ForgetFault}
+use Rattle.dm_assembly_desk.specs.declared.fault.ImportFault.{ImportFault}
 use Rattle.dm_assembly_desk.specs.declared.fault.ScanFault.{ScanFault}
 use Rattle.dm_assembly_desk.specs.declared.fault.ScanFault.TheVariants as faults
 use Rattle.dm_assembly_desk.specs.declared.reply.Accepted.{Accepted}
@@ -29,15 +33,13 @@ use Rattle.relay_shared.specs.EachImage.{AnswersImages, Comes, EndsImages, Tells
 use Rattle.relay_shared.specs.EachImage.AnswersImages.{none as no_images, another}
 use Rattle.relay_shared.specs.EachImage.Comes.{image, unread, too_many}
 use Rattle.relay_shared.specs.EachImage.EndsImages.{no_image, last_line}
-use Rattle.relay_shared.specs.Telling.{Tells}
-use Rattle.relay_desk_commands.specs.Desks.{HasNoDesk, DeskFiles, TellsForget, TellsImport}
-use Rattle.relay_desk_commands.specs.Desks.HasNoDesk.{not_moved, not_opened}
-use Rattle.relay_desk_commands.specs.Desks.TellsForget.{forgotten, refused as forget_refused}
-use Rattle.relay_desk_commands.specs.Desks.TellsImport.{imported as import_told, refused as import_refused}
+use Rattle.relay_shared.specs.Surroundings.{StreamsView}
+use Rattle.relay_desk_commands.specs.Desks.{TellsForget, TellsImport}
 use Rattle.relay_desk_commands.specs.Lasting.{LeavesFiles, ScanLeaves}
 use Rattle.relay_desk_commands.specs.Lasting.ScanLeaves.{all, save_failed, output_failed}
 use Rattle.relay_desk_commands.specs.Scan.{ScansPicture, scan_images}
-use Rattle.relay_desk_commands.specs.Scan.ScansPicture.{accepted as scan_accepted, refused as scan_refused, shape as scan_shape, memory as scan_memory}
+use Rattle.relay_desk_commands.specs.Scan.ScansPicture.{accepted as scan_accepted, refused as scan_refused}
+use Rattle.relay_desk_commands.specs.Scan.ScansPicture.{shape as scan_shape, memory as scan_memory}
 
 -- ---- a desk that has not failed
 
@@ -64,15 +66,11 @@ refused (inr part) = part.2
 pub not_done : {P : Type 0} (status : ℕ) → status ≡ 1 → status ≡ 0 → P
 not_done status is zero = absurd cc
 
-pub no_desk_done : (before : DeskFiles) (capacity : ℕ) (old : OutputView) (status : ℕ) (after : DeskFiles)
-    (new : OutputView) → HasNoDesk before capacity old status after new → status ≡ 1
-no_desk_done before capacity old _ _ _ (not_moved fault moves kept plans tells) = refused tells
-no_desk_done before capacity old _ _ _ (not_opened fault moves has tells) = refused tells
-
-pub forget_done : (id : ℕ) (before : DeskView) (old : OutputView) (status : ℕ) (after : DeskView) (new : OutputView)
-    → TellsForget id before old status after new → status ≡ 0 → after.is_failed ≡ false
-forget_done id before old _ _ _ (forgotten lets_go tells) zero = lets_go.holding.running
-forget_done id before old _ _ _ (forget_refused fault lets_go tells) zero = not_done _ (refused tells) zero
+pub forget_done : (id : ℕ) (before : DeskView) (reply : Result (Unit {0}) ForgetFault) (after : DeskView)
+    (old : OutputView) (status : ℕ) (new : OutputView) → Forgets id before reply after
+    → TellsForget id reply old status new → status ≡ 0 → after.is_failed ≡ false
+forget_done id before (Ok _) after old status new lets_go tells zero = lets_go.holding.running
+forget_done id before (Err fault) after old status new lets_go tells zero = not_done status (refused tells) zero
 
 changed_file : (kind : Kind) (id : ℕ) (pages : Pages) (before after : DeskView) → before.is_failed ≡ false
     → ChangesByFile kind id pages before after → after.is_failed ≡ false
@@ -89,13 +87,13 @@ imported bytes before reply after running takes =
       | Err fault ↦ λ is. absurd (let not = (takes.faulty fault is).0 in cc)
     ] takes.is_read
 
-pub import_done : (bytes : List ℕ) (before : DeskView) (old : OutputView) (status : ℕ) (after : DeskView)
-    (new : OutputView) → before.is_failed ≡ false → TellsImport bytes before old status after new → status ≡ 0
-    → after.is_failed ≡ false
-import_done bytes before old _ _ _ running (import_told reply takes tells) zero =
-    imported bytes before reply _ running takes
-import_done bytes before old _ _ _ running (import_refused fault takes tells) zero =
-    not_done _ (refused tells) zero
+pub import_done : (bytes : List ℕ) (before : DeskView) (reply : Result Imported ImportFault) (after : DeskView)
+    (old : OutputView) (status : ℕ) (new : OutputView) → before.is_failed ≡ false
+    → ImportsBytes bytes before reply after → TellsImport reply old status new → status ≡ 0 → after.is_failed ≡ false
+import_done bytes before (Ok reply) after old status new running takes tells zero =
+    imported bytes before reply after running takes
+import_done bytes before (Err fault) after old status new running takes tells zero =
+    not_done status (refused tells) zero
 
 -- ---- a scan
 
@@ -192,25 +190,26 @@ module _ (A : Type 0) where
   refused_status true true status is told = told
 
   -- the desk has failed, and the command told so
-  failed_leaves : (start : DeskView) (input rest : InputView) (old : OutputView) (status : ℕ) (after : DeskView)
-      (new : OutputView) (left : SetLeft) → start.is_failed ≡ false
-      → TellsImages (scan_images A) start input rest old status after new → after.is_failed ≡ true
-      → ScanLeaves input rest old new status after.saved left
-  failed_leaves start input rest old status after new left running (inl told) failed =
+  failed_leaves : (start : DeskView) (old : StreamsView) (status : ℕ) (after : DeskView) (new : StreamsView)
+      (left : SetLeft) → start.is_failed ≡ false
+      → TellsImages (scan_images A) start old.input new.input old.output status after new.output
+      → after.is_failed ≡ true → ScanLeaves old status new after.saved left
+  failed_leaves start old status after new left running (inl told) failed =
       let line : IsSaveLine told.end_line told.end_refused = ended_failed told.count told.now _ _ _ _ after
       (running_on start _ _ _ _ _ running told.answered) told.ended failed in
       save_failed (refused_status told.any_refused told.end_refused status line.1 told.status_is) told.image_lines
-      (subst (λ (l : List ℕ). Appends old.contents new.contents (told.image_lines ++ l)) line.0 told.appended)
-  failed_leaves start input rest old status after new left running (inr stopped) failed =
+      (subst (λ (l : List ℕ). Appends old.output.contents new.output.contents (told.image_lines ++ l)) line.0
+      told.appended)
+  failed_leaves start old status after new left running (inr stopped) failed =
       output_failed stopped.status_is stopped.failed
 
-  pub scan_leaves : (start : DeskView) (input rest : InputView) (old : OutputView) (status : ℕ) (after : DeskView)
-      (new : OutputView) (left : SetLeft) → start.is_failed ≡ false
-      → TellsImages (scan_images A) start input rest old status after new → IsKept after left
-      → ScanLeaves input rest old new status after.saved left
-  scan_leaves start input rest old status after new left running told kept =
+  pub scan_leaves : (start : DeskView) (old : StreamsView) (status : ℕ) (after : DeskView) (new : StreamsView)
+      (left : SetLeft) → start.is_failed ≡ false
+      → TellsImages (scan_images A) start old.input new.input old.output status after new.output → IsKept after left
+      → ScanLeaves old status new after.saved left
+  scan_leaves start old status after new left running told kept =
       elim after.is_failed as
-      (λ b. after.is_failed ≡ b → ScanLeaves input rest old new status after.saved left) [
+      (λ b. after.is_failed ≡ b → ScanLeaves old status new after.saved left) [
         | false ↦ λ not. all (leaves_files after left kept not)
-        | true ↦ λ failed. failed_leaves start input rest old status after new left running told failed
+        | true ↦ λ failed. failed_leaves start old status after new left running told failed
       ] refl

@@ -1,9 +1,7 @@
 -- What `copy` does to the files of a desk, and what it writes: the image of the label of a page that the desk holds.
 use Rattle.std.specs.Prelude.{◌≡◌, ℕ, List, Some, None, IsSome, IsSomeAnd, IfOk, Result, Ok, Err, codes}
 use Rattle.std.specs.FinMap as map
-use Rattle.dm_check_blocks.specs.declared.size.Size.{Size}
 use Rattle.dm_check_blocks.specs.Sizes.{IsSide, side}
-use Rattle.dm_encodation.specs.declared.scheme.Scheme.{Scheme}
 use Rattle.dm_finder_frame.specs.Grids.{GridView}
 use Rattle.dm_append_label.specs.Labels.{Carries, Fits, IsTooLong, Seals}
 use Rattle.dm_append_label.specs.Pages.{PageView}
@@ -11,45 +9,48 @@ use Rattle.dm_append_label.specs.declared.fault.LabelFault.{LabelFault}
 use Rattle.dm_append_label.specs.declared.fault.LabelFault.TheVariants as labels
 use Rattle.dm_append_label.specs.declared.opening.Opened.{Opened}
 use Rattle.dm_pbm_io.specs.SymbolImage.{p4}
-use Rattle.dm_store.specs.Saved.{Saved}
 use Rattle.dm_assembly_desk.specs.Documents.{Documents, count_at, page_at}
 use Rattle.dm_assembly_desk.specs.Views.{DeskView}
 use Rattle.dm_assembly_desk.specs.declared.limits.TheConstants.{MOST_CAPACITY}
-use Rattle.relay_streams.specs.Streams.{OutputView}
 use Rattle.relay_shared.specs.Refusals.{refusal_name}
 use Rattle.relay_shared.specs.declared.refusal.Refusal.TheVariants as refusals
-use Rattle.relay_shared.specs.Telling.{TellsRefusal}
-use Rattle.relay_desk_commands.specs.Desks.{DeskFiles, HasId, HasNoDesk, IsTextOfId, OpensDesk, TellsBytes}
+use Rattle.relay_shared.specs.Surroundings.{RefusesOnErrors}
+use Rattle.relay_desk_commands.specs.Desks.{HasId, HasNoDesk, IsTextOfId, OnDesk, OpensDesk, TellsBytes}
 use Rattle.relay_desk_commands.specs.declared.copy.CopyFault.{CopyFault}
 use Rattle.relay_desk_commands.specs.declared.copy.CopyFault.TheVariants.{NotHeld, Incomplete, TooLong, Memory}
+use Rattle.relay_desk_commands.specs.declared.copy.CopyOptions.{CopyOptions}
+use Rattle.relay_desk_commands.specs.declared.copy.LabelForm.{LabelForm}
+use Rattle.relay_desk_commands.specs.declared.copy.AskedPage.{AskedPage}
 
 -- ---- the label
 
--- the page is page m of the document of this identification, as it is held
-pub record IsPageHeld (held : Documents) (id m : ℕ) (page : PageView) : Type 0 where
-  pub id_is : page.id ≡ id
-  pub m_is : page.m ≡ m
-  pub n_is : page.n ≡ count_at held id
-  pub bytes_are : page_at held id m ≡ Some page.bytes
+-- the page is the one that is asked for, as it is held
+pub record IsPageHeld (held : Documents) (asked : AskedPage) (page : PageView) : Type 0 where
+  pub id_is : page.id ≡ asked.id
+  pub m_is : page.m ≡ asked.m
+  pub n_is : page.n ≡ count_at held asked.id
+  pub bytes_are : page_at held asked.id asked.m ≡ Some page.bytes
 
--- the grid is the label of a page, of this size and in this encodation, which has room for it; and it carries the page
-pub record IsLabelOf (size : Size) (scheme : Scheme) (page : PageView) (grid : GridView) : Type 0 where
-  pub fits : Fits size scheme page.bytes
-  pub sealed : Seals size scheme page grid
+-- the grid is the label of a page in this form, which has room for it; and it carries the page
+pub record IsLabelOf (form : LabelForm) (page : PageView) (grid : GridView) : Type 0 where
+  pub fits : Fits form.size form.scheme page.bytes
+  pub sealed : Seals form.size form.scheme page grid
   pub carries : Carries page grid
 
--- the grid is the label of page m of the document of this identification, as it is held
-pub record Copies (held : Documents) (id m : ℕ) (size : Size) (scheme : Scheme) (grid : GridView) : Type 0 where
+-- the grid is the label, in this form, of the page that is asked for, as it is held
+pub record Copies (held : Documents) (asked : AskedPage) (form : LabelForm) (grid : GridView) : Type 0 where
   pub page : PageView
-  pub is_held : IsPageHeld held id m page
-  pub label : IsLabelOf size scheme page grid
+  pub is_held : IsPageHeld held asked page
+  pub label : IsLabelOf form page grid
 
 -- why there is no such label, or no image of it: the first, in this order, that applies
-abbrev pub HasCopyFault : Documents → ℕ → ℕ → Size → Scheme → CopyFault → Type 0
-HasCopyFault held id m size scheme NotHeld = map.get held id ≡ None
-HasCopyFault held id m size scheme Incomplete = IsSome (map.get held id) × (page_at held id m ≡ None)
-HasCopyFault held id m size scheme TooLong = IsSomeAnd (page_at held id m) (λ bytes. IsTooLong size scheme bytes)
-HasCopyFault held id m size scheme Memory = IsSomeAnd (page_at held id m) (λ bytes. Fits size scheme bytes)
+abbrev pub HasCopyFault : Documents → AskedPage → LabelForm → CopyFault → Type 0
+HasCopyFault held asked form NotHeld = map.get held asked.id ≡ None
+HasCopyFault held asked form Incomplete = IsSome (map.get held asked.id) × (page_at held asked.id asked.m ≡ None)
+HasCopyFault held asked form TooLong =
+    IsSomeAnd (page_at held asked.id asked.m) (λ bytes. IsTooLong form.size form.scheme bytes)
+HasCopyFault held asked form Memory =
+    IsSomeAnd (page_at held asked.id asked.m) (λ bytes. Fits form.size form.scheme bytes)
 
 -- the names of these reasons, as they are printed
 abbrev pub copy_fault_name : CopyFault → List ℕ
@@ -60,43 +61,47 @@ copy_fault_name Memory = codes "Memory"
 
 -- ---- the command
 
--- How `copy` ends, from the files and two outputs to the exit status, the files and the outputs: the image of the label
--- goes out; or, in this order, the text is no identification's, the side is none, there is no desk, or there is a named
--- reason why there is no label.
-pub data EndsCopy (before : DeskFiles) (text : List ℕ) (m n : ℕ) (scheme : Scheme) (old old_errors : OutputView)
-    : ℕ → DeskFiles → OutputView → OutputView → Type 0 where
-  no_id : {status : ℕ} {errors : OutputView} → ¬ HasId text
-      → TellsRefusal (refusal_name refusals.FileId) old_errors errors status
-      → EndsCopy before text m n scheme old old_errors status before old errors
-  no_side : {status : ℕ} {errors : OutputView} → HasId text → ¬ IsSide n
-      → TellsRefusal (refusal_name refusals.Side) old_errors errors status
-      → EndsCopy before text m n scheme old old_errors status before old errors
-  no_desk : {status : ℕ} {after : DeskFiles} {errors : OutputView} → HasId text → IsSide n
-      → HasNoDesk before MOST_CAPACITY old_errors status after errors
-      → EndsCopy before text m n scheme old old_errors status after old errors
-  copied : {status : ℕ} {new errors : OutputView} (id : ℕ) (size : Size) (joint : Saved) (desk : DeskView)
-      (grid : GridView) → HasId text → IsTextOfId text id → side size ≡ n → OpensDesk before MOST_CAPACITY joint desk
-      → Copies desk.held id m size scheme grid → TellsBytes (p4 grid) old old_errors status new errors
-      → EndsCopy before text m n scheme old old_errors status (record { joint = joint; set = desk.saved }) new errors
-  refused : {status : ℕ} {errors : OutputView} (id : ℕ) (size : Size) (joint : Saved) (desk : DeskView)
-      (fault : CopyFault) → HasId text → IsTextOfId text id → side size ≡ n → OpensDesk before MOST_CAPACITY joint desk
-      → HasCopyFault desk.held id m size scheme fault → TellsRefusal (copy_fault_name fault) old_errors errors status
-      → EndsCopy before text m n scheme old old_errors status (record { joint = joint; set = desk.saved }) old errors
+-- the page and the form of its label that are asked for
+pub record IsAsked (options : CopyOptions) (asked : AskedPage) (form : LabelForm) : Type 0 where
+  pub has_id : HasId options.id.now
+  pub id_is : IsTextOfId options.id.now asked.id
+  pub m_is : asked.m ≡ options.page
+  pub side_is : side form.size ≡ options.side
+  pub scheme_is : form.scheme ≡ options.scheme
+
+-- How `copy` ends: the image of the label goes out; or, in this order, the text is no identification's, the side is
+-- none, there is no desk, or there is a named reason why there is no label.
+pub data EndsCopy (options : CopyOptions) (old : OnDesk) (status : ℕ) (new : OnDesk) : Type 0 where
+  no_id : ¬ HasId options.id.now → new.files ≡ old.files
+      → RefusesOnErrors (refusal_name refusals.FileId) old.streams status new.streams → EndsCopy options old status new
+  no_side : HasId options.id.now → ¬ IsSide options.side → new.files ≡ old.files
+      → RefusesOnErrors (refusal_name refusals.Side) old.streams status new.streams → EndsCopy options old status new
+  no_desk : (name : List ℕ) → HasId options.id.now → IsSide options.side
+      → HasNoDesk old.files MOST_CAPACITY name new.files → RefusesOnErrors name old.streams status new.streams
+      → EndsCopy options old status new
+  copied : (asked : AskedPage) (form : LabelForm) (desk : DeskView) (grid : GridView) → IsAsked options asked form
+      → OpensDesk old.files MOST_CAPACITY new.files.joint desk → new.files.set ≡ desk.saved
+      → Copies desk.held asked form grid → TellsBytes (p4 grid) old.streams status new.streams
+      → EndsCopy options old status new
+  refused : (asked : AskedPage) (form : LabelForm) (desk : DeskView) (fault : CopyFault) → IsAsked options asked form
+      → OpensDesk old.files MOST_CAPACITY new.files.joint desk → new.files.set ≡ desk.saved
+      → HasCopyFault desk.held asked form fault
+      → RefusesOnErrors (copy_fault_name fault) old.streams status new.streams → EndsCopy options old status new
 
 -- ---- what a copy opens as
 
--- what was opened is page m as it is held, and no word and no module of a finder pattern was wrong; only memory can be
--- refused
-abbrev pub OpensAsHeld : {A : Type 0} → Documents → ℕ → ℕ → Result (Opened A) LabelFault → Type 0
-OpensAsHeld held id m (Ok opened) = IsPageHeld held id m opened.page × (opened.corrected ≡ 0) × (opened.wrong ≡ 0)
-OpensAsHeld held id m (Err labels.Memory) = Unit {0}
-OpensAsHeld held id m (Err (labels.Border wrong)) = ⊥
-OpensAsHeld held id m (Err (labels.Block block)) = ⊥
-OpensAsHeld held id m (Err labels.NotAppended) = ⊥
-OpensAsHeld held id m (Err (labels.Sequence word)) = ⊥
-OpensAsHeld held id m (Err labels.FileId) = ⊥
-OpensAsHeld held id m (Err (labels.Content fault)) = ⊥
+-- what was opened is the page that is asked for, as it is held, and no word and no module of a finder pattern was
+-- wrong; only memory can be refused
+abbrev pub OpensAsHeld : {A : Type 0} → Documents → AskedPage → Result (Opened A) LabelFault → Type 0
+OpensAsHeld held asked (Ok opened) = IsPageHeld held asked opened.page × (opened.corrected ≡ 0) × (opened.wrong ≡ 0)
+OpensAsHeld held asked (Err labels.Memory) = Unit {0}
+OpensAsHeld held asked (Err (labels.Border wrong)) = ⊥
+OpensAsHeld held asked (Err (labels.Block block)) = ⊥
+OpensAsHeld held asked (Err labels.NotAppended) = ⊥
+OpensAsHeld held asked (Err (labels.Sequence word)) = ⊥
+OpensAsHeld held asked (Err labels.FileId) = ⊥
+OpensAsHeld held asked (Err (labels.Content fault)) = ⊥
 
--- if a page was opened, it is page m as it is held, and no other
-abbrev pub OpensAsNoOther : {A : Type 0} → Documents → ℕ → ℕ → Result (Opened A) LabelFault → Type 0
-OpensAsNoOther held id m result = IfOk result (λ opened. IsPageHeld held id m opened.page)
+-- if a page was opened, it is the page that is asked for as it is held, and no other
+abbrev pub OpensAsNoOther : {A : Type 0} → Documents → AskedPage → Result (Opened A) LabelFault → Type 0
+OpensAsNoOther held asked result = IfOk result (λ opened. IsPageHeld held asked opened.page)

@@ -1,5 +1,6 @@
 -- What `held` prints: what the files of a desk hold, file by file, without a desk. It changes no file.
-use Rattle.std.specs.Prelude.{◌≡◌, ◌≤◌, ◌⊎◌, ◌||◌, ◌++◌, ◌+◌, ℕ, Bool, true, false, List, [], Option, Some, None, is_some, Result, Ok, Err, IsTrue, IsSomeAnd, if◌then◌else◌}
+use Rattle.std.specs.Prelude.{◌≡◌, ◌≤◌, ◌⊎◌, ◌||◌, ◌++◌, ◌+◌, ℕ, Bool, true, List, [], if◌then◌else◌}
+use Rattle.std.specs.Prelude.{Option, Some, None, Result, Ok, Err, is_err, IsTrue, IsSomeAnd}
 use Rattle.std.specs.FinMap as map
 use Rattle.dm_store.specs.Saved.{Saved, LoadsOpen}
 use Rattle.dm_store.specs.Sets.{SavedSet}
@@ -15,14 +16,28 @@ use Rattle.dm_assembly_desk.specs.declared.fault.HeldFault.TheVariants as looks
 use Rattle.dm_assembly_desk.specs.declared.fault.MoveFault.{MoveFault}
 use Rattle.dm_assembly_desk.specs.declared.fault.MoveFault.TheVariants as moves
 use Rattle.dm_assembly_desk.specs.declared.reply.Held.{Held}
+use Rattle.relay_streams.specs.Refusal.{refused_line}
 use Rattle.relay_streams.specs.Streams.{AppendsPart, OutputView}
 use Rattle.relay_shared.specs.HeldLines.{held_line, unsound_joint_line, unsound_line}
 use Rattle.relay_shared.specs.Refusals.{refusal_name}
 use Rattle.relay_shared.specs.declared.refusal.Refusal.TheVariants as refusals
+use Rattle.relay_shared.specs.Surroundings.{OnlyOutput, RefusesOnOutput}
 use Rattle.relay_shared.specs.Telling.{Tells, TellsRefusal}
-use Rattle.relay_desk_commands.specs.Desks.{DeskFiles, HasId, IsTextOfId}
+use Rattle.relay_desk_commands.specs.Desks.{DeskFiles, HasId, IsTextOfId, OnDesk}
 
 -- ---- what is seen
+
+-- The set of a desk, and what the file of an older version gives: its documents, if there is such a file, or why it is
+-- not sound.
+pub record SeenFiles : Type 0 where
+  pub set : SavedSet
+  pub joint : Result (Option Documents) MoveFault
+
+-- its documents: none if there is no such file, or if it is not sound
+abbrev pub documents_in : Result (Option Documents) MoveFault → Documents
+documents_in (Ok None) = map.empty
+documents_in (Ok (Some documents)) = documents
+documents_in (Err fault) = map.empty
 
 -- why nobody can say what the file of an older version holds
 abbrev pub HasJointUnsound : Saved → MoveFault → Type 0
@@ -35,10 +50,15 @@ HasJointUnsound saved moves.Version =
 HasJointUnsound saved moves.Damaged =
     IsTrue saved.is_honest → IsSomeAnd saved.content (λ bytes. HasJointFileFault bytes moves.Damaged)
 
--- the documents of the file of an older version, or none and why it is not sound
-abbrev pub SeesJoint : Saved → Documents → Option MoveFault → Type 0
-SeesJoint saved joint None = IsTrue saved.is_honest → HoldsJointFile saved.content joint
-SeesJoint saved joint (Some fault) = HasJointUnsound saved fault × (joint ≡ map.empty)
+-- what was found of the file of an older version is true of it
+abbrev pub SeesJoint : Saved → Result (Option Documents) MoveFault → Type 0
+SeesJoint saved (Ok found) = IsTrue saved.is_honest → HoldsJointFile saved.content (documents_in (Ok found))
+SeesJoint saved (Err fault) = HasJointUnsound saved fault
+
+-- what was found of the files of a desk is true of them
+pub record SeesFiles (files : DeskFiles) (seen : SeenFiles) : Type 0 where
+  pub set_is : seen.set ≡ files.set
+  pub joint_is : SeesJoint files.joint seen.joint
 
 -- What is seen of the document of a number: that of its own file, if there is one, or else what the file of an older
 -- version has of it.
@@ -58,23 +78,18 @@ seen_line number (Ok None) = []
 seen_line number (Ok (Some held)) = held_line held
 seen_line number (Err fault) = unsound_line number (held_fault_name fault)
 
--- whether the line is of a file that is not sound
-abbrev pub is_unsound : Result (Option Held) HeldFault → Bool
-is_unsound (Ok _) = false
-is_unsound (Err _) = true
-
 -- the line of the file of an older version, if it is not sound
-abbrev pub joint_line : Option MoveFault → List ℕ
-joint_line None = []
-joint_line (Some fault) = unsound_joint_line (move_fault_name fault)
+abbrev pub joint_line : Result (Option Documents) MoveFault → List ℕ
+joint_line (Ok _) = []
+joint_line (Err fault) = unsound_joint_line (move_fault_name fault)
 
 -- the lines of the numbers below this one, as they rise, after that of the file of an older version; and whether one of
 -- them is of a file that is not sound
-pub data Lists (set : SavedSet) (joint : Documents) (fault : Option MoveFault) : ℕ → List ℕ → Bool → Type 0 where
-  begun : Lists set joint fault 0 (joint_line fault) (is_some fault)
-  further : {number : ℕ} {text : List ℕ} {unsound : Bool} (seen : Result (Option Held) HeldFault)
-      → Lists set joint fault number text unsound → SeesNumber set joint number seen
-      → Lists set joint fault (number + 1) (text ++ seen_line number seen) (unsound || is_unsound seen)
+pub data Lists (seen : SeenFiles) : ℕ → List ℕ → Bool → Type 0 where
+  begun : Lists seen 0 (joint_line seen.joint) (is_err seen.joint)
+  further : {number : ℕ} {text : List ℕ} {unsound : Bool} (found : Result (Option Held) HeldFault)
+      → Lists seen number text unsound → SeesNumber seen.set (documents_in seen.joint) number found
+      → Lists seen (number + 1) (text ++ seen_line number found) (unsound || is_err found)
 
 -- the exit status: 1 if a line is of a file that is not sound
 abbrev pub status_by : Bool → ℕ
@@ -90,38 +105,43 @@ HasNoKeys set looks.Damaged = ⊥
 
 -- What `held` says of all documents: each line was written; or the output has failed, and a part of some first lines is
 -- out; or the keys of the files could not be had.
-pub data TellsAll (set : SavedSet) (joint : Documents) (fault : Option MoveFault) (old : OutputView) (status : ℕ)
-    (new : OutputView) : Type 0 where
-  listed : (text : List ℕ) (unsound : Bool) → Lists set joint fault 65536 text unsound
-      → Tells text (status_by unsound) old new status → TellsAll set joint fault old status new
-  cut_off : (number : ℕ) (text : List ℕ) (unsound : Bool) → Lists set joint fault number text unsound
-      → number ≤ 65536 → new.has_failed ≡ true → AppendsPart old.contents new.contents text → status ≡ 1
-      → TellsAll set joint fault old status new
-  no_keys : (why : HeldFault) → HasNoKeys set why → TellsRefusal (held_fault_name why) old new status
-      → TellsAll set joint fault old status new
+pub data TellsAll (seen : SeenFiles) (old : OutputView) (status : ℕ) (new : OutputView) : Type 0 where
+  listed : (text : List ℕ) (unsound : Bool) → Lists seen 65536 text unsound
+      → Tells text (status_by unsound) old new status → TellsAll seen old status new
+  cut_off : (number : ℕ) (text : List ℕ) (unsound : Bool) → Lists seen number text unsound → number ≤ 65536
+      → new.has_failed ≡ true → AppendsPart old.contents new.contents text → status ≡ 1
+      → TellsAll seen old status new
+  no_keys : (why : HeldFault) → HasNoKeys seen.set why → TellsRefusal (held_fault_name why) old new status
+      → TellsAll seen old status new
 
 -- The line of what was found of one document. If nothing is held of it, that is refused, unless the file of an older
 -- version is not sound, which may have held it.
-abbrev pub TellsFound : Option MoveFault → Option Held → OutputView → ℕ → OutputView → Type 0
-TellsFound fault (Some held) old status new = Tells (held_line held) 0 old new status
-TellsFound None None old status new = TellsRefusal (ask_fault_name asks.NotHeld) old new status
-TellsFound (Some fault) None old status new = Tells (unsound_joint_line (move_fault_name fault)) 1 old new status
+abbrev pub found_line : Result (Option Documents) MoveFault → Option Held → List ℕ
+found_line joint (Some held) = held_line held
+found_line (Ok _) None = refused_line (ask_fault_name asks.NotHeld)
+found_line (Err fault) None = unsound_joint_line (move_fault_name fault)
 
--- the line of what was seen of one number
-abbrev pub TellsSeen : ℕ → Option MoveFault → Result (Option Held) HeldFault → OutputView → ℕ → OutputView → Type 0
-TellsSeen number fault (Ok found) old status new = TellsFound fault found old status new
-TellsSeen number fault (Err unsound) old status new =
-    Tells (unsound_line number (held_fault_name unsound)) 1 old new status
+-- the line of one document that is asked for, by what was seen of its number
+abbrev pub asked_line : Result (Option Documents) MoveFault → ℕ → Result (Option Held) HeldFault → List ℕ
+asked_line joint number (Ok found) = found_line joint found
+asked_line joint number (Err fault) = unsound_line number (held_fault_name fault)
+
+-- the exit status after it: 0 if a page is held
+abbrev pub asked_status : Result (Option Held) HeldFault → ℕ
+asked_status (Ok (Some held)) = 0
+asked_status (Ok None) = 1
+asked_status (Err fault) = 1
 
 -- what `held` says of one document
-abbrev pub TellsOne : SavedSet → Documents → Option MoveFault → ℕ → OutputView → ℕ → OutputView → Type 0
-TellsOne set joint fault id old status new =
-    (seen : Result (Option Held) HeldFault) × SeesNumber set joint id seen × TellsSeen id fault seen old status new
+abbrev pub TellsOne : SeenFiles → ℕ → OutputView → ℕ → OutputView → Type 0
+TellsOne seen id old status new = (found : Result (Option Held) HeldFault)
+    × SeesNumber seen.set (documents_in seen.joint) id found
+    × Tells (asked_line seen.joint id found) (asked_status found) old new status
 
 -- what `held` says of one document, or of all
-abbrev pub TellsHeld : Option ℕ → SavedSet → Documents → Option MoveFault → OutputView → ℕ → OutputView → Type 0
-TellsHeld None set joint fault old status new = TellsAll set joint fault old status new
-TellsHeld (Some id) set joint fault old status new = TellsOne set joint fault id old status new
+abbrev pub TellsHeld : SeenFiles → Option ℕ → OutputView → ℕ → OutputView → Type 0
+TellsHeld seen None old status new = TellsAll seen old status new
+TellsHeld seen (Some id) old status new = TellsOne seen id old status new
 
 -- the identification that is asked for, if one is
 abbrev pub AsksFor : Option (List ℕ) → Option ℕ → Type 0
@@ -132,10 +152,9 @@ AsksFor (Some text) (Some id) = HasId text × IsTextOfId text id
 
 -- How `held` ends: it tells what is held of the document that is asked for, or of all; or the text is no
 -- identification's.
-pub data EndsHeld (files : DeskFiles) (text : Option (List ℕ)) (old : OutputView) (status : ℕ) (new : OutputView)
-    : Type 0 where
-  no_id : IsSomeAnd text (λ asked. ¬ HasId asked) → TellsRefusal (refusal_name refusals.FileId) old new status
-      → EndsHeld files text old status new
-  told : (id : Option ℕ) (joint : Documents) (fault : Option MoveFault) → AsksFor text id
-      → SeesJoint files.joint joint fault → TellsHeld id files.set joint fault old status new
-      → EndsHeld files text old status new
+pub data EndsHeld (text : Option (List ℕ)) (old : OnDesk) (status : ℕ) (new : OnDesk) : Type 0 where
+  no_id : IsSomeAnd text (λ asked. ¬ HasId asked) → new.files ≡ old.files
+      → RefusesOnOutput (refusal_name refusals.FileId) old.streams status new.streams → EndsHeld text old status new
+  told : (id : Option ℕ) (seen : SeenFiles) → AsksFor text id → SeesFiles old.files seen
+      → TellsHeld seen id old.streams.output status new.streams.output → OnlyOutput old.streams new.streams
+      → new.files ≡ old.files → EndsHeld text old status new

@@ -6,7 +6,6 @@ use Rattle.dm_pbm_io.specs.FaultNames.{shape_fault_name}
 use Rattle.dm_pbm_io.specs.Image.{Picture}
 use Rattle.dm_pbm_io.specs.SymbolImage.{HasShape, IsGridInside}
 use Rattle.dm_pbm_io.specs.declared.fault.ShapeFault.TheVariants.{Shape, Memory}
-use Rattle.dm_store.specs.Saved.{Saved}
 use Rattle.dm_assembly_desk.specs.Accepting.{AcceptsGrid}
 use Rattle.dm_assembly_desk.specs.Documents.{KeepsPages}
 use Rattle.dm_assembly_desk.specs.FaultNames.{scan_fault_name}
@@ -14,10 +13,10 @@ use Rattle.dm_assembly_desk.specs.Views.{DeskView, IsInOrder}
 use Rattle.dm_assembly_desk.specs.declared.fault.ScanFault.{ScanFault}
 use Rattle.dm_assembly_desk.specs.declared.reply.Accepted.{Accepted}
 use Rattle.relay_streams.specs.Refusal.{refused_line}
-use Rattle.relay_streams.specs.Streams.{InputView, OutputView}
 use Rattle.relay_shared.specs.DeskLines.{accepted_line}
-use Rattle.relay_desk_commands.specs.Desks.{DeskFiles, HasNoDesk, OpensDesk}
 use Rattle.relay_shared.specs.EachImage.{ImageCommand, TellsImages}
+use Rattle.relay_shared.specs.Surroundings.{RefusesOnOutput}
+use Rattle.relay_desk_commands.specs.Desks.{HasNoDesk, OnDesk, OpensDesk}
 
 -- ---- one image
 
@@ -42,20 +41,15 @@ scan_images A = record {
 
 -- ---- the command
 
--- The whole input was scanned, or the output has refused a line and the images up to that were. Either way each
--- page that was held is held with the same bytes, and what the desk holds is in order with its set.
-pub record TellsScan (A : Type 0) (before : DeskView) (input rest : InputView) (old : OutputView) (status : ℕ)
-    (after : DeskView) (new : OutputView) : Type 0 where
-  pub told : TellsImages (scan_images A) before input rest old status after new
-  pub kept : KeepsPages before.held after.held
-  pub in_order : IsInOrder after
-
--- how `scan` ends: the desk was opened before anything was read, and has answered; or there is no desk
-pub data EndsScan (A : Type 0) (before : DeskFiles) (capacity : ℕ) (input rest : InputView) (old : OutputView)
-    : ℕ → DeskFiles → OutputView → Type 0 where
-  no_desk : {status : ℕ} {after : DeskFiles} {new : OutputView} → HasNoDesk before capacity old status after new
-      → rest ≡ input → EndsScan A before capacity input rest old status after new
-  opened : {status : ℕ} {new : OutputView} (joint : Saved) (desk after : DeskView) →
-      OpensDesk before capacity joint desk
-      → TellsScan A desk input rest old status after new
-      → EndsScan A before capacity input rest old status (record { joint = joint; set = after.saved }) new
+-- How `scan` ends: there is no desk, and nothing was read; or the desk was opened before anything was read, and the
+-- whole input was scanned, or the output has refused a line and the images up to that were. Either way each page that
+-- was held is held with the same bytes, what the desk holds is in order with its set, and nothing was written to the
+-- standard error.
+pub data EndsScan (A : Type 0) (capacity : ℕ) (old : OnDesk) (status : ℕ) (new : OnDesk) : Type 0 where
+  no_desk : (name : List ℕ) → HasNoDesk old.files capacity name new.files
+      → RefusesOnOutput name old.streams status new.streams → EndsScan A capacity old status new
+  opened : (desk after : DeskView) → OpensDesk old.files capacity new.files.joint desk
+      → TellsImages (scan_images A) desk old.streams.input new.streams.input old.streams.output status after
+      new.streams.output
+      → KeepsPages desk.held after.held → IsInOrder after → new.files.set ≡ after.saved
+      → new.streams.errors ≡ old.streams.errors → EndsScan A capacity old status new

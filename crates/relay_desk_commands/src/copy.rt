@@ -21,10 +21,9 @@ use dm_encodation::{Scheme, need};
 use dm_finder_frame::Grid;
 use dm_pbm_io::{Image, image_of};
 use dm_store::{Store, StoreSet};
-use relay_shared::{EndedDesk, Refusal, refuse};
-use relay_streams::Output;
+use relay_shared::{EndedDesk, Refusal, Streams, refuse};
 use std::alloc::{AllocError, Allocator};
-use std::io::Write;
+use std::io::{Read, Write};
 
 /// Which page is copied, and in what form.
 #[derive(Clone, Copy, Debug, PartialEq, Eq)]
@@ -37,6 +36,24 @@ pub struct CopyOptions<'a> {
     pub side: u16,
     /// The encodation of the label.
     pub scheme: Scheme,
+}
+
+/// Which page of which document is copied.
+#[derive(Clone, Copy)]
+pub(crate) struct AskedPage {
+    /// The identification of the document.
+    pub(crate) id: FileId,
+    /// Which page it is, if the document has as many.
+    pub(crate) m: u16,
+}
+
+/// The size and the encodation of a label.
+#[derive(Clone, Copy)]
+pub(crate) struct LabelForm {
+    /// Its size.
+    pub(crate) size: Size,
+    /// Its encodation.
+    pub(crate) scheme: Scheme,
 }
 
 /// Why a page isn't copied: the first of these, in this order, that applies.
@@ -113,51 +130,50 @@ fn label_of<A: Allocator + Copy>(
     alloc: A,
     bytes: &[u8],
     number: PageNumber,
-    form: (Size, Scheme),
+    form: LabelForm,
 ) -> Result<Grid<A>, AllocError>
-    requires fits { Fits form.0 form.1 bytes.now }
+    requires fits { Fits form.size form.scheme bytes.now }
     requires least { 2 ≤ number.n }
     requires most { number.n ≤ 16 }
     requires first { 1 ≤ number.m }
     requires last { number.m ≤ number.n }
-    ensures { IfOk result (IsLabelOf form.0 form.1
+    ensures { IfOk result (IsLabelOf form
         (record { id = number.id; m = number.m; n = number.n; bytes = bytes.now })) }
 {
     let bytes = bytes.to_vec(alloc)?;
     let Some(page) = Page::new(number.id, number.m, number.n, bytes) else {
         unreachable!()
     };
-    match seal(alloc, &page, form.0, form.1) {
+    match seal(alloc, &page, form.size, form.scheme) {
         Ok(grid) => Ok(grid),
         Err(SealFault::TooLong) => unreachable!(),
         Err(SealFault::Memory) => Err(AllocError),
     }
 }
 
-// The label of page m of a document, as the desk holds it.
+// The label of the page that is asked for, as the desk holds it.
 fn copy_of<A: Allocator + Copy, T: StoreSet>(
     alloc: A,
     desk: &Desk<T, A>,
-    id: FileId,
-    m: u16,
-    form: (Size, Scheme),
+    asked: AskedPage,
+    form: LabelForm,
 ) -> Result<Grid<A>, CopyFault>
     ensures { MatchResult result
-        (λ grid. Copies desk.now.held id m form.0 form.1 grid)
-        (λ fault. HasCopyFault desk.now.held id m form.0 form.1 fault) }
+        (λ grid. Copies desk.now.held asked form grid)
+        (λ fault. HasCopyFault desk.now.held asked form fault) }
 {
-    let Some(pages) = desk.pages(id) else {
+    let Some(pages) = desk.pages(asked.id) else {
         return Err(CopyFault::NotHeld);
     };
-    let Some(bytes) = held_page(&pages, m) else {
+    let Some(bytes) = held_page(&pages, asked.m) else {
         return Err(CopyFault::Incomplete);
     };
-    if !has_room(form.0, form.1, bytes) {
+    if !has_room(form.size, form.scheme, bytes) {
         return Err(CopyFault::TooLong);
     }
     let number = PageNumber {
-        id,
-        m: m as u8,
+        id: asked.id,
+        m: asked.m as u8,
         n: pages.n(),
     };
     Ok(label_of(alloc, bytes, number, form)?)
@@ -167,66 +183,71 @@ fn copy_of<A: Allocator + Copy, T: StoreSet>(
 fn image_of_copy<A: Allocator + Copy, T: StoreSet>(
     alloc: A,
     desk: &Desk<T, A>,
-    id: FileId,
-    m: u16,
-    form: (Size, Scheme),
+    asked: AskedPage,
+    form: LabelForm,
 ) -> Result<Image<A>, CopyFault>
     ensures result { MatchResult result
-        (λ image. (grid : GridView) × Copies desk.now.held id m form.0 form.1 grid
+        (λ image. (grid : GridView) × Copies desk.now.held asked form grid
         × (picture image ≡ image_with_quiet_zone grid false))
-        (λ fault. HasCopyFault desk.now.held id m form.0 form.1 fault) }
+        (λ fault. HasCopyFault desk.now.held asked form fault) }
     ensures count { IfOk result (λ image. length image.pixels.items ≡ image.width * image.height) }
 {
-    let grid = copy_of(alloc, desk, id, m, form)?;
+    let grid = copy_of(alloc, desk, asked, form)?;
     Ok(image_of(alloc, &grid, false)?)
 }
 
 // Writes an image, and gives the exit status; where the output has refused it, the line of that goes to `errors`.
-fn put_image<A: Allocator, W: Write, E: Write>(
-    output: &mut Output<W>,
-    errors: &mut Output<E>,
+fn put_image<A: Allocator, R: Read, W: Write, E: Write>(
+    streams: &mut Streams<R, W, E>,
     image: &Image<A>,
 ) -> u8
     requires { length image.now.pixels.items ≡ image.now.width * image.now.height }
-    ensures { TellsBytes (written (picture image.now)) output.old errors.old result output.new errors.new }
+    ensures { TellsBytes (written (picture image.now)) streams.old result streams.new }
 {
-    match image.write(output) {
+    match image.write(&mut streams.output) {
         Ok(()) => 0,
-        Err(fault) => refuse(errors, fault.name()),
+        Err(fault) => refuse(&mut streams.errors, fault.name()),
     }
 }
 
 /// Writes the label of a page again, as a packed image, and nothing else: that of the page that the desk holds, so that
 /// whatever opens it gathers the same document. A refusal is a line on `errors`. The identification's text is looked at
 /// first, then the side, then the files.
-pub fn copy_command<A: Allocator + Copy, S: Store, T: StoreSet, W: Write, E: Write>(
+pub fn copy_command<A: Allocator + Copy, S: Store, T: StoreSet, R: Read, W: Write, E: Write>(
     alloc: A,
     store: S,
     set: T,
-    output: &mut Output<W>,
-    errors: &mut Output<E>,
+    streams: &mut Streams<R, W, E>,
     options: CopyOptions,
 ) -> EndedDesk<S, T>
-    ensures { EndsCopy (record { joint = S.state store; set = T.state set }) options.entry.id.now options.entry.page
-        options.entry.side options.entry.scheme output.old errors.old result.status
-        (record { joint = S.state result.store; set = T.state result.set }) output.new errors.new }
+    ensures { EndsCopy options.entry
+        (record { files = record { joint = S.state store; set = T.state set }; streams = streams.old })
+        result.status
+        (record { files = record { joint = S.state result.store; set = T.state result.set }; streams = streams.new }) }
 {
     let Some(id) = id_of(options.id) else {
-        let status = refuse(errors, Refusal::FileId.name());
+        let status = refuse(&mut streams.errors, Refusal::FileId.name());
         return EndedDesk { status, store, set };
     };
     let Some(size) = Size::of_side(options.side) else {
-        let status = refuse(errors, Refusal::Side.name());
+        let status = refuse(&mut streams.errors, Refusal::Side.name());
         return EndedDesk { status, store, set };
     };
-    let opened = match open_desk(alloc, store, set, errors, MOST_CAPACITY) {
+    let opened = match open_desk(alloc, store, set, &mut streams.errors, MOST_CAPACITY) {
         Ok(opened) => opened,
         Err(ended) => return ended,
     };
-    let form = (size, options.scheme);
-    let status = match image_of_copy(alloc, &opened.desk, id, options.page, form) {
-        Ok(image) => put_image(output, errors, &image),
-        Err(reason) => refuse(errors, reason.name()),
+    let asked = AskedPage {
+        id,
+        m: options.page,
+    };
+    let form = LabelForm {
+        size,
+        scheme: options.scheme,
+    };
+    let status = match image_of_copy(alloc, &opened.desk, asked, form) {
+        Ok(image) => put_image(streams, &image),
+        Err(reason) => refuse(&mut streams.errors, reason.name()),
     };
     opened.end(status)
 }

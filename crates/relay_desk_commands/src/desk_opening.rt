@@ -1,8 +1,9 @@
 //! The desk that a command works with.
 
-ghost use Rattle.std.specs.Prelude.{◌≡◌, MatchResult};
+ghost use Rattle.std.specs.Prelude.{◌≡◌, ℕ, List, MatchResult};
 ghost use Rattle.dm_assembly_desk.specs.Lasting.{IsKept};
 ghost use Rattle.dm_assembly_desk.specs.Views.{IsInOrder};
+ghost use Rattle.relay_shared.specs.Telling.{TellsRefusal};
 ghost use Rattle.relay_desk_commands.specs.Desks.{HasNoDesk, OpensDesk};
 
 use dm_assembly_desk::{Desk, DeskRefused, move_pages};
@@ -48,8 +49,9 @@ pub(crate) fn open_desk<A: Allocator + Copy, S: Store, T: StoreSet, W: Write>(
     ensures { MatchResult result
         (λ opened. OpensDesk (record { joint = S.state store; set = T.state set }) capacity (S.state opened.store)
         opened.desk × (output.new ≡ output.old) × IsInOrder opened.desk)
-        (λ ended. HasNoDesk (record { joint = S.state store; set = T.state set }) capacity output.old ended.status
-        (record { joint = S.state ended.store; set = T.state ended.set }) output.new) }
+        (λ ended. (name : List ℕ) × HasNoDesk (record { joint = S.state store; set = T.state set }) capacity name
+        (record { joint = S.state ended.store; set = T.state ended.set })
+        × TellsRefusal name output.old output.new ended.status) }
 {
     let mut store = store;
     let mut set = set;

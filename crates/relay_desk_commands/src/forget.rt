@@ -1,6 +1,8 @@
 //! `relay forget`: a document let go.
 
-ghost use Rattle.std.specs.Prelude.{◌≡◌, false};
+ghost use Rattle.std.specs.Prelude.{◌≡◌, false, Result};
+ghost use Rattle.dm_assembly_desk.specs.Forgetting.{Forgets};
+ghost use Rattle.dm_assembly_desk.specs.declared.fault.ForgetFault.{ForgetFault};
 ghost use Rattle.relay_desk_commands.specs.Desks.{EndsForget, TellsForget};
 ghost use Rattle.relay_desk_commands.specs.Lasting.{LeavesFiles};
 
@@ -9,10 +11,10 @@ use crate::file_id::id_of;
 use dm_append_label::FileId;
 use dm_assembly_desk::{Desk, MOST_CAPACITY};
 use dm_store::{Store, StoreSet};
-use relay_shared::{EndedDesk, Refusal, put_forgotten, refuse, status_after};
+use relay_shared::{EndedDesk, Refusal, Streams, put_forgotten, refuse, status_after};
 use relay_streams::Output;
 use std::alloc::Allocator;
-use std::io::Write;
+use std::io::{Read, Write};
 
 // Forgets a document, and writes the line of it.
 fn forget<A: Allocator + Copy, T: StoreSet, W: Write>(
@@ -21,7 +23,8 @@ fn forget<A: Allocator + Copy, T: StoreSet, W: Write>(
     id: FileId,
 ) -> u8
     requires { desk.old.is_failed ≡ false }
-    ensures { TellsForget id desk.old output.old result desk.new output.new }
+    ensures { (reply : Result (Unit {0}) ForgetFault) × Forgets id desk.old reply desk.new
+        × TellsForget id reply output.old result output.new }
 {
     match desk.forget(id) {
         Ok(()) => status_after(put_forgotten(output, id)),
@@ -31,25 +34,27 @@ fn forget<A: Allocator + Copy, T: StoreSet, W: Write>(
 
 /// Lets a document go, and prints `forgotten IIII`, its identification, or the line `refused NAME`. The text, as for
 /// `deliver`, is looked at before the files.
-pub fn forget_command<A: Allocator + Copy, S: Store, T: StoreSet, W: Write>(
+pub fn forget_command<A: Allocator + Copy, S: Store, T: StoreSet, R: Read, W: Write, E: Write>(
     alloc: A,
     store: S,
     set: T,
-    output: &mut Output<W>,
+    streams: &mut Streams<R, W, E>,
     text: &str,
 ) -> EndedDesk<S, T>
-    ensures ends { EndsForget (record { joint = S.state store; set = T.state set }) text.now output.old result.status
-        (record { joint = S.state result.store; set = T.state result.set }) output.new }
+    ensures ends { EndsForget text.now
+        (record { files = record { joint = S.state store; set = T.state set }; streams = streams.old })
+        result.status
+        (record { files = record { joint = S.state result.store; set = T.state result.set }; streams = streams.new }) }
     ensures lasts { result.status ≡ 0 → LeavesFiles (T.state result.set) (T.left result.set) }
 {
     let Some(id) = id_of(text) else {
-        let status = refuse(output, Refusal::FileId.name());
+        let status = refuse(&mut streams.output, Refusal::FileId.name());
         return EndedDesk { status, store, set };
     };
-    let mut opened = match open_desk(alloc, store, set, output, MOST_CAPACITY) {
+    let mut opened = match open_desk(alloc, store, set, &mut streams.output, MOST_CAPACITY) {
         Ok(opened) => opened,
         Err(ended) => return ended,
     };
-    let status = forget(&mut opened.desk, output, id);
+    let status = forget(&mut opened.desk, &mut streams.output, id);
     opened.end(status)
 }

@@ -9,10 +9,9 @@ use crate::file_id::id_of;
 use dm_append_label::FileId;
 use dm_assembly_desk::{Desk, MOST_CAPACITY};
 use dm_store::{Store, StoreSet};
-use relay_shared::{EndedDesk, Refusal, refuse};
-use relay_streams::Output;
+use relay_shared::{EndedDesk, Refusal, Streams, refuse};
 use std::alloc::Allocator;
-use std::io::Write;
+use std::io::{Read, Write};
 
 /// What is given out of a document.
 #[derive(Clone, Copy, Debug, PartialEq, Eq)]
@@ -24,12 +23,12 @@ pub(crate) enum Given {
 }
 
 // Writes bytes, and gives the exit status; where the output has refused them, the line of that goes to `errors`.
-fn put_bytes<W: Write, E: Write>(output: &mut Output<W>, errors: &mut Output<E>, bytes: &[u8]) -> u8
-    ensures { TellsBytes bytes.now output.old errors.old result output.new errors.new }
+fn put_bytes<R: Read, W: Write, E: Write>(streams: &mut Streams<R, W, E>, bytes: &[u8]) -> u8
+    ensures { TellsBytes bytes.now streams.old result streams.new }
 {
-    match output.put(bytes) {
+    match streams.output.put(bytes) {
         Ok(()) => 0,
-        Err(fault) => refuse(errors, fault.name()),
+        Err(fault) => refuse(&mut streams.errors, fault.name()),
     }
 }
 
@@ -57,29 +56,30 @@ fn bytes_of<A: Allocator + Copy, T: StoreSet>(
 
 /// Writes what is given out of the document of an identification, whose two words the text has in hexadecimal, and
 /// nothing else. A refusal is a line on `errors`. The text is looked at before the files.
-pub(crate) fn give_out<A: Allocator + Copy, S: Store, T: StoreSet, W: Write, E: Write>(
+pub(crate) fn give_out<A: Allocator + Copy, S: Store, T: StoreSet, R: Read, W: Write, E: Write>(
     alloc: A,
     store: S,
     set: T,
-    output: &mut Output<W>,
-    errors: &mut Output<E>,
+    streams: &mut Streams<R, W, E>,
     text: &str,
     given: Given,
 ) -> EndedDesk<S, T>
-    ensures { EndsGiving given (record { joint = S.state store; set = T.state set }) text.now output.old errors.old
-        result.status (record { joint = S.state result.store; set = T.state result.set }) output.new errors.new }
+    ensures { EndsGiving given text.now
+        (record { files = record { joint = S.state store; set = T.state set }; streams = streams.old })
+        result.status
+        (record { files = record { joint = S.state result.store; set = T.state result.set }; streams = streams.new }) }
 {
     let Some(id) = id_of(text) else {
-        let status = refuse(errors, Refusal::FileId.name());
+        let status = refuse(&mut streams.errors, Refusal::FileId.name());
         return EndedDesk { status, store, set };
     };
-    let opened = match open_desk(alloc, store, set, errors, MOST_CAPACITY) {
+    let opened = match open_desk(alloc, store, set, &mut streams.errors, MOST_CAPACITY) {
         Ok(opened) => opened,
         Err(ended) => return ended,
     };
     let status = match bytes_of(&opened.desk, id, given) {
-        Ok(bytes) => put_bytes(output, errors, &bytes),
-        Err(name) => refuse(errors, name),
+        Ok(bytes) => put_bytes(streams, &bytes),
+        Err(name) => refuse(&mut streams.errors, name),
     };
     opened.end(status)
 }

@@ -1,30 +1,30 @@
 //! `relay held`: what the files of a desk hold, told without a desk.
 
-ghost use Rattle.std.specs.Prelude.{◌≡◌, ◌≤◌, ◌+◌, ◌<◌, true, false, Option, Some, None, is_some, option_map, take, IfOk, IsErr, IfSome, OnErr, OnOk, IsTrue};
+ghost use Rattle.std.specs.Prelude.{◌≡◌, ◌+◌, ◌<◌, true, false, Option, Some, None, is_err, option_map, take};
+ghost use Rattle.std.specs.Prelude.{IfOk, IfSome, IsTrue, OnErr, OnOk, Result};
 ghost use Rattle.std.specs.FinMap as map;
 ghost use Rattle.std.specs.Io.KnownBytes.{Appends};
 ghost use Rattle.std.specs.Option.{option_copied};
 ghost use Rattle.dm_store.specs.Saved.{Saved};
 ghost use Rattle.dm_assembly_desk.specs.Documents.{Documents};
-ghost use Rattle.dm_assembly_desk.specs.Looking.{IsFirstFrom, SeesKey};
+ghost use Rattle.dm_assembly_desk.specs.Looking.{IsFirstFrom};
+ghost use Rattle.dm_assembly_desk.specs.declared.fault.MoveFault.{MoveFault};
 ghost use Rattle.relay_streams.specs.Streams.{AppendsPart};
+ghost use Rattle.relay_shared.specs.Telling.{Tells};
 ghost use Rattle.relay_desk_commands.specs.Held.{
   EndsHeld,
   SeesJoint,
   SeesNumber,
   TellsAll,
-  TellsFound,
   TellsHeld,
   TellsOne,
+  asked_status,
+  documents_in,
+  found_line,
   joint_line,
   seen_line,
 };
-ghost use Rattle.relay_desk_commands.specs.inner.SeenJoint.{
-  CutsList,
-  WritesList,
-  documents_in,
-  fault_in,
-};
+ghost use Rattle.relay_desk_commands.specs.inner.Listing.{CutsList, HasCount, WritesList};
 
 use crate::file_id::id_of;
 use dm_append_label::FileId;
@@ -33,10 +33,10 @@ use dm_assembly_desk::{
 };
 use dm_store::{LoadFault, Store, StoreSet};
 use relay_shared::{
-    EndedDesk, Refusal, put_held, put_unsound, put_unsound_joint, refuse, status_after,
+    EndedDesk, Refusal, Streams, put_held, put_unsound, put_unsound_joint, refuse, status_after,
 };
 use relay_streams::{Output, WriteFault};
-use std::io::Write;
+use std::io::{Read, Write};
 
 // What was read of the file of an older version: its documents, if there is one, or why it is not sound.
 type SeenJoint<'a> = Result<Option<JointFile<'a>>, MoveFault>;
@@ -45,7 +45,7 @@ type SeenJoint<'a> = Result<Option<JointFile<'a>>, MoveFault>;
 fn read_joint(bytes: &[u8]) -> SeenJoint<'_>
     ensures { (saved : Saved)
         → (IsTrue saved.is_honest → Some bytes.entry.now ≡ option_map (take (MOST_JOINT_FILE_BYTES + 1)) saved.content)
-        → SeesJoint saved (documents_in result) (fault_in result) }
+        → SeesJoint saved result }
 {
     match JointFile::read(bytes) {
         Ok(documents) => Ok(Some(documents)),
@@ -56,7 +56,7 @@ fn read_joint(bytes: &[u8]) -> SeenJoint<'_>
 // What is held of the first document in the file of an older version from a number on.
 fn first_from(joint: &SeenJoint<'_>, number: u32) -> Option<Held>
     ensures first { IsFirstFrom (documents_in joint.now) number result }
-    ensures count { IfSome result (λ held. (2 ≤ held.n) × (held.n ≤ 16)) }
+    ensures count { IfSome result HasCount }
 {
     match joint {
         Ok(found) => match found {
@@ -77,11 +77,11 @@ fn seen_at<T: StoreSet>(
 ) -> Result<Option<Held>, HeldFault>
     requires absent { is_there ≡ false → IsTrue (T.state set.old).is_honest
         → map.get (T.state set.old).content number ≡ None }
-    requires count { IfSome first (λ held. (2 ≤ held.n) × (held.n ≤ 16)) }
+    requires count { IfSome first HasCount }
     ensures same { T.state set.new ≡ T.state set.old }
     ensures sees { (joint : Documents) → IsFirstFrom joint number first
         → SeesNumber (T.state set.old) joint number result }
-    ensures count { IfOk result (λ seen. IfSome seen (λ held. (2 ≤ held.n) × (held.n ≤ 16))) }
+    ensures count { IfOk result (λ seen. IfSome seen HasCount) }
 {
     if is_there {
         match held_at(set, number) {
@@ -102,7 +102,7 @@ fn put_seen<W: Write>(
     number: u16,
     seen: Result<Option<Held>, HeldFault>,
 ) -> Result<(), WriteFault>
-    requires { IfOk seen (λ found. IfSome found (λ held. (2 ≤ held.n) × (held.n ≤ 16))) }
+    requires { IfOk seen (λ found. IfSome found HasCount) }
     ensures written { OnOk result (Appends output.old.contents output.new.contents (seen_line number seen)) }
     ensures part { AppendsPart output.old.contents output.new.contents (seen_line number seen) }
     ensures failed { OnErr result (output.new.has_failed ≡ true) }
@@ -118,9 +118,9 @@ fn put_seen<W: Write>(
 fn next_from(joint: &SeenJoint<'_>, first: Option<Held>, number: u32) -> Option<Held>
     requires fits { number < 65536 }
     requires first { IsFirstFrom (documents_in joint.now) number first }
-    requires count { IfSome first (λ held. (2 ≤ held.n) × (held.n ≤ 16)) }
+    requires count { IfSome first HasCount }
     ensures first { IsFirstFrom (documents_in joint.now) (number + 1) result }
-    ensures count { IfSome result (λ held. (2 ≤ held.n) × (held.n ≤ 16)) }
+    ensures count { IfSome result HasCount }
 {
     let Some(held) = first else {
         return None;
@@ -133,10 +133,10 @@ fn next_from(joint: &SeenJoint<'_>, first: Option<Held>, number: u32) -> Option<
 
 // Writes the line of the file of an older version, if it is not sound, and says whether it is not.
 fn put_joint<W: Write>(output: &mut Output<W>, joint: &SeenJoint<'_>) -> Result<bool, WriteFault>
-    ensures written { IfOk result (λ unsound. (unsound ≡ is_some (fault_in joint.now))
-        × Appends output.old.contents output.new.contents (joint_line (fault_in joint.now))) }
-    ensures part { AppendsPart output.old.contents output.new.contents (joint_line (fault_in joint.now)) }
-    ensures failed { IsErr result → output.new.has_failed ≡ true }
+    ensures written { IfOk result (λ unsound. (unsound ≡ is_err joint.now)
+        × Appends output.old.contents output.new.contents (joint_line joint.now)) }
+    ensures part { AppendsPart output.old.contents output.new.contents (joint_line joint.now) }
+    ensures failed { OnErr result (output.new.has_failed ≡ true) }
 {
     match joint {
         Ok(_) => Ok(false),
@@ -157,9 +157,10 @@ fn put_list<T: StoreSet, W: Write>(
     requires { IsTrue (T.state set.old).is_honest
         → keys.now ≡ take (65536 + 1) (map.keys (T.state set.old).content) }
     ensures same { T.state set.new ≡ T.state set.old }
-    ensures written { IfOk result (λ unsound.
-        WritesList (T.state set.old) joint.now 65536 unsound output.old output.new) }
-    ensures cut { IsErr result → CutsList (T.state set.old) joint.now output.old output.new }
+    ensures written { IfOk result (λ unsound. WritesList (record { set = T.state set.old; joint = joint.now })
+        65536 unsound output.old output.new) }
+    ensures cut { OnErr result
+        (CutsList (record { set = T.state set.old; joint = joint.now }) output.old output.new) }
 {
     let mut unsound = put_joint(output, joint)?;
     let mut first = first_from(joint, 0);
@@ -176,7 +177,7 @@ fn put_list<T: StoreSet, W: Write>(
 // Tells what is held of all documents.
 fn tell_all<T: StoreSet, W: Write>(set: &mut T, output: &mut Output<W>, joint: &SeenJoint<'_>) -> u8
     ensures same { T.state set.new ≡ T.state set.old }
-    ensures tells { TellsAll (T.state set.old) (documents_in joint.now) (fault_in joint.now) output.old result output.new }
+    ensures tells { TellsAll (record { set = T.state set.old; joint = joint.now }) output.old result output.new }
 {
     let keys = match set.keys(65_536) {
         Ok(keys) => keys,
@@ -191,8 +192,8 @@ fn tell_all<T: StoreSet, W: Write>(set: &mut T, output: &mut Output<W>, joint: &
 
 // Tells what was found of a document.
 fn tell_found<W: Write>(output: &mut Output<W>, joint: &SeenJoint<'_>, found: Option<Held>) -> u8
-    requires { IfSome found (λ held. (2 ≤ held.n) × (held.n ≤ 16)) }
-    ensures { TellsFound (fault_in joint.now) found output.old result output.new }
+    requires { IfSome found HasCount }
+    ensures { Tells (found_line joint.now found) (asked_status (Ok found)) output.old output.new result }
 {
     match found {
         Some(held) => status_after(put_held(output, held)),
@@ -214,8 +215,7 @@ fn tell_one<T: StoreSet, W: Write>(
     id: FileId,
 ) -> u8
     ensures same { T.state set.new ≡ T.state set.old }
-    ensures tells { TellsOne (T.state set.old) (documents_in joint.now) (fault_in joint.now) id output.old result
-        output.new }
+    ensures tells { TellsOne (record { set = T.state set.old; joint = joint.now }) id output.old result output.new }
 {
     let number = id.number();
     let first = first_from(joint, number as u32);
@@ -236,8 +236,7 @@ fn tell<T: StoreSet, W: Write>(
     id: Option<FileId>,
 ) -> u8
     ensures same { T.state set.new ≡ T.state set.old }
-    ensures tells { TellsHeld id (T.state set.old) (documents_in joint.entry) (fault_in joint.entry) output.old result
-        output.new }
+    ensures tells { TellsHeld (record { set = T.state set.old; joint = joint.entry }) id output.old result output.new }
 {
     match id {
         None => tell_all(set, output, &joint),
@@ -254,8 +253,8 @@ fn load_and_tell<S: Store, T: StoreSet, W: Write>(
 ) -> u8
     ensures store { S.state store.new ≡ S.state store.old }
     ensures same { T.state set.new ≡ T.state set.old }
-    ensures tells { (joint : Documents) × (fault : Option MoveFault) × SeesJoint (S.state store.old) joint fault
-        × TellsHeld id (T.state set.old) joint fault output.old result output.new }
+    ensures tells { (joint : Result (Option Documents) MoveFault) × SeesJoint (S.state store.old) joint
+        × TellsHeld (record { set = T.state set.old; joint = joint }) id output.old result output.new }
 {
     match store.load(MOST_JOINT_FILE_BYTES) {
         Ok(Some(bytes)) => tell(set, output, read_joint(&bytes), id),
@@ -272,16 +271,16 @@ fn load_and_tell<S: Store, T: StoreSet, W: Write>(
 /// In the place of a file that can't be read stands `file NAME FAULT`, and the others are listed all the same; for the
 /// file of an older version that line is the first, and its name is `joint`. The exit status is then 1. No desk is
 /// opened, nothing is saved or moved, and one document is in memory at a time.
-pub fn held_command<S: Store, T: StoreSet, W: Write>(
+pub fn held_command<S: Store, T: StoreSet, R: Read, W: Write, E: Write>(
     store: S,
     set: T,
-    output: &mut Output<W>,
+    streams: &mut Streams<R, W, E>,
     text: Option<&str>,
 ) -> EndedDesk<S, T>
-    ensures store { S.state result.store ≡ S.state store }
-    ensures set { T.state result.set ≡ T.state set }
-    ensures ends { EndsHeld (record { joint = S.state store; set = T.state set }) (option_copied text.entry) output.old
-        result.status output.new }
+    ensures { EndsHeld (option_copied text.entry)
+        (record { files = record { joint = S.state store; set = T.state set }; streams = streams.old })
+        result.status
+        (record { files = record { joint = S.state result.store; set = T.state result.set }; streams = streams.new }) }
 {
     let mut store = store;
     let mut set = set;
@@ -290,11 +289,11 @@ pub fn held_command<S: Store, T: StoreSet, W: Write>(
         Some(text) => match id_of(text) {
             Some(id) => Some(id),
             None => {
-                let status = refuse(output, Refusal::FileId.name());
+                let status = refuse(&mut streams.output, Refusal::FileId.name());
                 return EndedDesk { status, store, set };
             }
         },
     };
-    let status = load_and_tell(&mut store, &mut set, output, id);
+    let status = load_and_tell(&mut store, &mut set, &mut streams.output, id);
     EndedDesk { status, store, set }
 }

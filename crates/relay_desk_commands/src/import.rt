@@ -1,6 +1,9 @@
 //! `relay import`: pages from another desk.
 
-ghost use Rattle.std.specs.Prelude.{◌≡◌, false};
+ghost use Rattle.std.specs.Prelude.{◌≡◌, false, Result};
+ghost use Rattle.dm_assembly_desk.specs.Importing.{ImportsBytes};
+ghost use Rattle.dm_assembly_desk.specs.declared.fault.ImportFault.{ImportFault};
+ghost use Rattle.dm_assembly_desk.specs.declared.reply.Imported.{Imported};
 ghost use Rattle.relay_streams.specs.Streams.{TakesPart};
 ghost use Rattle.relay_desk_commands.specs.Desks.{EndsImport, TellsImport};
 ghost use Rattle.relay_desk_commands.specs.Lasting.{LeavesFiles};
@@ -8,8 +11,8 @@ ghost use Rattle.relay_desk_commands.specs.Lasting.{LeavesFiles};
 use crate::desk_opening::open_desk;
 use dm_assembly_desk::Desk;
 use dm_store::{Store, StoreSet};
-use relay_shared::{EndedDesk, put_imported, refuse, status_after};
-use relay_streams::{Input, Output};
+use relay_shared::{EndedDesk, Streams, put_imported, refuse, status_after};
+use relay_streams::Output;
 use std::alloc::Allocator;
 use std::io::{Read, Write};
 
@@ -23,7 +26,8 @@ fn import<A: Allocator + Copy, T: StoreSet, W: Write>(
     bytes: &[u8],
 ) -> u8
     requires { desk.old.is_failed ≡ false }
-    ensures { TellsImport bytes.now desk.old output.old result desk.new output.new }
+    ensures { (reply : Result Imported ImportFault) × ImportsBytes bytes.now desk.old reply desk.new
+        × TellsImport reply output.old result output.new }
 {
     match desk.import(bytes) {
         Ok(imported) => status_after(put_imported(output, imported)),
@@ -35,30 +39,31 @@ fn import<A: Allocator + Copy, T: StoreSet, W: Write>(
 /// and prints `IIII n added MASK KIND`: the identification, how many pages the document has, which of them were added
 /// (bit m - 1 for page m), and whether it was `new`, `again` or `complete`; or the line `refused NAME`. The input is
 /// read before the desk is opened.
-pub fn import_command<A: Allocator + Copy, S: Store, T: StoreSet, R: Read, W: Write>(
+pub fn import_command<A: Allocator + Copy, S: Store, T: StoreSet, R: Read, W: Write, E: Write>(
     alloc: A,
     store: S,
     set: T,
-    input: &mut Input<R>,
-    output: &mut Output<W>,
+    streams: &mut Streams<R, W, E>,
     capacity: u16,
 ) -> EndedDesk<S, T>
-    ensures part { TakesPart input.old.remaining input.new.remaining IMPORT_BYTES }
-    ensures ends { EndsImport (record { joint = S.state store; set = T.state set }) capacity input.old input.new
-        output.old result.status (record { joint = S.state result.store; set = T.state result.set }) output.new }
+    ensures part { TakesPart streams.old.input.remaining streams.new.input.remaining IMPORT_BYTES }
+    ensures ends { EndsImport capacity
+        (record { files = record { joint = S.state store; set = T.state set }; streams = streams.old })
+        result.status
+        (record { files = record { joint = S.state result.store; set = T.state result.set }; streams = streams.new }) }
     ensures lasts { result.status ≡ 0 → LeavesFiles (T.state result.set) (T.left result.set) }
 {
-    let bytes = match input.read_up_to(alloc, IMPORT_BYTES) {
+    let bytes = match streams.input.read_up_to(alloc, IMPORT_BYTES) {
         Ok(bytes) => bytes,
         Err(fault) => {
-            let status = refuse(output, fault.name());
+            let status = refuse(&mut streams.output, fault.name());
             return EndedDesk { status, store, set };
         }
     };
-    let mut opened = match open_desk(alloc, store, set, output, capacity) {
+    let mut opened = match open_desk(alloc, store, set, &mut streams.output, capacity) {
         Ok(opened) => opened,
         Err(ended) => return ended,
     };
-    let status = import(&mut opened.desk, output, &bytes);
+    let status = import(&mut opened.desk, &mut streams.output, &bytes);
     opened.end(status)
 }

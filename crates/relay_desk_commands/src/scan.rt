@@ -13,8 +13,8 @@ use dm_assembly_desk::{Desk, ScanFault};
 use dm_finder_frame::Grid;
 use dm_pbm_io::{Image, grid_of};
 use dm_store::{Store, StoreSet};
-use relay_shared::{Answered, EndedDesk, OnImages, each_image, put_accepted};
-use relay_streams::{Input, Output, WriteFault};
+use relay_shared::{Answered, EndedDesk, OnImages, Streams, each_image, put_accepted};
+use relay_streams::{Output, WriteFault};
 use std::alloc::Allocator;
 use std::io::{Read, Write};
 
@@ -104,43 +104,57 @@ impl<'a, T: StoreSet, A: Allocator + Copy, N: Notes> OnImages<A> for Scanning<'a
 /// command; a save that failed does, and so do bytes that are no image, and a plain image. At most 65,536 images are
 /// read. The desk is opened before anything is read. The exit status is 0 where no line names a refusal, and else 1.
 /// After the line of a refused image it is told to `notes`, with the number of the image.
-pub fn scan_with_notes<A: Allocator + Copy, S: Store, T: StoreSet, R: Read, W: Write, N: Notes>(
+pub fn scan_with_notes<
+    A: Allocator + Copy,
+    S: Store,
+    T: StoreSet,
+    R: Read,
+    W: Write,
+    E: Write,
+    N: Notes,
+>(
     alloc: A,
     store: S,
     set: T,
-    input: &mut Input<R>,
-    output: &mut Output<W>,
+    streams: &mut Streams<R, W, E>,
     notes: &mut N,
     capacity: u16,
 ) -> EndedDesk<S, T>
-    ensures ends { EndsScan A (record { joint = S.state store; set = T.state set }) capacity input.old input.new
-        output.old result.status (record { joint = S.state result.store; set = T.state result.set }) output.new }
-    ensures lasts { ScanLeaves input.old input.new output.old output.new result.status (T.state result.set)
-        (T.left result.set) }
+    ensures ends { EndsScan A capacity
+        (record { files = record { joint = S.state store; set = T.state set }; streams = streams.old })
+        result.status
+        (record { files = record { joint = S.state result.store; set = T.state result.set }; streams = streams.new }) }
+    ensures lasts { ScanLeaves streams.old result.status streams.new (T.state result.set) (T.left result.set) }
 {
-    let OpenDesk { store, desk } = match open_desk(alloc, store, set, output, capacity) {
+    let opened = match open_desk(alloc, store, set, &mut streams.output, capacity) {
         Ok(opened) => opened,
         Err(ended) => return ended,
     };
+    let OpenDesk { store, desk } = opened;
     let mut scanning = Scanning { desk, notes };
-    let status = each_image(alloc, &mut scanning, input, output);
+    let status = each_image(
+        alloc,
+        &mut scanning,
+        &mut streams.input,
+        &mut streams.output,
+    );
     let set = scanning.desk.close();
     EndedDesk { status, store, set }
 }
 
 /// As [`scan_with_notes`], with no notes.
-pub fn scan_command<A: Allocator + Copy, S: Store, T: StoreSet, R: Read, W: Write>(
+pub fn scan_command<A: Allocator + Copy, S: Store, T: StoreSet, R: Read, W: Write, E: Write>(
     alloc: A,
     store: S,
     set: T,
-    input: &mut Input<R>,
-    output: &mut Output<W>,
+    streams: &mut Streams<R, W, E>,
     capacity: u16,
 ) -> EndedDesk<S, T>
-    ensures ends { EndsScan A (record { joint = S.state store; set = T.state set }) capacity input.old input.new
-        output.old result.status (record { joint = S.state result.store; set = T.state result.set }) output.new }
-    ensures lasts { ScanLeaves input.old input.new output.old output.new result.status (T.state result.set)
-        (T.left result.set) }
+    ensures ends { EndsScan A capacity
+        (record { files = record { joint = S.state store; set = T.state set }; streams = streams.old })
+        result.status
+        (record { files = record { joint = S.state result.store; set = T.state result.set }; streams = streams.new }) }
+    ensures lasts { ScanLeaves streams.old result.status streams.new (T.state result.set) (T.left result.set) }
 {
-    scan_with_notes(alloc, store, set, input, output, &mut NoNotes, capacity)
+    scan_with_notes(alloc, store, set, streams, &mut NoNotes, capacity)
 }

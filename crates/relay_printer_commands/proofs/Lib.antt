@@ -1,6 +1,5 @@
 pub mod CheckForm
 pub mod CheckWords
-pub mod OpenedPrints
 pub mod PlanSteps
 pub mod PrintedLabels
 pub mod Sizes

@@ -1,23 +1,22 @@
--- How the labels of a job have gone out.
-use Rattle.std.specs.Prelude.{◌≡◌, ℕ, List, [], ◌∷◌, ◌++◌}
-use Rattle.std.proofs.Common.{inl, inr, refl, sym, subst, append-nil}
+-- How the labels of a job have gone out: what a command has told if it loses an image, and that no image is out before
+-- its line.
+use Rattle.std.specs.Prelude.{◌≡◌, ℕ, List, [], ◌∷◌, ◌++◌, Result, Ok, Err}
+use Rattle.std.proofs.Common.{inl, inr, sym, ap, subst, append-nil}
 use Rattle.std.specs.Io.KnownBytes.{Appends}
 use Rattle.std.proofs.KnownBytes.{Appends-trans}
-use Rattle.dm_check_blocks.specs.declared.size.Size.{Size}
-use Rattle.dm_encodation.specs.declared.scheme.Scheme.{Scheme}
 use Rattle.dm_finder_frame.specs.Grids.{GridView}
-use Rattle.dm_print_ledger.specs.Ranges.{free_count}
-use Rattle.dm_print_ledger.specs.Views.{PrinterView}
+use Rattle.dm_print_ledger.specs.Views.{JobView}
+use Rattle.dm_print_ledger.specs.declared.fault.PrintFault.{PrintFault}
 use Rattle.relay_streams.specs.FaultNames.{write_fault_name}
 use Rattle.relay_streams.specs.Refusal.{refused_line}
 use Rattle.relay_streams.specs.Streams.{AppendsPart, OutputView}
 use Rattle.relay_printer_commands.specs.Print.{PrintsButRefuses, PrintsLabels, PrintsLineFirst, TellsPrint, images_of}
 use Rattle.relay_printer_commands.specs.Print.PrintsLabels.{all, no_line, no_memory, not_written}
-use Rattle.relay_printer_commands.specs.Print.TellsPrint.{printed, refused}
 use Rattle.relay_streams.specs.declared.fault.WriteFault.TheVariants.{Write}
 use Rattle.relay_shared.proofs.Telling.{then_part}
 use Rattle.relay_shared.specs.PrinterLines.{printed_line}
 use Rattle.relay_shared.specs.Refusals.{refusal_name}
+use Rattle.relay_shared.specs.Surroundings.{ReadsNothing, StreamsView}
 use Rattle.relay_shared.specs.Telling.{TellsRefusal}
 use Rattle.relay_shared.specs.declared.refusal.Refusal.{Refusal}
 use Rattle.relay_shared.specs.declared.refusal.Refusal.TheVariants.{Memory}
@@ -40,16 +39,17 @@ one_is_lost labels done rest next old mid new _ is out (not_made same) = memory 
 one_is_lost labels done rest next old mid new _ is out (not_out fault failed) = write fault failed
 
 -- the line of a job was written, some of its labels were not, and the refusal says why
-pub some_are_lost : (labels : List GridView) (line : List ℕ) (old old_errors mid new errors : OutputView) (status : ℕ)
-    (refusal : Refusal) → LosesImages labels old new refusal
-    → AppendsPart old.contents new.contents (images_of labels) → Appends old_errors.contents mid.contents line
-    → TellsRefusal (refusal_name refusal) mid errors status → PrintsLabels labels line old old_errors status new errors
-some_are_lost labels line old old_errors mid new errors status _ (memory done next rest is images) part first told =
-    let after = refused_after line (refusal_name Memory) old_errors mid errors status first told in
-    rw after.1 (no_memory done next rest is images after.0)
-some_are_lost labels line old old_errors mid new errors status _ (write Write failed) part first told =
-    let after = refused_after line (write_fault_name Write) old_errors mid errors status first told in
-    rw after.1 (not_written failed part after.0)
+pub some_are_lost : (labels : List GridView) (line : List ℕ) (old : StreamsView) (mid : OutputView) (status : ℕ)
+    (new : StreamsView) (refusal : Refusal) → LosesImages labels old.output new.output refusal
+    → AppendsPart old.output.contents new.output.contents (images_of labels)
+    → Appends old.errors.contents mid.contents line
+    → TellsRefusal (refusal_name refusal) mid new.errors status → PrintsLabels labels line old status new
+some_are_lost labels line old mid status new _ (memory done next rest is images) part first told =
+    let after = refused_after line (refusal_name Memory) old.errors mid new.errors status first told in
+    no_memory done next rest is images after.0 after.1
+some_are_lost labels line old mid status new _ (write Write failed) part first told =
+    let after = refused_after line (write_fault_name Write) old.errors mid new.errors status first told in
+    not_written failed part after.0 after.1
 
 -- what comes after the line of a job, if its labels are lost
 after_line : (line name : List ℕ) (old new : OutputView) → PrintsButRefuses line name old new
@@ -58,26 +58,27 @@ after_line line name old new (inl whole) = (refused_line name, whole)
 after_line line name old new (inr (failed, part)) = (part.0, part.2)
 
 -- the labels of a job go out after its line
-labels_after : (id count left : ℕ) (labels : List GridView) (old old_errors : OutputView) (status : ℕ)
-    (new errors : OutputView)
-    → PrintsLabels labels (printed_line id count left) old old_errors status new errors
-    → PrintsLineFirst old old_errors new errors
-labels_after id count left labels old old_errors _ new errors (all line images) =
-    inr (id, count, left, [], subst (Appends old_errors.contents errors.contents) (sym (append-nil _)) line)
-labels_after id count left labels old old_errors _ new errors (no_line failed part) = inl refl
-labels_after id count left labels old old_errors _ new errors (no_memory done next rest is images refuses) =
-    let after = after_line (printed_line id count left) (refusal_name Memory) old_errors errors refuses in
+labels_after : (id count left : ℕ) (labels : List GridView) (old : StreamsView) (status : ℕ) (new : StreamsView)
+    → PrintsLabels labels (printed_line id count left) old status new → PrintsLineFirst old new
+labels_after id count left labels old status new (all line images is) =
+    inr (id, count, left, [], subst (Appends old.errors.contents new.errors.contents) (sym (append-nil _)) line)
+labels_after id count left labels old status new (no_line failed part same is) = inl same
+labels_after id count left labels old status new (no_memory done next rest parts images refuses is) =
+    let after = after_line (printed_line id count left) (refusal_name Memory) old.errors new.errors refuses in
     inr (id, count, left, after.0, after.1)
-labels_after id count left labels old old_errors _ new errors (not_written failed part refuses) =
-    let after = after_line (printed_line id count left) (write_fault_name Write) old_errors errors refuses in
+labels_after id count left labels old status new (not_written failed part refuses is) =
+    let after = after_line (printed_line id count left) (write_fault_name Write) old.errors new.errors refuses in
     inr (id, count, left, after.0, after.1)
 
--- what a printer answers to a document goes out after the line of it
-pub line_first : (before : PrinterView) (size : Size) (scheme : Scheme) (document : List ℕ)
-    (old old_errors : OutputView)
-    (status : ℕ) (after : PrinterView) (new errors : OutputView)
-    → TellsPrint before size scheme document old old_errors status after new errors
-    → PrintsLineFirst old old_errors new errors
-line_first before size scheme document old old_errors status after new errors (printed job prints labels) =
-    labels_after job.id job.count (free_count after.ledger.free) job.labels old old_errors status new errors labels
-line_first before size scheme document old old_errors status after new errors (refused fault prints told) = inl refl
+module _ (left : ℕ) (old : StreamsView) (status : ℕ) (new : StreamsView) where
+  -- what a printer answers to a document goes out after the line of it
+  pub line_first : (answer : Result JobView PrintFault) → TellsPrint answer left old status new
+      → PrintsLineFirst old new
+  line_first (Ok job) tells = labels_after job.id job.count left job.labels old status new tells.0
+  line_first (Err fault) tells = inl (ap (λ (s : StreamsView). s.output) tells.1)
+
+  -- nothing is read meanwhile
+  pub reads_nothing : (answer : Result JobView PrintFault) → TellsPrint answer left old status new
+      → ReadsNothing old new
+  reads_nothing (Ok job) tells = tells.1
+  reads_nothing (Err fault) tells = ap (λ (s : StreamsView). s.input) tells.1

@@ -2,7 +2,7 @@
 -- its call left that as it was, or saved the next one, or met a fault as it saved that; and of each of these printers
 -- it is known what a stop leaves.
 use Rattle.std.proofs.Common.{◌≡◌, ◌⊎◌, inl, inr, ℕ, List, Option, Some, None, Ok, Err, false, refl, sym, ap, subst, ◌∙◌, IsSomeAnd}
-use Rattle.std.specs.Prelude.{Result, is_some}
+use Rattle.std.specs.Prelude.{◌≢◌, Result, is_some}
 use Rattle.dm_check_blocks.specs.declared.size.Size.{Size}
 use Rattle.dm_encodation.specs.declared.scheme.Scheme.{Scheme}
 use Rattle.dm_store.specs.Disk.{Content}
@@ -24,14 +24,11 @@ use Rattle.dm_print_ledger.specs.declared.fault.TakeFault.{TakeFault}
 use Rattle.dm_print_ledger.specs.declared.fault.TakeFault.TheVariants as taking
 use Rattle.dm_print_ledger.specs.declared.range.Range.{Range}
 use Rattle.relay_streams.specs.Streams.{OutputView}
-use Rattle.relay_printer_commands.specs.Lasting.{HasPrinted, SpellsThisOrNext, StopLeaves, TakesText, UsesOne}
+use Rattle.relay_shared.specs.Surroundings.{StreamsView}
+use Rattle.relay_printer_commands.specs.Lasting.{HasPrinted, SpellsThisOrNext, StopLeaves, StoredLedger, TakesText, UsesOne}
 use Rattle.relay_printer_commands.specs.Print.{TellsPrint}
-use Rattle.relay_printer_commands.specs.Print.TellsPrint.{printed, refused as print_refused}
-use Rattle.relay_printer_commands.specs.Printers.{IsNotOpened, TellsGive, TellsTake}
+use Rattle.relay_printer_commands.specs.Printers.{TellsGive, TellsTake}
 use Rattle.relay_printer_commands.specs.Tickets.{IsTextOf}
-use Rattle.relay_printer_commands.specs.Printers.IsNotOpened.{refused as open_refused}
-use Rattle.relay_printer_commands.specs.Printers.TellsGive.{given, refused as give_refused}
-use Rattle.relay_printer_commands.specs.Printers.TellsTake.{taken, refused as take_refused}
 
 -- ---- what a call makes of a printer
 
@@ -40,7 +37,7 @@ pub data GoesOn (Makes : LedgerView → LedgerView → Type 0) (before after : P
   saves : Makes before.ledger after.ledger → Saves before after.ledger after → GoesOn Makes before after
   fails : (next : LedgerView) → Makes before.ledger next → FailsToSave before next after → GoesOn Makes before after
 
-printed_on : (before : PrinterView) (size : Size) (scheme : Scheme) (document : List ℕ)
+pub printed_on : (before : PrinterView) (size : Size) (scheme : Scheme) (document : List ℕ)
     (answer : Result JobView PrintFault) (after : PrinterView) → Prints before size scheme document answer after
     → GoesOn UsesOne before after
 printed_on before size scheme document (Ok job) after p = saves (job.id, p.3.used) p.3.saved
@@ -54,7 +51,7 @@ printed_on before size scheme document (Err printing.Exhausted) after p = stays 
 abbrev pub GivesOne : Range → LedgerView → LedgerView → Type 0
 GivesOne range old new = GivesAway old range new
 
-given_on : (before : PrinterView) (to : ℕ) (range : Range) (answer : Result TicketView GiveFault)
+pub given_on : (before : PrinterView) (to : ℕ) (range : Range) (answer : Result TicketView GiveFault)
     (after : PrinterView) → Gives before to range answer after → GoesOn (GivesOne range) before after
 given_on before to range (Ok ticket) after p = saves p.2 p.3
 given_on before to range (Err giving.Memory) after p = stays p.1
@@ -66,7 +63,7 @@ given_on before to range (Err giving.NotFree) after p = stays p.1
 given_on before to range (Err giving.Serials) after p = stays p.1
 given_on before to range (Err giving.Ranges) after p = stays p.1
 
-taken_on : (text : List ℕ) (before : PrinterView) (ticket : TicketView) (answer : Result (Unit {0}) TakeFault)
+pub taken_on : (text : List ℕ) (before : PrinterView) (ticket : TicketView) (answer : Result (Unit {0}) TakeFault)
     (after : PrinterView) → IsTextOf text ticket → Takes before ticket answer after
     → GoesOn (TakesText text) before after
 taken_on text before ticket (Ok done) after is p = saves (ticket, is, p.1) p.2
@@ -150,7 +147,7 @@ module _ (Makes : LedgerView → LedgerView → Type 0) (saved : Saved) (number 
     -- the printer was closed after its call, which was done if this is so
     pub closed : (IsDone : Type 0) (old : Left) (after : PrinterView) (left : Left) → GoesOn Makes before after
         → (IsDone → Saves before after.ledger after) → IsInOrder after left
-        → StopLeaves Makes IsDone saved old after.saved left
+        → StopLeaves Makes IsDone (record { saved = saved; left = old }) (record { saved = after.saved; left = left })
     closed IsDone old after left goes is_done order = record {
       done = λ is durable. let s = is_done is in
           let durable_now = durable_after after.saved s.replaced durable in (
@@ -164,15 +161,14 @@ module _ (Makes : LedgerView → LedgerView → Type 0) (saved : Saved) (number 
     }
 
 -- nothing was done, and a stop leaves no more
-pub not_begun : (Makes : LedgerView → LedgerView → Type 0) (IsDone : Type 0) (saved : Saved) (old : Left)
-    (after : Saved) (new : Left) → ¬ IsDone → (IsDurable saved → LeavesNoMore old new)
-    → StopLeaves Makes IsDone saved old after new
-not_begun Makes IsDone saved old after new not_done kept = record {
+pub not_begun : (Makes : LedgerView → LedgerView → Type 0) (IsDone : Type 0) (old new : StoredLedger) → ¬ IsDone
+    → (IsDurable old.saved → LeavesNoMore old.left new.left) → StopLeaves Makes IsDone old new
+not_begun Makes IsDone old new not_done kept = record {
   done = λ done. absurd (not_done done);
   either = λ durable content leaves. inl (kept durable content leaves);
 }
 
--- ---- the status of a command
+-- ---- a command that is done has saved
 
 -- a line of a refusal was told, or its output has failed
 pub refused_by : {P Q R : Type 0} {status : ℕ} → (P × (status ≡ 1)) ⊎ (Q × R × (status ≡ 1)) → status ≡ 1
@@ -182,54 +178,26 @@ refused_by (inr part) = part.2
 pub not_zero : {status : ℕ} → status ≡ 1 → ¬ (status ≡ 0)
 not_zero is zero = cc
 
--- nothing went to the output
-pub not_printed : {status : ℕ} {old : OutputView} → status ≡ 1 → ¬ HasPrinted status old old
-not_printed is (inl zero) = not_zero is zero
-not_printed is (inr other) = other refl
+-- `print` is not done, and nothing went to the output
+pub not_printed : {status : ℕ} {old new : OutputView} → status ≡ 1 → new ≡ old → ¬ ((status ≡ 0) ⊎ (new ≢ old))
+not_printed is same (inl zero) = not_zero is zero
+not_printed is same (inr other) = other same
 
-pub not_opened : (saved : Saved) (number : ℕ) (old : OutputView) (status : ℕ) (after : Saved) (new : OutputView)
-    → IsNotOpened saved number old status after new → status ≡ 1
-not_opened saved number old _ _ _ (open_refused fault has tells) = refused_by tells
+module _ (before after : PrinterView) (old : StreamsView) (status : ℕ) (new : StreamsView) where
+  pub print_done : (size : Size) (scheme : Scheme) (document : List ℕ) (answer : Result JobView PrintFault) (left : ℕ)
+      → Prints before size scheme document answer after → TellsPrint answer left old status new
+      → HasPrinted status old new → Saves before after.ledger after
+  print_done size scheme document (Ok job) left prints tells is = prints.3.saved
+  print_done size scheme document (Err fault) left prints tells is =
+      absurd (not_printed (refused_by tells.0) (ap (λ (s : StreamsView). s.output) tells.1) is)
 
-pub print_done : (before : PrinterView) (size : Size) (scheme : Scheme) (document : List ℕ)
-    (old old_errors : OutputView) (status : ℕ) (after : PrinterView) (new errors : OutputView)
-    → TellsPrint before size scheme document old old_errors status after new errors → HasPrinted status old new
-    → Saves before after.ledger after
-print_done before size scheme document old old_errors _ _ _ _ (printed job prints labels) is = prints.3.saved
-print_done before size scheme document old old_errors _ _ _ _ (print_refused fault prints tells) is =
-    absurd (not_printed (refused_by tells) is)
+  pub give_done : (to : ℕ) (range : Range) (answer : Result TicketView GiveFault) → Gives before to range answer after
+      → TellsGive answer old status new → status ≡ 0 → Saves before after.ledger after
+  give_done to range (Ok ticket) gives tells is = gives.3
+  give_done to range (Err fault) gives tells is = absurd (not_zero (refused_by tells.0) is)
 
-pub print_on : (before : PrinterView) (size : Size) (scheme : Scheme) (document : List ℕ)
-    (old old_errors : OutputView) (status : ℕ) (after : PrinterView) (new errors : OutputView)
-    → TellsPrint before size scheme document old old_errors status after new errors → GoesOn UsesOne before after
-print_on before size scheme document old old_errors _ _ _ _ (printed job prints labels) =
-    printed_on _ _ _ _ (Ok job) _ prints
-print_on before size scheme document old old_errors _ _ _ _ (print_refused fault prints tells) =
-    printed_on _ _ _ _ (Err fault) _ prints
-
-pub give_done : (before : PrinterView) (to : ℕ) (range : Range) (old : OutputView) (status : ℕ)
-    (after : PrinterView) (new : OutputView) → TellsGive before to range old status after new → status ≡ 0
-    → Saves before after.ledger after
-give_done before to range old _ _ _ (given ticket gives tells) is = gives.3
-give_done before to range old _ _ _ (give_refused fault gives tells) is =
-    absurd (let one = refused_by tells in cc)
-
-pub give_on : (before : PrinterView) (to : ℕ) (range : Range) (old : OutputView) (status : ℕ)
-    (after : PrinterView) (new : OutputView) → TellsGive before to range old status after new
-    → GoesOn (GivesOne range) before after
-give_on before to range old _ _ _ (given ticket gives tells) = given_on _ _ _ (Ok ticket) _ gives
-give_on before to range old _ _ _ (give_refused fault gives tells) = given_on _ _ _ (Err fault) _ gives
-
-pub take_done : (before : PrinterView) (ticket : TicketView) (old : OutputView) (status : ℕ)
-    (after : PrinterView) (new : OutputView) → TellsTake before ticket old status after new → status ≡ 0
-    → Saves before after.ledger after
-take_done before ticket old _ _ _ (taken takes tells) is = takes.2
-take_done before ticket old _ _ _ (take_refused fault takes tells) is =
-    absurd (let one = refused_by tells in cc)
-
-pub take_on : (text : List ℕ) (before : PrinterView) (ticket : TicketView) (old : OutputView) (status : ℕ)
-    (after : PrinterView) (new : OutputView) → IsTextOf text ticket → TellsTake before ticket old status after new
-    → GoesOn (TakesText text) before after
-take_on text before ticket old _ _ _ is (taken takes tells) = taken_on text _ _ (Ok tt) _ is takes
-take_on text before ticket old _ _ _ is (take_refused fault takes tells) =
-    taken_on text _ _ (Err fault) _ is takes
+  pub take_done : (ticket : TicketView) (answer : Result (Unit {0}) TakeFault) (left : ℕ)
+      → Takes before ticket answer after → TellsTake answer left old status new → status ≡ 0
+      → Saves before after.ledger after
+  take_done ticket (Ok done) left takes tells is = takes.2
+  take_done ticket (Err fault) left takes tells is = absurd (not_zero (refused_by tells.0) is)

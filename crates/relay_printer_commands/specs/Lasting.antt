@@ -10,7 +10,7 @@ use Rattle.dm_print_ledger.specs.Moving.{TakesIn}
 use Rattle.dm_print_ledger.specs.Printing.{Uses}
 use Rattle.dm_print_ledger.specs.Saving.{HoldsLedger}
 use Rattle.dm_print_ledger.specs.Views.{LedgerView, TicketView}
-use Rattle.relay_streams.specs.Streams.{OutputView}
+use Rattle.relay_shared.specs.Surroundings.{StreamsView}
 use Rattle.relay_printer_commands.specs.Tickets.{IsTextOf}
 
 -- the bytes spell the ledger, or one that the command makes of it
@@ -18,20 +18,26 @@ abbrev pub SpellsThisOrNext : (LedgerView → LedgerView → Type 0) → LedgerV
 SpellsThisOrNext Makes ledger bytes =
     Spells bytes ledger ⊎ ((next : LedgerView) × Makes ledger next × Spells bytes next)
 
--- `before` and `after` are the store, and `old` and `new` what a stop may leave of it, before and after a command that
--- may make the ledger b of the ledger a if `Makes a b`. If the store is durable, a stop leaves, once it `IsDone`, the
--- ledger that the store then holds. Whether it is done or not, a stop leaves what it might have left before; or the
--- ledger that was held before, or one that the command makes of it.
-pub record StopLeaves (Makes : LedgerView → LedgerView → Type 0) (IsDone : Type 0) (before : Saved) (old : Left)
-    (after : Saved) (new : Left) : Type 0 where
-  pub done : IsDone → IsDurable before → (ledger : LedgerView) × HoldsLedger after ledger × LeavesLedger new ledger
-  pub either : IsDurable before → (content : Content) → new content
-      → old content
-      ⊎ ((ledger : LedgerView) × HoldsLedger before ledger × IsSomeAnd content (SpellsThisOrNext Makes ledger))
+-- the store of a ledger, and what a stop may leave of it
+pub record StoredLedger : Type 1 where
+  pub saved : Saved
+  pub left : Left
+
+-- `old` and `new` are the store before and after a command that may make the ledger b of the ledger a if `Makes a b`.
+-- If the store is durable, a stop leaves, once the command `IsDone`, the ledger that the store then holds. Whether it
+-- is done or not, a stop leaves what it might have left before; or the ledger that was held before, or one that the
+-- command makes of it.
+pub record StopLeaves (Makes : LedgerView → LedgerView → Type 0) (IsDone : Type 0) (old new : StoredLedger)
+    : Type 0 where
+  pub done : IsDone → IsDurable old.saved
+      → (ledger : LedgerView) × HoldsLedger new.saved ledger × LeavesLedger new.left ledger
+  pub either : IsDurable old.saved → (content : Content) → new.left content
+      → old.left content
+      ⊎ ((ledger : LedgerView) × HoldsLedger old.saved ledger × IsSomeAnd content (SpellsThisOrNext Makes ledger))
 
 -- `print` is done, or a byte of a label is out
-abbrev pub HasPrinted : ℕ → OutputView → OutputView → Type 0
-HasPrinted status old new = (status ≡ 0) ⊎ (new ≢ old)
+abbrev pub HasPrinted : ℕ → StreamsView → StreamsView → Type 0
+HasPrinted status old new = (status ≡ 0) ⊎ (new.output ≢ old.output)
 
 -- what `print` makes of a ledger: an identification is used
 abbrev pub UsesOne : LedgerView → LedgerView → Type 0

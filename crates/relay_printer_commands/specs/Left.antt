@@ -1,18 +1,17 @@
 -- What `left` says of the ledger in a store.
-use Rattle.std.specs.Prelude.{ℕ, IsTrue, IsSomeAnd}
-use Rattle.dm_store.specs.Saved.{Saved}
+use Rattle.std.specs.Prelude.{◌≡◌, ℕ, IsTrue, IsSomeAnd}
 use Rattle.dm_print_ledger.specs.FaultNames.{open_fault_name}
 use Rattle.dm_print_ledger.specs.Showing.{HasShowFault, ShownView, Shows}
 use Rattle.dm_print_ledger.specs.declared.fault.OpenFault.{OpenFault}
-use Rattle.relay_streams.specs.Streams.{OutputView}
 use Rattle.relay_shared.specs.LedgerLines.{shown_lines}
-use Rattle.relay_shared.specs.Telling.{Tells, TellsRefusal}
+use Rattle.relay_shared.specs.Surroundings.{RefusesOnOutput, TellsOnOutput}
+use Rattle.relay_printer_commands.specs.Printers.{OnLedger}
 
--- How `left` ends, over a store that it leaves as it was: the lines of what an honest store holds were written, or why
--- there are none.
-pub data EndsLeft (saved : Saved) (old : OutputView) : ℕ → Saved → OutputView → Type 0 where
-  shown : {status : ℕ} {new : OutputView} (shown : ShownView)
-      → (IsTrue saved.is_honest → IsSomeAnd saved.content (λ bytes. Shows bytes shown))
-      → Tells (shown_lines shown) 0 old new status → EndsLeft saved old status saved new
-  refused : {status : ℕ} {new : OutputView} (fault : OpenFault) → HasShowFault saved fault
-      → TellsRefusal (open_fault_name fault) old new status → EndsLeft saved old status saved new
+-- How `left` ends, with the store as it was: the lines of what an honest store holds were written, or why there are
+-- none.
+pub data EndsLeft (old : OnLedger) (status : ℕ) (new : OnLedger) : Type 0 where
+  shown : (shown : ShownView) → (IsTrue old.saved.is_honest → IsSomeAnd old.saved.content (λ bytes. Shows bytes shown))
+      → new.saved ≡ old.saved → TellsOnOutput (shown_lines shown) old.streams status new.streams
+      → EndsLeft old status new
+  refused : (fault : OpenFault) → HasShowFault old.saved fault → new.saved ≡ old.saved
+      → RefusesOnOutput (open_fault_name fault) old.streams status new.streams → EndsLeft old status new

@@ -8,11 +8,11 @@ use Rattle.dm_print_ledger.specs.FaultNames.{print_fault_name}
 use Rattle.dm_print_ledger.specs.Planning.{HasLabels, HasNoLabels}
 use Rattle.dm_print_ledger.specs.declared.fault.PrintFault.TheVariants.{TooLong}
 use Rattle.relay_streams.specs.FaultNames.{input_fault_name}
-use Rattle.relay_streams.specs.Streams.{InputView, OutputView}
+use Rattle.relay_streams.specs.Streams.{InputView}
 use Rattle.relay_streams.specs.declared.fault.InputFault.{InputFault}
 use Rattle.relay_shared.specs.Documents.{HasInputFault, ReadsDocument}
 use Rattle.relay_shared.specs.PlanLines.{side_line}
-use Rattle.relay_shared.specs.Telling.{Tells, TellsRefusal}
+use Rattle.relay_shared.specs.Surroundings.{RefusesOnOutput, StreamsView, TellsOnOutput}
 use Rattle.relay_shared.specs.declared.plan_lines.PlannedSide.{PlannedSide}
 
 -- the document has this many labels of this side
@@ -26,15 +26,17 @@ pub record IsPlan (scheme : Scheme) (document : List ℕ) (plan : List PlannedSi
   pub only : All (IsPlanned scheme document) plan
   pub rising : AllPairs (λ before after. before.side < after.side) plan
 
--- How `plan` ends, from an input and an output to the exit status and the output: the lines of the plan of the document
--- that was read were written; or there is no line, since the document has labels of no side; or the input could not be
--- read.
-pub data EndsPlan (scheme : Scheme) (input rest : InputView) (old : OutputView) : ℕ → OutputView → Type 0 where
-  planned : {status : ℕ} {new : OutputView} (document : List ℕ) (plan : List PlannedSide)
-      → ReadsDocument input rest document → IsPlan scheme document plan → plan ≢ []
-      → Tells (flat_map side_line plan) 0 old new status → EndsPlan scheme input rest old status new
-  too_long : {status : ℕ} {new : OutputView} (document : List ℕ) → ReadsDocument input rest document
-      → ((size : Size) → HasNoLabels size scheme document) → TellsRefusal (print_fault_name TooLong) old new status
-      → EndsPlan scheme input rest old status new
-  not_read : {status : ℕ} {new : OutputView} (fault : InputFault) → HasInputFault rest fault
-      → TellsRefusal (input_fault_name fault) old new status → EndsPlan scheme input rest old status new
+-- How `plan` ends, where `rest` is the input once it was read: the lines of the plan of the document were written; or
+-- there is no line, since the document has labels of no side; or the input could not be read.
+pub data EndsPlan (scheme : Scheme) (old : StreamsView) (status : ℕ) (new : StreamsView) : Type 0 where
+  planned : (document : List ℕ) (rest : InputView) (plan : List PlannedSide) → ReadsDocument old.input rest document
+      → IsPlan scheme document plan → plan ≢ []
+      → TellsOnOutput (flat_map side_line plan) (record old { input = rest }) status new
+      → EndsPlan scheme old status new
+  too_long : (document : List ℕ) (rest : InputView) → ReadsDocument old.input rest document
+      → ((size : Size) → HasNoLabels size scheme document)
+      → RefusesOnOutput (print_fault_name TooLong) (record old { input = rest }) status new
+      → EndsPlan scheme old status new
+  not_read : (fault : InputFault) (rest : InputView) → HasInputFault rest fault
+      → RefusesOnOutput (input_fault_name fault) (record old { input = rest }) status new
+      → EndsPlan scheme old status new

@@ -1,18 +1,17 @@
 -- What `print` does to the store of a ledger, and what it writes.
-use Rattle.std.specs.Prelude.{◌≡◌, ◌⊎◌, ℕ, List, ◌∷◌, ◌++◌, Ok, Err, true}
+use Rattle.std.specs.Prelude.{◌≡◌, ◌⊎◌, ℕ, List, ◌∷◌, ◌++◌, Result, Ok, Err, true}
 use Rattle.std.specs.List.{flat_map}
 use Rattle.std.specs.Io.KnownBytes.{Appends}
 use Rattle.dm_check_blocks.specs.declared.size.Size.{Size}
 use Rattle.dm_check_blocks.specs.Sizes.{IsSide, side}
-use Rattle.dm_encodation.specs.declared.scheme.Scheme.{Scheme}
 use Rattle.dm_finder_frame.specs.Grids.{GridView}
 use Rattle.dm_pbm_io.specs.SymbolImage.{p4}
-use Rattle.dm_store.specs.Saved.{Saved}
-use Rattle.dm_print_ledger.specs.FaultNames.{print_fault_name}
-use Rattle.dm_print_ledger.specs.Opening.{Opens}
+use Rattle.dm_print_ledger.specs.FaultNames.{open_fault_name, print_fault_name}
+use Rattle.dm_print_ledger.specs.Opening.{HasOpenFault, Opens}
 use Rattle.dm_print_ledger.specs.Printing.{Prints}
 use Rattle.dm_print_ledger.specs.Ranges.{free_count}
 use Rattle.dm_print_ledger.specs.Views.{JobView, PrinterView}
+use Rattle.dm_print_ledger.specs.declared.fault.OpenFault.{OpenFault}
 use Rattle.dm_print_ledger.specs.declared.fault.PrintFault.{PrintFault}
 use Rattle.relay_streams.specs.FaultNames.{input_fault_name, write_fault_name}
 use Rattle.relay_streams.specs.Refusal.{refused_line}
@@ -21,10 +20,13 @@ use Rattle.relay_streams.specs.declared.fault.InputFault.{InputFault}
 use Rattle.relay_streams.specs.declared.fault.WriteFault.TheVariants.{Write}
 use Rattle.relay_shared.specs.Documents.{HasInputFault, ReadsDocument}
 use Rattle.relay_shared.specs.PrinterLines.{printed_line}
-use Rattle.relay_printer_commands.specs.Printers.{IsNotOpened}
 use Rattle.relay_shared.specs.Refusals.{refusal_name}
-use Rattle.relay_shared.specs.Telling.{AppendsThenPart, TellsRefusal}
+use Rattle.relay_shared.specs.Surroundings.{ReadsNothing, RefusesOnErrors, StreamsView}
+use Rattle.relay_shared.specs.Telling.{AppendsThenPart}
 use Rattle.relay_shared.specs.declared.refusal.Refusal.TheVariants as refusals
+use Rattle.relay_printer_commands.specs.Printers.{OnLedger}
+use Rattle.relay_printer_commands.specs.declared.print.PrintOptions.{PrintOptions}
+use Rattle.relay_printer_commands.specs.declared.print.SizedOptions.{SizedOptions}
 
 -- ---- the labels of a job
 
@@ -39,64 +41,64 @@ PrintsButRefuses line name old new =
     (Appends old.contents new.contents (line ++ refused_line name))
     ⊎ ((new.has_failed ≡ true) × AppendsThenPart old.contents new.contents line (refused_line name))
 
--- How the labels of a job go out, from both outputs to both: first the line, then the images. If the line can't be
--- written, no byte of an image goes out. Without memory for an image the labels before it are out, and it is not; where
--- a write of an image fails, the images are out up to a byte.
-pub data PrintsLabels (labels : List GridView) (line : List ℕ) (old old_errors : OutputView)
-    : ℕ → OutputView → OutputView → Type 0 where
-  all : {new errors : OutputView} → Appends old_errors.contents errors.contents line
-      → Appends old.contents new.contents (images_of labels) → PrintsLabels labels line old old_errors 0 new errors
-  no_line : {errors : OutputView} → errors.has_failed ≡ true → AppendsPart old_errors.contents errors.contents line
-      → PrintsLabels labels line old old_errors 1 old errors
-  no_memory : {new errors : OutputView} (done : List GridView) (next : GridView) (rest : List GridView)
-      → labels ≡ done ++ next ∷ rest
-      → Appends old.contents new.contents (images_of done)
-      → PrintsButRefuses line (refusal_name refusals.Memory) old_errors errors
-      → PrintsLabels labels line old old_errors 1 new errors
-  not_written : {new errors : OutputView} → new.has_failed ≡ true
-      → AppendsPart old.contents new.contents (images_of labels)
-      → PrintsButRefuses line (write_fault_name Write) old_errors errors
-      → PrintsLabels labels line old old_errors 1 new errors
+-- How the labels of a job go out: first the line, to the standard error, then the images, to the output. If the line
+-- can't be written, no byte of an image goes out. Without memory for an image the labels before it are out, and it is
+-- not; if a write of an image fails, the images are out up to a byte.
+pub data PrintsLabels (labels : List GridView) (line : List ℕ) (old : StreamsView) (status : ℕ) (new : StreamsView)
+    : Type 0 where
+  all : Appends old.errors.contents new.errors.contents line
+      → Appends old.output.contents new.output.contents (images_of labels) → status ≡ 0
+      → PrintsLabels labels line old status new
+  no_line : new.errors.has_failed ≡ true → AppendsPart old.errors.contents new.errors.contents line
+      → new.output ≡ old.output → status ≡ 1 → PrintsLabels labels line old status new
+  no_memory : (done : List GridView) (next : GridView) (rest : List GridView) → labels ≡ done ++ next ∷ rest
+      → Appends old.output.contents new.output.contents (images_of done)
+      → PrintsButRefuses line (refusal_name refusals.Memory) old.errors new.errors → status ≡ 1
+      → PrintsLabels labels line old status new
+  not_written : new.output.has_failed ≡ true
+      → AppendsPart old.output.contents new.output.contents (images_of labels)
+      → PrintsButRefuses line (write_fault_name Write) old.errors new.errors → status ≡ 1
+      → PrintsLabels labels line old status new
 
 -- No image goes out before its line: nothing went to the output, or a line `printed` is out whole on the errors.
-abbrev pub PrintsLineFirst : OutputView → OutputView → OutputView → OutputView → Type 0
-PrintsLineFirst old old_errors new errors =
-    (new ≡ old)
+abbrev pub PrintsLineFirst : StreamsView → StreamsView → Type 0
+PrintsLineFirst old new =
+    (new.output ≡ old.output)
     ⊎ ((id count left : ℕ) × (after : List ℕ)
-    × Appends old_errors.contents errors.contents (printed_line id count left ++ after))
+    × Appends old.errors.contents new.errors.contents (printed_line id count left ++ after))
 
 -- ---- the whole
 
--- what a printer answers to a document, and what goes out: the labels, or the line of a refusal
-pub data TellsPrint (before : PrinterView) (size : Size) (scheme : Scheme) (document : List ℕ)
-    (old old_errors : OutputView)
-    : ℕ → PrinterView → OutputView → OutputView → Type 0 where
-  printed : {status : ℕ} {after : PrinterView} {new errors : OutputView} (job : JobView)
-      → Prints before size scheme document (Ok job) after
-      → PrintsLabels job.labels (printed_line job.id job.count (free_count after.ledger.free)) old old_errors status
-      new errors
-      → TellsPrint before size scheme document old old_errors status after new errors
-  refused : {status : ℕ} {after : PrinterView} {errors : OutputView} (fault : PrintFault)
-      → Prints before size scheme document (Err fault) after →
-      TellsRefusal (print_fault_name fault) old_errors errors status
-      → TellsPrint before size scheme document old old_errors status after old errors
+-- how a printer's answer to a document goes out, if this many identifications are free then: the labels of the job, or
+-- the line of a refusal
+abbrev pub TellsPrint : Result JobView PrintFault → ℕ → StreamsView → ℕ → StreamsView → Type 0
+TellsPrint (Ok job) left old status new =
+    PrintsLabels job.labels (printed_line job.id job.count left) old status new × ReadsNothing old new
+TellsPrint (Err fault) left old status new = RefusesOnErrors (print_fault_name fault) old status new
 
--- How `print` ends, from a store, an input and two outputs to the exit status, the store and the outputs: the printer
--- was opened and has answered to the document; or, in this order, the side is none, the input could not be read, or the
--- document was read and the printer was not opened.
-pub data EndsPrint (saved : Saved) (number n : ℕ) (scheme : Scheme) (input rest : InputView)
-    (old old_errors : OutputView)
-    : ℕ → Saved → OutputView → OutputView → Type 0 where
-  no_side : {status : ℕ} {errors : OutputView} → ¬ IsSide n → rest ≡ input
-      → TellsRefusal (refusal_name refusals.Side) old_errors errors status
-      → EndsPrint saved number n scheme input rest old old_errors status saved old errors
-  not_read : {status : ℕ} {errors : OutputView} (fault : InputFault) → IsSide n → HasInputFault rest fault
-      → TellsRefusal (input_fault_name fault) old_errors errors status
-      → EndsPrint saved number n scheme input rest old old_errors status saved old errors
-  not_opened : {status : ℕ} {after : Saved} {errors : OutputView} (document : List ℕ) → IsSide n
-      → ReadsDocument input rest document → IsNotOpened saved number old_errors status after errors
-      → EndsPrint saved number n scheme input rest old old_errors status after old errors
-  opened : {status : ℕ} {new errors : OutputView} (size : Size) (document : List ℕ) (before after : PrinterView)
-      → side size ≡ n → ReadsDocument input rest document → Opens saved number before
-      → TellsPrint before size scheme document old old_errors status after new errors
-      → EndsPrint saved number n scheme input rest old old_errors status after.saved new errors
+-- What comes of a document that was read: the printer was opened and has answered to it, and its answer has gone out;
+-- or the standard error was told why the printer was not opened.
+pub data PrintsDocument (options : SizedOptions) (document : List ℕ) (old : OnLedger) (status : ℕ) (new : OnLedger)
+    : Type 0 where
+  opened : (before after : PrinterView) (answer : Result JobView PrintFault)
+      → Opens old.saved options.number before → Prints before options.size options.scheme document answer after
+      → new.saved ≡ after.saved → TellsPrint answer (free_count after.ledger.free) old.streams status new.streams
+      → PrintsDocument options document old status new
+  not_opened : (fault : OpenFault) → HasOpenFault old.saved options.number fault → new.saved ≡ old.saved
+      → RefusesOnErrors (open_fault_name fault) old.streams status new.streams
+      → PrintsDocument options document old status new
+
+-- How `print` ends, where `rest` is the input once it was read: a document was read, and this is what came of it; or,
+-- in this order, the side is none, or the input could not be read.
+pub data EndsPrint (options : PrintOptions) (old : OnLedger) (status : ℕ) (new : OnLedger) : Type 0 where
+  no_side : ¬ IsSide options.side → new.saved ≡ old.saved
+      → RefusesOnErrors (refusal_name refusals.Side) old.streams status new.streams → EndsPrint options old status new
+  not_read : (fault : InputFault) (rest : InputView) → IsSide options.side → HasInputFault rest fault
+      → new.saved ≡ old.saved
+      → RefusesOnErrors (input_fault_name fault) (record old.streams { input = rest }) status new.streams
+      → EndsPrint options old status new
+  read : (size : Size) (document : List ℕ) (rest : InputView) → side size ≡ options.side
+      → ReadsDocument old.streams.input rest document
+      → PrintsDocument (record { number = options.number; size = size; scheme = options.scheme }) document
+      (record old { streams = record old.streams { input = rest } }) status new
+      → EndsPrint options old status new

@@ -1,5 +1,5 @@
--- What `ledger`, `give` and `take` do to the store of a ledger, and what they write.
-use Rattle.std.specs.Prelude.{ℕ, List, Ok, Err}
+-- What `ledger`, `give` and `take` do to the store of a ledger and to the streams.
+use Rattle.std.specs.Prelude.{◌≡◌, ℕ, Result, Ok, Err}
 use Rattle.dm_store.specs.Saved.{Saved}
 use Rattle.dm_print_ledger.specs.Creating.{Creates, HasCreateFault}
 use Rattle.dm_print_ledger.specs.FaultNames.{create_fault_name, open_fault_name, give_fault_name, take_fault_name}
@@ -11,68 +11,64 @@ use Rattle.dm_print_ledger.specs.declared.fault.CreateFault.{CreateFault}
 use Rattle.dm_print_ledger.specs.declared.fault.GiveFault.{GiveFault}
 use Rattle.dm_print_ledger.specs.declared.fault.OpenFault.{OpenFault}
 use Rattle.dm_print_ledger.specs.declared.fault.TakeFault.{TakeFault}
-use Rattle.dm_print_ledger.specs.declared.range.Range.{Range}
-use Rattle.relay_streams.specs.Streams.{OutputView}
 use Rattle.relay_shared.specs.PrinterLines.{left_line, taken_line, ticket_line}
 use Rattle.relay_shared.specs.Refusals.{refusal_name}
-use Rattle.relay_shared.specs.Telling.{Tells, TellsRefusal}
+use Rattle.relay_shared.specs.Surroundings.{RefusesOnOutput, StreamsView, TellsOnOutput}
 use Rattle.relay_shared.specs.declared.refusal.Refusal.TheVariants.{Ticket}
 use Rattle.relay_printer_commands.specs.Tickets.{HasTicket, IsTextOf}
+use Rattle.relay_printer_commands.specs.declared.give.GiveOptions.{GiveOptions}
+use Rattle.relay_printer_commands.specs.declared.ledger.LedgerOptions.{LedgerOptions}
+use Rattle.relay_printer_commands.specs.declared.take.TakeOptions.{TakeOptions}
 
--- How `ledger` ends, from a store and an output to its exit status, the store and the output: a printer was created, or
--- why none was.
-pub data EndsLedger (saved : Saved) (number : ℕ) (range : Range) (old : OutputView) : ℕ → Saved → OutputView →
-    Type 0 where
-  created : {status : ℕ} {new : OutputView} (printer : PrinterView) → Creates saved number range printer
-      → Tells (left_line (free_count printer.ledger.free)) 0 old new status
-      → EndsLedger saved number range old status printer.saved new
-  refused : {status : ℕ} {after : Saved} {new : OutputView} (fault : CreateFault) →
-      HasCreateFault saved number range fault after
-      → TellsRefusal (create_fault_name fault) old new status
-      → EndsLedger saved number range old status after new
+-- the store of a printer's ledger, and the streams
+pub record OnLedger : Type 0 where
+  pub saved : Saved
+  pub streams : StreamsView
 
--- why a printer was not opened, and that nothing changed
-pub data IsNotOpened (saved : Saved) (number : ℕ) (old : OutputView) : ℕ → Saved → OutputView → Type 0 where
-  refused : {status : ℕ} {new : OutputView} (fault : OpenFault) → HasOpenFault saved number fault
-      → TellsRefusal (open_fault_name fault) old new status
-      → IsNotOpened saved number old status saved new
+-- ---- ledger
 
--- what a printer answers to a range that it is to give, and the line of it
-pub data TellsGive (before : PrinterView) (to : ℕ) (range : Range) (old : OutputView)
-    : ℕ → PrinterView → OutputView → Type 0 where
-  given : {status : ℕ} {after : PrinterView} {new : OutputView} (ticket : TicketView) →
-      Gives before to range (Ok ticket) after
-      → Tells (ticket_line ticket) 0 old new status → TellsGive before to range old status after new
-  refused : {status : ℕ} {after : PrinterView} {new : OutputView} (fault : GiveFault) →
-      Gives before to range (Err fault) after
-      → TellsRefusal (give_fault_name fault) old new status → TellsGive before to range old status after new
+-- how `ledger` ends: a printer was created, and the output was told how many identifications are free; or why none was
+pub data EndsLedger (options : LedgerOptions) (old : OnLedger) (status : ℕ) (new : OnLedger) : Type 0 where
+  created : (printer : PrinterView) → Creates old.saved options.number options.range printer
+      → new.saved ≡ printer.saved
+      → TellsOnOutput (left_line (free_count printer.ledger.free)) old.streams status new.streams
+      → EndsLedger options old status new
+  refused : (fault : CreateFault) → HasCreateFault old.saved options.number options.range fault new.saved
+      → RefusesOnOutput (create_fault_name fault) old.streams status new.streams
+      → EndsLedger options old status new
 
--- how `give` ends: the printer was opened and has answered, or it was not opened
-pub data EndsGive (saved : Saved) (number to : ℕ) (range : Range) (old : OutputView) : ℕ → Saved → OutputView →
-    Type 0 where
-  opened : {status : ℕ} {new : OutputView} (before after : PrinterView) → Opens saved number before
-      → TellsGive before to range old status after new → EndsGive saved number to range old status after.saved new
-  not_opened : {status : ℕ} {after : Saved} {new : OutputView} → IsNotOpened saved number old status after new
-      → EndsGive saved number to range old status after new
+-- ---- give
 
--- what a printer answers to a ticket that it is to take, and the line of it
-pub data TellsTake (before : PrinterView) (ticket : TicketView) (old : OutputView)
-    : ℕ → PrinterView → OutputView → Type 0 where
-  taken : {status : ℕ} {after : PrinterView} {new : OutputView} → Takes before ticket (Ok tt) after
-      → Tells (taken_line (free_count after.ledger.free)) 0 old new status →
-      TellsTake before ticket old status after new
-  refused : {status : ℕ} {after : PrinterView} {new : OutputView} (fault : TakeFault) →
-      Takes before ticket (Err fault) after
-      → TellsRefusal (take_fault_name fault) old new status → TellsTake before ticket old status after new
+-- what is told of a printer's answer to a range that it is to give
+abbrev pub TellsGive : Result TicketView GiveFault → StreamsView → ℕ → StreamsView → Type 0
+TellsGive (Ok ticket) old status new = TellsOnOutput (ticket_line ticket) old status new
+TellsGive (Err fault) old status new = RefusesOnOutput (give_fault_name fault) old status new
+
+-- how `give` ends: the printer was opened and has answered, and the output was told; or why it was not opened
+pub data EndsGive (options : GiveOptions) (old : OnLedger) (status : ℕ) (new : OnLedger) : Type 0 where
+  opened : (before after : PrinterView) (answer : Result TicketView GiveFault)
+      → Opens old.saved options.number before → Gives before options.to options.range answer after
+      → new.saved ≡ after.saved → TellsGive answer old.streams status new.streams
+      → EndsGive options old status new
+  not_opened : (fault : OpenFault) → HasOpenFault old.saved options.number fault → new.saved ≡ old.saved
+      → RefusesOnOutput (open_fault_name fault) old.streams status new.streams → EndsGive options old status new
+
+-- ---- take
+
+-- what is told of a printer's answer to a ticket that it is to take, if this many identifications are free then
+abbrev pub TellsTake : Result (Unit {0}) TakeFault → ℕ → StreamsView → ℕ → StreamsView → Type 0
+TellsTake (Ok _) left old status new = TellsOnOutput (taken_line left) old status new
+TellsTake (Err fault) left old status new = RefusesOnOutput (take_fault_name fault) old status new
 
 -- how `take` ends: the text is that of no ticket; or the printer was opened and has answered, or it was not opened
-pub data EndsTake (saved : Saved) (number : ℕ) (text : List ℕ) (old : OutputView) : ℕ → Saved → OutputView →
-    Type 0 where
-  no_ticket : {status : ℕ} {new : OutputView} → ¬ HasTicket text → TellsRefusal (refusal_name Ticket) old new status
-      → EndsTake saved number text old status saved new
-  opened : {status : ℕ} {new : OutputView} (ticket : TicketView) (before after : PrinterView) → HasTicket text
-      → IsTextOf text ticket → Opens saved number before → TellsTake before ticket old status after new
-      → EndsTake saved number text old status after.saved new
-  not_opened : {status : ℕ} {after : Saved} {new : OutputView} → HasTicket text →
-      IsNotOpened saved number old status after new
-      → EndsTake saved number text old status after new
+pub data EndsTake (options : TakeOptions) (old : OnLedger) (status : ℕ) (new : OnLedger) : Type 0 where
+  no_ticket : ¬ HasTicket options.text.now → new.saved ≡ old.saved
+      → RefusesOnOutput (refusal_name Ticket) old.streams status new.streams → EndsTake options old status new
+  opened : (ticket : TicketView) (before after : PrinterView) (answer : Result (Unit {0}) TakeFault)
+      → HasTicket options.text.now → IsTextOf options.text.now ticket → Opens old.saved options.number before
+      → Takes before ticket answer after → new.saved ≡ after.saved
+      → TellsTake answer (free_count after.ledger.free) old.streams status new.streams
+      → EndsTake options old status new
+  not_opened : (fault : OpenFault) → HasTicket options.text.now → HasOpenFault old.saved options.number fault
+      → new.saved ≡ old.saved → RefusesOnOutput (open_fault_name fault) old.streams status new.streams
+      → EndsTake options old status new

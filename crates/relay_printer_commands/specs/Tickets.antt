@@ -5,9 +5,8 @@ use Rattle.hex.specs.Hex.{decode_sized}
 use Rattle.dm_gf256.specs.Polynomial.{IsBlockWord}
 use Rattle.dm_print_ledger.specs.Tickets.{AreOfTicket, ticket_bytes}
 use Rattle.dm_print_ledger.specs.Views.{TicketView}
-use Rattle.relay_streams.specs.Streams.{OutputView}
 use Rattle.relay_shared.specs.Refusals.{refusal_name}
-use Rattle.relay_shared.specs.Telling.{Tells, TellsRefusal}
+use Rattle.relay_shared.specs.Surroundings.{RefusesOnOutput, StreamsView, TellsOnOutput}
 use Rattle.relay_shared.specs.TicketLines.{check_line, from_line, grouped}
 use Rattle.relay_shared.specs.declared.refusal.Refusal.TheVariants.{Ticket}
 
@@ -56,9 +55,8 @@ abbrev pub ticket_lines : TicketView → List ℕ → List ℕ
 ticket_lines ticket whole = from_line ticket ++ check_line whole
 
 -- how `ticket` ends: the two lines of the ticket of the text were written, or the text is that of no ticket
-pub data EndsTicket (text : List ℕ) (old : OutputView) : ℕ → OutputView → Type 0 where
-  shown : {status : ℕ} {new : OutputView} (ticket : TicketView) (whole : List ℕ) → HasTicket text
-      → IsTextOf text ticket → IsChecked (ticket_bytes ticket) whole
-      → Tells (ticket_lines ticket whole) 0 old new status → EndsTicket text old status new
-  no_ticket : {status : ℕ} {new : OutputView} → ¬ HasTicket text → TellsRefusal (refusal_name Ticket) old new status
+pub data EndsTicket (text : List ℕ) (old : StreamsView) (status : ℕ) (new : StreamsView) : Type 0 where
+  shown : (ticket : TicketView) (whole : List ℕ) → HasTicket text → IsTextOf text ticket
+      → IsChecked (ticket_bytes ticket) whole → TellsOnOutput (ticket_lines ticket whole) old status new
       → EndsTicket text old status new
+  no_ticket : ¬ HasTicket text → RefusesOnOutput (refusal_name Ticket) old status new → EndsTicket text old status new

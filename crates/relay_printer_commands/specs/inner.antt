@@ -1,3 +1,3 @@
 -- Private: only contracts inside this crate cite what stands in this folder.
 pub mod Images
-pub mod Opened
+pub mod Opening

@@ -6,48 +6,56 @@ ghost use Rattle.relay_printer_commands.specs.Lasting.{StopLeaves};
 ghost use Rattle.relay_printer_commands.specs.Printers.{EndsGive, TellsGive};
 
 use crate::opening::open_printer;
-use dm_print_ledger::{Printer, Range};
+use dm_print_ledger::{GiveFault, Range, Ticket};
 use dm_store::Store;
-use relay_shared::{Ended, put_ticket, refuse, status_after};
-use relay_streams::Output;
+use relay_shared::{Ended, Streams, put_ticket, refuse, status_after};
 use std::alloc::Allocator;
-use std::io::Write;
+use std::io::{Read, Write};
 
-// Gives a range, and writes the line of it.
-fn give<A: Allocator + Copy, S: Store, W: Write>(
-    printer: &mut Printer<S, A>,
-    output: &mut Output<W>,
-    to: u16,
-    range: Range,
+/// Which printer gives, to which other, and what.
+#[derive(Clone, Copy, Debug, PartialEq, Eq)]
+pub struct GiveOptions {
+    /// The number of the printer that gives.
+    pub number: u16,
+    /// The number of the printer that is to take.
+    pub to: u16,
+    /// The identifications that are given.
+    pub range: Range,
+}
+
+// Writes the line of a printer's answer to a range that it was to give.
+fn tell_give<R: Read, W: Write, E: Write>(
+    streams: &mut Streams<R, W, E>,
+    answer: Result<Ticket, GiveFault>,
 ) -> u8
-    ensures { TellsGive printer.old to range output.old result printer.new output.new }
+    ensures { TellsGive answer streams.old result streams.new }
 {
-    match printer.give(to, range) {
-        Ok(ticket) => status_after(put_ticket(output, ticket)),
-        Err(fault) => refuse(output, fault.name()),
+    match answer {
+        Ok(ticket) => status_after(put_ticket(&mut streams.output, ticket)),
+        Err(fault) => refuse(&mut streams.output, fault.name()),
     }
 }
 
-/// Gives the identifications of a range to the printer `to`, and prints `ticket HEX`, the ten bytes of the ticket,
-/// after they were saved as gone; or the line `refused NAME`.
-pub fn give_command<A: Allocator + Copy, S: Store, W: Write>(
+/// Gives the identifications of a range to another printer, and prints `ticket HEX`, the ten bytes of the ticket, after
+/// they were saved as gone; or the line `refused NAME`.
+pub fn give_command<A: Allocator + Copy, S: Store, R: Read, W: Write, E: Write>(
     alloc: A,
     store: S,
-    output: &mut Output<W>,
-    number: u16,
-    to: u16,
-    range: Range,
+    streams: &mut Streams<R, W, E>,
+    options: GiveOptions,
 ) -> Ended<S>
-    ensures ends { EndsGive (S.state store) number to range output.old result.status (S.state result.store)
-        output.new }
-    ensures lasts { StopLeaves (λ held next. GivesAway held range next) (result.status ≡ 0) (S.state store)
-        (S.left store) (S.state result.store) (S.left result.store) }
+    ensures ends { EndsGive options (record { saved = S.state store; streams = streams.old }) result.status
+        (record { saved = S.state result.store; streams = streams.new }) }
+    ensures lasts { StopLeaves (λ held next. GivesAway held options.range next) (result.status ≡ 0)
+        (record { saved = S.state store; left = S.left store })
+        (record { saved = S.state result.store; left = S.left result.store }) }
 {
-    let mut printer = match open_printer(alloc, store, output, number) {
+    let mut printer = match open_printer(alloc, store, &mut streams.output, options.number) {
         Ok(printer) => printer,
         Err(ended) => return ended,
     };
-    let status = give(&mut printer, output, to, range);
+    let answer = printer.give(options.to, options.range);
+    let status = tell_give(streams, answer);
     let store = printer.close();
     Ended { status, store }
 }

@@ -4,30 +4,38 @@ ghost use Rattle.relay_printer_commands.specs.Printers.{EndsLedger};
 
 use dm_print_ledger::{CreateRefused, Printer, Range};
 use dm_store::Store;
-use relay_shared::{Ended, put_left, refuse, status_after};
-use relay_streams::Output;
+use relay_shared::{Ended, Streams, put_left, refuse, status_after};
 use std::alloc::Allocator;
-use std::io::Write;
+use std::io::{Read, Write};
+
+/// Which printer is made, and what is free to it.
+#[derive(Clone, Copy, Debug, PartialEq, Eq)]
+pub struct LedgerOptions {
+    /// The printer's number.
+    pub number: u16,
+    /// The identifications that are free.
+    pub range: Range,
+}
 
 /// Makes the ledger of the printer of a number on a store that holds nothing, and prints `left N`, how many
 /// identifications are free, or the line `refused NAME`.
-pub fn ledger_command<A: Allocator + Copy, S: Store, W: Write>(
+pub fn ledger_command<A: Allocator + Copy, S: Store, R: Read, W: Write, E: Write>(
     alloc: A,
     store: S,
-    output: &mut Output<W>,
-    number: u16,
-    range: Range,
+    streams: &mut Streams<R, W, E>,
+    options: LedgerOptions,
 ) -> Ended<S>
-    ensures { EndsLedger (S.state store) number range output.old result.status (S.state result.store) output.new }
+    ensures { EndsLedger options (record { saved = S.state store; streams = streams.old }) result.status
+        (record { saved = S.state result.store; streams = streams.new }) }
 {
-    match Printer::create(alloc, store, number, range) {
+    match Printer::create(alloc, store, options.number, options.range) {
         Ok(printer) => {
-            let status = status_after(put_left(output, printer.left()));
+            let status = status_after(put_left(&mut streams.output, printer.left()));
             let store = printer.close();
             Ended { status, store }
         }
         Err(CreateRefused { fault, store }) => {
-            let status = refuse(output, fault.name());
+            let status = refuse(&mut streams.output, fault.name());
             Ended { status, store }
         }
     }

@@ -11,10 +11,10 @@ ghost use Rattle.relay_printer_commands.specs.Left.{EndsLeft};
 use dm_print_ledger::{Giver, Range, Shown};
 use dm_store::Store;
 use relay_shared::{
-    Ended, put_free, put_given, put_left, put_number, put_took, refuse, status_after,
+    Ended, Streams, put_free, put_given, put_left, put_number, put_took, refuse, status_after,
 };
 use relay_streams::{Output, WriteFault};
-use std::io::Write;
+use std::io::{Read, Write};
 
 // Writes the line of each range.
 fn put_ranges<W: Write>(output: &mut Output<W>, ranges: &[Range]) -> Result<(), WriteFault>
@@ -56,17 +56,21 @@ fn put_shown<W: Write>(output: &mut Output<W>, shown: &Shown) -> Result<(), Writ
 
 /// Prints what the ledger in a store holds, a line for each fact, or the line `refused NAME`. Nothing is saved, and no
 /// memory is taken but the store's.
-pub fn left_command<S: Store, W: Write>(store: S, output: &mut Output<W>) -> Ended<S>
-    ensures { EndsLeft (S.state store) output.old result.status (S.state result.store) output.new }
+pub fn left_command<S: Store, R: Read, W: Write, E: Write>(
+    store: S,
+    streams: &mut Streams<R, W, E>,
+) -> Ended<S>
+    ensures { EndsLeft (record { saved = S.state store; streams = streams.old }) result.status
+        (record { saved = S.state result.store; streams = streams.new }) }
 {
     let mut store = store;
     match Shown::load(&mut store) {
         Ok(shown) => {
-            let status = status_after(put_shown(output, &shown));
+            let status = status_after(put_shown(&mut streams.output, &shown));
             Ended { status, store }
         }
         Err(fault) => {
-            let status = refuse(output, fault.name());
+            let status = refuse(&mut streams.output, fault.name());
             Ended { status, store }
         }
     }

@@ -3,7 +3,7 @@
 ghost use Rattle.std.specs.Prelude.{◌≡◌, IfErr, MatchResult};
 ghost use Rattle.dm_store.specs.Left.{IsDurable, LeavesNoMore};
 ghost use Rattle.dm_print_ledger.specs.Opening.{Opens};
-ghost use Rattle.relay_printer_commands.specs.Printers.{IsNotOpened};
+ghost use Rattle.relay_printer_commands.specs.inner.Opening.{TellsNotOpened};
 
 use dm_print_ledger::{OpenRefused, Printer};
 use dm_store::Store;
@@ -21,7 +21,8 @@ pub(crate) fn open_printer<A: Allocator + Copy, S: Store, W: Write>(
 ) -> Result<Printer<S, A>, Ended<S>>
     ensures opens { MatchResult result
         (λ printer. Opens (S.state store) number printer × (output.new ≡ output.old))
-        (λ ended. IsNotOpened (S.state store) number output.old ended.status (S.state ended.store) output.new) }
+        (λ ended. TellsNotOpened (S.state store) number output.old ended.status output.new) }
+    ensures same { IfErr result (λ ended. S.state ended.store ≡ S.state store) }
     ensures leaves { IfErr result (λ ended.
         IsDurable (S.state store) → LeavesNoMore (S.left store) (S.left ended.store)) }
 {

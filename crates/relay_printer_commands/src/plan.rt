@@ -10,8 +10,10 @@ ghost use Rattle.relay_printer_commands.specs.Plan.{EndsPlan};
 use crate::sides::plan_of;
 use dm_encodation::Scheme;
 use dm_print_ledger::PrintFault;
-use relay_shared::{DOCUMENT_BYTES, PlannedSide, put_side, read_document, refuse, status_after};
-use relay_streams::{Input, Output, WriteFault};
+use relay_shared::{
+    DOCUMENT_BYTES, PlannedSide, Streams, put_side, read_document, refuse, status_after,
+};
+use relay_streams::{Output, WriteFault};
 use std::alloc::Allocator;
 use std::io::{Read, Write};
 
@@ -30,22 +32,21 @@ fn put_plan<W: Write>(output: &mut Output<W>, plan: &[PlannedSide]) -> Result<()
 /// Prints a line `side N labels K` for each side for which a document can be cut, the smallest first, where K is the
 /// number of its labels; or the line `refused NAME`, `TooLong` where there is no such side. At most 41,601 bytes of the
 /// input are read. No memory is taken but the document's.
-pub fn plan_command<A: Allocator + Copy, R: Read, W: Write>(
+pub fn plan_command<A: Allocator + Copy, R: Read, W: Write, E: Write>(
     alloc: A,
-    input: &mut Input<R>,
-    output: &mut Output<W>,
+    streams: &mut Streams<R, W, E>,
     scheme: Scheme,
 ) -> u8
-    ensures part { TakesPart input.old.remaining input.new.remaining DOCUMENT_BYTES }
-    ensures ends { EndsPlan scheme input.old input.new output.old result output.new }
+    ensures part { TakesPart streams.old.input.remaining streams.new.input.remaining DOCUMENT_BYTES }
+    ensures ends { EndsPlan scheme streams.old result streams.new }
 {
-    let document = match read_document(alloc, input) {
+    let document = match read_document(alloc, &mut streams.input) {
         Ok(document) => document,
-        Err(fault) => return refuse(output, fault.name()),
+        Err(fault) => return refuse(&mut streams.output, fault.name()),
     };
     let plan = plan_of(&document, scheme);
     if plan.is_empty() {
-        return refuse(output, PrintFault::TooLong.name());
+        return refuse(&mut streams.output, PrintFault::TooLong.name());
     }
-    status_after(put_plan(output, plan.as_slice()))
+    status_after(put_plan(&mut streams.output, plan.as_slice()))
 }

@@ -6,50 +6,59 @@ ghost use Rattle.relay_printer_commands.specs.Printers.{EndsTake, TellsTake};
 
 use crate::opening::open_printer;
 use crate::ticket_text::ticket_of;
-use dm_print_ledger::{Printer, Ticket};
+use dm_print_ledger::TakeFault;
 use dm_store::Store;
-use relay_shared::{Ended, Refusal, put_taken, refuse, status_after};
-use relay_streams::Output;
+use relay_shared::{Ended, Refusal, Streams, put_taken, refuse, status_after};
 use std::alloc::Allocator;
-use std::io::Write;
+use std::io::{Read, Write};
 
-// Takes a ticket, and writes the line of it.
-fn take<A: Allocator + Copy, S: Store, W: Write>(
-    printer: &mut Printer<S, A>,
-    output: &mut Output<W>,
-    ticket: &Ticket,
+/// Which printer takes, and which ticket.
+#[derive(Clone, Copy, Debug, PartialEq, Eq)]
+pub struct TakeOptions<'a> {
+    /// The printer's number.
+    pub number: u16,
+    /// The text of the ticket, in either of its forms.
+    pub text: &'a str,
+}
+
+// Writes the line of a printer's answer to a ticket that it was to take, if this many identifications are free then.
+fn tell_take<R: Read, W: Write, E: Write>(
+    streams: &mut Streams<R, W, E>,
+    answer: Result<(), TakeFault>,
+    left: u32,
 ) -> u8
-    ensures { TellsTake printer.old ticket.now output.old result printer.new output.new }
+    ensures { TellsTake answer left streams.old result streams.new }
 {
-    match printer.take(ticket) {
-        Ok(()) => status_after(put_taken(output, printer.left())),
-        Err(fault) => refuse(output, fault.name()),
+    match answer {
+        Ok(()) => status_after(put_taken(&mut streams.output, left)),
+        Err(fault) => refuse(&mut streams.output, fault.name()),
     }
 }
 
 /// Takes the ticket of a text, in either form, and prints `taken left N`, how many identifications are free then, or
 /// the line `refused NAME`. The text is looked at before the store.
-pub fn take_command<A: Allocator + Copy, S: Store, W: Write>(
+pub fn take_command<A: Allocator + Copy, S: Store, R: Read, W: Write, E: Write>(
     alloc: A,
     store: S,
-    output: &mut Output<W>,
-    number: u16,
-    text: &str,
+    streams: &mut Streams<R, W, E>,
+    options: TakeOptions<'_>,
 ) -> Ended<S>
-    ensures ends { EndsTake (S.state store) number text.now output.old result.status (S.state result.store)
-        output.new }
-    ensures lasts { StopLeaves (TakesText text.now) (result.status ≡ 0) (S.state store) (S.left store)
-        (S.state result.store) (S.left result.store) }
+    ensures ends { EndsTake options.entry (record { saved = S.state store; streams = streams.old }) result.status
+        (record { saved = S.state result.store; streams = streams.new }) }
+    ensures lasts { StopLeaves (TakesText options.entry.text.now) (result.status ≡ 0)
+        (record { saved = S.state store; left = S.left store })
+        (record { saved = S.state result.store; left = S.left result.store }) }
 {
-    let Some(ticket) = ticket_of(text) else {
-        let status = refuse(output, Refusal::Ticket.name());
+    let Some(ticket) = ticket_of(options.text) else {
+        let status = refuse(&mut streams.output, Refusal::Ticket.name());
         return Ended { status, store };
     };
-    let mut printer = match open_printer(alloc, store, output, number) {
+    let mut printer = match open_printer(alloc, store, &mut streams.output, options.number) {
         Ok(printer) => printer,
         Err(ended) => return ended,
     };
-    let status = take(&mut printer, output, &ticket);
+    let answer = printer.take(&ticket);
+    let status = tell_take(streams, answer, printer.left());
     let store = printer.close();
     Ended { status, store }
 }

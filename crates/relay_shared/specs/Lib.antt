@@ -8,6 +8,7 @@ pub mod LedgerLines
 pub mod PlanLines
 pub mod PrinterLines
 pub mod Refusals
+pub mod Surroundings
 pub mod Telling
 pub mod TicketLines
 pub mod inner

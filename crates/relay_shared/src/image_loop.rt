@@ -39,7 +39,7 @@ pub trait OnImages<A: Allocator + Copy> {
             output.old output.new }
         ensures kept { keeps (state self.old) (state self.new) };
 
-    /// Is told by which name image number `number` was refused that could not be read, after its line.
+    /// Called after the line of an image that could not be read, with its number, from 1, and the refusal's name.
     fn note_unread(&mut self, number: u32, name: &str)
         ensures { state self.new ≡ state self.old };
 

@@ -16,6 +16,7 @@ mod ledger_lines;
 mod plan_lines;
 mod printer_lines;
 mod refusal;
+mod streams;
 mod ticket_lines;
 
 pub use desk_lines::{mask_digits, put_accepted, put_forgotten, put_imported};
@@ -28,4 +29,5 @@ pub use ledger_lines::{put_free, put_given, put_number, put_took};
 pub use plan_lines::{PlannedSide, put_side};
 pub use printer_lines::{id_digits, put_left, put_printed, put_taken, put_ticket};
 pub use refusal::Refusal;
+pub use streams::Streams;
 pub use ticket_lines::{put_check, put_from};

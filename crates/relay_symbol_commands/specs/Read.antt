@@ -22,8 +22,8 @@ use Rattle.dm_append_label.specs.declared.fault.PageFault.TheVariants as page_fa
 use Rattle.dm_pbm_io.specs.SymbolImage.{HasShape, IsGridInside}
 use Rattle.dm_pbm_io.specs.Image.{Picture}
 use Rattle.relay_streams.specs.Refusal.{refused_line}
-use Rattle.relay_streams.specs.Streams.{InputView, OutputView}
 use Rattle.relay_shared.specs.EachImage.{ImageCommand, TellsImages}
+use Rattle.relay_shared.specs.Surroundings.{StreamsView}
 use Rattle.relay_symbol_commands.specs.Refusals.{read_refusal_name}
 use Rattle.relay_symbol_commands.specs.ReadLines.{label_line, symbol_line}
 use Rattle.relay_symbol_commands.specs.declared.refusal.ReadRefusal.{ReadRefusal}
@@ -79,6 +79,8 @@ read_images = record {
   has_ended = λ _. false;
 }
 
--- How `read` ends: the lines of its input were written, or the output has failed at one of them.
-abbrev pub EndsRead : InputView → InputView → OutputView → ℕ → OutputView → Type 0
-EndsRead input rest old status new = TellsImages read_images tt input rest old status tt new
+-- How `read` ends, from its streams to the exit status and the streams: the lines of its input were written, or the
+-- output has failed at one of them. Nothing goes to the standard error.
+abbrev pub EndsRead : StreamsView → ℕ → StreamsView → Type 0
+EndsRead old status new =
+    TellsImages read_images tt old.input new.input old.output status tt new.output × (new.errors ≡ old.errors)

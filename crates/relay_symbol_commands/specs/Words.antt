@@ -4,10 +4,11 @@ use Rattle.std.specs.List.{flat_map}
 use Rattle.std.specs.Fmt.{decimal}
 use Rattle.std.specs.Io.KnownBytes.{Appends}
 use Rattle.dm_check_blocks.specs.declared.size.Size.{Size}
-use Rattle.dm_encodation.specs.declared.scheme.Scheme.{Scheme}
-use Rattle.relay_streams.specs.Streams.{AppendsPart, InputView, OutputView, TakesPart}
+use Rattle.relay_streams.specs.Streams.{AppendsPart, TakesPart}
 use Rattle.relay_symbol_commands.specs.DocumentSymbol.{CarriesDocument, PrintsRefusal}
+use Rattle.relay_symbol_commands.specs.declared.document_symbol.Form.{Form}
 use Rattle.relay_shared.specs.Documents.{document_of}
+use Rattle.relay_shared.specs.Surroundings.{StreamsView}
 use Rattle.relay_shared.specs.declared.document.TheConstants.{DOCUMENT_BYTES}
 
 -- the words in decimal, a space between each two, and a line end
@@ -15,32 +16,34 @@ abbrev pub words_line : List ℕ → List ℕ
 words_line [] = 10 ∷ []
 words_line (word ∷ words) = decimal word ++ (flat_map (λ later. 32 ∷ decimal later) words ++ 10 ∷ [])
 
--- the line of the one symbol of this side that carries the document
-pub record IsLineOf (n : ℕ) (scheme : Scheme) (document line : List ℕ) : Type 0 where
+-- the line of the one symbol of this form that carries the document
+pub record IsLineOf (form : Form) (document line : List ℕ) : Type 0 where
   pub size : Size
   pub words : List ℕ
-  pub symbol : CarriesDocument n scheme document size words
+  pub symbol : CarriesDocument form document size words
   pub spelled : line ≡ words_line words
 
 -- that line was written, and nothing else
-abbrev pub PrintsWords : ℕ → Scheme → InputView → OutputView → OutputView → Type 0
-PrintsWords n scheme input old new =
-    IfSome input.remaining (λ bytes.
-    (line : List ℕ) × IsLineOf n scheme (document_of bytes) line × Appends old.contents new.contents line)
+abbrev pub PrintsWords : Form → StreamsView → StreamsView → Type 0
+PrintsWords form old new =
+    IfSome old.input.remaining (λ bytes.
+    (line : List ℕ) × IsLineOf form (document_of bytes) line
+    × Appends old.output.contents new.output.contents line)
 
 -- a part of that line was written, from its first byte on, and nothing else
-abbrev pub PrintsPartOfWords : ℕ → Scheme → InputView → OutputView → OutputView → Type 0
-PrintsPartOfWords n scheme input old new =
-    IfSome input.remaining (λ bytes.
-    (line : List ℕ) × IsLineOf n scheme (document_of bytes) line × AppendsPart old.contents new.contents line)
+abbrev pub PrintsPartOfWords : Form → StreamsView → StreamsView → Type 0
+PrintsPartOfWords form old new =
+    IfSome old.input.remaining (λ bytes.
+    (line : List ℕ) × IsLineOf form (document_of bytes) line
+    × AppendsPart old.output.contents new.output.contents line)
 
--- How `words` ends, from an input and an output to both and the exit status: the words were printed; or the output has
+-- How `words` ends, from its streams to the exit status and the streams: the words were printed; or the output has
 -- failed and a part of them is out; or there was a reason for a refusal, and its line was written or a part of it.
-pub record EndsWords (n : ℕ) (scheme : Scheme) (input rest : InputView) (old : OutputView) (status : ℕ)
-    (new : OutputView)
-    : Type 0 where
+-- Nothing goes to the standard error.
+pub record EndsWords (form : Form) (old : StreamsView) (status : ℕ) (new : StreamsView) : Type 0 where
   pub status_is : (status ≡ 0) ⊎ (status ≡ 1)
-  pub part : TakesPart input.remaining rest.remaining DOCUMENT_BYTES
-  pub printed : status ≡ 0 → PrintsWords n scheme input old new
-  pub refused : status ≡ 1 → ((new.has_failed ≡ true) × PrintsPartOfWords n scheme input old new)
-      ⊎ PrintsRefusal n scheme input rest old new
+  pub part : TakesPart old.input.remaining new.input.remaining DOCUMENT_BYTES
+  pub printed : status ≡ 0 → PrintsWords form old new
+  pub refused : status ≡ 1 → ((new.output.has_failed ≡ true) × PrintsPartOfWords form old new)
+      ⊎ PrintsRefusal form old.input new.input old.output new.output
+  pub silent : new.errors ≡ old.errors

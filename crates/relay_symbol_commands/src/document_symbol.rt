@@ -16,6 +16,15 @@ use relay_streams::{Input, InputFault};
 use std::alloc::{Allocator, Global};
 use std::io::Read;
 
+/// Which symbol of a document is asked for.
+#[derive(Clone, Copy, Debug, PartialEq, Eq)]
+pub struct Form {
+    /// The side of the symbol, a number that need not be that of a size.
+    pub side: u16,
+    /// The encodation of the document.
+    pub scheme: Scheme,
+}
+
 /// The size of a symbol, and all its words.
 #[derive(Drop)]
 pub(crate) struct Symbol<A: Allocator = Global> {
@@ -33,7 +42,8 @@ fn symbol_of<A: Allocator + Copy>(
     ensures size { IfOk result (λ symbol. symbol.size ≡ size) }
     ensures count { IfOk result (λ symbol. length symbol.words.items ≡ sizes.all_words symbol.size) }
     ensures symbol { IfOk result (λ symbol.
-        CarriesDocument (sizes.side size) scheme document.now symbol.size symbol.words.items) }
+        CarriesDocument (record { side = sizes.side size; scheme = scheme }) document.now symbol.size
+        symbol.words.items) }
     ensures too_long { IsErrOf result encode_faults.TooLong → sizes.data_words size < need_of scheme document.now }
 {
     let data = encode(alloc, scheme, document, &[], size)?;
@@ -41,22 +51,21 @@ fn symbol_of<A: Allocator + Copy>(
     Ok(Symbol { size, words })
 }
 
-/// The symbol of this side that carries the document that the input gives. The side is looked at first, then the input
+/// The symbol of this form that carries the document that the input gives. The side is looked at first, then the input
 /// is read, and then the document is encoded.
 pub(crate) fn read_symbol<A: Allocator + Copy, R: Read>(
     alloc: A,
     input: &mut Input<R>,
-    side: u16,
-    scheme: Scheme,
+    form: Form,
 ) -> Result<Symbol<A>, SymbolRefusal>
-    ensures size { IfOk result (λ symbol. sizes.side symbol.size ≡ side) }
+    ensures size { IfOk result (λ symbol. sizes.side symbol.size ≡ form.side) }
     ensures count { IfOk result (λ symbol. length symbol.words.items ≡ sizes.all_words symbol.size) }
     ensures symbol { IfOk result (λ symbol. IfSome input.old.remaining (λ bytes.
-        CarriesDocument side scheme (document_of bytes) symbol.size symbol.words.items)) }
-    ensures refused { IfErr result (RefusesSymbol side scheme input.old input.new) }
+        CarriesDocument form (document_of bytes) symbol.size symbol.words.items)) }
+    ensures refused { IfErr result (RefusesSymbol form input.old input.new) }
     ensures part { TakesPart input.old.remaining input.new.remaining DOCUMENT_BYTES }
 {
-    let Some(size) = Size::of_side(side) else {
+    let Some(size) = Size::of_side(form.side) else {
         return Err(SymbolRefusal::Side);
     };
     let document = match read_document(alloc, input) {
@@ -64,7 +73,7 @@ pub(crate) fn read_symbol<A: Allocator + Copy, R: Read>(
         Err(InputFault::Read) => return Err(SymbolRefusal::Read),
         Err(InputFault::Memory) => return Err(SymbolRefusal::Memory),
     };
-    match symbol_of(alloc, &document, size, scheme) {
+    match symbol_of(alloc, &document, size, form.scheme) {
         Ok(symbol) => Ok(symbol),
         Err(EncodeFault::TooLong) => Err(SymbolRefusal::TooLong),
         Err(EncodeFault::Memory) => Err(SymbolRefusal::Memory),

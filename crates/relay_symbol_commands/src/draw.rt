@@ -10,13 +10,12 @@ ghost use Rattle.relay_symbol_commands.specs.DocumentSymbol.{RefusesSymbol};
 ghost use Rattle.relay_shared.specs.Documents.{document_of};
 ghost use Rattle.relay_symbol_commands.specs.Draw.{DrawsDocument, EndsDraw};
 
-use crate::document_symbol::{Symbol, read_symbol};
+use crate::document_symbol::{Form, Symbol, read_symbol};
 use crate::refusal::SymbolRefusal;
-use dm_encodation::Scheme;
 use dm_pbm_io::{Image, image_of};
 use dm_symbol::draw_words;
-use relay_shared::{DOCUMENT_BYTES, refuse};
-use relay_streams::{Input, Output};
+use relay_shared::{DOCUMENT_BYTES, Streams, refuse};
+use relay_streams::Input;
 use std::alloc::{AllocError, Allocator};
 use std::io::{Read, Write};
 
@@ -39,17 +38,16 @@ fn image_of_symbol<A: Allocator + Copy>(
 fn image_of_document<A: Allocator + Copy, R: Read>(
     alloc: A,
     input: &mut Input<R>,
-    side: u16,
-    scheme: Scheme,
+    form: Form,
     plain: bool,
 ) -> Result<Image<A>, SymbolRefusal>
     ensures drawn { IfOk result (λ image. IfSome input.old.remaining (λ bytes.
-        DrawsDocument side scheme plain (document_of bytes) (picture image))) }
+        DrawsDocument form plain (document_of bytes) (picture image))) }
     ensures count { IfOk result (λ image. length image.pixels.items ≡ image.width * image.height) }
-    ensures refused { IfErr result (RefusesSymbol side scheme input.old input.new) }
+    ensures refused { IfErr result (RefusesSymbol form input.old input.new) }
     ensures part { TakesPart input.old.remaining input.new.remaining DOCUMENT_BYTES }
 {
-    let symbol = match read_symbol(alloc, input, side, scheme) {
+    let symbol = match read_symbol(alloc, input, form) {
         Ok(symbol) => symbol,
         Err(refusal) => return Err(refusal),
     };
@@ -60,25 +58,22 @@ fn image_of_document<A: Allocator + Copy, R: Read>(
 }
 
 /// Reads a document and draws its symbol as one PBM image, packed (`P4`) or plain (`P1`), inside a quiet zone one
-/// pixel wide; the refusal, if there is one, is a line on `errors`. The exit status is 0 where the image was written,
-/// and else 1. The side is looked at first, then the input is read, at most 41,601 bytes of it, then the document is
-/// encoded and drawn, and the output comes last: no byte is written before the whole image is made.
+/// pixel wide; the refusal, if there is one, is a line on the standard error. The exit status is 0 if the image was
+/// written, and else 1. The side is looked at first, then the input is read, at most 41,601 bytes of it, then the
+/// document is encoded and drawn, and the output comes last: no byte is written before the whole image is made.
 pub fn draw_command<A: Allocator + Copy, R: Read, W: Write, E: Write>(
     alloc: A,
-    input: &mut Input<R>,
-    output: &mut Output<W>,
-    errors: &mut Output<E>,
-    side: u16,
-    scheme: Scheme,
+    streams: &mut Streams<R, W, E>,
+    form: Form,
     plain: bool,
 ) -> u8
-    ensures { EndsDraw side scheme plain input.old input.new output.old errors.old result output.new errors.new }
+    ensures { EndsDraw form plain streams.old result streams.new }
 {
-    match image_of_document(alloc, input, side, scheme, plain) {
-        Ok(image) => match image.write(output) {
+    match image_of_document(alloc, &mut streams.input, form, plain) {
+        Ok(image) => match image.write(&mut streams.output) {
             Ok(()) => 0,
-            Err(fault) => refuse(errors, fault.name()),
+            Err(fault) => refuse(&mut streams.errors, fault.name()),
         },
-        Err(refusal) => refuse(errors, refusal.name()),
+        Err(refusal) => refuse(&mut streams.errors, refusal.name()),
     }
 }

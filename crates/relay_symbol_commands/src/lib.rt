@@ -13,6 +13,7 @@ mod read_lines;
 mod refusal;
 mod words;
 
+pub use document_symbol::Form;
 pub use draw::draw_command;
 pub use read::read_command;
 pub use refusal::{ReadRefusal, SymbolRefusal};

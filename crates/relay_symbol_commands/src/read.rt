@@ -6,8 +6,8 @@ ghost use Rattle.relay_symbol_commands.specs.Read.{EndsRead, read_images};
 use crate::read_grid::line_of_image;
 use dm_pbm_io::Image;
 use dm_symbol::SymbolReader;
-use relay_shared::{Answered, OnImages, each_image};
-use relay_streams::{Input, Output, WriteFault};
+use relay_shared::{Answered, OnImages, Streams, each_image};
+use relay_streams::{Output, WriteFault};
 use std::alloc::Allocator;
 use std::io::{Read, Write};
 
@@ -60,16 +60,15 @@ impl<A: Allocator + Copy> OnImages<A> for Reading<A> {
 /// wrong W HEX` or `symbol SIDE corrected C wrong W HEX`, or `refused NAME`. A refused image doesn't end the command;
 /// bytes that are no image do, and so does a plain image. At most 65,536 images are read. The exit status is 0 where no
 /// line names a refusal, and else 1.
-pub fn read_command<A: Allocator + Copy, R: Read, W: Write>(
+pub fn read_command<A: Allocator + Copy, R: Read, W: Write, E: Write>(
     alloc: A,
-    input: &mut Input<R>,
-    output: &mut Output<W>,
+    streams: &mut Streams<R, W, E>,
 ) -> u8
     ensures status { (result ≡ 0) ⊎ (result ≡ 1) }
-    ensures printed { EndsRead input.old input.new output.old result output.new }
+    ensures printed { EndsRead streams.old result streams.new }
 {
     let mut reading = Reading {
         reader: SymbolReader::new(),
     };
-    each_image(alloc, &mut reading, input, output)
+    each_image(alloc, &mut reading, &mut streams.input, &mut streams.output)
 }

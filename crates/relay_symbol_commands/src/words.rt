@@ -8,11 +8,10 @@ ghost use Rattle.relay_symbol_commands.specs.DocumentSymbol.{RefusesSymbol};
 ghost use Rattle.relay_shared.specs.Documents.{document_of};
 ghost use Rattle.relay_symbol_commands.specs.Words.{EndsWords, IsLineOf, words_line};
 
-use crate::document_symbol::read_symbol;
+use crate::document_symbol::{Form, read_symbol};
 use crate::refusal::SymbolRefusal;
-use dm_encodation::Scheme;
-use relay_shared::{DOCUMENT_BYTES, refuse, status_after};
-use relay_streams::{Input, Output};
+use relay_shared::{DOCUMENT_BYTES, Streams, refuse, status_after};
+use relay_streams::Input;
 use std::alloc::{AllocError, Allocator};
 use std::fmt::Write as _;
 use std::io::{Read, Write};
@@ -45,15 +44,14 @@ fn line_of_words<A: Allocator + Copy>(alloc: A, words: &[u8]) -> Result<String<A
 fn line_of_document<A: Allocator + Copy, R: Read>(
     alloc: A,
     input: &mut Input<R>,
-    side: u16,
-    scheme: Scheme,
+    form: Form,
 ) -> Result<String<A>, SymbolRefusal>
     ensures line { IfOk result (λ line. IfSome input.old.remaining (λ bytes.
-        IsLineOf side scheme (document_of bytes) (string_bytes line))) }
-    ensures refused { IfErr result (RefusesSymbol side scheme input.old input.new) }
+        IsLineOf form (document_of bytes) (string_bytes line))) }
+    ensures refused { IfErr result (RefusesSymbol form input.old input.new) }
     ensures part { TakesPart input.old.remaining input.new.remaining DOCUMENT_BYTES }
 {
-    let symbol = match read_symbol(alloc, input, side, scheme) {
+    let symbol = match read_symbol(alloc, input, form) {
         Ok(symbol) => symbol,
         Err(refusal) => return Err(refusal),
     };
@@ -66,17 +64,15 @@ fn line_of_document<A: Allocator + Copy, R: Read>(
 /// Reads a document and prints the words of its symbol in decimal, with one space between each two and a line end, or
 /// the line `refused NAME`. The exit status is 0 where the words were printed, and else 1. The side is looked at first,
 /// then the input is read, at most 41,601 bytes of it, and then the document is encoded.
-pub fn words_command<A: Allocator + Copy, R: Read, W: Write>(
+pub fn words_command<A: Allocator + Copy, R: Read, W: Write, E: Write>(
     alloc: A,
-    input: &mut Input<R>,
-    output: &mut Output<W>,
-    side: u16,
-    scheme: Scheme,
+    streams: &mut Streams<R, W, E>,
+    form: Form,
 ) -> u8
-    ensures { EndsWords side scheme input.old input.new output.old result output.new }
+    ensures { EndsWords form streams.old result streams.new }
 {
-    match line_of_document(alloc, input, side, scheme) {
-        Ok(line) => status_after(output.put(line.as_bytes())),
-        Err(refusal) => refuse(output, refusal.name()),
+    match line_of_document(alloc, &mut streams.input, form) {
+        Ok(line) => status_after(streams.output.put(line.as_bytes())),
+        Err(refusal) => refuse(&mut streams.output, refusal.name()),
     }
 }

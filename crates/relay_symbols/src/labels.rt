@@ -31,8 +31,8 @@ fn label_image<A: Allocator + Copy>(alloc: A, side: u16, text: &[u8]) -> Option<
 }
 
 /// Draws the label of this side of page 1 of 2, under the identification 0, that has this text, in ASCII encodation,
-/// and answers the image's bytes, which stand at the front of `image`. Answers 0, and leaves `image` as it is, where no
-/// size has this side, the text does not fit after the head, the image has no room, or memory is refused.
+/// and answers how many bytes the image has, which are then at the front of `image`. Answers 0, and leaves `image` as it
+/// is, if no size has this side, the text does not fit after the head, the image has no room, or memory is refused.
 #[unsafe(no_mangle)]
 pub extern "C" fn relay_label_from_text(
     alloc: Global,

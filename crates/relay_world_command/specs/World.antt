@@ -20,6 +20,7 @@ use Rattle.relay_script.specs.declared.script.Script.{Script}
 use Rattle.relay_script.specs.declared.script.TheConstants.{SCRIPT_BYTES}
 use Rattle.relay_shared.specs.Documents.{HasInputFault}
 use Rattle.relay_world_command.specs.ReplyLines.{answer_line, has_refusal}
+use Rattle.relay_shared.specs.Surroundings.{StreamsView}
 use Rattle.relay_shared.specs.Telling.{TellsRefusal}
 
 -- no read failed, and these bytes were read, and no other: one more than a script has at most, or all where they are
@@ -37,27 +38,26 @@ TellsAnswers answers old new status =
     ⊎ ((new.has_failed ≡ true) × AppendsPart old.contents new.contents (flat_map answer_line answers)
     × (status ≡ 1))
 
--- How `world` ends: the input was read, it was a script, its world began and answered each event, and the line of each
--- answer was written. No identification was printed twice, no ticket taken twice and nothing imported that was not
--- exported, and the answers of desks that are not tainted are faithful. Or the first of these was not done, for a
--- reason that stands; memory may be refused at any time.
-pub data EndsWorld (A : Type 0) (input rest : InputView) (old : OutputView) : ℕ → OutputView → Type 0 where
-  not_read : {status : ℕ} {new : OutputView} (fault : InputFault) → HasInputFault rest fault
-      → TellsRefusal (input_fault_name fault) old new status → EndsWorld A input rest old status new
-  no_script : {status : ℕ} {new : OutputView} (bytes : List ℕ) (fault : ScriptFault) → ReadsScript input rest bytes
+-- How `world` ends, from its streams to the exit status and the streams: the input was read, it was a script, its world
+-- began and answered each event, and the line of each answer was written. No identification was printed twice, no
+-- ticket taken twice and nothing imported that was not exported, and the answers of desks that are not tainted are
+-- faithful. Or the first of these was not done, for a reason that stands; memory may be refused at any time.
+pub data EndsWorld (A : Type 0) (old : StreamsView) (status : ℕ) (new : StreamsView) : Type 0 where
+  not_read : (fault : InputFault) → HasInputFault new.input fault
+      → TellsRefusal (input_fault_name fault) old.output new.output status → EndsWorld A old status new
+  no_script : (bytes : List ℕ) (fault : ScriptFault) → ReadsScript old.input new.input bytes
       → IsRead {A = Script A} (Err fault) (IsScript bytes)
-      → TellsRefusal (script_fault_name fault) old new status → EndsWorld A input rest old status new
-  no_world : {status : ℕ} {new : OutputView} (bytes : List ℕ) (script : Script A) (fault : WorldFault)
-      → ReadsScript input rest bytes → IsScript bytes script
+      → TellsRefusal (script_fault_name fault) old.output new.output status → EndsWorld A old status new
+  no_world : (bytes : List ℕ) (script : Script A) (fault : WorldFault)
+      → ReadsScript old.input new.input bytes → IsScript bytes script
       → HasWorldFault script.ranges.items script.capacities.items fault
-      → TellsRefusal (world_fault_name fault) old new status → EndsWorld A input rest old status new
-  answered : {status : ℕ} {new : OutputView} (bytes : List ℕ) (script : Script A) (answers : List (Answer A))
-      → ReadsScript input rest bytes → IsScript bytes script
+      → TellsRefusal (world_fault_name fault) old.output new.output status → EndsWorld A old status new
+  answered : (bytes : List ℕ) (script : Script A) (answers : List (Answer A))
+      → ReadsScript old.input new.input bytes → IsScript bytes script
       → RunsFromTheStart script.ranges.items script.capacities.items script.events.items answers
       → PrintsOnce script.ranges.items (length script.capacities.items) (given script.events.items answers)
       (replies answers)
       → TakesOnce (length script.ranges.items) (given script.events.items answers) (replies answers)
       → ImportsExports (length script.capacities.items) (given script.events.items answers) (replies answers)
       → IsFaithfulIfHonest script.ranges.items script.capacities.items script.events.items answers
-      → TellsAnswers answers old new status
-      → EndsWorld A input rest old status new
+      → TellsAnswers answers old.output new.output status → EndsWorld A old status new

@@ -10,8 +10,8 @@ ghost use Rattle.relay_world_command.specs.World.{EndsWorld, TellsAnswers};
 use crate::reply_lines::{is_refused_answer, put_answer};
 use dm_event_world::{Answer, watch};
 use relay_script::{SCRIPT_BYTES, read_script};
-use relay_shared::refuse;
-use relay_streams::{Input, Output, WriteFault};
+use relay_shared::{Streams, refuse};
+use relay_streams::{Output, WriteFault};
 use std::alloc::Allocator;
 use std::io::{Read, Write};
 
@@ -47,28 +47,28 @@ fn tell<A: Allocator, W: Write>(output: &mut Output<W>, answers: &[Answer<A>]) -
 }
 
 /// Reads a script, at most 1,048,577 bytes of it, begins its world, and prints a line for each of its events: what was
-/// answered, or `refused NAME`. The line begins with `! ` where the event is a scan of a copy in which more codewords
-/// are wrong than can be corrected; where memory to find that out is refused, the line is `refused Memory` and the
-/// event does not come. A script that is none, and a world that does not begin, are one line `refused NAME`. The exit
-/// status is 1 where a line was refused.
-pub fn world_command<A: Allocator + Copy, R: Read, W: Write>(
+/// answered, or `refused NAME`. The line begins with `! ` if the event is a scan in which more words of a block are
+/// wrong than can be corrected; if memory to find that out is refused, the line is `refused Memory` and the event does
+/// not come. If the text is no script, or its world can't begin, one line `refused NAME` is written. The exit status is
+/// 1 if a line is of a refusal.
+pub fn world_command<A: Allocator + Copy, R: Read, W: Write, E: Write>(
     alloc: A,
-    input: &mut Input<R>,
-    output: &mut Output<W>,
+    streams: &mut Streams<R, W, E>,
 ) -> u8
-    ensures part { TakesPart input.old.remaining input.new.remaining INPUT_BYTES }
-    ensures ends { EndsWorld A input.old input.new output.old result output.new }
+    ensures part { TakesPart streams.old.input.remaining streams.new.input.remaining INPUT_BYTES }
+    ensures silent { streams.new.errors ≡ streams.old.errors }
+    ensures ends { EndsWorld A streams.old result streams.new }
 {
-    let bytes = match input.read_up_to(alloc, INPUT_BYTES) {
+    let bytes = match streams.input.read_up_to(alloc, INPUT_BYTES) {
         Ok(bytes) => bytes,
-        Err(fault) => return refuse(output, fault.name()),
+        Err(fault) => return refuse(&mut streams.output, fault.name()),
     };
     let script = match read_script(alloc, &bytes) {
         Ok(script) => script,
-        Err(fault) => return refuse(output, fault.name()),
+        Err(fault) => return refuse(&mut streams.output, fault.name()),
     };
     match watch(alloc, &script.ranges, &script.capacities, &script.events) {
-        Ok(answers) => tell(output, &answers),
-        Err(fault) => refuse(output, fault.name()),
+        Ok(answers) => tell(&mut streams.output, &answers),
+        Err(fault) => refuse(&mut streams.output, fault.name()),
     }
 }

@@ -1,22 +1,22 @@
--- `held` leaves the files, the input and the errors as they were; its clauses say so one by one.
-use Rattle.std.proofs.Common.{◌≡◌, refl, ap, ◌∙◌}
-use Rattle.dm_store.specs.Saved.{Saved}
-use Rattle.dm_store.specs.Sets.{SavedSet}
-use Rattle.relay_desk_commands.specs.Desks.{DeskFiles}
 use Rattle.relay.proofs.commands.do_desk_command.Goals as goal
 
--- the files, by the store and the set
-abbrev files : Saved → SavedSet → DeskFiles
-files joint set = record { joint = joint; set = set }
+pub returns-in-Scan : goal.returns-in-Scan
+returns-in-Scan g c = rw c.in-Scan.is c.scan_with_notes.ensures.ends
 
-same_files : (old new : Saved) (before after : SavedSet) → new ≡ old → after ≡ before → files new after ≡ files old before
-same_files old new before after store set = ap (λ joint. files joint after) store ∙ ap (files old) set
+pub returns-in-Deliver : goal.returns-in-Deliver
+returns-in-Deliver g c = rw c.in-Deliver.is c.deliver_command.ensures
+
+pub returns-in-Forget : goal.returns-in-Forget
+returns-in-Forget g c = rw c.in-Forget.is c.forget_command.ensures.ends
+
+pub returns-in-Export : goal.returns-in-Export
+returns-in-Export g c = rw c.in-Export.is c.export_command.ensures
+
+pub returns-in-Import : goal.returns-in-Import
+returns-in-Import g c = rw c.in-Import.is (c.import_command.ensures.ends, c.import_command.ensures.part)
 
 pub returns-in-Held : goal.returns-in-Held
-returns-in-Held g c =
-    rw c.in-Held.is (
-      c.held_command.ensures.ends,
-      same_files _ _ _ _ c.held_command.ensures.store c.held_command.ensures.set,
-      refl,
-      refl,
-    )
+returns-in-Held g c = rw c.in-Held.is c.held_command.ensures
+
+pub returns-in-Copy : goal.returns-in-Copy
+returns-in-Copy g c = rw c.in-Copy.is c.copy_command.ensures

@@ -6,5 +6,4 @@ pub returns-in_err-image_of-clause-result : goal.returns-in_err-image_of-clause-
 returns-in_err-image_of-clause-result g c =
     let last = c.from_residual-in_err-image_of in
     let p = err_from_is_err_and last.result last.ensures.1 in
-    let form = c.args.form in
-    rw (p.1, p.2) (fits_there c.args.desk.now.held c.args.id c.args.m form.0 form.1 _ c.in_ok-grid.ensures)
+    rw (p.1, p.2) (fits_there c.args.desk.now.held c.args.asked c.args.form _ c.in_ok-grid.ensures)

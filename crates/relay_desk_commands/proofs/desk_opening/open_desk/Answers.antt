@@ -3,9 +3,11 @@ use Rattle.relay_desk_commands.specs.Desks.HasNoDesk.{not_moved, not_opened}
 use Rattle.relay_desk_commands.proofs.desk_opening.open_desk.Goals as goal
 
 pub returns-in-Err : goal.returns-in-Err
-returns-in-Err g c =
-    not_moved c.in-Err.fault c.in-Err.ensures.fault c.in-Err.ensures.kept c.in-Err.ensures.plans
-    (rw c.name.ensures at c.refuse-status.ensures)
+returns-in-Err g c = (
+  _,
+  not_moved c.in-Err.fault c.in-Err.ensures.fault c.in-Err.ensures.kept c.in-Err.ensures.plans c.name.ensures,
+  c.refuse-status.ensures,
+)
 
 pub returns-in-Ok-open : goal.returns-in-Ok-open
 returns-in-Ok-open g c =
@@ -26,12 +28,15 @@ returns-in-Ok-open g c =
 
 pub returns-in-Err-open : goal.returns-in-Err-open
 returns-in-Err-open g c =
-    let same = sym c.in-Err-open.ensures.same in
-    not_opened c.in-Err-open.refused.fault
-    (record {
-      written = c.in-Ok.field-0;
-      moves = rw same at c.in-Ok.ensures.ok;
-      kept = rw same at c.in-Ok.ensures.kept;
-      plans = rw same at c.in-Ok.ensures.plans;
-    })
-    (rw same at c.in-Err-open.ensures.fault) (rw c.name-in-Err-open.ensures at c.refuse-status-in-Err-open.ensures)
+    let same = sym c.in-Err-open.ensures.same in (
+      _,
+      not_opened c.in-Err-open.refused.fault
+          (record {
+            written = c.in-Ok.field-0;
+            moves = rw same at c.in-Ok.ensures.ok;
+            kept = rw same at c.in-Ok.ensures.kept;
+            plans = rw same at c.in-Ok.ensures.plans;
+          })
+          (rw same at c.in-Err-open.ensures.fault) c.name-in-Err-open.ensures,
+      c.refuse-status-in-Err-open.ensures,
+    )

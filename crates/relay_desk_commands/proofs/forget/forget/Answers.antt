@@ -1,13 +1,18 @@
-use Rattle.relay_desk_commands.specs.Desks.TellsForget.{forgotten, refused}
+use Rattle.std.proofs.Common.{Ok, Err}
 use Rattle.relay_shared.proofs.Telling.{told}
 use Rattle.relay_desk_commands.proofs.forget.forget.Goals as goal
 
 pub returns-in-Ok : goal.returns-in-Ok
-returns-in-Ok g c =
-    forgotten (c.in-Ok.ensures.forgotten c.requires)
-    (told _ c.args.output.now c.put_forgotten.new.output _ c.put_forgotten.result
-    c.put_forgotten.ensures.written c.put_forgotten.ensures.part c.put_forgotten.ensures.failed c.status_after.ensures)
+returns-in-Ok g c = (
+  Ok tt,
+  c.in-Ok.ensures.forgotten c.requires,
+  told _ c.args.output.now c.put_forgotten.new.output _ c.put_forgotten.result c.put_forgotten.ensures.written
+      c.put_forgotten.ensures.part c.put_forgotten.ensures.failed c.status_after.ensures,
+)
 
 pub returns-in-Err : goal.returns-in-Err
-returns-in-Err g c = refused c.in-Err.fault (c.in-Err.ensures.forgotten c.requires)
-    (rw c.name.ensures at c.refuse.ensures)
+returns-in-Err g c = (
+  Err c.in-Err.fault,
+  c.in-Err.ensures.forgotten c.requires,
+  rw c.name.ensures at c.refuse.ensures,
+)

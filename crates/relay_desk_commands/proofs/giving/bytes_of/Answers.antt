@@ -1,5 +1,4 @@
 use Rattle.std.specs.FinMap as map
-use Rattle.relay_desk_commands.specs.Desks.Withholds.{document, file}
 use Rattle.relay_desk_commands.proofs.Asked.{asked, exported, not_asked, not_exported}
 use Rattle.relay_desk_commands.proofs.giving.bytes_of.Goals as goal
 
@@ -11,8 +10,7 @@ returns-in-Ok g c =
 pub returns-in-Err : goal.returns-in-Err
 returns-in-Err g c =
     let found = map.get c.args.desk.now.held c.args.id in
-    rw (c.in-Document.is, c.name.ensures) (document c.in-Err.fault
-    (not_asked _ found c.in-Err.fault c.in-Err.ensures.asks))
+    rw c.in-Document.is (c.in-Err.fault, not_asked _ found c.in-Err.fault c.in-Err.ensures.asks, c.name.ensures)
 
 pub returns-in-Ok-export : goal.returns-in-Ok-export
 returns-in-Ok-export g c =
@@ -22,5 +20,8 @@ returns-in-Ok-export g c =
 pub returns-in-Err-export : goal.returns-in-Err-export
 returns-in-Err-export g c =
     let found = map.get c.args.desk.now.held c.args.id in
-    rw (c.in-File.is, c.name-in-Err-export.ensures) (file c.in-Err-export.fault
-    (not_exported _ c.args.id found c.in-Err-export.fault c.in-Err-export.ensures.exports))
+    rw c.in-File.is (
+      c.in-Err-export.fault,
+      not_exported _ c.args.id found c.in-Err-export.fault c.in-Err-export.ensures.exports,
+      c.name-in-Err-export.ensures,
+    )

@@ -1,5 +1,5 @@
 use Rattle.relay_desk_commands.proofs.LoadedJoint.{none_held}
-use Rattle.relay_desk_commands.specs.inner.SeenJoint.{documents_in}
+use Rattle.relay_desk_commands.specs.Held.{documents_in}
 use Rattle.std.proofs.Common.{Ok, ap, ◌∙◌}
 use Rattle.relay_desk_commands.proofs.held.first_from.Goals as goal
 

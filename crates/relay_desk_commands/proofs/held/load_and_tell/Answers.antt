@@ -1,14 +1,11 @@
-use Rattle.std.proofs.Common.{Some, None, Err, ap, refl, ◌∙◌}
-use Rattle.std.specs.FinMap as map
+use Rattle.std.proofs.Common.{Ok, None, Some, Err, ap, ◌∙◌}
 use Rattle.dm_assembly_desk.specs.declared.fault.MoveFault.TheVariants.{Device}
-use Rattle.relay_desk_commands.specs.inner.SeenJoint.{documents_in, fault_in}
 use Rattle.relay_desk_commands.proofs.LoadedJoint.{none_there}
 use Rattle.relay_desk_commands.proofs.held.load_and_tell.Goals as goal
 
 pub returns-in-Ok-Some-clause-tells : goal.returns-in-Ok-Some-clause-tells
 returns-in-Ok-Some-clause-tells g c = (
-  documents_in c.read_joint.result,
-  fault_in c.read_joint.result,
+  c.read_joint.result,
   c.read_joint.ensures (g.S.Store.state c.args.store.now) (λ honest.
       ap (λ bs. Some bs) c.deref.ensures.value
       ∙ (rw c.in-Ok-Some.field-0-is at (c.in-Ok-Some.ensures.loads.saved honest))),
@@ -17,8 +14,7 @@ returns-in-Ok-Some-clause-tells g c = (
 
 pub returns-in-Ok-None-clause-tells : goal.returns-in-Ok-None-clause-tells
 returns-in-Ok-None-clause-tells g c = (
-  map.empty,
-  None,
+  Ok None,
   none_there (g.S.Store.state c.args.store.now)
       (λ honest. rw c.in-Ok-None.field-0-is at (c.in-Ok-None.ensures.loads.saved honest)),
   c.tell-in-Ok-None.ensures.tells,
@@ -26,8 +22,7 @@ returns-in-Ok-None-clause-tells g c = (
 
 pub returns-in-Err-Device-clause-tells : goal.returns-in-Err-Device-clause-tells
 returns-in-Err-Device-clause-tells g c = (
-  map.empty,
-  Some Device,
-  (c.in-Err-Device.ensures.loads.device (ap (λ fault. Err fault) c.in-Err-Device.field-0-is), refl),
+  Err Device,
+  c.in-Err-Device.ensures.loads.device (ap (λ fault. Err fault) c.in-Err-Device.field-0-is),
   c.tell-in-Err-Device.ensures.tells,
 )

@@ -21,5 +21,5 @@ returns-in-Ok-put_list-clause-tells g c =
 
 pub returns-clause-tells : goal.returns-clause-tells
 returns-clause-tells g c =
-    let cut = c.in-Err-Write.ensures.cut refl in
+    let cut = c.in-Err-Write.ensures.cut in
     cut_off cut.0 cut.1 cut.2 (rw c.keys.ensures.lists.same at cut.3) cut.4 cut.5 cut.6 refl

@@ -1,22 +1,27 @@
+use Rattle.std.proofs.Common.{refl}
 use Rattle.relay_printer_commands.specs.Printers.EndsGive.{opened, not_opened}
 use Rattle.relay_printer_commands.proofs.StoppedCommands as stopped
 use Rattle.relay_printer_commands.proofs.give.give_command.Goals as goal
 
 pub returns-in-Err-clause-ends : goal.returns-in-Err-clause-ends
-returns-in-Err-clause-ends g c = not_opened c.in-Err.ensures.opens
+returns-in-Err-clause-ends g c =
+    let is = c.in-Err.ensures.opens in
+    rw (← c.streams.view_is) (not_opened is.fault is.has_fault c.in-Err.ensures.same (is.told, refl))
 
 pub returns-clause-ends : goal.returns-clause-ends
 returns-clause-ends g c =
-    rw c.close-store.ensures.state (opened c.in-Ok.printer c.give-status.new.printer c.in-Ok.ensures.opens.0
-    (rw c.in-Ok.ensures.opens.1 at c.give-status.ensures))
+    rw (← c.streams.view_is) (opened c.in-Ok.printer c.give-answer.new.self c.give-answer.result
+    c.in-Ok.ensures.opens.0 c.give-answer.ensures.gives c.close-store.ensures.state
+    (rw c.in-Ok.ensures.opens.1 at c.tell_give-status.ensures))
 
 pub returns-in-Err-clause-lasts : goal.returns-in-Err-clause-lasts
 returns-in-Err-clause-lasts g c =
-    stopped.not_begun _ _ _ _ _ _ (stopped.not_zero (stopped.not_opened _ _ _ _ _ _ c.in-Err.ensures.opens))
+    stopped.not_begun _ _ _ _ (stopped.not_zero (stopped.refused_by c.in-Err.ensures.opens.told))
     c.in-Err.ensures.leaves
 
 pub returns-clause-lasts : goal.returns-clause-lasts
 returns-clause-lasts g c =
+    let gives = c.give-answer.ensures.gives in
     rw c.close-store.ensures.state (stopped.closed _ _ _ c.in-Ok.printer c.in-Ok.ensures.opens.0 _ _
-    c.give-status.new.printer _ (stopped.give_on _ _ _ _ _ _ _ c.give-status.ensures)
-    (stopped.give_done _ _ _ _ _ _ _ c.give-status.ensures) c.close-store.ensures.order)
+    c.give-answer.new.self _ (stopped.given_on _ _ _ _ _ gives)
+    (stopped.give_done _ _ _ _ _ _ _ _ gives c.tell_give-status.ensures) c.close-store.ensures.order)

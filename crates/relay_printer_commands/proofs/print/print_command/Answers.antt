@@ -1,28 +1,33 @@
 use Rattle.std.proofs.Common.{Err, ap, refl}
-use Rattle.relay_printer_commands.specs.Print.EndsPrint.{no_side, not_read}
-use Rattle.relay_printer_commands.proofs.OpenedPrints.{ends_print}
+use Rattle.relay_printer_commands.specs.Print.EndsPrint.{no_side, not_read, read}
 use Rattle.relay_printer_commands.proofs.StoppedCommands as stopped
 use Rattle.relay_printer_commands.proofs.print.print_command.Goals as goal
 
 pub returns-in_default-clause-ends : goal.returns-in_default-clause-ends
-returns-in_default-clause-ends g c = no_side (λ s. c.in_default.ensures.none refl s.0 s.1) refl
-    (rw c.name.ensures at c.refuse-status.ensures)
+returns-in_default-clause-ends g c =
+    rw (← c.streams.view_is) (no_side (λ s. c.in_default.ensures.none refl s.0 s.1) refl
+    (rw c.name.ensures at c.refuse-status.ensures, refl))
 
 pub returns-in-Err-clause-ends : goal.returns-in-Err-clause-ends
 returns-in-Err-clause-ends g c =
-    not_read c.in-Err.fault (c.in-Some.size, c.in-Some.ensures.found) (λ e. c.in-Err.ensures.failed (ap Err e))
-    (rw c.name-in-Err.ensures at c.refuse-status-in-Err.ensures)
+    rw (← c.streams.view_is) (not_read c.in-Err.fault c.read_document.new.input
+    (c.in-Some.size, c.in-Some.ensures.found) (λ e. c.in-Err.ensures.failed (ap Err e)) refl
+    (rw c.name-in-Err.ensures at c.refuse-status-in-Err.ensures, refl))
+
+pub returns-clause-line_first : goal.returns-clause-line_first
+returns-clause-line_first g c = rw (← c.streams.view_is) c.open_and_print.ensures.line_first
 
 pub returns-clause-ends : goal.returns-clause-ends
 returns-clause-ends g c =
-    ends_print _ _ _ _ _ _ _ _ _ _ _ _ _ _ c.in-Some.ensures.found c.in-Ok.ensures.taken
-    (rw c.deref.ensures.value at c.open_and_print.ensures.ends)
+    rw (← c.streams.view_is) (read c.in-Some.size c.in-Ok.document.items c.read_document.new.input
+    c.in-Some.ensures.found c.in-Ok.ensures.taken (rw c.deref.ensures.value at c.open_and_print.ensures.ends))
 
 pub returns-in_default-clause-lasts : goal.returns-in_default-clause-lasts
 returns-in_default-clause-lasts g c =
-    stopped.not_begun _ _ _ _ _ _ (stopped.not_printed (stopped.refused_by c.refuse-status.ensures))
-    (λ durable content leaves. leaves)
+    rw (← c.streams.view_is) (stopped.not_begun _ _ _ _
+    (stopped.not_printed (stopped.refused_by c.refuse-status.ensures) refl) (λ durable content leaves. leaves))
 
 pub returns-in-Err-clause-lasts : goal.returns-in-Err-clause-lasts
-returns-in-Err-clause-lasts g c = stopped.not_begun _ _ _ _ _ _
-    (stopped.not_printed (stopped.refused_by c.refuse-status-in-Err.ensures)) (λ durable content leaves. leaves)
+returns-in-Err-clause-lasts g c =
+    rw (← c.streams.view_is) (stopped.not_begun _ _ _ _
+    (stopped.not_printed (stopped.refused_by c.refuse-status-in-Err.ensures) refl) (λ durable content leaves. leaves))

@@ -1,32 +1,38 @@
+use Rattle.std.proofs.Common.{refl}
 use Rattle.relay_printer_commands.specs.Printers.EndsTake.{no_ticket, opened, not_opened}
 use Rattle.relay_printer_commands.proofs.StoppedCommands as stopped
 use Rattle.relay_printer_commands.proofs.take.take_command.Goals as goal
 
 pub returns-in_default-clause-ends : goal.returns-in_default-clause-ends
-returns-in_default-clause-ends g c = no_ticket c.in_default.ensures (rw c.name.ensures at c.refuse-status.ensures)
+returns-in_default-clause-ends g c =
+    rw (← c.streams.view_is) (no_ticket c.in_default.ensures refl (rw c.name.ensures at c.refuse-status.ensures, refl))
 
 pub returns-in-Err-clause-ends : goal.returns-in-Err-clause-ends
-returns-in-Err-clause-ends g c = not_opened c.in-Some.ensures.0 c.in-Err.ensures.opens
+returns-in-Err-clause-ends g c =
+    let is = c.in-Err.ensures.opens in
+    rw (← c.streams.view_is) (not_opened is.fault c.in-Some.ensures.0 is.has_fault c.in-Err.ensures.same
+    (is.told, refl))
 
 pub returns-clause-ends : goal.returns-clause-ends
 returns-clause-ends g c =
-    rw c.close-store.ensures.state (opened c.in-Some.ticket c.in-Ok.printer c.take-status.new.printer
-    c.in-Some.ensures.0 c.in-Some.ensures.1 c.in-Ok.ensures.opens.0
-    (rw c.in-Ok.ensures.opens.1 at c.take-status.ensures))
+    rw (← c.streams.view_is) (opened c.in-Some.ticket c.in-Ok.printer c.take-answer.new.self c.take-answer.result
+    c.in-Some.ensures.0 c.in-Some.ensures.1 c.in-Ok.ensures.opens.0 c.take-answer.ensures.takes
+    c.close-store.ensures.state
+    (rw (c.in-Ok.ensures.opens.1, c.left.ensures.value) at c.tell_take-status.ensures))
 
 pub returns-in_default-clause-lasts : goal.returns-in_default-clause-lasts
 returns-in_default-clause-lasts g c =
-    stopped.not_begun _ _ _ _ _ _ (stopped.not_zero (stopped.refused_by c.refuse-status.ensures))
+    stopped.not_begun _ _ _ _ (stopped.not_zero (stopped.refused_by c.refuse-status.ensures))
     (λ durable content leaves. leaves)
 
 pub returns-in-Err-clause-lasts : goal.returns-in-Err-clause-lasts
 returns-in-Err-clause-lasts g c =
-    stopped.not_begun _ _ _ _ _ _ (stopped.not_zero (stopped.not_opened _ _ _ _ _ _ c.in-Err.ensures.opens))
+    stopped.not_begun _ _ _ _ (stopped.not_zero (stopped.refused_by c.in-Err.ensures.opens.told))
     c.in-Err.ensures.leaves
 
 pub returns-clause-lasts : goal.returns-clause-lasts
 returns-clause-lasts g c =
+    let takes = c.take-answer.ensures.takes in
     rw c.close-store.ensures.state (stopped.closed _ _ _ c.in-Ok.printer c.in-Ok.ensures.opens.0 _ _
-    c.take-status.new.printer _ (stopped.take_on _ _ _ _ _ _ _ c.in-Some.ensures.1
-    c.take-status.ensures)
-    (stopped.take_done _ _ _ _ _ _ c.take-status.ensures) c.close-store.ensures.order)
+    c.take-answer.new.self _ (stopped.taken_on _ _ _ _ _ c.in-Some.ensures.1 takes)
+    (stopped.take_done _ _ _ _ _ _ _ _ takes c.tell_take-status.ensures) c.close-store.ensures.order)

@@ -53,8 +53,8 @@ returns-clause-answer g c =
     let accepts = c.in-Err-accept.ensures.scanned c.requires.running in
     let inside = c.in-Ok.ensures.grid in
     let put = c.in_ok-put_refusal-in-Err-accept.ensures.written in
-    let ends = saved_or_failed accepts.opened c.in-Err-accept.fault _ c.accept.new.self c.is_save-last.result c.requires.running
-    c.is_save-last.ensures.yes c.is_save-last.ensures.no accepts.scans in
+    let ends = saved_or_failed accepts.opened c.in-Err-accept.fault _ c.accept.new.self c.is_save-last.result
+    c.requires.running c.is_save-last.ensures.yes c.is_save-last.ensures.no accepts.scans in
     record {
       line = _;
       refused = _;

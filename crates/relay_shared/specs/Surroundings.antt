@@ -1,0 +1,33 @@
+-- What a command sees of its streams, and which of them it changes.
+use Rattle.std.specs.Prelude.{◌≡◌, ℕ, List}
+use Rattle.relay_streams.specs.Streams.{InputView, OutputView}
+use Rattle.relay_shared.specs.Telling.{Tells, TellsRefusal}
+
+-- what a command reads, what it writes, and the standard error
+pub record StreamsView : Type 0 where
+  pub input : InputView
+  pub output : OutputView
+  pub errors : OutputView
+
+-- of the streams only the output may have changed
+abbrev pub OnlyOutput : StreamsView → StreamsView → Type 0
+OnlyOutput old new = new ≡ record old { output = new.output }
+
+-- only the standard error may have changed
+abbrev pub OnlyErrors : StreamsView → StreamsView → Type 0
+OnlyErrors old new = new ≡ record old { errors = new.errors }
+
+-- nothing was read
+abbrev pub ReadsNothing : StreamsView → StreamsView → Type 0
+ReadsNothing old new = new.input ≡ old.input
+
+-- A line was told on the output, with this exit status, and nothing happened to the other streams.
+abbrev pub TellsOnOutput : List ℕ → StreamsView → ℕ → StreamsView → Type 0
+TellsOnOutput line old status new = Tells line 0 old.output new.output status × OnlyOutput old new
+
+-- So was a refusal, or on the standard error.
+abbrev pub RefusesOnOutput : List ℕ → StreamsView → ℕ → StreamsView → Type 0
+RefusesOnOutput name old status new = TellsRefusal name old.output new.output status × OnlyOutput old new
+
+abbrev pub RefusesOnErrors : List ℕ → StreamsView → ℕ → StreamsView → Type 0
+RefusesOnErrors name old status new = TellsRefusal name old.errors new.errors status × OnlyErrors old new
