@@ -10,6 +10,7 @@ RELAY = str(TOP / "relay")
 PROGRAM = str(TOP / "crates" / "relay_main" / "out" / "relay_main")
 LETTER = b"Softcairn joins no wrong pages."
 REFUSED_ON_ERRORS = {"draw", "print", "deliver", "export", "copy"}
+NAME_NO_FILE = {"words", "draw", "read", "plan", "ticket", "world"}
 
 
 def fail(what):
@@ -23,6 +24,16 @@ def build():
 
 def relay(*words, program=PROGRAM, by=(), **options):
     return subprocess.run([*by, program, *words], capture_output=True, check=False, **options)
+
+
+def check_all_commands(tried, left_out=()):
+    """A script tries each command of the program, but for those that it names itself: so a new one is not forgotten."""
+    listed = relay("--help").stdout.decode().split("Commands:\n", 1)[1].split("\n\n", 1)[0]
+    commands = set(re.findall(r"^  ([a-z]+) ", listed, re.MULTILINE))
+    if missing := commands - set(tried) - set(left_out):
+        fail(f"no row tries {', '.join(sorted(missing))}: add one, or name it among those that are left out")
+    if unknown := (set(tried) | set(left_out)) - commands:
+        fail(f"no command of the program is called {', '.join(sorted(unknown))}")
 
 
 def start(*words, output, **options):
