@@ -1,7 +1,7 @@
 //! Scripts that a generator makes: whatever comes, no identification is printed twice, each document that is given was
 //! printed, and no event is refused for lack of memory, which is there.
 
-use relay_streams::{Input, Output};
+use relay_shared::Streams;
 use relay_world_command::world_command;
 use std::alloc::{AllocError, Global};
 use std::fmt::Write as _;
@@ -173,10 +173,9 @@ impl<'a> Told<'a> {
 
 // The lines that `world` prints of a script.
 fn lines_of(alloc: Global, script: &str) -> Vec<u8> {
-    let mut input = Input::new(script.as_bytes());
-    let mut output = Output::new(Vec::new(alloc));
-    world_command(alloc, &mut input, &mut output);
-    output.into_writer()
+    let mut streams = Streams::new(script.as_bytes(), Vec::new(alloc), Vec::new(alloc));
+    world_command(alloc, &mut streams);
+    streams.output.into_writer()
 }
 
 // Whether the lines of a script are as many as its events, and each may stand where it does.
