@@ -1,5 +1,5 @@
 -- The batches of labels that left by a history: each is of a print, and their labels are those that left.
-use Rattle.std.proofs.Common.{◌≡◌, ◌<◌, ◌⊎◌, inl, inr, ℕ, nat_lt, IfSome, if◌then◌else◌, Option, Some, None, List, [], ◌∷◌, ◌++◌, length, slice_get, zero, suc, ◌+◌, ◌≤◌, take, refl, ap, sym, ◌∙◌, subst, arith}
+use Rattle.std.proofs.Common.{◌≡◌, ◌<◌, ◌⊎◌, inl, inr, ℕ, nat_lt, IfSome, if◌then◌else◌, Option, Some, None, List, [], ◌∷◌, ◌++◌, length, slice_get, zero, suc, ◌+◌, ◌≤◌, min, take, Bool, true, refl, ap, sym, ◌∙◌, subst, arith}
 use Rattle.std.proofs.Common.{append_assoc}
 use Rattle.std.proofs.lemmas.List.{length-append, append-nil}
 use Rattle.std.proofs.lemmas.Bool.Decides.{nat_tests}
@@ -7,14 +7,17 @@ use Rattle.dm_check_blocks.specs.declared.size.Size.TheVariants.{Side10}
 use Rattle.dm_encodation.specs.declared.scheme.Scheme.TheVariants.{Ascii}
 use Rattle.dm_print_ledger.specs.declared.range.Range.{Range}
 use Rattle.dm_event_history.specs.declared.stop.Stop.{Stop}
+use Rattle.dm_event_history.specs.declared.stop.Stop.TheVariants.{AfterLabels}
 use Rattle.dm_event_history.specs.declared.event.Event.{Event}
 use Rattle.dm_event_history.specs.declared.event.Event.TheVariants.{Print}
 use Rattle.dm_event_history.specs.declared.reply.Reply.{Reply}
 use Rattle.dm_event_history.specs.declared.reply.Reply.TheVariants.{Printed, Stopped}
 use Rattle.dm_event_history.specs.History.{Entry, History, CutDocument, LabelName, names_from, out, printed_by, events_of, replies_of}
-use Rattle.dm_event_history.specs.Legal.{Fits, IsReply, LetsOut, IsUnused}
+use Rattle.dm_event_history.specs.Legal.{Fits, IsReply, IsLegal, LetsSomeOut, LetsOut, IsUnused}
 use Rattle.dm_append_label.specs.Parts.{AreParts}
 use Rattle.dm_event_history.specs.Headline.{Batch, count_of, IsPrintOf, LeftBy, labels_of}
+use Rattle.dm_event_history.specs.Headline as headline
+use Rattle.dm_event_history.proofs.Printed.{is_cut}
 use Rattle.dm_event_history.proofs.Deciding.{if_not, if_so, decided, true_false}
 use Rattle.dm_event_history.proofs.Gotten.{get_more, get_last, get_either}
 
@@ -223,8 +226,14 @@ pub last_prints : {A : Type 0} (ranges : List Range) (desks : ℕ) (h : History 
     LeftBy (events_of h ++ e.event ∷ []) (replies_of h ++ e.reply ∷ []) (length h) (all_of e)
 last_prints {A} ranges desks h e fits some = by_entry e.event e.reply fits.reply fits.lets_out (fits.parts some)
   where
+    -- labels left by a print that was stopped, so its stop lets some out
+    stopped_so : (stop : Stop) (saved : Bool) (cut : CutDocument) → LetsSomeOut stop saved cut e.left →
+        (most : ℕ) × (stop ≡ AfterLabels most) × (e.left ≡ min most (length cut.parts))
+    stopped_so (AfterLabels most) true cut lets = (most, refl, lets.1)
+    stopped_so stop saved cut lets = absurd (omega arith)
+
     by_entry : (event : Event A) (reply : Reply A) → IsReply ranges h e.id e.left event reply →
-        LetsOut event reply e.parts e.left →
+        LetsOut event reply e.saved e.parts e.left →
         IfSome (printed_by event e.parts) (λ c. AreParts c.size c.scheme c.bytes c.parts) →
         LeftBy (events_of h ++ event ∷ []) (replies_of h ++ reply ∷ []) (length h)
         (record { id = e.id; document = cut_of event e.parts; left = e.left })
@@ -252,15 +261,17 @@ last_prints {A} ranges desks h e fits some = by_entry e.event e.reply fits.reply
         event = at_last (events_of h) (Print p document size scheme stop) (length h) (events_count h);
         are_parts = are;
       };
-      ends = elim lets [
-        | inl none ↦ absurd (omega arith)
-        | inr most ↦ inr (record {
-          most = most.0;
-          stopped_so = most.1;
-          reply = at_last (replies_of h) Stopped (length h) (replies_count h);
-          some = most.2;
-        })
-      ];
+      ends = inr (let most = stopped_so stop e.saved (record {
+        bytes = document;
+        size = size;
+        scheme = scheme;
+        parts = e.parts;
+      }) lets in record {
+        most = most.0;
+        stopped_so = most.1;
+        reply = at_last (replies_of h) Stopped (length h) (replies_count h);
+        some = most.2;
+      });
       not_none = omega arith;
     }
     by_entry (Print p document size scheme stop) reply fine lets are = absurd (omega arith)
@@ -269,20 +280,44 @@ last_prints {A} ranges desks h e fits some = by_entry e.event e.reply fits.reply
 -- an entry that tells of a print let labels out under the identification that it tells
 pub told_is : {A : Type 0} (ranges : List Range) (h : History A) (e : Entry A) (id first count : ℕ) →
     IsReply ranges h e.id e.left e.event e.reply →
-    LetsOut e.event e.reply e.parts e.left → e.reply ≡ Printed id first count →
+    LetsOut e.event e.reply e.saved e.parts e.left → e.reply ≡ Printed id first count →
     (0 < e.left) × (id ≡ e.id) × (first ≡ length (out h)) × (count ≡ e.left) × (count ≡ length e.parts)
 told_is {A} ranges h e id first count fine lets is =
     by_event e.event (subst (λ (r : Reply A). IsReply ranges h e.id e.left e.event r) is fine)
-    (subst (λ (r : Reply A). LetsOut e.event r e.parts e.left) is lets)
+    (subst (λ (r : Reply A). LetsOut e.event r e.saved e.parts e.left) is lets)
   where
     by_event : (event : Event A) → IsReply ranges h e.id e.left event (Printed id first count) →
-        LetsOut event (Printed id first count) e.parts e.left →
+        LetsOut event (Printed id first count) e.saved e.parts e.left →
         (0 < e.left) × (id ≡ e.id) × (first ≡ length (out h)) × (count ≡ e.left) × (count ≡ length e.parts)
     by_event (Print p document size scheme stop) fine lets =
         (lets.1, fine.name_is, fine.first_is, fine.count_is, fine.count_is ∙ lets.0)
     by_event event fine lets = absurd fine
 
 -- ---- histories
+
+-- labels leave by prints alone, so a batch is of what its entry prints
+same_batch : {A : Type 0} (ranges : List Range) (desks : ℕ) (h : History A) (e : Entry A) → Fits ranges desks h e →
+    headline.batch_of e ≡ batch_of e
+same_batch {A} ranges desks h e fits = elim (decided (nat_lt 0 e.left)) [
+  | inl some ↦
+      (let t = is_cut e.event e.reply e.saved e.parts e.left fits.lets_out (grind (arith, nat_tests, some)) in
+      if_so (nat_lt 0 e.left) (headline.batch_in e.id e.left (printed_by e.event e.parts)) None some ∙
+      ap (headline.batch_in e.id e.left) t.1 ∙
+      ap (λ (c : CutDocument). Some (record { id = e.id; document = c; left = e.left }))
+      (sym (cut_is e.event e.parts t.0 t.1)) ∙
+      sym (if_so (nat_lt 0 e.left) (Some (all_of e)) None some))
+  | inr none ↦
+      if_not (nat_lt 0 e.left) (headline.batch_in e.id e.left (printed_by e.event e.parts)) None
+      (λ so. true_false (nat_lt 0 e.left) so none) ∙
+      sym (if_not (nat_lt 0 e.left) (Some (all_of e)) None (λ so. true_false (nat_lt 0 e.left) so none))
+]
+
+pub same_batches : {A : Type 0} (ranges : List Range) (desks : ℕ) (h : History A) → IsLegal ranges desks h →
+    headline.batches_of h ≡ batches_of h
+same_batches ranges desks [] legal = refl
+same_batches ranges desks (e ∷ h) legal =
+    ap (λ (l : List (Option Batch)). l ++ headline.batch_of e ∷ []) (same_batches ranges desks h legal.1) ∙
+    ap (λ (o : Option Batch). batches_of h ++ o ∷ []) (same_batch ranges desks h e legal.0)
 
 -- under an identification that is unused no label left
 pub unused_is_none : {A : Type 0} (h : History A) (i id : ℕ) (batch : Batch) → IsUnused id h →

@@ -23,7 +23,7 @@ docs_used {A} ranges desks (e ∷ h) id cut legal had = elim (decided (prints_as
   | inl is ↦ or_left (e.saved && uses e.event e.id id) (is_used h id)
       (let t = prints_as_means e id is in
       and_so e.saved (uses e.event e.id id) (legal.0.left_saved t.0)
-      (number_is e.event (is_cut e.event e.reply e.parts e.left legal.0.lets_out t.0) t.1))
+      (number_is e.event (is_cut e.event e.reply e.saved e.parts e.left legal.0.lets_out t.0) t.1))
   | inr not_so ↦ or_right (e.saved && uses e.event e.id id) (is_used h id)
       (docs_used ranges desks h id cut legal.1
       (sym (if_not (prints_as e id) (printed_by e.event e.parts) (docs h id)
@@ -52,7 +52,7 @@ pub fresh_next : {A : Type 0} (ranges : List Range) (desks : ℕ) (h : History A
     ArePlaced ranges h →
     Fits ranges desks h e → 0 < e.left → docs h e.id ≡ None
 fresh_next {A} ranges desks h e legal placed fits some =
-    by_event e.event (is_cut e.event e.reply e.parts e.left fits.lets_out some) (fits.moves (fits.left_saved some))
+    by_event e.event (is_cut e.event e.reply e.saved e.parts e.left fits.lets_out some) (fits.moves (fits.left_saved some))
   where
     by_event : (event : Event A) → ((c : CutDocument) × (printed_by event e.parts ≡ Some c)) →
         MayMove ranges h e.id event → docs h e.id ≡ None

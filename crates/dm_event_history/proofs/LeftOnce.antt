@@ -69,7 +69,7 @@ pub last_opened : {A : Type 0} (ranges : List Range) (desks : ℕ) (h : History 
     Fits ranges desks h e → 0 < e.left →
     IsOpened ranges e.id
 last_opened {A} ranges desks h e placed fits some =
-    by_event e.event (is_cut e.event e.reply e.parts e.left fits.lets_out some) (fits.moves (fits.left_saved some))
+    by_event e.event (is_cut e.event e.reply e.saved e.parts e.left fits.lets_out some) (fits.moves (fits.left_saved some))
   where
     by_event : (event : Event A) → ((c : CutDocument) × (printed_by event e.parts ≡ Some c)) →
         MayMove ranges h e.id event → IsOpened ranges e.id

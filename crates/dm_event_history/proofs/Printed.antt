@@ -41,12 +41,12 @@ docs_own e h cut some is =
     if_so (prints_as e e.id) (printed_by e.event e.parts) (docs h e.id) (prints_as_so e e.id some refl) ∙ is
 
 -- only what a print prints leaves
-pub is_cut : {A : Type 0} (event : Event A) (reply : Reply A) (parts : List (List ℕ)) (left : ℕ) →
-    LetsOut event reply parts left → 0 < left →
+pub is_cut : {A : Type 0} (event : Event A) (reply : Reply A) (saved : Bool) (parts : List (List ℕ)) (left : ℕ) →
+    LetsOut event reply saved parts left → 0 < left →
     (cut : CutDocument) × (printed_by event parts ≡ Some cut)
-is_cut (Print p document size scheme stop) reply parts left is some =
+is_cut (Print p document size scheme stop) reply saved parts left is some =
     (record { bytes = document; size = size; scheme = scheme; parts = parts }, refl)
-is_cut event reply parts left is some = absurd (omega arith)
+is_cut event reply saved parts left is some = absurd (omega arith)
 
 -- an identification under which nothing was printed left with no label
 pub is_unused : {A : Type 0} (ranges : List Range) (desks : ℕ) (h : History A) (id : ℕ) → IsLegal ranges desks h →
@@ -61,7 +61,7 @@ is_unused {A} ranges desks (e ∷ h) id legal none = (
     twice : 0 < e.left → prints_as e id ≡ true → ⊥
     twice some is =
         let t : (cut : CutDocument) × (printed_by e.event e.parts ≡ Some cut) =
-        is_cut e.event e.reply e.parts e.left legal.0.lets_out some in
+        is_cut e.event e.reply e.saved e.parts e.left legal.0.lets_out some in
         let taken : (if prints_as e id then printed_by e.event e.parts else docs h id) ≡ printed_by e.event e.parts =
         if_so (prints_as e id) (printed_by e.event e.parts) (docs h id) is in
         let gone : printed_by e.event e.parts ≡ None = sym taken ∙ none in

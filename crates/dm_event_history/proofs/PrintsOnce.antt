@@ -1,39 +1,24 @@
 -- A legal history prints no identification twice: said of its events and replies alone.
-use Rattle.std.proofs.Common.{◌≡◌, ◌<◌, ◌≤◌, ◌+◌, inl, inr, ℕ, true, false, Option, Some, None, List, [], ◌∷◌, length, slice_get, take, refl, ap, sym, ◌∙◌, subst, arith}
+use Rattle.std.proofs.Common.{◌≡◌, ◌<◌, inl, inr, ℕ, false, Option, Some, List, [], ◌∷◌, length, slice_get, take, refl, ap, sym, ◌∙◌, subst, arith}
 use Rattle.std.specs.Prelude.{◌≢◌}
-use Rattle.dm_check_blocks.specs.declared.size.Size.{Size}
-use Rattle.dm_encodation.specs.declared.scheme.Scheme.{Scheme}
-use Rattle.dm_append_label.specs.Parts.{AreParts, HasNoEnds}
 use Rattle.dm_print_ledger.specs.declared.range.Range.{Range}
-use Rattle.dm_print_ledger.specs.Ranges.{is_in}
-use Rattle.dm_print_ledger.specs.Views.{TicketView}
-use Rattle.dm_print_ledger.specs.declared.fault.PrintFault.{PrintFault}
-use Rattle.dm_print_ledger.specs.declared.fault.PrintFault.TheVariants as print_fault
 use Rattle.dm_event_history.specs.declared.event.Event.{Event}
-use Rattle.dm_event_history.specs.declared.event.Event.TheVariants.{Print, Scan, Give}
+use Rattle.dm_event_history.specs.declared.event.Event.TheVariants.{Scan}
 use Rattle.dm_event_history.specs.declared.reply.Reply.{Reply}
-use Rattle.dm_event_history.specs.declared.reply.Reply.TheVariants.{Printed, PrintRefused, Given, Stopped, NoSuch}
+use Rattle.dm_event_history.specs.declared.reply.Reply.TheVariants.{Printed, NoSuch}
 use Rattle.dm_event_history.specs.declared.stop.Stop.{Stop}
-use Rattle.dm_event_history.specs.declared.stop.Stop.TheVariants.{AfterLabels}
-use Rattle.dm_event_history.specs.Actors.{PrinterAt, actor_of}
-use Rattle.dm_event_history.specs.History.{Entry, History, docs, events_of, replies_of}
+use Rattle.dm_event_history.specs.Actors.{actor_of}
+use Rattle.dm_event_history.specs.History.{Entry, History, events_of, replies_of}
 use Rattle.dm_event_history.specs.Running.{is_failed}
-use Rattle.dm_event_history.specs.Legal.{AreDisjoint, IsPrintRefused, IsReply, IsLegal, MayMove, Fits, NeverTwice}
-use Rattle.dm_event_history.specs.Numbers.{opening_count, gone, came, free_at}
+use Rattle.dm_event_history.specs.Legal.{AreDisjoint, IsLegal, Fits, NeverTwice}
 use Rattle.dm_event_history.specs.Places.{IsOpened}
 use Rattle.dm_event_history.specs.Replying.{has_failed_before}
-use Rattle.dm_event_history.specs.Counts.{HasNumber}
-use Rattle.dm_event_history.specs.Saving.{tells_of_save}
-use Rattle.dm_event_history.specs.Headline.{Batch, LeftBy, LeftBefore, labels_of, HasModules, AllLeft, PrintsOnceBy}
-use Rattle.dm_event_history.proofs.Fresh.{all_placed, free_is_fresh}
-use Rattle.dm_event_history.proofs.Printed.{is_unused}
+use Rattle.dm_event_history.specs.Headline.{Batch, LeftBy, labels_of, HasModules, AllLeft, PrintsOnceBy}
+use Rattle.dm_event_history.proofs.Fresh.{all_placed}
 use Rattle.dm_event_history.proofs.LeftOnce.{last_opened}
-use Rattle.dm_event_history.proofs.Batches.{all_of, count_all, batch_of, batches_of, events_count, replies_count, batches_count, before_or_last, take_keeps, batch_means, out_is, left_more, last_prints, told_is, unused_is_none, last_batch, whole_before}
+use Rattle.dm_event_history.proofs.Batches.{all_of, count_all, same_batches, batch_of, batches_of, events_count, replies_count, batches_count, before_or_last, take_keeps, batch_means, out_is, left_more, last_prints, told_is, unused_is_none, last_batch, whole_before}
 use Rattle.dm_event_history.proofs.Replied.{asked_before_or_last, failed_before, failed_at_last, saved_unfailed, are_replies}
 use Rattle.dm_event_history.proofs.ScannedLabels.{modules_at_last, no_modules_at_last}
-use Rattle.dm_event_history.proofs.Counts.{number_before, number_at_last}
-use Rattle.dm_event_history.proofs.Tainting.{first_whole}
-use Rattle.dm_event_history.proofs.MayBeFree.{owned_of, gives_of}
 use Rattle.dm_event_history.proofs.Gotten.{get_more, get_beyond}
 
 once_first : {A : Type 0} (ranges : List Range) (desks : ℕ) → (let none : History A = [] in
@@ -41,6 +26,7 @@ once_first : {A : Type 0} (ranges : List Range) (desks : ℕ) → (let none : Hi
 once_first {A} ranges desks = record {
   each_reply = refl;
   each_batch = refl;
+  explained = record { history = []; events_are = refl; replies_are = refl; batches_are = refl; legal = tt };
   replied = record {
     each = λ i event reply asked answered. absurd (cc (asked));
     no_such = λ i event asked answered there alone. absurd (cc (asked));
@@ -52,12 +38,7 @@ once_first {A} ranges desks = record {
   told = λ i id first count is. absurd (cc (is));
   printed = λ i batch is. absurd (cc (is));
   opened = λ i batch is. absurd (cc (is));
-  owned = λ i printer document size scheme stop batch is asked. absurd (cc (is));
-  gives_own = λ i printer receiver range stop index ticket asked answered number within. absurd (cc (asked));
   unfailed = λ i batch event is asked. absurd (cc (is));
-  let_out = λ i printer document size scheme most parts asked some answered are unfailed has. absurd (cc (asked));
-  exhausted = λ i printer document size scheme stop asked answered has. absurd (cc (asked));
-  too_long = λ i printer document size scheme stop asked answered. absurd (cc (asked));
   once = λ i j one other a b same. absurd (cc (a));
   there = λ i desk label flips stop reply a b such. absurd (cc (a));
   not_there = λ i desk label flips stop a b desk_there. absurd (cc (a));
@@ -70,20 +51,18 @@ once_next : {A : Type 0} (ranges : List Range) (desks : ℕ) (h : History A) (e 
 once_next {A} ranges desks h e apart legal never f = record {
   each_reply = replies_count (e ∷ h) ∙ sym (events_count (e ∷ h));
   each_batch = batches_count (e ∷ h) ∙ sym (events_count (e ∷ h));
+  explained = record {
+    history = e ∷ h;
+    events_are = refl;
+    replies_are = refl;
+    batches_are = same_batches ranges desks (e ∷ h) legal;
+    legal = legal;
+  };
   replied = are_replies ranges desks (e ∷ h) legal;
   told = tells;
   printed = prints;
   opened = begun;
-  owned = owned_of ranges desks (events_of (e ∷ h)) (replies_of (e ∷ h)) (e ∷ h) (first_whole (e ∷ h)) legal;
-  gives_own = λ i printer receiver range stop index ticket asked answered number within. (
-    gives_of ranges desks (events_of (e ∷ h)) (replies_of (e ∷ h)) (e ∷ h) (first_whole (e ∷ h)) legal i printer
-        receiver range stop index ticket asked answered number within,
-    gives_unprinted i printer receiver range stop index ticket asked answered number within,
-  );
   unfailed = runs;
-  let_out = lets;
-  exhausted = exhausts;
-  too_long = has_no_ends;
   once = one;
   there = scanned;
   not_there = not_scanned;
@@ -167,110 +146,6 @@ once_next {A} ranges desks h e apart legal never f = record {
                 (failed_at_last h e (actor_of event) ∙ ap (λ (v : Event A). is_failed h (actor_of v)) (sym last.1) ∙
                 last_runs (batch_means e batch here.1).0)
           ]
-        ]
-
-    -- the last entry is a print that was stopped after a label or more
-    last_lets : (printer : ℕ) (document : List ℕ) (size : Size) (scheme : Scheme) (most : ℕ)
-        (parts : List (List ℕ)) → e.event ≡ Print printer document size scheme (AfterLabels most) → 1 ≤ most →
-        e.reply ≡ Stopped → AreParts size scheme document parts → is_failed h (PrinterAt printer) ≡ false →
-        gone h printer < opening_count ranges printer + came h printer → 1 ≤ e.left
-    last_lets printer document size scheme most parts event_is some reply_is are unfailed has =
-        let fine : IsReply ranges h e.id e.left (Print printer document size scheme (AfterLabels most)) Stopped =
-        subst (λ (v : Event A). IsReply ranges h e.id e.left v Stopped) event_is
-        (subst (λ (r : Reply A). IsReply ranges h e.id e.left e.event r) reply_is fits.reply) in
-        fine some parts are unfailed has
-
-    lets : (i printer : ℕ) (document : List ℕ) (size : Size) (scheme : Scheme) (most : ℕ) (parts : List (List ℕ)) →
-        slice_get (events_of (e ∷ h)) i ≡ Some (Print printer document size scheme (AfterLabels most)) → 1 ≤ most →
-        slice_get (replies_of (e ∷ h)) i ≡ Some Stopped → AreParts size scheme document parts →
-        has_failed_before (events_of (e ∷ h)) (replies_of (e ∷ h)) i (PrinterAt printer) ≡ false →
-        HasNumber ranges (take i (events_of (e ∷ h))) (take i (replies_of (e ∷ h))) printer →
-        (batch : Batch) × (slice_get (batches_of (e ∷ h)) i ≡ Some (Some batch))
-    lets i printer document size scheme most parts asked some answered are unfailed has =
-        elim (asked_before_or_last h e i (Print printer document size scheme (AfterLabels most)) Stopped asked
-        answered) [
-          | inl before ↦
-              (let below : i < length h = before.0 in
-              let t = f.let_out i printer document size scheme most parts before.1 some before.2 are
-              (sym (failed_before h e i (PrinterAt printer) before.0) ∙ unfailed)
-              (number_before ranges h e i printer (omega arith) has) in
-              (t.0, get_more (batches_of h) (batch_of e ∷ []) i (Some t.0) t.1))
-          | inr last ↦
-              (let now : has_failed_before (events_of (e ∷ h)) (replies_of (e ∷ h)) (length h) (PrinterAt printer)
-              ≡ false = subst (λ (k : ℕ). has_failed_before (events_of (e ∷ h)) (replies_of (e ∷ h)) k
-              (PrinterAt printer) ≡ false) last.0 unfailed in
-              let left : 1 ≤ e.left = last_lets printer document size scheme most parts last.1 some last.2 are
-              (sym (failed_at_last h e (PrinterAt printer)) ∙ now)
-              (number_at_last ranges h e printer (subst (λ (k : ℕ). HasNumber ranges (take k (events_of (e ∷ h)))
-              (take k (replies_of (e ∷ h))) printer) last.0 has)) in (
-                all_of e,
-                ap (slice_get (batches_of (e ∷ h))) last.0 ∙ last_batch h e (omega arith),
-              ))
-        ]
-
-    -- why the last entry refuses its print
-    last_refuses : (printer : ℕ) (document : List ℕ) (size : Size) (scheme : Scheme) (stop : Stop)
-        (fault : PrintFault) → e.event ≡ Print printer document size scheme stop → e.reply ≡ PrintRefused fault →
-        IsPrintRefused ranges h printer (record { bytes = document; size = size; scheme = scheme; parts = [] }) stop
-        fault
-    last_refuses printer document size scheme stop fault event_is reply_is =
-        subst (λ (v : Event A). IsReply ranges h e.id e.left v (PrintRefused fault)) event_is
-        (subst (λ (r : Reply A). IsReply ranges h e.id e.left e.event r) reply_is fits.reply)
-
-    exhausts : (i printer : ℕ) (document : List ℕ) (size : Size) (scheme : Scheme) (stop : Stop) →
-        slice_get (events_of (e ∷ h)) i ≡ Some (Print printer document size scheme stop) →
-        slice_get (replies_of (e ∷ h)) i ≡ Some (PrintRefused print_fault.Exhausted) →
-        ¬ HasNumber ranges (take i (events_of (e ∷ h))) (take i (replies_of (e ∷ h))) printer
-    exhausts i printer document size scheme stop asked answered has =
-        elim (asked_before_or_last h e i (Print printer document size scheme stop)
-        (PrintRefused print_fault.Exhausted) asked answered) [
-          | inl before ↦
-              (let below : i < length h = before.0 in
-              f.exhausted i printer document size scheme stop before.1 before.2
-              (number_before ranges h e i printer (omega arith) has))
-          | inr last ↦
-              (let none = (last_refuses printer document size scheme stop print_fault.Exhausted last.1 last.2).0 in
-              let some = number_at_last ranges h e printer (subst (λ (k : ℕ). HasNumber ranges
-              (take k (events_of (e ∷ h))) (take k (replies_of (e ∷ h))) printer) last.0 has) in omega arith)
-        ]
-
-    has_no_ends : (i printer : ℕ) (document : List ℕ) (size : Size) (scheme : Scheme) (stop : Stop) →
-        slice_get (events_of (e ∷ h)) i ≡ Some (Print printer document size scheme stop) →
-        slice_get (replies_of (e ∷ h)) i ≡ Some (PrintRefused print_fault.TooLong) → HasNoEnds size scheme document
-    has_no_ends i printer document size scheme stop asked answered =
-        elim (asked_before_or_last h e i (Print printer document size scheme stop)
-        (PrintRefused print_fault.TooLong) asked answered) [
-          | inl before ↦ f.too_long i printer document size scheme stop before.1 before.2
-          | inr last ↦ last_refuses printer document size scheme stop print_fault.TooLong last.1 last.2
-        ]
-
-    -- no label left under a number that is given
-    gives_unprinted : (i printer receiver : ℕ) (range : Range) (stop : Stop) (index : ℕ) (ticket : TicketView) →
-        slice_get (events_of (e ∷ h)) i ≡ Some (Give printer receiver range stop) →
-        slice_get (replies_of (e ∷ h)) i ≡ Some (Given index ticket) → (number : ℕ) → is_in range number ≡ true →
-        (batch : Batch) → ¬ LeftBefore (batches_of (e ∷ h)) i number batch
-    gives_unprinted i printer receiver range stop index ticket asked answered number within batch left =
-        elim (before_or_last (batches_of h) (batch_of e) (Some batch) (length h) left.j (batches_count h) left.there) [
-          | inr last ↦
-              (let among = get_beyond (events_of (e ∷ h)) i (Give printer receiver range stop) asked in
-              let all = events_count (e ∷ h) in
-              let at = last.0 in
-              let before = left.before in omega arith)
-          | inl there ↦ elim (asked_before_or_last h e i (Give printer receiver range stop) (Given index ticket) asked
-              answered) [
-                | inl earlier ↦ (f.gives_own i printer receiver range stop index ticket earlier.1 earlier.2 number
-                    within).1 batch
-                    (record { j = left.j; before = left.before; there = there; id_is = left.id_is })
-                | inr last ↦
-                    (let saved : e.saved ≡ true = fits.told (ap (λ (r : Reply A). tells_of_save r) last.2) in
-                    let free : free_at ranges h printer number ≡ true =
-                    subst (λ (v : Event A). MayMove ranges h e.id v) last.1 (fits.moves saved) number within in
-                    let fresh : docs h number ≡ None =
-                    free_is_fresh ranges desks h printer number legal.1
-                    (all_placed ranges desks h apart legal.1) free in
-                    unused_is_none h left.j number batch (is_unused ranges desks h number legal.1 fresh) there
-                    left.id_is)
-              ]
         ]
 
     earlier : (i label : ℕ) (modules : List (ℕ × ℕ)) → i < length h →

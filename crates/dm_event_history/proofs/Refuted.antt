@@ -24,33 +24,31 @@ use Rattle.dm_append_label.proofs.CutParts.{each_cut_is}
 use Rattle.dm_event_history.specs.declared.event.Event.{Event}
 use Rattle.dm_event_history.specs.declared.event.Event.TheVariants.{Print, Scan, RestartPrinter, RestartDesk, Ask, Forget, Give, Take, Export, Import}
 use Rattle.dm_event_history.specs.declared.reply.Reply.{Reply}
-use Rattle.dm_event_history.specs.declared.reply.Reply.TheVariants.{Printed, PrintRefused, AskRefused, ForgetRefused, Scanned, ScanRefused, Document, Forgotten, Given, GiveRefused, Taken, TakeRefused, Exported, Imported, Restarted, PrinterRefused, Stopped, Down, Memory, ImportRefused}
+use Rattle.dm_event_history.specs.declared.reply.Reply.TheVariants.{Printed, AskRefused, ForgetRefused, Scanned, ScanRefused, Document, Forgotten, Given, GiveRefused, Taken, TakeRefused, Exported, Imported, Restarted, PrinterRefused, Stopped, Down, Memory, ImportRefused}
 use Rattle.dm_event_history.specs.declared.stop.Stop.{Stop}
 use Rattle.dm_event_history.specs.declared.stop.Stop.TheVariants as stops
 use Rattle.dm_event_history.specs.History.{CutDocument, LabelName, ExportName, names_from}
-use Rattle.dm_event_history.specs.Headline.{Batch, count_of, LeftBy, labels_of, IsScanOf, MayHaveSaved, WasScanned, WasPrinted, MayNotImport, PrintsOnceBy, IsAt, MayGain, MayBeFree, MayHold, Holds, known_before, IsFaithfulBy}
+use Rattle.dm_event_history.specs.Headline.{Batch, count_of, LeftBy, labels_of, IsScanOf, MayHaveSaved, WasScanned, WasPrinted, MayNotImport, PrintsOnceBy, IsAt, MayHold, Holds, known_before, IsFaithfulBy}
 use Rattle.dm_event_history.specs.Holding.{MayTake, MayForget}
 use Rattle.dm_event_history.specs.Imports.{exports_in}
 use Rattle.dm_event_history.specs.Tainted.{AtDesk, InExport}
 use Rattle.dm_event_history.proofs.Tainting.{untainted, is_tainted, untainted_by}
+use Rattle.dm_event_history.proofs.RefutedLedgers.{exhausted_at_first_is, exhausted_by_itself_is, exhausted_by_no_range_is, exhausted_by_a_refused_give_is, exhausted_though_failed_is, too_long_of_few_is, first_lets_out, second_lets_out, first_is_own, given_of_another_is, given_though_printed_is, given_again_is, printed_above_the_least_is, printed_untaken_is, printed_of_anothers_ticket_is, given_after_taken_is, printed_of_overtaken_is, given_of_overtaken_is, printed_of_old_is, printed_after_exhausted_is, given_after_exhausted_is, given_though_used_is, printed_though_given_is, refused_though_taken_is, given_of_falling_takes_is, serial_skipped_is, refused_though_free_is, refused_though_for_it_is}
 use Rattle.dm_print_ledger.specs.declared.range.Range.{Range}
 use Rattle.dm_print_ledger.specs.Ranges.{is_in}
-use Rattle.dm_print_ledger.specs.declared.fault.PrintFault.TheVariants as print_fault
 use Rattle.dm_print_ledger.specs.declared.fault.GiveFault.TheVariants as give_fault
 use Rattle.dm_print_ledger.specs.declared.fault.TakeFault.TheVariants as take_fault
 use Rattle.dm_event_history.specs.Actors.{PrinterAt, DeskAt, actor_of}
 use Rattle.dm_event_history.specs.Replying.{has_failed_before}
 use Rattle.dm_event_history.specs.Numbers.{is_in_some}
 use Rattle.dm_event_history.specs.Places.{IsOpened}
-use Rattle.dm_event_history.specs.Counts.{HasNumber}
-use Rattle.dm_event_history.proofs.Right.{are_parts}
 use Rattle.dm_print_ledger.specs.Views.{TicketView}
 use Rattle.dm_event_history.specs.Masks.{HasPage}
 use Rattle.dm_event_history.specs.Saving.{may_save}
 use Rattle.dm_event_history.specs.Tickets.{WasGiven, WasReached}
 use Rattle.dm_event_history.specs.Worked.{digits, range, two_ranges, first_ticket}
 use Rattle.dm_event_history.specs.Telling.{Known, IsImportKindSafe, MayHoldOthers, IsFullForLabel, IsFullForExport}
-use Rattle.dm_event_history.specs.Unfaithful.{Run, IsFaithfulRun, missing_first_label, lost_by_a_refused_forget, imported_at_last, printed_untaken, given_after_taken, after_overtaken, printed_of_overtaken, given_of_overtaken, printed_of_old, taken_below_old, ticket_back, given_to_another, old_by_another_giver, imported_none_of_another, wrong_after_a_refused_scan, wrong_after_a_failed_scan, wrong_after_a_failed_import, old_by_another_ticket, printed_of_another, given_of_another, given_again, given_though_printed, printed_of_anothers_ticket, taken_though_kept, saved_though_failed, held_and_missing, forgotten_elsewhere, forgotten_twice, again_at_first, new_twice, new_at_last, complete_at_first, missing_though_held, given_elsewhere, conflicting_label, exported_in_part, added_again, refused_label, refused_frame, exhausted_at_first, exhausted_by_itself, exhausted_by_no_range, exhausted_though_failed, after_exhausted, printed_after_exhausted, given_after_exhausted, too_long_of_few, IsFaithfulMarked, IsTaintedIn, IsTaintedSo, wrong_at, imported, PrintsOnceRun, AreRepliesRun, TakesOnceRun, ImportsExportsRun, other_digits, scan, page, ticket, another_call, stopped_unasked, forgotten_with_a_fault, scanned_though_stopped, failed_without_a_fault, damaged_by_itself, answered_while_down, down_unstopped, failed_before_a_fault, given_though_failed, missing_printer, numbered_above, second_ticket, taken_falling, old_at_first, old_after_a_lower, old_unsaved, old_though_failed, refused_ungiven, missing_ticket, exported_above, refused_unexported, missing_export, never_saved, refused_import, scanned_outside, given_to_itself, refused_range, refused_receiver, full_at_first, full_with_one, two_desks, four_desks, wrong_of_two, refused_unprinted, missing_label, third_desk, begun_unscanned, exported_unscanned, printed_after_forgotten, one_serial, given_falling, taken_though_old, imported_another_document, imported_another_page, exported_twice, half_printed, printed_unseen, unseen_labels, print, never_printed, wrong_document, another_document, never_scanned, two_documents, printed_twice, told_twice, printed_beyond, left_though_failed, never_left, numbered_twice, taken_twice, taken_elsewhere, overlaps, AreUnfaithful}
+use Rattle.dm_event_history.specs.Unfaithful.{Run, IsFaithfulRun, missing_first_label, missing_after_a_refused_give, lost_by_a_refused_forget, imported_at_last, taken_below_old, given_to_another, old_by_another_giver, imported_none_of_another, wrong_after_a_refused_scan, wrong_after_a_failed_scan, wrong_after_a_failed_import, old_by_another_ticket, printed_of_another, taken_though_kept, saved_though_failed, held_and_missing, forgotten_elsewhere, forgotten_twice, again_at_first, new_twice, new_at_last, complete_at_first, missing_though_held, given_elsewhere, conflicting_label, exported_in_part, added_again, refused_label, refused_frame, IsFaithfulMarked, IsTaintedIn, IsTaintedSo, wrong_at, imported, PrintsOnceRun, AreRepliesRun, TakesOnceRun, ImportsExportsRun, other_digits, scan, page, ticket, another_call, stopped_unasked, forgotten_with_a_fault, scanned_though_stopped, failed_without_a_fault, damaged_by_itself, answered_while_down, down_unstopped, failed_before_a_fault, given_though_failed, missing_printer, numbered_above, second_ticket, taken_falling, old_at_first, old_after_a_lower, old_unsaved, old_though_failed, refused_ungiven, missing_ticket, exported_above, refused_unexported, missing_export, never_saved, refused_import, scanned_outside, given_to_itself, refused_range, refused_receiver, full_at_first, full_with_one, two_desks, four_desks, wrong_of_two, refused_unprinted, missing_label, third_desk, begun_unscanned, exported_unscanned, printed_after_forgotten, one_serial, given_falling, taken_though_old, imported_another_document, imported_another_page, exported_twice, half_printed, printed_unseen, unseen_labels, print, never_printed, wrong_document, another_document, never_scanned, two_documents, printed_twice, told_twice, printed_beyond, left_though_failed, never_left, numbered_twice, taken_twice, taken_elsewhere, overlaps, AreUnfaithful}
 
 -- each event of a run was found honest
 abbrev marks : {A : Type 0} → Run A → List Bool
@@ -465,15 +463,11 @@ wrong_of_two_is A (batches, f) = by_batches batches f
     replies : List (Reply A)
     replies = map (λ one. one.1) (wrong_of_two A)
 
-    -- nothing had gone
-    has : HasNumber {A = A} two_ranges [] [] 0
-    has = (let below : 0 < 10 = omega arith in below)
-
     by_batches : (batches : List (Option Batch)) →
         IsFaithfulBy two_ranges two_desks batches events (marks (wrong_of_two A)) replies → ⊥
     by_batches [] f = (let t = f.prints.each_batch in cc (t))
     by_batches (None ∷ rest) f =
-        let t = f.prints.let_out 0 0 other_digits Side12 Ascii 2 _ refl (omega arith) refl are_parts refl has in
+        let t = first_lets_out (None ∷ rest) 2 _ _ (omega arith) f.prints in
         let x : Some None ≡ Some (Some t.0) = t.1 in cc (x)
     by_batches (Some batch ∷ rest) f =
         let p = f.prints.printed 0 batch refl in
@@ -541,18 +535,41 @@ missing_first_label_is A (batches, f) = by_batches batches f
     replies : List (Reply A)
     replies = map (λ one. one.1) (missing_first_label A)
 
-    has : HasNumber {A = A} two_ranges [] [] 0
-    has = (let below : 0 < 10 = omega arith in below)
-
     by_batches : (batches : List (Option Batch)) →
         IsFaithfulBy two_ranges two_desks batches events (marks (missing_first_label A)) replies → ⊥
     by_batches [] f = (let t = f.prints.each_batch in cc (t))
     by_batches (None ∷ rest) f =
-        let t = f.prints.let_out 0 0 other_digits Side12 Ascii 1 _ refl (omega arith) refl are_parts refl has in
+        let t = first_lets_out (None ∷ rest) 1 _ _ (omega arith) f.prints in
         let x : Some None ≡ Some (Some t.0) = t.1 in cc (x)
     by_batches (Some batch ∷ rest) f =
         f.prints.not_there 1 0 0 [] stops.None refl refl (omega arith)
         (first_sized (AreWithin []) batch.left batch.document.size [] (f.prints.printed 0 batch refl).not_none
+        (none_within batch.document.size))
+
+missing_after_a_refused_give_is : (A : Type 0) → ¬ IsFaithfulRun (missing_after_a_refused_give A)
+missing_after_a_refused_give_is A (batches, f) = by_batches batches f
+  where
+    events : List (Event A)
+    events = map (λ one. one.0) (missing_after_a_refused_give A)
+
+    replies : List (Reply A)
+    replies = map (λ one. one.1) (missing_after_a_refused_give A)
+
+    by_batches : (batches : List (Option Batch)) →
+        IsFaithfulBy two_ranges two_desks batches events (marks (missing_after_a_refused_give A)) replies → ⊥
+    by_batches [] f = (let t = f.prints.each_batch in cc (t))
+    by_batches (one ∷ []) f = (let t = f.prints.each_batch in cc (t))
+    by_batches (Some batch ∷ other ∷ rest) f =
+        (let e = (f.prints.printed 0 batch refl).is_print.event in cc (e))
+    by_batches (None ∷ Some batch ∷ rest) f =
+        (let e = (f.prints.printed 1 batch refl).is_print.event in cc (e))
+    by_batches (None ∷ None ∷ []) f = (let t = f.prints.each_batch in cc (t))
+    by_batches (None ∷ None ∷ None ∷ rest) f =
+        let t = second_lets_out A (None ∷ None ∷ None ∷ rest) f.prints in
+        let x : Some None ≡ Some (Some t.0) = t.2 in cc (x)
+    by_batches (None ∷ None ∷ Some batch ∷ rest) f =
+        f.prints.not_there 3 0 0 [] stops.None refl refl (omega arith)
+        (first_sized (AreWithin []) batch.left batch.document.size [] (f.prints.printed 2 batch refl).not_none
         (none_within batch.document.size))
 
 missing_label_is : (A : Type 0) → ¬ IsFaithfulRun (missing_label A)
@@ -1019,26 +1036,6 @@ conflicting_label_is A (batches, f) =
     f.not_refused 1 0 0 [] stops.None scan_fault.Conflict refl refl refl
     (untainted (conflicting_label A) 1 (AtDesk 0))
 
-exhausted_at_first_is : (A : Type 0) → ¬ IsFaithfulRun (exhausted_at_first A)
-exhausted_at_first_is A (batches, f) =
-    let has : 0 < 10 = omega arith in f.prints.exhausted 0 0 digits Side12 Ascii stops.None refl refl has
-
-exhausted_by_itself_is : (A : Type 0) → ¬ IsFaithfulRun (exhausted_by_itself A)
-exhausted_by_itself_is A (batches, f) =
-    let has : 0 < 10 = omega arith in f.prints.exhausted 2 0 digits Side12 Ascii stops.None refl refl has
-
-exhausted_by_no_range_is : (A : Type 0) → ¬ IsFaithfulRun (exhausted_by_no_range A)
-exhausted_by_no_range_is A (batches, f) =
-    let has : 0 < 10 = omega arith in f.prints.exhausted 2 0 digits Side12 Ascii stops.None refl refl has
-
-exhausted_though_failed_is : (A : Type 0) → ¬ IsFaithfulRun (exhausted_though_failed A)
-exhausted_though_failed_is A (batches, f) =
-    let has : 0 < 10 = omega arith in f.prints.exhausted 3 0 digits Side12 Ascii stops.None refl refl has
-
-too_long_of_few_is : (A : Type 0) → ¬ IsFaithfulRun (too_long_of_few A)
-too_long_of_few_is A (batches, f) =
-    f.prints.too_long 0 0 other_digits Side12 Ascii stops.None refl refl are_parts.ends are_parts.are_ends
-
 -- ---- what is tainted
 
 -- a document that was never printed is not given at a desk that is not tainted
@@ -1497,249 +1494,8 @@ printed_of_another_is A (batches, f) = by_batches batches f
         let p = f.prints.printed 0 batch refl in
         let own : batch.id ≡ 15 = first_label batch [] (record { id = 15; number = 1; count = 2 }) p.not_none
         (told (Some batch ∷ rest) f) in
-        let free : is_in_some (slice_get two_ranges 0) batch.id ≡ true =
-        f.prints.owned 0 0 digits Side12 Ascii (stops.AfterLabels 1) batch refl refl in
-        let x : false ≡ true = subst (λ (id : ℕ). is_in_some (slice_get two_ranges 0) id ≡ true) own free in cc (x)
-
-printed_untaken_is : (A : Type 0) → ¬ IsFaithfulRun (printed_untaken A)
-printed_untaken_is A (batches, f) =
-    let t = f.prints.told 3 5 0 2 refl in
-    by_free (subst (λ (id : ℕ). MayBeFree two_ranges events replies 3 1 id) t.id_is
-    (f.prints.owned 3 1 digits Side12 Ascii stops.None t.batch t.there refl))
-  where
-    events : List (Event A)
-    events = map (λ one. one.0) (printed_untaken A)
-
-    replies : List (Reply A)
-    replies = map (λ one. one.1) (printed_untaken A)
-
-    by_free : MayBeFree two_ranges events replies 3 1 5 → ⊥
-    by_free (inl gained) = not_at events replies 2 (RestartPrinter 1) Restarted
-        (MayGain events replies 2 1 5) refl refl (λ t. t) gained
-    by_free (inr (stays, inl gained)) = not_at events replies 1 (Take 1 0 stops.BeforeSave) Stopped
-        (MayGain events replies 1 1 5) refl refl (λ t. cc (t.1)) gained
-    by_free (inr (stays, inr (still, inl gained))) =
-        not_at events replies 0 (Give 0 1 first_ticket.range stops.None) (Given 0 first_ticket)
-        (MayGain events replies 0 1 5) refl refl (λ t. t) gained
-    by_free (inr (stays, inr (still, inr (again, began)))) = cc (began)
-
-given_of_another_is : (A : Type 0) → ¬ IsFaithfulRun (given_of_another A)
-given_of_another_is A (batches, f) =
-    let x : false ≡ true =
-    (f.prints.gives_own 0 0 1 (range 10 12) stops.None 0 (ticket 0 (range 10 12)) refl refl 10 refl).0 in cc (x)
-
-given_though_printed_is : (A : Type 0) → ¬ IsFaithfulRun (given_though_printed A)
-given_though_printed_is A (batches, f) =
-    let t = f.prints.told 0 0 0 2 refl in
-    (f.prints.gives_own 1 0 1 (range 0 0) stops.None 0 (ticket 0 (range 0 0)) refl refl 0 refl).1 t.batch
-    (record { j = 0; before = omega arith; there = t.there; id_is = t.id_is })
-
-printed_of_anothers_ticket_is : (A : Type 0) → ¬ IsFaithfulRun (printed_of_anothers_ticket A)
-printed_of_anothers_ticket_is A (batches, f) =
-    let t = f.prints.told 3 3 0 2 refl in
-    by_free (subst (λ (id : ℕ). MayBeFree two_ranges events replies 3 0 id) t.id_is
-    (f.prints.owned 3 0 digits Side12 Ascii stops.None t.batch t.there refl))
-  where
-    events : List (Event A)
-    events = map (λ one. one.0) (printed_of_anothers_ticket A)
-
-    replies : List (Reply A)
-    replies = map (λ one. one.1) (printed_of_anothers_ticket A)
-
-    -- the ticket is for printer 1
-    for_another : (given : TicketView) → Some (ticket 0 (range 0 4)) ≡ Some given → given.receiver ≡ 0 → ⊥
-    for_another given is receiver =
-        let same : ticket 0 (range 0 4) ≡ given = cc (is) in
-        let one : ◌≡◌ {A = ℕ} 1 0 = ap (λ (t : TicketView). t.receiver) same ∙ receiver in omega (arith, one)
-
-    by_free : MayBeFree two_ranges events replies 3 0 3 → ⊥
-    by_free (inl gained) = not_at events replies 2 (RestartPrinter 0) Restarted
-        (MayGain events replies 2 0 3) refl refl (λ t. t) gained
-    by_free (inr (stays, inl gained)) = not_at events replies 1 (Take 0 0 (stops.AfterLabels 0)) Stopped
-        (MayGain events replies 1 0 3) refl refl (λ t. for_another t.2 t.3 t.4) gained
-    by_free (inr (stays, inr (still, inl gained))) =
-        not_at events replies 0 (Give 0 1 (range 0 4) stops.None) (Given 0 (ticket 0 (range 0 4)))
-        (MayGain events replies 0 0 3) refl refl (λ t. t) gained
-    by_free (inr (stays, inr (still, inr again))) = again.0 (record {
-      event = Give 0 1 (range 0 4) stops.None;
-      asked = refl;
-      reply = Given 0 (ticket 0 (range 0 4));
-      answered = refl;
-      is_so = (refl, refl);
-    })
-
-given_again_is : (A : Type 0) → ¬ IsFaithfulRun (given_again A)
-given_again_is A (batches, f) =
-    by_free (f.prints.gives_own 1 0 1 (range 4 6) stops.None 1 (ticket 1 (range 4 6)) refl refl 4 refl).0
-  where
-    events : List (Event A)
-    events = map (λ one. one.0) (given_again A)
-
-    replies : List (Reply A)
-    replies = map (λ one. one.1) (given_again A)
-
-    by_free : MayBeFree two_ranges events replies 1 0 4 → ⊥
-    by_free (inl gained) = not_at events replies 0 (Give 0 1 (range 0 4) stops.None) (Given 0 (ticket 0 (range 0 4)))
-        (MayGain events replies 0 0 4) refl refl (λ t. t) gained
-    by_free (inr stays) = stays.0 (record {
-      event = Give 0 1 (range 0 4) stops.None;
-      asked = refl;
-      reply = Given 0 (ticket 0 (range 0 4));
-      answered = refl;
-      is_so = (refl, refl);
-    })
-
--- a ticket that is there is not above one with a serial that is not lower
-not_above : (own found : TicketView) (serial : ℕ) → Some own ≡ Some found →
-    (own.giver ≡ found.giver → serial < found.serial) → own.serial ≤ serial → ⊥
-not_above own found serial is above low =
-    let same : own ≡ found = cc (is) in
-    let serials : own.serial ≡ found.serial = ap (λ (t : TicketView). t.serial) same in
-    let high : serial < found.serial = above (ap (λ (t : TicketView). t.giver) same) in omega arith
-
-given_after_taken_is : (A : Type 0) → ¬ IsFaithfulRun (given_after_taken A)
-given_after_taken_is A (batches, f) =
-    by_free (f.prints.gives_own 5 1 0 (range 7 9) stops.None 2 (ticket_back 1 (range 7 9)) refl refl 7 refl).0
-  where
-    events : List (Event A)
-    events = map (λ one. one.0) (given_after_taken A)
-
-    replies : List (Reply A)
-    replies = map (λ one. one.1) (given_after_taken A)
-
-    by_free : MayBeFree two_ranges events replies 5 1 7 → ⊥
-    by_free (inl gained) = not_at events replies 4 (RestartPrinter 1) Restarted
-        (MayGain events replies 4 1 7) refl refl (λ t. t) gained
-    by_free (inr (stays, inl gained)) = not_at events replies 3 (Take 1 0 (stops.AfterLabels 0)) Stopped
-        (MayGain events replies 3 1 7) refl refl
-        (λ t. not_above (ticket 0 (range 5 9)) t.2 0 t.3 (λ from. t.7 1 1 0 (ticket 0 (range 5 9)) (omega arith)
-        (record { stop = stops.None; event = refl; reply = Taken; answered = refl; done = inl tt }) refl from refl)
-        (omega arith)) gained
-    by_free (inr (stays, inr (still, inl gained))) =
-        not_at events replies 2 (Give 1 0 (range 5 9) stops.None) (Given 1 (ticket_back 0 (range 5 9)))
-        (MayGain events replies 2 1 7) refl refl (λ t. t) gained
-    by_free (inr (stays, inr (still, inr again))) = again.0 (record {
-      event = Give 1 0 (range 5 9) stops.None;
-      asked = refl;
-      reply = Given 1 (ticket_back 0 (range 5 9));
-      answered = refl;
-      is_so = (refl, refl);
-    })
-
--- none of the numbers of the earlier ticket came to the printer
-not_overtaken : (A : Type 0) (last : Event A × Reply A) →
-    ¬ MayBeFree two_ranges (map (λ one. one.0) (after_overtaken A last)) (map (λ one. one.1) (after_overtaken A last))
-    5 1 0
-not_overtaken A last = by_free
-  where
-    events : List (Event A)
-    events = map (λ one. one.0) (after_overtaken A last)
-
-    replies : List (Reply A)
-    replies = map (λ one. one.1) (after_overtaken A last)
-
-    -- the number is not on the later ticket
-    not_on : (found : TicketView) → Some (ticket 1 (range 5 9)) ≡ Some found → is_in found.range 0 ≡ true → ⊥
-    not_on found is within =
-        let same : ticket 1 (range 5 9) ≡ found = cc (is) in
-        let x : false ≡ true = subst (λ (t : TicketView). is_in t.range 0 ≡ true) (sym same) within in cc (x)
-
-    by_free : MayBeFree two_ranges events replies 5 1 0 → ⊥
-    by_free (inl gained) = not_at events replies 4 (RestartPrinter 1) Restarted
-        (MayGain events replies 4 1 0) refl refl (λ t. t) gained
-    by_free (inr (stays, inl gained)) = not_at events replies 3 (Take 1 0 (stops.AfterLabels 0)) Stopped
-        (MayGain events replies 3 1 0) refl refl
-        (λ t. not_above (ticket 0 (range 0 4)) t.2 1 t.3 (λ from. t.7 2 1 1 (ticket 1 (range 5 9)) (omega arith)
-        (record { stop = stops.None; event = refl; reply = Taken; answered = refl; done = inl tt }) refl from refl)
-        (omega arith)) gained
-    by_free (inr (stays, inr (still, inl gained))) = not_at events replies 2 (Take 1 1 stops.None) Taken
-        (MayGain events replies 2 1 0) refl refl (λ t. not_on t.2 t.3 t.5) gained
-    by_free (inr (stays, inr (still, inr (again, inl gained)))) =
-        not_at events replies 1 (Give 0 1 (range 5 9) stops.None) (Given 1 (ticket 1 (range 5 9)))
-        (MayGain events replies 1 1 0) refl refl (λ t. t) gained
-    by_free (inr (stays, inr (still, inr (again, inr (more, inl gained))))) =
-        not_at events replies 0 (Give 0 1 (range 0 4) stops.None) (Given 0 (ticket 0 (range 0 4)))
-        (MayGain events replies 0 1 0) refl refl (λ t. t) gained
-    by_free (inr (stays, inr (still, inr (again, inr (more, inr (first, began)))))) = cc (began)
-
-printed_of_overtaken_is : (A : Type 0) → ¬ IsFaithfulRun (printed_of_overtaken A)
-printed_of_overtaken_is A (batches, f) =
-    let t = f.prints.told 5 0 0 2 refl in
-    not_overtaken A (print 1 digits stops.None, Printed 0 0 2)
-    (subst (λ (id : ℕ). MayBeFree two_ranges (map (λ one. one.0) (printed_of_overtaken A))
-    (map (λ one. one.1) (printed_of_overtaken A)) 5 1 id) t.id_is
-    (f.prints.owned 5 1 digits Side12 Ascii stops.None t.batch t.there refl))
-
-given_of_overtaken_is : (A : Type 0) → ¬ IsFaithfulRun (given_of_overtaken A)
-given_of_overtaken_is A (batches, f) =
-    not_overtaken A (Give 1 0 (range 0 4) stops.None, Given 2 (ticket_back 0 (range 0 4)))
-    (f.prints.gives_own 5 1 0 (range 0 4) stops.None 2 (ticket_back 0 (range 0 4)) refl refl 0 refl).0
-
-printed_of_old_is : (A : Type 0) → ¬ IsFaithfulRun (printed_of_old A)
-printed_of_old_is A (batches, f) =
-    let t = f.prints.told 7 5 0 2 refl in
-    by_free (subst (λ (id : ℕ). MayBeFree two_ranges events replies 7 1 id) t.id_is
-    (f.prints.owned 7 1 digits Side12 Ascii stops.None t.batch t.there refl))
-  where
-    events : List (Event A)
-    events = map (λ one. one.0) (printed_of_old A)
-
-    replies : List (Reply A)
-    replies = map (λ one. one.1) (printed_of_old A)
-
-    by_free : MayBeFree two_ranges events replies 7 1 5 → ⊥
-    by_free (inl gained) = not_at events replies 6 (RestartPrinter 1) Restarted
-        (MayGain events replies 6 1 5) refl refl (λ t. t) gained
-    by_free (inr (stays, inl gained)) = not_at events replies 5 (Take 1 0 (stops.AfterLabels 0)) Stopped
-        (MayGain events replies 5 1 5) refl refl
-        (λ t. not_above (ticket 0 (range 5 9)) t.2 0 t.3 (λ from. t.7 3 1 0 (ticket 0 (range 5 9)) (omega arith)
-        (record {
-          stop = stops.None;
-          event = refl;
-          reply = TakeRefused take_fault.Old;
-          answered = refl;
-          done = inr refl;
-        }) refl from refl) (omega arith)) gained
-    by_free (inr (stays, inr (still, inl gained))) =
-        not_at events replies 4 (Give 1 0 (range 5 9) stops.None) (Given 1 (ticket_back 0 (range 5 9)))
-        (MayGain events replies 4 1 5) refl refl (λ t. t) gained
-    by_free (inr (stays, inr (still, inr again))) = again.0 (record {
-      event = Give 1 0 (range 5 9) stops.None;
-      asked = refl;
-      reply = Given 1 (ticket_back 0 (range 5 9));
-      answered = refl;
-      is_so = (refl, refl);
-    })
-
--- the printer has none left
-none_after_exhausted : (A : Type 0) (last : Event A × Reply A) →
-    ¬ MayBeFree two_ranges (map (λ one. one.0) (after_exhausted A last)) (map (λ one. one.1) (after_exhausted A last))
-    3 0 0
-none_after_exhausted A last (inl gained) =
-    not_at (map (λ one. one.0) (after_exhausted A last)) (map (λ one. one.1) (after_exhausted A last)) 2
-    (print 0 digits stops.None) (PrintRefused print_fault.Exhausted)
-    (MayGain (map (λ one. one.0) (after_exhausted A last)) (map (λ one. one.1) (after_exhausted A last)) 2 0 0)
-    refl refl (λ t. t) gained
-none_after_exhausted A last (inr stays) = stays.0 (record {
-  event = print 0 digits stops.None;
-  asked = refl;
-  reply = PrintRefused print_fault.Exhausted;
-  answered = refl;
-  is_so = refl;
-})
-
-printed_after_exhausted_is : (A : Type 0) → ¬ IsFaithfulRun (printed_after_exhausted A)
-printed_after_exhausted_is A (batches, f) =
-    let t = f.prints.told 3 0 0 2 refl in
-    none_after_exhausted A (print 0 digits stops.None, Printed 0 0 2)
-    (subst (λ (id : ℕ). MayBeFree two_ranges (map (λ one. one.0) (printed_after_exhausted A))
-    (map (λ one. one.1) (printed_after_exhausted A)) 3 0 id) t.id_is
-    (f.prints.owned 3 0 digits Side12 Ascii stops.None t.batch t.there refl))
-
-given_after_exhausted_is : (A : Type 0) → ¬ IsFaithfulRun (given_after_exhausted A)
-given_after_exhausted_is A (batches, f) =
-    none_after_exhausted A (Give 0 1 (range 0 0) stops.None, Given 0 (ticket 1 (range 0 0)))
-    (f.prints.gives_own 3 0 1 (range 0 0) stops.None 0 (ticket 1 (range 0 0)) refl refl 0 refl).0
+        let free : is_in (range 0 9) batch.id ≡ true = first_is_own batch rest _ _ _ _ f.prints in
+        let x : false ≡ true = subst (λ (id : ℕ). is_in (range 0 9) id ≡ true) own free in cc (x)
 
 left_though_failed_is : (A : Type 0) → ¬ IsFaithfulRun (left_though_failed A)
 left_though_failed_is A (batches, f) = by_batches batches f
@@ -1895,6 +1651,7 @@ are_unfaithful A = record {
   wrong_of_two_is = wrong_of_two_is A;
   refused_unprinted_is = refused_unprinted_is A;
   missing_first_label_is = missing_first_label_is A;
+  missing_after_a_refused_give_is = missing_after_a_refused_give_is A;
   missing_label_is = missing_label_is A;
   scanned_outside_is = scanned_outside_is A;
   begun_unscanned_is = begun_unscanned_is A;
@@ -1916,6 +1673,14 @@ are_unfaithful A = record {
   printed_of_overtaken_is = printed_of_overtaken_is A;
   given_of_overtaken_is = given_of_overtaken_is A;
   printed_of_old_is = printed_of_old_is A;
+  printed_above_the_least_is = printed_above_the_least_is A;
+  given_though_used_is = given_though_used_is A;
+  printed_though_given_is = printed_though_given_is A;
+  refused_though_taken_is = refused_though_taken_is A;
+  given_of_falling_takes_is = given_of_falling_takes_is A;
+  serial_skipped_is = serial_skipped_is A;
+  refused_though_free_is = refused_though_free_is A;
+  refused_though_for_it_is = refused_though_for_it_is A;
   left_though_failed_is = left_though_failed_is A;
   never_left_is = never_left_is A;
   saved_though_failed_is = saved_though_failed_is A;
@@ -1939,6 +1704,7 @@ are_unfaithful A = record {
   exhausted_at_first_is = exhausted_at_first_is A;
   exhausted_by_itself_is = exhausted_by_itself_is A;
   exhausted_by_no_range_is = exhausted_by_no_range_is A;
+  exhausted_by_a_refused_give_is = exhausted_by_a_refused_give_is A;
   exhausted_though_failed_is = exhausted_though_failed_is A;
   too_long_of_few_is = too_long_of_few_is A;
   wrong_after_a_refused_scan_is = wrong_after_a_refused_scan_is A;
@@ -1960,6 +1726,8 @@ are_unfaithful A = record {
   given_to_itself_is = given_to_itself_is A;
   refused_range_is = refused_range_is A;
   refused_receiver_is = refused_receiver_is A;
+  asked_without_memory_is = λ t. (t.each 0 (Ask 0 0) Memory refl refl).may;
+  restarted_without_memory_is = λ t. (t.each 0 (RestartPrinter 0) Memory refl refl).may;
   missing_printer_is = missing_printer_is A;
   third_desk_is = third_desk_is A;
   numbered_twice_is = numbered_twice_is A;

@@ -1,74 +1,34 @@
 -- A run of two stopped prints that is faithful.
 use Rattle.std.proofs.Common.{◌≡◌, ◌<◌, ◌≤◌, ℕ, zero, suc, Option, Some, None, List, [], ◌∷◌, map, slice_get, take, refl, sym, ◌∙◌, subst, arith, inl, inr}
 use Rattle.std.specs.Prelude.{◌≢◌, ◌↔◌, true, false}
-use Rattle.dm_check_blocks.specs.declared.size.Size.{Size}
 use Rattle.dm_check_blocks.specs.declared.size.Size.TheVariants.{Side12}
-use Rattle.dm_check_blocks.specs.Sizes.{row}
-use Rattle.dm_encodation.specs.declared.scheme.Scheme.{Scheme}
 use Rattle.dm_encodation.specs.declared.scheme.Scheme.TheVariants.{Ascii}
-use Rattle.dm_encodation.specs.Written.{IsGreatestPrefix, need_of}
-use Rattle.dm_encodation.specs.Written as written
-use Rattle.dm_append_label.specs.Parts.{AreParts}
 use Rattle.dm_assembly_desk.specs.declared.reply.Kind.TheVariants.{New, Complete}
 use Rattle.dm_assembly_desk.specs.declared.fault.AskFault.TheVariants.{Incomplete}
-use Rattle.dm_print_ledger.specs.Views.{TicketView}
-use Rattle.dm_print_ledger.specs.declared.fault.PrintFault.{PrintFault}
-use Rattle.dm_print_ledger.specs.declared.fault.PrintFault.TheVariants as print_fault
 use Rattle.dm_assembly_desk.specs.declared.fault.ScanFault.{ScanFault}
 use Rattle.dm_assembly_desk.specs.declared.fault.ScanFault.TheVariants as scan_fault
 use Rattle.dm_assembly_desk.specs.declared.fault.ImportFault.{ImportFault}
 use Rattle.dm_assembly_desk.specs.declared.reply.Accepted.{Accepted}
 use Rattle.dm_event_history.specs.declared.event.Event.{Event}
-use Rattle.dm_event_history.specs.declared.event.Event.TheVariants.{Print, Scan, Ask}
+use Rattle.dm_event_history.specs.declared.event.Event.TheVariants.{Scan, Ask}
 use Rattle.dm_event_history.specs.declared.reply.Reply.{Reply}
-use Rattle.dm_event_history.specs.declared.reply.Reply.TheVariants.{Printed, PrintRefused, Scanned, ScanRefused, Document, AskRefused, Forgotten, Given, Exported, ImportRefused, Stopped, Down, NoSuch}
+use Rattle.dm_event_history.specs.declared.reply.Reply.TheVariants.{Printed, Scanned, ScanRefused, Document, AskRefused, Forgotten, Exported, ImportRefused, Stopped, Down, NoSuch}
 use Rattle.dm_event_history.specs.declared.stop.Stop.{Stop}
 use Rattle.dm_event_history.specs.declared.stop.Stop.TheVariants as stops
 use Rattle.dm_event_history.specs.History.{CutDocument}
 use Rattle.dm_event_history.specs.Running.{TellsFailed}
 use Rattle.dm_event_history.specs.Replying.{IsReplyTo, IsActorThere, is_down_before, has_failed_before}
 use Rattle.dm_event_history.specs.Places.{IsOpened}
-use Rattle.dm_event_history.specs.Counts.{HasNumber}
-use Rattle.dm_event_history.specs.Actors.{PrinterAt, DeskAt, actor_of}
+use Rattle.dm_event_history.specs.Actors.{DeskAt, actor_of}
 use Rattle.dm_event_history.specs.Legal.{NeedsRunning}
 use Rattle.dm_event_history.proofs.Deciding.{true_false}
+use Rattle.dm_event_history.proofs.RightHistory.{are_parts, right_history, right_is_legal}
 use Rattle.dm_event_history.specs.Worked.{digits, two_ranges}
-use Rattle.dm_event_history.specs.Headline.{Batch, LeftBy, labels_of, HasModules, AllLeft, IsScanOf, MayHaveSaved, WasScanned, WasPrinted, IsAt, TellsGone, MayBeFree, MayHold, Holds, known_before}
+use Rattle.dm_event_history.specs.Headline.{Batch, LeftBy, labels_of, HasModules, AllLeft, IsScanOf, MayHaveSaved, WasScanned, WasPrinted, IsAt, MayHold, Holds, known_before}
 use Rattle.dm_event_history.specs.Holding.{Takes, MayTake, Forgets}
 use Rattle.dm_event_history.specs.Imports.{exports_in}
 use Rattle.dm_event_history.specs.Telling.{IsReplyTrue}
 use Rattle.dm_event_history.specs.Unfaithful.{IsFaithfulRun, other_digits, page, print, scan, right_document}
-
--- two of the digits fill a label
-two_fit : IsGreatestPrefix Ascii 1 other_digits 2
-unfolding need_of written.text written.ascii
-two_fit = record { within = omega arith; fits = omega arith; greatest = most }
-  where
-    most : (j : ℕ) → j ≤ 4 → need_of Ascii (take j other_digits) ≤ 1 → j ≤ 2
-    most zero within fits = omega arith
-    most (suc zero) within fits = omega arith
-    most (suc (suc zero)) within fits = omega arith
-    most (suc (suc (suc zero))) within fits = absurd (let two : 2 ≤ 1 = fits in omega arith)
-    most (suc (suc (suc (suc zero)))) within fits = absurd (let two : 2 ≤ 1 = fits in omega arith)
-    most (suc (suc (suc (suc (suc j))))) within fits = absurd (omega arith)
-
-last_fit : IsGreatestPrefix Ascii 1 (50 ∷ 49 ∷ []) 2
-unfolding need_of written.text written.ascii
-last_fit = record { within = omega arith; fits = omega arith; greatest = λ j within fits. within }
-
-pub are_parts : AreParts Side12 Ascii other_digits ((52 ∷ 51 ∷ []) ∷ (50 ∷ 49 ∷ []) ∷ [])
-unfolding row
-are_parts = record {
-  ends = 2 ∷ 4 ∷ [];
-  are_ends = record {
-    head = omega arith;
-    full = 2 ∷ 4 ∷ [];
-    full_ends = (omega arith, two_fit, (omega arith, last_fit, refl));
-    few = omega arith;
-    padded = refl;
-  };
-  parts_are = refl;
-}
 
 pub right_document_is : (A : Type 0) → IsFaithfulRun (right_document A)
 right_document_is A = (
@@ -77,6 +37,13 @@ right_document_is A = (
     prints = record {
       each_reply = refl;
       each_batch = refl;
+      explained = record {
+        history = right_history A;
+        events_are = refl;
+        replies_are = refl;
+        batches_are = refl;
+        legal = right_is_legal A;
+      };
       replied = record {
         each = each_replied;
         no_such = λ i event asked answered there alone. absurd (none_missing i answered);
@@ -88,15 +55,7 @@ right_document_is A = (
       told = none_told;
       printed = one_printed;
       opened = one_opened;
-      owned = one_owned;
-      gives_own = λ i printer receiver range stop index ticket asked answered number within.
-          absurd (none_given i index ticket answered);
       unfailed = one_unfailed;
-      let_out = one_let_out;
-      exhausted = λ i printer document size scheme stop asked answered has.
-          none_print_refused i print_fault.Exhausted answered;
-      too_long = λ i printer document size scheme stop asked answered.
-          absurd (none_print_refused i print_fault.TooLong answered);
       once = one;
       there = are_there;
       not_there = λ i desk label flips stop asked answered there has. none_missing i answered;
@@ -174,29 +133,6 @@ right_document_is A = (
     one_opened (suc (suc (suc zero))) one is = absurd (cc (is))
     one_opened (suc (suc (suc (suc zero)))) one is = absurd (cc (is))
     one_opened (suc (suc (suc (suc (suc i))))) one is = absurd (cc (is))
-
-    -- only the second print was to be stopped after a label or more
-    one_let_out : (i printer : ℕ) (document : List ℕ) (size : Size) (scheme : Scheme) (most : ℕ)
-        (parts : List (List ℕ)) →
-        slice_get events i ≡ Some (Print printer document size scheme (stops.AfterLabels most)) → 1 ≤ most →
-        slice_get replies i ≡ Some Stopped → AreParts size scheme document parts →
-        has_failed_before events replies i (PrinterAt printer) ≡ false →
-        HasNumber two_ranges (take i events) (take i replies) printer →
-        (one : Batch) × (slice_get batches i ≡ Some (Some one))
-    one_let_out zero printer document size scheme most parts asked some answered are unfailed has =
-        let e : Some (print {A = A} 0 digits (stops.AfterLabels 0))
-        ≡ Some (Print printer document size scheme (stops.AfterLabels most)) = asked in
-        let same : stops.AfterLabels 0 ≡ stops.AfterLabels most = cc (e) in
-        let none : 0 ≡ most = cc (same) in absurd (omega arith)
-    one_let_out (suc zero) printer document size scheme most parts asked some answered are unfailed has = (batch, refl)
-    one_let_out (suc (suc zero)) printer document size scheme most parts asked some answered are unfailed has =
-        absurd (cc (asked))
-    one_let_out (suc (suc (suc zero))) printer document size scheme most parts asked some answered are unfailed has =
-        absurd (cc (asked))
-    one_let_out (suc (suc (suc (suc zero)))) printer document size scheme most parts asked some answered are unfailed
-        has = absurd (cc (asked))
-    one_let_out (suc (suc (suc (suc (suc i))))) printer document size scheme most parts asked some answered are
-        unfailed has = absurd (cc (asked))
 
     none_told : (i id first count : ℕ) → slice_get replies i ≡ Some (Printed id first count) →
         AllLeft batches i id first count
@@ -330,14 +266,6 @@ right_document_is A = (
     none_refused (suc (suc (suc (suc zero)))) fault is = cc (is)
     none_refused (suc (suc (suc (suc (suc i))))) fault is = cc (is)
 
-    none_print_refused : (i : ℕ) (fault : PrintFault) → slice_get replies i ≡ Some (PrintRefused fault) → ⊥
-    none_print_refused zero fault is = cc (is)
-    none_print_refused (suc zero) fault is = cc (is)
-    none_print_refused (suc (suc zero)) fault is = cc (is)
-    none_print_refused (suc (suc (suc zero))) fault is = cc (is)
-    none_print_refused (suc (suc (suc (suc zero)))) fault is = cc (is)
-    none_print_refused (suc (suc (suc (suc (suc i))))) fault is = cc (is)
-
     none_forgotten : (i : ℕ) → slice_get replies i ≡ Some Forgotten → ⊥
     none_forgotten zero is = cc (is)
     none_forgotten (suc zero) is = cc (is)
@@ -408,14 +336,6 @@ right_document_is A = (
         not_so (subst (λ (v : Event A). IsSo v reply) event_is
         (subst (λ (r : Reply A). IsSo at.event r) reply_is at.is_so))
 
-    none_given : (i index : ℕ) (ticket : TicketView) → slice_get replies i ≡ Some (Given index ticket) → ⊥
-    none_given zero index ticket is = cc (is)
-    none_given (suc zero) index ticket is = cc (is)
-    none_given (suc (suc zero)) index ticket is = cc (is)
-    none_given (suc (suc (suc zero))) index ticket is = cc (is)
-    none_given (suc (suc (suc (suc zero)))) index ticket is = cc (is)
-    none_given (suc (suc (suc (suc (suc i))))) index ticket is = cc (is)
-
     only_batch : (i : ℕ) (other : Batch) → slice_get batches i ≡ Some (Some other) → (i ≡ 1) × (batch ≡ other)
     only_batch zero other is = absurd (cc (is))
     only_batch (suc zero) other is = (refl, (let e : Some (Some batch) ≡ Some (Some other) = is in cc (e)))
@@ -429,25 +349,6 @@ right_document_is A = (
         let t = only_batch i other is in
         subst (λ (k : ℕ). LeftBy events replies k other) (sym t.0)
         (subst (λ (b : Batch). LeftBy events replies 1 b) t.1 left)
-
-    -- printer 1 began with its identification
-    one_owned : (i printer : ℕ) (document : List ℕ) (size : Size) (scheme : Scheme) (stop : Stop) (other : Batch) →
-        slice_get batches i ≡ Some (Some other) →
-        slice_get events i ≡ Some (Print printer document size scheme stop) →
-        MayBeFree two_ranges events replies i printer other.id
-    one_owned i printer document size scheme stop other is asked =
-        let t = only_batch i other is in
-        let at : Some (print 1 other_digits (stops.AfterLabels 2)) ≡ Some (Print printer document size scheme stop) =
-        subst (λ (k : ℕ). slice_get events k ≡ Some (Print printer document size scheme stop)) t.0 asked in
-        let printer_is : 1 ≡ printer = cc (at) in
-        let began : MayBeFree two_ranges events replies 1 1 10 = inr (
-          not_at 0 (print 0 digits (stops.AfterLabels 0)) Stopped (λ event reply. TellsGone event reply 1 10) refl refl
-              (λ t. t),
-          refl,
-        ) in
-        subst (λ (k : ℕ). MayBeFree two_ranges events replies k printer other.id) (sym t.0)
-        (subst (λ (b : Batch). MayBeFree two_ranges events replies 1 printer b.id) t.1
-        (subst (λ (p : ℕ). MayBeFree two_ranges events replies 1 p 10) printer_is began))
 
     one_unfailed : (i : ℕ) (other : Batch) (event : Event A) → slice_get batches i ≡ Some (Some other) →
         slice_get events i ≡ Some event → has_failed_before events replies i (actor_of event) ≡ false

@@ -18,7 +18,7 @@ use Rattle.dm_event_history.specs.Numbers.{is_of, saved_at, taken_by, serial_aft
 use Rattle.dm_event_history.specs.Saving.{may_save, tells_of_save}
 use Rattle.dm_event_history.specs.Running.{is_failed}
 use Rattle.dm_event_history.specs.Replying.{has_failed_before}
-use Rattle.dm_event_history.specs.Tickets.{IsTaken, TakesTicket, IsDoneWith, WasReached, tickets_in}
+use Rattle.dm_event_history.specs.Tickets.{IsTaken, TakesTicket, WasReached, tickets_in}
 use Rattle.dm_event_history.proofs.Batches.{events_count, replies_count, at_last, before_or_last}
 use Rattle.dm_event_history.proofs.Deciding.{and_so, or_left, or_right, both, decided, if_not, if_so, same_number, true_false}
 use Rattle.dm_event_history.proofs.Gotten.{get_more, get_beyond}
@@ -121,13 +121,13 @@ given_to {A} ranges desks (e ∷ h) i printer k legal t = elim (taken_either h e
 ]
 
 -- one ticket stands at a place of a list
-pub one_ticket : (given : List TicketView) (k : ℕ) (one other : TicketView) → slice_get given k ≡ Some one →
+one_ticket : (given : List TicketView) (k : ℕ) (one other : TicketView) → slice_get given k ≡ Some one →
     slice_get given k ≡ Some other → one ≡ other
 one_ticket given k one other a b =
     let e : Some one ≡ Some other = sym a ∙ b in cc (e)
 
 -- a ticket that may be taken has a higher serial than each of its giver that its receiver took
-pub above_taken : {A : Type 0} (h : History A) (printer k later : ℕ) → (w : WasTaken h k) →
+above_taken : {A : Type 0} (h : History A) (printer k later : ℕ) → (w : WasTaken h k) →
     w.ticket.receiver ≡ printer → (m : MayBeTaken h printer later) → w.ticket.giver ≡ m.ticket.giver →
     w.ticket.serial < m.ticket.serial
 above_taken {A} h printer k later w to m from =
@@ -362,12 +362,21 @@ old_was_taken {A} ranges desks (e ∷ h) i printer ticket stop legal asked answe
           })
     ])
 
+-- event number i is a take of the ticket of this number by this printer, and took it or refused it as old
+pub record IsDoneWith {A : Type 0} (events : List (Event A)) (replies : List (Reply A)) (i printer ticket : ℕ)
+    : Type 0 where
+  pub stop : Stop
+  pub event : slice_get events i ≡ Some (Take printer ticket stop)
+  pub reply : Reply A
+  pub answered : slice_get replies i ≡ Some reply
+  pub done : IsTaken stop reply ⊎ (reply ≡ TakeRefused Old)
+
 -- a ticket that a printer is done with was taken, and is for it
-pub record WasDone {A : Type 0} (h : History A) (printer k : ℕ) : Type 0 where
+record WasDone {A : Type 0} (h : History A) (printer k : ℕ) : Type 0 where
   pub was : WasTaken h k
   pub receiver_is : was.ticket.receiver ≡ printer
 
-pub was_done : {A : Type 0} (ranges : List Range) (desks : ℕ) (h : History A) (i printer k : ℕ) →
+was_done : {A : Type 0} (ranges : List Range) (desks : ℕ) (h : History A) (i printer k : ℕ) →
     IsLegal ranges desks h → IsDoneWith (events_of h) (replies_of h) i printer k → WasDone h printer k
 was_done {A} ranges desks h i printer k legal d = elim d.done [
   | inl taken ↦

@@ -20,9 +20,6 @@ moved_is A = record {
   kept = refl;
   serials_given = refl;
   serial_taken = refl;
-  began = refl;
-  came_is = refl;
-  gone_is = refl;
   down = refl;
   up = refl;
 }
@@ -100,12 +97,9 @@ stopped_is A = record {
   none_left = refl;
   used = refl;
   not_free = refl;
-  gone_is = refl;
   up = refl;
   not_used = refl;
-  gone_before = refl;
   failed = refl;
-  gone_by_a_fault = refl;
   restarted = refl;
 }
 
@@ -115,7 +109,6 @@ not_old A old = (let none : None ≡ Some old.last = old.last_is in cc (none))
 
 pub not_so : (A : Type 0) → NotSo A
 not_so A = record {
-  gone_is = refl;
   not_given = refl;
   unsaved_print = refl;
   unsaved_give = refl;
@@ -123,7 +116,6 @@ not_so A = record {
   unsaved_scan = refl;
   unsaved_forget = refl;
   unsaved_import = refl;
-  none_came = refl;
   no_overlap = λ told. told;
   no_fault = λ told. (let fault : stops.None ≡ stops.SaveFault told.0 = told.1 in cc (fault));
   held = λ safe. safe 1 (travelled_is A).scanned;

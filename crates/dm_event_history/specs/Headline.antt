@@ -1,14 +1,10 @@
 -- The headline, said of the events and the replies of a run alone, both from the first on: whatever document any desk
 -- gives for an identification is the one document printed under it, and no identification is ever printed twice.
-use Rattle.std.specs.Prelude.{◌≡◌, ◌≢◌, ◌<◌, ◌≤◌, ◌⊎◌, ℕ, zero, suc, Option, None, Some, List, [], ◌∷◌, ◌++◌, length, slice_get, take, min, replicate, All, IsSomeAnd, Bool, true, false}
+use Rattle.std.specs.Prelude.{◌≡◌, ◌≢◌, ◌<◌, ◌≤◌, ◌⊎◌, ℕ, zero, suc, nat_lt, if◌then◌else◌, Option, None, Some, List, [], ◌∷◌, ◌++◌, length, slice_get, take, min, replicate, All, IsSomeAnd, Bool, true, false}
 use Rattle.dm_check_blocks.specs.declared.size.Size.{Size}
 use Rattle.dm_check_blocks.specs.Sizes.{side}
-use Rattle.dm_encodation.specs.declared.scheme.Scheme.{Scheme}
-use Rattle.dm_append_label.specs.Parts.{AreParts, HasNoEnds}
+use Rattle.dm_append_label.specs.Parts.{AreParts}
 use Rattle.dm_print_ledger.specs.declared.range.Range.{Range}
-use Rattle.dm_print_ledger.specs.Ranges.{is_in}
-use Rattle.dm_print_ledger.specs.Views.{TicketView}
-use Rattle.dm_print_ledger.specs.declared.fault.PrintFault.TheVariants as print_fault
 use Rattle.dm_append_label.specs.declared.fault.LabelFault.{LabelFault}
 use Rattle.dm_append_label.specs.declared.fault.LabelFault.TheVariants.{Border}
 use Rattle.dm_assembly_desk.specs.declared.fault.AskFault.TheVariants.{Incomplete}
@@ -19,22 +15,20 @@ use Rattle.dm_assembly_desk.specs.declared.fault.ImportFault.TheVariants as impo
 use Rattle.dm_assembly_desk.specs.declared.reply.Accepted.{Accepted}
 use Rattle.dm_event_history.specs.Masks.{HasPage}
 use Rattle.dm_event_history.specs.declared.event.Event.{Event}
-use Rattle.dm_event_history.specs.declared.event.Event.TheVariants.{Print, Scan, Ask, Forget, Give, Take, Export, Import}
+use Rattle.dm_event_history.specs.declared.event.Event.TheVariants.{Print, Scan, Ask, Forget, Export, Import}
 use Rattle.dm_event_history.specs.declared.reply.Reply.{Reply}
-use Rattle.dm_event_history.specs.declared.reply.Reply.TheVariants.{Printed, PrintRefused, Scanned, ScanRefused, Document, AskRefused, Forgotten, Given, Exported, ImportRefused, Stopped, NoSuch}
+use Rattle.dm_event_history.specs.declared.reply.Reply.TheVariants.{Printed, Scanned, ScanRefused, Document, AskRefused, Forgotten, Exported, ImportRefused, Stopped, NoSuch}
 use Rattle.dm_event_history.specs.declared.stop.Stop.{Stop}
 use Rattle.dm_event_history.specs.declared.stop.Stop.TheVariants as stops
-use Rattle.dm_event_history.specs.Actors.{PrinterAt, DeskAt, actor_of}
-use Rattle.dm_event_history.specs.History.{CutDocument, LabelName, names_from}
+use Rattle.dm_event_history.specs.Actors.{DeskAt, actor_of}
+use Rattle.dm_event_history.specs.History.{Entry, History, CutDocument, LabelName, names_from, printed_by, events_of, replies_of}
 use Rattle.dm_event_history.specs.Saving.{may_save}
-use Rattle.dm_event_history.specs.Numbers.{is_in_some}
 use Rattle.dm_event_history.specs.Places.{IsOpened}
+use Rattle.dm_event_history.specs.Legal.{IsLegal}
 use Rattle.dm_event_history.specs.Replying.{has_failed_before, AreReplies}
-use Rattle.dm_event_history.specs.Counts.{HasNumber}
 use Rattle.dm_event_history.specs.Holding.{Takes, MayTake, Forgets, MayForget}
 use Rattle.dm_event_history.specs.Telling.{Known, IsReplyTrue, IsFullForLabel, IsFullForExport}
 use Rattle.dm_event_history.specs.Imports.{exports_in}
-use Rattle.dm_event_history.specs.Tickets.{IsDoneWith, tickets_in}
 use Rattle.dm_event_history.specs.Tainted.{AtDesk, InExport, IsTainted}
 
 -- ---- the labels that left
@@ -112,46 +106,32 @@ pub record LeftBefore (batches : List (Option Batch)) (i id : ℕ) (batch : Batc
   pub there : slice_get batches j ≡ Some (Some batch)
   pub id_is : batch.id ≡ id
 
--- ---- identifications that move
+-- ---- the history behind the replies
 
--- event number k and its reply are so
-pub record IsAt {A : Type 0} (events : List (Event A)) (replies : List (Reply A)) (k : ℕ)
-    (IsSo : Event A → Reply A → Type 0) : Type 0 where
-  pub event : Event A
-  pub asked : slice_get events k ≡ Some event
-  pub reply : Reply A
-  pub answered : slice_get replies k ≡ Some reply
-  pub is_so : IsSo event reply
+-- the batch that left, if an event prints this document
+abbrev pub batch_in : ℕ → ℕ → Option CutDocument → Option Batch
+batch_in id left None = None
+batch_in id left (Some document) = Some (record { id = id; document = document; left = left })
 
--- Event number k is a take by this printer that may have saved, of a ticket for it with the number on it. The ticket
--- had been given, no save of the printer had failed since its last restart, and the ticket is later than each of its
--- giver for this printer that was told as taken, or as old, before.
-abbrev pub MayGain : {A : Type 0} → List (Event A) → List (Reply A) → ℕ → ℕ → ℕ → Event A → Reply A → Type 0
-MayGain events replies k printer number (Take at index stop) reply =
-    (at ≡ printer) × (may_save (Take at index stop) reply ≡ true)
-    × (ticket : TicketView) × (slice_get (tickets_in (take k replies)) index ≡ Some ticket)
-    × (ticket.receiver ≡ printer) × (is_in ticket.range number ≡ true)
-    × (has_failed_before events replies k (PrinterAt printer) ≡ false)
-    × ((j other done : ℕ) (before : TicketView) → j < k → IsDoneWith events replies j other done →
-    slice_get (tickets_in (take k replies)) done ≡ Some before → before.giver ≡ ticket.giver →
-    before.receiver ≡ printer → before.serial < ticket.serial)
-MayGain events replies k printer number event reply = ⊥
+-- the batch that left by an entry, if a label did
+abbrev pub batch_of : {A : Type 0} → Entry A → Option Batch
+batch_of entry =
+    if nat_lt 0 entry.left then batch_in entry.id entry.left (printed_by entry.event entry.parts) else None
 
--- the reply tells that the number isn't free at this printer then: the printer gave it, or has none left
-abbrev pub TellsGone : {A : Type 0} → Event A → Reply A → ℕ → ℕ → Type 0
-TellsGone (Give at receiver range stop) (Given index ticket) printer number =
-    (at ≡ printer) × (is_in range number ≡ true)
-TellsGone (Print at document size scheme stop) (PrintRefused print_fault.Exhausted) printer number = at ≡ printer
-TellsGone event reply printer number = ⊥
+-- the batches that left by a history, in the order of its events
+abbrev pub batches_of : {A : Type 0} → History A → List (Option Batch)
+batches_of [] = []
+batches_of (entry ∷ before) = batches_of before ++ batch_of entry ∷ []
 
--- before event number i a number may be free at a printer, if it was not printed: the printer began with it, or a take
--- may have brought it, and no later reply told that it was gone
-abbrev pub MayBeFree : {A : Type 0} → List Range → List (Event A) → List (Reply A) → ℕ → ℕ → ℕ → Type 0
-MayBeFree ranges events replies zero printer number = is_in_some (slice_get ranges printer) number ≡ true
-MayBeFree ranges events replies (suc k) printer number =
-    IsAt events replies k (MayGain events replies k printer number)
-    ⊎ ((¬ IsAt events replies k (λ event reply. TellsGone event reply printer number))
-    × MayBeFree ranges events replies k printer number)
+-- A legal history has these events and replies, and let out these batches. It says of each print, give and take whether
+-- it saved, and of each print its identification: what the replies don't tell.
+pub record HasHistory {A : Type 0} (ranges : List Range) (desks : ℕ) (batches : List (Option Batch))
+    (events : List (Event A)) (replies : List (Reply A)) : Type 0 where
+  pub history : History A
+  pub events_are : events_of history ≡ events
+  pub replies_are : replies_of history ≡ replies
+  pub batches_are : batches_of history ≡ batches
+  pub legal : IsLegal ranges desks history
 
 -- ---- the headline of printers
 
@@ -162,7 +142,9 @@ pub record PrintsOnceBy {A : Type 0} (ranges : List Range) (desks : ℕ) (batche
     : Type 0 where
   pub each_reply : length replies ≡ length events
   pub each_batch : length batches ≡ length events
-  -- each reply is one to its event
+  -- a legal history explains them: all that printers tell is as their ledgers have it
+  pub explained : HasHistory ranges desks batches events replies
+  -- what follows says what a reader looks for: each reply is one to its event
   pub replied : AreReplies (length ranges) desks events replies
   -- what a reply says was printed was printed
   pub told : (i id first count : ℕ) → slice_get replies i ≡ Some (Printed id first count) →
@@ -171,35 +153,9 @@ pub record PrintsOnceBy {A : Type 0} (ranges : List Range) (desks : ℕ) (batche
   pub printed : (i : ℕ) (batch : Batch) → slice_get batches i ≡ Some (Some batch) → LeftBy events replies i batch
   -- under an identification that a printer began with
   pub opened : (i : ℕ) (batch : Batch) → slice_get batches i ≡ Some (Some batch) → IsOpened ranges batch.id
-  -- which may be free at its printer; and so may be each number that is given, under which no label had left
-  pub owned : (i printer : ℕ) (document : List ℕ) (size : Size) (scheme : Scheme) (stop : Stop) (batch : Batch) →
-      slice_get batches i ≡ Some (Some batch) → slice_get events i ≡ Some (Print printer document size scheme stop) →
-      MayBeFree ranges events replies i printer batch.id
-  pub gives_own : (i printer receiver : ℕ) (range : Range) (stop : Stop) (index : ℕ) (ticket : TicketView) →
-      slice_get events i ≡ Some (Give printer receiver range stop) →
-      slice_get replies i ≡ Some (Given index ticket) → (number : ℕ) → is_in range number ≡ true →
-      MayBeFree ranges events replies i printer number × ((batch : Batch) → ¬ LeftBefore batches i number batch)
   -- none left by a printer that had answered `Save`, and was not restarted since
   pub unfailed : (i : ℕ) (batch : Batch) (event : Event A) → slice_get batches i ≡ Some (Some batch) →
       slice_get events i ≡ Some event → has_failed_before events replies i (actor_of event) ≡ false
-  -- one left by a print that was stopped after a label or more, if its document can be cut, and its printer had not
-  -- failed and had an identification left
-  pub let_out : (i printer : ℕ) (document : List ℕ) (size : Size) (scheme : Scheme) (most : ℕ)
-      (parts : List (List ℕ)) →
-      slice_get events i ≡ Some (Print printer document size scheme (stops.AfterLabels most)) → 1 ≤ most →
-      slice_get replies i ≡ Some Stopped → AreParts size scheme document parts →
-      has_failed_before events replies i (PrinterAt printer) ≡ false →
-      HasNumber ranges (take i events) (take i replies) printer →
-      (batch : Batch) × (slice_get batches i ≡ Some (Some batch))
-  -- `Exhausted` is answered only by a printer that may have no identification left, and `TooLong` only to a document
-  -- that can't be cut
-  pub exhausted : (i printer : ℕ) (document : List ℕ) (size : Size) (scheme : Scheme) (stop : Stop) →
-      slice_get events i ≡ Some (Print printer document size scheme stop) →
-      slice_get replies i ≡ Some (PrintRefused print_fault.Exhausted) →
-      ¬ HasNumber ranges (take i events) (take i replies) printer
-  pub too_long : (i printer : ℕ) (document : List ℕ) (size : Size) (scheme : Scheme) (stop : Stop) →
-      slice_get events i ≡ Some (Print printer document size scheme stop) →
-      slice_get replies i ≡ Some (PrintRefused print_fault.TooLong) → HasNoEnds size scheme document
   -- no identification is ever printed twice
   pub once : (i j : ℕ) (one other : Batch) → slice_get batches i ≡ Some (Some one) →
       slice_get batches j ≡ Some (Some other) → one.id ≡ other.id → i ≡ j
@@ -218,6 +174,15 @@ PrintsOnce ranges desks events replies =
     (batches : List (Option Batch)) × PrintsOnceBy ranges desks batches events replies
 
 -- ---- what desks hold
+
+-- event number k and its reply are so
+pub record IsAt {A : Type 0} (events : List (Event A)) (replies : List (Reply A)) (k : ℕ)
+    (IsSo : Event A → Reply A → Type 0) : Type 0 where
+  pub event : Event A
+  pub asked : slice_get events k ≡ Some event
+  pub reply : Reply A
+  pub answered : slice_get replies k ≡ Some reply
+  pub is_so : IsSo event reply
 
 -- before event number i a desk may hold page m of a document: a scan or an import may have saved it there, while no
 -- save had failed since the last restart, and no later forget of the document was answered `Forgotten` there

@@ -1,5 +1,5 @@
 -- Which histories are legal: when each reply may be given, how many labels leave, and which identifications move.
-use Rattle.std.specs.Prelude.{◌≡◌, ◌≢◌, ◌↔◌, ◌⊎◌, ◌+◌, ◌<◌, ◌≤◌, ℕ, true, false, Some, List, [], ◌∷◌, length, slice_get, IsSomeAnd, IfSome, AllPairs, All, min}
+use Rattle.std.specs.Prelude.{◌≡◌, ◌≢◌, ◌↔◌, ◌⊎◌, ◌<◌, ◌≤◌, ℕ, Bool, true, false, Some, List, [], ◌∷◌, length, slice_get, IsSomeAnd, IfSome, AllPairs, All, min}
 use Rattle.dm_check_blocks.specs.Sizes.{side}
 use Rattle.dm_append_label.specs.Parts.{AreParts, HasNoEnds}
 use Rattle.dm_store.specs.declared.fuse.Kept.{Kept}
@@ -34,8 +34,9 @@ use Rattle.dm_event_history.specs.Masks.{HasPage}
 use Rattle.dm_event_history.specs.Actors.{PrinterAt, DeskAt, actor_of}
 use Rattle.dm_event_history.specs.History.{Entry, History, CutDocument, LabelName, ExportName, printed_by, out, docs, tickets, exports}
 use Rattle.dm_event_history.specs.Running.{is_down, is_failed, IsOfFailed}
-use Rattle.dm_event_history.specs.Saving.{stop_of, may_save, tells_of_save}
-use Rattle.dm_event_history.specs.Numbers.{free_at, gives, last_serial, opening_count, gone, came}
+use Rattle.dm_event_history.specs.Saving.{stop_of, may_save, stops_after_save, tells_of_save}
+use Rattle.dm_event_history.specs.Numbers.{free_at, gives, last_serial}
+use Rattle.dm_event_history.specs.Ledgers.{IsCallAt, GoesByLedger}
 
 -- ---- opening ranges
 
@@ -90,18 +91,22 @@ IsStopped event = IsSomeAnd (stop_of event) IsStopping
 
 -- ---- labels that leave
 
--- no label left, or as many as the stop lets out
-abbrev pub IsSomeLeft : Stop → ℕ → ℕ → Type 0
-IsSomeLeft stop count left = (left ≡ 0) ⊎ ((most : ℕ) × (stop ≡ stops.AfterLabels most) × (left ≡ min most count))
+-- how many labels left by a print that was stopped: if it saved, as many as the stop lets out of those of its document
+abbrev pub LetsSomeOut : Stop → Bool → CutDocument → ℕ → Type 0
+LetsSomeOut (stops.AfterLabels most) true cut left =
+    AreParts cut.size cut.scheme cut.bytes cut.parts × (left ≡ min most (length cut.parts))
+LetsSomeOut stop saved cut left = left ≡ 0
 
--- how many of the labels of these parts left: all where a reply says so, some where it was stopped, else none
-abbrev pub LetsOut : {A : Type 0} → Event A → Reply A → List (List ℕ) → ℕ → Type 0
-LetsOut (Print printer document size scheme stop) (Printed id first count) parts left =
+-- How many of the labels of these parts left by an event that was answered so: all if the reply says so, some if it was
+-- stopped, and else none. It saved, or did not.
+abbrev pub LetsOut : {A : Type 0} → Event A → Reply A → Bool → List (List ℕ) → ℕ → Type 0
+LetsOut (Print printer document size scheme stop) (Printed id first count) saved parts left =
     (left ≡ length parts) × (0 < left)
-LetsOut (Print printer document size scheme stop) Stopped parts left = IsSomeLeft stop (length parts) left
-LetsOut event reply parts left = left ≡ 0
+LetsOut (Print printer document size scheme stop) Stopped saved parts left =
+    LetsSomeOut stop saved (record { bytes = document; size = size; scheme = scheme; parts = parts }) left
+LetsOut event reply saved parts left = left ≡ 0
 
--- where a label left, these are the parts of what the event prints
+-- if a label left, these are the parts of what the event prints
 abbrev pub AreItsParts : {A : Type 0} → Event A → List (List ℕ) → ℕ → Type 0
 AreItsParts event parts left =
     0 < left → IfSome (printed_by event parts) (λ cut. AreParts cut.size cut.scheme cut.bytes cut.parts)
@@ -115,25 +120,14 @@ pub record IsPrinted {A : Type 0} (before : History A) (stop : Stop) (id left na
   pub first_is : first ≡ length (out before)
   pub count_is : count ≡ left
 
--- why a document is not printed; `Exhausted` is answered only where as many numbers may have gone, by prints and
--- gives, as the printer began with and as came, and none is free
+-- why a document is not printed
 abbrev pub IsPrintRefused : {A : Type 0} → List Range → History A → ℕ → CutDocument → Stop → PrintFault → Type 0
 IsPrintRefused ranges before printer cut stop print_fault.Failed = is_failed before (PrinterAt printer) ≡ true
 IsPrintRefused ranges before printer cut stop print_fault.TooLong = HasNoEnds cut.size cut.scheme cut.bytes
 IsPrintRefused ranges before printer cut stop print_fault.Exhausted =
-    (opening_count ranges printer + came before printer ≤ gone before printer)
-    × ((number : ℕ) → free_at ranges before printer number ≡ false)
+    (number : ℕ) → free_at ranges before printer number ≡ false
 IsPrintRefused ranges before printer cut stop print_fault.Memory = Unit {0}
 IsPrintRefused ranges before printer cut stop print_fault.Save = IsSaveFault stop
-
--- A print is stopped. If that was after a label or more, one left, unless its printer had failed, its document can't be
--- cut, or as many numbers may have gone as the printer began with and as came.
-abbrev pub IsPrintStopped : {A : Type 0} → List Range → History A → ℕ → CutDocument → Stop → ℕ → Type 0
-IsPrintStopped ranges before printer cut (stops.AfterLabels most) left =
-    1 ≤ most → (parts : List (List ℕ)) → AreParts cut.size cut.scheme cut.bytes parts →
-    is_failed before (PrinterAt printer) ≡ false →
-    gone before printer < opening_count ranges printer + came before printer → 1 ≤ left
-IsPrintStopped ranges before printer cut stop left = Unit {0}
 
 -- the ticket that the reply names is the printer's next, with the receiver, another printer, and the range asked for
 pub record IsGiven {A : Type 0} (before : History A) (printer receiver : ℕ) (range : Range) (stop : Stop)
@@ -204,6 +198,17 @@ pub record IsImported {A : Type 0} (before : History A) (export : ℕ) (stop : S
   pub n_is : imported.n ≡ name.count
   pub added : (m : ℕ) → HasPage imported.added m → HasPage name.mask m
 
+-- The event may be answered `Memory`: a print, a give, a scan or an export for what it makes, and another call only if it
+-- was to be stopped after its save.
+abbrev pub MayLackMemory : {A : Type 0} → Event A → Type 0
+MayLackMemory (RestartPrinter printer) = ⊥
+MayLackMemory (RestartDesk desk) = ⊥
+MayLackMemory (Ask desk id) = ⊥
+MayLackMemory (Forget desk id stop) = stops_after_save (Some stop) ≡ true
+MayLackMemory (Take printer ticket stop) = stops_after_save (Some stop) ≡ true
+MayLackMemory (Import desk export stop) = stops_after_save (Some stop) ≡ true
+MayLackMemory event = Unit {0}
+
 -- The reply is one to the event: what is so where it is given. A page that was not held is replied to as new only where
 -- nothing stopped its save, and a printer or a desk over its own store is refused its restart for memory alone.
 abbrev pub IsReply : {A : Type 0} → List Range → History A → ℕ → ℕ → Event A → Reply A → Type 0
@@ -212,9 +217,7 @@ IsReply ranges before id left (Print printer document size scheme stop) (Printed
 IsReply ranges before id left (Print printer document size scheme stop) (PrintRefused fault) =
     IsPrintRefused ranges before printer (record { bytes = document; size = size; scheme = scheme; parts = [] }) stop
     fault
-IsReply ranges before id left (Print printer document size scheme stop) Stopped =
-    IsPrintStopped ranges before printer (record { bytes = document; size = size; scheme = scheme; parts = [] }) stop
-    left
+IsReply ranges before id left (Print printer document size scheme stop) Stopped = Unit {0}
 IsReply ranges before id left (Scan desk label flips stop) (Scanned accepted) =
     accepted.kind ≢ Again → stop ≡ stops.None
 IsReply ranges before id left (Scan desk label flips stop) (ScanRefused fault) = IsScanRefused before desk stop fault
@@ -244,7 +247,7 @@ IsReply ranges before id left (Import desk export stop) (ImportRefused fault) = 
 IsReply ranges before id left (Import desk export stop) Stopped = Unit {0}
 IsReply ranges before id left event Down = Unit {0}
 IsReply ranges before id left event NoSuch = Unit {0}
-IsReply ranges before id left event Memory = Unit {0}
+IsReply ranges before id left event Memory = MayLackMemory event
 -- no other reply is given
 IsReply ranges before id left event reply = ⊥
 
@@ -276,7 +279,7 @@ MayMove ranges before id other = ⊥
 -- the entry may come after this history, where there is a printer for each range, and that many desks
 pub record Fits {A : Type 0} (ranges : List Range) (desks : ℕ) (before : History A) (entry : Entry A) : Type 0 where
   pub reply : IsReply ranges before entry.id entry.left entry.event entry.reply
-  pub lets_out : LetsOut entry.event entry.reply entry.parts entry.left
+  pub lets_out : LetsOut entry.event entry.reply entry.saved entry.parts entry.left
   pub parts : AreItsParts entry.event entry.parts entry.left
   -- `NoSuch` stands exactly where something named is not there, and then `Down` exactly where the one named is down
   pub no_such : entry.reply ≡ NoSuch → ¬ IsThere (length ranges) desks before entry.event
@@ -300,6 +303,8 @@ pub record Fits {A : Type 0} (ranges : List Range) (desks : ℕ) (before : Histo
   pub left_saved : 0 < entry.left → entry.saved ≡ true
   pub saved : entry.saved ≡ true → may_save entry.event entry.reply ≡ true
   pub moves : entry.saved ≡ true → MayMove ranges before entry.id entry.event
+  -- a printer does as its ledger lets it
+  pub goes : (printer : ℕ) → IsCallAt before entry printer → GoesByLedger ranges before entry printer
 
 abbrev pub IsLegal : {A : Type 0} → List Range → ℕ → History A → Type 0
 IsLegal ranges desks [] = Unit {0}

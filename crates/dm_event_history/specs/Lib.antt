@@ -4,6 +4,7 @@ pub mod Running
 pub mod Saving
 pub mod Numbers
 pub mod Places
+pub mod Ledgers
 pub mod Masks
 pub mod Holding
 pub mod Legal
@@ -11,7 +12,6 @@ pub mod Tainted
 pub mod Honest
 pub mod Telling
 pub mod Safe
-pub mod Counts
 pub mod Replying
 pub mod Imports
 pub mod Tickets

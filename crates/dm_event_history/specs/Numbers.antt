@@ -1,17 +1,12 @@
--- Which identifications are free at a printer, entry by entry, and how many came and went; the serials of tickets.
-use Rattle.std.specs.Prelude.{◌+◌, ℕ, Bool, true, false, ◌&&◌, ◌||◌, not, ◌==◌, nat_le, if◌then◌else◌, Option, Some, None, List, [], ◌∷◌, slice_get}
+-- Which identifications are free at a printer, entry by entry, and the serials of its tickets.
+use Rattle.std.specs.Prelude.{◌+◌, ℕ, Bool, true, false, ◌&&◌, ◌||◌, not, ◌==◌, if◌then◌else◌, Option, Some, None, List, [], ◌∷◌, slice_get}
 use Rattle.dm_print_ledger.specs.declared.range.Range.{Range}
-use Rattle.dm_print_ledger.specs.declared.limits.TheConstants.{GREATEST}
-use Rattle.dm_print_ledger.specs.Ranges.{is_in, size_of}
+use Rattle.dm_print_ledger.specs.Ranges.{is_in}
 use Rattle.dm_print_ledger.specs.Views.{TicketView}
 use Rattle.dm_event_history.specs.declared.event.Event.{Event}
 use Rattle.dm_event_history.specs.declared.event.Event.TheVariants.{Print, Give, Take}
-use Rattle.dm_event_history.specs.declared.reply.Reply.{Reply}
-use Rattle.dm_event_history.specs.declared.reply.Reply.TheVariants.{Taken}
 use Rattle.dm_event_history.specs.Actors.{PrinterAt, actor_of, is_same}
 use Rattle.dm_event_history.specs.History.{Entry, History, tickets}
-use Rattle.dm_event_history.specs.Running.{is_failed}
-use Rattle.dm_event_history.specs.Saving.{may_save}
 
 -- the event of the entry is one of this printer
 abbrev pub is_of : {A : Type 0} → Entry A → ℕ → Bool
@@ -77,50 +72,3 @@ last_serial (entry ∷ before) printer giver =
     if saved_at entry printer
     then serial_after (taken_by (tickets before) entry.event) giver (last_serial before printer giver)
     else last_serial before printer giver
-
--- ---- how many
-
-abbrev pub size_in : Option Range → ℕ
-size_in None = 0
-size_in (Some range) = size_of range
-
-abbrev pub size_on : Option TicketView → ℕ
-size_on None = 0
-size_on (Some ticket) = size_of ticket.range
-
--- how many numbers a printer began with
-abbrev pub opening_count : List Range → ℕ → ℕ
-opening_count ranges printer = size_in (slice_get ranges printer)
-
--- the range has a number, and each is one of an identification
-abbrev pub is_range : Range → Bool
-is_range range = nat_le range.first range.last && nat_le range.last GREATEST
-
--- how many numbers an event takes away from its printer, if it saves: a give saves only if its range is one, and it is
--- to another printer
-abbrev pub takes_away : {A : Type 0} → Event A → ℕ
-takes_away (Print printer document size scheme stop) = 1
-takes_away (Give printer receiver range stop) = if not (receiver == printer) && is_range range then size_of range else 0
-takes_away event = 0
-
--- how many numbers go from a printer by an event that is answered so: none, if the printer had failed before
-abbrev pub goes_by : {A : Type 0} → Bool → Event A → Reply A → ℕ
-goes_by had_failed event reply = if may_save event reply && not had_failed then takes_away event else 0
-
--- how many numbers went from a printer by the prints and gives that may have saved
-abbrev pub gone : {A : Type 0} → History A → ℕ → ℕ
-gone [] printer = 0
-gone (entry ∷ before) printer =
-    (if is_of entry printer then goes_by (is_failed before (PrinterAt printer)) entry.event entry.reply else 0)
-    + gone before printer
-
--- how many numbers come by an event that is answered so
-abbrev pub comes_by : {A : Type 0} → List TicketView → Event A → Reply A → ℕ
-comes_by tickets event Taken = size_on (taken_by tickets event)
-comes_by tickets event other = 0
-
--- how many numbers came to a printer by the takes that were answered `Taken`
-abbrev pub came : {A : Type 0} → History A → ℕ → ℕ
-came [] printer = 0
-came (entry ∷ before) printer =
-    (if is_of entry printer then comes_by (tickets before) entry.event entry.reply else 0) + came before printer

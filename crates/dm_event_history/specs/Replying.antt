@@ -17,7 +17,7 @@ use Rattle.dm_event_history.specs.declared.reply.Reply.TheVariants.{Printed, Pri
 use Rattle.dm_event_history.specs.declared.stop.Stop.TheVariants as stops
 use Rattle.dm_event_history.specs.Actors.{Actor, PrinterAt, DeskAt, actor_of, is_same}
 use Rattle.dm_event_history.specs.Running.{down_after, failed_after, TellsFailed, IsNoAnswer, IsOfFailed}
-use Rattle.dm_event_history.specs.Legal.{IsSaveFault, IsStopped, NeedsRunning}
+use Rattle.dm_event_history.specs.Legal.{IsSaveFault, IsStopped, NeedsRunning, MayLackMemory}
 
 -- ---- one event
 
@@ -62,7 +62,7 @@ MayReply (Import desk export stop) (ImportRefused fault) = Unit {0}
 MayReply event Stopped = IsStopped event
 MayReply event Down = NeedsRunning event
 MayReply event NoSuch = Unit {0}
-MayReply event Memory = Unit {0}
+MayReply event Memory = MayLackMemory event
 MayReply event reply = ⊥
 
 -- the reply is one to the event, and a call that is to end before its reply doesn't answer

@@ -1,5 +1,5 @@
 -- No ticket is taken twice, said of the events and the replies of a run alone, both from the first on.
-use Rattle.std.specs.Prelude.{◌≡◌, ◌≢◌, ◌<◌, ◌≤◌, ◌⊎◌, ℕ, true, false, Some, List, [], ◌∷◌, ◌++◌, length, slice_get, take}
+use Rattle.std.specs.Prelude.{◌≡◌, ◌≢◌, ◌<◌, ◌≤◌, ℕ, true, false, Some, List, [], ◌∷◌, ◌++◌, length, slice_get, take}
 use Rattle.dm_print_ledger.specs.declared.range.Range.{Range}
 use Rattle.dm_print_ledger.specs.declared.fault.TakeFault.TheVariants.{Old, Overlap, Save}
 use Rattle.dm_print_ledger.specs.Views.{TicketView}
@@ -34,15 +34,6 @@ pub record TakesTicket {A : Type 0} (events : List (Event A)) (replies : List (R
   pub reply : Reply A
   pub answered : slice_get replies i ≡ Some reply
   pub taken : IsTaken stop reply
-
--- event number i is a take of the ticket of this number by this printer, and took it or refused it as old
-pub record IsDoneWith {A : Type 0} (events : List (Event A)) (replies : List (Reply A)) (i printer ticket : ℕ)
-    : Type 0 where
-  pub stop : Stop
-  pub event : slice_get events i ≡ Some (Take printer ticket stop)
-  pub reply : Reply A
-  pub answered : slice_get replies i ≡ Some reply
-  pub done : IsTaken stop reply ⊎ (reply ≡ TakeRefused Old)
 
 -- event number j, before number i, gave the ticket of this number, and to this printer
 pub record WasGiven {A : Type 0} (events : List (Event A)) (replies : List (Reply A)) (i printer ticket : ℕ)

@@ -7,7 +7,7 @@ use Rattle.dm_check_blocks.specs.declared.size.Size.TheVariants.{Side12}
 use Rattle.dm_encodation.specs.declared.scheme.Scheme.TheVariants.{Ascii}
 use Rattle.dm_print_ledger.specs.declared.fault.PrintFault.TheVariants as print_fault
 use Rattle.dm_print_ledger.specs.declared.fault.GiveFault.TheVariants as give_fault
-use Rattle.dm_print_ledger.specs.declared.fault.TakeFault.TheVariants.{Old, Overlap, Save}
+use Rattle.dm_print_ledger.specs.declared.fault.TakeFault.TheVariants.{Old, Overlap, Save, Receiver}
 use Rattle.dm_print_ledger.specs.declared.range.Range.{Range}
 use Rattle.dm_print_ledger.specs.Views.{TicketView}
 use Rattle.dm_append_label.specs.declared.fault.LabelFault.TheVariants.{Block, Border}
@@ -27,7 +27,7 @@ use Rattle.dm_event_history.specs.declared.event.Event.TheVariants.{Print, Scan,
 use Rattle.dm_event_history.specs.declared.reply.Reply.{Reply}
 use Rattle.dm_event_history.specs.declared.reply.Reply.TheVariants.{Printed, PrintRefused, Scanned, ScanRefused, Document, AskRefused, Forgotten, ForgetRefused, Given, GiveRefused, Taken, TakeRefused, Exported, Imported, ImportRefused, Restarted, PrinterRefused, Stopped, Down, NoSuch, Memory}
 use Rattle.dm_event_history.specs.declared.stop.Stop.{Stop}
-use Rattle.dm_event_history.specs.declared.stop.Stop.TheVariants.{None, BeforeSave, SaveFault, AfterLabels}
+use Rattle.dm_event_history.specs.declared.stop.Stop.TheVariants.{None, BeforeSave, InSave, SaveFault, AfterLabels}
 use Rattle.dm_event_history.specs.History.{LabelName}
 use Rattle.dm_event_history.specs.Headline.{Batch, labels_of, PrintsOnceBy, IsFaithful}
 use Rattle.dm_event_history.specs.Replying.{AreReplies}
@@ -134,7 +134,7 @@ two_documents A =
     (scan 1, Scanned (page 0 2 Complete)) ∷
     (Ask 0 0, Document digits) ∷ (Ask 0 0, Document other_digits) ∷ []
 
--- `let_out`: of two stopped prints the first let its labels out, as its printer had identifications left; but the
+-- `explained`: of two stopped prints the first let its labels out, as its printer had identifications left; but the
 -- document of the second is given for them
 abbrev pub wrong_of_two : (A : Type 0) → Run A
 wrong_of_two A =
@@ -202,9 +202,16 @@ saved_though_failed A =
     (Scan 0 0 [] (AfterLabels 0), Stopped) ∷
     (RestartDesk 0, Restarted) ∷ (Forget 0 0 None, Forgotten) ∷ []
 
--- `let_out` and `not_there`: a label is missing that left by a print which was stopped after its first
+-- `explained` and `not_there`: a label is missing that left by a print which was stopped after its first
 abbrev pub missing_first_label : (A : Type 0) → Run A
 missing_first_label A = (print 0 other_digits (AfterLabels 1), Stopped) ∷ (scan 0, NoSuch) ∷ []
+
+-- `explained` and `not_there`: the same, after a give that was stopped, but can't have saved, since not all of its
+-- numbers were the printer's
+abbrev pub missing_after_a_refused_give : (A : Type 0) → Run A
+missing_after_a_refused_give A =
+    (Give 0 1 (range 5 14) (AfterLabels 0), Stopped) ∷
+    (RestartPrinter 0, Restarted) ∷ (print 0 other_digits (AfterLabels 2), Stopped) ∷ (scan 0, NoSuch) ∷ []
 
 -- ---- what a desk holds
 
@@ -302,12 +309,12 @@ conflicting_label A = (print 0 digits None, Printed 0 0 2) ∷ (scan 0, ScanRefu
 
 -- ---- prints
 
--- `exhausted`: a printer has no identification left, though none had gone
+-- `explained`: a printer has no identification left, though none had gone
 abbrev pub exhausted_at_first : (A : Type 0) → Run A
 exhausted_at_first A = (print 0 digits None, PrintRefused print_fault.Exhausted) ∷ []
 
--- `exhausted`: a printer has no identification left, after a give by which none can have gone: it was to itself, of
--- what is no range, or by a printer that had failed
+-- `explained`: a printer has no identification left, after a give by which none can have gone: it was to itself, of
+-- what is no range, of numbers that another printer began with, or by a printer that had failed
 abbrev pub exhausted_by : (A : Type 0) → Event A → Run A
 exhausted_by A give =
     (give, Stopped) ∷ (RestartPrinter 0, Restarted) ∷ (print 0 digits None, PrintRefused print_fault.Exhausted) ∷ []
@@ -318,12 +325,15 @@ exhausted_by_itself A = exhausted_by A (Give 0 0 (range 0 9) (AfterLabels 0))
 abbrev pub exhausted_by_no_range : (A : Type 0) → Run A
 exhausted_by_no_range A = exhausted_by A (Give 0 1 (range 65000 65009) (AfterLabels 0))
 
+abbrev pub exhausted_by_a_refused_give : (A : Type 0) → Run A
+exhausted_by_a_refused_give A = exhausted_by A (Give 0 1 (range 5 14) (AfterLabels 0))
+
 abbrev pub exhausted_though_failed : (A : Type 0) → Run A
 exhausted_though_failed A =
     (print 0 digits (SaveFault kept.Old), PrintRefused print_fault.Save) ∷
     exhausted_by A (Give 0 1 (range 0 9) (AfterLabels 0))
 
--- `too_long`: a document of four digits can't be cut
+-- `explained`: a document of four digits is refused as too long, and can be cut
 abbrev pub too_long_of_few : (A : Type 0) → Run A
 too_long_of_few A = (print 0 other_digits None, PrintRefused print_fault.TooLong) ∷ []
 
@@ -355,18 +365,18 @@ told_twice A = (print 0 digits None, Printed 0 0 2) ∷ (print 0 other_digits No
 abbrev pub printed_beyond : (A : Type 0) → Run A
 printed_beyond A = (print 0 digits None, Printed 20 0 2) ∷ []
 
--- `owned`: a label is told under an identification that another printer began with
+-- `explained`: a label is told under an identification that another printer began with
 abbrev pub printed_of_another : (A : Type 0) → Run A
 printed_of_another A = (print 0 digits (AfterLabels 1), Stopped) ∷ (scan 0, Scanned (page 15 1 New)) ∷ []
 
--- `owned`: an identification is printed of a ticket whose take was stopped before its save
+-- `explained`: an identification is printed of a ticket whose take was stopped before its save
 abbrev pub printed_untaken : (A : Type 0) → Run A
 printed_untaken A =
     (Give 0 1 first_ticket.range None, Given 0 first_ticket) ∷
     (Take 1 0 BeforeSave, Stopped) ∷
     (RestartPrinter 1, Restarted) ∷ (print 1 digits None, Printed 5 0 2) ∷ []
 
--- `gives_own`: numbers are given that another printer began with, and numbers that were given before
+-- `explained`: numbers are given that another printer began with, and numbers that were given before
 abbrev pub given_of_another : (A : Type 0) → Run A
 given_of_another A = (Give 0 1 (range 10 12) None, Given 0 (ticket 0 (range 10 12))) ∷ []
 
@@ -375,19 +385,19 @@ given_again A =
     (Give 0 1 (range 0 4) None, Given 0 (ticket 0 (range 0 4))) ∷
     (Give 0 1 (range 4 6) None, Given 1 (ticket 1 (range 4 6))) ∷ []
 
--- `gives_own`: a number is given under which a label left
+-- `explained`: a number is given under which a label left
 abbrev pub given_though_printed : (A : Type 0) → Run A
 given_though_printed A =
     (print 0 digits None, Printed 0 0 2) ∷ (Give 0 1 (range 0 0) None, Given 0 (ticket 0 (range 0 0))) ∷ []
 
--- `owned`: a printer prints under a number that it gave, after it asked for the ticket, which is for another
+-- `explained`: a printer prints under a number that it gave, after it asked for the ticket, which is for another
 abbrev pub printed_of_anothers_ticket : (A : Type 0) → Run A
 printed_of_anothers_ticket A =
     (Give 0 1 (range 0 4) None, Given 0 (ticket 0 (range 0 4))) ∷
     (Take 0 0 (AfterLabels 0), Stopped) ∷
     (RestartPrinter 0, Restarted) ∷ (print 0 digits None, Printed 3 0 2) ∷ []
 
--- `owned` and `gives_own`: a printer prints under a number, or gives one, after it told that it has none left
+-- `explained`: a printer prints under a number, or gives one, after it told that it has none left
 abbrev pub after_exhausted : (A : Type 0) → Event A × Reply A → Run A
 after_exhausted A last =
     (Give 0 1 (range 0 9) (AfterLabels 0), Stopped) ∷
@@ -403,7 +413,7 @@ given_after_exhausted A = after_exhausted A (Give 0 1 (range 0 0) None, Given 0 
 abbrev pub ticket_back : ℕ → Range → TicketView
 ticket_back serial range = record { giver = 1; serial = serial; receiver = 0; range = range }
 
--- `gives_own`: numbers are given that a printer had given back, after it was stopped as it took, a second time, the
+-- `explained`: numbers are given that a printer had given back, after it was stopped as it took, a second time, the
 -- ticket that had brought them
 abbrev pub given_after_taken : (A : Type 0) → Run A
 given_after_taken A =
@@ -413,7 +423,7 @@ given_after_taken A =
     (Take 1 0 (AfterLabels 0), Stopped) ∷
     (RestartPrinter 1, Restarted) ∷ (Give 1 0 (range 7 9) None, Given 2 (ticket_back 1 (range 7 9))) ∷ []
 
--- `owned` and `gives_own`: a printer prints under a number, or gives one, of a ticket whose take was stopped after a
+-- `explained`: a printer prints under a number, or gives one, of a ticket whose take was stopped after a
 -- later one of its giver was taken
 abbrev pub after_overtaken : (A : Type 0) → Event A × Reply A → Run A
 after_overtaken A last =
@@ -427,7 +437,7 @@ printed_of_overtaken A = after_overtaken A (print 1 digits None, Printed 0 0 2)
 abbrev pub given_of_overtaken : (A : Type 0) → Run A
 given_of_overtaken A = after_overtaken A (Give 1 0 (range 0 4) None, Given 2 (ticket_back 0 (range 0 4)))
 
--- `owned`: a printer prints under a number that it had given back, after it was stopped as it took the ticket which had
+-- `explained`: a printer prints under a number that it had given back, after it was stopped as it took the ticket which had
 -- brought it, and which it had refused as old
 abbrev pub printed_of_old : (A : Type 0) → Run A
 printed_of_old A =
@@ -438,6 +448,40 @@ printed_of_old A =
     (Give 1 0 (range 5 9) None, Given 1 (ticket_back 0 (range 5 9))) ∷
     (Take 1 0 (AfterLabels 0), Stopped) ∷
     (RestartPrinter 1, Restarted) ∷ (print 1 digits None, Printed 5 0 2) ∷ []
+
+-- `explained`: an identification is printed that is not the least that is free
+abbrev pub printed_above_the_least : (A : Type 0) → Run A
+printed_above_the_least A = (print 0 digits None, Printed 5 0 2) ∷ []
+
+-- `explained`: a number is given that a print must have used, which was stopped in its save
+abbrev pub given_though_used : (A : Type 0) → Run A
+given_though_used A =
+    (print 0 digits (InSave kept.New), Stopped) ∷
+    (RestartPrinter 0, Restarted) ∷ (Give 0 1 (range 0 0) None, Given 0 (ticket 0 (range 0 0))) ∷ []
+
+-- `explained`: a document is printed under a number that a give must have taken away, which was stopped after its save
+abbrev pub printed_though_given : (A : Type 0) → Run A
+printed_though_given A =
+    (Give 0 1 (range 0 9) (AfterLabels 0), Stopped) ∷
+    (RestartPrinter 0, Restarted) ∷ (print 0 digits None, Printed 0 0 2) ∷ []
+
+-- `explained`: numbers are refused as not free which a take must have brought, that was stopped after its save
+abbrev pub refused_though_taken : (A : Type 0) → Run A
+refused_though_taken A =
+    (Give 0 1 (range 0 4) None, Given 0 (ticket 0 (range 0 4))) ∷
+    (Take 1 0 (AfterLabels 0), Stopped) ∷
+    (RestartPrinter 1, Restarted) ∷ (Give 1 0 (range 0 4) None, GiveRefused give_fault.NotFree) ∷ []
+
+-- `explained`: of two takes that were stopped after their saves the second was of the earlier ticket, so that it brought
+-- nothing; but its numbers are given
+abbrev pub given_of_falling_takes : (A : Type 0) → Run A
+given_of_falling_takes A =
+    (Give 0 1 (range 0 2) None, Given 0 (ticket 0 (range 0 2))) ∷
+    (Give 0 1 (range 3 5) None, Given 1 (ticket 1 (range 3 5))) ∷
+    (Take 1 1 (AfterLabels 0), Stopped) ∷
+    (RestartPrinter 1, Restarted) ∷
+    (Take 1 0 (AfterLabels 0), Stopped) ∷
+    (RestartPrinter 1, Restarted) ∷ (Give 1 0 (range 0 2) None, Given 2 (ticket_back 0 (range 0 2))) ∷ []
 
 -- `unfailed`: a label is told that left by a printer whose last save failed
 abbrev pub left_though_failed : (A : Type 0) → Run A
@@ -502,6 +546,24 @@ refused_range A = (Give 0 1 (range 5 5) None, GiveRefused give_fault.Range) ∷ 
 
 abbrev pub refused_receiver : (A : Type 0) → Run A
 refused_receiver A = (Give 0 1 (range 5 5) None, GiveRefused give_fault.Receiver) ∷ []
+
+-- `explained`: a first ticket has not the first serial; and a give and a take are refused for a reason that isn't so
+abbrev pub serial_skipped : (A : Type 0) → Run A
+serial_skipped A = (Give 0 1 (range 0 4) None, Given 0 (ticket 1 (range 0 4))) ∷ []
+
+abbrev pub refused_though_free : (A : Type 0) → Run A
+refused_though_free A = (Give 0 1 (range 0 9) None, GiveRefused give_fault.NotFree) ∷ []
+
+abbrev pub refused_though_for_it : (A : Type 0) → Run A
+refused_though_for_it A =
+    (Give 0 1 first_ticket.range None, Given 0 first_ticket) ∷ (Take 1 0 None, TakeRefused Receiver) ∷ []
+
+-- `each`: memory is refused to a call that takes none
+abbrev pub asked_without_memory : (A : Type 0) → Run A
+asked_without_memory A = (Ask 0 0, Memory) ∷ []
+
+abbrev pub restarted_without_memory : (A : Type 0) → Run A
+restarted_without_memory A = (RestartPrinter 0, Memory) ∷ []
 
 -- `no_such` and `there`: a printer is missing that is there, and a desk answers that is not
 abbrev pub missing_printer : (A : Type 0) → Run A
@@ -754,6 +816,7 @@ pub record AreUnfaithful (A : Type 0) : Type 0 where
   pub wrong_of_two_is : ¬ IsFaithfulRun (wrong_of_two A)
   pub refused_unprinted_is : ¬ IsFaithfulRun (refused_unprinted A)
   pub missing_first_label_is : ¬ IsFaithfulRun (missing_first_label A)
+  pub missing_after_a_refused_give_is : ¬ IsFaithfulRun (missing_after_a_refused_give A)
   pub missing_label_is : ¬ IsFaithfulRun (missing_label A)
   pub scanned_outside_is : ¬ IsFaithfulRun (scanned_outside A)
   pub begun_unscanned_is : ¬ IsFaithfulRun (begun_unscanned A)
@@ -775,6 +838,14 @@ pub record AreUnfaithful (A : Type 0) : Type 0 where
   pub printed_of_overtaken_is : ¬ IsFaithfulRun (printed_of_overtaken A)
   pub given_of_overtaken_is : ¬ IsFaithfulRun (given_of_overtaken A)
   pub printed_of_old_is : ¬ IsFaithfulRun (printed_of_old A)
+  pub printed_above_the_least_is : ¬ IsFaithfulRun (printed_above_the_least A)
+  pub given_though_used_is : ¬ IsFaithfulRun (given_though_used A)
+  pub printed_though_given_is : ¬ IsFaithfulRun (printed_though_given A)
+  pub refused_though_taken_is : ¬ IsFaithfulRun (refused_though_taken A)
+  pub given_of_falling_takes_is : ¬ IsFaithfulRun (given_of_falling_takes A)
+  pub serial_skipped_is : ¬ IsFaithfulRun (serial_skipped A)
+  pub refused_though_free_is : ¬ IsFaithfulRun (refused_though_free A)
+  pub refused_though_for_it_is : ¬ IsFaithfulRun (refused_though_for_it A)
   pub left_though_failed_is : ¬ IsFaithfulRun (left_though_failed A)
   pub never_left_is : ¬ IsFaithfulRun (never_left A)
   pub saved_though_failed_is : ¬ IsFaithfulRun (saved_though_failed A)
@@ -798,6 +869,7 @@ pub record AreUnfaithful (A : Type 0) : Type 0 where
   pub exhausted_at_first_is : ¬ IsFaithfulRun (exhausted_at_first A)
   pub exhausted_by_itself_is : ¬ IsFaithfulRun (exhausted_by_itself A)
   pub exhausted_by_no_range_is : ¬ IsFaithfulRun (exhausted_by_no_range A)
+  pub exhausted_by_a_refused_give_is : ¬ IsFaithfulRun (exhausted_by_a_refused_give A)
   pub exhausted_though_failed_is : ¬ IsFaithfulRun (exhausted_though_failed A)
   pub too_long_of_few_is : ¬ IsFaithfulRun (too_long_of_few A)
   pub wrong_after_a_refused_scan_is : ¬ IsFaithfulMarked (wrong_after_a_refused_scan A)
@@ -819,6 +891,8 @@ pub record AreUnfaithful (A : Type 0) : Type 0 where
   pub given_to_itself_is : ¬ AreRepliesRun (given_to_itself A)
   pub refused_range_is : ¬ AreRepliesRun (refused_range A)
   pub refused_receiver_is : ¬ AreRepliesRun (refused_receiver A)
+  pub asked_without_memory_is : ¬ AreRepliesRun (asked_without_memory A)
+  pub restarted_without_memory_is : ¬ AreRepliesRun (restarted_without_memory A)
   pub missing_printer_is : ¬ AreRepliesRun (missing_printer A)
   pub third_desk_is : ¬ AreRepliesRun (third_desk A)
   pub numbered_twice_is : ¬ TakesOnceRun (numbered_twice A)

@@ -24,7 +24,7 @@ use Rattle.dm_event_history.specs.declared.stop.Stop.TheVariants as stops
 use Rattle.dm_event_history.specs.Actors.{PrinterAt, DeskAt}
 use Rattle.dm_event_history.specs.History.{Entry, History, CutDocument, out, docs, tickets, exports}
 use Rattle.dm_event_history.specs.Running.{is_down, is_failed}
-use Rattle.dm_event_history.specs.Numbers.{gives, last_serial, opening_count, gone, came}
+use Rattle.dm_event_history.specs.Numbers.{gives, last_serial}
 use Rattle.dm_event_history.specs.Places.{FreeAt, OnTicket, Used, Lost, is_at}
 use Rattle.dm_event_history.specs.Saving.{may_save}
 use Rattle.dm_event_history.specs.Holding.{IsSurelyHeld, IsPossiblyHeld}
@@ -93,9 +93,6 @@ pub record MovedIs (A : Type 0) : Type 0 where
   pub kept : is_at two_ranges (moved A) 2 (FreeAt 0) ≡ true
   pub serials_given : gives (moved A) 0 ≡ 2
   pub serial_taken : last_serial (moved A) 1 0 ≡ Some 0
-  pub began : opening_count two_ranges 1 ≡ 10
-  pub came_is : came (moved A) 1 ≡ 5
-  pub gone_is : gone (moved A) 0 ≡ 7
   pub down : is_down (given_and_stopped A) (PrinterAt 0) ≡ true
   pub up : is_down (moved A) (PrinterAt 0) ≡ false
 
@@ -167,12 +164,9 @@ pub record StoppedIs (A : Type 0) : Type 0 where
   pub none_left : docs (stopped_after A) 0 ≡ None
   pub used : is_at two_ranges (stopped_after A) 0 Used ≡ true
   pub not_free : is_at two_ranges (stopped_after A) 0 (FreeAt 0) ≡ false
-  pub gone_is : gone (stopped_after A) 0 ≡ 2
   pub up : is_down (stopped_after A) (PrinterAt 0) ≡ false
   pub not_used : docs (stopped_before A) 0 ≡ Some digits_cut
-  pub gone_before : gone (stopped_before A) 0 ≡ 1
   pub failed : is_failed (save_failed A) (PrinterAt 0) ≡ true
-  pub gone_by_a_fault : gone (save_failed A) 0 ≡ 1
   pub restarted : is_failed (told false (RestartPrinter 0) Restarted ∷ save_failed A) (PrinterAt 0) ≡ false
 
 -- ---- what is not so
@@ -192,8 +186,7 @@ abbrev pub given_once : (A : Type 0) → History A
 given_once A = told true (Give 0 1 (range 5 9) stops.None) (Given 0 first_ticket) ∷ []
 
 pub record NotSo (A : Type 0) : Type 0 where
-  -- such a save takes no number away, and nothing was saved by it
-  pub gone_is : gone (kept_old A) 0 ≡ 0
+  -- nothing was saved by such a save
   pub not_given : gives (kept_old A) 0 ≡ 0
   pub unsaved_print : may_save {A = A} (Print 0 digits Side12 Ascii faulty) (PrintRefused print_fault.Save) ≡ false
   pub unsaved_give : may_save {A = A} (Give 0 1 (range 0 1) faulty) (GiveRefused give_fault.Save) ≡ false
@@ -201,8 +194,6 @@ pub record NotSo (A : Type 0) : Type 0 where
   pub unsaved_scan : may_save {A = A} (Scan 0 0 [] faulty) (ScanRefused scan_fault.Save) ≡ false
   pub unsaved_forget : may_save {A = A} (Forget 0 0 faulty) (ForgetRefused forget_fault.Save) ≡ false
   pub unsaved_import : may_save {A = A} (Import 0 0 faulty) (ImportRefused import_fault.Save) ≡ false
-  -- numbers come to the printer that takes the ticket alone
-  pub none_came : came (moved A) 0 ≡ 0
   -- no take is refused for an overlap, no save without a fault, and no document as not held that surely is
   pub no_overlap : ¬ IsReply two_ranges (moved A) 0 0 (Take 1 0 stops.None) (TakeRefused take_fault.Overlap)
   pub no_fault : ¬ IsReply two_ranges (travelled A) 0 0 (Scan 0 0 [] stops.None) (ScanRefused scan_fault.Save)

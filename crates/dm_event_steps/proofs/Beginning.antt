@@ -5,20 +5,21 @@ use Rattle.std.specs.FinMap.{len-empty}
 use Rattle.std.specs.Ordering.{nat_cmp}
 use Rattle.dm_print_ledger.specs.declared.range.Range.{Range}
 use Rattle.dm_print_ledger.specs.Creating.{opening}
-use Rattle.dm_print_ledger.specs.Ranges.{is_in, size_of}
+use Rattle.dm_print_ledger.specs.Ranges.{is_in}
 use Rattle.dm_assembly_desk.specs.Documents.{Documents}
 use Rattle.dm_assembly_desk.specs.Pages.{Pages}
 use Rattle.dm_assembly_desk.specs.Views.{IsCapacity}
 use Rattle.dm_event_history.specs.History.{History}
 use Rattle.dm_event_history.specs.Legal.{AreDisjoint}
-use Rattle.dm_event_history.specs.Numbers.{is_in_some, size_in, opening_count}
+use Rattle.dm_event_history.specs.Numbers.{is_in_some}
 use Rattle.dm_event_steps.specs.declared.actor.PrinterActor.{PrinterActor}
 use Rattle.dm_event_steps.specs.declared.actor.PrinterActor.TheVariants as printer_actors
 use Rattle.dm_event_steps.specs.declared.actor.DeskState.{DeskState}
 use Rattle.dm_event_steps.specs.declared.actor.DeskState.TheVariants as desk_states
 use Rattle.dm_event_steps.specs.declared.actor.DeskActor.{DeskActor}
 use Rattle.dm_event_steps.specs.Gathered.{IsGathered}
-use Rattle.dm_event_steps.specs.Stands.{IsLedgerOf, PrinterStands}
+use Rattle.dm_event_history.specs.Ledgers.{IsLedgerOf}
+use Rattle.dm_event_steps.specs.Stands.{PrinterStands}
 use Rattle.dm_event_steps.specs.DeskStands.{DeskStands}
 use Rattle.dm_event_steps.specs.StandsFor.{StandsFor}
 use Rattle.dm_event_steps.specs.Beginning.{IsFresh, IsEmptyDesk, AreFresh, AreEmpty}
@@ -36,7 +37,6 @@ first_ledger {A} ranges p range at = record {
   free = λ n. or_none (is_in range n) ∙ ap (λ (o : Option Range). is_in_some o n) (sym at);
   next_serial = refl;
   givers = λ giver. refl;
-  bounded = let a : opening_count ranges p ≡ size_of range = ap size_in at in omega arith;
 }
 
 first_printer : {A : Type 0} (ranges : List Range) (p : ℕ) (range : Range) (actor : PrinterActor A) →

@@ -79,6 +79,7 @@ desk_fits ranges desks h event reply d c = record {
   left_saved = λ none. absurd (omega arith);
   saved = λ x. cc;
   moves = λ x. cc;
+  goes = λ q call. absurd (let x : DeskAt d ≡ PrinterAt q = sym c.named ∙ call.named in cc (x));
 }
 
 -- a running desk that has not failed did not answer `Save` since its last restart

@@ -362,5 +362,5 @@ forget_goes {A} ranges capacities grids h d id capacity stop view reply state th
     (stopped_goes ranges capacities grids h d id capacity stop view state there room s stopped.1)
 forget_goes ranges capacities grids h d id capacity stop view reply state there room s (inr (inr lacks)) =
     memory_goes ranges capacities grids h (Forget d id stop) d capacity view reply state room s refl there
-    (refl, tt) (λ i m t. t) (λ i x. x) tt tt lacks.0
+    (refl, lacks.1.to_be_stopped) (λ i m t. t) (λ i x. x) tt tt lacks.0
     (lacks_same stop _ view state s.store.ready (none_forgotten id (desk_planned view next_save.Fine)) lacks.1)

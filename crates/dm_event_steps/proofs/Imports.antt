@@ -646,7 +646,7 @@ import_goes {A} ranges capacities grids h d number capacity stop view export rep
     (stopped_goes ranges capacities grids h d number capacity stop view export state s stopped.1)
 import_goes ranges capacities grids h d number capacity stop view export reply state s (inr (inr lacks)) =
     memory_goes ranges capacities grids h (Import d number stop) d capacity view reply state s.room s.runs refl s.there
-    (refl, tt) (λ i m t. t) (λ i x. x)
+    (refl, lacks.1.to_be_stopped) (λ i m t. t) (λ i x. x)
     tt tt lacks.0
     (lacks_same stop _ view state s.runs.store.ready
     (λ mid call. none_imported capacities grids h d number capacity view

@@ -1,4 +1,5 @@
 pub mod Ledgers
+pub mod GoingByLedger
 pub mod PrinterGoing
 pub mod JobLabels
 pub mod Prints

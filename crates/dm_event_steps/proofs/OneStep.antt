@@ -27,7 +27,7 @@ use Rattle.dm_event_steps.specs.Goes.{quiet, DeskGoes, ExportsGo}
 use Rattle.dm_event_steps.specs.Worlds.{WorldView, left_of, grids_of, IsNamed, Steps}
 use Rattle.dm_event_steps.specs.StandsFor.{StandsFor}
 use Rattle.dm_event_steps.proofs.PrinterGoing.{IsFine}
-use Rattle.dm_event_steps.proofs.Ledgers.{numbers_quiet}
+use Rattle.dm_event_history.proofs.FreeNumbers.{not_saved}
 use Rattle.dm_event_steps.proofs.EachPrinter.{printer_goes}
 use Rattle.dm_event_steps.proofs.Scans.{scan_goes}
 use Rattle.dm_event_steps.proofs.Asks.{ask_goes, restart_desk_goes}
@@ -277,6 +277,7 @@ none_goes {A} ranges capacities world h event s away =
         left_saved = λ some. none_leaves {A = A} event NoSuch _ some;
         saved = λ x. cc;
         moves = λ x. cc;
+        goes = λ q call. absurd (call.there refl);
       };
       more = [];
       labels_are = sym (append-nil world.labels);
@@ -291,7 +292,7 @@ none_goes {A} ranges capacities world h event s away =
       exports_show = λ i export here. cc;
       count = s.count;
       printers = λ q b there. printer_keeps ranges e h q b (quiet_none event h (PrinterAt q))
-          (numbers_quiet e h q refl (λ x. cc)) (s.printers q b there);
+          (not_saved e q refl) (s.printers q b there);
       desk_count = s.desk_count;
       desks = λ c room desk here there.
           let old = s.desks c room desk here there in (

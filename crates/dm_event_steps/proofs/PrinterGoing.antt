@@ -1,5 +1,5 @@
 -- What is left of one event at a printer, if no label left: its entry fits, and the printer stands.
-use Rattle.std.proofs.Common.{◌≡◌, ◌≢◌, ◌⊎◌, inl, inr, ℕ, Bool, true, false, Option, Some, Result, Ok, List, [], ◌∷◌, ◌++◌, length, IsSomeAnd, refl, ap, sym, ◌∙◌, subst, arith}
+use Rattle.std.proofs.Common.{◌≡◌, ◌≢◌, ◌⊎◌, inl, inr, ℕ, Bool, true, false, Option, Some, Result, Ok, List, [], ◌∷◌, ◌++◌, length, IsSome, IsSomeAnd, refl, ap, sym, ◌∙◌, subst, arith}
 use Rattle.std.proofs.lemmas.List.{append-nil}
 use Rattle.dm_store.specs.Saved.{Saved, SavePlan, Replaces}
 use Rattle.dm_store.specs.declared.store.ReplaceFault.{ReplaceFault}
@@ -22,15 +22,19 @@ use Rattle.dm_event_history.specs.declared.stop.Stop.TheVariants as stops
 use Rattle.dm_event_history.specs.Actors.{PrinterAt, actor_of}
 use Rattle.dm_event_history.specs.History.{Entry, History, tickets, given}
 use Rattle.dm_event_history.specs.Running.{down_after, is_down, failed_after, is_failed, IsOfFailed}
-use Rattle.dm_event_history.specs.Saving.{may_save, tells_of_save}
+use Rattle.dm_event_history.specs.Saving.{stop_of, may_save, tells_of_save}
+use Rattle.dm_event_history.specs.Ledgers.{GoesByLedger}
 use Rattle.dm_event_history.specs.Legal.{IsReply, LetsOut, MayMove, NeedsRunning, IsThere, IsStopped, IsStopping}
 use Rattle.dm_event_history.proofs.WhoActs.{is_down_same, is_failed_same}
 use Rattle.dm_event_steps.specs.declared.actor.PrinterActor.{PrinterActor}
 use Rattle.dm_event_steps.specs.declared.actor.PrinterActor.TheVariants as actors
-use Rattle.dm_event_steps.specs.Stands.{IsReady, IsLedgerOf, StoreStands, Runs, LiesDown, PrinterStands}
+use Rattle.dm_event_history.specs.Ledgers.{IsLedgerOf}
+use Rattle.dm_event_steps.specs.Stands.{IsReady, StoreStands, Runs, LiesDown, PrinterStands}
 use Rattle.dm_event_steps.specs.Acts.{Left, IsCalled, next_save_of, planned}
 use Rattle.dm_event_steps.specs.Goes.{PrinterGoes}
-use Rattle.dm_event_steps.proofs.Ledgers.{KeepsNumbers, numbers_quiet, numbers_keep}
+use Rattle.dm_event_history.specs.Numbers.{saved_at}
+use Rattle.dm_event_history.proofs.FreeNumbers.{not_saved}
+use Rattle.dm_event_steps.proofs.Ledgers.{numbers_keep}
 
 -- no call is both made and stopped
 pub not_both : (stop : Stop) → IsCalled stop → ¬ IsStopping stop
@@ -40,9 +44,17 @@ not_both BeforeSave called stopped = called
 not_both (InSave k) called stopped = called
 not_both (AfterLabels k) called stopped = called
 
--- the reply is one to the event, and no label left
+-- the reply is one to the event, which saved nothing, and no label left
 abbrev pub IsFine : {A : Type 0} → List Range → History A → ℕ → Event A → Reply A → Type 0
-IsFine ranges h id event reply = LetsOut event reply [] 0 × IsReply ranges h id 0 event reply
+IsFine ranges h id event reply = LetsOut event reply false [] 0 × IsReply ranges h id 0 event reply
+
+abbrev pub plain : {A : Type 0} → Event A → Reply A → ℕ → Bool → Entry A
+plain event reply id saved = record { event = event; reply = reply; id = id; parts = []; left = 0; saved = saved }
+
+-- a running printer does as its ledger lets it, if the event is a call that may save
+abbrev pub GoesPlainly : {A : Type 0} → List Range → History A → Event A → Reply A → ℕ → ℕ → Bool → Type 0
+GoesPlainly ranges h event reply p id saved =
+    IsSome (stop_of event) → is_down h (PrinterAt p) ≡ false → GoesByLedger ranges h (plain event reply id saved) p
 
 -- why the entry of an event is one that comes after this history, if no label left
 pub record IsPlain {A : Type 0} (ranges : List Range) (desks : ℕ) (h : History A) (event : Event A) (reply : Reply A)
@@ -54,16 +66,15 @@ pub record IsPlain {A : Type 0} (ranges : List Range) (desks : ℕ) (h : History
   pub down_so : NeedsRunning event → is_down h (PrinterAt p) ≡ true → reply ≡ Down
   pub stopped : reply ≡ Stopped → IsStopped event
   pub stops : is_down h (PrinterAt p) ≡ false → IsStopped event → (reply ≡ Stopped) ⊎ (reply ≡ Memory)
-  pub is_reply : IsFine ranges h id event reply
+  pub lets_out : LetsOut event reply saved [] 0
+  pub is_reply : IsReply ranges h id 0 event reply
   pub failed : is_failed h (PrinterAt p) ≡ true → IsOfFailed event reply × (saved ≡ false)
   pub told : tells_of_save reply ≡ true → saved ≡ true
   pub kept : (printer ticket : ℕ) → event ≡ Take printer ticket (SaveFault New) →
       reply ≡ TakeRefused take_fault.Save → saved ≡ true
   pub may : saved ≡ true → may_save event reply ≡ true
   pub moves : saved ≡ true → MayMove ranges h id event
-
-abbrev pub plain : {A : Type 0} → Event A → Reply A → ℕ → Bool → Entry A
-plain event reply id saved = record { event = event; reply = reply; id = id; parts = []; left = 0; saved = saved }
+  pub goes : GoesPlainly ranges h event reply p id saved
 
 pub plain_goes : {A : Type 0} (ranges : List Range) (desks : ℕ) (h : History A) (event : Event A) (reply : Reply A)
     (p id : ℕ) (saved : Bool)
@@ -76,8 +87,8 @@ plain_goes {A} ranges desks h event reply p id saved actor old new c stands same
   event_is = refl;
   reply_is = refl;
   fits = record {
-    reply = c.is_reply.1;
-    lets_out = c.is_reply.0;
+    reply = c.is_reply;
+    lets_out = c.lets_out;
     parts = λ none. absurd (omega arith);
     no_such = λ e. absurd (c.some_such e);
     there = λ _. c.there;
@@ -93,6 +104,11 @@ plain_goes {A} ranges desks h event reply p id saved actor old new c stands same
     left_saved = λ none. absurd (omega arith);
     saved = c.may;
     moves = c.moves;
+    goes = λ q call.
+        let same : PrinterAt p ≡ PrinterAt q = sym c.named ∙ call.named in
+        let one : p ≡ q = cc (same) in
+        subst (λ (i : ℕ). GoesByLedger ranges h (plain event reply id saved) i) one
+        (c.goes call.may_stop (ap (λ (i : ℕ). is_down h (PrinterAt i)) one ∙ call.running));
   };
   stands = stands;
   more = [];
@@ -180,7 +196,7 @@ runs_saved ranges e h p view mid plan next s up failed saves is = record {
 pub runs_same : {A : Type 0} (ranges : List Range) (e : Entry A) (h : History A) (p : ℕ) (view after : PrinterView) →
     Runs ranges h p view → after ≡ view → is_down (e ∷ h) (PrinterAt p) ≡ false →
     is_failed (e ∷ h) (PrinterAt p) ≡ is_failed h (PrinterAt p) →
-    KeepsNumbers e h p → Runs ranges (e ∷ h) p after
+    saved_at e p ≡ false → Runs ranges (e ∷ h) p after
 runs_same ranges e h p view after s same up failed numbers = subst (λ (v : PrinterView). Runs ranges (e ∷ h) p v)
     (sym same) (record {
       up = up;
@@ -237,15 +253,18 @@ pub record IsOutcome {A : Type 0} (ranges : List Range) (h : History A) (event :
   pub did : Bool
   pub stored : LedgerView
   pub store : StoreStands ranges (plain event Stopped id did ∷ h) p saved stored
+  pub lets_out : (let reply : Reply A = Stopped in LetsOut event reply did [] 0)
   pub failed : is_failed h (PrinterAt p) ≡ true → did ≡ false
   pub may : did ≡ true → (let reply : Reply A = Stopped in may_save event reply ≡ true)
   pub moves : did ≡ true → MayMove ranges h id event
+  pub goes : (let reply : Reply A = Stopped in GoesPlainly ranges h event reply p id did)
 
 -- nothing was saved
 pub none_saved : {A : Type 0} (ranges : List Range) (h : History A) (event : Event A) (p : ℕ) (view : PrinterView)
     (saved : Saved) →
-    Runs ranges h p view → saved ≡ view.saved → IsOutcome ranges h event p saved
-none_saved {A} ranges h event p view saved s same = record {
+    Runs ranges h p view → saved ≡ view.saved → (let reply : Reply A = Stopped in LetsOut event reply false [] 0) →
+    (let reply : Reply A = Stopped in GoesPlainly ranges h event reply p 0 false) → IsOutcome ranges h event p saved
+none_saved {A} ranges h event p view saved s same lets_out goes = record {
   id = 0;
   did = false;
   stored = s.stored;
@@ -253,29 +272,33 @@ none_saved {A} ranges h event p view saved s same = record {
     ready = s.store.ready;
     holds = s.store.holds;
     is = numbers_keep ranges (plain event Stopped 0 false) h p s.stored
-        (numbers_quiet (plain event Stopped 0 false) h p refl (λ x. cc)) s.store.is;
+        (not_saved (plain event Stopped 0 false) p refl) s.store.is;
   });
+  lets_out = lets_out;
   failed = λ _. refl;
   may = λ x. cc;
   moves = λ x. cc;
+  goes = goes;
 }
 
 -- a call that changed nothing leaves the store as it was
 pub none_changed : {A : Type 0} (ranges : List Range) (h : History A) (event : Event A) (p : ℕ)
     (view mid : PrinterView) →
     Runs ranges h p view → mid ≡ planned view next_save.Fine →
+    (let reply : Reply A = Stopped in LetsOut event reply false [] 0) →
+    (let reply : Reply A = Stopped in GoesPlainly ranges h event reply p 0 false) →
     IsOutcome ranges h event p (planned mid next_save.Fine).saved
-none_changed ranges h event p view mid s same =
+none_changed ranges h event p view mid s same lets_out goes =
     none_saved ranges h event p view (planned mid next_save.Fine).saved s
     (ap (λ (v : PrinterView). v.saved)
-    (ap (λ (v : PrinterView). planned v next_save.Fine) same ∙ fine_printer view next_save.Fine s.store.ready))
+    (ap (λ (v : PrinterView). planned v next_save.Fine) same ∙ fine_printer view next_save.Fine s.store.ready)) lets_out goes
 
 -- an event that is stopped before any label left
 pub outcome_goes : {A : Type 0} (ranges : List Range) (desks : ℕ) (h : History A) (event : Event A) (p : ℕ)
     (view : PrinterView) (saved : Saved)
     (actor : PrinterActor A) (old new : Left A) → actor_of event ≡ PrinterAt p → IsThere (length ranges) desks h event →
     Runs ranges h p view →
-    IsStopped event → ((id : ℕ) → (let reply : Reply A = Stopped in IsFine ranges h id event reply)) →
+    IsStopped event → ((id : ℕ) → (let reply : Reply A = Stopped in IsReply ranges h id 0 event reply)) →
     actor ≡ actors.Down saved →
     new.labels ≡ old.labels → new.tickets ≡ old.tickets → IsOutcome ranges h event p saved →
     PrinterGoes ranges desks h event Stopped p actor old new
@@ -289,12 +312,14 @@ outcome_goes {A} ranges desks h event p view saved actor old new named there s s
       down_so = λ _ d. let u = s.up in cc;
       stopped = λ _. stopping;
       stops = λ _ _. inl refl;
+      lets_out = o.lets_out;
       is_reply = is_reply o.id;
       failed = λ was. ((λ _. inr tt), o.failed was);
       told = λ x. cc;
       kept = λ q number asked is. absurd (cc (is));
       may = o.may;
       moves = o.moves;
+      goes = o.goes;
     }) (record {
       down = is_down_same (plain event Stopped o.id o.did) h (PrinterAt p) named;
       stored = o.stored;
@@ -319,19 +344,21 @@ down_goes {A} ranges desks h event p saved reply actor old new named there needs
       down_so = λ _ _. refl;
       stopped = λ x. cc;
       stops = λ up _. let d = s.down in cc;
-      is_reply = is_reply;
+      lets_out = is_reply.0;
+      is_reply = is_reply.1;
       failed = λ _. ((λ _. inr tt), refl);
       told = λ x. cc;
       kept = λ q number asked is. absurd (cc (is));
       may = λ x. cc;
       moves = λ x. cc;
+      goes = λ _ up. let d = s.down in cc;
     }) (record {
       down = is_down_same e h (PrinterAt p) named ∙ s.down;
       stored = s.stored;
       store = record {
         ready = s.store.ready;
         holds = s.store.holds;
-        is = numbers_keep ranges e h p s.stored (numbers_quiet e h p refl (λ x. cc)) s.store.is;
+        is = numbers_keep ranges e h p s.stored (not_saved e p refl) s.store.is;
       };
     }) (ap (λ (l : Left A). l.labels) same) (no_ticket old new same)))
 
@@ -345,10 +372,10 @@ pub kept_goes : {A : Type 0} (ranges : List Range) (desks : ℕ) (h : History A)
     failed_after reply (is_failed h (PrinterAt p)) ≡ is_failed h (PrinterAt p) →
     (is_failed h (PrinterAt p) ≡ true → IsOfFailed event reply) → ¬ (tells_of_save reply ≡ true) →
     given reply ≡ [] →
-    IsFine ranges h 0 event reply → new.labels ≡ old.labels → new.tickets ≡ old.tickets →
-    PrinterGoes ranges desks h event reply p (actors.Running after) old new
+    IsFine ranges h 0 event reply → GoesPlainly ranges h event reply p 0 false → new.labels ≡ old.labels →
+    new.tickets ≡ old.tickets → PrinterGoes ranges desks h event reply p (actors.Running after) old new
 kept_goes {A} ranges desks h event reply p view after old new named there s same some up unstopped stops_so down failed
-    refuses untold none is_reply labels tickets =
+    refuses untold none is_reply goes labels tickets =
     let e : Entry A = plain event reply 0 false in
     plain_goes ranges desks h event reply p 0 false (actors.Running after) old new (record {
       named = named;
@@ -358,15 +385,17 @@ kept_goes {A} ranges desks h event reply p view after old new named there s same
       down_so = λ _ d. let u = s.up in cc;
       stopped = λ x. absurd (unstopped x);
       stops = λ _ is. inr (stops_so is);
-      is_reply = is_reply;
+      lets_out = is_reply.0;
+      is_reply = is_reply.1;
       failed = λ was. (refuses was, refl);
       told = λ x. absurd (untold x);
       kept = λ q number asked is. absurd (unfailed q number asked is);
       may = λ x. cc;
       moves = λ x. cc;
+      goes = goes;
     }) (runs_same ranges e h p view after s same
     (is_down_same e h (PrinterAt p) named ∙ ap (down_after reply) s.up ∙ down)
-    (is_failed_same e h (PrinterAt p) named ∙ failed) (numbers_quiet e h p refl untold))
+    (is_failed_same e h (PrinterAt p) named ∙ failed) (not_saved e p refl))
     labels (tickets ∙ sym (append-nil old.tickets) ∙ ap (λ (l : List TicketView). old.tickets ++ l) (sym none))
   where
     -- a save that failed would have left the printer failed
@@ -390,11 +419,12 @@ pub refused_goes : {A : Type 0} (ranges : List Range) (desks : ℕ) (h : History
     failed_after reply (is_failed h (PrinterAt p)) ≡ is_failed h (PrinterAt p) →
     (is_failed h (PrinterAt p) ≡ true → IsOfFailed event reply) → ¬ (tells_of_save reply ≡ true) →
     given reply ≡ [] →
-    IsFine ranges h 0 event reply → new.labels ≡ old.labels → new.tickets ≡ old.tickets →
+    IsFine ranges h 0 event reply → GoesPlainly ranges h event reply p 0 false → new.labels ≡ old.labels →
+    new.tickets ≡ old.tickets →
     PrinterGoes ranges desks h event reply p (actors.Running (planned mid next_save.Fine)) old new
 refused_goes ranges desks h event reply p stop view mid old new named there s same called at some up unstopped down
-    failed refuses untold none is_reply labels tickets =
+    failed refuses untold none is_reply goes labels tickets =
     kept_goes ranges desks h event reply p view (planned mid next_save.Fine) old new named there s
     (ap (λ (v : PrinterView). planned v next_save.Fine) same ∙ fine_printer view (next_save_of stop) s.store.ready)
-    some up unstopped (λ is. absurd (not_both stop called (at is))) down failed refuses untold none is_reply labels
+    some up unstopped (λ is. absurd (not_both stop called (at is))) down failed refuses untold none is_reply goes labels
     tickets

@@ -1,9 +1,8 @@
 -- Each kind of answer to a print gives an entry that fits the history.
-use Rattle.std.proofs.Common.{◌≡◌, ◌≢◌, inl, inr, ◌<◌, ◌≤◌, ◌+◌, ℕ, true, false, Result, Ok, Err, List, [], ◌∷◌, ◌++◌, length, map, take, min, refl, ap, sym, ◌∙◌, subst, arith}
+use Rattle.std.proofs.Common.{◌≡◌, ◌≢◌, inl, inr, ◌<◌, ℕ, true, false, Result, Ok, Err, List, [], ◌∷◌, ◌++◌, length, map, take, min, refl, ap, sym, ◌∙◌, subst, arith}
 use Rattle.std.proofs.lemmas.List.{length-map, append-nil}
 use Rattle.dm_check_blocks.specs.declared.size.Size.{Size}
 use Rattle.dm_encodation.specs.declared.scheme.Scheme.{Scheme}
-use Rattle.dm_append_label.specs.Parts.{AreParts}
 use Rattle.dm_store.specs.declared.fuse.Kept.{Kept}
 use Rattle.dm_store.specs.declared.fuse.Kept.TheVariants.{Old, New}
 use Rattle.dm_store.specs.declared.mem_store.NextSave.TheVariants as next_save
@@ -11,7 +10,7 @@ use Rattle.dm_print_ledger.specs.declared.range.Range.{Range}
 use Rattle.dm_print_ledger.specs.declared.fault.PrintFault.{PrintFault}
 use Rattle.dm_print_ledger.specs.declared.fault.PrintFault.TheVariants as print_fault
 use Rattle.dm_print_ledger.specs.Views.{LedgerView, PrinterView, JobView}
-use Rattle.dm_print_ledger.specs.Printing.{Uses, IsJobOf, Prints, PrintsJob, FailsToPrint}
+use Rattle.dm_print_ledger.specs.Printing.{Uses, IsJobOf, CanPrint, Prints, PrintsJob, FailsToPrint}
 use Rattle.dm_event_history.specs.declared.event.Event.{Event}
 use Rattle.dm_event_history.specs.declared.event.Event.TheVariants.{Print}
 use Rattle.dm_event_history.specs.declared.reply.Reply.{Reply}
@@ -22,9 +21,9 @@ use Rattle.dm_event_history.specs.declared.stop.Stop.TheVariants as stops
 use Rattle.dm_event_history.specs.Actors.{PrinterAt}
 use Rattle.dm_event_history.specs.History.{Entry, History, CutDocument, names_from, out, tickets}
 use Rattle.dm_event_history.specs.Running.{failed_after, is_failed, IsOfFailed}
-use Rattle.dm_event_history.specs.Saving.{may_save}
-use Rattle.dm_event_history.specs.Numbers.{free_at, opening_count, gone, came}
-use Rattle.dm_event_history.specs.Legal.{IsStopping, IsPrintRefused}
+use Rattle.dm_event_history.specs.Numbers.{free_at}
+use Rattle.dm_event_history.specs.Legal.{IsStopping, IsPrintRefused, LetsOut}
+use Rattle.dm_event_history.specs.Ledgers.{GoesByLedger}
 use Rattle.dm_event_history.proofs.WhoActs.{is_down_same, is_failed_same}
 use Rattle.dm_event_steps.specs.declared.actor.PrinterActor.{PrinterActor}
 use Rattle.dm_event_steps.specs.declared.actor.PrinterActor.TheVariants as actors
@@ -33,8 +32,10 @@ use Rattle.dm_event_steps.specs.Labels.{name_of, left_labels}
 use Rattle.dm_event_steps.specs.Stands.{Runs, PrinterStands}
 use Rattle.dm_event_steps.specs.Acts.{Left, IsCalled, next_save_of, planned, StopsPrinter, TellsPrint, stopped_labels, PrintActs}
 use Rattle.dm_event_steps.specs.Goes.{PrinterGoes}
-use Rattle.dm_event_steps.proofs.Ledgers.{numbers_quiet, numbers_keep, ledger_used, none_free}
-use Rattle.dm_event_steps.proofs.PrinterGoing.{plain, plain_goes, no_ticket, not_failed, ledger_now, saved_with_none, failed_with_fault, store_saved, runs_saved, runs_failed, IsOutcome, none_saved, none_changed, outcome_goes, kept_goes, refused_goes}
+use Rattle.dm_event_history.proofs.FreeNumbers.{not_saved}
+use Rattle.dm_event_steps.proofs.Ledgers.{numbers_keep, ledger_used, none_free}
+use Rattle.dm_event_steps.proofs.GoingByLedger.{stored_after, view_after, with_stored, goes_saved, goes_unsaved}
+use Rattle.dm_event_steps.proofs.PrinterGoing.{plain, GoesPlainly, plain_goes, no_ticket, not_failed, ledger_now, saved_with_none, failed_with_fault, store_saved, runs_saved, runs_failed, IsOutcome, none_saved, none_changed, outcome_goes, kept_goes, refused_goes}
 use Rattle.dm_event_steps.proofs.JobLabels.{names_left, length-AreLabels, left_goes, length_take, take_left, some_there}
 
 -- the identification of a print is free
@@ -81,13 +82,14 @@ printed_goes {A} ranges desks h p document size scheme stop view mid job reply o
         left_saved = λ _. refl;
         saved = λ _. refl;
         moves = λ _. free;
+        goes = λ q call. subst (λ (i : ℕ). GoesByLedger ranges h e i) (cc (call.named))
+            (goes_saved ranges h e p view (view_after ranges h p view s was) tt prints.0 job_prints.used.least refl);
       };
       stands = runs_saved ranges e h p view mid (next_save_of stop) mid.ledger s (is_down_same e h (PrinterAt p) refl)
           (is_failed_same e h (PrinterAt p) refl)
           job_prints.saved
           (ledger_used ranges h p document size scheme stop reply' job.id prints.1 job.count view.ledger mid.ledger
-          (record { named = refl; saved = refl; may = refl; unfailed = sym s.failed ∙ was })
-          refl job_prints.used (ledger_now ranges h p view s was));
+          job_prints.used (ledger_now ranges h p view s was));
       more = left_labels job.id job.count 1 job.labels;
       labels_are = tells.1;
       names = names_left A job.id job.count 1 job.labels ∙ ap (λ n. names_from job.id job.count 1 n) many ∙
@@ -137,10 +139,11 @@ printed_goes {A} ranges desks h p document size scheme stop view mid job reply o
 failed_goes : {A : Type 0} (ranges : List Range) (desks : ℕ) (h : History A) (p : ℕ) (document : List ℕ) (size : Size)
     (scheme : Scheme)
     (k : Kept) (view mid : PrinterView) (old new : Left A) → p < length ranges → (s : Runs ranges h p view) →
+    CanPrint view size scheme document →
     FailsToPrint (planned view (next_save_of (SaveFault k))) mid → new ≡ old →
     PrinterGoes ranges desks h (Print p document size scheme (SaveFault k)) (PrintRefused print_fault.Save) p
     (actors.Running (planned mid next_save.Fine)) old new
-failed_goes {A} ranges desks h p document size scheme k view mid old new there s fails same = by_kept k fails
+failed_goes {A} ranges desks h p document size scheme k view mid old new there s can fails same = by_kept k fails
   where
     by_kept : (k : Kept) → FailsToPrint (planned view (next_save_of (SaveFault k))) mid →
         PrinterGoes ranges desks h (Print p document size scheme (SaveFault k)) (PrintRefused print_fault.Save) p
@@ -157,15 +160,17 @@ failed_goes {A} ranges desks h p document size scheme k view mid old new there s
           down_so = λ _ d. let u = s.up in cc;
           stopped = λ x. cc;
           stops = λ _ is. absurd is;
-          is_reply = (refl, (_, refl));
+          lets_out = refl;
+          is_reply = (_, refl);
           failed = not_failed ranges h p view s f.failed.was_running _;
           told = λ x. cc;
           kept = λ q number asked is. absurd (cc (is));
           may = λ x. cc;
           moves = λ x. cc;
+          goes = λ _ _. goes_unsaved ranges h e p view (view_after ranges h p view s can.0) can refl (λ x. cc);
         }) (runs_failed ranges e h p Old view mid f.unsaved s (is_down_same e h (PrinterAt p) refl)
         (is_failed_same e h (PrinterAt p) refl) f.failed
-        (numbers_keep ranges e h p s.stored (numbers_quiet e h p refl (λ x. cc)) s.store.is))
+        (numbers_keep ranges e h p s.stored (not_saved e p refl) s.store.is))
         (ap (λ (l : Left A). l.labels) same) (no_ticket old new same)
     by_kept New f =
         let event : Event A = Print p document size scheme (SaveFault New) in
@@ -180,17 +185,18 @@ failed_goes {A} ranges desks h p document size scheme k view mid old new there s
           down_so = λ _ d. let u = s.up in cc;
           stopped = λ x. cc;
           stops = λ _ is. absurd is;
-          is_reply = (refl, (_, refl));
+          lets_out = refl;
+          is_reply = (_, refl);
           failed = not_failed ranges h p view s f.failed.was_running _;
           told = λ x. cc;
           kept = λ q number asked is. absurd (cc (is));
           may = λ _. refl;
           moves = λ _. sym ((ledger_now ranges h p view s f.failed.was_running).free f.id) ∙ f.used.least.free;
+          goes = λ _ _. goes_saved ranges h e p view (view_after ranges h p view s can.0) can can f.used.least refl;
         }) (runs_failed ranges e h p New view mid f.unsaved s (is_down_same e h (PrinterAt p) refl)
         (is_failed_same e h (PrinterAt p) refl) f.failed
         (ledger_used ranges h p document size scheme (SaveFault New) reply f.id [] 0 view.ledger f.unsaved
-        (record { named = refl; saved = refl; may = refl; unfailed = sym s.failed ∙ f.failed.was_running })
-        refl f.used (ledger_now ranges h p view s f.failed.was_running)))
+        f.used (ledger_now ranges h p view s f.failed.was_running)))
         (ap (λ (l : Left A). l.labels) same) (no_ticket old new same)
 
 same_left : {A : Type 0} (old new : Left A) → new.labels ≡ old.labels → new.tickets ≡ old.tickets → new ≡ old
@@ -222,47 +228,84 @@ called_goes {A} ranges desks h p document size scheme stop view mid
         (let event : Event A = Print p document size scheme stop in let r : Reply A = PrintRefused f in
         is_failed h (PrinterAt p) ≡ true → IsOfFailed event r) →
         IsPrintRefused ranges h p (record { bytes = document; size = size; scheme = scheme; parts = [] }) stop f →
+        (let event : Event A = Print p document size scheme stop in let r : Reply A = PrintRefused f in
+        GoesPlainly ranges h event r p 0 false) →
         PrinterGoes ranges desks h (Print p document size scheme stop) (PrintRefused f) p
         (actors.Running (planned mid next_save.Fine)) old new
-    none_printed f same failed refuses why =
+    none_printed f same failed refuses why goes =
         refused_goes ranges desks h (Print p document size scheme stop)
         (PrintRefused f) p stop view mid old new refl there s same called (λ x. x)
-        (λ x. cc) (λ x. cc) (λ x. cc) refl failed refuses (λ x. cc) refl (refl, why) tells.1 tickets
+        (λ x. cc) (λ x. cc) (λ x. cc) refl failed refuses (λ x. cc) refl (refl, why) goes tells.1 tickets
+
+    -- the entry of a print that is refused so
+    told : PrintFault → Entry A
+    told f = plain (Print p document size scheme stop) (PrintRefused f) 0 false
 
     by_fault : (f : PrintFault) → Prints (planned view (next_save_of stop)) size scheme document (Err f) mid →
         PrinterGoes ranges desks h (Print p document size scheme stop) (PrintRefused f) p
         (actors.Running (planned mid next_save.Fine)) old new
     by_fault print_fault.Failed x = none_printed print_fault.Failed x.1 refl (λ _ _. inl tt) (sym s.failed ∙ x.0)
+        (λ _ _. goes_unsaved ranges h (told print_fault.Failed) p (with_stored view s.stored)
+        (stored_after ranges h p view s) x.0 refl (λ y. cc))
     by_fault print_fault.TooLong x = none_printed print_fault.TooLong x.1 refl
         (not_failed ranges h p view s x.0.0 _) x.0.1
+        (λ _ _. goes_unsaved ranges h (told print_fault.TooLong) p view (view_after ranges h p view s x.0.0) x.0 refl
+        (λ y. cc))
     by_fault print_fault.Exhausted x = none_printed print_fault.Exhausted x.1 refl
         (not_failed ranges h p view s x.0.0 _)
-        (let now = ledger_now ranges h p view s x.0.0 in
-        let b = now.bounded in
-        let z = x.0.2 in ((omega arith), (λ number. none_free ranges h p view.ledger now number z)))
+        (λ number. none_free ranges h p view.ledger (ledger_now ranges h p view s x.0.0) number x.0.2)
+        (λ _ _. goes_unsaved ranges h (told print_fault.Exhausted) p view (view_after ranges h p view s x.0.0) x.0 refl
+        (λ y. cc))
     by_fault print_fault.Memory x = none_printed print_fault.Memory x.1 refl
         (not_failed ranges h p view s x.0.0 _) tt
+        (λ _ _. goes_unsaved ranges h (told print_fault.Memory) p view (view_after ranges h p view s x.0.0) x.0 refl
+        (λ y. cc))
     by_fault print_fault.Save x =
         let k : (k : Kept) × (stop ≡ SaveFault k) = failed_with_fault stop view mid x.1.unsaved called x.1.failed in
         subst (λ (t : Stop). PrinterGoes ranges desks h (Print p document size scheme t)
         (PrintRefused print_fault.Save) p (actors.Running (planned mid next_save.Fine)) old new)
         (sym k.1)
-        (failed_goes ranges desks h p document size scheme k.0 view mid old new there s
+        (failed_goes ranges desks h p document size scheme k.0 view mid old new there s x.0
         (subst (λ (t : Stop). FailsToPrint (planned view (next_save_of t)) mid) k.1 x.1)
         (same_left old new tells.1 tickets))
 
--- what a print that was stopped before any label left has done
-stopped_outcome : {A : Type 0} (ranges : List Range) (desks : ℕ) (h : History A) (p : ℕ) (document : List ℕ)
-    (size : Size) (scheme : Scheme)
-    (stop : Stop) (view mid : PrinterView) (answer : Result JobView PrintFault) → Runs ranges h p view →
+-- a print that was refused, and then stopped, has done nothing
+refused_outcome : {A : Type 0} (ranges : List Range) (h : History A) (p : ℕ) (document : List ℕ) (size : Size)
+    (scheme : Scheme)
+    (stop : Stop) (view mid : PrinterView) (fault : PrintFault) → Runs ranges h p view →
     (let event : Event A = Print p document size scheme stop in let reply : Reply A = Stopped in
-    may_save event reply ≡ true) →
-    Prints (planned view next_save.Fine) size scheme document answer mid →
+    LetsOut event reply false [] 0) →
+    (let answer : Result JobView PrintFault = Err fault in
+    (answer ≢ Err print_fault.Memory) × Prints (planned view next_save.Fine) size scheme document answer mid) →
     (let event : Event A = Print p document size scheme stop in
     IsOutcome ranges h event p (planned mid next_save.Fine).saved)
-stopped_outcome {A} ranges desks h p document size scheme stop view mid (Ok job) s may prints =
-    let event : Event A = Print p document size scheme stop in
+refused_outcome ranges h p document size scheme stop view mid print_fault.Failed s lets_out made =
+    none_changed ranges h (Print p document size scheme stop) p view mid s made.1.1 lets_out
+    (λ _ _. goes_unsaved ranges h (plain (Print p document size scheme stop) Stopped 0 false) p (with_stored view s.stored)
+    (stored_after ranges h p view s) tt refl (λ _. (print_fault.Failed, made.1.0)))
+refused_outcome ranges h p document size scheme stop view mid print_fault.TooLong s lets_out made =
+    none_changed ranges h (Print p document size scheme stop) p view mid s made.1.1 lets_out
+    (λ _ _. goes_unsaved ranges h (plain (Print p document size scheme stop) Stopped 0 false) p view
+    (view_after ranges h p view s made.1.0.0) tt refl (λ _. (print_fault.TooLong, made.1.0)))
+refused_outcome ranges h p document size scheme stop view mid print_fault.Exhausted s lets_out made =
+    none_changed ranges h (Print p document size scheme stop) p view mid s made.1.1 lets_out
+    (λ _ _. goes_unsaved ranges h (plain (Print p document size scheme stop) Stopped 0 false) p view
+    (view_after ranges h p view s made.1.0.0) tt refl (λ _. (print_fault.Exhausted, made.1.0)))
+refused_outcome ranges h p document size scheme stop view mid print_fault.Memory s lets_out made =
+    absurd (made.0 refl)
+refused_outcome ranges h p document size scheme stop view mid print_fault.Save s lets_out made =
+    absurd made.1.1.failed.replaced.follows
+
+-- what a print that was stopped in its save has done, if the new content was kept
+saved_outcome : {A : Type 0} (ranges : List Range) (h : History A) (p : ℕ) (document : List ℕ) (size : Size)
+    (scheme : Scheme) (view mid : PrinterView) (answer : Result JobView PrintFault) → Runs ranges h p view →
+    (answer ≢ Err print_fault.Memory) × Prints (planned view next_save.Fine) size scheme document answer mid →
+    (let event : Event A = Print p document size scheme (InSave New) in
+    IsOutcome ranges h event p (planned mid next_save.Fine).saved)
+saved_outcome {A} ranges h p document size scheme view mid (Ok job) s made =
+    let event : Event A = Print p document size scheme (InSave New) in
     let e : Entry A = plain event Stopped job.id true in
+    let prints = made.1 in
     let saved = prints.3.saved in
     let was : view.is_failed ≡ false = saved.was_running in
     record {
@@ -270,23 +313,16 @@ stopped_outcome {A} ranges desks h p document size scheme stop view mid (Ok job)
       did = true;
       stored = mid.ledger;
       store = store_saved ranges e h p view mid next_save.Fine mid.ledger s.store.ready saved
-          (ledger_used ranges h p document size scheme stop Stopped job.id [] 0 view.ledger mid.ledger
-          (record { named = refl; saved = refl; may = may; unfailed = sym s.failed ∙ was })
-          refl prints.3.used (ledger_now ranges h p view s was));
+          (ledger_used ranges h p document size scheme (InSave New) Stopped job.id [] 0 view.ledger mid.ledger
+          prints.3.used (ledger_now ranges h p view s was));
+      lets_out = refl;
       failed = not_failed ranges h p view s was _;
-      may = λ _. may;
+      may = λ _. refl;
       moves = λ _. sym ((ledger_now ranges h p view s was).free job.id) ∙ prints.3.used.least.free;
+      goes = λ _ _. goes_saved ranges h e p view (view_after ranges h p view s was) tt prints.0 prints.3.used.least refl;
     }
-stopped_outcome {A} ranges desks h p document size scheme stop view mid (Err print_fault.Failed) s may prints =
-    none_changed ranges h (Print p document size scheme stop) p view mid s prints.1
-stopped_outcome {A} ranges desks h p document size scheme stop view mid (Err print_fault.TooLong) s may prints =
-    none_changed ranges h (Print p document size scheme stop) p view mid s prints.1
-stopped_outcome {A} ranges desks h p document size scheme stop view mid (Err print_fault.Exhausted) s may prints =
-    none_changed ranges h (Print p document size scheme stop) p view mid s prints.1
-stopped_outcome {A} ranges desks h p document size scheme stop view mid (Err print_fault.Memory) s may prints =
-    none_changed ranges h (Print p document size scheme stop) p view mid s prints.1
-stopped_outcome {A} ranges desks h p document size scheme stop view mid (Err print_fault.Save) s may prints =
-    absurd prints.1.failed.replaced.follows
+saved_outcome ranges h p document size scheme view mid (Err fault) s made =
+    refused_outcome ranges h p document size scheme (InSave New) view mid fault s refl made
 
 -- a print that was stopped once that many labels had left
 some_goes : {A : Type 0} (ranges : List Range) (desks : ℕ) (h : History A) (p : ℕ) (document : List ℕ) (size : Size)
@@ -304,8 +340,8 @@ some_goes {A} ranges desks h p document size scheme most view mid job actor old 
       event_is = refl;
       reply_is = refl;
       fits = record {
-        reply = λ some parts are unfailed has. lets some;
-        lets_out = inr (most, refl, left_is);
+        reply = tt;
+        lets_out = (prints.2, left_is);
         parts = λ _. prints.2;
         no_such = λ x. cc;
         there = λ _. there;
@@ -318,6 +354,8 @@ some_goes {A} ranges desks h p document size scheme most view mid job actor old 
         left_saved = λ _. refl;
         saved = λ _. refl;
         moves = λ _. free;
+        goes = λ q call. subst (λ (i : ℕ). GoesByLedger ranges h e i) (cc (call.named))
+            (goes_saved ranges h e p view (view_after ranges h p view s was) tt prints.0 job_prints.used.least refl);
       };
       stands = subst (λ (a : PrinterActor A). PrinterStands ranges (e ∷ h) p a) (sym is) (record {
         down = is_down_same e h (PrinterAt p) refl;
@@ -325,7 +363,7 @@ some_goes {A} ranges desks h p document size scheme most view mid job actor old 
         store = store_saved ranges e h p view mid next_save.Fine mid.ledger s.store.ready job_prints.saved
             (ledger_used ranges h p document size scheme
             (AfterLabels most) Stopped job.id prints.1 left view.ledger mid.ledger
-            (record { named = refl; saved = refl; may = refl; unfailed = sym s.failed ∙ was }) refl job_prints.used
+            job_prints.used
             (ledger_now ranges h p view s was));
       });
       more = left_labels job.id job.count 1 (take most job.labels);
@@ -369,28 +407,6 @@ some_goes {A} ranges desks h p document size scheme most view mid job actor old 
     left_is : length (take most job.labels) ≡ min most (length prints.1)
     left_is = length_take most job.labels ∙ ap (min most) (length-AreLabels _ _ _ _ _ prints.1 job.labels made.labels)
 
-    -- a document has a label at least
-    lets : 1 ≤ most → 1 ≤ length (take most job.labels)
-    lets some = (let least = made.least in let count : job.count ≡ length prints.1 = made.count_is in
-        let n = left_is in omega arith)
-
--- a printer that has not failed and has a number left prints a document that can be cut, unless memory is refused
-can_print : {A : Type 0} (ranges : List Range) (h : History A) (p : ℕ) (document : List ℕ) (size : Size)
-    (scheme : Scheme) (view mid : PrinterView) (fault : PrintFault) → Runs ranges h p view →
-    (let answer : Result JobView PrintFault = Err fault in
-    (answer ≢ Err print_fault.Memory) × Prints (planned view next_save.Fine) size scheme document answer mid) →
-    (parts : List (List ℕ)) → AreParts size scheme document parts → is_failed h (PrinterAt p) ≡ false →
-    gone h p < opening_count ranges p + came h p → ⊥
-can_print ranges h p document size scheme view mid print_fault.Failed s acts parts are unfailed has =
-    (let failed : view.is_failed ≡ true = acts.1.0 in let same = s.failed in cc (failed, same, unfailed))
-can_print ranges h p document size scheme view mid print_fault.TooLong s acts parts are unfailed has =
-    acts.1.0.1 are.ends are.are_ends
-can_print ranges h p document size scheme view mid print_fault.Exhausted s acts parts are unfailed has =
-    (let b = (ledger_now ranges h p view s acts.1.0.0).bounded in let z = acts.1.0.2 in omega arith)
-can_print ranges h p document size scheme view mid print_fault.Memory s acts parts are unfailed has = acts.0 refl
-can_print ranges h p document size scheme view mid print_fault.Save s acts parts are unfailed has =
-    absurd acts.1.1.failed.replaced.follows
-
 -- a print that is stopped
 stop_goes : {A : Type 0} (ranges : List Range) (desks : ℕ) (h : History A) (p : ℕ) (document : List ℕ) (size : Size)
     (scheme : Scheme)
@@ -403,19 +419,23 @@ stop_goes : {A : Type 0} (ranges : List Range) (desks : ℕ) (h : History A) (p 
     PrinterGoes ranges desks h (Print p document size scheme stop) Stopped p actor old new
 stop_goes {A} ranges desks h p document size scheme BeforeSave view answer actor old new there s labels tickets acts =
     outcome_goes ranges desks h (Print p document size scheme BeforeSave) p view view.saved actor old new refl there s
-    tt (λ id. (inl refl, tt)) acts
+    tt (λ id. tt) acts
     (labels ∙ append-nil old.labels) tickets
-    (none_saved ranges h (Print p document size scheme BeforeSave) p view view.saved s refl)
+    (none_saved ranges h (Print p document size scheme BeforeSave) p view view.saved s refl refl
+    (λ _ _. goes_unsaved ranges h (plain (Print p document size scheme BeforeSave) Stopped 0 false) p
+    (with_stored view s.stored) (stored_after ranges h p view s) tt refl (λ x. cc)))
 stop_goes {A} ranges desks h p document size scheme (InSave Old) view answer actor old new there s labels tickets acts =
     outcome_goes ranges desks h (Print p document size scheme (InSave Old)) p view view.saved actor old new refl there s
-    tt (λ id. (inl refl, tt)) acts
+    tt (λ id. tt) acts
     (labels ∙ append-nil old.labels) tickets
-    (none_saved ranges h (Print p document size scheme (InSave Old)) p view view.saved s refl)
+    (none_saved ranges h (Print p document size scheme (InSave Old)) p view view.saved s refl refl
+    (λ _ _. goes_unsaved ranges h (plain (Print p document size scheme (InSave Old)) Stopped 0 false) p
+    (with_stored view s.stored) (stored_after ranges h p view s) tt refl (λ x. cc)))
 stop_goes {A} ranges desks h p document size scheme (InSave New) view answer actor old new there s labels tickets acts =
     outcome_goes ranges desks h (Print p document size scheme (InSave New)) p view
     (planned acts.0 next_save.Fine).saved actor old new refl there s tt
-    (λ id. (inl refl, tt)) acts.2 (labels ∙ append-nil old.labels) tickets
-    (stopped_outcome ranges desks h p document size scheme (InSave New) view acts.0 answer s refl acts.1.1)
+    (λ id. tt) acts.2 (labels ∙ append-nil old.labels) tickets
+    (saved_outcome ranges h p document size scheme view acts.0 answer s acts.1)
 stop_goes {A} ranges desks h p document size scheme (AfterLabels most) view
     (Ok job) actor old new there s labels tickets acts =
     some_goes ranges desks h p document size scheme most view acts.0 job actor old new there s acts.1.1 acts.2
@@ -424,12 +444,8 @@ stop_goes {A} ranges desks h p document size scheme (AfterLabels most) view
     (Err fault) actor old new there s labels tickets acts =
     outcome_goes ranges desks h (Print p document size scheme (AfterLabels most)) p view
     (planned acts.0 next_save.Fine).saved actor old new refl there s tt
-    (λ id. (
-      inl refl,
-      λ some parts are unfailed has. absurd (can_print ranges h p document size scheme view acts.0 fault
-          s acts.1 parts are unfailed has),
-    )) acts.2 (labels ∙ append-nil old.labels) tickets
-    (stopped_outcome ranges desks h p document size scheme (AfterLabels most) view acts.0 (Err fault) s refl acts.1.1)
+    (λ id. tt) acts.2 (labels ∙ append-nil old.labels) tickets
+    (refused_outcome ranges h p document size scheme (AfterLabels most) view acts.0 fault s refl acts.1)
 stop_goes ranges desks h p document size scheme stops.None view answer actor old new there s labels tickets acts =
     absurd acts
 stop_goes ranges desks h p document size scheme (SaveFault k) view answer actor old new there s labels tickets acts =
@@ -449,7 +465,9 @@ print_goes {A} ranges desks h p document size scheme stop reply view actor old n
     (subst (λ (a : PrinterActor A). PrinterGoes ranges desks h (Print p document size scheme stop) Memory p a old new)
     (sym none.1)
     (kept_goes ranges desks h (Print p document size scheme stop) Memory p view view old new refl there s refl
-    (λ x. cc) (λ x. cc) (λ x. cc) (λ _. refl) refl refl (λ _ _. inr tt) (λ x. cc) refl (refl, tt) none.2 tickets))
+    (λ x. cc) (λ x. cc) (λ x. cc) (λ _. refl) refl refl (λ _ _. inr tt) (λ x. cc) refl (refl, tt)
+    (λ _ _. goes_unsaved ranges h (plain (Print p document size scheme stop) Memory 0 false) p
+    (with_stored view s.stored) (stored_after ranges h p view s) tt refl (λ x. cc)) none.2 tickets))
 print_goes {A} ranges desks h p document size scheme stop reply view actor old new there s outs tickets
     (inr (inl called)) =
     subst (λ (a : PrinterActor A). PrinterGoes ranges desks h (Print p document size scheme stop) reply p a old new)

@@ -15,7 +15,8 @@ use Rattle.dm_event_steps.specs.declared.actor.PrinterActor.TheVariants as actor
 use Rattle.dm_event_steps.specs.Stands.{StoreStands, Runs, LiesDown, PrinterStands}
 use Rattle.dm_event_steps.specs.Acts.{Left, saved_of, RestartActs}
 use Rattle.dm_event_steps.specs.Goes.{PrinterGoes}
-use Rattle.dm_event_steps.proofs.Ledgers.{numbers_quiet, numbers_keep}
+use Rattle.dm_event_history.proofs.FreeNumbers.{not_saved}
+use Rattle.dm_event_steps.proofs.Ledgers.{numbers_keep}
 use Rattle.dm_event_steps.proofs.PrinterGoing.{plain, plain_goes, no_ticket}
 
 -- what a store of a printer stands for
@@ -41,7 +42,7 @@ restart_goes {A} ranges desks h p Restarted was actor old new there s same acts 
           (record {
             ready = t.1.ready;
             holds = t.1.holds;
-            is = numbers_keep ranges e h p t.0 (numbers_quiet e h p refl (λ x. cc)) t.1.is;
+            is = numbers_keep ranges e h p t.0 (not_saved e p refl) t.1.is;
           });
       shows = λ _. acts.2.shows t.0 t.1.holds t.1.is.number;
     } in
@@ -53,12 +54,14 @@ restart_goes {A} ranges desks h p Restarted was actor old new there s same acts 
       down_so = λ x. absurd x;
       stopped = λ x. cc;
       stops = λ _ x. absurd x;
-      is_reply = (refl, tt);
+      lets_out = refl;
+      is_reply = tt;
       failed = λ _. ((λ saves. absurd (let x : false ≡ true = saves in cc (x))), refl);
       told = λ x. cc;
       kept = λ q number asked is. absurd (cc (is));
       may = λ x. cc;
       moves = λ x. cc;
+      goes = λ x. absurd (cc (x));
     }) (subst (λ (a : PrinterActor A). PrinterStands ranges (e ∷ h) p a) (sym acts.1) runs)
     (ap (λ (l : Left A). l.labels) same) (no_ticket old new same)
 restart_goes {A} ranges desks h p (PrinterRefused fault) was actor old new there s same acts =
@@ -71,7 +74,7 @@ restart_goes {A} ranges desks h p (PrinterRefused fault) was actor old new there
       store = record {
         ready = t.1.ready;
         holds = t.1.holds;
-        is = numbers_keep ranges e h p t.0 (numbers_quiet e h p refl (λ x. cc)) t.1.is;
+        is = numbers_keep ranges e h p t.0 (not_saved e p refl) t.1.is;
       };
     } in
     plain_goes ranges desks h event (PrinterRefused fault) p 0 false actor old new (record {
@@ -82,12 +85,14 @@ restart_goes {A} ranges desks h p (PrinterRefused fault) was actor old new there
       down_so = λ x. absurd x;
       stopped = λ x. cc;
       stops = λ _ x. absurd x;
-      is_reply = (refl, acts.1 t.0 t.1.holds t.1.is.number);
+      lets_out = refl;
+      is_reply = acts.1 t.0 t.1.holds t.1.is.number;
       failed = λ _. ((λ saves. absurd (let x : false ≡ true = saves in cc (x))), refl);
       told = λ x. cc;
       kept = λ q number asked is. absurd (cc (is));
       may = λ x. cc;
       moves = λ x. cc;
+      goes = λ x. absurd (cc (x));
     }) (subst (λ (a : PrinterActor A). PrinterStands ranges (e ∷ h) p a) (sym acts.0) lies)
     (ap (λ (l : Left A). l.labels) same) (no_ticket old new same)
 restart_goes ranges desks h p reply was actor old new there s same acts = absurd acts

@@ -30,7 +30,7 @@ use Rattle.dm_event_steps.specs.DeskStands.{DeskStands}
 use Rattle.dm_event_steps.specs.Goes.{PrinterGoes, quiet, DeskGoes, ExportsGo}
 use Rattle.dm_event_steps.specs.Worlds.{WorldView, left_of, grids_of, IsNamed}
 use Rattle.dm_event_steps.specs.StandsFor.{StandsFor}
-use Rattle.dm_event_steps.proofs.Ledgers.{numbers_other}
+use Rattle.dm_event_history.proofs.FreeNumbers.{saved_elsewhere}
 use Rattle.dm_event_steps.proofs.DeskGoing.{none_leaves}
 use Rattle.dm_event_steps.proofs.WorldGoing.{get_set_same, get_set_other, get_map, get_map_from, clean_before, quiet_other, printer_keeps, desk_keeps, fresh_of, grids_more, goes_on}
 
@@ -210,7 +210,7 @@ printer_steps {A} ranges capacities world new h event reply p actor after s name
                 (let away : actor_of g.entry.event ≢ PrinterAt q =
                 (λ is. other (let x : PrinterAt p ≡ PrinterAt q = sym own ∙ is in cc)) in
                 printer_keeps ranges g.entry h q b (quiet_other g.entry h (PrinterAt q) away)
-                (numbers_other g.entry h q away)
+                (saved_elsewhere g.entry q away)
                 (s.printers q b (sym (get_set_other world.printers p q after other) ∙ now)))
           ];
       desk_count = ap length desks_same ∙ s.desk_count;
@@ -279,7 +279,7 @@ desk_steps {A} ranges capacities world new h event reply d capacity actor after 
       count = ap length printers_same ∙ s.count;
       printers = λ q b b_there.
           printer_keeps ranges e h q b (quiet_other e h (PrinterAt q) (λ is. not_printer d q (sym named ∙ is)))
-          (numbers_other e h q (λ is. not_printer d q (sym named ∙ is)))
+          (saved_elsewhere e q (λ is. not_printer d q (sym named ∙ is)))
           (s.printers q b (subst (λ (l : List (PrinterActor A)). slice_get l q ≡ Some b) printers_same b_there));
       desk_count = ap length set ∙ length-set world.desks d (record { capacity = actor.capacity; state = after }) ∙
           s.desk_count;

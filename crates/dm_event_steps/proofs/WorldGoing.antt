@@ -1,5 +1,5 @@
 -- What an entry leaves of the printers and desks that it does not name, and of what left.
-use Rattle.std.proofs.Common.{◌≡◌, ◌≢◌, ◌<◌, ◌+◌, inl, inr, ℕ, zero, suc, Some, None, List, [], ◌∷◌, ◌++◌, length, map, slice_get, slice_set, refl, ap, sym, ◌∙◌, subst}
+use Rattle.std.proofs.Common.{◌≡◌, ◌≢◌, ◌<◌, ◌+◌, inl, inr, ℕ, zero, suc, Some, None, List, [], ◌∷◌, ◌++◌, length, map, slice_get, slice_set, refl, ap, sym, ◌∙◌, subst, false}
 use Rattle.std.proofs.lemmas.List.{map-append}
 use Rattle.dm_finder_frame.specs.Grids.{GridView}
 use Rattle.dm_append_label.specs.declared.fault.LabelFault.{LabelFault}
@@ -39,7 +39,8 @@ use Rattle.dm_event_steps.specs.Stands.{PrinterStands}
 use Rattle.dm_event_steps.specs.DeskStands.{DeskStands}
 use Rattle.dm_event_steps.specs.Worlds.{WorldView, grids_of}
 use Rattle.dm_event_steps.specs.StandsFor.{StandsFor}
-use Rattle.dm_event_steps.proofs.Ledgers.{KeepsNumbers, numbers_keep}
+use Rattle.dm_event_history.specs.Numbers.{saved_at}
+use Rattle.dm_event_steps.proofs.Ledgers.{numbers_keep}
 use Rattle.dm_event_steps.proofs.Exports.{parts_keep}
 use Rattle.dm_event_steps.proofs.DeskGoing.{set_keeps, running_keeps}
 
@@ -211,7 +212,7 @@ pub quiet_other : {A : Type 0} (e : Entry A) (h : History A) (a : Actor) → act
 quiet_other e h a other = record { down = is_down_other e h a other; failed = is_failed_other e h a other }
 
 pub printer_keeps : {A : Type 0} (ranges : List Range) (e : Entry A) (h : History A) (p : ℕ) (actor : PrinterActor A) →
-    IsQuietFor e h (PrinterAt p) → KeepsNumbers e h p → PrinterStands ranges h p actor →
+    IsQuietFor e h (PrinterAt p) → saved_at e p ≡ false → PrinterStands ranges h p actor →
     PrinterStands ranges (e ∷ h) p actor
 printer_keeps ranges e h p (printers.Running view) quiet numbers s = record {
   up = quiet.down ∙ s.up;
