@@ -593,11 +593,18 @@ can_take h view serial own is up free none some low = by_fault
 
     -- the numbers that are free then are in two ranges
     one_way : (joined : List Range) → PutsIn view.ledger.free own joined → joined ≡ own ∷ range 10 19 ∷ []
-    one_way joined puts = one_list 0 joined (own ∷ range 10 19 ∷ []) puts.ranges
-        (omega arith, record { not_empty = some; within = omega arith }, (omega arith, record {
+    one_way joined puts = one_list 0 joined (own ∷ range 10 19 ∷ []) puts.ranges (
+      omega arith,
+      record { not_empty = some; within = omega arith },
+      (
+        omega arith,
+        record {
           not_empty = omega arith;
           within = omega arith;
-        }, tt))
+        },
+        tt,
+      ),
+    )
         (λ n. puts.free n ∙ ap (λ (b : Bool). is_in own n || b) (free_is n ∙ sym (or_false (is_in (range 10 19) n))))
 
     apart : (number : ℕ) → is_in own number ≡ true → is_in (range 10 19) number ≡ true → ⊥
