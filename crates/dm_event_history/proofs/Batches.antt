@@ -13,7 +13,7 @@ use Rattle.dm_event_history.specs.declared.event.Event.TheVariants.{Print}
 use Rattle.dm_event_history.specs.declared.reply.Reply.{Reply}
 use Rattle.dm_event_history.specs.declared.reply.Reply.TheVariants.{Printed, Stopped}
 use Rattle.dm_event_history.specs.History.{Entry, History, CutDocument, LabelName, names_from, out, printed_by, events_of, replies_of}
-use Rattle.dm_event_history.specs.Legal.{Fits, IsReply, IsLegal, LetsSomeOut, LetsOut, IsUnused}
+use Rattle.dm_event_history.specs.Legal.{Fits, IsReply, IsLegal, LetsOutStopped, LetsOut, IsUnused}
 use Rattle.dm_append_label.specs.Parts.{AreParts}
 use Rattle.dm_event_history.specs.Headline.{Batch, count_of, IsPrintOf, LeftBy, labels_of}
 use Rattle.dm_event_history.specs.Headline as headline
@@ -227,7 +227,7 @@ pub last_prints : {A : Type 0} (ranges : List Range) (desks : ℕ) (h : History 
 last_prints {A} ranges desks h e fits some = by_entry e.event e.reply fits.reply fits.lets_out (fits.parts some)
   where
     -- labels left by a print that was stopped, so its stop lets some out
-    stopped_so : (stop : Stop) (saved : Bool) (cut : CutDocument) → LetsSomeOut stop saved cut e.left →
+    stopped_so : (stop : Stop) (saved : Bool) (cut : CutDocument) → LetsOutStopped stop saved cut e.left →
         (most : ℕ) × (stop ≡ AfterLabels most) × (e.left ≡ min most (length cut.parts))
     stopped_so (AfterLabels most) true cut lets = (most, refl, lets.1)
     stopped_so stop saved cut lets = absurd (omega arith)

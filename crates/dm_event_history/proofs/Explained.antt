@@ -89,6 +89,29 @@ of_hidden {A} ranges desks batches events replies x =
       batches_are = ap batches_of same ∙ x.batches_are;
     }
 
+-- the history behind a run is that of what its replies don't tell
+pub record IsBehindRun {A : Type 0} (ranges : List Range) (desks : ℕ) (events : List (Event A))
+    (replies : List (Reply A)) (h : History A) : Type 0 where
+  pub hidden : List Hidden
+  pub count : length hidden ≡ length events
+  pub same : history_of events replies hidden [] ≡ h
+  pub legal : IsLegal ranges desks (history_of events replies hidden [])
+
+pub behind_run : {A : Type 0} (ranges : List Range) (desks : ℕ) (batches : List (Option Batch))
+    (events : List (Event A)) (replies : List (Reply A)) → (x : HasHistory ranges desks batches events replies) →
+    IsBehindRun ranges desks events replies x.history
+behind_run {A} ranges desks batches events replies x =
+    let h = x.history in
+    let is : history_of events replies (hidden_of h) [] ≡ h =
+    ap (λ (l : List (Event A)). history_of l replies (hidden_of h) []) (sym x.events_are) ∙
+    ap (λ (l : List (Reply A)). history_of (events_of h) l (hidden_of h) []) (sym x.replies_are) ∙
+    is_whole h in record {
+      hidden = hidden_of h;
+      count = hidden_count h ∙ sym (events_count h) ∙ ap length x.events_are;
+      same = is;
+      legal = subst (λ (l : History A). IsLegal ranges desks l) (sym is) x.legal;
+    }
+
 -- what came first is legal, and its batches are the first
 pub first_legal : {A : Type 0} (ranges : List Range) (desks : ℕ) (events : List (Event A)) (replies : List (Reply A))
     (hidden : List Hidden) (before : History A) → IsLegal ranges desks (history_of events replies hidden before) →

@@ -30,7 +30,9 @@ use Rattle.dm_event_history.specs.Honest.{IsBeyond, IsHonestlyRefused, IsHonestl
 use Rattle.dm_event_history.specs.Masks.{HasPage}
 use Rattle.dm_event_history.specs.Holding.{MayTake, IsPossiblyHeld, known_of}
 use Rattle.dm_event_history.specs.Headline.{Batch, count_of, labels_of, IsScanOf, MayHaveSaved, WasScanned, LeftBefore, WasPrinted, WasBegun, IsOfFrame, MayRefuse, MayNotImport, PrintsOnceBy, known_before, IsFaithfulBy}
-use Rattle.dm_event_history.proofs.Batches.{batch_of, batches_of, at_last, events_count, replies_count, batches_count, before_or_last, take_keeps, in_either, out_is, label_in, whole_before}
+use Rattle.dm_event_history.specs.Held.{AreHeld}
+use Rattle.dm_event_history.proofs.Holdings.{held_after}
+use Rattle.dm_event_history.proofs.Batches.{same_batches, batch_of, batches_of, at_last, events_count, replies_count, batches_count, before_or_last, take_keeps, in_either, out_is, label_in, whole_before}
 use Rattle.dm_event_history.proofs.Replied.{failed_at_last}
 use Rattle.dm_event_history.proofs.PrintsOnce.{prints_once}
 use Rattle.dm_event_history.proofs.Tainting.{IsFirst, first_whole, first_less, last_asked, clean_of, BringsUntainted, IsUntainted, untainted_at, last_brings, last_clean}
@@ -643,10 +645,10 @@ one_document {A} ranges desks batches events replies i j id one other f a b =
 pub is_faithful : {A : Type 0} (ranges : List Range) (h : History A) (grids : List GridView)
     (capacities : List ℕ) (marks : List Bool) → AreDisjoint ranges → IsLegal ranges (length capacities) h →
     NeverTwice h → AreMarkedFair grids (events_of h) marks (replies_of h) → IsSafe grids h →
-    AreHonestReplies grids capacities h →
+    AreHonestReplies grids capacities h → AreHeld grids capacities h →
     IsFaithfulBy ranges capacities (batches_of h) (events_of h) marks (replies_of h)
-is_faithful {A} ranges h grids capacities marks apart legal never fair safe honest = record {
-  prints = once;
+is_faithful {A} ranges h grids capacities marks apart legal never fair safe honest held = record {
+  prints = explained;
   each_mark = fair.count;
   scanned = scans;
   framed = λ i desk label flips stop fault asked answered mark.
@@ -670,10 +672,25 @@ is_faithful {A} ranges h grids capacities marks apart legal never fair safe hone
   not_imported = λ i desk export stop fault asked answered clean clean_too.
       answers i (Import desk export stop) (ImportRefused fault) desk asked answered refl (λ none. cc (none)) clean_too
       clean;
+  held = λ i desk capacity below here untainted.
+      held_after grids capacities (events_of h) marks (replies_of h) fair h (first_whole h) held i desk capacity
+      (let all = events_count h in omega arith) here untainted;
 }
   where
     once : PrintsOnceBy ranges (length capacities) (batches_of h) (events_of h) (replies_of h)
     once = prints_once ranges (length capacities) h apart legal never
+
+    -- by this very history
+    explained : PrintsOnceBy ranges (length capacities) (batches_of h) (events_of h) (replies_of h)
+    explained = record once {
+      explained = record {
+        history = h;
+        events_are = refl;
+        replies_are = refl;
+        batches_are = same_batches ranges (length capacities) h legal;
+        legal = legal;
+      };
+    }
 
     tells : (i : ℕ) (event : Event A) (reply : Reply A) (desk : ℕ) → slice_get (events_of h) i ≡ Some event →
         slice_get (replies_of h) i ≡ Some reply → actor_of event ≡ DeskAt desk →

@@ -20,10 +20,12 @@ pub mod PrintsOnce
 pub mod RisingTickets
 pub mod TakesOnce
 pub mod ImportsExports
+pub mod Holdings
 pub mod Faithful
 pub mod WorkedOut
 pub mod RightHistory
 pub mod Right
 pub mod Explained
 pub mod RefutedLedgers
+pub mod RefutedHoldings
 pub mod Refuted

@@ -33,6 +33,7 @@ use Rattle.dm_event_history.specs.Holding.{MayTake, MayForget}
 use Rattle.dm_event_history.specs.Imports.{exports_in}
 use Rattle.dm_event_history.specs.Tainted.{AtDesk, InExport}
 use Rattle.dm_event_history.proofs.Tainting.{untainted, is_tainted, untainted_by}
+use Rattle.dm_event_history.proofs.RefutedHoldings.{beyond_its_room_is, full_of_nothing_is, lost_by_a_stop_is, held_though_forgotten_is}
 use Rattle.dm_event_history.proofs.RefutedLedgers.{exhausted_at_first_is, exhausted_by_itself_is, exhausted_by_no_range_is, exhausted_by_a_refused_give_is, exhausted_though_failed_is, too_long_of_few_is, first_lets_out, second_lets_out, first_is_own, given_of_another_is, given_though_printed_is, given_again_is, printed_above_the_least_is, printed_untaken_is, printed_of_anothers_ticket_is, given_after_taken_is, printed_of_overtaken_is, given_of_overtaken_is, printed_of_old_is, printed_after_exhausted_is, given_after_exhausted_is, given_though_used_is, printed_though_given_is, refused_though_taken_is, given_of_falling_takes_is, serial_skipped_is, refused_though_free_is, refused_though_for_it_is}
 use Rattle.dm_print_ledger.specs.declared.range.Range.{Range}
 use Rattle.dm_print_ledger.specs.Ranges.{is_in}
@@ -1697,6 +1698,10 @@ are_unfaithful A = record {
   imported_at_last_is = imported_at_last_is A;
   exported_in_part_is = exported_in_part_is A;
   added_again_is = added_again_is A;
+  lost_by_a_stop_is = lost_by_a_stop_is A;
+  held_though_forgotten_is = held_though_forgotten_is A;
+  beyond_its_room_is = beyond_its_room_is A;
+  full_of_nothing_is = full_of_nothing_is A;
   refused_label_is = refused_label_is A;
   refused_for_nothing_is = refused_for_nothing_is A;
   refused_frame_is = refused_frame_is A;

@@ -28,7 +28,7 @@ use Rattle.dm_event_history.specs.History.{Entry, History}
 use Rattle.dm_event_history.specs.Actors.{PrinterAt}
 use Rattle.dm_event_history.specs.Numbers.{free_at, last_serial}
 use Rattle.dm_event_history.specs.Ledgers.{GoesByLedger, IsPrinterAfter}
-use Rattle.dm_event_history.specs.Legal.{Fits, IsLegal, LetsSomeOut}
+use Rattle.dm_event_history.specs.Legal.{Fits, IsLegal, LetsOutStopped}
 use Rattle.dm_event_history.specs.Headline.{Batch, batch_of, batches_of, PrintsOnceBy}
 use Rattle.dm_event_history.specs.Worked.{digits, digits_cut, range, two_ranges, first_ticket}
 use Rattle.dm_event_history.specs.Unfaithful.{Run, IsFaithfulRun, other_digits, print, ticket, ticket_back, exhausted_at_first, exhausted_by, exhausted_by_itself, exhausted_by_no_range, exhausted_by_a_refused_give, exhausted_though_failed, too_long_of_few, printed_untaken, given_of_another, given_though_printed, printed_of_anothers_ticket, given_again, given_after_taken, after_overtaken, printed_of_overtaken, given_of_overtaken, printed_of_old, after_exhausted, printed_after_exhausted, given_after_exhausted, printed_above_the_least, given_though_used, printed_though_given, missing_after_a_refused_give, serial_skipped, refused_though_free, refused_though_for_it, refused_though_taken, given_of_falling_takes}
@@ -170,7 +170,7 @@ two_at_least document parts are =
 
 -- a print that saved, and was stopped after a label or more, let one out
 lets_out : (most : ℕ) (saved : Bool) (document : List ℕ) (parts : List (List ℕ)) (left : ℕ) → 1 ≤ most →
-    saved ≡ true → LetsSomeOut (stops.AfterLabels most) saved
+    saved ≡ true → LetsOutStopped (stops.AfterLabels most) saved
     (record { bytes = document; size = Side12; scheme = Ascii; parts = parts }) left → 1 ≤ left
 lets_out most true document parts left some is lets =
     let two = two_at_least document parts lets.0 in let few : left ≡ min most (length parts) = lets.1 in omega arith

@@ -1,5 +1,5 @@
 -- The history behind the right document: two prints that saved and were stopped, two scans and an ask. It is legal.
-use Rattle.std.proofs.Common.{◌≡◌, ◌≤◌, ◌||◌, ℕ, zero, suc, Bool, true, false, None, [], ◌∷◌, take, refl, sym, ◌∙◌, arith, inl}
+use Rattle.std.proofs.Common.{◌≡◌, ◌≤◌, ◌||◌, ℕ, zero, suc, Bool, true, false, None, [], ◌∷◌, take, refl, sym, ◌∙◌, arith, inl, Option, slice_get, ap, subst, cond, Ok, Some, inr, ◌≢◌}
 use Rattle.std.proofs.lemmas.Bool.Decides.{nat_tests}
 use Rattle.dm_check_blocks.specs.declared.size.Size.TheVariants.{Side12}
 use Rattle.dm_check_blocks.specs.Sizes.{row}
@@ -15,12 +15,24 @@ use Rattle.dm_assembly_desk.specs.declared.reply.Kind.TheVariants.{New, Complete
 use Rattle.dm_event_history.specs.declared.event.Event.TheVariants.{Ask}
 use Rattle.dm_event_history.specs.declared.reply.Reply.TheVariants.{Scanned, Document, Stopped}
 use Rattle.dm_event_history.specs.declared.stop.Stop.TheVariants as stops
-use Rattle.dm_event_history.specs.Actors.{PrinterAt}
-use Rattle.dm_event_history.specs.History.{Entry, History}
+use Rattle.dm_event_history.specs.Actors.{PrinterAt, DeskAt}
+use Rattle.dm_event_history.specs.History.{Entry, History, CutDocument}
 use Rattle.dm_event_history.specs.Ledgers.{IsPrinterAfter, GoesByLedger}
 use Rattle.dm_event_history.specs.Legal.{Fits, IsLegal}
 use Rattle.dm_event_history.specs.Worked.{digits, digits_cut, range, two_ranges, told}
-use Rattle.dm_event_history.specs.Unfaithful.{other_digits, page, print, scan}
+use Rattle.dm_event_history.specs.Unfaithful.{other_digits, page, print, scan, two_desks}
+use Rattle.std.specs.Prelude.{unwrap_or, slice_set, replicate}
+use Rattle.std.specs.FinMap as map
+use Rattle.std.specs.FinMap.{get-empty, get-insert, len-empty}
+use Rattle.std.specs.Cmp.{nat_cmp_total}
+use Rattle.std.specs.Ordering.{nat_cmp}
+use Rattle.dm_append_label.specs.Pages.{PageView}
+use Rattle.dm_assembly_desk.specs.Pages.{Pages}
+use Rattle.dm_assembly_desk.specs.Documents.{Documents, pages_with, with_page}
+use Rattle.dm_assembly_desk.specs.Answers.{answer, answer_at}
+use Rattle.dm_assembly_desk.specs.Asking.{Asks}
+use Rattle.dm_assembly_desk.proofs.Loading.{itself}
+use Rattle.dm_event_history.specs.Held.{Holding, both, CanHold, first_entries}
 
 -- ---- the parts of the two documents
 
@@ -347,3 +359,139 @@ fits_ask A = record {
 
 pub right_is_legal : (A : Type 0) → IsLegal two_ranges 2 (right_history A)
 right_is_legal A = (fits_ask A, (fits_second_scan A, (fits_scan A, (fits_second A, (fits_first A, tt)))))
+
+-- ---- what the desks hold
+
+abbrev other_cut : CutDocument
+other_cut = record {
+  bytes = other_digits;
+  size = Side12;
+  scheme = Ascii;
+  parts = (52 ∷ 51 ∷ []) ∷ (50 ∷ 49 ∷ []) ∷ [];
+}
+
+-- the pages of the two labels
+abbrev first_page : PageView
+first_page = record { id = 10; m = 1; n = 2; bytes = 52 ∷ 51 ∷ [] }
+
+abbrev second_page : PageView
+second_page = record { id = 10; m = 2; n = 2; bytes = 50 ∷ 49 ∷ [] }
+
+abbrev half_held : Documents
+half_held = with_page map.empty first_page
+
+abbrev all_held : Documents
+all_held = with_page half_held second_page
+
+get_own : (held : Documents) (id : ℕ) (pages : Pages) → map.get (map.insert held id pages) id ≡ Some pages
+get_own held id pages =
+    get-insert nat_cmp_total held id pages id ∙ ap (λ (b : Bool). cond b (Some pages) (map.get held id)) (itself id)
+
+abbrev nothing : Documents
+nothing = map.empty
+
+none_at_first : (id : ℕ) → map.get nothing id ≡ None
+none_at_first id = get-empty nat_cmp id
+
+half_is : map.get half_held 10 ≡ Some (Some (52 ∷ 51 ∷ []) ∷ None ∷ [])
+half_is = get_own map.empty 10 (pages_with map.empty first_page) ∙
+    ap (λ (o : Option Pages). Some (slice_set (unwrap_or o (replicate 2 None)) 0 (Some (52 ∷ 51 ∷ [])))) (none_at_first 10)
+
+all_is : map.get all_held 10 ≡ Some (Some (52 ∷ 51 ∷ []) ∷ Some (50 ∷ 49 ∷ []) ∷ [])
+all_is = get_own half_held 10 (pages_with half_held second_page) ∙
+    ap (λ (o : Option Pages). Some (slice_set (unwrap_or o (replicate 2 None)) 1 (Some (50 ∷ 49 ∷ [])))) half_is
+
+first_is_new : answer 2 map.empty first_page ≡ Ok New
+first_is_new =
+    ap (λ (o : Option Pages). answer_at 2 (map.len nothing) first_page o)
+    (none_at_first 10) ∙
+    ap (λ (n : ℕ). answer_at 2 n first_page None) (len-empty nat_cmp Pages)
+
+second_completes : answer 2 half_held second_page ≡ Ok Complete
+second_completes = ap (λ (o : Option Pages). answer_at 2 (map.len half_held) second_page o) half_is
+
+-- no desk does anything before the third event
+held_none : (A : Type 0) (desk : ℕ) → CanHold 2 (printed_history A) desk (both map.empty)
+held_none A desk = inr ((λ x. cc), inr ((λ x. cc), refl))
+
+held_half : (A : Type 0) → CanHold 2 (scanned_history A) 0 (both half_held)
+held_half A = inl (
+  refl,
+  both map.empty,
+  held_none A 0,
+  (
+    first_page,
+    record { has_left = refl; cut = other_cut; printed = refl; part = (0, refl, refl) },
+    record { id_is = refl; m_is = refl; n_is = refl },
+    first_is_new,
+    refl,
+  ),
+)
+
+abbrev gathered_history : (A : Type 0) → History A
+gathered_history A = told false (scan 1) (Scanned (page 10 2 Complete)) ∷ scanned_history A
+
+held_all : (A : Type 0) → CanHold 2 (gathered_history A) 0 (both all_held)
+held_all A = inl (
+  refl,
+  both half_held,
+  held_half A,
+  (
+    second_page,
+    record { has_left = refl; cut = other_cut; printed = refl; part = (1, refl, refl) },
+    record { id_is = refl; m_is = refl; n_is = refl },
+    second_completes,
+    refl,
+  ),
+)
+
+held_asked : (A : Type 0) → CanHold 2 (right_history A) 0 (both all_held)
+held_asked A = inl (
+  refl,
+  both all_held,
+  held_all A,
+  (subst (λ (o : Option Pages). Asks (λ given. given) o (Ok other_digits)) (sym all_is) refl, refl),
+)
+
+-- the other desk holds nothing
+held_elsewhere : (A : Type 0) (desk : ℕ) → 0 ≢ desk →
+    CanHold 2 (right_history A) desk (both map.empty) × CanHold 2 (gathered_history A) desk (both map.empty)
+    × CanHold 2 (scanned_history A) desk (both map.empty)
+held_elsewhere A desk other =
+    let away : DeskAt 0 ≢ DeskAt desk = (λ same. other (cc (same))) in
+    let one : CanHold 2 (scanned_history A) desk (both map.empty) = inr (away, held_none A desk) in
+    let two : CanHold 2 (gathered_history A) desk (both map.empty) = inr (away, one) in (inr (away, two), two, one)
+
+-- after any number of events there is what each of the two desks may hold
+pub right_is_held : (A : Type 0) (i desk capacity : ℕ) → i ≤ 5 → slice_get two_desks desk ≡ Some capacity →
+    (holding : Holding) × CanHold capacity (first_entries i (right_history A)) desk holding
+right_is_held A i zero capacity below here =
+    (let room : Some 2 ≡ Some capacity = here in
+    let is : 2 ≡ capacity = cc (room) in
+    subst (λ (c : ℕ). (holding : Holding) × CanHold c (first_entries i (right_history A)) 0 holding) is
+    (by_count i below))
+  where
+    by_count : (i : ℕ) → i ≤ 5 → (holding : Holding) × CanHold 2 (first_entries i (right_history A)) 0 holding
+    by_count zero below = (both map.empty, refl)
+    by_count (suc zero) below = (both map.empty, inr ((λ x. cc), refl))
+    by_count (suc (suc zero)) below = (both map.empty, held_none A 0)
+    by_count (suc (suc (suc zero))) below = (both half_held, held_half A)
+    by_count (suc (suc (suc (suc zero)))) below = (both all_held, held_all A)
+    by_count (suc (suc (suc (suc (suc zero))))) below = (both all_held, held_asked A)
+    by_count (suc (suc (suc (suc (suc (suc i)))))) below = absurd (omega arith)
+right_is_held A i (suc zero) capacity below here =
+    (let room : Some 2 ≡ Some capacity = here in
+    let is : 2 ≡ capacity = cc (room) in
+    subst (λ (c : ℕ). (holding : Holding) × CanHold c (first_entries i (right_history A)) 1 holding) is
+    (by_count i below))
+  where
+    by_count : (i : ℕ) → i ≤ 5 → (holding : Holding) × CanHold 2 (first_entries i (right_history A)) 1 holding
+    by_count zero below = (both map.empty, refl)
+    by_count (suc zero) below = (both map.empty, inr ((λ x. cc), refl))
+    by_count (suc (suc zero)) below = (both map.empty, held_none A 1)
+    by_count (suc (suc (suc zero))) below = (both map.empty, (held_elsewhere A 1 (λ x. omega (arith, x))).2)
+    by_count (suc (suc (suc (suc zero)))) below = (both map.empty, (held_elsewhere A 1 (λ x. omega (arith, x))).1)
+    by_count (suc (suc (suc (suc (suc zero))))) below =
+        (both map.empty, (held_elsewhere A 1 (λ x. omega (arith, x))).0)
+    by_count (suc (suc (suc (suc (suc (suc i)))))) below = absurd (omega arith)
+right_is_held A i (suc (suc desk)) capacity below here = absurd (cc (here))

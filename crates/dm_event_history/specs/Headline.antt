@@ -30,6 +30,7 @@ use Rattle.dm_event_history.specs.Holding.{Takes, MayTake, Forgets, MayForget}
 use Rattle.dm_event_history.specs.Telling.{Known, IsReplyTrue, IsFullForLabel, IsFullForExport}
 use Rattle.dm_event_history.specs.Imports.{exports_in}
 use Rattle.dm_event_history.specs.Tainted.{AtDesk, InExport, IsTainted}
+use Rattle.dm_event_history.specs.Held.{Holding, CanHold, first_entries}
 
 -- ---- the labels that left
 
@@ -342,6 +343,10 @@ pub record IsFaithfulBy {A : Type 0} (ranges : List Range) (capacities : List �
       slice_get events i ≡ Some (Import desk export stop) → slice_get replies i ≡ Some (ImportRefused fault) →
       ¬ IsTainted events marks replies i (AtDesk desk) → ¬ IsTainted events marks replies i (InExport export) →
       MayNotImport capacities (known_before batches events replies i) desk export fault
+  -- and there is what each desk that is not tainted may hold, after any number of events: it answered by that
+  pub held : (i desk capacity : ℕ) → i ≤ length events → slice_get capacities desk ≡ Some capacity →
+      ¬ IsTainted events marks replies i (AtDesk desk) →
+      (holding : Holding) × CanHold capacity (first_entries i prints.explained.history) desk holding
 
 -- the headline
 abbrev pub IsFaithful : {A : Type 0} → List Range → List ℕ → List (Event A) → List Bool → List (Reply A) → Type 0

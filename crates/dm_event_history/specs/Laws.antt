@@ -9,6 +9,7 @@ use Rattle.dm_event_history.specs.Places.{ArePlaced, AreOpened, IsNoTicketTakenT
 use Rattle.dm_event_history.specs.Holding.{IsSurelyHeld, IsPossiblyHeld}
 use Rattle.dm_event_history.specs.Legal.{AreDisjoint, IsLegal, IsNoLabelTwice, NeverTwice, MayBeTaken}
 use Rattle.dm_event_history.specs.Safe.{IsSafe}
+use Rattle.dm_event_history.specs.Held.{AreHeld}
 use Rattle.dm_event_history.specs.Tainted.{AtDesk}
 use Rattle.dm_event_history.specs.Honest.{IsClean, AreMarkedFair, AreHonestReplies}
 use Rattle.dm_event_history.specs.Headline.{PrintsOnce, IsFaithful}
@@ -64,10 +65,11 @@ LegalTakesOnce A = InLegal A (λ ranges desks h. TakesOnce (length ranges) (even
 abbrev pub LegalImportsExports : Type 0 → Type 0
 LegalImportsExports A = InLegal A (λ ranges desks h. ImportsExports desks (events_of h) (replies_of h))
 
--- the headline: legal and safe histories, in which clean desks refuse what is fair for these reasons alone, are
--- faithful, whichever events are marked, if those are fair
+-- the headline: legal and safe histories, in which clean desks refuse what is fair for these reasons alone, and answer by
+-- what they may hold, are faithful, whichever events are marked, if those are fair
 abbrev pub LegalAndSafeIsFaithful : Type 0 → Type 0
 LegalAndSafeIsFaithful A = InLegal A (λ ranges desks h.
     (grids : List GridView) (capacities : List ℕ) (marks : List Bool) → desks ≡ length capacities →
     AreMarkedFair grids (events_of h) marks (replies_of h) → IsSafe grids h → AreHonestReplies grids capacities h →
+    AreHeld grids capacities h →
     IsFaithful ranges capacities (events_of h) marks (replies_of h))

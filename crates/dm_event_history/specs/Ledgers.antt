@@ -51,7 +51,7 @@ CanDo view tickets (Give printer receiver range stop) = CanGive view receiver ra
 CanDo view tickets (Take printer ticket stop) = IsSomeAnd (slice_get tickets ticket) (CanTake view)
 CanDo view tickets other = ⊥
 
--- not all is: what comes before this is as it should be, and this is not
+-- something that the call asks is not so, and all that it asks before that is
 abbrev pub CannotDo : {A : Type 0} → PrinterView → List TicketView → Event A → Type 0
 CannotDo view tickets (Print printer document size scheme stop) =
     (fault : PrintFault) × CannotPrint view size scheme document fault
@@ -60,8 +60,8 @@ CannotDo view tickets (Take printer ticket stop) =
     IsSomeAnd (slice_get tickets ticket) (λ one. (fault : TakeFault) × CannotTake view one fault)
 CannotDo view tickets other = ⊥
 
--- A refusal tells the reason: for memory, and for a save, only if all else is as it should be. A take lacks memory so
--- too; memory for what a print or a give leaves may be refused at any time.
+-- A refusal tells the reason. One for memory, or for the save, is given only if all that the call asks is so. A take is
+-- answered `Memory` only then too; a print or a give may be answered so at any time, for want of room for what leaves.
 abbrev pub IsReason : {A : Type 0} → PrinterView → List TicketView → Event A → Reply A → Type 0
 IsReason view tickets (Print printer document size scheme stop) (PrintRefused print_fault.Memory) =
     CanPrint view size scheme document
@@ -82,28 +82,28 @@ IsReason view tickets (Take printer ticket stop) (TakeRefused fault) =
 IsReason view tickets (Take printer ticket stop) Memory = IsSomeAnd (slice_get tickets ticket) (CanTake view)
 IsReason view tickets event reply = Unit {0}
 
--- a print is under the least number that is free
-abbrev pub IsUnderLeast : {A : Type 0} → PrinterView → Event A → ℕ → Type 0
-IsUnderLeast view (Print printer document size scheme stop) id = IsLeastFree view.ledger.free id
-IsUnderLeast view event id = Unit {0}
+-- a print uses the least number that is free
+abbrev pub UsesLeast : {A : Type 0} → PrinterView → Event A → ℕ → Type 0
+UsesLeast view (Print printer document size scheme stop) id = IsLeastFree view.ledger.free id
+UsesLeast view event id = Unit {0}
 
 -- ---- entries
 
--- the event is a call that a running printer may save by, and what it names is there
+-- a running printer is asked to print, to give or to take, and what is named is there
 pub record IsCallAt {A : Type 0} (before : History A) (entry : Entry A) (printer : ℕ) : Type 0 where
   pub named : actor_of entry.event ≡ PrinterAt printer
   pub may_stop : IsSome (stop_of entry.event)
   pub running : is_down before (PrinterAt printer) ≡ false
   pub there : entry.reply ≢ NoSuch
 
--- The printer does as its ledger lets it: each refusal has its reason, and it saves just if it comes so far and all is
--- as it should be.
+-- The printer does as its ledger lets it. Each refusal has its reason. What saved could, and a print used the least
+-- number; and what may have saved did, unless it could not.
 pub record GoesByLedger {A : Type 0} (ranges : List Range) (before : History A) (entry : Entry A) (printer : ℕ)
     : Type 0 where
   pub view : PrinterView
   pub is : IsPrinterAfter ranges before printer view
   pub reason : IsReason view (tickets before) entry.event entry.reply
   pub could : entry.saved ≡ true → CanDo view (tickets before) entry.event
-  pub least : entry.saved ≡ true → IsUnderLeast view entry.event entry.id
+  pub least : entry.saved ≡ true → UsesLeast view entry.event entry.id
   pub could_not : may_save entry.event entry.reply ≡ true → entry.saved ≡ false →
       CannotDo view (tickets before) entry.event

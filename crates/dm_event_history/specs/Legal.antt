@@ -1,4 +1,5 @@
--- Which histories are legal: when each reply may be given, how many labels leave, and which identifications move.
+-- Which histories are legal: when each reply may be given, how many labels leave, and which identifications move. What
+-- a printer does with its numbers is in `Ledgers`.
 use Rattle.std.specs.Prelude.{◌≡◌, ◌≢◌, ◌↔◌, ◌⊎◌, ◌<◌, ◌≤◌, ℕ, Bool, true, false, Some, List, [], ◌∷◌, length, slice_get, IsSomeAnd, IfSome, AllPairs, All, min}
 use Rattle.dm_check_blocks.specs.Sizes.{side}
 use Rattle.dm_append_label.specs.Parts.{AreParts, HasNoEnds}
@@ -92,18 +93,18 @@ IsStopped event = IsSomeAnd (stop_of event) IsStopping
 -- ---- labels that leave
 
 -- how many labels left by a print that was stopped: if it saved, as many as the stop lets out of those of its document
-abbrev pub LetsSomeOut : Stop → Bool → CutDocument → ℕ → Type 0
-LetsSomeOut (stops.AfterLabels most) true cut left =
+abbrev pub LetsOutStopped : Stop → Bool → CutDocument → ℕ → Type 0
+LetsOutStopped (stops.AfterLabels most) true cut left =
     AreParts cut.size cut.scheme cut.bytes cut.parts × (left ≡ min most (length cut.parts))
-LetsSomeOut stop saved cut left = left ≡ 0
+LetsOutStopped stop saved cut left = left ≡ 0
 
 -- How many of the labels of these parts left by an event that was answered so: all if the reply says so, some if it was
--- stopped, and else none. It saved, or did not.
+-- stopped, and else none. The flag tells whether it saved.
 abbrev pub LetsOut : {A : Type 0} → Event A → Reply A → Bool → List (List ℕ) → ℕ → Type 0
 LetsOut (Print printer document size scheme stop) (Printed id first count) saved parts left =
     (left ≡ length parts) × (0 < left)
 LetsOut (Print printer document size scheme stop) Stopped saved parts left =
-    LetsSomeOut stop saved (record { bytes = document; size = size; scheme = scheme; parts = parts }) left
+    LetsOutStopped stop saved (record { bytes = document; size = size; scheme = scheme; parts = parts }) left
 LetsOut event reply saved parts left = left ≡ 0
 
 -- if a label left, these are the parts of what the event prints
@@ -155,7 +156,7 @@ pub record IsOld {A : Type 0} (before : History A) (printer number : ℕ) : Type
   pub last_is : last_serial before printer ticket.giver ≡ Some last
   pub reached : ticket.serial ≤ last
 
--- why the ticket of this number is not taken: never since a number that is on it is free at the receiver
+-- why the ticket of this number is not taken: never for an overlap, with a number that is free at the receiver
 abbrev pub IsTakeRefused : {A : Type 0} → History A → ℕ → ℕ → Stop → TakeFault → Type 0
 IsTakeRefused before printer ticket stop take_fault.Failed = is_failed before (PrinterAt printer) ≡ true
 IsTakeRefused before printer ticket stop take_fault.Old = IsOld before printer ticket
@@ -163,8 +164,8 @@ IsTakeRefused before printer ticket stop take_fault.Overlap = ⊥
 IsTakeRefused before printer ticket stop take_fault.Save = IsSaveFault stop
 IsTakeRefused before printer ticket stop other = Unit {0}
 
--- why a scan, a forget and an import are refused, whether the history is honest or not: an import never for the bytes
--- of an export
+-- why a scan, a forget and an import are refused, whether their desk is clean or not: an import never for the bytes of
+-- an export
 abbrev pub IsScanRefused : {A : Type 0} → History A → ℕ → Stop → ScanFault → Type 0
 IsScanRefused before desk stop scan_fault.Failed = is_failed before (DeskAt desk) ≡ true
 IsScanRefused before desk stop scan_fault.Save = IsSaveFault stop
@@ -276,7 +277,9 @@ MayMove ranges before id other = ⊥
 
 -- ---- legal
 
--- the entry may come after this history, where there is a printer for each range, and that many desks
+-- The entry may come after this history, where there is a printer for each range, and that many desks. `kept` and
+-- `moves` follow from the last field, and `left_saved` from `lets_out` and `told`; what is proved of identifications
+-- rests on them.
 pub record Fits {A : Type 0} (ranges : List Range) (desks : ℕ) (before : History A) (entry : Entry A) : Type 0 where
   pub reply : IsReply ranges before entry.id entry.left entry.event entry.reply
   pub lets_out : LetsOut entry.event entry.reply entry.saved entry.parts entry.left

@@ -12,6 +12,7 @@ pub mod Tainted
 pub mod Honest
 pub mod Telling
 pub mod Safe
+pub mod Held
 pub mod Replying
 pub mod Imports
 pub mod Tickets

@@ -294,6 +294,28 @@ imported_at_last A =
     (Scan 1 1 [] None, Scanned (page 0 2 New)) ∷
     (Import 1 0 None, Imported (record { id = 0; n = 2; added = 1; kind = New })) ∷ []
 
+-- `held`: a document is not held of which a perfect label was scanned, by a scan that was stopped after its save
+abbrev pub lost_by_a_stop : (A : Type 0) → Run A
+lost_by_a_stop A =
+    (print 0 digits None, Printed 0 0 2) ∷
+    (Scan 0 0 [] (InSave kept.New), Stopped) ∷ (RestartDesk 0, Restarted) ∷ (Ask 0 0, AskRefused NotHeld) ∷ []
+
+-- `held`: a page is missing of a document that was forgotten, by a forget that was stopped after its save
+abbrev pub held_though_forgotten : (A : Type 0) → Run A
+held_though_forgotten A =
+    (print 0 digits None, Printed 0 0 2) ∷
+    (scan 0, Scanned (page 0 1 New)) ∷
+    (Forget 0 0 (AfterLabels 0), Stopped) ∷ (RestartDesk 0, Restarted) ∷ (Ask 0 0, AskRefused (Incomplete 2)) ∷ []
+
+-- `held`: a desk with room for two documents takes pages of three
+abbrev pub beyond_its_room : (A : Type 0) → Run A
+beyond_its_room A =
+    (print 0 digits None, Printed 0 0 2) ∷
+    (print 0 digits None, Printed 1 2 2) ∷
+    (print 0 digits None, Printed 2 4 2) ∷
+    (scan 0, Scanned (page 0 1 New)) ∷
+    (scan 2, Scanned (page 1 1 New)) ∷ (scan 4, Scanned (page 2 1 New)) ∷ []
+
 -- `framed`: a perfect label is refused for its words
 abbrev pub refused_label : (A : Type 0) → Run A
 refused_label A = (print 0 digits None, Printed 0 0 2) ∷ (scan 0, ScanRefused (scan_fault.Label (Block 0))) ∷ []
@@ -762,6 +784,12 @@ wrong_at A desk =
     (Scan 0 0 ((0, 0) ∷ []) None, false, Scanned (page 9 1 New)) ∷
     (Scan 1 0 ((0, 0) ∷ []) None, false, Scanned (page 9 1 New)) ∷ []
 
+-- `held`, of a desk that is not tainted: it holds nothing, and refuses a dishonest scan as if it were full
+abbrev pub full_of_nothing : (A : Type 0) → MarkedRun A
+full_of_nothing A =
+    (print 0 digits None, true, Printed 0 0 2) ∷
+    (Scan 0 0 ((0, 0) ∷ []) None, false, ScanRefused scan_fault.Full) ∷ []
+
 -- `given`, of a desk that is not tainted: its dishonest scan was refused
 abbrev pub wrong_after_a_refused_scan : (A : Type 0) → MarkedRun A
 wrong_after_a_refused_scan A =
@@ -862,6 +890,10 @@ pub record AreUnfaithful (A : Type 0) : Type 0 where
   pub imported_at_last_is : ¬ IsFaithfulRun (imported_at_last A)
   pub exported_in_part_is : ¬ IsFaithfulRun (exported_in_part A)
   pub added_again_is : ¬ IsFaithfulRun (added_again A)
+  pub lost_by_a_stop_is : ¬ IsFaithfulRun (lost_by_a_stop A)
+  pub held_though_forgotten_is : ¬ IsFaithfulRun (held_though_forgotten A)
+  pub beyond_its_room_is : ¬ IsFaithfulRun (beyond_its_room A)
+  pub full_of_nothing_is : ¬ IsFaithfulMarked (full_of_nothing A)
   pub refused_label_is : ¬ IsFaithfulRun (refused_label A)
   pub refused_for_nothing_is : ¬ IsFaithfulRun (refused_frame A 0)
   pub refused_frame_is : ¬ IsFaithfulRun (refused_frame A 6)

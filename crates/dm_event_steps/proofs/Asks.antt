@@ -32,11 +32,14 @@ use Rattle.dm_event_history.proofs.WhoActs.{is_down_same, is_failed_same}
 use Rattle.dm_event_steps.specs.declared.actor.DeskState.{DeskState}
 use Rattle.dm_event_steps.specs.declared.actor.DeskState.TheVariants as desks
 use Rattle.dm_event_steps.specs.Gathered.{IsGathered}
-use Rattle.dm_event_steps.specs.DeskStands.{SetStands, DeskRuns, DeskStands}
+use Rattle.dm_event_history.specs.Held.{HoldsOn, CanHold}
+use Rattle.dm_event_steps.specs.DeskStands.{holding_of, SetStands, DeskRuns, DeskStands}
 use Rattle.dm_event_steps.specs.DeskActs.{ask_reply, AskActs, desk_saved, RestartDeskActs}
 use Rattle.dm_event_steps.specs.Goes.{quiet, DeskGoes}
 use Rattle.dm_event_steps.proofs.DeskFacts.{some_page, whole_pages, lacks_means}
 use Rattle.dm_event_steps.proofs.DeskGoing.{none_leaves, IsTold, desk_fits, set_keeps, desk_kept}
+use Rattle.dm_event_history.specs.Honest.{IsClean}
+use Rattle.dm_event_history.specs.Tainted.{AtDesk}
 
 -- ---- what is held of a document
 
@@ -227,11 +230,12 @@ ask_goes {A} ranges capacities grids h d id capacity view reply state legal ther
         IsTold ranges (length capacities) h (Ask d id) (ask_reply given) d →
         down_after (ask_reply {A = A} given) false ≡ false →
         failed_after (ask_reply {A = A} given) (is_failed h (DeskAt d)) ≡ is_failed h (DeskAt d) →
+        HoldsOn capacity h (Ask d id) (ask_reply given) (holding_of view s.stored) (holding_of view s.stored) →
         Asks (λ bytes. bytes) (finite.get view.held id) given → NamesMissing (finite.get view.held id) given →
         DeskGoes ranges capacities grids h (Ask d id) (ask_reply given) d capacity (desks.Running view)
-    goes given told up failed asks missing =
+    goes given told up failed does asks missing =
         desk_kept ranges capacities grids h (Ask d id) (ask_reply given) d capacity view view room s refl told up failed
-        (λ i m t. absurd t) (λ i x. x)
+        (λ i m t. absurd t) (λ i x. x) (λ honest. does)
         (λ honest. ask_safe ranges (length capacities) h d id view.held (finite.get view.held id) given legal
         (s.gathered honest.1) acts.order.entries refl asks missing)
         (λ fair. tt)
@@ -250,7 +254,7 @@ ask_goes {A} ranges capacities grids h d id capacity view reply state legal ther
       is_reply = (refl, tt);
       failed = λ _ saves. absurd (let x : false ≡ true = saves in cc (x));
       untold = λ x. cc;
-    }) refl refl asks missing
+    }) refl refl (asks, refl) asks missing
     by_answer (Err fault) asks missing = goes (Err fault) (record {
       named = refl;
       there = there;
@@ -262,7 +266,7 @@ ask_goes {A} ranges capacities grids h d id capacity view reply state legal ther
       is_reply = (refl, tt);
       failed = λ _ saves. absurd (let x : false ≡ true = saves in cc (x));
       untold = λ x. cc;
-    }) refl refl asks missing
+    }) refl refl (asks, missing, refl) asks missing
 
 -- ---- a restart
 
@@ -272,6 +276,14 @@ set_of : {A : Type 0} (grids : List GridView) (h : History A) (d capacity : ℕ)
     (stored : Documents) × SetStands grids h d capacity (desk_saved state) stored
 set_of grids h d capacity (desks.Running view) s = (s.1.stored, s.1.store)
 set_of grids h d capacity (desks.Down saved) s = (s.1.stored, s.1.store)
+
+can_of : {A : Type 0} (grids : List GridView) (h : History A) (d capacity : ℕ) (state : DeskState A) →
+    (s : DeskStands grids h d capacity state) → IsClean grids h (AtDesk d) →
+    (shown : Documents) × CanHold capacity h d
+    (record { shown = shown; stored = (set_of grids h d capacity state s).0 })
+unfolding set_of
+can_of grids h d capacity (desks.Running view) s honest = (view.held, s.1.can honest)
+can_of grids h d capacity (desks.Down saved) s honest = s.1.can honest
 
 room_of : {A : Type 0} (grids : List GridView) (h : History A) (d capacity : ℕ) (state : DeskState A) →
     DeskStands grids h d capacity state → IsCapacity capacity
@@ -315,6 +327,8 @@ restart_desk_goes {A} ranges capacities grids h d capacity Restarted was state t
           store = subst (λ (v : SavedSet). SetStands grids (e ∷ h) d capacity v t.0) (sym acts.2.same) store;
           shows = λ _. held;
           gathered = λ honest. subst (λ (x : Documents). IsGathered (e ∷ h) d x) (sym held) (store.gathered honest);
+          can = λ honest. subst (λ (x : Documents). CanHold capacity (e ∷ h) d (record { shown = x; stored = t.0 }))
+              (sym held) (inl (refl, _, (can_of grids h d capacity was s honest.1).1, refl));
         },
       );
       safe = λ _. tt;
@@ -346,6 +360,7 @@ restart_desk_goes {A} ranges capacities grids h d capacity (DeskRefused fault) w
           stored = t.0;
           store = set_keeps e h grids grids d capacity (desk_saved was) t.0
               (λ honest. honest.1) (λ x. none_leaves event reply _ x) (λ id m x. absurd x) (λ id x. x) t.1;
+          can = λ honest. let c = can_of grids h d capacity was s honest.1 in (c.0, inl (refl, _, c.1, refl));
         },
       );
       safe = λ _. tt;

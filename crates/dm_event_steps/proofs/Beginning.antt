@@ -25,6 +25,11 @@ use Rattle.dm_event_steps.specs.StandsFor.{StandsFor}
 use Rattle.dm_event_steps.specs.Beginning.{IsFresh, IsEmptyDesk, AreFresh, AreEmpty}
 use Rattle.dm_event_steps.proofs.Gathering.{gathered_none}
 use Rattle.dm_event_history.proofs.Gotten.{other_has}
+use Rattle.dm_event_history.specs.Held.{Holding}
+
+-- what is shown and what is stored
+abbrev as_holding : Documents → Documents → Holding
+as_holding shown stored = record { shown = shown; stored = stored }
 
 or_none : (b : Bool) → (b || false) ≡ b
 or_none true = refl
@@ -68,6 +73,7 @@ first_desk {A} d capacity (desk_states.Running view) room f = (
     };
     shows = λ _. f.3;
     gathered = λ honest. subst (λ (x : Documents). IsGathered {A = A} [] d x) (sym f.3) (gathered_none {A = A} d);
+    can = λ honest. ap (λ (x : Documents). as_holding x finite.empty) f.3;
   },
 )
 first_desk d capacity (desk_states.Down saved) room f = absurd f
@@ -87,6 +93,7 @@ begins {A} ranges capacities printers desks apart fresh empty = record {
   legal = tt;
   safe = tt;
   answers = tt;
+  held = tt;
   left = record { names = refl; tickets_are = refl };
   labels = λ i label here. cc;
   export_names = refl;

@@ -1,5 +1,5 @@
 -- What is left of one event at a desk: its entry fits, and the desk stands, as it was, with what it saved, or down.
-use Rattle.std.proofs.Common.{◌≡◌, ◌≢◌, ◌⊎◌, inl, inr, ◌<◌, ◌≤◌, ℕ, true, false, None, List, ◌∷◌, length, IsSome, refl, ap, sym, ◌∙◌, subst, arith}
+use Rattle.std.proofs.Common.{◌≡◌, ◌≢◌, ◌⊎◌, inl, inr, ◌<◌, ◌≤◌, ℕ, true, false, None, List, ◌∷◌, length, IsSome, refl, ap, sym, ◌∙◌, subst, arith, ◌&&◌, not, Bool, Some}
 use Rattle.std.specs.FinMap as finite
 use Rattle.dm_finder_frame.specs.Grids.{GridView}
 use Rattle.dm_store.specs.Saved.{SavePlan, Outcome, Done, Faulted, HeldAfterFault}
@@ -33,7 +33,11 @@ use Rattle.dm_event_steps.specs.declared.actor.DeskState.{DeskState}
 use Rattle.dm_event_steps.specs.declared.actor.DeskState.TheVariants as desks
 use Rattle.dm_event_steps.specs.Acts.{IsCalled, next_save_of}
 use Rattle.dm_event_steps.specs.Gathered.{IsGathered}
-use Rattle.dm_event_steps.specs.DeskStands.{IsReadySet, SetStands, DeskRuns, DeskLiesDown}
+use Rattle.std.specs.Prelude.{MatchBool}
+use Rattle.dm_event_history.specs.Saving.{stops_after_save}
+use Rattle.dm_event_history.specs.Held.{Holding, both, IsSavedWhenStopped, HoldsOn, CanHold}
+use Rattle.dm_event_history.proofs.Deciding.{and_so}
+use Rattle.dm_event_steps.specs.DeskStands.{holding_of, IsReadySet, SetStands, DeskRuns, DeskLiesDown}
 use Rattle.dm_event_steps.specs.DeskActs.{desk_planned, DeskLacksMemory}
 use Rattle.dm_event_steps.specs.Goes.{quiet, DeskGoes}
 use Rattle.dm_event_steps.proofs.PrinterGoing.{IsFine, not_both}
@@ -111,8 +115,10 @@ pub running_keeps : {A : Type 0} (e : Entry A) (h : History A) (grids all : List
     (s : DeskRuns grids h d capacity view) →
     ((id m : ℕ) → Takes (exports h) e.event e.reply d id m →
     IsSome (page_at view.held id m) × IsSome (page_at s.stored id m)) →
-    ((id : ℕ) → ¬ Forgets e.event e.reply d id) → DeskRuns all (e ∷ h) d capacity view
-running_keeps e h grids all d capacity view back fresh up failed s takes stays = record {
+    ((id : ℕ) → ¬ Forgets e.event e.reply d id) →
+    (IsClean all (e ∷ h) (AtDesk d) → CanHold capacity h d (holding_of view s.stored) →
+    CanHold capacity (e ∷ h) d (holding_of view s.stored)) → DeskRuns all (e ∷ h) d capacity view
+running_keeps e h grids all d capacity view back fresh up failed s takes stays can = record {
   up = up;
   failed = s.failed ∙ sym failed;
   capacity_is = s.capacity_is;
@@ -121,6 +127,7 @@ running_keeps e h grids all d capacity view back fresh up failed s takes stays =
   shows = s.shows;
   gathered = λ honest. gathered_keeps e h d view.held fresh (λ id m t. (takes id m t).0) stays
       (s.gathered (back honest));
+  can = λ honest. can honest (s.can (back honest));
 }
 
 -- ---- plans
@@ -172,11 +179,13 @@ pub desk_kept : {A : Type 0} (ranges : List Range) (capacities : List ℕ) (grid
     ((id m : ℕ) → Takes (exports h) event reply d id m →
     IsSome (page_at view.held id m) × IsSome (page_at s.stored id m)) →
     ((id : ℕ) → ¬ Forgets event reply d id) →
+    (IsClean grids (quiet event reply ∷ h) (AtDesk d) →
+    HoldsOn capacity h event reply (holding_of view s.stored) (holding_of view s.stored)) →
     (IsClean grids (quiet event reply ∷ h) (AtDesk d) → IsReplySafe h event reply) →
     (BringsClean grids h event → IsHonestReply grids capacities h event reply) →
     DeskGoes ranges capacities grids h event reply d capacity (desks.Running after)
-desk_kept {A} ranges capacities grids h event reply d capacity view after room s same told up failed takes stays safe
-    answers =
+desk_kept {A} ranges capacities grids h event reply d capacity view after room s same told up failed takes stays does
+    safe answers =
     let e : Entry A = quiet event reply in
     record {
       fits = desk_fits ranges (length capacities) h event reply d told;
@@ -185,7 +194,8 @@ desk_kept {A} ranges capacities grids h event reply d capacity view after room s
         subst (λ (v : DeskView). DeskRuns grids (e ∷ h) d capacity v) (sym same)
             (running_keeps e h grids grids d capacity view (λ honest. honest.1) (λ x. none_leaves event reply _ x)
             (is_down_same e h (DeskAt d) told.named ∙ ap (down_after reply) s.up ∙ up)
-            (is_failed_same e h (DeskAt d) told.named ∙ failed) s takes stays),
+            (is_failed_same e h (DeskAt d) told.named ∙ failed) s takes stays
+            (λ honest c. inl (told.named, _, c, does honest))),
       );
       safe = safe;
       answers = answers;
@@ -211,16 +221,18 @@ pub desk_saves : {A : Type 0} (ranges : List Range) (capacities : List ℕ) (gri
     (event : Event A) (reply : Reply A)
     (d capacity : ℕ) (view mid : DeskView) (plan : NextSave) (content : Contents) (held : Documents) →
     IsCapacity capacity →
-    DeskRuns grids h d capacity view → Saves (desk_planned view plan).saved content Done mid.saved →
+    (s : DeskRuns grids h d capacity view) → Saves (desk_planned view plan).saved content Done mid.saved →
     Holds held (desk_planned view plan) mid →
     finite.len held ≤ capacity → IsTold ranges (length capacities) h event reply d → down_after reply false ≡ false →
     failed_after reply (is_failed h (DeskAt d)) ≡ is_failed h (DeskAt d) →
     (IsClean grids (quiet event reply ∷ h) (AtDesk d) → IsGathered (quiet event reply ∷ h) d held) →
+    (IsClean grids (quiet event reply ∷ h) (AtDesk d) →
+    HoldsOn capacity h event reply (holding_of view s.stored) (both held)) →
     (IsClean grids (quiet event reply ∷ h) (AtDesk d) → IsReplySafe h event reply) →
     (BringsClean grids h event → IsHonestReply grids capacities h event reply) →
     DeskGoes ranges capacities grids h event reply d capacity (desks.Running (desk_planned mid next_save.Fine))
 desk_saves {A} ranges capacities grids h event reply d capacity view mid plan content held room s saves holding few told
-    up failed gathered safe answers =
+    up failed gathered does safe answers =
     let e : Entry A = quiet event reply in
     record {
       fits = desk_fits ranges (length capacities) h event reply d told;
@@ -235,6 +247,8 @@ desk_saves {A} ranges capacities grids h event reply d capacity view mid plan co
           store = set_saved grids e h d capacity view mid plan content held s.store.ready saves holding few gathered;
           shows = λ _. holding.holds;
           gathered = λ honest. subst (λ (x : Documents). IsGathered (e ∷ h) d x) (sym holding.holds) (gathered honest);
+          can = λ honest. subst (λ (x : Documents). CanHold capacity (e ∷ h) d (record { shown = x; stored = held }))
+              (sym holding.holds) (inl (told.named, _, s.can honest.1, does honest));
         },
       );
       safe = safe;
@@ -256,7 +270,7 @@ kept_is New shown unsaved kept is = is
 pub desk_fails : {A : Type 0} (ranges : List Range) (capacities : List ℕ) (grids : List GridView) (h : History A)
     (event : Event A) (reply : Reply A)
     (d capacity : ℕ) (view mid : DeskView) (k : Kept) (content : Contents) (held : Documents) → IsCapacity capacity →
-    DeskRuns grids h d capacity view →
+    (s : DeskRuns grids h d capacity view) →
     Saves (desk_planned view (next_save_of (SaveFault k))).saved content Faulted mid.saved →
     FailsToHold held (desk_planned view (next_save_of (SaveFault k))) mid →
     finite.len (kept_held k view.held held) ≤ capacity → IsTold ranges (length capacities) h event reply d →
@@ -265,11 +279,13 @@ pub desk_fails : {A : Type 0} (ranges : List Range) (capacities : List ℕ) (gri
     (IsClean grids (quiet event reply ∷ h) (AtDesk d) →
     IsGathered (quiet event reply ∷ h) d (kept_held k view.held held)) →
     (IsClean grids (quiet event reply ∷ h) (AtDesk d) → IsGathered (quiet event reply ∷ h) d view.held) →
+    (IsClean grids (quiet event reply ∷ h) (AtDesk d) →
+    HoldsOn capacity h event reply (holding_of view s.stored) (holding_of view (kept_held k view.held held))) →
     (IsClean grids (quiet event reply ∷ h) (AtDesk d) → IsReplySafe h event reply) →
     (BringsClean grids h event → IsHonestReply grids capacities h event reply) →
     DeskGoes ranges capacities grids h event reply d capacity (desks.Running (desk_planned mid next_save.Fine))
 desk_fails {A} ranges capacities grids h event reply d capacity view mid k content held room s saves fails few told up
-    failed stored shown safe answers =
+    failed stored shown does safe answers =
     let e : Entry A = quiet event reply in
     let kept = fails.kept s.store.ready.honest in
     record {
@@ -290,6 +306,10 @@ desk_fails {A} ranges capacities grids h event reply d capacity view mid k conte
           };
           shows = λ running. let f : mid.is_failed ≡ true = fails.failed in cc (running, f);
           gathered = λ honest. subst (λ (x : Documents). IsGathered (e ∷ h) d x) (sym fails.holds) (shown honest);
+          can = λ honest. subst (λ (x : Documents). CanHold capacity (e ∷ h) d (record {
+            shown = x;
+            stored = kept_held k view.held held;
+          })) (sym fails.holds) (inl (told.named, _, s.can honest.1, does honest));
         },
       );
       safe = safe;
@@ -302,14 +322,24 @@ pub desk_stopped : {A : Type 0} (ranges : List Range) (capacities : List ℕ) (g
     (d capacity : ℕ) (saved : SavedSet) (stored : Documents) (state : DeskState A) → IsCapacity capacity →
     (let reply : Reply A = Stopped in IsTold ranges (length capacities) h event reply d) →
     (let reply : Reply A = Stopped in SetStands grids (quiet event reply ∷ h) d capacity saved stored) →
+    (let reply : Reply A = Stopped in IsClean grids (quiet event reply ∷ h) (AtDesk d) →
+    CanHold capacity (quiet event reply ∷ h) d (both stored)) →
     (let reply : Reply A = Stopped in IsReplySafe h event reply) →
     (let reply : Reply A = Stopped in IsHonestReply grids capacities h event reply) →
     state ≡ desks.Down saved → DeskGoes ranges capacities grids h event Stopped d capacity state
-desk_stopped {A} ranges capacities grids h event d capacity saved stored state room told store safe answers is =
+desk_stopped {A} ranges capacities grids h event d capacity saved stored state room told store can safe answers is =
     let e : Entry A = quiet event Stopped in
     subst (λ (x : DeskState A). DeskGoes ranges capacities grids h event Stopped d capacity x) (sym is) (record {
       fits = desk_fits ranges (length capacities) h event Stopped d told;
-      stands = (room, record { down = is_down_same e h (DeskAt d) told.named; stored = stored; store = store });
+      stands = (
+        room,
+        record {
+          down = is_down_same e h (DeskAt d) told.named;
+          stored = stored;
+          store = store;
+          can = λ honest. (stored, can honest);
+        },
+      );
       safe = λ _. safe;
       answers = λ _. answers;
     })
@@ -324,11 +354,12 @@ pub desk_down : {A : Type 0} (ranges : List Range) (capacities : List ℕ) (grid
     DeskLiesDown grids h d capacity saved →
     ((id m : ℕ) → (let none : Reply A = Down in ¬ Takes (exports h) event none d id m)) →
     ((id : ℕ) → (let none : Reply A = Down in ¬ Forgets event none d id)) →
+    ((x : Holding) → (let none : Reply A = Down in HoldsOn capacity h event none x x)) →
     (let none : Reply A = Down in IsReplySafe h event none) →
     (let none : Reply A = Down in IsHonestReply grids capacities h event none) →
     reply ≡ Down → state ≡ desks.Down saved → DeskGoes ranges capacities grids h event reply d capacity state
 desk_down {A} ranges capacities grids h event reply d capacity saved state room named there needs is_reply s takes stays
-    safe answers is at =
+    does safe answers is at =
     let e : Entry A = quiet event Down in
     subst (λ (y : Reply A). DeskGoes ranges capacities grids h event y d capacity state) (sym is)
     (subst (λ (x : DeskState A). DeskGoes ranges capacities grids h event Down d capacity x) (sym at) (record {
@@ -352,6 +383,7 @@ desk_down {A} ranges capacities grids h event reply d capacity saved state room 
           store = set_keeps e h grids grids d capacity saved s.stored
               (λ honest. honest.1) (λ x. none_leaves {A = A} event Down _ x)
               (λ id m t. absurd (takes id m t)) stays s.store;
+          can = λ honest. let c = s.can honest.1 in (c.0, inl (named, _, c.1, does _));
         },
       );
       safe = λ _. safe;
@@ -367,11 +399,12 @@ pub memory_goes : {A : Type 0} (ranges : List Range) (capacities : List ℕ) (gr
     (let none : Reply A = Memory in IsFine ranges h 0 event none) →
     ((id m : ℕ) → (let none : Reply A = Memory in ¬ Takes (exports h) event none d id m)) →
     ((id : ℕ) → (let none : Reply A = Memory in ¬ Forgets event none d id)) →
+    ((x : Holding) → (let none : Reply A = Memory in HoldsOn capacity h event none x x)) →
     (let none : Reply A = Memory in IsReplySafe h event none) →
     (let none : Reply A = Memory in IsHonestReply grids capacities h event none) →
     reply ≡ Memory → state ≡ desks.Running view → DeskGoes ranges capacities grids h event reply d capacity state
-memory_goes {A} ranges capacities grids h event d capacity view reply state room s named there fine takes stays safe
-    answers is at =
+memory_goes {A} ranges capacities grids h event d capacity view reply state room s named there fine takes stays does
+    safe answers is at =
     subst (λ (y : Reply A). DeskGoes ranges capacities grids h event y d capacity state) (sym is)
     (subst (λ (x : DeskState A). DeskGoes ranges capacities grids h event Memory d capacity x) (sym at)
     (desk_kept ranges capacities grids h event Memory d capacity view view room s refl (record {
@@ -385,7 +418,36 @@ memory_goes {A} ranges capacities grids h event d capacity view reply state room
       is_reply = fine;
       failed = λ _ _. inr tt;
       untold = λ x. cc;
-    }) refl refl (λ id m t. absurd (takes id m t)) stays (λ honest. safe) (λ fair. answers)))
+    }) refl refl (λ id m t. absurd (takes id m t)) stays (λ honest. does _) (λ honest. safe) (λ fair. answers)))
+
+-- ---- stops
+
+-- a call that is stopped after its save saved, unless the desk had failed
+pub saved_when : {A : Type 0} (h : History A) (d : ℕ) (stop : Stop) (Saved Unsaved : Type 0) →
+    stops_after_save (Some stop) ≡ true → is_failed h (DeskAt d) ≡ false → Saved →
+    IsSavedWhenStopped h d stop Saved Unsaved
+saved_when h d stop Saved Unsaved after up saved =
+    subst (λ (b : Bool). MatchBool b Saved Unsaved)
+    (sym (and_so (stops_after_save (Some stop)) (not (is_failed h (DeskAt d))) after (ap not up))) saved
+
+pub unsaved_when : {A : Type 0} (h : History A) (d : ℕ) (stop : Stop) (Saved Unsaved : Type 0) →
+    is_failed h (DeskAt d) ≡ true → Unsaved → IsSavedWhenStopped h d stop Saved Unsaved
+unsaved_when h d stop Saved Unsaved failed unsaved =
+    subst (λ (b : Bool). MatchBool b Saved Unsaved)
+    (sym (and_none (stops_after_save (Some stop)) (not (is_failed h (DeskAt d))) (ap not failed))) unsaved
+  where
+    and_none : (b c : Bool) → c ≡ false → (b && c) ≡ false
+    and_none true false x = refl
+    and_none false false x = refl
+    and_none b true x = cc
+
+-- a desk that is stopped before its save shows what its set held
+pub can_still : {A : Type 0} (grids : List GridView) (h : History A) (event : Event A) (d capacity : ℕ)
+    (view : DeskView) → (s : DeskRuns grids h d capacity view) → actor_of event ≡ DeskAt d →
+    (let reply : Reply A = Stopped in HoldsOn capacity h event reply (holding_of view s.stored) (both s.stored)) →
+    (let reply : Reply A = Stopped in IsClean grids (quiet event reply ∷ h) (AtDesk d) →
+    CanHold capacity (quiet event reply ∷ h) d (both s.stored))
+can_still grids h event d capacity view s named does honest = inl (named, _, s.can honest.1, does)
 
 -- a call that lacked memory changed nothing, so the desk is as it was
 pub lacks_same : {A : Type 0} (stop : Stop) (Call : DeskView → Type 0) (view : DeskView) (state : DeskState A) →

@@ -28,9 +28,9 @@ use Rattle.dm_event_history.proofs.Printed.{docs_keep}
 use Rattle.dm_event_steps.specs.declared.actor.DeskState.{DeskState}
 use Rattle.dm_event_steps.specs.declared.actor.DeskState.TheVariants as desks
 use Rattle.dm_event_steps.specs.declared.actor.LeftExport.{LeftExport}
-use Rattle.dm_event_steps.specs.Labels.{IsPart}
 use Rattle.dm_event_steps.specs.Gathered.{IsGathered}
-use Rattle.dm_event_steps.specs.DeskStands.{DeskRuns}
+use Rattle.dm_event_history.specs.Held.{HoldsOn, IsPart}
+use Rattle.dm_event_steps.specs.DeskStands.{holding_of, DeskRuns}
 use Rattle.dm_event_steps.specs.DeskActs.{ExportsPages, ExportActs}
 use Rattle.dm_event_steps.specs.Exports.{export_name_of, AreParts, ShowsPages}
 use Rattle.dm_event_steps.specs.Goes.{quiet, DeskGoes, ExportsGo}
@@ -112,9 +112,10 @@ export_goes {A} ranges capacities grids h d id capacity reply view state old new
     goes : (r : Reply A) → IsFine ranges h 0 (Export d id) r → r ≢ NoSuch → r ≢ replies.Down → r ≢ Stopped →
         ¬ (tells_of_save r ≡ true) →
         ((i : ℕ) → ¬ Forgets (Export d id) r d i) → down_after r false ≡ false → ((b : Bool) → failed_after r b ≡ b) →
+        HoldsOn capacity h (Export d id) r (holding_of view s.stored) (holding_of view s.stored) →
         (IsGathered h d view.held → IsReplySafe h (Export d id) r) →
         DeskGoes ranges capacities grids h (Export d id) r d capacity state
-    goes r fine some down unstopped untold stays up failed safe =
+    goes r fine some down unstopped untold stays up failed does safe =
         subst (λ (x : DeskState A). DeskGoes ranges capacities grids h (Export d id) r d capacity x) (sym same)
         (desk_kept ranges capacities grids h (Export d id) r d capacity view view room s refl (record {
           named = refl;
@@ -127,8 +128,8 @@ export_goes {A} ranges capacities grids h d id capacity reply view state old new
           is_reply = fine;
           failed = λ _ saves. absurd (let x : false ≡ true = saves in cc (x));
           untold = untold;
-        }) up (failed (is_failed h (DeskAt d))) (λ i m t. absurd t) stays (λ honest. safe (s.gathered honest.1))
-        (λ fair. tt))
+        }) up (failed (is_failed h (DeskAt d))) (λ i m t. absurd t) stays (λ honest. does)
+        (λ honest. safe (s.gathered honest.1)) (λ fair. tt))
 
     shown : (tells : Reply A) (r : Reply A) → (x : ExportsPages view id old r new) →
         tells ≡ Exported (length old + 0) x.export.id x.export.count x.export.mask →
@@ -167,6 +168,7 @@ export_goes {A} ranges capacities grids h d id capacity reply view state old new
         (sym x.reply_is) (
           goes tells (refl, record { index_is = index; id_is = x.id_is })
               (λ y. cc) (λ y. cc) (λ y. cc) (λ y. cc) (λ i y. y) refl (λ b. refl)
+              (x.pages, x.are_held, x.count_is, x.mask_is, refl)
               (λ g. record {
                 document = (parts_held h d id view.held x.pages g x.are_held).cut;
                 printed = (parts_held h d id view.held x.pages g x.are_held).printed;
@@ -198,17 +200,17 @@ export_goes {A} ranges capacities grids h d id capacity reply view state old new
     by_reply (Exported index name n bits) x = told (Exported index name n bits) x
     by_reply (ExportRefused export_fault.NotHeld) x = (
       goes (ExportRefused export_fault.NotHeld) (refl, tt) (λ y. cc) (λ y. cc) (λ y. cc) (λ y. cc) (λ i y. y) refl
-          (λ b. refl)
+          (λ b. refl) (x.1, refl)
           (λ g. not_surely h d id view.held g (not_held (finite.get view.held id) refl x.1)),
       no_export grids h (Export d id) (ExportRefused export_fault.NotHeld) old new x.0 refl,
     )
     by_reply (ExportRefused export_fault.Memory) x = (
       goes (ExportRefused export_fault.Memory) (refl, tt) (λ y. cc) (λ y. cc) (λ y. cc) (λ y. cc) (λ i y. y) refl
-          (λ b. refl) (λ g. tt),
+          (λ b. refl) (x.1, refl) (λ g. tt),
       no_export grids h (Export d id) (ExportRefused export_fault.Memory) old new x.0 refl,
     )
     by_reply Memory x = (
-      goes Memory (refl, tt) (λ y. cc) (λ y. cc) (λ y. cc) (λ y. cc) (λ i y. y) refl (λ b. refl) (λ g. tt),
+      goes Memory (refl, tt) (λ y. cc) (λ y. cc) (λ y. cc) (λ y. cc) (λ i y. y) refl (λ b. refl) refl (λ g. tt),
       no_export grids h (Export d id) Memory old new x refl,
     )
     by_reply r x = absurd x

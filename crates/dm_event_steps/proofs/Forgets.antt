@@ -1,6 +1,6 @@
 -- A forget at a running desk gives an entry that fits the history.
 use Rattle.std.proofs.Common.{◌≡◌, ◌≢◌, inl, inr, ◌<◌, ◌≤◌, ℕ, zero, suc, Bool, true, false, cond, Option, Some, None, Result, Ok, Err, List, [], ◌∷◌, length, IsSome, refl, ap, sym, ◌∙◌, subst}
-use Rattle.std.specs.Prelude.{unwrap_or, option_map}
+use Rattle.std.specs.Prelude.{unwrap_or, option_map, MatchBool}
 use Rattle.std.specs.Cmp.{nat_cmp_total}
 use Rattle.std.specs.FinMap as finite
 use Rattle.std.specs.FinMap.{get-remove}
@@ -29,7 +29,7 @@ use Rattle.dm_event_history.specs.declared.stop.Stop.TheVariants as stops
 use Rattle.dm_event_history.specs.Actors.{DeskAt}
 use Rattle.dm_event_history.specs.History.{Entry, History}
 use Rattle.dm_event_history.specs.Running.{failed_after, is_failed, IsOfFailed}
-use Rattle.dm_event_history.specs.Saving.{may_save}
+use Rattle.dm_event_history.specs.Saving.{may_save, stops_after_save, leaves_new}
 use Rattle.dm_event_history.specs.Holding.{Forgets, IsPossiblyHeld, known_of}
 use Rattle.dm_event_history.specs.Legal.{IsForgetRefused}
 use Rattle.dm_event_history.specs.Tainted.{AtDesk}
@@ -39,13 +39,14 @@ use Rattle.dm_event_steps.specs.declared.actor.DeskState.{DeskState}
 use Rattle.dm_event_steps.specs.declared.actor.DeskState.TheVariants as desks
 use Rattle.dm_event_steps.specs.Acts.{IsCalled, next_save_of}
 use Rattle.dm_event_steps.specs.Gathered.{IsGathered}
-use Rattle.dm_event_steps.specs.DeskStands.{SetStands, DeskRuns}
+use Rattle.dm_event_history.specs.Held.{both, with_unsaved, HoldsOn}
+use Rattle.dm_event_steps.specs.DeskStands.{holding_of, SetStands, DeskRuns}
 use Rattle.dm_event_steps.specs.DeskActs.{ForgetsOne, desk_planned, StopsDesk, CallActs, forget_reply}
 use Rattle.dm_event_steps.specs.Goes.{quiet, DeskGoes}
 use Rattle.dm_event_steps.proofs.DeskFacts.{some_page}
 use Rattle.dm_event_steps.proofs.Asks.{not_surely, page_is}
 use Rattle.dm_event_steps.proofs.Gathering.{HoldsWithout, gathered_keeps, gathered_without}
-use Rattle.dm_event_steps.proofs.DeskGoing.{none_leaves, not_failed, memory_goes, lacks_same, set_keeps, fine_desk, done_with_none, faulted_with, desk_kept, set_saved, desk_saves, kept_held, desk_fails, desk_stopped, call_told, stop_told}
+use Rattle.dm_event_steps.proofs.DeskGoing.{none_leaves, not_failed, memory_goes, lacks_same, set_keeps, fine_desk, done_with_none, faulted_with, desk_kept, set_saved, desk_saves, kept_held, desk_fails, desk_stopped, call_told, stop_told, saved_when, unsaved_when, can_still}
 
 -- ---- what is held without a document
 
@@ -115,23 +116,26 @@ gathered_less {A} grids h d id capacity stop reply view s may was stays honest =
 refused_goes : {A : Type 0} (ranges : List Range) (capacities : List ℕ) (grids : List GridView) (h : History A)
     (d id capacity : ℕ) (stop : Stop)
     (view mid : DeskView) (fault : ForgetFault) → d < length capacities → IsCapacity capacity →
-    DeskRuns grids h d capacity view → IsCalled stop →
+    (s : DeskRuns grids h d capacity view) → IsCalled stop →
     mid ≡ desk_planned view (next_save_of stop) →
     ((b : Bool) → (let reply : Reply A = ForgetRefused fault in failed_after reply b ≡ b)) →
     (let reply : Reply A = ForgetRefused fault in is_failed h (DeskAt d) ≡ true → IsOfFailed (Forget d id stop) reply) →
-    IsForgetRefused h d stop fault → (IsClean grids (quiet (Forget d id stop) (ForgetRefused fault) ∷ h) (AtDesk d) →
+    IsForgetRefused h d stop fault →
+    (let reply : Reply A = ForgetRefused fault in
+    HoldsOn capacity h (Forget d id stop) reply (holding_of view s.stored) (holding_of view s.stored)) →
+    (IsClean grids (quiet (Forget d id stop) (ForgetRefused fault) ∷ h) (AtDesk d) →
     IsForgetSafe (known_of h) d id fault) →
     DeskGoes ranges capacities grids h (Forget d id stop) (ForgetRefused fault) d capacity
     (desks.Running (desk_planned mid next_save.Fine))
 refused_goes {A} ranges capacities grids h d id capacity stop view mid fault there room s called same failed refuses why
-    safe =
+    does safe =
     desk_kept ranges capacities grids h (Forget d id stop) (ForgetRefused fault) d capacity view
     (desk_planned mid next_save.Fine) room s
     (ap (λ (v : DeskView). desk_planned v next_save.Fine) same ∙ fine_desk view (next_save_of stop) s.store.ready)
     (call_told ranges (length capacities) h (Forget d id stop) (ForgetRefused fault) d stop refl there s.up called
     (λ x. x) (λ x. cc) (λ x. cc) (λ x. cc)
     (refl, why) refuses (λ x. cc))
-    refl (failed (is_failed h (DeskAt d))) (λ i m t. absurd t) (λ i x. x) safe (λ fair. tt)
+    refl (failed (is_failed h (DeskAt d))) (λ i m t. absurd t) (λ i x. x) (λ honest. does) safe (λ fair. tt)
 
 few_kept : (k : Kept) (view : DeskView) (id : ℕ) → finite.len view.held ≤ view.capacity →
     finite.len (kept_held k view.held (finite.remove view.held id)) ≤ view.capacity
@@ -172,17 +176,18 @@ running_goes {A} ranges capacities grids h d id capacity stop view mid (Ok done)
     (λ x. x) (λ x. cc) (λ x. cc) (λ x. cc) (refl, none) (not_failed grids h d capacity view s was _) (λ x. cc))
     refl refl
     (gathered_less grids h d id capacity stop Forgotten view s refl was (λ other away x. away (sym x.1)))
+    (λ honest. (acts.was_held, refl))
     (λ honest. some_possibly h d id view.held (s.gathered honest.1) order.entries acts.was_held)
     (λ fair. tt)
 running_goes ranges capacities grids h d id capacity stop view mid
     (Err forget_fault.NotHeld) there room s called order was acts =
     refused_goes ranges capacities grids h d id capacity stop view mid forget_fault.NotHeld there room s called acts.1
-    (λ b. refl) (not_failed grids h d capacity view s was _) tt
+    (λ b. refl) (not_failed grids h d capacity view s was _) tt (acts.0, refl)
     (λ honest. not_surely h d id view.held (s.gathered honest.1) acts.0)
 running_goes ranges capacities grids h d id capacity stop view mid
     (Err forget_fault.Memory) there room s called order was acts =
     refused_goes ranges capacities grids h d id capacity stop view mid forget_fault.Memory there room s called acts.1
-    (λ b. refl) (not_failed grids h d capacity view s was _) tt (λ honest. tt)
+    (λ b. refl) (not_failed grids h d capacity view s was _) tt (acts.0, refl) (λ honest. tt)
 running_goes {A} ranges capacities grids h d id capacity stop view mid
     (Err forget_fault.Save) there room s called order was acts =
     let saves = acts.removed.there (kept_file grids h d id capacity view s was acts.was_held) in
@@ -191,6 +196,14 @@ running_goes {A} ranges capacities grids h d id capacity stop view mid
     (desks.Running (desk_planned mid next_save.Fine))) (sym k.1)
     (by_kept k.0 (subst (λ (t : Stop). forgetting.FailsToLetGo id (desk_planned view (next_save_of t)) mid) k.1 acts))
   where
+    -- what is held then
+    kept_does : (k : Kept) → MatchBool (leaves_new (Some (SaveFault k)))
+        (holding_of view (kept_held k view.held (finite.remove view.held id)) ≡
+        with_unsaved (holding_of view s.stored) (finite.remove view.held id))
+        (holding_of view (kept_held k view.held (finite.remove view.held id)) ≡ holding_of view s.stored)
+    kept_does kept.Old = ap (holding_of view) (s.shows was)
+    kept_does kept.New = refl
+
     by_kept : (k : Kept) → forgetting.FailsToLetGo id (desk_planned view (next_save_of (SaveFault k))) mid →
         DeskGoes ranges capacities grids h (Forget d id (SaveFault k)) (ForgetRefused forget_fault.Save) d capacity
         (desks.Running (desk_planned mid next_save.Fine))
@@ -206,7 +219,7 @@ running_goes {A} ranges capacities grids h d id capacity stop view mid
         refl refl (gathered_kept grids h d id capacity k view s was)
         (λ honest. gathered_keeps (quiet event reply) h d view.held (λ x. none_leaves event reply _ x)
         (λ i m t. absurd t) (λ i x. x) (s.gathered honest.1))
-        (λ honest. tt) (λ fair. tt)
+        (λ honest. (f.was_held, kept_does k)) (λ honest. tt) (λ fair. tt)
 running_goes ranges capacities grids h d id capacity stop view mid
     (Err forget_fault.Failed) there room s called order was acts = absurd acts
 
@@ -239,7 +252,7 @@ called_goes {A} ranges capacities grids h d id capacity stop view mid given ther
         (desks.Running (desk_planned mid next_save.Fine))) (sym x.0)
         (refused_goes ranges capacities grids h d id capacity stop view mid forget_fault.Failed there room s called x.1
         (λ b. refl) (λ _ _. inl tt)
-        (sym s.failed ∙ was) (λ honest. tt)))
+        (sym s.failed ∙ was) refl (λ honest. tt)))
     by_failed false was =
         running_goes ranges capacities grids h d id capacity stop view mid given there room s called
         (order_of id view mid (next_save_of stop) given f) was
@@ -247,19 +260,29 @@ called_goes {A} ranges capacities grids h d id capacity stop view mid given ther
 
 -- ---- a forget that is stopped
 
+-- what the set of a desk holds after a forget that was stopped once it had saved, if it came so far, and that the forget
+-- may have done just this
+abbrev IsStored : {A : Type 0} (grids : List GridView) (h : History A) (d id capacity : ℕ) (stop : Stop)
+    (view mid : DeskView) → DeskRuns grids h d capacity view → Type 0
+IsStored {A} grids h d id capacity stop view mid s =
+    (let reply : Reply A = Stopped in
+    (stored : Documents) × SetStands grids (quiet (Forget d id stop) reply ∷ h) d capacity
+    (desk_planned mid next_save.Fine).saved stored
+    × HoldsOn capacity h (Forget d id stop) reply (holding_of view s.stored) (both stored))
+
 stored_stopped : {A : Type 0} (grids : List GridView) (h : History A) (d id capacity : ℕ) (stop : Stop)
     (view mid : DeskView)
-    (given : Result (Unit {0}) ForgetFault) → DeskRuns grids h d capacity view →
-    (let reply : Reply A = Stopped in may_save (Forget d id stop) reply ≡ true) →
+    (given : Result (Unit {0}) ForgetFault) → (s : DeskRuns grids h d capacity view) →
+    stops_after_save (Some stop) ≡ true → given ≢ Err forget_fault.Memory →
     ForgetsOne id (desk_planned view next_save.Fine) given mid →
-    (stored : Documents) × SetStands grids (quiet (Forget d id stop) Stopped ∷ h) d capacity
-    (desk_planned mid next_save.Fine).saved stored
-stored_stopped {A} grids h d id capacity stop view mid given s may f = by_failed view.is_failed refl
+    IsStored grids h d id capacity stop view mid s
+stored_stopped {A} grids h d id capacity stop view mid given s may had f = by_failed view.is_failed refl
   where
     same : mid ≡ desk_planned view next_save.Fine →
-        (stored : Documents) × SetStands grids (quiet (Forget d id stop) Stopped ∷ h) d capacity
-        (desk_planned mid next_save.Fine).saved stored
-    same is =
+        (let reply : Reply A = Stopped in
+        HoldsOn capacity h (Forget d id stop) reply (holding_of view s.stored) (both s.stored)) →
+        IsStored grids h d id capacity stop view mid s
+    same is does =
         let e : Entry A = quiet (Forget d id stop) Stopped in
         let after : desk_planned mid next_save.Fine ≡ view =
         ap (λ (v : DeskView). desk_planned v next_save.Fine) is ∙ fine_desk view next_save.Fine s.store.ready in (
@@ -267,13 +290,13 @@ stored_stopped {A} grids h d id capacity stop view mid given s may f = by_failed
           subst (λ (v : DeskView). SetStands grids (e ∷ h) d capacity v.saved s.stored) (sym after)
               (set_keeps e h grids grids d capacity view.saved s.stored (λ honest. honest.1)
               (λ x. none_leaves {A = A} (Forget d id stop) Stopped _ x) (λ i m t. absurd t) (λ i x. x) s.store),
+          does,
         )
 
-    by_given : (r : Result (Unit {0}) ForgetFault) → view.is_failed ≡ false →
+    by_given : (r : Result (Unit {0}) ForgetFault) → view.is_failed ≡ false → r ≢ Err forget_fault.Memory →
         forgetting.Forgets id (desk_planned view next_save.Fine) r mid →
-        (stored : Documents) × SetStands grids (quiet (Forget d id stop) Stopped ∷ h) d capacity
-        (desk_planned mid next_save.Fine).saved stored
-    by_given (Ok done) was x =
+        IsStored grids h d id capacity stop view mid s
+    by_given (Ok done) was had x =
         let saves = x.removed.there (kept_file grids h d id capacity view s was x.was_held) in (
           finite.remove view.held id,
           set_saved grids (quiet (Forget d id stop) Stopped) h d capacity view mid next_save.Fine _
@@ -281,18 +304,19 @@ stored_stopped {A} grids h d id capacity stop view mid given s may f = by_failed
               (subst (λ (c : ℕ). finite.len (finite.remove view.held id) ≤ c) s.capacity_is
               (few_remove view.held id view.capacity f.before.few))
               (gathered_less grids h d id capacity stop Stopped view s may was (λ other away x. x)),
+          saved_when h d stop _ _ may (sym s.failed ∙ was) (inl (x.was_held, refl)),
         )
-    by_given (Err forget_fault.NotHeld) was x = same x.1
-    by_given (Err forget_fault.Memory) was x = same x.1
-    by_given (Err forget_fault.Save) was x =
+    by_given (Err forget_fault.NotHeld) was had x =
+        same x.1 (saved_when h d stop _ _ may (sym s.failed ∙ was) (inr (x.0, refl)))
+    by_given (Err forget_fault.Memory) was had x = absurd (had refl)
+    by_given (Err forget_fault.Save) was had x =
         absurd (x.removed.there (kept_file grids h d id capacity view s was x.was_held)).follows
-    by_given (Err forget_fault.Failed) was x = absurd x
+    by_given (Err forget_fault.Failed) was had x = absurd x
 
     by_failed : (b : Bool) → view.is_failed ≡ b →
-        (stored : Documents) × SetStands grids (quiet (Forget d id stop) Stopped ∷ h) d capacity
-        (desk_planned mid next_save.Fine).saved stored
-    by_failed true was = same (f.failed was).1
-    by_failed false was = by_given given was (f.forgotten was)
+        IsStored grids h d id capacity stop view mid s
+    by_failed true was = same (f.failed was).1 (unsaved_when h d stop _ _ (sym s.failed ∙ was) refl)
+    by_failed false was = by_given given was had (f.forgotten was)
 
 stopped_goes : {A : Type 0} (ranges : List Range) (capacities : List ℕ) (grids : List GridView) (h : History A)
     (d id capacity : ℕ) (stop : Stop)
@@ -316,23 +340,27 @@ stopped_goes {A} ranges capacities grids h d id capacity stop view state there r
     by_stop BeforeSave x = desk_stopped ranges capacities grids h
         (Forget d id BeforeSave) d capacity view.saved s.stored state room
         (stop_told ranges (length capacities) h (Forget d id BeforeSave) d refl there s.up tt
-        (refl, tt)) (before BeforeSave) tt tt x
+        (refl, tt)) (before BeforeSave)
+        (can_still grids h (Forget d id BeforeSave) d capacity view s refl refl) tt tt x
     by_stop (InSave kept.Old) x = desk_stopped ranges capacities grids h
         (Forget d id (InSave kept.Old)) d capacity view.saved s.stored state room
         (stop_told ranges (length capacities) h (Forget d id (InSave kept.Old)) d refl there s.up tt
-        (refl, tt)) (before (InSave kept.Old)) tt tt x
+        (refl, tt)) (before (InSave kept.Old))
+        (can_still grids h (Forget d id (InSave kept.Old)) d capacity view s refl refl) tt tt x
     by_stop (InSave kept.New) x =
-        (let stored = stored_stopped grids h d id capacity (InSave kept.New) view x.0 x.1.0 s refl x.1.2 in
+        (let stored = stored_stopped grids h d id capacity (InSave kept.New) view x.0 x.1.0 s refl x.1.1 x.1.2
+        in
         desk_stopped ranges capacities grids h (Forget d id (InSave kept.New)) d capacity
         (desk_planned x.0 next_save.Fine).saved stored.0 state room
         (stop_told ranges (length capacities) h (Forget d id (InSave kept.New)) d refl there s.up tt
-        (refl, tt)) stored.1 tt tt x.2)
+        (refl, tt)) stored.1 (λ honest. inl (refl, _, s.can honest.1, stored.2)) tt tt x.2)
     by_stop (AfterLabels most) x =
-        (let stored = stored_stopped grids h d id capacity (AfterLabels most) view x.0 x.1.0 s refl x.1.2 in
+        (let stored = stored_stopped grids h d id capacity (AfterLabels most) view x.0 x.1.0 s refl x.1.1 x.1.2
+        in
         desk_stopped ranges capacities grids h (Forget d id (AfterLabels most)) d capacity
         (desk_planned x.0 next_save.Fine).saved stored.0 state room
         (stop_told ranges (length capacities) h (Forget d id (AfterLabels most)) d refl there s.up tt
-        (refl, tt)) stored.1 tt tt x.2)
+        (refl, tt)) stored.1 (λ honest. inl (refl, _, s.can honest.1, stored.2)) tt tt x.2)
     by_stop stops.None x = absurd x
     by_stop (SaveFault k) x = absurd x
 
@@ -362,5 +390,5 @@ forget_goes {A} ranges capacities grids h d id capacity stop view reply state th
     (stopped_goes ranges capacities grids h d id capacity stop view state there room s stopped.1)
 forget_goes ranges capacities grids h d id capacity stop view reply state there room s (inr (inr lacks)) =
     memory_goes ranges capacities grids h (Forget d id stop) d capacity view reply state room s refl there
-    (refl, lacks.1.to_be_stopped) (λ i m t. t) (λ i x. x) tt tt lacks.0
+    (refl, lacks.1.to_be_stopped) (λ i m t. t) (λ i x. x) (λ x. refl) tt tt lacks.0
     (lacks_same stop _ view state s.store.ready (none_forgotten id (desk_planned view next_save.Fine)) lacks.1)

@@ -12,7 +12,7 @@ use Rattle.dm_event_history.specs.History.{Entry, History, CutDocument, docs, ex
 use Rattle.dm_event_history.specs.Holding.{Takes, MayTakeAfter, Forgets, MayForgetAfter, IsSurelyHeld, IsPossiblyHeld}
 use Rattle.dm_event_history.proofs.Deciding.{same_or_other}
 use Rattle.dm_event_history.proofs.Printed.{docs_keep}
-use Rattle.dm_event_steps.specs.Labels.{IsPart}
+use Rattle.dm_event_history.specs.Held.{IsPart}
 use Rattle.dm_event_steps.specs.Exports.{AreParts}
 use Rattle.dm_event_steps.specs.Gathered.{counted, IsGathered}
 use Rattle.dm_event_steps.proofs.DeskFacts.{HoldsAlso}

@@ -6,7 +6,7 @@ use Rattle.dm_print_ledger.specs.Ledger.{IsSound, Spells}
 use Rattle.dm_print_ledger.specs.Views.{LedgerView, PrinterView}
 use Rattle.dm_event_history.specs.History.{Entry, History, tickets}
 use Rattle.dm_event_history.specs.Saving.{may_save}
-use Rattle.dm_event_history.specs.Ledgers.{IsLedgerOf, IsPrinterAfter, CanDo, CannotDo, IsReason, IsUnderLeast, GoesByLedger}
+use Rattle.dm_event_history.specs.Ledgers.{IsLedgerOf, IsPrinterAfter, CanDo, CannotDo, IsReason, UsesLeast, GoesByLedger}
 use Rattle.dm_event_steps.specs.Stands.{Runs}
 
 -- what a store holds is sound
@@ -41,7 +41,7 @@ view_after ranges h p view s was = record {
 -- an entry that saved, as all was as it should be
 pub goes_saved : {A : Type 0} (ranges : List Range) (h : History A) (e : Entry A) (p : ℕ) (view : PrinterView) →
     IsPrinterAfter ranges h p view → IsReason view (tickets h) e.event e.reply → CanDo view (tickets h) e.event →
-    IsUnderLeast view e.event e.id → e.saved ≡ true → GoesByLedger ranges h e p
+    UsesLeast view e.event e.id → e.saved ≡ true → GoesByLedger ranges h e p
 goes_saved ranges h e p view is reason can least saved = record {
   view = view;
   is = is;

@@ -38,7 +38,7 @@ use Rattle.dm_event_history.specs.declared.stop.Stop.TheVariants as stops
 use Rattle.dm_event_history.specs.Actors.{DeskAt}
 use Rattle.dm_event_history.specs.History.{Entry, History, CutDocument, ExportName, docs, exports}
 use Rattle.dm_event_history.specs.Running.{failed_after, is_failed, IsOfFailed}
-use Rattle.dm_event_history.specs.Saving.{may_save}
+use Rattle.dm_event_history.specs.Saving.{may_save, stops_after_save}
 use Rattle.dm_event_history.specs.Masks.{HasPage}
 use Rattle.dm_event_history.specs.Holding.{Takes, Forgets, known_of}
 use Rattle.dm_event_history.specs.Legal.{IsImportRefused, IsImported}
@@ -50,7 +50,8 @@ use Rattle.dm_event_steps.specs.declared.actor.DeskState.TheVariants as desks
 use Rattle.dm_event_steps.specs.declared.actor.LeftExport.{LeftExport}
 use Rattle.dm_event_steps.specs.Acts.{IsCalled, next_save_of}
 use Rattle.dm_event_steps.specs.Gathered.{IsGathered}
-use Rattle.dm_event_steps.specs.DeskStands.{SetStands, DeskRuns}
+use Rattle.dm_event_history.specs.Held.{both, with_answered, ArePagesOfExport, HoldsOn}
+use Rattle.dm_event_steps.specs.DeskStands.{holding_of, SetStands, DeskRuns}
 use Rattle.dm_event_steps.specs.DeskActs.{ImportsIn, desk_planned, StopsDesk, CallActs, import_reply}
 use Rattle.dm_event_steps.specs.Exports.{export_name_of, AreParts, ShowsPages}
 use Rattle.dm_event_steps.specs.Goes.{quiet, DeskGoes}
@@ -59,7 +60,7 @@ use Rattle.dm_event_steps.proofs.Asks.{not_surely, counted_is, page_is, some_non
 use Rattle.dm_event_steps.proofs.Scans.{other_held}
 use Rattle.dm_event_steps.proofs.Exports.{named_there, there_named}
 use Rattle.dm_event_steps.proofs.Gathering.{HoldsFileToo, gathered_keeps, gathered_with_file}
-use Rattle.dm_event_steps.proofs.DeskGoing.{none_leaves, not_failed, memory_goes, lacks_same, set_keeps, fine_desk, done_with_none, faulted_with, desk_kept, set_saved, desk_saves, kept_held, desk_fails, desk_stopped, call_told, stop_told}
+use Rattle.dm_event_steps.proofs.DeskGoing.{none_leaves, not_failed, memory_goes, lacks_same, set_keeps, fine_desk, done_with_none, faulted_with, desk_kept, set_saved, desk_saves, kept_held, desk_fails, desk_stopped, call_told, stop_told, saved_when, unsaved_when, can_still}
 
 -- an export that left is imported at a desk that runs
 pub record IsBrought {A : Type 0} (capacities : List ℕ) (grids : List GridView) (h : History A) (d number capacity : ℕ)
@@ -268,29 +269,54 @@ no_conflict h d id held own pages g parts is (inr differs) =
     let y : slice_get parts.cut.parts p.0 ≡ Some differs.other = p.2 in
     differs.differ (cc (x, y))
 
+-- ---- what is held then
+
+-- the pages of a clean export are parts of what was printed
+pages_of_export : {A : Type 0} (capacities : List ℕ) (grids : List GridView) (h : History A) (d number capacity : ℕ)
+    (view : DeskView) (export : LeftExport A) → (s : IsBrought capacities grids h d number capacity view export) →
+    IsClean grids h (InExport number) → ArePagesOfExport h number export.id s.shows.pages
+pages_of_export capacities grids h d number capacity view export s clean =
+    let parts = s.shows.parts clean in record {
+      name = export_name_of export;
+      has_left = s.named;
+      id_is = refl;
+      count_is = s.shows.count_is;
+      mask_is = s.shows.mask_is;
+      cut = parts.cut;
+      printed = parts.printed;
+      each = parts.each;
+    }
+
+with_other : (kind : Kind) (old new : Documents) → kind ≢ Again → with_answered kind old new ≡ new
+with_other Again old new other = absurd (other refl)
+with_other New old new other = refl
+with_other Complete old new other = refl
+
 -- ---- each answer
 
 refused_goes : {A : Type 0} (ranges : List Range) (capacities : List ℕ) (grids : List GridView) (h : History A)
     (d number capacity : ℕ) (stop : Stop)
     (view mid : DeskView) (export : LeftExport A) (fault : ImportFault) →
-    IsBrought capacities grids h d number capacity view export → IsCalled stop →
+    (s : IsBrought capacities grids h d number capacity view export) → IsCalled stop →
     mid ≡ desk_planned view (next_save_of stop) →
     ((b : Bool) → (let reply : Reply A = ImportRefused fault in failed_after reply b ≡ b)) →
     (let reply : Reply A = ImportRefused fault in
     is_failed h (DeskAt d) ≡ true → IsOfFailed (Import d number stop) reply) →
     IsImportRefused h d stop fault →
+    (let reply : Reply A = ImportRefused fault in
+    HoldsOn capacity h (Import d number stop) reply (holding_of view s.runs.stored) (holding_of view s.runs.stored)) →
     (IsClean grids h (InExport number) → IsHonestlyNotImported grids capacities h d number fault) →
     DeskGoes ranges capacities grids h (Import d number stop) (ImportRefused fault) d capacity
     (desks.Running (desk_planned mid next_save.Fine))
 refused_goes {A} ranges capacities grids h d number capacity stop view mid export fault s called same failed refuses
-    why answers =
+    why does answers =
     desk_kept ranges capacities grids h (Import d number stop) (ImportRefused fault) d capacity view
     (desk_planned mid next_save.Fine) s.room s.runs
     (ap (λ (v : DeskView). desk_planned v next_save.Fine) same ∙ fine_desk view (next_save_of stop) s.runs.store.ready)
     (call_told ranges (length capacities) h (Import d number stop)
     (ImportRefused fault) d stop refl s.there s.runs.up called (λ x. x) (λ x. cc) (λ x. cc)
     (λ x. cc) (refl, why) refuses (λ x. cc))
-    refl (failed (is_failed h (DeskAt d))) (λ i m t. absurd t) (λ i x. x) (λ honest. tt) answers
+    refl (failed (is_failed h (DeskAt d))) (λ i m t. absurd t) (λ i x. x) (λ honest. does) (λ honest. tt) answers
 
 -- all pages of the export are held already
 again_goes : {A : Type 0} (ranges : List Range) (capacities : List ℕ) (grids : List GridView) (h : History A)
@@ -324,6 +350,16 @@ again_goes {A} ranges capacities grids h d number capacity stop view mid export 
     refl refl
     (λ id m t. (at id m t, subst (λ (x : Documents). IsSome (page_at x id m)) (s.runs.shows was) (at id m t)))
     (λ id x. x)
+    (λ honest. (
+      export.id,
+      s.shows.pages,
+      pages_of_export capacities grids h d number capacity view export s
+          (honest.0 refl refl (sym s.runs.failed ∙ was)),
+      names_are,
+      subst (λ (c : ℕ). import_answer c view.held export.id s.shows.pages ≡ Ok i.kind) s.runs.capacity_is is,
+      ap (holding_of view) (sym (s.runs.shows was)) ∙
+          ap (λ (k : Kind). both (with_answered k view.held (with_file view.held export.id s.shows.pages))) (sym again),
+    ))
     (λ honest. imported_safe capacities grids h d number capacity view export i s
     (s.runs.gathered honest.1) names_are is)
     (λ fair. tt)
@@ -333,12 +369,13 @@ took_goes : {A : Type 0} (ranges : List Range) (capacities : List ℕ) (grids : 
     (d number capacity : ℕ) (stop : Stop)
     (view mid : DeskView) (export : LeftExport A) (i : imported_type.Imported) →
     (s : IsBrought capacities grids h d number capacity view export) →
-    IsCalled stop → IsInOrder view → NamesFile view.held export.id s.shows.pages i →
+    IsCalled stop → IsInOrder view → NamesFile view.held export.id s.shows.pages i → i.kind ≢ Again →
     import_answer view.capacity view.held export.id s.shows.pages ≡ Ok i.kind →
     KeepsFile export.id s.shows.pages (desk_planned view (next_save_of stop)) mid →
     DeskGoes ranges capacities grids h (Import d number stop) (Imported i) d capacity
     (desks.Running (desk_planned mid next_save.Fine))
-took_goes {A} ranges capacities grids h d number capacity stop view mid export i s called order names_are is keeps =
+took_goes {A} ranges capacities grids h d number capacity stop view mid export i s called order names_are other is
+    keeps =
     let event : Event A = Import d number stop in
     let none : stop ≡ stops.None = done_with_none stop view mid _ called keeps.replaced in
     desk_saves ranges capacities grids h event (Imported i) d capacity view mid (next_save_of stop) _
@@ -354,6 +391,15 @@ took_goes {A} ranges capacities grids h d number capacity stop view mid export i
     (gathered_file capacities grids h d number capacity stop (Imported i) view export i.kind s is refl
     (takes_pages capacities grids h d number capacity stop i view export s) (λ id x. x)
     (sym s.runs.failed ∙ keeps.holding.was_running))
+    (λ honest. (
+      export.id,
+      s.shows.pages,
+      pages_of_export capacities grids h d number capacity view export s
+          (honest.0 refl refl (sym s.runs.failed ∙ keeps.holding.was_running)),
+      names_are,
+      subst (λ (c : ℕ). import_answer c view.held export.id s.shows.pages ≡ Ok i.kind) s.runs.capacity_is is,
+      ap both (sym (with_other i.kind view.held (with_file view.held export.id s.shows.pages) other)),
+    ))
     (λ honest. imported_safe capacities grids h d number capacity view export i s
     (s.runs.gathered honest.1) names_are is)
     (λ fair. tt)
@@ -375,6 +421,25 @@ gathered_kept {A} capacities grids h d number capacity kept.New view export s ne
     gathered_file capacities grids h d number capacity (SaveFault kept.New)
     (ImportRefused import_fault.Save) view export kind.0 s kind.1 refl
     (λ other m t. absurd t) (λ i x. x) unfailed honest)
+
+-- what is held then
+kept_does : {A : Type 0} (capacities : List ℕ) (grids : List GridView) (h : History A) (d number capacity : ℕ)
+    (k : Kept) (view : DeskView)
+    (export : LeftExport A) → (s : IsBrought capacities grids h d number capacity view export) →
+    NeedsSave (import_answer view.capacity view.held export.id s.shows.pages) → view.is_failed ≡ false →
+    IsClean grids (quiet (Import d number (SaveFault k)) (ImportRefused import_fault.Save) ∷ h) (AtDesk d) →
+    (let reply : Reply A = ImportRefused import_fault.Save in
+    HoldsOn capacity h (Import d number (SaveFault k)) reply (holding_of view s.runs.stored)
+    (holding_of view (kept_held k view.held (with_file view.held export.id s.shows.pages))))
+kept_does capacities grids h d number capacity kept.Old view export s needs was honest =
+    ap (holding_of view) (s.runs.shows was)
+kept_does capacities grids h d number capacity kept.New view export s needs was honest = (
+  export.id,
+  s.shows.pages,
+  pages_of_export capacities grids h d number capacity view export s (honest.0 refl refl (sym s.runs.failed ∙ was)),
+  subst (λ (c : ℕ). NeedsSave (import_answer c view.held export.id s.shows.pages)) s.runs.capacity_is needs,
+  refl,
+)
 
 few_kept : (k : Kept) (view : DeskView) (id : ℕ) (pages : Pages) → finite.len view.held ≤ view.capacity →
     NeedsSave (import_answer view.capacity view.held id pages) →
@@ -409,6 +474,7 @@ failed_goes {A} ranges capacities grids h d number capacity k view mid export s 
     (λ honest. gathered_keeps (quiet event reply) h d view.held (λ x. none_leaves event reply _ x) (λ i m t. absurd t)
     (λ i x. x)
     (s.runs.gathered honest.1))
+    (kept_does capacities grids h d number capacity k view export s needs fails.failing.was_running)
     (λ honest. tt) (λ fair. tt)
 
 -- ---- an import that is made
@@ -431,20 +497,36 @@ file_goes {A} ranges capacities grids h d number capacity stop view mid export (
     by_kind Again is changes = again_goes ranges capacities grids h d number capacity stop view mid export i s called
         was acts.0 acts.1 is changes
     by_kind New is changes = took_goes ranges capacities grids h d number capacity stop view mid export i s called order
-        acts.0 acts.1 changes
+        acts.0 (λ x. cc (x, is)) acts.1 changes
     by_kind Complete is changes = took_goes ranges capacities grids h d number capacity stop view mid export i s called
-        order acts.0 acts.1 changes
+        order acts.0 (λ x. cc (x, is)) acts.1 changes
 file_goes ranges capacities grids h d number capacity stop view mid export
     (Err import_fault.Conflict) s called order was acts =
     refused_goes ranges capacities grids h d number capacity stop view mid export import_fault.Conflict s called acts.1
-    (λ b. refl) (not_failed grids h d capacity view s.runs was _) tt
+    (λ b. refl) (not_failed grids h d capacity view s.runs was _) tt (
+      (
+        export.id,
+        s.shows.pages,
+        subst (λ (c : ℕ). import_answer c view.held export.id s.shows.pages ≡ Err import_fault.Conflict)
+            s.runs.capacity_is acts.0,
+      ),
+      refl,
+    )
     (λ clean honest. let c = import_conflict view.capacity view.held export.id s.shows.pages acts.0 in
     no_conflict h d export.id view.held c.0 s.shows.pages (s.runs.gathered honest) (s.shows.parts clean) c.1 c.2)
 file_goes ranges capacities grids h d number capacity stop view mid export
     (Err import_fault.Full) s called order was acts =
     let full = import_full view.capacity view.held export.id s.shows.pages acts.0 in
     refused_goes ranges capacities grids h d number capacity stop view mid export import_fault.Full s called acts.1
-    (λ b. refl) (not_failed grids h d capacity view s.runs was _) tt
+    (λ b. refl) (not_failed grids h d capacity view s.runs was _) tt (
+      (
+        export.id,
+        s.shows.pages,
+        subst (λ (c : ℕ). import_answer c view.held export.id s.shows.pages ≡ Err import_fault.Full)
+            s.runs.capacity_is acts.0,
+      ),
+      refl,
+    )
     (λ clean honest. record {
       name = export_name_of export;
       has_left = s.named;
@@ -456,7 +538,7 @@ file_goes ranges capacities grids h d number capacity stop view mid export
 file_goes ranges capacities grids h d number capacity stop view mid export
     (Err import_fault.Memory) s called order was acts =
     refused_goes ranges capacities grids h d number capacity stop view mid export import_fault.Memory s called acts.1
-    (λ b. refl) (not_failed grids h d capacity view s.runs was _) tt (λ clean. tt)
+    (λ b. refl) (not_failed grids h d capacity view s.runs was _) tt refl (λ clean. tt)
 file_goes {A} ranges capacities grids h d number capacity stop view mid export
     (Err import_fault.Save) s called order was acts =
     let k : (k : Kept) × (stop ≡ SaveFault k) = faulted_with stop view mid _ called acts.1.replaced in
@@ -497,28 +579,40 @@ called_goes {A} ranges capacities grids h d number capacity stop view mid export
         (desks.Running (desk_planned mid next_save.Fine))) (sym x.0)
         (refused_goes ranges capacities grids h d number capacity stop view mid export import_fault.Failed s called x.1
         (λ b. refl) (λ _ _. inl tt)
-        (sym s.runs.failed ∙ was) (λ clean. tt)))
+        (sym s.runs.failed ∙ was) refl (λ clean. tt)))
     by_failed false was =
         file_goes ranges capacities grids h d number capacity stop view mid export given s called order was
         ((f.imported was).spelled export.id s.shows.pages s.shows.spells)
 
 -- ---- an import that is stopped
 
+-- what the set of a desk holds after an import that was stopped once it had saved, if it came so far, and that the import
+-- may have done just this
+abbrev IsStored : {A : Type 0} (capacities : List ℕ) (grids : List GridView) (h : History A) (d number capacity : ℕ)
+    (stop : Stop) (view mid : DeskView) (export : LeftExport A) →
+    IsBrought capacities grids h d number capacity view export → Type 0
+IsStored {A} capacities grids h d number capacity stop view mid export s =
+    (let reply : Reply A = Stopped in
+    (stored : Documents) × SetStands grids (quiet (Import d number stop) reply ∷ h) d capacity
+    (desk_planned mid next_save.Fine).saved stored
+    × (IsClean grids (quiet (Import d number stop) reply ∷ h) (AtDesk d) →
+    HoldsOn capacity h (Import d number stop) reply (holding_of view s.runs.stored) (both stored)))
+
 stored_stopped : {A : Type 0} (capacities : List ℕ) (grids : List GridView) (h : History A) (d number capacity : ℕ)
     (stop : Stop) (view mid : DeskView)
     (export : LeftExport A) (given : Result imported_type.Imported ImportFault) →
-    IsBrought capacities grids h d number capacity view export →
-    (let reply : Reply A = Stopped in may_save (Import d number stop) reply ≡ true) →
+    (s : IsBrought capacities grids h d number capacity view export) →
+    stops_after_save (Some stop) ≡ true → given ≢ Err import_fault.Memory →
     ImportsIn export.bytes (desk_planned view next_save.Fine) given mid →
-    (stored : Documents) × SetStands grids (quiet (Import d number stop) Stopped ∷ h) d capacity
-    (desk_planned mid next_save.Fine).saved stored
-stored_stopped {A} capacities grids h d number capacity stop view mid export given s may f =
+    IsStored capacities grids h d number capacity stop view mid export s
+stored_stopped {A} capacities grids h d number capacity stop view mid export given s may had f =
     by_failed view.is_failed refl
   where
     same : mid ≡ desk_planned view next_save.Fine →
-        (stored : Documents) × SetStands grids (quiet (Import d number stop) Stopped ∷ h) d capacity
-        (desk_planned mid next_save.Fine).saved stored
-    same is =
+        (let reply : Reply A = Stopped in IsClean grids (quiet (Import d number stop) reply ∷ h) (AtDesk d) →
+        HoldsOn capacity h (Import d number stop) reply (holding_of view s.runs.stored) (both s.runs.stored)) →
+        IsStored capacities grids h d number capacity stop view mid export s
+    same is does =
         let e : Entry A = quiet (Import d number stop) Stopped in
         let after : desk_planned mid next_save.Fine ≡ view =
         ap (λ (v : DeskView). desk_planned v next_save.Fine) is ∙ fine_desk view next_save.Fine s.runs.store.ready in (
@@ -527,13 +621,37 @@ stored_stopped {A} capacities grids h d number capacity stop view mid export giv
               (set_keeps e h grids grids d capacity view.saved s.runs.stored (λ honest. honest.1)
               (λ x. none_leaves {A = A} (Import d number stop) Stopped _ x) (λ i m t. absurd t)
               (λ i x. x) s.runs.store),
+          does,
         )
 
-    took : (kind : Kind) → import_answer view.capacity view.held export.id s.shows.pages ≡ Ok kind →
+    -- the export is clean
+    fair : view.is_failed ≡ false →
+        (let reply : Reply A = Stopped in IsClean grids (quiet (Import d number stop) reply ∷ h) (AtDesk d)) →
+        IsClean grids h (InExport number)
+    fair was honest = honest.0 refl may (sym s.runs.failed ∙ was)
+
+    -- its pages were not taken, for this reason
+    kept_as : view.is_failed ≡ false →
+        (import_answer view.capacity view.held export.id s.shows.pages ≡ Ok Again)
+        ⊎ (import_answer view.capacity view.held export.id s.shows.pages ≡ Err import_fault.Full) →
+        (let reply : Reply A = Stopped in IsClean grids (quiet (Import d number stop) reply ∷ h) (AtDesk d) →
+        HoldsOn capacity h (Import d number stop) reply (holding_of view s.runs.stored) (both s.runs.stored))
+    kept_as was why honest = saved_when h d stop _ _ may (sym s.runs.failed ∙ was) (record {
+      id = export.id;
+      pages = s.shows.pages;
+      of_export = pages_of_export capacities grids h d number capacity view export s (fair was honest);
+      took = inr (
+        subst (λ (c : ℕ). (import_answer c view.held export.id s.shows.pages ≡ Ok Again)
+            ⊎ (import_answer c view.held export.id s.shows.pages ≡ Err import_fault.Full)) s.runs.capacity_is why,
+        refl,
+      );
+    })
+
+    took : (kind : Kind) → NeedsSave (import_answer view.capacity view.held export.id s.shows.pages) →
+        import_answer view.capacity view.held export.id s.shows.pages ≡ Ok kind →
         KeepsFile export.id s.shows.pages (desk_planned view next_save.Fine) mid →
-        (stored : Documents) × SetStands grids (quiet (Import d number stop) Stopped ∷ h) d capacity
-        (desk_planned mid next_save.Fine).saved stored
-    took kind is keeps = (
+        IsStored capacities grids h d number capacity stop view mid export s
+    took kind needs is keeps = (
       with_file view.held export.id s.shows.pages,
       set_saved grids (quiet (Import d number stop) Stopped) h d capacity view mid next_save.Fine _
           (with_file view.held export.id s.shows.pages)
@@ -542,35 +660,46 @@ stored_stopped {A} capacities grids h d number capacity stop view mid export giv
           (few_with view.capacity view.held export.id s.shows.pages kind f.before.few is))
           (gathered_file capacities grids h d number capacity stop Stopped view export kind s is may
           (λ other m t. absurd t) (λ i x. x) (sym s.runs.failed ∙ keeps.holding.was_running)),
+      λ honest. saved_when h d stop _ _ may (sym s.runs.failed ∙ keeps.holding.was_running) (record {
+        id = export.id;
+        pages = s.shows.pages;
+        of_export = pages_of_export capacities grids h d number capacity view export s
+            (fair keeps.holding.was_running honest);
+        took = inl (
+          subst (λ (c : ℕ). NeedsSave (import_answer c view.held export.id s.shows.pages)) s.runs.capacity_is needs,
+          refl,
+        );
+      }),
     )
 
-    by_kind : (kind : Kind) → import_answer view.capacity view.held export.id s.shows.pages ≡ Ok kind →
+    by_kind : (kind : Kind) → view.is_failed ≡ false → import_answer view.capacity view.held export.id s.shows.pages ≡ Ok kind →
         ChangesByFile kind export.id s.shows.pages (desk_planned view next_save.Fine) mid →
-        (stored : Documents) × SetStands grids (quiet (Import d number stop) Stopped ∷ h) d capacity
-        (desk_planned mid next_save.Fine).saved stored
-    by_kind Again is changes = same changes
-    by_kind New is changes = took New is changes
-    by_kind Complete is changes = took Complete is changes
+        IsStored capacities grids h d number capacity stop view mid export s
+    by_kind Again was is changes = same changes (kept_as was (inl is))
+    by_kind New was is changes = took New (inl is) is changes
+    by_kind Complete was is changes = took Complete (inr is) is changes
 
-    by_given : (r : Result imported_type.Imported ImportFault) →
-        ImportsFile export.id s.shows.pages (desk_planned view next_save.Fine) r mid →
-        (stored : Documents) × SetStands grids (quiet (Import d number stop) Stopped ∷ h) d capacity
-        (desk_planned mid next_save.Fine).saved stored
-    by_given (Ok i) x = by_kind i.kind x.1 x.2
-    by_given (Err import_fault.Conflict) x = same x.1
-    by_given (Err import_fault.Full) x = same x.1
-    by_given (Err import_fault.Memory) x = same x.1
-    by_given (Err import_fault.Save) x = absurd x.1.replaced.follows
-    by_given (Err import_fault.Failed) x = absurd x
-    by_given (Err import_fault.NotPages) x = absurd x
-    by_given (Err import_fault.Version) x = absurd x
-    by_given (Err import_fault.Damaged) x = absurd x
+    by_given : (r : Result imported_type.Imported ImportFault) → view.is_failed ≡ false →
+        r ≢ Err import_fault.Memory → ImportsFile export.id s.shows.pages (desk_planned view next_save.Fine) r mid →
+        IsStored capacities grids h d number capacity stop view mid export s
+    by_given (Ok i) was had x = by_kind i.kind was x.1 x.2
+    by_given (Err import_fault.Conflict) was had x =
+        same x.1 (λ honest. let c = import_conflict view.capacity view.held export.id s.shows.pages x.0 in
+        absurd (no_conflict h d export.id view.held c.0 s.shows.pages (s.runs.gathered honest.1)
+        (s.shows.parts (fair was honest)) c.1 c.2))
+    by_given (Err import_fault.Full) was had x = same x.1 (kept_as was (inr x.0))
+    by_given (Err import_fault.Memory) was had x = absurd (had refl)
+    by_given (Err import_fault.Save) was had x = absurd x.1.replaced.follows
+    by_given (Err import_fault.Failed) was had x = absurd x
+    by_given (Err import_fault.NotPages) was had x = absurd x
+    by_given (Err import_fault.Version) was had x = absurd x
+    by_given (Err import_fault.Damaged) was had x = absurd x
 
     by_failed : (b : Bool) → view.is_failed ≡ b →
-        (stored : Documents) × SetStands grids (quiet (Import d number stop) Stopped ∷ h) d capacity
-        (desk_planned mid next_save.Fine).saved stored
+        IsStored capacities grids h d number capacity stop view mid export s
     by_failed true was = same (f.failed was).1
-    by_failed false was = by_given given ((f.imported was).spelled export.id s.shows.pages s.shows.spells)
+        (λ honest. unsaved_when h d stop _ _ (sym s.runs.failed ∙ was) refl)
+    by_failed false was = by_given given was had ((f.imported was).spelled export.id s.shows.pages s.shows.spells)
 
 stopped_goes : {A : Type 0} (ranges : List Range) (capacities : List ℕ) (grids : List GridView) (h : History A)
     (d number capacity : ℕ) (stop : Stop)
@@ -594,25 +723,27 @@ stopped_goes {A} ranges capacities grids h d number capacity stop view export st
     by_stop BeforeSave x = desk_stopped ranges capacities grids h
         (Import d number BeforeSave) d capacity view.saved s.runs.stored state s.room
         (stop_told ranges (length capacities) h (Import d number BeforeSave) d refl s.there s.runs.up tt
-        (refl, tt)) (before BeforeSave) tt tt x
+        (refl, tt)) (before BeforeSave)
+        (can_still grids h (Import d number BeforeSave) d capacity view s.runs refl refl) tt tt x
     by_stop (InSave kept.Old) x = desk_stopped ranges capacities grids h
         (Import d number (InSave kept.Old)) d capacity view.saved s.runs.stored state s.room
         (stop_told ranges (length capacities) h (Import d number (InSave kept.Old)) d refl s.there s.runs.up tt
-        (refl, tt)) (before (InSave kept.Old)) tt tt x
+        (refl, tt)) (before (InSave kept.Old))
+        (can_still grids h (Import d number (InSave kept.Old)) d capacity view s.runs refl refl) tt tt x
     by_stop (InSave kept.New) x =
         (let stored = stored_stopped capacities grids h d number capacity
-        (InSave kept.New) view x.0 export x.1.0 s refl x.1.2 in
+        (InSave kept.New) view x.0 export x.1.0 s refl x.1.1 x.1.2 in
         desk_stopped ranges capacities grids h (Import d number (InSave kept.New)) d capacity
         (desk_planned x.0 next_save.Fine).saved stored.0 state s.room
         (stop_told ranges (length capacities) h (Import d number (InSave kept.New)) d refl s.there s.runs.up tt
-        (refl, tt)) stored.1 tt tt x.2)
+        (refl, tt)) stored.1 (λ honest. inl (refl, _, s.runs.can honest.1, stored.2 honest)) tt tt x.2)
     by_stop (AfterLabels most) x =
         (let stored = stored_stopped capacities grids h d number capacity
-        (AfterLabels most) view x.0 export x.1.0 s refl x.1.2 in
+        (AfterLabels most) view x.0 export x.1.0 s refl x.1.1 x.1.2 in
         desk_stopped ranges capacities grids h (Import d number (AfterLabels most)) d capacity
         (desk_planned x.0 next_save.Fine).saved stored.0 state s.room
         (stop_told ranges (length capacities) h (Import d number (AfterLabels most)) d refl s.there s.runs.up tt
-        (refl, tt)) stored.1 tt tt x.2)
+        (refl, tt)) stored.1 (λ honest. inl (refl, _, s.runs.can honest.1, stored.2 honest)) tt tt x.2)
     by_stop stops.None x = absurd x
     by_stop (SaveFault k) x = absurd x
 
@@ -646,7 +777,7 @@ import_goes {A} ranges capacities grids h d number capacity stop view export rep
     (stopped_goes ranges capacities grids h d number capacity stop view export state s stopped.1)
 import_goes ranges capacities grids h d number capacity stop view export reply state s (inr (inr lacks)) =
     memory_goes ranges capacities grids h (Import d number stop) d capacity view reply state s.room s.runs refl s.there
-    (refl, lacks.1.to_be_stopped) (λ i m t. t) (λ i x. x)
+    (refl, lacks.1.to_be_stopped) (λ i m t. t) (λ i x. x) (λ x. refl)
     tt tt lacks.0
     (lacks_same stop _ view state s.runs.store.ready
     (λ mid call. none_imported capacities grids h d number capacity view

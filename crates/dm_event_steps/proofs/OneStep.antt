@@ -21,6 +21,7 @@ use Rattle.dm_event_steps.specs.declared.actor.DeskState.{DeskState}
 use Rattle.dm_event_steps.specs.declared.actor.DeskState.TheVariants as desks
 use Rattle.dm_event_steps.specs.declared.actor.LeftExport.{LeftExport}
 use Rattle.dm_event_steps.specs.Labels.{grid_of}
+use Rattle.dm_event_history.specs.Held.{Holding, HoldsOn, CanHold}
 use Rattle.dm_event_steps.specs.DeskStands.{DeskStands}
 use Rattle.dm_event_steps.specs.DeskActs.{DeskActs}
 use Rattle.dm_event_steps.specs.Goes.{quiet, DeskGoes, ExportsGo}
@@ -150,34 +151,34 @@ desk_goes {A} ranges capacities world h (Scan c number flips stop) reply d capac
     (λ e i x. cc) acts.0
     (desk_down ranges capacities (grids_of world) h (Scan c number flips stop) reply d capacity saved state stands.0
     named there tt (refl, tt) stands.1
-    (λ i m x. x) (λ i x. x) tt tt acts.1 acts.2)
+    (λ i m x. x) (λ i x. x) (λ x. refl) tt tt acts.1 acts.2)
 desk_goes {A} ranges capacities world h (Forget c id stop) reply d capacity
     (desks.Down saved) state new s named there at stands acts =
     silent ranges capacities (grids_of world) h (Forget c id stop) reply d capacity state world.exports new
     (λ e i x. cc) acts.0
     (desk_down ranges capacities (grids_of world) h (Forget c id stop) reply d capacity saved state stands.0 named there
     tt (refl, tt) stands.1
-    (λ i m x. x) (λ i x. x) tt tt acts.1 acts.2)
+    (λ i m x. x) (λ i x. x) (λ x. refl) tt tt acts.1 acts.2)
 desk_goes {A} ranges capacities world h (Import c number stop) reply d capacity
     (desks.Down saved) state new s named there at stands acts =
     silent ranges capacities (grids_of world) h (Import c number stop) reply d capacity state world.exports new
     (λ e i x. cc) acts.0
     (desk_down ranges capacities (grids_of world) h (Import c number stop) reply d capacity saved state stands.0 named
     there tt (refl, tt) stands.1
-    (λ i m x. x) (λ i x. x) tt tt acts.1 acts.2)
+    (λ i m x. x) (λ i x. x) (λ x. refl) tt tt acts.1 acts.2)
 desk_goes {A} ranges capacities world h (Ask c id) reply d capacity
     (desks.Down saved) state new s named there at stands acts =
     silent ranges capacities (grids_of world) h (Ask c id) reply d capacity state world.exports new (λ e i x. cc) acts.0
     (desk_down ranges capacities (grids_of world) h (Ask c id) reply d capacity saved state stands.0 named there tt
     (refl, tt) stands.1
-    (λ i m x. x) (λ i x. x) tt tt acts.1 acts.2)
+    (λ i m x. x) (λ i x. x) (λ x. refl) tt tt acts.1 acts.2)
 desk_goes {A} ranges capacities world h (Export c id) reply d capacity
     (desks.Down saved) state new s named there at stands acts =
     no_exports ranges capacities (grids_of world) h (Export c id) reply d capacity state world.exports new acts.0
     (ap exported acts.1)
     (desk_down ranges capacities (grids_of world) h (Export c id) reply d capacity saved state stands.0 named there tt
     (refl, tt) stands.1
-    (λ i m x. x) (λ i x. x) tt tt acts.1 acts.2)
+    (λ i m x. x) (λ i x. x) (λ x. refl) tt tt acts.1 acts.2)
 desk_goes ranges capacities world h event reply d capacity was state new s named there at stands acts = absurd acts
 
 -- ---- an event that names nothing
@@ -243,6 +244,27 @@ no_such_answers grids capacities h (Take p ticket stop) = tt
 no_such_answers grids capacities h (Export c i) = tt
 no_such_answers grids capacities h (Import c export stop) = tt
 
+no_such_holds : {A : Type 0} (capacity : ℕ) (h : History A) (event : Event A) (x : Holding) →
+    HoldsOn capacity h event NoSuch x x
+no_such_holds capacity h (Print p document size scheme stop) x = refl
+no_such_holds capacity h (Scan c l flips stop) x = refl
+no_such_holds capacity h (RestartPrinter p) x = refl
+no_such_holds capacity h (RestartDesk c) x = refl
+no_such_holds capacity h (Ask c i) x = refl
+no_such_holds capacity h (Forget c i stop) x = refl
+no_such_holds capacity h (Give p receiver range stop) x = refl
+no_such_holds capacity h (Take p ticket stop) x = refl
+no_such_holds capacity h (Export c i) x = refl
+no_such_holds capacity h (Import c export stop) x = refl
+
+-- nor is anything held that was not
+none_held : {A : Type 0} (capacity : ℕ) (h : History A) (event : Event A) (d : ℕ) (x : Holding) →
+    CanHold capacity h d x → CanHold capacity (quiet event NoSuch ∷ h) d x
+none_held capacity h event d x c = elim (actor_or_other (actor_of event) (DeskAt d)) [
+  | inl same ↦ inl (same, x, c, no_such_holds capacity h event x)
+  | inr other ↦ inr (other, c)
+]
+
 -- `NoSuch` says nothing new of who acts
 quiet_none : {A : Type 0} (event : Event A) (h : History A) (a : Actor) → IsQuietFor (quiet event NoSuch) h a
 quiet_none {A} event h a = elim (actor_or_other (actor_of event) a) [
@@ -299,7 +321,8 @@ none_goes {A} ranges capacities world h event s away =
             old.0,
             desk_keeps e h (grids_of world) (grids_of world) c room desk.state
                 (λ honest. honest.1) (λ some. none_leaves {A = A} event NoSuch _ some)
-                (quiet_none event h (DeskAt c)) (no_take h event c) (no_forget event c) old.1,
+                (quiet_none event h (DeskAt c)) (no_take h event c) (no_forget event c)
+                (none_held room h event c) old.1,
           );
     })
 

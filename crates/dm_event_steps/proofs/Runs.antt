@@ -25,7 +25,8 @@ use Rattle.dm_event_history.proofs.ImportsExports.{imports_exports}
 use Rattle.dm_event_history.proofs.TakesOnce.{takes_once}
 use Rattle.dm_event_history.proofs.PrintedBatches.{IsPrintedBy, printed_at}
 use Rattle.dm_event_history.proofs.Faithful.{is_faithful}
-use Rattle.dm_event_steps.specs.Labels.{name_of, grid_of, IsPart, ShowsDocument}
+use Rattle.dm_event_history.specs.Held.{IsPart}
+use Rattle.dm_event_steps.specs.Labels.{name_of, grid_of, ShowsDocument}
 use Rattle.dm_event_steps.specs.Worlds.{WorldView, left_of, grids_of, IsFairIn, Steps, Runs, RunsMarked, AreItsBatches, HasPrintedOnce, AreItsLabels, HasBeenFaithful}
 use Rattle.dm_event_steps.specs.StandsFor.{StandsFor, AreFairMarks}
 use Rattle.dm_event_steps.proofs.EachPrinter.{printer_goes}
@@ -392,5 +393,5 @@ fair_run {A} ranges capacities old new events marks replies s runs =
           r.replies_are
           (is_faithful ranges r.after (grids_of new) capacities marks r.stands.disjoint r.stands.legal
           (never_twice ranges (length capacities) r.after r.stands.disjoint r.stands.legal) f.fair r.stands.safe
-          r.stands.answers));
+          r.stands.answers r.stands.held));
     }

@@ -1,5 +1,5 @@
 -- A scan at a running desk gives an entry that fits the history.
-use Rattle.std.proofs.Common.{◌≡◌, ◌≢◌, inl, inr, ◌+◌, ◌<◌, ◌≤◌, ℕ, zero, suc, Bool, true, false, Option, Some, None, Result, Ok, Err, List, [], ◌∷◌, length, slice_get, slice_index_or, IsSome, IsSomeAnd, refl, ap, sym, ◌∙◌, subst, arith}
+use Rattle.std.proofs.Common.{◌≡◌, ◌≢◌, inl, inr, ◌+◌, ◌<◌, ◌≤◌, ℕ, zero, suc, Bool, true, false, Option, Some, None, Result, Ok, Err, List, [], ◌∷◌, length, slice_get, slice_index_or, IsSome, IsSomeAnd, refl, ap, sym, ◌∙◌, subst, arith, ◌⊎◌}
 use Rattle.std.specs.Prelude.{is_some, unwrap_or}
 use Rattle.std.specs.Cmp.{nat_cmp_total}
 use Rattle.std.specs.FinMap as finite
@@ -44,7 +44,7 @@ use Rattle.dm_event_history.specs.declared.stop.Stop.TheVariants as stops
 use Rattle.dm_event_history.specs.Actors.{DeskAt}
 use Rattle.dm_event_history.specs.History.{Entry, History, LabelName, CutDocument, out, docs, exports}
 use Rattle.dm_event_history.specs.Running.{is_down, failed_after, is_failed, IsOfFailed}
-use Rattle.dm_event_history.specs.Saving.{may_save, tells_of_save}
+use Rattle.dm_event_history.specs.Saving.{may_save, tells_of_save, stops_after_save}
 use Rattle.dm_event_history.specs.Holding.{Takes, MayTake, Forgets, IsPossiblyHeld, known_of}
 use Rattle.dm_event_history.specs.Legal.{IsScanRefused, HasModules, IsStopping}
 use Rattle.dm_event_history.specs.Tainted.{AtDesk}
@@ -54,10 +54,11 @@ use Rattle.dm_event_history.proofs.Deciding.{or_left, or_right}
 use Rattle.dm_event_steps.specs.declared.actor.DeskState.{DeskState}
 use Rattle.dm_event_steps.specs.declared.actor.DeskState.TheVariants as desks
 use Rattle.dm_event_steps.specs.declared.actor.LeftLabel.{LeftLabel}
-use Rattle.dm_event_steps.specs.Labels.{name_of, IsPart, ShowsDocument}
+use Rattle.dm_event_steps.specs.Labels.{name_of, ShowsDocument}
 use Rattle.dm_event_steps.specs.Acts.{IsCalled, next_save_of}
 use Rattle.dm_event_steps.specs.Gathered.{IsGathered}
-use Rattle.dm_event_steps.specs.DeskStands.{SetStands, DeskRuns}
+use Rattle.dm_event_history.specs.Held.{Holding, both, with_answered, IsPageOfLabel, HoldsOn, IsPart}
+use Rattle.dm_event_steps.specs.DeskStands.{holding_of, SetStands, DeskRuns}
 use Rattle.dm_event_steps.specs.DeskActs.{Accepts, desk_planned, StopsDesk, scan_reply, ScanActs}
 use Rattle.dm_event_steps.specs.Goes.{quiet, DeskGoes}
 use Rattle.dm_event_steps.proofs.WrongModules.{few_wrong}
@@ -65,7 +66,8 @@ use Rattle.dm_event_steps.proofs.PrinterGoing.{IsFine, not_both}
 use Rattle.dm_event_steps.proofs.Asks.{not_surely}
 use Rattle.dm_event_steps.proofs.DeskFacts.{HoldsPage, is_free, holds_also, holds_all_others, lacks_another, Disagrees, holds_again, disagrees, is_full, some_page}
 use Rattle.dm_event_steps.proofs.Gathering.{gathered_keeps, gathered_with}
-use Rattle.dm_event_steps.proofs.DeskGoing.{none_leaves, not_failed, memory_goes, lacks_same, IsTold, set_keeps, fine_desk, done_with_none, faulted_with, desk_kept, set_saved, desk_saves, kept_held, desk_fails, desk_stopped}
+use Rattle.dm_event_steps.proofs.DeskGoing.{none_leaves, not_failed, memory_goes, lacks_same, IsTold, set_keeps, fine_desk, done_with_none, faulted_with, desk_kept, set_saved, desk_saves, kept_held, desk_fails, desk_stopped, saved_when, unsaved_when, can_still}
+use Rattle.dm_assembly_desk.specs.FaultOrigin as origin
 
 -- a label that left is scanned at a desk that runs
 pub record IsScanned {A : Type 0} (capacities : List ℕ) (grids : List GridView) (h : History A) (d number capacity : ℕ)
@@ -301,29 +303,52 @@ gathered_page {A} capacities grids h d number capacity flips stop reply view lab
     (is_free view.capacity view.held opened.page kind other answered))
     (s.runs.gathered honest.1)
 
+-- ---- what is held then
+
+-- the page of a fair scan is that of its label
+page_of_label : {A : Type 0} (h : History A) (number : ℕ) (label : LeftLabel A) (p : PageView) (cut : CutDocument) →
+    slice_get (out h) number ≡ Some (name_of label) → IsLabels h label p cut → IsPageOfLabel h number p
+page_of_label h number label p cut named is = record {
+  has_left = named ∙ ap Some (sym is.name_is);
+  cut = cut;
+  printed = is.printed;
+  part = is.part;
+}
+
+with_other : (kind : Kind) (old new : Documents) → kind ≢ Again → with_answered kind old new ≡ new
+with_other Again old new other = absurd (other refl)
+with_other New old new other = refl
+with_other Complete old new other = refl
+
+abbrev as_holding : Documents → Documents → Holding
+as_holding shown stored = record { shown = shown; stored = stored }
+
 -- ---- each answer
 
 -- a scan that is refused, and leaves the desk as it was
 refused_goes : {A : Type 0} (ranges : List Range) (capacities : List ℕ) (grids : List GridView) (h : History A)
     (d number capacity : ℕ) (flips : List (ℕ × ℕ)) (stop : Stop) (view mid : DeskView) (label : LeftLabel A)
     (fault : ScanFault) →
-    IsScanned capacities grids h d number capacity flips view label → IsCalled stop →
+    (s : IsScanned capacities grids h d number capacity flips view label) → IsCalled stop →
     mid ≡ desk_planned view (next_save_of stop) →
     ((b : Bool) → (let reply : Reply A = ScanRefused fault in failed_after reply b ≡ b)) →
     (let reply : Reply A = ScanRefused fault in
     is_failed h (DeskAt d) ≡ true → IsOfFailed (Scan d number flips stop) reply) →
     IsScanRefused h d stop fault →
+    (let reply : Reply A = ScanRefused fault in
+    HoldsOn capacity h (Scan d number flips stop) reply (holding_of view s.runs.stored)
+    (holding_of view s.runs.stored)) →
     (IsFairScan grids number flips → IsHonestlyRefused grids capacities h d number flips fault) →
     DeskGoes ranges capacities grids h (Scan d number flips stop) (ScanRefused fault) d capacity
     (desks.Running (desk_planned mid next_save.Fine))
 refused_goes {A} ranges capacities grids h d number capacity flips stop view mid label fault s called same failed
-    refuses why answers =
+    refuses why does answers =
     desk_kept ranges capacities grids h (Scan d number flips stop) (ScanRefused fault) d capacity view
     (desk_planned mid next_save.Fine) s.room s.runs
     (ap (λ (v : DeskView). desk_planned v next_save.Fine) same ∙ fine_desk view (next_save_of stop) s.runs.store.ready)
     (made_told ranges capacities h d number flips stop (ScanRefused fault) s.there s.runs.up called
     (λ x. cc) (λ x. cc) (λ x. cc) (refl, why) refuses (λ x. cc))
-    refl (failed (is_failed h (DeskAt d))) (λ id m t. absurd t) (λ id x. x) (λ honest. tt) answers
+    refl (failed (is_failed h (DeskAt d))) (λ id m t. absurd t) (λ id x. x) (λ honest. does) (λ honest. tt) answers
 
 -- a page that is held already
 again_goes : {A : Type 0} (ranges : List Range) (capacities : List ℕ) (grids : List GridView) (h : History A)
@@ -358,6 +383,16 @@ again_goes {A} ranges capacities grids h d number capacity flips stop view mid l
           (at id m t.1 t.2),
     ))
     (λ id x. x)
+    (λ honest. (
+      opened.page,
+      page_of_label h number label opened.page s.shows.document s.named
+          (fair_page grids h number flips label opened s.left s.shows opens
+          (honest.0 refl refl (sym s.runs.failed ∙ runs))),
+      names,
+      subst (λ (c : ℕ). answer c view.held opened.page ≡ Ok a.kind) s.runs.capacity_is answered,
+      ap (λ (x : Documents). as_holding view.held x) (sym (s.runs.shows runs)) ∙
+          ap (λ (k : Kind). both (with_answered k view.held (with_page view.held opened.page))) (sym again),
+    ))
     (λ honest. accepted_safe h d number view.capacity label view.held opened.page s.shows.document a s.named
     (fair_page grids h number flips label opened s.left s.shows opens
     (honest.0 refl refl (sym s.runs.failed ∙ runs))) names (s.runs.gathered honest.1) answered)
@@ -396,6 +431,15 @@ took_goes {A} ranges capacities grids h d number capacity flips stop view mid la
     refl
     (λ id m t. (sym t.1 ∙ names.id_is, sym t.2 ∙ names.m_is)) (λ id x. x)
     (sym s.runs.failed ∙ keeps.holding.was_running))
+    (λ honest. (
+      opened.page,
+      page_of_label h number label opened.page s.shows.document s.named
+          (fair_page grids h number flips label opened s.left s.shows opens
+          (honest.0 refl refl (sym s.runs.failed ∙ keeps.holding.was_running))),
+      names,
+      subst (λ (c : ℕ). answer c view.held opened.page ≡ Ok a.kind) s.runs.capacity_is answered,
+      ap both (sym (with_other a.kind view.held (with_page view.held opened.page) other)),
+    ))
     (λ honest. accepted_safe h d number view.capacity label view.held opened.page s.shows.document a s.named
     (fair_page grids h number flips label opened s.left s.shows opens
     (honest.0 refl refl (sym s.runs.failed ∙ keeps.holding.was_running))) names (s.runs.gathered honest.1) answered)
@@ -431,6 +475,28 @@ gathered_kept {A} capacities grids h d number capacity flips kept.New view label
     (ScanRefused scan_fault.Save) view label opened Complete s opens (λ x. cc) complete refl (λ id m t. absurd t)
     (λ id x. x) unfailed honest
 
+-- what is held then
+kept_does : {A : Type 0} (capacities : List ℕ) (grids : List GridView) (h : History A) (d number capacity : ℕ)
+    (flips : List (ℕ × ℕ)) (k : Kept)
+    (view : DeskView) (label : LeftLabel A) (opened : Opened A) →
+    (s : IsScanned capacities grids h d number capacity flips view label) →
+    LabelOpens (flipped label.grid flips) (Ok opened) →
+    NeedsSave (answer view.capacity view.held opened.page) → view.is_failed ≡ false →
+    IsClean grids (quiet (Scan d number flips (SaveFault k)) (ScanRefused scan_fault.Save) ∷ h) (AtDesk d) →
+    (let reply : Reply A = ScanRefused scan_fault.Save in
+    HoldsOn capacity h (Scan d number flips (SaveFault k)) reply (holding_of view s.runs.stored)
+    (holding_of view (kept_held k view.held (with_page view.held opened.page))))
+kept_does capacities grids h d number capacity flips kept.Old view label opened s opens needs was honest =
+    ap (λ (x : Documents). as_holding view.held x) (s.runs.shows was)
+kept_does capacities grids h d number capacity flips kept.New view label opened s opens needs was honest = (
+  opened.page,
+  page_of_label h number label opened.page s.shows.document s.named
+      (fair_page grids h number flips label opened s.left s.shows opens
+      (honest.0 refl refl (sym s.runs.failed ∙ was))),
+  subst (λ (c : ℕ). NeedsSave (answer c view.held opened.page)) s.runs.capacity_is needs,
+  refl,
+)
+
 few_kept : (k : Kept) (view : DeskView) (p : PageView) → finite.len view.held ≤ view.capacity →
     NeedsSave (answer view.capacity view.held p) →
     finite.len (kept_held k view.held (with_page view.held p)) ≤ view.capacity
@@ -464,6 +530,7 @@ failed_goes {A} ranges capacities grids h d number capacity flips k view mid lab
     (λ honest. gathered_keeps (quiet event reply) h d view.held (λ x. none_leaves event reply _ x) (λ id m t. absurd t)
     (λ id x. x)
     (s.runs.gathered honest.1))
+    (kept_does capacities grids h d number capacity flips k view label opened s opens needs fails.failing.was_running)
     (λ honest. tt)
     (λ fair. framed grids number flips label.grid s.left opens.opens.read.frame)
 
@@ -501,7 +568,10 @@ page_goes {A} ranges capacities grids h d number capacity flips stop view mid la
 page_goes ranges capacities grids h d number capacity flips stop view mid label opened
     (Err scan_fault.Conflict) s called opens order runs acts =
     refused_goes ranges capacities grids h d number capacity flips stop view mid label scan_fault.Conflict s called
-    acts.1 (λ b. refl) (not_failed grids h d capacity view s.runs runs _) tt
+    acts.1 (λ b. refl) (not_failed grids h d capacity view s.runs runs _) tt (
+      (opened.page, subst (λ (c : ℕ). answer c view.held opened.page ≡ Err scan_fault.Conflict) s.runs.capacity_is acts.0),
+      refl,
+    )
     (λ fair honest.
     let is = fair_page grids h number flips label opened s.left s.shows opens fair in
     no_conflict h d view.held opened.page s.shows.document (s.runs.gathered honest) is.printed is.n_is is.part
@@ -511,6 +581,7 @@ page_goes {A} ranges capacities grids h d number capacity flips stop view mid la
     let full = is_full view.capacity view.held opened.page acts.0 in
     refused_goes ranges capacities grids h d number capacity flips stop view mid label scan_fault.Full s called acts.1
     (λ b. refl) (not_failed grids h d capacity view s.runs runs _) tt
+    ((opened.page, subst (λ (c : ℕ). answer c view.held opened.page ≡ Err scan_fault.Full) s.runs.capacity_is acts.0), refl)
     (λ fair.
     let is = fair_page grids h number flips label opened s.left s.shows opens fair in (
       framed grids number flips label.grid s.left opens.opens.read.frame,
@@ -526,7 +597,7 @@ page_goes {A} ranges capacities grids h d number capacity flips stop view mid la
 page_goes ranges capacities grids h d number capacity flips stop view mid label opened
     (Err scan_fault.Memory) s called opens order runs acts =
     refused_goes ranges capacities grids h d number capacity flips stop view mid label scan_fault.Memory s called acts.1
-    (λ b. refl) (not_failed grids h d capacity view s.runs runs _) tt
+    (λ b. refl) (not_failed grids h d capacity view s.runs runs _) tt refl
     (λ fair. framed grids number flips label.grid s.left opens.opens.read.frame)
 page_goes {A} ranges capacities grids h d number capacity flips stop view mid label opened
     (Err scan_fault.Save) s called opens order runs acts =
@@ -559,7 +630,7 @@ unopened_goes {A} ranges capacities grids h d number capacity flips stop view mi
     (desks.Running (desk_planned mid next_save.Fine))) (sym is)
     (refused_goes ranges capacities grids h d number capacity flips stop view mid label
     (scan_fault.Label fault) s called same (λ b. refl) (not_failed grids h d capacity view s.runs runs _) tt
-    answers)
+    refl answers)
 
 -- no fair scan is refused so
 never_so : {A : Type 0} (grids : List GridView) (h : History A) (number : ℕ) (flips : List (ℕ × ℕ))
@@ -590,7 +661,7 @@ opened_goes {A} ranges capacities grids h d number capacity flips stop view mid 
     (scan_reply r) d capacity
     (desks.Running (desk_planned mid next_save.Fine))) (sym acts.0)
     (refused_goes ranges capacities grids h d number capacity flips stop view mid label scan_fault.Memory s called
-    acts.1 (λ b. refl) (not_failed grids h d capacity view s.runs runs _) tt
+    acts.1 (λ b. refl) (not_failed grids h d capacity view s.runs runs _) tt refl
     (λ fair. framed grids number flips label.grid s.left opens.opens))
 opened_goes ranges capacities grids h d number capacity flips stop view mid label
     (Err (labels.Border wrong)) given s called opens order runs acts =
@@ -661,7 +732,7 @@ called_goes {A} ranges capacities grids h d number capacity flips stop view mid 
         (desks.Running (desk_planned mid next_save.Fine))) (sym f.0)
         (refused_goes ranges capacities grids h d number capacity flips stop view mid label scan_fault.Failed s called
         f.1 (λ b. refl) (λ _ _. inl tt)
-        (sym s.runs.failed ∙ was) (λ fair. tt)))
+        (sym s.runs.failed ∙ was) refl (λ fair. tt)))
     by_failed false was =
         (let x = accepts.scanned was in
         opened_goes ranges capacities grids h d number capacity flips stop view mid label x.opened given s called
@@ -669,21 +740,34 @@ called_goes {A} ranges capacities grids h d number capacity flips stop view mid 
 
 -- ---- a call that is stopped
 
--- what the set of a desk stands for after a scan that was stopped once it had saved, if it came so far
+-- what the set of a desk holds after a scan that was stopped once it had saved, if it came so far, and that the scan may
+-- have done just this
+abbrev IsStored : {A : Type 0} (capacities : List ℕ) (grids : List GridView) (h : History A)
+    (d number capacity : ℕ) (flips : List (ℕ × ℕ)) (stop : Stop) (view mid : DeskView) (label : LeftLabel A) →
+    IsScanned capacities grids h d number capacity flips view label → Type 0
+IsStored {A} capacities grids h d number capacity flips stop view mid label s =
+    (let reply : Reply A = Stopped in
+    (stored : Documents) × SetStands grids (quiet (Scan d number flips stop) reply ∷ h) d capacity
+    (desk_planned mid next_save.Fine).saved stored
+    × (IsClean grids (quiet (Scan d number flips stop) reply ∷ h) (AtDesk d) →
+    HoldsOn capacity h (Scan d number flips stop) reply (holding_of view s.runs.stored) (both stored)))
+
 stored_stopped : {A : Type 0} (capacities : List ℕ) (grids : List GridView) (h : History A)
     (d number capacity : ℕ) (flips : List (ℕ × ℕ)) (stop : Stop) (view mid : DeskView) (label : LeftLabel A)
     (given : Result Accepted ScanFault) →
-    IsScanned capacities grids h d number capacity flips view label →
-    (let reply : Reply A = Stopped in may_save (Scan d number flips stop) reply ≡ true) →
+    (s : IsScanned capacities grids h d number capacity flips view label) →
+    stops_after_save (Some stop) ≡ true → given ≢ Err scan_fault.Memory →
     Accepts A (flipped label.grid flips) (desk_planned view next_save.Fine) given mid →
-    (stored : Documents) × SetStands grids (quiet (Scan d number flips stop) Stopped ∷ h) d capacity
-    (desk_planned mid next_save.Fine).saved stored
-stored_stopped {A} capacities grids h d number capacity flips stop view mid label given s may accepts =
+    IsStored capacities grids h d number capacity flips stop view mid label s
+stored_stopped {A} capacities grids h d number capacity flips stop view mid label given s may had accepts =
     by_failed view.is_failed refl
   where
-    Stored : Type 0
-    Stored = (stored : Documents) × SetStands grids (quiet (Scan d number flips stop) Stopped ∷ h) d capacity
-        (desk_planned mid next_save.Fine).saved stored
+    event : Event A
+    event = Scan d number flips stop
+
+    -- the page of the label
+    its_page : PageView
+    its_page = record { id = label.id; m = label.number; n = label.count; bytes = s.shows.bytes }
 
     order : IsInOrder view
     order = record {
@@ -694,9 +778,10 @@ stored_stopped {A} capacities grids h d number capacity flips stop view mid labe
     }
 
     same : mid ≡ desk_planned view next_save.Fine →
-        (stored : Documents) × SetStands grids (quiet (Scan d number flips stop) Stopped ∷ h) d capacity
-        (desk_planned mid next_save.Fine).saved stored
-    same is =
+        (let reply : Reply A = Stopped in IsClean grids (quiet event reply ∷ h) (AtDesk d) →
+        HoldsOn capacity h event reply (holding_of view s.runs.stored) (both s.runs.stored)) →
+        IsStored capacities grids h d number capacity flips stop view mid label s
+    same is does =
         let e : Entry A = quiet (Scan d number flips stop) Stopped in
         let after : desk_planned mid next_save.Fine ≡ view =
         ap (λ (v : DeskView). desk_planned v next_save.Fine) is ∙ fine_desk view next_save.Fine s.runs.store.ready in (
@@ -705,15 +790,41 @@ stored_stopped {A} capacities grids h d number capacity flips stop view mid labe
               (set_keeps e h grids grids d capacity view.saved s.runs.stored (λ honest. honest.1)
               (λ x. none_leaves {A = A} (Scan d number flips stop) Stopped _ x) (λ id m t. absurd t)
               (λ id x. x) s.runs.store),
+          does,
         )
 
-    took : (opened : Opened A) (kind : Kind) → LabelOpens (flipped label.grid flips) (Ok opened) → kind ≢ Again →
+    -- the page of a scan that may have saved
+    fair : (opened : Opened A) → LabelOpens (flipped label.grid flips) (Ok opened) → view.is_failed ≡ false →
+        (let reply : Reply A = Stopped in IsClean grids (quiet event reply ∷ h) (AtDesk d)) →
+        IsLabels h label opened.page s.shows.document
+    fair opened opens was honest =
+        fair_page grids h number flips label opened s.left s.shows opens
+        (honest.0 refl may (sym s.runs.failed ∙ was))
+
+    -- it was not taken, for this reason
+    kept_as : (opened : Opened A) → LabelOpens (flipped label.grid flips) (Ok opened) → view.is_failed ≡ false →
+        (answer view.capacity view.held opened.page ≡ Ok Again)
+        ⊎ (answer view.capacity view.held opened.page ≡ Err scan_fault.Full) →
+        (let reply : Reply A = Stopped in IsClean grids (quiet event reply ∷ h) (AtDesk d) →
+        HoldsOn capacity h event reply (holding_of view s.runs.stored) (both s.runs.stored))
+    kept_as opened opens was why honest =
+        saved_when h d stop _ _ may (sym s.runs.failed ∙ was) (record {
+          page = opened.page;
+          of_label = page_of_label h number label opened.page s.shows.document s.named (fair opened opens was honest);
+          took = inr (
+            subst (λ (c : ℕ). (answer c view.held opened.page ≡ Ok Again)
+                ⊎ ((answer c view.held opened.page ≡ Err scan_fault.Full) ⊎ (1 ≤ length flips))) s.runs.capacity_is
+                (elim why [ inl again ↦ inl again | inr full ↦ inr (inl full) ]),
+            refl,
+          );
+        })
+
+    took : (opened : Opened A) (kind : Kind) → LabelOpens (flipped label.grid flips) (Ok opened) →
+        view.is_failed ≡ false → kind ≢ Again →
         NeedsSave (answer view.capacity view.held opened.page) → answer view.capacity view.held opened.page ≡ Ok kind →
         KeepsPage opened.page (desk_planned view next_save.Fine) mid →
-        (stored : Documents) × SetStands grids (quiet (Scan d number flips stop) Stopped ∷ h) d capacity
-        (desk_planned mid next_save.Fine).saved stored
-    took opened kind opens other needs answered keeps =
-        let event : Event A = Scan d number flips stop in
+        IsStored capacities grids h d number capacity flips stop view mid label s
+    took opened kind opens was other needs answered keeps =
         let e : Entry A = quiet event Stopped in (
           with_page view.held opened.page,
           set_saved grids e h d capacity view mid next_save.Fine _
@@ -723,42 +834,93 @@ stored_stopped {A} capacities grids h d number capacity flips stop view mid labe
               (gathered_page capacities grids h d number capacity flips stop Stopped view label opened kind s opens
               other answered may
               (λ id m t. absurd t) (λ id x. x) (sym s.runs.failed ∙ keeps.holding.was_running)),
+          λ honest. saved_when h d stop _ _ may (sym s.runs.failed ∙ was) (record {
+            page = opened.page;
+            of_label = page_of_label h number label opened.page s.shows.document s.named
+                (fair opened opens was honest);
+            took = inl (
+              subst (λ (c : ℕ). NeedsSave (answer c view.held opened.page)) s.runs.capacity_is needs,
+              refl,
+            );
+          }),
         )
 
     by_kind : (opened : Opened A) (kind : Kind) → LabelOpens (flipped label.grid flips) (Ok opened) →
+        view.is_failed ≡ false →
         answer view.capacity view.held opened.page ≡ Ok kind →
         ChangesByPage kind opened.page (desk_planned view next_save.Fine) mid →
-        (stored : Documents) × SetStands grids (quiet (Scan d number flips stop) Stopped ∷ h) d capacity
-        (desk_planned mid next_save.Fine).saved stored
-    by_kind opened Again opens answered changes = same changes
-    by_kind opened New opens answered changes = took opened New opens (λ x. cc) (inl answered) answered changes
-    by_kind opened Complete opens answered changes =
-        took opened Complete opens (λ x. cc) (inr answered) answered changes
+        IsStored capacities grids h d number capacity flips stop view mid label s
+    by_kind opened Again opens was answered changes = same changes (kept_as opened opens was (inl answered))
+    by_kind opened New opens was answered changes =
+        took opened New opens was (λ x. cc) (inl answered) answered changes
+    by_kind opened Complete opens was answered changes =
+        took opened Complete opens was (λ x. cc) (inr answered) answered changes
 
     by_page : (opened : Opened A) (r : Result Accepted ScanFault) → LabelOpens (flipped label.grid flips) (Ok opened) →
+        view.is_failed ≡ false → r ≢ Err scan_fault.Memory →
         AcceptsPage opened.page (desk_planned view next_save.Fine) r mid →
-        (stored : Documents) × SetStands grids (quiet (Scan d number flips stop) Stopped ∷ h) d capacity
-        (desk_planned mid next_save.Fine).saved stored
-    by_page opened (Ok a) opens x = by_kind opened a.kind opens x.1 x.2
-    by_page opened (Err scan_fault.Conflict) opens x = same x.1
-    by_page opened (Err scan_fault.Full) opens x = same x.1
-    by_page opened (Err scan_fault.Memory) opens x = same x.1
-    by_page opened (Err scan_fault.Save) opens x = absurd x.1.replaced.follows
-    by_page opened (Err scan_fault.Failed) opens x = absurd x
-    by_page opened (Err (scan_fault.Label fault)) opens x = absurd x
+        IsStored capacities grids h d number capacity flips stop view mid label s
+    by_page opened (Ok a) opens was had x = by_kind opened a.kind opens was x.1 x.2
+    by_page opened (Err scan_fault.Conflict) opens was had x =
+        same x.1 (λ honest. let is = fair opened opens was honest in
+        absurd (no_conflict h d view.held opened.page s.shows.document (s.runs.gathered honest.1) is.printed is.n_is
+        is.part (disagrees view.capacity view.held opened.page x.0)))
+    by_page opened (Err scan_fault.Full) opens was had x = same x.1 (kept_as opened opens was (inr x.0))
+    by_page opened (Err scan_fault.Memory) opens was had x = absurd (had refl)
+    by_page opened (Err scan_fault.Save) opens was had x = absurd x.1.replaced.follows
+    by_page opened (Err scan_fault.Failed) opens was had x = absurd x
+    by_page opened (Err (scan_fault.Label fault)) opens was had x = absurd x
+
+    -- a module of the finder patterns was flipped
+    by_frame : (fault : LabelFault) → (let none : Result (Opened A) LabelFault = Err fault in LabelOpens (flipped label.grid flips) none) →
+        view.is_failed ≡ false →
+        given ≡ Err (origin.scan_fault fault) →
+        (let reply : Reply A = Stopped in IsClean grids (quiet event reply ∷ h) (AtDesk d)) → 1 ≤ length flips
+    by_frame labels.Memory opens was is honest = absurd (had is)
+    by_frame (labels.Border wrong) opens was is honest =
+        (let few : wrong ≤ length flips = few_wrong label.grid flips wrong
+        (ap wrong_frame_modules s.shows.carries.drawn ∙ frame_has_no_wrong_module _ _) opens.opens in
+        let many = opens.opens.0 in let same_wrong = opens.opens.1 in omega arith)
+    by_frame (labels.Block block) opens was is honest =
+        absurd (never_so grids h number flips label (labels.Block block) (Err (labels.Block block)) refl s.left s.shows
+        opens (honest.0 refl may (sym s.runs.failed ∙ was)))
+    by_frame labels.NotAppended opens was is honest =
+        absurd (never_so grids h number flips label labels.NotAppended (Err labels.NotAppended) refl s.left s.shows
+        opens (honest.0 refl may (sym s.runs.failed ∙ was)))
+    by_frame (labels.Sequence word) opens was is honest =
+        absurd (never_so grids h number flips label (labels.Sequence word) (Err (labels.Sequence word)) refl s.left
+        s.shows opens (honest.0 refl may (sym s.runs.failed ∙ was)))
+    by_frame labels.FileId opens was is honest =
+        absurd (never_so grids h number flips label labels.FileId (Err labels.FileId) refl s.left s.shows
+        opens (honest.0 refl may (sym s.runs.failed ∙ was)))
+    by_frame (labels.Content fault) opens was is honest =
+        absurd (never_so grids h number flips label (labels.Content fault) (Err (labels.Content fault)) refl s.left
+        s.shows opens (honest.0 refl may (sym s.runs.failed ∙ was)))
+
+    unopened : (fault : LabelFault) → (let none : Result (Opened A) LabelFault = Err fault in LabelOpens (flipped label.grid flips) none) →
+        view.is_failed ≡ false →
+        given ≡ Err (origin.scan_fault fault) →
+        (let reply : Reply A = Stopped in IsClean grids (quiet event reply ∷ h) (AtDesk d) →
+        HoldsOn capacity h event reply (holding_of view s.runs.stored) (both s.runs.stored))
+    unopened fault opens was is honest =
+        saved_when h d stop _ _ may (sym s.runs.failed ∙ was) (record {
+          page = its_page;
+          of_label = page_of_label h number label its_page s.shows.document s.named
+              (is_labels h label its_page s.shows refl);
+          took = inr (inr (inr (by_frame fault opens was is honest)), refl);
+        })
 
     by_opened : (opened : Result (Opened A) LabelFault) → LabelOpens (flipped label.grid flips) opened →
-        Scans opened (desk_planned view next_save.Fine) given mid →
-        (stored : Documents) × SetStands grids (quiet (Scan d number flips stop) Stopped ∷ h) d capacity
-        (desk_planned mid next_save.Fine).saved stored
-    by_opened (Ok opened) opens x = by_page opened given opens x
-    by_opened (Err fault) opens x = same x.1
+        view.is_failed ≡ false → Scans opened (desk_planned view next_save.Fine) given mid →
+        IsStored capacities grids h d number capacity flips stop view mid label s
+    by_opened (Ok opened) opens was x = by_page opened given opens was had x
+    by_opened (Err fault) opens was x = same x.1 (unopened fault opens was x.0)
 
     by_failed : (b : Bool) → view.is_failed ≡ b →
-        (stored : Documents) × SetStands grids (quiet (Scan d number flips stop) Stopped ∷ h) d capacity
-        (desk_planned mid next_save.Fine).saved stored
+        IsStored capacities grids h d number capacity flips stop view mid label s
     by_failed true was = same (accepts.failed was).1
-    by_failed false was = (let x = accepts.scanned was in by_opened x.opened x.label x.scans)
+        (λ honest. unsaved_when h d stop _ _ (sym s.runs.failed ∙ was) refl)
+    by_failed false was = (let x = accepts.scanned was in by_opened x.opened x.label was x.scans)
 
 -- a scan that is stopped
 stopped_goes : {A : Type 0} (ranges : List Range) (capacities : List ℕ) (grids : List GridView) (h : History A)
@@ -797,22 +959,26 @@ stopped_goes {A} ranges capacities grids h d number capacity flips stop view lab
         DeskGoes ranges capacities grids h (Scan d number flips t) Stopped d capacity state
     by_stop BeforeSave x = desk_stopped ranges capacities grids h
         (Scan d number flips BeforeSave) d capacity view.saved s.runs.stored state s.room
-        (told BeforeSave tt) (before BeforeSave) tt tt x
+        (told BeforeSave tt) (before BeforeSave)
+        (can_still grids h (Scan d number flips BeforeSave) d capacity view s.runs refl refl) tt tt x
     by_stop (InSave kept.Old) x = desk_stopped ranges capacities grids h
         (Scan d number flips (InSave kept.Old)) d capacity view.saved s.runs.stored state s.room
-        (told (InSave kept.Old) tt) (before (InSave kept.Old)) tt tt x
+        (told (InSave kept.Old) tt) (before (InSave kept.Old))
+        (can_still grids h (Scan d number flips (InSave kept.Old)) d capacity view s.runs refl refl) tt tt x
     by_stop (InSave kept.New) x =
         (let stored = stored_stopped capacities grids h d number capacity flips
-        (InSave kept.New) view x.0 label x.1.0 s refl x.1.2 in
+        (InSave kept.New) view x.0 label x.1.0 s refl x.1.1 x.1.2 in
         desk_stopped ranges capacities grids h (Scan d number flips (InSave kept.New)) d capacity
         (desk_planned x.0 next_save.Fine).saved stored.0 state s.room
-        (told (InSave kept.New) tt) stored.1 tt tt x.2)
+        (told (InSave kept.New) tt) stored.1
+        (λ honest. inl (refl, _, s.runs.can honest.1, stored.2 honest)) tt tt x.2)
     by_stop (AfterLabels most) x =
         (let stored = stored_stopped capacities grids h d number capacity flips
-        (AfterLabels most) view x.0 label x.1.0 s refl x.1.2 in
+        (AfterLabels most) view x.0 label x.1.0 s refl x.1.1 x.1.2 in
         desk_stopped ranges capacities grids h (Scan d number flips (AfterLabels most)) d capacity
         (desk_planned x.0 next_save.Fine).saved stored.0 state s.room
-        (told (AfterLabels most) tt) stored.1 tt tt x.2)
+        (told (AfterLabels most) tt) stored.1
+        (λ honest. inl (refl, _, s.runs.can honest.1, stored.2 honest)) tt tt x.2)
     by_stop stops.None x = absurd x
     by_stop (SaveFault k) x = absurd x
 
@@ -840,7 +1006,7 @@ pub scan_goes : {A : Type 0} (ranges : List Range) (capacities : List ℕ) (grid
 scan_goes {A} ranges capacities grids h d number capacity flips stop view label reply state s (inl none) =
     memory_goes ranges capacities grids h (Scan d number flips stop) d capacity view reply state s.room s.runs refl
     s.there (refl, tt)
-    (λ id m t. t) (λ id x. x) tt tt none.0 none.1
+    (λ id m t. t) (λ id x. x) (λ x. refl) tt tt none.0 none.1
 scan_goes {A} ranges capacities grids h d number capacity flips stop view label reply state s (inr (inl made)) =
     subst (λ (r : Reply A). DeskGoes ranges capacities grids h (Scan d number flips stop) r d capacity state)
     (sym made.reply_is)
@@ -856,6 +1022,6 @@ scan_goes {A} ranges capacities grids h d number capacity flips stop view label 
 scan_goes ranges capacities grids h d number capacity flips stop view label reply state s (inr (inr (inr lacks))) =
     memory_goes ranges capacities grids h (Scan d number flips stop) d capacity view reply state s.room s.runs refl
     s.there (refl, tt)
-    (λ id m t. t) (λ id x. x) tt tt lacks.0
+    (λ id m t. t) (λ id x. x) (λ x. refl) tt tt lacks.0
     (lacks_same stop _ view state s.runs.store.ready
     (none_scanned (flipped label.grid flips) (desk_planned view next_save.Fine)) lacks.1)

@@ -224,7 +224,7 @@ printer_steps {A} ranges capacities world new h event reply p actor after s name
                 (quiet_other g.entry h (DeskAt d) other)
                 (λ id m took. other (takes_there h g.entry.event g.entry.reply d id m took))
                 (λ id x. other (forgets_there g.entry.event g.entry.reply d id x))
-                old.1,
+                (λ x c. inr (other, c)) old.1,
           );
     })
   where
@@ -300,7 +300,7 @@ desk_steps {A} ranges capacities world new h event reply d capacity actor after 
                   desk_keeps e h (grids_of world) (grids_of world) c room desk.state (λ honest. honest.1)
                       (λ some. none_leaves {A = A} event reply _ some) (quiet_other e h (DeskAt c) away)
                       (λ id m took. away (takes_there h event reply c id m took))
-                      (λ id y. away (forgets_there event reply c id y)) before.1,
+                      (λ id y. away (forgets_there event reply c id y)) (λ x c. inr (away, c)) before.1,
                 ))
           ]);
     })

@@ -36,7 +36,9 @@ use Rattle.dm_event_steps.specs.declared.actor.LeftExport.{LeftExport}
 use Rattle.dm_event_steps.specs.Labels.{name_of, grid_of, ShowsDocument}
 use Rattle.dm_event_steps.specs.Exports.{export_name_of, ShowsPages}
 use Rattle.dm_event_steps.specs.Stands.{PrinterStands}
-use Rattle.dm_event_steps.specs.DeskStands.{DeskStands}
+use Rattle.dm_event_history.specs.Held.{Holding, CanHold, AreHeld}
+use Rattle.dm_event_history.proofs.Gotten.{other_has}
+use Rattle.dm_event_steps.specs.DeskStands.{holding_of, DeskStands}
 use Rattle.dm_event_steps.specs.Worlds.{WorldView, grids_of}
 use Rattle.dm_event_steps.specs.StandsFor.{StandsFor}
 use Rattle.dm_event_history.specs.Numbers.{saved_at}
@@ -201,6 +203,22 @@ replies_more grids more capacities (e ∷ h) is = (
   replies_more grids more capacities h is.1,
 )
 
+-- and what clean desks may hold
+held_more : {A : Type 0} (grids more : List GridView) (capacities : List ℕ) (h : History A) →
+    AreHeld grids capacities h → AreHeld (grids ++ more) capacities h
+held_more grids more capacities [] is = tt
+held_more grids more capacities (e ∷ h) is = (
+  (λ d capacity here clean. is.0 d capacity here (clean_less grids more (e ∷ h) (AtDesk d) clean)),
+  held_more grids more capacities h is.1,
+)
+
+-- a desk that stands for a history may hold what it holds
+held_there : {A : Type 0} (grids : List GridView) (h : History A) (d capacity : ℕ) (state : DeskState A) →
+    DeskStands grids h d capacity state → IsClean grids h (AtDesk d) →
+    (holding : Holding) × CanHold capacity h d holding
+held_there grids h d capacity (desks.Running view) s clean = (holding_of view s.1.stored, s.1.can clean)
+held_there grids h d capacity (desks.Down saved) s clean = (let c = s.1.can clean in (_, c.1))
+
 -- ---- who is not named
 
 -- the entry says nothing new of who acts
@@ -240,19 +258,21 @@ pub desk_keeps : {A : Type 0} (e : Entry A) (h : History A) (grids all : List Gr
     (IsClean all (e ∷ h) (AtDesk d) → IsClean grids h (AtDesk d)) → (0 < e.left → docs h e.id ≡ None) →
     IsQuietFor e h (DeskAt d) →
     ((id m : ℕ) → ¬ Takes (exports h) e.event e.reply d id m) → ((id : ℕ) → ¬ Forgets e.event e.reply d id) →
+    ((x : Holding) → CanHold capacity h d x → CanHold capacity (e ∷ h) d x) →
     DeskStands grids h d capacity state → DeskStands all (e ∷ h) d capacity state
-desk_keeps e h grids all d capacity (desks.Running view) back fresh quiet takes stays s = (
+desk_keeps e h grids all d capacity (desks.Running view) back fresh quiet takes stays can s = (
   s.0,
   running_keeps e h grids all d capacity view back fresh (quiet.down ∙ s.1.up) quiet.failed s.1
-      (λ id m t. absurd (takes id m t)) stays,
+      (λ id m t. absurd (takes id m t)) stays (λ honest c. can _ c),
 )
-desk_keeps e h grids all d capacity (desks.Down saved) back fresh quiet takes stays s = (
+desk_keeps e h grids all d capacity (desks.Down saved) back fresh quiet takes stays can s = (
   s.0,
   record {
     down = quiet.down ∙ s.1.down;
     stored = s.1.stored;
     store = set_keeps e h grids all d capacity saved s.1.stored back fresh
         (λ id m t. absurd (takes id m t)) stays s.1.store;
+    can = λ honest. let c = s.1.can (back honest) in (c.0, can _ c.1);
   },
 )
 
@@ -342,6 +362,14 @@ goes_on {A} ranges capacities world new h entry s g =
         g.answers,
         subst (λ (l : List GridView). AreHonestReplies l capacities h) (sym grids)
             (replies_more (grids_of world) (map grid_of g.more) capacities h s.answers),
+      );
+      held = (
+        λ d capacity here clean.
+            let desk = other_has new.desks capacities d capacity (sym g.desk_count) here in
+            held_there (grids_of new) (entry ∷ h) d capacity desk.0.state
+            (g.desks d capacity desk.0 here desk.1).1 clean,
+        subst (λ (l : List GridView). AreHeld l capacities h) (sym grids)
+            (held_more (grids_of world) (map grid_of g.more) capacities h s.held),
       );
       left = record {
         names =

@@ -11,6 +11,7 @@ use Rattle.dm_event_history.specs.History.{History}
 use Rattle.dm_event_history.specs.Running.{is_down, is_failed}
 use Rattle.dm_event_history.specs.Tainted.{AtDesk}
 use Rattle.dm_event_history.specs.Honest.{IsClean}
+use Rattle.dm_event_history.specs.Held.{Holding, CanHold}
 use Rattle.dm_event_steps.specs.declared.actor.DeskState.{DeskState}
 use Rattle.dm_event_steps.specs.declared.actor.DeskState.TheVariants.{Running, Down}
 use Rattle.dm_event_steps.specs.Gathered.{IsGathered}
@@ -30,7 +31,12 @@ pub record SetStands {A : Type 0} (grids : List GridView) (h : History A) (desk 
   pub few : finite.len held ≤ capacity
   pub gathered : IsClean grids h (AtDesk desk) → IsGathered h desk held
 
--- a running desk shows what its set holds, unless it answered `Save` since its last restart
+-- what a running desk shows, and what its set holds
+abbrev pub holding_of : DeskView → Documents → Holding
+holding_of view stored = record { shown = view.held; stored = stored }
+
+-- A running desk shows what its set holds, unless it answered `Save` since its last restart. If it is clean, its part
+-- of the history can have brought just this there.
 pub record DeskRuns {A : Type 0} (grids : List GridView) (h : History A) (desk capacity : ℕ) (view : DeskView)
     : Type 0 where
   pub up : is_down h (DeskAt desk) ≡ false
@@ -40,6 +46,7 @@ pub record DeskRuns {A : Type 0} (grids : List GridView) (h : History A) (desk c
   pub store : SetStands grids h desk capacity view.saved stored
   pub shows : view.is_failed ≡ false → view.held ≡ stored
   pub gathered : IsClean grids h (AtDesk desk) → IsGathered h desk view.held
+  pub can : IsClean grids h (AtDesk desk) → CanHold capacity h desk (holding_of view stored)
 
 -- a desk that is down
 pub record DeskLiesDown {A : Type 0} (grids : List GridView) (h : History A) (desk capacity : ℕ) (saved : SavedSet)
@@ -47,6 +54,8 @@ pub record DeskLiesDown {A : Type 0} (grids : List GridView) (h : History A) (de
   pub down : is_down h (DeskAt desk) ≡ true
   pub stored : Documents
   pub store : SetStands grids h desk capacity saved stored
+  pub can : IsClean grids h (AtDesk desk) →
+      (shown : Documents) × CanHold capacity h desk (record { shown = shown; stored = stored })
 
 -- a desk with room for that many documents stands for its part of the history
 abbrev pub DeskStands : {A : Type 0} → List GridView → History A → ℕ → ℕ → DeskState A → Type 0

@@ -6,8 +6,8 @@ use Rattle.dm_assembly_desk.specs.Files.{Spells}
 use Rattle.dm_event_history.specs.History.{History, CutDocument, ExportName, docs}
 use Rattle.dm_event_history.specs.Tainted.{InExport}
 use Rattle.dm_event_history.specs.Honest.{IsClean}
+use Rattle.dm_event_history.specs.Held.{IsPart}
 use Rattle.dm_event_steps.specs.declared.actor.LeftExport.{LeftExport}
-use Rattle.dm_event_steps.specs.Labels.{IsPart}
 
 abbrev pub export_name_of : {A : Type 0} → LeftExport A → ExportName
 export_name_of export = record { id = export.id; count = export.count; mask = export.mask }

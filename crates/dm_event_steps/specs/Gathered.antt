@@ -4,7 +4,7 @@ use Rattle.std.specs.FinMap as map
 use Rattle.dm_assembly_desk.specs.Documents.{Documents, page_at}
 use Rattle.dm_event_history.specs.History.{History, CutDocument, docs}
 use Rattle.dm_event_history.specs.Holding.{IsSurelyHeld, IsPossiblyHeld}
-use Rattle.dm_event_steps.specs.Labels.{IsPart}
+use Rattle.dm_event_history.specs.Held.{IsPart}
 
 -- how many pages a document has, if one of them is held
 abbrev pub counted : Documents → ℕ → Option ℕ

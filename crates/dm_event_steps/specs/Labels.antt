@@ -1,8 +1,9 @@
 -- Labels that left, and what they carry.
-use Rattle.std.specs.Prelude.{◌≡◌, ◌+◌, ℕ, Some, List, [], ◌∷◌, length, slice_get}
+use Rattle.std.specs.Prelude.{◌≡◌, ◌+◌, ℕ, Some, List, [], ◌∷◌, length}
 use Rattle.dm_finder_frame.specs.Grids.{GridView}
 use Rattle.dm_append_label.specs.Labels.{Carries}
 use Rattle.dm_event_history.specs.History.{History, CutDocument, LabelName, docs}
+use Rattle.dm_event_history.specs.Held.{IsPart}
 use Rattle.dm_event_steps.specs.declared.actor.LeftLabel.{LeftLabel}
 
 abbrev pub name_of : {A : Type 0} → LeftLabel A → LabelName
@@ -16,10 +17,6 @@ abbrev pub left_labels : {A : Type 0} → ℕ → ℕ → ℕ → List GridView 
 left_labels id count number [] = []
 left_labels id count number (grid ∷ grids) =
     record { id = id; number = number; count = count; grid = grid } ∷ left_labels id count (number + 1) grids
-
--- the bytes are part m of the document
-abbrev pub IsPart : CutDocument → ℕ → List ℕ → Type 0
-IsPart document m bytes = (i : ℕ) × (m ≡ i + 1) × (slice_get document.parts i ≡ Some bytes)
 
 -- the label carries its part of the document that was printed under its identification
 pub record ShowsDocument {A : Type 0} (h : History A) (label : LeftLabel A) : Type 0 where

@@ -14,12 +14,13 @@ use Rattle.dm_event_history.specs.Legal.{IsNoLabelTwice}
 use Rattle.dm_event_history.specs.Honest.{IsFair}
 use Rattle.dm_event_history.specs.Headline.{Batch, labels_of, PrintsOnceBy, IsFaithfulBy}
 use Rattle.dm_event_history.specs.Places.{AreOpened}
+use Rattle.dm_event_history.specs.Held.{IsPart}
 use Rattle.dm_event_steps.specs.declared.actor.PrinterActor.{PrinterActor}
 use Rattle.dm_event_steps.specs.declared.actor.DeskActor.{DeskActor}
 use Rattle.dm_event_steps.specs.declared.actor.DeskState.{DeskState}
 use Rattle.dm_event_steps.specs.declared.actor.LeftLabel.{LeftLabel}
 use Rattle.dm_event_steps.specs.declared.actor.LeftExport.{LeftExport}
-use Rattle.dm_event_steps.specs.Labels.{name_of, grid_of, IsPart}
+use Rattle.dm_event_steps.specs.Labels.{name_of, grid_of}
 use Rattle.dm_event_steps.specs.Acts.{Left, PrinterActs}
 use Rattle.dm_event_steps.specs.DeskActs.{DeskActs}
 

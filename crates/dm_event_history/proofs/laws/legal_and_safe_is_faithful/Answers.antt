@@ -6,8 +6,8 @@ use Rattle.dm_event_history.proofs.Fresh.{never_twice}
 use Rattle.dm_event_history.proofs.laws.legal_and_safe_is_faithful.Goals as goal
 
 pub returns : goal.returns
-returns g c ranges desks h apart legal grids capacities marks count fair safe honest = (
+returns g c ranges desks h apart legal grids capacities marks count fair safe honest held = (
   batches_of h,
   is_faithful ranges h grids capacities marks apart (subst (λ (n : ℕ). IsLegal ranges n h) count legal)
-      (never_twice ranges desks h apart legal) fair safe honest,
+      (never_twice ranges desks h apart legal) fair safe honest held,
 )

@@ -1,0 +1,187 @@
+-- What a desk shows and what its set holds, entry by entry, and so what it answers: what `accept`, `document`, `forget`,
+-- `export` and `import` of `dm_assembly_desk` do with such documents.
+use Rattle.std.specs.Prelude.{◌≡◌, ◌≢◌, ◌⊎◌, ◌+◌, ◌≤◌, ℕ, nat_le, ◌&&◌, not, if◌then◌else◌, MatchBool, Some, None, IsSome, List, [], ◌∷◌, length, slice_get, Ok, Err}
+use Rattle.std.specs.FinMap as map
+use Rattle.dm_finder_frame.specs.Grids.{GridView}
+use Rattle.dm_append_label.specs.Pages.{PageView}
+use Rattle.dm_assembly_desk.specs.Pages.{Pages, page, mask}
+use Rattle.dm_assembly_desk.specs.Documents.{Documents, with_page}
+use Rattle.dm_assembly_desk.specs.Answers.{answer, NeedsSave}
+use Rattle.dm_assembly_desk.specs.Accepting.{NamesPage}
+use Rattle.dm_assembly_desk.specs.Asking.{Asks, NamesMissing}
+use Rattle.dm_assembly_desk.specs.Exporting.{Exports}
+use Rattle.dm_assembly_desk.specs.Importing.{import_answer, with_file, NamesFile}
+use Rattle.dm_assembly_desk.specs.declared.reply.Kind.{Kind}
+use Rattle.dm_assembly_desk.specs.declared.reply.Kind.TheVariants.{Again}
+use Rattle.dm_assembly_desk.specs.declared.fault.ScanFault.TheVariants as scan_fault
+use Rattle.dm_assembly_desk.specs.declared.fault.ForgetFault.TheVariants as forget_fault
+use Rattle.dm_assembly_desk.specs.declared.fault.ImportFault.TheVariants as import_fault
+use Rattle.dm_event_history.specs.declared.event.Event.{Event}
+use Rattle.dm_event_history.specs.declared.event.Event.TheVariants.{Scan, RestartDesk, Ask, Forget, Export, Import}
+use Rattle.dm_event_history.specs.declared.reply.Reply.{Reply}
+use Rattle.dm_event_history.specs.declared.reply.Reply.TheVariants.{Scanned, ScanRefused, Document, AskRefused, Forgotten, ForgetRefused, Exported, ExportRefused, Imported, ImportRefused, Restarted, Stopped}
+use Rattle.dm_event_history.specs.declared.stop.Stop.{Stop}
+use Rattle.dm_event_history.specs.Actors.{DeskAt, actor_of}
+use Rattle.dm_event_history.specs.History.{History, CutDocument, ExportName, out, docs, exports}
+use Rattle.dm_event_history.specs.Running.{is_failed}
+use Rattle.dm_event_history.specs.Saving.{leaves_new, stops_after_save}
+use Rattle.dm_event_history.specs.Tainted.{AtDesk}
+use Rattle.dm_event_history.specs.Honest.{IsClean}
+
+-- ---- pages
+
+-- the bytes are part m of the document
+abbrev pub IsPart : CutDocument → ℕ → List ℕ → Type 0
+IsPart document m bytes = (i : ℕ) × (m ≡ i + 1) × (slice_get document.parts i ≡ Some bytes)
+
+-- the page is that of the label of this number, with its part of the document that was printed
+pub record IsPageOfLabel {A : Type 0} (before : History A) (label : ℕ) (page : PageView) : Type 0 where
+  pub has_left : slice_get (out before) label ≡ Some (record { id = page.id; number = page.m; count = page.n })
+  pub cut : CutDocument
+  pub printed : docs before page.id ≡ Some cut
+  pub part : IsPart cut page.m page.bytes
+
+-- the pages are those of the export of this number, each a part of the document that was printed
+pub record ArePagesOfExport {A : Type 0} (before : History A) (export id : ℕ) (pages : Pages) : Type 0 where
+  pub name : ExportName
+  pub has_left : slice_get (exports before) export ≡ Some name
+  pub id_is : id ≡ name.id
+  pub count_is : name.count ≡ length pages
+  pub mask_is : name.mask ≡ mask pages
+  pub cut : CutDocument
+  pub printed : docs before id ≡ Some cut
+  pub each : (m : ℕ) (bytes : List ℕ) → page pages m ≡ Some bytes → IsPart cut m bytes
+
+-- ---- what is held
+
+-- what a desk shows, and what its set holds: the same, unless a save failed since its last restart
+pub record Holding : Type 0 where
+  pub shown : Documents
+  pub stored : Documents
+
+abbrev pub both : Documents → Holding
+both documents = record { shown = documents; stored = documents }
+
+-- a failed save left the new content in the set, and the desk shows what it showed
+abbrev pub with_unsaved : Holding → Documents → Holding
+with_unsaved old unsaved = record { shown = old.shown; stored = unsaved }
+
+-- what is held once a page, or the pages of a file, are that was answered so
+abbrev pub with_answered : Kind → Documents → Documents → Documents
+with_answered Again old new = old
+with_answered kind old new = new
+
+-- a call of a desk that is stopped saved, if it came so far, and the desk had not failed
+abbrev pub IsSavedWhenStopped : {A : Type 0} → History A → ℕ → Stop → Type 0 → Type 0 → Type 0
+IsSavedWhenStopped before desk stop Saved Unsaved =
+    MatchBool (stops_after_save (Some stop) && not (is_failed before (DeskAt desk))) Saved Unsaved
+
+-- What a stopped scan did: it took the page, which was not held; or it didn't, as the page was held, the desk was full,
+-- or the label was refused for its finder patterns, of which a module was flipped.
+pub record MayTakePage {A : Type 0} (capacity : ℕ) (before : History A) (label flips : ℕ) (old new : Holding)
+    : Type 0 where
+  pub page : PageView
+  pub of_label : IsPageOfLabel before label page
+  pub took :
+      (NeedsSave (answer capacity old.shown page) × (new ≡ both (with_page old.shown page)))
+      ⊎ (((answer capacity old.shown page ≡ Ok Again)
+      ⊎ ((answer capacity old.shown page ≡ Err scan_fault.Full) ⊎ (1 ≤ flips)))
+      × (new ≡ both old.stored))
+
+-- what a stopped import did
+pub record MayTakeFile {A : Type 0} (capacity : ℕ) (before : History A) (export : ℕ) (old new : Holding)
+    : Type 0 where
+  pub id : ℕ
+  pub pages : Pages
+  pub of_export : ArePagesOfExport before export id pages
+  pub took :
+      (NeedsSave (import_answer capacity old.shown id pages) × (new ≡ both (with_file old.shown id pages)))
+      ⊎ (((import_answer capacity old.shown id pages ≡ Ok Again)
+      ⊎ (import_answer capacity old.shown id pages ≡ Err import_fault.Full))
+      × (new ≡ both old.stored))
+
+-- What one event does to what a desk holds, by its reply. A label that is refused for a conflict, or as the desk is full,
+-- may be any label, since a scan that was not honest may be refused so; and an import likewise. Other refusals that leave
+-- the desk as it was are looked into only if they tell whether a document is held.
+abbrev pub HoldsOn : {A : Type 0} → ℕ → History A → Event A → Reply A → Holding → Holding → Type 0
+HoldsOn capacity before (Scan desk label flips stop) (Scanned accepted) old new =
+    (page : PageView) × IsPageOfLabel before label page × NamesPage page accepted
+    × (answer capacity old.shown page ≡ Ok accepted.kind)
+    × (new ≡ both (with_answered accepted.kind old.shown (with_page old.shown page)))
+HoldsOn capacity before (Scan desk label flips stop) (ScanRefused scan_fault.Conflict) old new =
+    ((page : PageView) × (answer capacity old.shown page ≡ Err scan_fault.Conflict)) × (new ≡ old)
+HoldsOn capacity before (Scan desk label flips stop) (ScanRefused scan_fault.Full) old new =
+    ((page : PageView) × (answer capacity old.shown page ≡ Err scan_fault.Full)) × (new ≡ old)
+HoldsOn capacity before (Scan desk label flips stop) (ScanRefused scan_fault.Save) old new =
+    MatchBool (leaves_new (Some stop))
+    ((page : PageView) × IsPageOfLabel before label page × NeedsSave (answer capacity old.shown page)
+    × (new ≡ with_unsaved old (with_page old.shown page)))
+    (new ≡ old)
+HoldsOn capacity before (Scan desk label flips stop) Stopped old new =
+    IsSavedWhenStopped before desk stop (MayTakePage capacity before label (length flips) old new)
+    (new ≡ both old.stored)
+HoldsOn capacity before (Forget desk id stop) Forgotten old new =
+    IsSome (map.get old.shown id) × (new ≡ both (map.remove old.shown id))
+HoldsOn capacity before (Forget desk id stop) (ForgetRefused forget_fault.NotHeld) old new =
+    (map.get old.shown id ≡ None) × (new ≡ old)
+HoldsOn capacity before (Forget desk id stop) (ForgetRefused forget_fault.Memory) old new =
+    IsSome (map.get old.shown id) × (new ≡ old)
+HoldsOn capacity before (Forget desk id stop) (ForgetRefused forget_fault.Save) old new =
+    IsSome (map.get old.shown id)
+    × MatchBool (leaves_new (Some stop)) (new ≡ with_unsaved old (map.remove old.shown id)) (new ≡ old)
+HoldsOn capacity before (Forget desk id stop) Stopped old new =
+    IsSavedWhenStopped before desk stop
+    ((IsSome (map.get old.shown id) × (new ≡ both (map.remove old.shown id)))
+    ⊎ ((map.get old.shown id ≡ None) × (new ≡ both old.stored)))
+    (new ≡ both old.stored)
+HoldsOn capacity before (Import desk export stop) (Imported imported) old new =
+    (id : ℕ) × (pages : Pages) × ArePagesOfExport before export id pages × NamesFile old.shown id pages imported
+    × (import_answer capacity old.shown id pages ≡ Ok imported.kind)
+    × (new ≡ both (with_answered imported.kind old.shown (with_file old.shown id pages)))
+HoldsOn capacity before (Import desk export stop) (ImportRefused import_fault.Conflict) old new =
+    ((id : ℕ) × (pages : Pages) × (import_answer capacity old.shown id pages ≡ Err import_fault.Conflict)) × (new ≡ old)
+HoldsOn capacity before (Import desk export stop) (ImportRefused import_fault.Full) old new =
+    ((id : ℕ) × (pages : Pages) × (import_answer capacity old.shown id pages ≡ Err import_fault.Full)) × (new ≡ old)
+HoldsOn capacity before (Import desk export stop) (ImportRefused import_fault.Save) old new =
+    MatchBool (leaves_new (Some stop))
+    ((id : ℕ) × (pages : Pages) × ArePagesOfExport before export id pages
+    × NeedsSave (import_answer capacity old.shown id pages) × (new ≡ with_unsaved old (with_file old.shown id pages)))
+    (new ≡ old)
+HoldsOn capacity before (Import desk export stop) Stopped old new =
+    IsSavedWhenStopped before desk stop (MayTakeFile capacity before export old new) (new ≡ both old.stored)
+HoldsOn capacity before (Ask desk id) (Document bytes) old new =
+    Asks (λ given. given) (map.get old.shown id) (Ok bytes) × (new ≡ old)
+HoldsOn capacity before (Ask desk id) (AskRefused fault) old new =
+    Asks {X = List ℕ} (λ given. given) (map.get old.shown id) (Err fault)
+    × NamesMissing {X = List ℕ} (map.get old.shown id) (Err fault) × (new ≡ old)
+HoldsOn capacity before (Export desk id) (Exported index told n bits) old new =
+    (pages : Pages) × (map.get old.shown id ≡ Some pages) × (n ≡ length pages) × (bits ≡ mask pages) × (new ≡ old)
+HoldsOn capacity before (Export desk id) (ExportRefused fault) old new =
+    Exports {X = List ℕ} (λ given. given) id (map.get old.shown id) (Err fault) × (new ≡ old)
+HoldsOn capacity before (RestartDesk desk) Restarted old new = new ≡ both old.stored
+HoldsOn capacity before event reply old new = new ≡ old
+
+-- ---- histories
+
+-- a desk with room for that many documents may hold this after a history: each of its entries did what its reply says
+abbrev pub CanHold : {A : Type 0} → ℕ → History A → ℕ → Holding → Type 0
+CanHold capacity [] desk holding = holding ≡ both map.empty
+CanHold capacity (entry ∷ before) desk holding =
+    ((actor_of entry.event ≡ DeskAt desk)
+    × (old : Holding) × CanHold capacity before desk old
+    × HoldsOn capacity before entry.event entry.reply old holding)
+    ⊎ ((actor_of entry.event ≢ DeskAt desk) × CanHold capacity before desk holding)
+
+-- each desk that is clean has something that it may hold
+abbrev pub AreHeld : {A : Type 0} → List GridView → List ℕ → History A → Type 0
+AreHeld grids capacities [] = Unit {0}
+AreHeld grids capacities (entry ∷ before) =
+    ((desk capacity : ℕ) → slice_get capacities desk ≡ Some capacity → IsClean grids (entry ∷ before) (AtDesk desk) →
+    (holding : Holding) × CanHold capacity (entry ∷ before) desk holding)
+    × AreHeld grids capacities before
+
+-- the history of the first entries, that many
+abbrev pub first_entries : {A : Type 0} → ℕ → History A → History A
+first_entries i [] = []
+first_entries i (entry ∷ before) =
+    if nat_le (length (entry ∷ before)) i then entry ∷ before else first_entries i before
