@@ -30,7 +30,7 @@ use Rattle.dm_event_history.specs.Honest.{IsBeyond, IsHonestlyRefused, IsHonestl
 use Rattle.dm_event_history.specs.Masks.{HasPage}
 use Rattle.dm_event_history.specs.Holding.{MayTake, IsPossiblyHeld, known_of}
 use Rattle.dm_event_history.specs.Headline.{Batch, count_of, labels_of, IsScanOf, MayHaveSaved, WasScanned, LeftBefore, WasPrinted, WasBegun, IsOfFrame, MayRefuse, MayNotImport, PrintsOnceBy, known_before, IsFaithfulBy}
-use Rattle.dm_event_history.specs.Held.{AreHeld}
+use Rattle.dm_event_history.specs.Held.{DesksCanHold}
 use Rattle.dm_event_history.proofs.Holdings.{held_after}
 use Rattle.dm_event_history.proofs.Batches.{same_batches, batch_of, batches_of, at_last, events_count, replies_count, batches_count, before_or_last, take_keeps, in_either, out_is, label_in, whole_before}
 use Rattle.dm_event_history.proofs.Replied.{failed_at_last}
@@ -645,7 +645,7 @@ one_document {A} ranges desks batches events replies i j id one other f a b =
 pub is_faithful : {A : Type 0} (ranges : List Range) (h : History A) (grids : List GridView)
     (capacities : List ℕ) (marks : List Bool) → AreDisjoint ranges → IsLegal ranges (length capacities) h →
     NeverTwice h → AreMarkedFair grids (events_of h) marks (replies_of h) → IsSafe grids h →
-    AreHonestReplies grids capacities h → AreHeld grids capacities h →
+    AreHonestReplies grids capacities h → DesksCanHold grids capacities h →
     IsFaithfulBy ranges capacities (batches_of h) (events_of h) marks (replies_of h)
 is_faithful {A} ranges h grids capacities marks apart legal never fair safe honest held = record {
   prints = explained;

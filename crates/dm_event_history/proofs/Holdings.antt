@@ -10,13 +10,13 @@ use Rattle.dm_event_history.specs.declared.reply.Reply.{Reply}
 use Rattle.dm_event_history.specs.History.{History}
 use Rattle.dm_event_history.specs.Tainted.{AtDesk, IsTainted}
 use Rattle.dm_event_history.specs.Honest.{AreMarkedFair}
-use Rattle.dm_event_history.specs.Held.{Holding, both, CanHold, AreHeld, first_entries}
+use Rattle.dm_event_history.specs.Held.{Holding, both, CanHold, DesksCanHold, first_entries}
 use Rattle.dm_event_history.proofs.Deciding.{decided, if_so, if_not, true_false}
 use Rattle.dm_event_history.proofs.Tainting.{IsFirst, first_less, clean_of}
 
 pub held_after : {A : Type 0} (grids : List GridView) (capacities : List ℕ) (events : List (Event A))
     (marks : List Bool) (replies : List (Reply A)) → AreMarkedFair grids events marks replies → (h : History A) →
-    IsFirst events replies h → AreHeld grids capacities h → (i desk capacity : ℕ) → i ≤ length h →
+    IsFirst events replies h → DesksCanHold grids capacities h → (i desk capacity : ℕ) → i ≤ length h →
     slice_get capacities desk ≡ Some capacity → ¬ IsTainted events marks replies i (AtDesk desk) →
     (holding : Holding) × CanHold capacity (first_entries i h) desk holding
 held_after grids capacities events marks replies fair [] first held i desk capacity below here untainted =

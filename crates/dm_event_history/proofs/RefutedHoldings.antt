@@ -1,8 +1,8 @@
 -- Runs that nothing a desk may hold explains are refuted.
 use Rattle.std.proofs.Common.{◌≡◌, ◌<◌, ◌≤◌, ◌+◌, inl, inr, ℕ, Bool, true, false, cond, Option, Some, None, Ok, Err, List, [], ◌∷◌, length, map, refl, ap, sym, ◌∙◌, subst, arith, ◌⊎◌, Result, slice_get}
-use Rattle.std.specs.Prelude.{MatchBool, is_some, nat_lt, ◌≢◌, if◌then◌else◌}
+use Rattle.std.specs.Prelude.{MatchBool, is_some, nat_lt, if◌then◌else◌}
 use Rattle.std.specs.FinMap as finite
-use Rattle.std.specs.FinMap.{get-empty, get-insert, get-remove, len-empty, len-insert}
+use Rattle.std.specs.FinMap.{get-empty, len-empty, len-insert}
 use Rattle.std.specs.Cmp.{nat_cmp_total}
 use Rattle.std.specs.Ordering.{nat_cmp}
 use Rattle.std.proofs.lemmas.Bool.Decides.{nat_tests}
@@ -15,7 +15,6 @@ use Rattle.dm_assembly_desk.specs.Asking.{Asks, AsksWhole}
 use Rattle.dm_assembly_desk.specs.declared.reply.Kind.TheVariants.{New, Again, Complete}
 use Rattle.dm_assembly_desk.specs.declared.fault.AskFault.TheVariants.{NotHeld, Incomplete}
 use Rattle.dm_assembly_desk.specs.declared.fault.ScanFault.TheVariants as scan_fault
-use Rattle.dm_assembly_desk.proofs.Loading.{itself, apart}
 use Rattle.dm_event_history.specs.declared.event.Event.{Event}
 use Rattle.dm_event_history.specs.declared.event.Event.TheVariants.{Scan, RestartDesk, Ask, Forget}
 use Rattle.dm_event_history.specs.declared.reply.Reply.{Reply}
@@ -23,23 +22,21 @@ use Rattle.dm_event_history.specs.declared.reply.Reply.TheVariants.{Printed, Sca
 use Rattle.dm_event_history.specs.declared.stop.Stop.TheVariants as stops
 use Rattle.dm_event_history.specs.History.{History, Entry, LabelName, names_from}
 use Rattle.dm_event_history.specs.Tainted.{AtDesk, IsTainted}
-use Rattle.dm_event_history.specs.Held.{Holding, both, MayTakePage, CanHold, first_entries}
+use Rattle.dm_event_history.specs.Held.{Holding, both, StoppedScan, CanHold, first_entries}
 use Rattle.dm_event_history.specs.Worked.{digits, two_ranges}
 use Rattle.dm_event_history.specs.Unfaithful.{Run, IsFaithfulRun, IsFaithfulMarked, print, scan, page, lost_by_a_stop, held_though_forgotten, beyond_its_room, full_of_nothing}
+use Rattle.dm_event_history.proofs.HeldDocuments.{get_same, get_other, get_removed}
+use Rattle.dm_event_history.proofs.Refuting.{IsBehind}
 use Rattle.dm_event_history.proofs.Tainting.{untainted, untainted_by}
 use Rattle.dm_event_history.proofs.Explained.{Hidden, known, history_of, behind_run}
 use Rattle.std.specs.List.{list_all}
 use Rattle.dm_assembly_desk.specs.declared.fault.AskFault.{AskFault}
-use Rattle.dm_event_history.specs.Legal.{IsLegal}
 use Rattle.dm_event_history.proofs.Batches.{name_at}
 
 -- what desk 0 may hold after that many events of a run
 abbrev IsHeldAfter : {A : Type 0} → Run A → ℕ → List Hidden → Holding → Type 0
 IsHeldAfter run i hidden holding =
     CanHold 2 (first_entries i (history_of (map (λ one. one.0) run) (map (λ one. one.1) run) hidden [])) 0 holding
-
-abbrev IsBehind : {A : Type 0} → Run A → List Hidden → Type 0
-IsBehind run hidden = IsLegal two_ranges 2 (history_of (map (λ one. one.0) run) (map (λ one. one.1) run) hidden [])
 
 -- there is nothing, so the run is not faithful
 no_holding : {A : Type 0} (run : Run A) (i : ℕ) → i ≤ length (map (λ (one : Event A × Reply A). one.0) run) →
@@ -55,10 +52,6 @@ no_holding {A} run i below clean none (batches, f) =
 
 abbrev nothing : Documents
 nothing = finite.empty
-
-get_own : (held : Documents) (id : ℕ) (pages : Pages) → finite.get (finite.insert held id pages) id ≡ Some pages
-get_own held id pages =
-    get-insert nat_cmp_total held id pages id ∙ ap (λ (b : Bool). cond b (Some pages) (finite.get held id)) (itself id)
 
 -- a first page is new
 first_is_new : (p : PageView) → answer 2 nothing p ≡ Ok New
@@ -84,21 +77,16 @@ one_more : (held : Documents) (p : PageView) → finite.get held p.id ≡ None �
 one_more held p none = len-insert nat_cmp_total held p.id (pages_with held p) ∙
     ap (λ (o : Option Pages). cond (is_some o) (finite.len held) (finite.len held + 1)) none
 
-get_away : (held : Documents) (p : PageView) (id : ℕ) → id ≢ p.id →
-    finite.get (with_page held p) id ≡ finite.get held id
-get_away held p id away = get-insert nat_cmp_total held p.id (pages_with held p) id ∙
-    ap (λ (b : Bool). cond b (Some (pages_with held p)) (finite.get held id)) (apart id p.id away)
-
 -- where a page of each of two documents was taken there is no room for a third
 crowded : (p q r : PageView) (one two : Documents) → p.id ≡ 0 → q.id ≡ 1 → r.id ≡ 2 →
     one ≡ with_page nothing p → two ≡ with_page one q → answer 2 two r ≡ Ok New → ⊥
 crowded p q r one two p_is q_is r_is one_is two_is new =
     let q_away : finite.get one q.id ≡ None =
-    ap (λ (d : Documents). finite.get d q.id) one_is ∙ get_away nothing p q.id (λ x. omega arith) ∙
+    ap (λ (d : Documents). finite.get d q.id) one_is ∙ get_other nothing p.id q.id (pages_with nothing p) (λ x. omega arith) ∙
     get-empty nat_cmp q.id in
     let r_away : finite.get two r.id ≡ None =
-    ap (λ (d : Documents). finite.get d r.id) two_is ∙ get_away one q r.id (λ x. omega arith) ∙
-    ap (λ (d : Documents). finite.get d r.id) one_is ∙ get_away nothing p r.id (λ x. omega arith) ∙
+    ap (λ (d : Documents). finite.get d r.id) two_is ∙ get_other one q.id r.id (pages_with one q) (λ x. omega arith) ∙
+    ap (λ (d : Documents). finite.get d r.id) one_is ∙ get_other nothing p.id r.id (pages_with nothing p) (λ x. omega arith) ∙
     get-empty nat_cmp r.id in
     let first : finite.len one ≡ 1 = ap (λ (d : Documents). finite.len d) one_is ∙
     one_more nothing p (get-empty nat_cmp p.id) ∙ ap (λ (n : ℕ). n + 1) (len-empty nat_cmp Pages) in
@@ -111,10 +99,10 @@ crowded p q r one two p_is q_is r_is one_is two_is new =
 with_page_held : (held : Documents) (p : PageView) (id : ℕ) → p.id ≡ id → finite.get (with_page held p) id ≡ None → ⊥
 with_page_held held p id same none =
     let some : finite.get (with_page held p) id ≡ Some (pages_with held p) =
-    ap (finite.get (with_page held p)) (sym same) ∙ get_own held p.id (pages_with held p) in cc (some, none)
+    ap (finite.get (with_page held p)) (sym same) ∙ get_same held p.id (pages_with held p) in cc (some, none)
 
 -- nothing is held after a stopped scan but its page
-took_first : {A : Type 0} (before : History A) (label : ℕ) (new : Holding) (m : MayTakePage 2 before label 0 (both nothing)
+took_first : {A : Type 0} (before : History A) (label : ℕ) (new : Holding) (m : StoppedScan 2 before label 0 (both nothing)
     new) → new ≡ both (with_page nothing m.page)
 took_first before label new m = by_case m.took
   where
@@ -137,9 +125,6 @@ not_held (Some pages) asks = by_all (list_all is_some pages) asks
         (◌≡◌ {A = Result (List ℕ) AskFault} (Err NotHeld) (Err (Incomplete (missing_mask pages)))) → Some pages ≡ None
     by_all true x = absurd x
     by_all false x = absurd (cc (x))
-
-get_gone : (held : Documents) (id : ℕ) → finite.get (finite.remove held id) id ≡ None
-get_gone held id = get-remove nat_cmp_total held id id ∙ ap (λ (b : Bool). cond b None (finite.get held id)) (itself id)
 
 -- the label that is scanned is of the print
 label_is : (x : Hidden) (name : LabelName) → 0 ≡ x.0 →
@@ -169,8 +154,8 @@ lost_by_a_stop_is A =
     stopped : (a b : Hidden) → 0 ≡ a.0 → (h : Holding) → CanHold 2 (two b ∷ one a ∷ []) 0 h →
         finite.get h.stored 0 ≡ None → ⊥
     stopped a b own h (inl x) none =
-        let m : MayTakePage 2 (one a ∷ []) 0 0 (both nothing) h =
-        subst (λ (k : Holding). MayTakePage 2 (one a ∷ []) 0 0 k h) (at_first a x.1 x.2) x.3 in
+        let m : StoppedScan 2 (one a ∷ []) 0 0 (both nothing) h =
+        subst (λ (k : Holding). StoppedScan 2 (one a ∷ []) 0 0 k h) (at_first a x.1 x.2) x.3 in
         let is : h ≡ both (with_page nothing m.page) = took_first (one a ∷ []) 0 h m in
         with_page_held nothing m.page 0 (label_is a _ own m.of_label.has_left)
         (ap (λ (k : Holding). finite.get k.stored 0) (sym is) ∙ none)
@@ -220,7 +205,7 @@ held_though_forgotten_is A =
     forgotten : (a b c : Hidden) (h : Holding) → CanHold 2 (three c ∷ two b ∷ one a ∷ []) 0 h →
         finite.get h.stored 0 ≡ None
     forgotten a b c h (inl x) = elim x.3 [
-      | inl let_go ↦ ap (λ (k : Holding). finite.get k.stored 0) let_go.1 ∙ get_gone x.1.shown 0
+      | inl let_go ↦ ap (λ (k : Holding). finite.get k.stored 0) let_go.1 ∙ get_removed x.1.shown 0
       | inr none ↦ ap (λ (k : Holding). finite.get k.stored 0) none.1 ∙
           ap (λ (d : Documents). finite.get d 0) (scanned a b x.1 x.2) ∙ none.0
     ]
@@ -304,8 +289,8 @@ full_of_nothing_is A (batches, f) =
         CanHold 2 (first_entries 2 (history_of events replies hidden [])) 0 holding → ⊥
     by_hidden (a ∷ b ∷ []) count holding (inl (named, old, inl x, does)) = (let away = x.0 in absurd (cc (away)))
     by_hidden (a ∷ b ∷ []) count holding (inl (named, old, inr x, does)) =
-        (let full = subst (λ (k : Holding). answer 2 k.shown does.0.0 ≡ Err scan_fault.Full) x.1 does.0.1 in
-        let new = first_is_new does.0.0 in
+        (let full = subst (λ (k : Holding). answer 2 k.shown does.0 ≡ Err scan_fault.Full) x.1 does.2 in
+        let new = first_is_new does.0 in
         absurd (cc (full, new)))
     by_hidden (a ∷ b ∷ []) count holding (inr x) = absurd (x.0 refl)
     by_hidden hidden count holding can = absurd (omega arith)

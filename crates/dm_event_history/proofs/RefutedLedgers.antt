@@ -32,6 +32,7 @@ use Rattle.dm_event_history.specs.Legal.{Fits, IsLegal, LetsOutStopped}
 use Rattle.dm_event_history.specs.Headline.{Batch, batch_of, batches_of, PrintsOnceBy}
 use Rattle.dm_event_history.specs.Worked.{digits, digits_cut, range, two_ranges, first_ticket}
 use Rattle.dm_event_history.specs.Unfaithful.{Run, IsFaithfulRun, other_digits, print, ticket, ticket_back, exhausted_at_first, exhausted_by, exhausted_by_itself, exhausted_by_no_range, exhausted_by_a_refused_give, exhausted_though_failed, too_long_of_few, printed_untaken, given_of_another, given_though_printed, printed_of_anothers_ticket, given_again, given_after_taken, after_overtaken, printed_of_overtaken, given_of_overtaken, printed_of_old, after_exhausted, printed_after_exhausted, given_after_exhausted, printed_above_the_least, given_though_used, printed_though_given, missing_after_a_refused_give, serial_skipped, refused_though_free, refused_though_for_it, refused_though_taken, given_of_falling_takes}
+use Rattle.dm_event_history.proofs.Refuting.{IsBehind}
 use Rattle.dm_event_history.proofs.Deciding.{decided, if_so, if_not, true_false, both, or_left}
 use Rattle.dm_event_history.proofs.FreeNumbers.{none_counted, free_stays, free_goes, saved_there, saved_elsewhere}
 use Rattle.dm_event_history.proofs.RightHistory.{are_parts, are_rising_parts}
@@ -41,10 +42,6 @@ use Rattle.dm_print_ledger.specs.Givers.{last_taken}
 use Rattle.dm_print_ledger.specs.declared.fault.TakeFault.{TakeFault}
 use Rattle.dm_print_ledger.specs.declared.fault.TakeFault.TheVariants as take_fault
 use Rattle.dm_event_history.specs.Running.{is_failed}
-
--- the history behind a run of this number of events is one of these
-abbrev IsBehind : {A : Type 0} → Run A → List Hidden → Type 0
-IsBehind run hidden = IsLegal two_ranges 2 (history_of (map (λ one. one.0) run) (map (λ one. one.1) run) hidden [])
 
 -- there is none, so the run is not faithful
 no_history : {A : Type 0} (run : Run A) →

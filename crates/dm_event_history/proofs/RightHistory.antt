@@ -1,5 +1,5 @@
 -- The history behind the right document: two prints that saved and were stopped, two scans and an ask. It is legal.
-use Rattle.std.proofs.Common.{◌≡◌, ◌≤◌, ◌||◌, ℕ, zero, suc, Bool, true, false, None, [], ◌∷◌, take, refl, sym, ◌∙◌, arith, inl, Option, slice_get, ap, subst, cond, Ok, Some, inr, ◌≢◌}
+use Rattle.std.proofs.Common.{◌≡◌, ◌≤◌, ◌||◌, ℕ, zero, suc, Bool, true, false, None, [], ◌∷◌, take, refl, sym, ◌∙◌, arith, inl, Option, slice_get, ap, subst, Ok, Some, inr, ◌≢◌}
 use Rattle.std.proofs.lemmas.Bool.Decides.{nat_tests}
 use Rattle.dm_check_blocks.specs.declared.size.Size.TheVariants.{Side12}
 use Rattle.dm_check_blocks.specs.Sizes.{row}
@@ -23,16 +23,15 @@ use Rattle.dm_event_history.specs.Worked.{digits, digits_cut, range, two_ranges,
 use Rattle.dm_event_history.specs.Unfaithful.{other_digits, page, print, scan, two_desks}
 use Rattle.std.specs.Prelude.{unwrap_or, slice_set, replicate}
 use Rattle.std.specs.FinMap as map
-use Rattle.std.specs.FinMap.{get-empty, get-insert, len-empty}
-use Rattle.std.specs.Cmp.{nat_cmp_total}
+use Rattle.std.specs.FinMap.{get-empty, len-empty}
 use Rattle.std.specs.Ordering.{nat_cmp}
 use Rattle.dm_append_label.specs.Pages.{PageView}
 use Rattle.dm_assembly_desk.specs.Pages.{Pages}
 use Rattle.dm_assembly_desk.specs.Documents.{Documents, pages_with, with_page}
 use Rattle.dm_assembly_desk.specs.Answers.{answer, answer_at}
 use Rattle.dm_assembly_desk.specs.Asking.{Asks}
-use Rattle.dm_assembly_desk.proofs.Loading.{itself}
 use Rattle.dm_event_history.specs.Held.{Holding, both, CanHold, first_entries}
+use Rattle.dm_event_history.proofs.HeldDocuments.{get_same}
 
 -- ---- the parts of the two documents
 
@@ -383,10 +382,6 @@ half_held = with_page map.empty first_page
 abbrev all_held : Documents
 all_held = with_page half_held second_page
 
-get_own : (held : Documents) (id : ℕ) (pages : Pages) → map.get (map.insert held id pages) id ≡ Some pages
-get_own held id pages =
-    get-insert nat_cmp_total held id pages id ∙ ap (λ (b : Bool). cond b (Some pages) (map.get held id)) (itself id)
-
 abbrev nothing : Documents
 nothing = map.empty
 
@@ -394,11 +389,11 @@ none_at_first : (id : ℕ) → map.get nothing id ≡ None
 none_at_first id = get-empty nat_cmp id
 
 half_is : map.get half_held 10 ≡ Some (Some (52 ∷ 51 ∷ []) ∷ None ∷ [])
-half_is = get_own map.empty 10 (pages_with map.empty first_page) ∙
+half_is = get_same map.empty 10 (pages_with map.empty first_page) ∙
     ap (λ (o : Option Pages). Some (slice_set (unwrap_or o (replicate 2 None)) 0 (Some (52 ∷ 51 ∷ [])))) (none_at_first 10)
 
 all_is : map.get all_held 10 ≡ Some (Some (52 ∷ 51 ∷ []) ∷ Some (50 ∷ 49 ∷ []) ∷ [])
-all_is = get_own half_held 10 (pages_with half_held second_page) ∙
+all_is = get_same half_held 10 (pages_with half_held second_page) ∙
     ap (λ (o : Option Pages). Some (slice_set (unwrap_or o (replicate 2 None)) 1 (Some (50 ∷ 49 ∷ [])))) half_is
 
 first_is_new : answer 2 map.empty first_page ≡ Ok New

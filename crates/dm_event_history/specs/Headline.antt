@@ -343,7 +343,7 @@ pub record IsFaithfulBy {A : Type 0} (ranges : List Range) (capacities : List �
       slice_get events i ≡ Some (Import desk export stop) → slice_get replies i ≡ Some (ImportRefused fault) →
       ¬ IsTainted events marks replies i (AtDesk desk) → ¬ IsTainted events marks replies i (InExport export) →
       MayNotImport capacities (known_before batches events replies i) desk export fault
-  -- and there is what each desk that is not tainted may hold, after any number of events: it answered by that
+  -- and each desk that is not tainted by the first i events has a holding that agrees with all its replies to them
   pub held : (i desk capacity : ℕ) → i ≤ length events → slice_get capacities desk ≡ Some capacity →
       ¬ IsTainted events marks replies i (AtDesk desk) →
       (holding : Holding) × CanHold capacity (first_entries i prints.explained.history) desk holding

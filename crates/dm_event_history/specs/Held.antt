@@ -1,6 +1,6 @@
 -- What a desk shows and what its set holds, entry by entry, and so what it answers: what `accept`, `document`, `forget`,
 -- `export` and `import` of `dm_assembly_desk` do with such documents.
-use Rattle.std.specs.Prelude.{◌≡◌, ◌≢◌, ◌⊎◌, ◌+◌, ◌≤◌, ℕ, nat_le, ◌&&◌, not, if◌then◌else◌, MatchBool, Some, None, IsSome, List, [], ◌∷◌, length, slice_get, Ok, Err}
+use Rattle.std.specs.Prelude.{◌≡◌, ◌≢◌, ◌⊎◌, ◌+◌, ◌≤◌, ℕ, nat_le, false, ◌&&◌, not, if◌then◌else◌, MatchBool, Some, None, IsSome, List, [], ◌∷◌, length, slice_get, Ok, Err}
 use Rattle.std.specs.FinMap as map
 use Rattle.dm_finder_frame.specs.Grids.{GridView}
 use Rattle.dm_append_label.specs.Pages.{PageView}
@@ -19,7 +19,7 @@ use Rattle.dm_assembly_desk.specs.declared.fault.ImportFault.TheVariants as impo
 use Rattle.dm_event_history.specs.declared.event.Event.{Event}
 use Rattle.dm_event_history.specs.declared.event.Event.TheVariants.{Scan, RestartDesk, Ask, Forget, Export, Import}
 use Rattle.dm_event_history.specs.declared.reply.Reply.{Reply}
-use Rattle.dm_event_history.specs.declared.reply.Reply.TheVariants.{Scanned, ScanRefused, Document, AskRefused, Forgotten, ForgetRefused, Exported, ExportRefused, Imported, ImportRefused, Restarted, Stopped}
+use Rattle.dm_event_history.specs.declared.reply.Reply.TheVariants.{Scanned, ScanRefused, Document, AskRefused, Forgotten, ForgetRefused, Exported, ExportRefused, Imported, ImportRefused, Restarted, Stopped, Memory}
 use Rattle.dm_event_history.specs.declared.stop.Stop.{Stop}
 use Rattle.dm_event_history.specs.Actors.{DeskAt, actor_of}
 use Rattle.dm_event_history.specs.History.{History, CutDocument, ExportName, out, docs, exports}
@@ -41,13 +41,22 @@ pub record IsPageOfLabel {A : Type 0} (before : History A) (label : ℕ) (page :
   pub printed : docs before page.id ≡ Some cut
   pub part : IsPart cut page.m page.bytes
 
--- the pages are those of the export of this number, each a part of the document that was printed
-pub record ArePagesOfExport {A : Type 0} (before : History A) (export id : ℕ) (pages : Pages) : Type 0 where
+-- the page is that of the label of this number, if no module is flipped; else it may be any
+abbrev pub MayBeRead : {A : Type 0} → History A → ℕ → List (ℕ × ℕ) → PageView → Type 0
+MayBeRead before label [] page = IsPageOfLabel before label page
+MayBeRead before label flips page = Unit {0}
+
+-- the pages are as many, and just those, as the export of this number was told with
+pub record AreAsTold {A : Type 0} (before : History A) (export id : ℕ) (pages : Pages) : Type 0 where
   pub name : ExportName
   pub has_left : slice_get (exports before) export ≡ Some name
   pub id_is : id ≡ name.id
   pub count_is : name.count ≡ length pages
   pub mask_is : name.mask ≡ mask pages
+
+-- and each is a part of the document that was printed
+pub record ArePagesOfExport {A : Type 0} (before : History A) (export id : ℕ) (pages : Pages) : Type 0 where
+  pub told : AreAsTold before export id pages
   pub cut : CutDocument
   pub printed : docs before id ≡ Some cut
   pub each : (m : ℕ) (bytes : List ℕ) → page pages m ≡ Some bytes → IsPart cut m bytes
@@ -63,33 +72,33 @@ abbrev pub both : Documents → Holding
 both documents = record { shown = documents; stored = documents }
 
 -- a failed save left the new content in the set, and the desk shows what it showed
-abbrev pub with_unsaved : Holding → Documents → Holding
-with_unsaved old unsaved = record { shown = old.shown; stored = unsaved }
+abbrev pub with_stored : Holding → Documents → Holding
+with_stored old content = record { shown = old.shown; stored = content }
 
--- what is held once a page, or the pages of a file, are that was answered so
+-- the documents after an answer of this kind: as before if `Again`, else the new ones
 abbrev pub with_answered : Kind → Documents → Documents → Documents
 with_answered Again old new = old
 with_answered kind old new = new
 
--- a call of a desk that is stopped saved, if it came so far, and the desk had not failed
-abbrev pub IsSavedWhenStopped : {A : Type 0} → History A → ℕ → Stop → Type 0 → Type 0 → Type 0
-IsSavedWhenStopped before desk stop Saved Unsaved =
+-- what a stopped call did: the first if it came past its save at a desk that had not failed, else the second
+abbrev pub WhenStopped : {A : Type 0} → History A → ℕ → Stop → Type 0 → Type 0 → Type 0
+WhenStopped before desk stop Saved Unsaved =
     MatchBool (stops_after_save (Some stop) && not (is_failed before (DeskAt desk))) Saved Unsaved
 
--- What a stopped scan did: it took the page, which was not held; or it didn't, as the page was held, the desk was full,
--- or the label was refused for its finder patterns, of which a module was flipped.
-pub record MayTakePage {A : Type 0} (capacity : ℕ) (before : History A) (label flips : ℕ) (old new : Holding)
+-- What a stopped scan did: it took the page, which was not held; or it didn't, as the page was held, the desk had no room
+-- for its document, or a module was flipped, for which the label may have been refused.
+pub record StoppedScan {A : Type 0} (capacity : ℕ) (before : History A) (label flip_count : ℕ) (old new : Holding)
     : Type 0 where
   pub page : PageView
   pub of_label : IsPageOfLabel before label page
   pub took :
       (NeedsSave (answer capacity old.shown page) × (new ≡ both (with_page old.shown page)))
       ⊎ (((answer capacity old.shown page ≡ Ok Again)
-      ⊎ ((answer capacity old.shown page ≡ Err scan_fault.Full) ⊎ (1 ≤ flips)))
+      ⊎ ((answer capacity old.shown page ≡ Err scan_fault.Full) ⊎ (1 ≤ flip_count)))
       × (new ≡ both old.stored))
 
--- what a stopped import did
-pub record MayTakeFile {A : Type 0} (capacity : ℕ) (before : History A) (export : ℕ) (old new : Holding)
+-- what a stopped import did: it took pages that were not held, or all were held, or the desk had no room
+pub record StoppedImport {A : Type 0} (capacity : ℕ) (before : History A) (export : ℕ) (old new : Holding)
     : Type 0 where
   pub id : ℕ
   pub pages : Pages
@@ -100,85 +109,97 @@ pub record MayTakeFile {A : Type 0} (capacity : ℕ) (before : History A) (expor
       ⊎ (import_answer capacity old.shown id pages ≡ Err import_fault.Full))
       × (new ≡ both old.stored))
 
--- What one event does to what a desk holds, by its reply. A label that is refused for a conflict, or as the desk is full,
--- may be any label, since a scan that was not honest may be refused so; and an import likewise. Other refusals that leave
--- the desk as it was are looked into only if they tell whether a document is held.
-abbrev pub HoldsOn : {A : Type 0} → ℕ → History A → Event A → Reply A → Holding → Holding → Type 0
-HoldsOn capacity before (Scan desk label flips stop) (Scanned accepted) old new =
+-- What one event does to what a desk holds, by its reply. A scan that is refused may have been of any page, if a module
+-- was flipped, since then it need not be honest; and an import of pages with any bytes, since its export may be tainted.
+-- A scan that is refused for memory, or for its label, is not looked into.
+abbrev pub ChangesHolding : {A : Type 0} → ℕ → History A → Event A → Reply A → Holding → Holding → Type 0
+ChangesHolding capacity before (Scan desk label flips stop) (Scanned accepted) old new =
     (page : PageView) × IsPageOfLabel before label page × NamesPage page accepted
     × (answer capacity old.shown page ≡ Ok accepted.kind)
     × (new ≡ both (with_answered accepted.kind old.shown (with_page old.shown page)))
-HoldsOn capacity before (Scan desk label flips stop) (ScanRefused scan_fault.Conflict) old new =
-    ((page : PageView) × (answer capacity old.shown page ≡ Err scan_fault.Conflict)) × (new ≡ old)
-HoldsOn capacity before (Scan desk label flips stop) (ScanRefused scan_fault.Full) old new =
-    ((page : PageView) × (answer capacity old.shown page ≡ Err scan_fault.Full)) × (new ≡ old)
-HoldsOn capacity before (Scan desk label flips stop) (ScanRefused scan_fault.Save) old new =
-    MatchBool (leaves_new (Some stop))
-    ((page : PageView) × IsPageOfLabel before label page × NeedsSave (answer capacity old.shown page)
-    × (new ≡ with_unsaved old (with_page old.shown page)))
-    (new ≡ old)
-HoldsOn capacity before (Scan desk label flips stop) Stopped old new =
-    IsSavedWhenStopped before desk stop (MayTakePage capacity before label (length flips) old new)
+ChangesHolding capacity before (Scan desk label flips stop) (ScanRefused scan_fault.Conflict) old new =
+    (page : PageView) × MayBeRead before label flips page
+    × (answer capacity old.shown page ≡ Err scan_fault.Conflict) × (new ≡ old)
+ChangesHolding capacity before (Scan desk label flips stop) (ScanRefused scan_fault.Full) old new =
+    (page : PageView) × MayBeRead before label flips page
+    × (answer capacity old.shown page ≡ Err scan_fault.Full) × (new ≡ old)
+ChangesHolding capacity before (Scan desk label flips stop) (ScanRefused scan_fault.Save) old new =
+    (page : PageView) × NeedsSave (answer capacity old.shown page)
+    × MatchBool (leaves_new (Some stop))
+    (IsPageOfLabel before label page × (new ≡ with_stored old (with_page old.shown page)))
+    (MayBeRead before label flips page × (new ≡ old))
+ChangesHolding capacity before (Scan desk label flips stop) Stopped old new =
+    WhenStopped before desk stop (StoppedScan capacity before label (length flips) old new)
     (new ≡ both old.stored)
-HoldsOn capacity before (Forget desk id stop) Forgotten old new =
+ChangesHolding capacity before (Forget desk id stop) Forgotten old new =
     IsSome (map.get old.shown id) × (new ≡ both (map.remove old.shown id))
-HoldsOn capacity before (Forget desk id stop) (ForgetRefused forget_fault.NotHeld) old new =
+ChangesHolding capacity before (Forget desk id stop) (ForgetRefused forget_fault.NotHeld) old new =
     (map.get old.shown id ≡ None) × (new ≡ old)
-HoldsOn capacity before (Forget desk id stop) (ForgetRefused forget_fault.Memory) old new =
+ChangesHolding capacity before (Forget desk id stop) (ForgetRefused forget_fault.Memory) old new =
     IsSome (map.get old.shown id) × (new ≡ old)
-HoldsOn capacity before (Forget desk id stop) (ForgetRefused forget_fault.Save) old new =
+ChangesHolding capacity before (Forget desk id stop) (ForgetRefused forget_fault.Save) old new =
     IsSome (map.get old.shown id)
-    × MatchBool (leaves_new (Some stop)) (new ≡ with_unsaved old (map.remove old.shown id)) (new ≡ old)
-HoldsOn capacity before (Forget desk id stop) Stopped old new =
-    IsSavedWhenStopped before desk stop
+    × MatchBool (leaves_new (Some stop)) (new ≡ with_stored old (map.remove old.shown id)) (new ≡ old)
+ChangesHolding capacity before (Forget desk id stop) Memory old new =
+    (is_failed before (DeskAt desk) ≡ false) × IsSome (map.get old.shown id) × (new ≡ old)
+ChangesHolding capacity before (Forget desk id stop) Stopped old new =
+    WhenStopped before desk stop
     ((IsSome (map.get old.shown id) × (new ≡ both (map.remove old.shown id)))
     ⊎ ((map.get old.shown id ≡ None) × (new ≡ both old.stored)))
     (new ≡ both old.stored)
-HoldsOn capacity before (Import desk export stop) (Imported imported) old new =
+ChangesHolding capacity before (Import desk export stop) (Imported imported) old new =
     (id : ℕ) × (pages : Pages) × ArePagesOfExport before export id pages × NamesFile old.shown id pages imported
     × (import_answer capacity old.shown id pages ≡ Ok imported.kind)
     × (new ≡ both (with_answered imported.kind old.shown (with_file old.shown id pages)))
-HoldsOn capacity before (Import desk export stop) (ImportRefused import_fault.Conflict) old new =
-    ((id : ℕ) × (pages : Pages) × (import_answer capacity old.shown id pages ≡ Err import_fault.Conflict)) × (new ≡ old)
-HoldsOn capacity before (Import desk export stop) (ImportRefused import_fault.Full) old new =
-    ((id : ℕ) × (pages : Pages) × (import_answer capacity old.shown id pages ≡ Err import_fault.Full)) × (new ≡ old)
-HoldsOn capacity before (Import desk export stop) (ImportRefused import_fault.Save) old new =
-    MatchBool (leaves_new (Some stop))
-    ((id : ℕ) × (pages : Pages) × ArePagesOfExport before export id pages
-    × NeedsSave (import_answer capacity old.shown id pages) × (new ≡ with_unsaved old (with_file old.shown id pages)))
-    (new ≡ old)
-HoldsOn capacity before (Import desk export stop) Stopped old new =
-    IsSavedWhenStopped before desk stop (MayTakeFile capacity before export old new) (new ≡ both old.stored)
-HoldsOn capacity before (Ask desk id) (Document bytes) old new =
+ChangesHolding capacity before (Import desk export stop) (ImportRefused import_fault.Conflict) old new =
+    (id : ℕ) × (pages : Pages) × AreAsTold before export id pages
+    × (import_answer capacity old.shown id pages ≡ Err import_fault.Conflict) × (new ≡ old)
+ChangesHolding capacity before (Import desk export stop) (ImportRefused import_fault.Full) old new =
+    (id : ℕ) × (pages : Pages) × AreAsTold before export id pages
+    × (import_answer capacity old.shown id pages ≡ Err import_fault.Full) × (new ≡ old)
+ChangesHolding capacity before (Import desk export stop) (ImportRefused import_fault.Memory) old new =
+    (id : ℕ) × (pages : Pages) × AreAsTold before export id pages
+    × NeedsSave (import_answer capacity old.shown id pages) × (new ≡ old)
+ChangesHolding capacity before (Import desk export stop) (ImportRefused import_fault.Save) old new =
+    (id : ℕ) × (pages : Pages) × NeedsSave (import_answer capacity old.shown id pages)
+    × MatchBool (leaves_new (Some stop))
+    (ArePagesOfExport before export id pages × (new ≡ with_stored old (with_file old.shown id pages)))
+    (AreAsTold before export id pages × (new ≡ old))
+ChangesHolding capacity before (Import desk export stop) Memory old new =
+    (is_failed before (DeskAt desk) ≡ false) × (id : ℕ) × (pages : Pages) × AreAsTold before export id pages
+    × NeedsSave (import_answer capacity old.shown id pages) × (new ≡ old)
+ChangesHolding capacity before (Import desk export stop) Stopped old new =
+    WhenStopped before desk stop (StoppedImport capacity before export old new) (new ≡ both old.stored)
+ChangesHolding capacity before (Ask desk id) (Document bytes) old new =
     Asks (λ given. given) (map.get old.shown id) (Ok bytes) × (new ≡ old)
-HoldsOn capacity before (Ask desk id) (AskRefused fault) old new =
+ChangesHolding capacity before (Ask desk id) (AskRefused fault) old new =
     Asks {X = List ℕ} (λ given. given) (map.get old.shown id) (Err fault)
     × NamesMissing {X = List ℕ} (map.get old.shown id) (Err fault) × (new ≡ old)
-HoldsOn capacity before (Export desk id) (Exported index told n bits) old new =
+ChangesHolding capacity before (Export desk id) (Exported index told n bits) old new =
     (pages : Pages) × (map.get old.shown id ≡ Some pages) × (n ≡ length pages) × (bits ≡ mask pages) × (new ≡ old)
-HoldsOn capacity before (Export desk id) (ExportRefused fault) old new =
+ChangesHolding capacity before (Export desk id) (ExportRefused fault) old new =
     Exports {X = List ℕ} (λ given. given) id (map.get old.shown id) (Err fault) × (new ≡ old)
-HoldsOn capacity before (RestartDesk desk) Restarted old new = new ≡ both old.stored
-HoldsOn capacity before event reply old new = new ≡ old
+ChangesHolding capacity before (RestartDesk desk) Restarted old new = new ≡ both old.stored
+ChangesHolding capacity before event reply old new = new ≡ old
 
 -- ---- histories
 
--- a desk with room for that many documents may hold this after a history: each of its entries did what its reply says
+-- a desk with room for that many documents can hold this after a history: each of its entries did what its reply says
 abbrev pub CanHold : {A : Type 0} → ℕ → History A → ℕ → Holding → Type 0
 CanHold capacity [] desk holding = holding ≡ both map.empty
 CanHold capacity (entry ∷ before) desk holding =
     ((actor_of entry.event ≡ DeskAt desk)
     × (old : Holding) × CanHold capacity before desk old
-    × HoldsOn capacity before entry.event entry.reply old holding)
+    × ChangesHolding capacity before entry.event entry.reply old holding)
     ⊎ ((actor_of entry.event ≢ DeskAt desk) × CanHold capacity before desk holding)
 
--- each desk that is clean has something that it may hold
-abbrev pub AreHeld : {A : Type 0} → List GridView → List ℕ → History A → Type 0
-AreHeld grids capacities [] = Unit {0}
-AreHeld grids capacities (entry ∷ before) =
+-- after each entry each desk that is clean then has something that it can hold
+abbrev pub DesksCanHold : {A : Type 0} → List GridView → List ℕ → History A → Type 0
+DesksCanHold grids capacities [] = Unit {0}
+DesksCanHold grids capacities (entry ∷ before) =
     ((desk capacity : ℕ) → slice_get capacities desk ≡ Some capacity → IsClean grids (entry ∷ before) (AtDesk desk) →
     (holding : Holding) × CanHold capacity (entry ∷ before) desk holding)
-    × AreHeld grids capacities before
+    × DesksCanHold grids capacities before
 
 -- the history of the first entries, that many
 abbrev pub first_entries : {A : Type 0} → ℕ → History A → History A

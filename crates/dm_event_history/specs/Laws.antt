@@ -9,7 +9,7 @@ use Rattle.dm_event_history.specs.Places.{ArePlaced, AreOpened, IsNoTicketTakenT
 use Rattle.dm_event_history.specs.Holding.{IsSurelyHeld, IsPossiblyHeld}
 use Rattle.dm_event_history.specs.Legal.{AreDisjoint, IsLegal, IsNoLabelTwice, NeverTwice, MayBeTaken}
 use Rattle.dm_event_history.specs.Safe.{IsSafe}
-use Rattle.dm_event_history.specs.Held.{AreHeld}
+use Rattle.dm_event_history.specs.Held.{DesksCanHold}
 use Rattle.dm_event_history.specs.Tainted.{AtDesk}
 use Rattle.dm_event_history.specs.Honest.{IsClean, AreMarkedFair, AreHonestReplies}
 use Rattle.dm_event_history.specs.Headline.{PrintsOnce, IsFaithful}
@@ -71,5 +71,5 @@ abbrev pub LegalAndSafeIsFaithful : Type 0 → Type 0
 LegalAndSafeIsFaithful A = InLegal A (λ ranges desks h.
     (grids : List GridView) (capacities : List ℕ) (marks : List Bool) → desks ≡ length capacities →
     AreMarkedFair grids (events_of h) marks (replies_of h) → IsSafe grids h → AreHonestReplies grids capacities h →
-    AreHeld grids capacities h →
+    DesksCanHold grids capacities h →
     IsFaithful ranges capacities (events_of h) marks (replies_of h))

@@ -26,8 +26,8 @@ use Rattle.dm_event_history.specs.Numbers.{free_at, gives, last_serial}
 
 -- ---- ledgers
 
--- The ledger is the printer's: it has its number, just the numbers that are free at it, as its next serial the number
--- of its saved gives, and the serial of the last ticket that it took of each giver.
+-- The ledger is the printer's: it has its number, just the numbers that are free at it, as its next serial how many of
+-- its gives saved, and the serial of the last ticket that it took of each giver.
 pub record IsLedgerOf {A : Type 0} (ranges : List Range) (h : History A) (printer : ℕ) (ledger : LedgerView)
     : Type 0 where
   pub number : ledger.number ≡ printer
@@ -35,7 +35,7 @@ pub record IsLedgerOf {A : Type 0} (ranges : List Range) (h : History A) (printe
   pub next_serial : ledger.next_serial ≡ gives h printer
   pub givers : (giver : ℕ) → last_taken ledger.givers giver ≡ last_serial h printer giver
 
--- the printer has its ledger, a sound one, and has failed if it answered `Save` since its last restart
+-- the printer has its ledger, a sound one, and has failed exactly if it answered `Save` since its last restart
 pub record IsPrinterAfter {A : Type 0} (ranges : List Range) (h : History A) (printer : ℕ) (view : PrinterView)
     : Type 0 where
   pub sound : IsSound view.ledger
@@ -61,7 +61,7 @@ CannotDo view tickets (Take printer ticket stop) =
 CannotDo view tickets other = ⊥
 
 -- A refusal tells the reason. One for memory, or for the save, is given only if all that the call asks is so. A take is
--- answered `Memory` only then too; a print or a give may be answered so at any time, for want of room for what leaves.
+-- answered `Memory` only then too; a print or a give may be answered so at any time, for want of memory for what leaves.
 abbrev pub IsReason : {A : Type 0} → PrinterView → List TicketView → Event A → Reply A → Type 0
 IsReason view tickets (Print printer document size scheme stop) (PrintRefused print_fault.Memory) =
     CanPrint view size scheme document

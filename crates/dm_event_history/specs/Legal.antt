@@ -1,5 +1,5 @@
 -- Which histories are legal: when each reply may be given, how many labels leave, and which identifications move. What
--- a printer does with its numbers is in `Ledgers`.
+-- a printer does with its numbers is in `Ledgers`; what desks hold is in `Held`, and no part of being legal.
 use Rattle.std.specs.Prelude.{◌≡◌, ◌≢◌, ◌↔◌, ◌⊎◌, ◌<◌, ◌≤◌, ℕ, Bool, true, false, Some, List, [], ◌∷◌, length, slice_get, IsSomeAnd, IfSome, AllPairs, All, min}
 use Rattle.dm_check_blocks.specs.Sizes.{side}
 use Rattle.dm_append_label.specs.Parts.{AreParts, HasNoEnds}
@@ -156,7 +156,7 @@ pub record IsOld {A : Type 0} (before : History A) (printer number : ℕ) : Type
   pub last_is : last_serial before printer ticket.giver ≡ Some last
   pub reached : ticket.serial ≤ last
 
--- why the ticket of this number is not taken: never for an overlap, with a number that is free at the receiver
+-- why the ticket of this number is not taken: never as `Overlap`, since no number of it is free at its receiver
 abbrev pub IsTakeRefused : {A : Type 0} → History A → ℕ → ℕ → Stop → TakeFault → Type 0
 IsTakeRefused before printer ticket stop take_fault.Failed = is_failed before (PrinterAt printer) ≡ true
 IsTakeRefused before printer ticket stop take_fault.Old = IsOld before printer ticket
@@ -199,8 +199,8 @@ pub record IsImported {A : Type 0} (before : History A) (export : ℕ) (stop : S
   pub n_is : imported.n ≡ name.count
   pub added : (m : ℕ) → HasPage imported.added m → HasPage name.mask m
 
--- The event may be answered `Memory`: a print, a give, a scan or an export for what it makes, and another call only if it
--- was to be stopped after its save.
+-- The event may be answered `Memory`: a print, a give, a scan or an export for what it makes; a take, a forget or an
+-- import only if it was to be stopped after its save; a restart or an ask never.
 abbrev pub MayLackMemory : {A : Type 0} → Event A → Type 0
 MayLackMemory (RestartPrinter printer) = ⊥
 MayLackMemory (RestartDesk desk) = ⊥
@@ -210,8 +210,8 @@ MayLackMemory (Take printer ticket stop) = stops_after_save (Some stop) ≡ true
 MayLackMemory (Import desk export stop) = stops_after_save (Some stop) ≡ true
 MayLackMemory event = Unit {0}
 
--- The reply is one to the event: what is so where it is given. A page that was not held is replied to as new only where
--- nothing stopped its save, and a printer or a desk over its own store is refused its restart for memory alone.
+-- The reply is one to the event: what is so where it is given. `New` and `Complete` are told only if
+-- nothing was to happen to the call, and a printer or a desk over its own store is refused its restart for memory alone.
 abbrev pub IsReply : {A : Type 0} → List Range → History A → ℕ → ℕ → Event A → Reply A → Type 0
 IsReply ranges before id left (Print printer document size scheme stop) (Printed name first count) =
     IsPrinted before stop id left name first count
@@ -277,14 +277,14 @@ MayMove ranges before id other = ⊥
 
 -- ---- legal
 
--- The entry may come after this history, where there is a printer for each range, and that many desks. `kept` and
--- `moves` follow from the last field, and `left_saved` from `lets_out` and `told`; what is proved of identifications
--- rests on them.
+-- The entry may come after this history, where there is a printer for each range, and that many desks. `kept` follows
+-- from the last field, and so does `moves` of a print, a give and a take; of a desk's call `moves` says that its flag is
+-- false. `left_saved` follows from `lets_out` and `told`. What is proved of identifications rests on these.
 pub record Fits {A : Type 0} (ranges : List Range) (desks : ℕ) (before : History A) (entry : Entry A) : Type 0 where
   pub reply : IsReply ranges before entry.id entry.left entry.event entry.reply
   pub lets_out : LetsOut entry.event entry.reply entry.saved entry.parts entry.left
   pub parts : AreItsParts entry.event entry.parts entry.left
-  -- `NoSuch` stands exactly where something named is not there, and then `Down` exactly where the one named is down
+  -- `NoSuch` exactly if something named isn't there; else `Down` exactly if the one named is down, and this is no restart
   pub no_such : entry.reply ≡ NoSuch → ¬ IsThere (length ranges) desks before entry.event
   pub there : entry.reply ≢ NoSuch → IsThere (length ranges) desks before entry.event
   pub down : (entry.reply ≡ Down) ↔

@@ -32,7 +32,7 @@ use Rattle.dm_event_history.proofs.WhoActs.{is_down_same, is_failed_same}
 use Rattle.dm_event_steps.specs.declared.actor.DeskState.{DeskState}
 use Rattle.dm_event_steps.specs.declared.actor.DeskState.TheVariants as desks
 use Rattle.dm_event_steps.specs.Gathered.{IsGathered}
-use Rattle.dm_event_history.specs.Held.{HoldsOn, CanHold}
+use Rattle.dm_event_history.specs.Held.{ChangesHolding, CanHold}
 use Rattle.dm_event_steps.specs.DeskStands.{holding_of, SetStands, DeskRuns, DeskStands}
 use Rattle.dm_event_steps.specs.DeskActs.{ask_reply, AskActs, desk_saved, RestartDeskActs}
 use Rattle.dm_event_steps.specs.Goes.{quiet, DeskGoes}
@@ -230,7 +230,7 @@ ask_goes {A} ranges capacities grids h d id capacity view reply state legal ther
         IsTold ranges (length capacities) h (Ask d id) (ask_reply given) d →
         down_after (ask_reply {A = A} given) false ≡ false →
         failed_after (ask_reply {A = A} given) (is_failed h (DeskAt d)) ≡ is_failed h (DeskAt d) →
-        HoldsOn capacity h (Ask d id) (ask_reply given) (holding_of view s.stored) (holding_of view s.stored) →
+        ChangesHolding capacity h (Ask d id) (ask_reply given) (holding_of view s.stored) (holding_of view s.stored) →
         Asks (λ bytes. bytes) (finite.get view.held id) given → NamesMissing (finite.get view.held id) given →
         DeskGoes ranges capacities grids h (Ask d id) (ask_reply given) d capacity (desks.Running view)
     goes given told up failed does asks missing =

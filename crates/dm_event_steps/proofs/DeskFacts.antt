@@ -1,16 +1,11 @@
 -- What the answers of a desk say of what it holds, page by page.
-use Rattle.std.proofs.Common.{◌≡◌, ◌≢◌, ◌⊎◌, inl, inr, ◌-◌, ◌<◌, ◌≤◌, ℕ, zero, suc, Bool, true, false, cond, ◌==◌, if◌then◌else◌, nat_lt, Option, Some, None, Result, Ok, Err, List, [], ◌∷◌, ◌++◌, length, slice_get, slice_set, slice_index_or, IsSome, refl, ap, sym, ◌∙◌, subst, arith, eq-eqb}
+use Rattle.std.proofs.Common.{◌≡◌, ◌≢◌, ◌⊎◌, inl, inr, ◌-◌, ◌<◌, ◌≤◌, ℕ, zero, suc, Bool, true, false, ◌==◌, if◌then◌else◌, nat_lt, Option, Some, None, Result, Ok, Err, List, [], ◌∷◌, ◌++◌, length, slice_get, slice_set, slice_index_or, IsSome, refl, ap, sym, ◌∙◌, subst, arith, eq-eqb}
 use Rattle.std.specs.Prelude.{option_map, unwrap_or, replicate, is_some}
 use Rattle.std.specs.List.{list_all, concat}
 use Rattle.std.specs.Str.{bytes_eq}
-use Rattle.std.specs.Ordering.{nat_cmp, eq_by_cmp, is_eq}
-use Rattle.std.proofs.Common.{Less, Equal, Greater}
-use Rattle.std.specs.Cmp.{nat_cmp_total, IsEquivalence}
-use Rattle.std.proofs.lemmas.Cmp.{eq_by_cmp_equiv}
 use Rattle.std.proofs.lemmas.List.{length-set, length-replicate}
 use Rattle.std.proofs.lemmas.Slice.Eq.{bytes_eq-Decides}
 use Rattle.std.specs.FinMap as map
-use Rattle.std.specs.FinMap.{get-insert, nat_cmp-IsAntisymmetric}
 use Rattle.std.proofs.lemmas.Bool.Decides.{nat_tests}
 use Rattle.std.proofs.Common.{Decides, map as mapped}
 use Rattle.dm_append_label.specs.Pages.{PageView}
@@ -20,6 +15,7 @@ use Rattle.dm_assembly_desk.specs.declared.fault.ScanFault.{ScanFault}
 use Rattle.dm_assembly_desk.specs.declared.fault.ScanFault.TheVariants as faults
 use Rattle.dm_assembly_desk.specs.Pages.{Pages, page, mask, lacks, page_bytes, document_of}
 use Rattle.dm_assembly_desk.specs.Documents.{Documents, page_at, pages_with, with_page}
+use Rattle.dm_event_history.proofs.HeldDocuments.{get_same, get_other}
 use Rattle.dm_event_steps.specs.Gathered.{counted}
 use Rattle.dm_assembly_desk.specs.Answers.{answer, answer_at, answer_at_page}
 
@@ -29,27 +25,6 @@ same_or_other m n = decided (m == n) refl
     decided : (b : Bool) → (m == n) ≡ b → (m ≡ n) ⊎ (m ≢ n)
     decided true e = inl (grind (arith, nat_tests, e))
     decided false e = inr (λ s. let t : (m == n) ≡ true = eq-eqb m n s in cc (t, e))
-
-own_key : (a : ℕ) → eq_by_cmp nat_cmp a a ≡ true
-own_key a = (let e : IsEquivalence (eq_by_cmp nat_cmp) = eq_by_cmp_equiv nat_cmp_total in e.refl a)
-
-same_key : (a b : ℕ) → eq_by_cmp nat_cmp a b ≡ true → a ≡ b
-same_key a b e =
-    elim (nat_cmp a b) as (λ r. nat_cmp a b ≡ r → is_eq r ≡ true → a ≡ b) [
-      | Less ↦ λ is h. absurd cc
-      | Equal ↦ λ is h. nat_cmp-IsAntisymmetric a b is
-      | Greater ↦ λ is h. absurd cc
-    ] refl e
-
--- what is held of another document is as it was
-pub get_other : (held : Documents) (id other : ℕ) (pages : Pages) → other ≢ id →
-    map.get (map.insert held id pages) other ≡ map.get held other
-get_other held id other pages away = get-insert nat_cmp_total held id pages other ∙
-    chosen (eq_by_cmp nat_cmp other id) refl
-  where
-    chosen : (b : Bool) → eq_by_cmp nat_cmp other id ≡ b → cond b (Some pages) (map.get held other) ≡ map.get held other
-    chosen true is = absurd (away (same_key other id is))
-    chosen false is = refl
 
 -- no place of no pages has one
 page_none : (m : ℕ) → page [] m ≡ None
@@ -151,13 +126,6 @@ placed n i bytes (Some pages) there count = (
     others : (m : ℕ) → m ≢ suc i → page (slice_set pages i (Some bytes)) m ≡ page pages m
     others zero other = refl
     others (suc j) other = set_other pages i j (Some bytes) (λ same. other (ap suc (sym same)))
-
-get_same : (held : Documents) (id : ℕ) (pages : Pages) → map.get (map.insert held id pages) id ≡ Some pages
-get_same held id pages = get-insert nat_cmp_total held id pages id ∙ chosen (eq_by_cmp nat_cmp id id) refl
-  where
-    chosen : (b : Bool) → eq_by_cmp nat_cmp id id ≡ b → cond b (Some pages) (map.get held id) ≡ Some pages
-    chosen true is = refl
-    chosen false is = cc (is, own_key id)
 
 -- with the page held too, all else is as it was
 pub holds_also : (held : Documents) (p : PageView) → 1 ≤ p.m → p.m ≤ p.n → IsFree held p →

@@ -35,7 +35,9 @@ use Rattle.dm_event_steps.specs.Acts.{IsCalled, next_save_of}
 use Rattle.dm_event_steps.specs.Gathered.{IsGathered}
 use Rattle.std.specs.Prelude.{MatchBool}
 use Rattle.dm_event_history.specs.Saving.{stops_after_save}
-use Rattle.dm_event_history.specs.Held.{Holding, both, IsSavedWhenStopped, HoldsOn, CanHold}
+use Rattle.dm_assembly_desk.specs.declared.reply.Kind.{Kind}
+use Rattle.dm_assembly_desk.specs.declared.reply.Kind.TheVariants.{New, Again, Complete}
+use Rattle.dm_event_history.specs.Held.{with_answered, Holding, both, WhenStopped, ChangesHolding, CanHold}
 use Rattle.dm_event_history.proofs.Deciding.{and_so}
 use Rattle.dm_event_steps.specs.DeskStands.{holding_of, IsReadySet, SetStands, DeskRuns, DeskLiesDown}
 use Rattle.dm_event_steps.specs.DeskActs.{desk_planned, DeskLacksMemory}
@@ -130,6 +132,12 @@ running_keeps e h grids all d capacity view back fresh up failed s takes stays c
   can = λ honest. can honest (s.can (back honest));
 }
 
+-- what a call that is not answered `Again` brings is held
+pub with_other : (kind : Kind) (old new : Documents) → kind ≢ Again → with_answered kind old new ≡ new
+with_other Again old new other = absurd (other refl)
+with_other New old new other = refl
+with_other Complete old new other = refl
+
 -- ---- plans
 
 -- a plan that was set and is fine again leaves a ready desk as it was
@@ -180,7 +188,7 @@ pub desk_kept : {A : Type 0} (ranges : List Range) (capacities : List ℕ) (grid
     IsSome (page_at view.held id m) × IsSome (page_at s.stored id m)) →
     ((id : ℕ) → ¬ Forgets event reply d id) →
     (IsClean grids (quiet event reply ∷ h) (AtDesk d) →
-    HoldsOn capacity h event reply (holding_of view s.stored) (holding_of view s.stored)) →
+    ChangesHolding capacity h event reply (holding_of view s.stored) (holding_of view s.stored)) →
     (IsClean grids (quiet event reply ∷ h) (AtDesk d) → IsReplySafe h event reply) →
     (BringsClean grids h event → IsHonestReply grids capacities h event reply) →
     DeskGoes ranges capacities grids h event reply d capacity (desks.Running after)
@@ -227,7 +235,7 @@ pub desk_saves : {A : Type 0} (ranges : List Range) (capacities : List ℕ) (gri
     failed_after reply (is_failed h (DeskAt d)) ≡ is_failed h (DeskAt d) →
     (IsClean grids (quiet event reply ∷ h) (AtDesk d) → IsGathered (quiet event reply ∷ h) d held) →
     (IsClean grids (quiet event reply ∷ h) (AtDesk d) →
-    HoldsOn capacity h event reply (holding_of view s.stored) (both held)) →
+    ChangesHolding capacity h event reply (holding_of view s.stored) (both held)) →
     (IsClean grids (quiet event reply ∷ h) (AtDesk d) → IsReplySafe h event reply) →
     (BringsClean grids h event → IsHonestReply grids capacities h event reply) →
     DeskGoes ranges capacities grids h event reply d capacity (desks.Running (desk_planned mid next_save.Fine))
@@ -280,7 +288,7 @@ pub desk_fails : {A : Type 0} (ranges : List Range) (capacities : List ℕ) (gri
     IsGathered (quiet event reply ∷ h) d (kept_held k view.held held)) →
     (IsClean grids (quiet event reply ∷ h) (AtDesk d) → IsGathered (quiet event reply ∷ h) d view.held) →
     (IsClean grids (quiet event reply ∷ h) (AtDesk d) →
-    HoldsOn capacity h event reply (holding_of view s.stored) (holding_of view (kept_held k view.held held))) →
+    ChangesHolding capacity h event reply (holding_of view s.stored) (holding_of view (kept_held k view.held held))) →
     (IsClean grids (quiet event reply ∷ h) (AtDesk d) → IsReplySafe h event reply) →
     (BringsClean grids h event → IsHonestReply grids capacities h event reply) →
     DeskGoes ranges capacities grids h event reply d capacity (desks.Running (desk_planned mid next_save.Fine))
@@ -354,7 +362,7 @@ pub desk_down : {A : Type 0} (ranges : List Range) (capacities : List ℕ) (grid
     DeskLiesDown grids h d capacity saved →
     ((id m : ℕ) → (let none : Reply A = Down in ¬ Takes (exports h) event none d id m)) →
     ((id : ℕ) → (let none : Reply A = Down in ¬ Forgets event none d id)) →
-    ((x : Holding) → (let none : Reply A = Down in HoldsOn capacity h event none x x)) →
+    ((x : Holding) → (let none : Reply A = Down in ChangesHolding capacity h event none x x)) →
     (let none : Reply A = Down in IsReplySafe h event none) →
     (let none : Reply A = Down in IsHonestReply grids capacities h event none) →
     reply ≡ Down → state ≡ desks.Down saved → DeskGoes ranges capacities grids h event reply d capacity state
@@ -394,12 +402,12 @@ desk_down {A} ranges capacities grids h event reply d capacity saved state room 
 pub memory_goes : {A : Type 0} (ranges : List Range) (capacities : List ℕ) (grids : List GridView) (h : History A)
     (event : Event A)
     (d capacity : ℕ) (view : DeskView) (reply : Reply A) (state : DeskState A) → IsCapacity capacity →
-    DeskRuns grids h d capacity view →
+    (s : DeskRuns grids h d capacity view) →
     actor_of event ≡ DeskAt d → IsThere (length ranges) (length capacities) h event →
     (let none : Reply A = Memory in IsFine ranges h 0 event none) →
     ((id m : ℕ) → (let none : Reply A = Memory in ¬ Takes (exports h) event none d id m)) →
     ((id : ℕ) → (let none : Reply A = Memory in ¬ Forgets event none d id)) →
-    ((x : Holding) → (let none : Reply A = Memory in HoldsOn capacity h event none x x)) →
+    (let none : Reply A = Memory in ChangesHolding capacity h event none (holding_of view s.stored) (holding_of view s.stored)) →
     (let none : Reply A = Memory in IsReplySafe h event none) →
     (let none : Reply A = Memory in IsHonestReply grids capacities h event none) →
     reply ≡ Memory → state ≡ desks.Running view → DeskGoes ranges capacities grids h event reply d capacity state
@@ -418,20 +426,20 @@ memory_goes {A} ranges capacities grids h event d capacity view reply state room
       is_reply = fine;
       failed = λ _ _. inr tt;
       untold = λ x. cc;
-    }) refl refl (λ id m t. absurd (takes id m t)) stays (λ honest. does _) (λ honest. safe) (λ fair. answers)))
+    }) refl refl (λ id m t. absurd (takes id m t)) stays (λ honest. does) (λ honest. safe) (λ fair. answers)))
 
 -- ---- stops
 
 -- a call that is stopped after its save saved, unless the desk had failed
 pub saved_when : {A : Type 0} (h : History A) (d : ℕ) (stop : Stop) (Saved Unsaved : Type 0) →
     stops_after_save (Some stop) ≡ true → is_failed h (DeskAt d) ≡ false → Saved →
-    IsSavedWhenStopped h d stop Saved Unsaved
+    WhenStopped h d stop Saved Unsaved
 saved_when h d stop Saved Unsaved after up saved =
     subst (λ (b : Bool). MatchBool b Saved Unsaved)
     (sym (and_so (stops_after_save (Some stop)) (not (is_failed h (DeskAt d))) after (ap not up))) saved
 
 pub unsaved_when : {A : Type 0} (h : History A) (d : ℕ) (stop : Stop) (Saved Unsaved : Type 0) →
-    is_failed h (DeskAt d) ≡ true → Unsaved → IsSavedWhenStopped h d stop Saved Unsaved
+    is_failed h (DeskAt d) ≡ true → Unsaved → WhenStopped h d stop Saved Unsaved
 unsaved_when h d stop Saved Unsaved failed unsaved =
     subst (λ (b : Bool). MatchBool b Saved Unsaved)
     (sym (and_none (stops_after_save (Some stop)) (not (is_failed h (DeskAt d))) (ap not failed))) unsaved
@@ -444,7 +452,7 @@ unsaved_when h d stop Saved Unsaved failed unsaved =
 -- a desk that is stopped before its save shows what its set held
 pub can_still : {A : Type 0} (grids : List GridView) (h : History A) (event : Event A) (d capacity : ℕ)
     (view : DeskView) → (s : DeskRuns grids h d capacity view) → actor_of event ≡ DeskAt d →
-    (let reply : Reply A = Stopped in HoldsOn capacity h event reply (holding_of view s.stored) (both s.stored)) →
+    (let reply : Reply A = Stopped in ChangesHolding capacity h event reply (holding_of view s.stored) (both s.stored)) →
     (let reply : Reply A = Stopped in IsClean grids (quiet event reply ∷ h) (AtDesk d) →
     CanHold capacity (quiet event reply ∷ h) d (both s.stored))
 can_still grids h event d capacity view s named does honest = inl (named, _, s.can honest.1, does)

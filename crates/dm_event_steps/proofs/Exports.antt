@@ -29,7 +29,7 @@ use Rattle.dm_event_steps.specs.declared.actor.DeskState.{DeskState}
 use Rattle.dm_event_steps.specs.declared.actor.DeskState.TheVariants as desks
 use Rattle.dm_event_steps.specs.declared.actor.LeftExport.{LeftExport}
 use Rattle.dm_event_steps.specs.Gathered.{IsGathered}
-use Rattle.dm_event_history.specs.Held.{HoldsOn, IsPart}
+use Rattle.dm_event_history.specs.Held.{ChangesHolding, IsPart}
 use Rattle.dm_event_steps.specs.DeskStands.{holding_of, DeskRuns}
 use Rattle.dm_event_steps.specs.DeskActs.{ExportsPages, ExportActs}
 use Rattle.dm_event_steps.specs.Exports.{export_name_of, AreParts, ShowsPages}
@@ -112,7 +112,7 @@ export_goes {A} ranges capacities grids h d id capacity reply view state old new
     goes : (r : Reply A) → IsFine ranges h 0 (Export d id) r → r ≢ NoSuch → r ≢ replies.Down → r ≢ Stopped →
         ¬ (tells_of_save r ≡ true) →
         ((i : ℕ) → ¬ Forgets (Export d id) r d i) → down_after r false ≡ false → ((b : Bool) → failed_after r b ≡ b) →
-        HoldsOn capacity h (Export d id) r (holding_of view s.stored) (holding_of view s.stored) →
+        ChangesHolding capacity h (Export d id) r (holding_of view s.stored) (holding_of view s.stored) →
         (IsGathered h d view.held → IsReplySafe h (Export d id) r) →
         DeskGoes ranges capacities grids h (Export d id) r d capacity state
     goes r fine some down unstopped untold stays up failed does safe =

@@ -1,9 +1,7 @@
 -- A forget at a running desk gives an entry that fits the history.
-use Rattle.std.proofs.Common.{◌≡◌, ◌≢◌, inl, inr, ◌<◌, ◌≤◌, ℕ, zero, suc, Bool, true, false, cond, Option, Some, None, Result, Ok, Err, List, [], ◌∷◌, length, IsSome, refl, ap, sym, ◌∙◌, subst}
+use Rattle.std.proofs.Common.{◌≡◌, ◌≢◌, inl, inr, ◌<◌, ◌≤◌, ℕ, zero, suc, Bool, true, false, Option, Some, None, Result, Ok, Err, List, [], ◌∷◌, length, IsSome, refl, ap, sym, ◌∙◌, subst}
 use Rattle.std.specs.Prelude.{unwrap_or, option_map, MatchBool}
-use Rattle.std.specs.Cmp.{nat_cmp_total}
 use Rattle.std.specs.FinMap as finite
-use Rattle.std.specs.FinMap.{get-remove}
 use Rattle.dm_finder_frame.specs.Grids.{GridView}
 use Rattle.dm_store.specs.declared.fuse.Kept.{Kept}
 use Rattle.dm_store.specs.declared.fuse.Kept.TheVariants as kept
@@ -18,7 +16,6 @@ use Rattle.dm_assembly_desk.specs.Documents.{Documents, AreEntries}
 use Rattle.dm_assembly_desk.specs.Views.{DeskView, IsCapacity, IsInOrder}
 use Rattle.dm_assembly_desk.specs.Forgetting as forgetting
 use Rattle.dm_assembly_desk.proofs.Saving.{few_remove}
-use Rattle.dm_assembly_desk.proofs.Loading.{apart, itself}
 use Rattle.dm_event_history.specs.declared.event.Event.{Event}
 use Rattle.dm_event_history.specs.declared.event.Event.TheVariants.{Forget}
 use Rattle.dm_event_history.specs.declared.reply.Reply.{Reply}
@@ -35,11 +32,12 @@ use Rattle.dm_event_history.specs.Legal.{IsForgetRefused}
 use Rattle.dm_event_history.specs.Tainted.{AtDesk}
 use Rattle.dm_event_history.specs.Honest.{IsClean}
 use Rattle.dm_event_history.specs.Telling.{IsForgetSafe}
+use Rattle.dm_event_history.proofs.HeldDocuments.{get_removed, get_left}
 use Rattle.dm_event_steps.specs.declared.actor.DeskState.{DeskState}
 use Rattle.dm_event_steps.specs.declared.actor.DeskState.TheVariants as desks
 use Rattle.dm_event_steps.specs.Acts.{IsCalled, next_save_of}
 use Rattle.dm_event_steps.specs.Gathered.{IsGathered}
-use Rattle.dm_event_history.specs.Held.{both, with_unsaved, HoldsOn}
+use Rattle.dm_event_history.specs.Held.{both, with_stored, ChangesHolding}
 use Rattle.dm_event_steps.specs.DeskStands.{holding_of, SetStands, DeskRuns}
 use Rattle.dm_event_steps.specs.DeskActs.{ForgetsOne, desk_planned, StopsDesk, CallActs, forget_reply}
 use Rattle.dm_event_steps.specs.Goes.{quiet, DeskGoes}
@@ -50,24 +48,16 @@ use Rattle.dm_event_steps.proofs.DeskGoing.{none_leaves, not_failed, memory_goes
 
 -- ---- what is held without a document
 
-get_same : (held : Documents) (id : ℕ) → finite.get (finite.remove held id) id ≡ None
-get_same held id = get-remove nat_cmp_total held id id ∙ ap (λ (b : Bool). cond b None (finite.get held id)) (itself id)
-
-get_other : (held : Documents) (id other : ℕ) → other ≢ id →
-    finite.get (finite.remove held id) other ≡ finite.get held other
-get_other held id other away = get-remove nat_cmp_total held id other ∙
-    ap (λ (b : Bool). cond b None (finite.get held other)) (apart other id away)
-
 no_page : (m : ℕ) → page [] m ≡ None
 no_page zero = refl
 no_page (suc i) = refl
 
 holds_without : (held : Documents) (id : ℕ) → HoldsWithout held id (finite.remove held id)
 holds_without held id = record {
-  gone = λ m. ap (λ (o : Option Pages). page (unwrap_or o []) m) (get_same held id) ∙ no_page m;
-  none = ap (option_map length) (get_same held id);
-  other_pages = λ other m away. ap (λ (o : Option Pages). page (unwrap_or o []) m) (get_other held id other away);
-  other_counts = λ other away. ap (option_map length) (get_other held id other away);
+  gone = λ m. ap (λ (o : Option Pages). page (unwrap_or o []) m) (get_removed held id) ∙ no_page m;
+  none = ap (option_map length) (get_removed held id);
+  other_pages = λ other m away. ap (λ (o : Option Pages). page (unwrap_or o []) m) (get_left held id other away);
+  other_counts = λ other away. ap (option_map length) (get_left held id other away);
 }
 
 -- ---- the file of a document that is held
@@ -122,7 +112,7 @@ refused_goes : {A : Type 0} (ranges : List Range) (capacities : List ℕ) (grids
     (let reply : Reply A = ForgetRefused fault in is_failed h (DeskAt d) ≡ true → IsOfFailed (Forget d id stop) reply) →
     IsForgetRefused h d stop fault →
     (let reply : Reply A = ForgetRefused fault in
-    HoldsOn capacity h (Forget d id stop) reply (holding_of view s.stored) (holding_of view s.stored)) →
+    ChangesHolding capacity h (Forget d id stop) reply (holding_of view s.stored) (holding_of view s.stored)) →
     (IsClean grids (quiet (Forget d id stop) (ForgetRefused fault) ∷ h) (AtDesk d) →
     IsForgetSafe (known_of h) d id fault) →
     DeskGoes ranges capacities grids h (Forget d id stop) (ForgetRefused fault) d capacity
@@ -199,7 +189,7 @@ running_goes {A} ranges capacities grids h d id capacity stop view mid
     -- what is held then
     kept_does : (k : Kept) → MatchBool (leaves_new (Some (SaveFault k)))
         (holding_of view (kept_held k view.held (finite.remove view.held id)) ≡
-        with_unsaved (holding_of view s.stored) (finite.remove view.held id))
+        with_stored (holding_of view s.stored) (finite.remove view.held id))
         (holding_of view (kept_held k view.held (finite.remove view.held id)) ≡ holding_of view s.stored)
     kept_does kept.Old = ap (holding_of view) (s.shows was)
     kept_does kept.New = refl
@@ -268,7 +258,7 @@ IsStored {A} grids h d id capacity stop view mid s =
     (let reply : Reply A = Stopped in
     (stored : Documents) × SetStands grids (quiet (Forget d id stop) reply ∷ h) d capacity
     (desk_planned mid next_save.Fine).saved stored
-    × HoldsOn capacity h (Forget d id stop) reply (holding_of view s.stored) (both stored))
+    × ChangesHolding capacity h (Forget d id stop) reply (holding_of view s.stored) (both stored))
 
 stored_stopped : {A : Type 0} (grids : List GridView) (h : History A) (d id capacity : ℕ) (stop : Stop)
     (view mid : DeskView)
@@ -280,7 +270,7 @@ stored_stopped {A} grids h d id capacity stop view mid given s may had f = by_fa
   where
     same : mid ≡ desk_planned view next_save.Fine →
         (let reply : Reply A = Stopped in
-        HoldsOn capacity h (Forget d id stop) reply (holding_of view s.stored) (both s.stored)) →
+        ChangesHolding capacity h (Forget d id stop) reply (holding_of view s.stored) (both s.stored)) →
         IsStored grids h d id capacity stop view mid s
     same is does =
         let e : Entry A = quiet (Forget d id stop) Stopped in
@@ -365,12 +355,14 @@ stopped_goes {A} ranges capacities grids h d id capacity stop view state there r
     by_stop (SaveFault k) x = absurd x
 
 -- a forget whose memory was refused
-none_forgotten : (id : ℕ) (old new : DeskView) → ForgetsOne id old (Err forget_fault.Memory) new → new ≡ old
+none_forgotten : (id : ℕ) (old new : DeskView) → ForgetsOne id old (Err forget_fault.Memory) new →
+    (new ≡ old) × (old.is_failed ≡ false) × IsSome (finite.get old.held id)
 none_forgotten id old new f = by_failed old.is_failed refl
   where
-    by_failed : (b : Bool) → old.is_failed ≡ b → new ≡ old
-    by_failed true was = (f.failed was).1
-    by_failed false was = (f.forgotten was).1
+    by_failed : (b : Bool) → old.is_failed ≡ b →
+        (new ≡ old) × (old.is_failed ≡ false) × IsSome (finite.get old.held id)
+    by_failed true was = absurd (let x = (f.failed was).0 in cc (x))
+    by_failed false was = (let x = f.forgotten was in (x.1, was, x.0))
 
 pub forget_goes : {A : Type 0} (ranges : List Range) (capacities : List ℕ) (grids : List GridView) (h : History A)
     (d id capacity : ℕ) (stop : Stop)
@@ -390,5 +382,10 @@ forget_goes {A} ranges capacities grids h d id capacity stop view reply state th
     (stopped_goes ranges capacities grids h d id capacity stop view state there room s stopped.1)
 forget_goes ranges capacities grids h d id capacity stop view reply state there room s (inr (inr lacks)) =
     memory_goes ranges capacities grids h (Forget d id stop) d capacity view reply state room s refl there
-    (refl, lacks.1.to_be_stopped) (λ i m t. t) (λ i x. x) (λ x. refl) tt tt lacks.0
-    (lacks_same stop _ view state s.store.ready (none_forgotten id (desk_planned view next_save.Fine)) lacks.1)
+    (refl, lacks.1.to_be_stopped) (λ i m t. t) (λ i x. x)
+    (sym s.failed ∙ none.1, none.2, refl) tt tt lacks.0
+    (lacks_same stop _ view state s.store.ready
+    (λ mid call. (none_forgotten id (desk_planned view next_save.Fine) mid call).0) lacks.1)
+  where
+    none : (lacks.1.mid ≡ desk_planned view next_save.Fine) × (view.is_failed ≡ false) × IsSome (finite.get view.held id)
+    none = none_forgotten id (desk_planned view next_save.Fine) lacks.1.mid lacks.1.call

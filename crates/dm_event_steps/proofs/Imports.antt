@@ -50,17 +50,17 @@ use Rattle.dm_event_steps.specs.declared.actor.DeskState.TheVariants as desks
 use Rattle.dm_event_steps.specs.declared.actor.LeftExport.{LeftExport}
 use Rattle.dm_event_steps.specs.Acts.{IsCalled, next_save_of}
 use Rattle.dm_event_steps.specs.Gathered.{IsGathered}
-use Rattle.dm_event_history.specs.Held.{both, with_answered, ArePagesOfExport, HoldsOn}
+use Rattle.dm_event_history.specs.Held.{both, with_answered, AreAsTold, ArePagesOfExport, ChangesHolding}
 use Rattle.dm_event_steps.specs.DeskStands.{holding_of, SetStands, DeskRuns}
 use Rattle.dm_event_steps.specs.DeskActs.{ImportsIn, desk_planned, StopsDesk, CallActs, import_reply}
 use Rattle.dm_event_steps.specs.Exports.{export_name_of, AreParts, ShowsPages}
 use Rattle.dm_event_steps.specs.Goes.{quiet, DeskGoes}
-use Rattle.dm_event_steps.proofs.DeskFacts.{get_other}
+use Rattle.dm_event_history.proofs.HeldDocuments.{get_other}
 use Rattle.dm_event_steps.proofs.Asks.{not_surely, counted_is, page_is, some_none}
 use Rattle.dm_event_steps.proofs.Scans.{other_held}
 use Rattle.dm_event_steps.proofs.Exports.{named_there, there_named}
 use Rattle.dm_event_steps.proofs.Gathering.{HoldsFileToo, gathered_keeps, gathered_with_file}
-use Rattle.dm_event_steps.proofs.DeskGoing.{none_leaves, not_failed, memory_goes, lacks_same, set_keeps, fine_desk, done_with_none, faulted_with, desk_kept, set_saved, desk_saves, kept_held, desk_fails, desk_stopped, call_told, stop_told, saved_when, unsaved_when, can_still}
+use Rattle.dm_event_steps.proofs.DeskGoing.{none_leaves, not_failed, memory_goes, lacks_same, set_keeps, fine_desk, done_with_none, faulted_with, desk_kept, set_saved, desk_saves, kept_held, desk_fails, desk_stopped, call_told, stop_told, saved_when, unsaved_when, can_still, with_other}
 
 -- an export that left is imported at a desk that runs
 pub record IsBrought {A : Type 0} (capacities : List ℕ) (grids : List GridView) (h : History A) (d number capacity : ℕ)
@@ -271,26 +271,29 @@ no_conflict h d id held own pages g parts is (inr differs) =
 
 -- ---- what is held then
 
--- the pages of a clean export are parts of what was printed
+-- the pages of an export are those that it was told with
+as_told : {A : Type 0} (capacities : List ℕ) (grids : List GridView) (h : History A) (d number capacity : ℕ)
+    (view : DeskView) (export : LeftExport A) → (s : IsBrought capacities grids h d number capacity view export) →
+    AreAsTold h number export.id s.shows.pages
+as_told capacities grids h d number capacity view export s = record {
+  name = export_name_of export;
+  has_left = s.named;
+  id_is = refl;
+  count_is = s.shows.count_is;
+  mask_is = s.shows.mask_is;
+}
+
+-- and those of a clean one are parts of what was printed
 pages_of_export : {A : Type 0} (capacities : List ℕ) (grids : List GridView) (h : History A) (d number capacity : ℕ)
     (view : DeskView) (export : LeftExport A) → (s : IsBrought capacities grids h d number capacity view export) →
     IsClean grids h (InExport number) → ArePagesOfExport h number export.id s.shows.pages
 pages_of_export capacities grids h d number capacity view export s clean =
     let parts = s.shows.parts clean in record {
-      name = export_name_of export;
-      has_left = s.named;
-      id_is = refl;
-      count_is = s.shows.count_is;
-      mask_is = s.shows.mask_is;
+      told = as_told capacities grids h d number capacity view export s;
       cut = parts.cut;
       printed = parts.printed;
       each = parts.each;
     }
-
-with_other : (kind : Kind) (old new : Documents) → kind ≢ Again → with_answered kind old new ≡ new
-with_other Again old new other = absurd (other refl)
-with_other New old new other = refl
-with_other Complete old new other = refl
 
 -- ---- each answer
 
@@ -304,7 +307,7 @@ refused_goes : {A : Type 0} (ranges : List Range) (capacities : List ℕ) (grids
     is_failed h (DeskAt d) ≡ true → IsOfFailed (Import d number stop) reply) →
     IsImportRefused h d stop fault →
     (let reply : Reply A = ImportRefused fault in
-    HoldsOn capacity h (Import d number stop) reply (holding_of view s.runs.stored) (holding_of view s.runs.stored)) →
+    ChangesHolding capacity h (Import d number stop) reply (holding_of view s.runs.stored) (holding_of view s.runs.stored)) →
     (IsClean grids h (InExport number) → IsHonestlyNotImported grids capacities h d number fault) →
     DeskGoes ranges capacities grids h (Import d number stop) (ImportRefused fault) d capacity
     (desks.Running (desk_planned mid next_save.Fine))
@@ -429,16 +432,22 @@ kept_does : {A : Type 0} (capacities : List ℕ) (grids : List GridView) (h : Hi
     NeedsSave (import_answer view.capacity view.held export.id s.shows.pages) → view.is_failed ≡ false →
     IsClean grids (quiet (Import d number (SaveFault k)) (ImportRefused import_fault.Save) ∷ h) (AtDesk d) →
     (let reply : Reply A = ImportRefused import_fault.Save in
-    HoldsOn capacity h (Import d number (SaveFault k)) reply (holding_of view s.runs.stored)
+    ChangesHolding capacity h (Import d number (SaveFault k)) reply (holding_of view s.runs.stored)
     (holding_of view (kept_held k view.held (with_file view.held export.id s.shows.pages))))
-kept_does capacities grids h d number capacity kept.Old view export s needs was honest =
-    ap (holding_of view) (s.runs.shows was)
+kept_does capacities grids h d number capacity kept.Old view export s needs was honest = (
+  export.id,
+  s.shows.pages,
+  subst (λ (c : ℕ). NeedsSave (import_answer c view.held export.id s.shows.pages)) s.runs.capacity_is needs,
+  (as_told capacities grids h d number capacity view export s, ap (holding_of view) (s.runs.shows was)),
+)
 kept_does capacities grids h d number capacity kept.New view export s needs was honest = (
   export.id,
   s.shows.pages,
-  pages_of_export capacities grids h d number capacity view export s (honest.0 refl refl (sym s.runs.failed ∙ was)),
   subst (λ (c : ℕ). NeedsSave (import_answer c view.held export.id s.shows.pages)) s.runs.capacity_is needs,
-  refl,
+  (
+    pages_of_export capacities grids h d number capacity view export s (honest.0 refl refl (sym s.runs.failed ∙ was)),
+    refl,
+  ),
 )
 
 few_kept : (k : Kept) (view : DeskView) (id : ℕ) (pages : Pages) → finite.len view.held ≤ view.capacity →
@@ -504,12 +513,11 @@ file_goes ranges capacities grids h d number capacity stop view mid export
     (Err import_fault.Conflict) s called order was acts =
     refused_goes ranges capacities grids h d number capacity stop view mid export import_fault.Conflict s called acts.1
     (λ b. refl) (not_failed grids h d capacity view s.runs was _) tt (
-      (
-        export.id,
-        s.shows.pages,
-        subst (λ (c : ℕ). import_answer c view.held export.id s.shows.pages ≡ Err import_fault.Conflict)
-            s.runs.capacity_is acts.0,
-      ),
+      export.id,
+      s.shows.pages,
+      as_told capacities grids h d number capacity view export s,
+      subst (λ (c : ℕ). import_answer c view.held export.id s.shows.pages ≡ Err import_fault.Conflict)
+          s.runs.capacity_is acts.0,
       refl,
     )
     (λ clean honest. let c = import_conflict view.capacity view.held export.id s.shows.pages acts.0 in
@@ -519,12 +527,11 @@ file_goes ranges capacities grids h d number capacity stop view mid export
     let full = import_full view.capacity view.held export.id s.shows.pages acts.0 in
     refused_goes ranges capacities grids h d number capacity stop view mid export import_fault.Full s called acts.1
     (λ b. refl) (not_failed grids h d capacity view s.runs was _) tt (
-      (
-        export.id,
-        s.shows.pages,
-        subst (λ (c : ℕ). import_answer c view.held export.id s.shows.pages ≡ Err import_fault.Full)
-            s.runs.capacity_is acts.0,
-      ),
+      export.id,
+      s.shows.pages,
+      as_told capacities grids h d number capacity view export s,
+      subst (λ (c : ℕ). import_answer c view.held export.id s.shows.pages ≡ Err import_fault.Full)
+          s.runs.capacity_is acts.0,
       refl,
     )
     (λ clean honest. record {
@@ -538,7 +545,14 @@ file_goes ranges capacities grids h d number capacity stop view mid export
 file_goes ranges capacities grids h d number capacity stop view mid export
     (Err import_fault.Memory) s called order was acts =
     refused_goes ranges capacities grids h d number capacity stop view mid export import_fault.Memory s called acts.1
-    (λ b. refl) (not_failed grids h d capacity view s.runs was _) tt refl (λ clean. tt)
+    (λ b. refl) (not_failed grids h d capacity view s.runs was _) tt (
+      export.id,
+      s.shows.pages,
+      as_told capacities grids h d number capacity view export s,
+      subst (λ (c : ℕ). NeedsSave (import_answer c view.held export.id s.shows.pages)) s.runs.capacity_is acts.0,
+      refl,
+    )
+    (λ clean. tt)
 file_goes {A} ranges capacities grids h d number capacity stop view mid export
     (Err import_fault.Save) s called order was acts =
     let k : (k : Kept) × (stop ≡ SaveFault k) = faulted_with stop view mid _ called acts.1.replaced in
@@ -596,7 +610,7 @@ IsStored {A} capacities grids h d number capacity stop view mid export s =
     (stored : Documents) × SetStands grids (quiet (Import d number stop) reply ∷ h) d capacity
     (desk_planned mid next_save.Fine).saved stored
     × (IsClean grids (quiet (Import d number stop) reply ∷ h) (AtDesk d) →
-    HoldsOn capacity h (Import d number stop) reply (holding_of view s.runs.stored) (both stored)))
+    ChangesHolding capacity h (Import d number stop) reply (holding_of view s.runs.stored) (both stored)))
 
 stored_stopped : {A : Type 0} (capacities : List ℕ) (grids : List GridView) (h : History A) (d number capacity : ℕ)
     (stop : Stop) (view mid : DeskView)
@@ -610,7 +624,7 @@ stored_stopped {A} capacities grids h d number capacity stop view mid export giv
   where
     same : mid ≡ desk_planned view next_save.Fine →
         (let reply : Reply A = Stopped in IsClean grids (quiet (Import d number stop) reply ∷ h) (AtDesk d) →
-        HoldsOn capacity h (Import d number stop) reply (holding_of view s.runs.stored) (both s.runs.stored)) →
+        ChangesHolding capacity h (Import d number stop) reply (holding_of view s.runs.stored) (both s.runs.stored)) →
         IsStored capacities grids h d number capacity stop view mid export s
     same is does =
         let e : Entry A = quiet (Import d number stop) Stopped in
@@ -635,7 +649,7 @@ stored_stopped {A} capacities grids h d number capacity stop view mid export giv
         (import_answer view.capacity view.held export.id s.shows.pages ≡ Ok Again)
         ⊎ (import_answer view.capacity view.held export.id s.shows.pages ≡ Err import_fault.Full) →
         (let reply : Reply A = Stopped in IsClean grids (quiet (Import d number stop) reply ∷ h) (AtDesk d) →
-        HoldsOn capacity h (Import d number stop) reply (holding_of view s.runs.stored) (both s.runs.stored))
+        ChangesHolding capacity h (Import d number stop) reply (holding_of view s.runs.stored) (both s.runs.stored))
     kept_as was why honest = saved_when h d stop _ _ may (sym s.runs.failed ∙ was) (record {
       id = export.id;
       pages = s.shows.pages;
@@ -750,13 +764,16 @@ stopped_goes {A} ranges capacities grids h d number capacity stop view export st
 -- an import whose memory was refused
 none_imported : {A : Type 0} (capacities : List ℕ) (grids : List GridView) (h : History A) (d number capacity : ℕ)
     (view old new : DeskView)
-    (export : LeftExport A) → IsBrought capacities grids h d number capacity view export →
-    ImportsIn export.bytes old (Err import_fault.Memory) new → new ≡ old
+    (export : LeftExport A) → (s : IsBrought capacities grids h d number capacity view export) →
+    ImportsIn export.bytes old (Err import_fault.Memory) new →
+    (new ≡ old) × (old.is_failed ≡ false) × NeedsSave (import_answer old.capacity old.held export.id s.shows.pages)
 none_imported capacities grids h d number capacity view old new export s f = by_failed old.is_failed refl
   where
-    by_failed : (b : Bool) → old.is_failed ≡ b → new ≡ old
-    by_failed true was = (f.failed was).1
-    by_failed false was = ((f.imported was).spelled export.id s.shows.pages s.shows.spells).1
+    by_failed : (b : Bool) → old.is_failed ≡ b →
+        (new ≡ old) × (old.is_failed ≡ false) × NeedsSave (import_answer old.capacity old.held export.id s.shows.pages)
+    by_failed true was = absurd (let x = (f.failed was).0 in cc (x))
+    by_failed false was =
+        (let x = (f.imported was).spelled export.id s.shows.pages s.shows.spells in (x.1, was, x.0))
 
 pub import_goes : {A : Type 0} (ranges : List Range) (capacities : List ℕ) (grids : List GridView) (h : History A)
     (d number capacity : ℕ) (stop : Stop)
@@ -777,8 +794,20 @@ import_goes {A} ranges capacities grids h d number capacity stop view export rep
     (stopped_goes ranges capacities grids h d number capacity stop view export state s stopped.1)
 import_goes ranges capacities grids h d number capacity stop view export reply state s (inr (inr lacks)) =
     memory_goes ranges capacities grids h (Import d number stop) d capacity view reply state s.room s.runs refl s.there
-    (refl, lacks.1.to_be_stopped) (λ i m t. t) (λ i x. x) (λ x. refl)
+    (refl, lacks.1.to_be_stopped) (λ i m t. t) (λ i x. x) (
+      sym s.runs.failed ∙ none.1,
+      export.id,
+      s.shows.pages,
+      as_told capacities grids h d number capacity view export s,
+      subst (λ (c : ℕ). NeedsSave (import_answer c view.held export.id s.shows.pages)) s.runs.capacity_is none.2,
+      refl,
+    )
     tt tt lacks.0
     (lacks_same stop _ view state s.runs.store.ready
-    (λ mid call. none_imported capacities grids h d number capacity view
-    (desk_planned view next_save.Fine) mid export s call) lacks.1)
+    (λ mid call. (none_imported capacities grids h d number capacity view
+    (desk_planned view next_save.Fine) mid export s call).0) lacks.1)
+  where
+    none : (lacks.1.mid ≡ desk_planned view next_save.Fine) × (view.is_failed ≡ false)
+        × NeedsSave (import_answer view.capacity view.held export.id s.shows.pages)
+    none = none_imported capacities grids h d number capacity view (desk_planned view next_save.Fine) lacks.1.mid
+        export s lacks.1.call

@@ -10,6 +10,7 @@ pub mod DeskFacts
 pub mod Gathering
 pub mod DeskGoing
 pub mod WrongModules
+pub mod NearItself
 pub mod Scans
 pub mod Asks
 pub mod Forgets

@@ -21,7 +21,7 @@ use Rattle.dm_event_steps.specs.declared.actor.DeskState.{DeskState}
 use Rattle.dm_event_steps.specs.declared.actor.DeskState.TheVariants as desks
 use Rattle.dm_event_steps.specs.declared.actor.LeftExport.{LeftExport}
 use Rattle.dm_event_steps.specs.Labels.{grid_of}
-use Rattle.dm_event_history.specs.Held.{Holding, HoldsOn, CanHold}
+use Rattle.dm_event_history.specs.Held.{Holding, ChangesHolding, CanHold}
 use Rattle.dm_event_steps.specs.DeskStands.{DeskStands}
 use Rattle.dm_event_steps.specs.DeskActs.{DeskActs}
 use Rattle.dm_event_steps.specs.Goes.{quiet, DeskGoes, ExportsGo}
@@ -245,7 +245,7 @@ no_such_answers grids capacities h (Export c i) = tt
 no_such_answers grids capacities h (Import c export stop) = tt
 
 no_such_holds : {A : Type 0} (capacity : ℕ) (h : History A) (event : Event A) (x : Holding) →
-    HoldsOn capacity h event NoSuch x x
+    ChangesHolding capacity h event NoSuch x x
 no_such_holds capacity h (Print p document size scheme stop) x = refl
 no_such_holds capacity h (Scan c l flips stop) x = refl
 no_such_holds capacity h (RestartPrinter p) x = refl

@@ -57,7 +57,7 @@ use Rattle.dm_event_steps.specs.declared.actor.LeftLabel.{LeftLabel}
 use Rattle.dm_event_steps.specs.Labels.{name_of, ShowsDocument}
 use Rattle.dm_event_steps.specs.Acts.{IsCalled, next_save_of}
 use Rattle.dm_event_steps.specs.Gathered.{IsGathered}
-use Rattle.dm_event_history.specs.Held.{Holding, both, with_answered, IsPageOfLabel, HoldsOn, IsPart}
+use Rattle.dm_event_history.specs.Held.{MayBeRead, Holding, both, with_answered, IsPageOfLabel, ChangesHolding, IsPart}
 use Rattle.dm_event_steps.specs.DeskStands.{holding_of, SetStands, DeskRuns}
 use Rattle.dm_event_steps.specs.DeskActs.{Accepts, desk_planned, StopsDesk, scan_reply, ScanActs}
 use Rattle.dm_event_steps.specs.Goes.{quiet, DeskGoes}
@@ -65,8 +65,9 @@ use Rattle.dm_event_steps.proofs.WrongModules.{few_wrong}
 use Rattle.dm_event_steps.proofs.PrinterGoing.{IsFine, not_both}
 use Rattle.dm_event_steps.proofs.Asks.{not_surely}
 use Rattle.dm_event_steps.proofs.DeskFacts.{HoldsPage, is_free, holds_also, holds_all_others, lacks_another, Disagrees, holds_again, disagrees, is_full, some_page}
+use Rattle.dm_event_steps.proofs.NearItself.{near_itself}
 use Rattle.dm_event_steps.proofs.Gathering.{gathered_keeps, gathered_with}
-use Rattle.dm_event_steps.proofs.DeskGoing.{none_leaves, not_failed, memory_goes, lacks_same, IsTold, set_keeps, fine_desk, done_with_none, faulted_with, desk_kept, set_saved, desk_saves, kept_held, desk_fails, desk_stopped, saved_when, unsaved_when, can_still}
+use Rattle.dm_event_steps.proofs.DeskGoing.{none_leaves, not_failed, memory_goes, lacks_same, IsTold, set_keeps, fine_desk, done_with_none, faulted_with, desk_kept, set_saved, desk_saves, kept_held, desk_fails, desk_stopped, saved_when, unsaved_when, can_still, with_other}
 use Rattle.dm_assembly_desk.specs.FaultOrigin as origin
 
 -- a label that left is scanned at a desk that runs
@@ -315,10 +316,15 @@ page_of_label h number label p cut named is = record {
   part = is.part;
 }
 
-with_other : (kind : Kind) (old new : Documents) → kind ≢ Again → with_answered kind old new ≡ new
-with_other Again old new other = absurd (other refl)
-with_other New old new other = refl
-with_other Complete old new other = refl
+-- so the page of a scan is, if no module is flipped
+page_read : {A : Type 0} (capacities : List ℕ) (grids : List GridView) (h : History A) (d number capacity : ℕ)
+    (flips : List (ℕ × ℕ)) (view : DeskView) (label : LeftLabel A) (opened : Opened A) →
+    IsScanned capacities grids h d number capacity flips view label →
+    LabelOpens (flipped label.grid flips) (Ok opened) → MayBeRead h number flips opened.page
+page_read capacities grids h d number capacity [] view label opened s opens =
+    page_of_label h number label opened.page s.shows.document s.named
+    (fair_page grids h number [] label opened s.left s.shows opens (λ grid left. near_itself grid))
+page_read capacities grids h d number capacity (flip ∷ flips) view label opened s opens = tt
 
 abbrev as_holding : Documents → Documents → Holding
 as_holding shown stored = record { shown = shown; stored = stored }
@@ -336,7 +342,7 @@ refused_goes : {A : Type 0} (ranges : List Range) (capacities : List ℕ) (grids
     is_failed h (DeskAt d) ≡ true → IsOfFailed (Scan d number flips stop) reply) →
     IsScanRefused h d stop fault →
     (let reply : Reply A = ScanRefused fault in
-    HoldsOn capacity h (Scan d number flips stop) reply (holding_of view s.runs.stored)
+    ChangesHolding capacity h (Scan d number flips stop) reply (holding_of view s.runs.stored)
     (holding_of view s.runs.stored)) →
     (IsFairScan grids number flips → IsHonestlyRefused grids capacities h d number flips fault) →
     DeskGoes ranges capacities grids h (Scan d number flips stop) (ScanRefused fault) d capacity
@@ -484,17 +490,25 @@ kept_does : {A : Type 0} (capacities : List ℕ) (grids : List GridView) (h : Hi
     NeedsSave (answer view.capacity view.held opened.page) → view.is_failed ≡ false →
     IsClean grids (quiet (Scan d number flips (SaveFault k)) (ScanRefused scan_fault.Save) ∷ h) (AtDesk d) →
     (let reply : Reply A = ScanRefused scan_fault.Save in
-    HoldsOn capacity h (Scan d number flips (SaveFault k)) reply (holding_of view s.runs.stored)
+    ChangesHolding capacity h (Scan d number flips (SaveFault k)) reply (holding_of view s.runs.stored)
     (holding_of view (kept_held k view.held (with_page view.held opened.page))))
-kept_does capacities grids h d number capacity flips kept.Old view label opened s opens needs was honest =
-    ap (λ (x : Documents). as_holding view.held x) (s.runs.shows was)
+kept_does capacities grids h d number capacity flips kept.Old view label opened s opens needs was honest = (
+  opened.page,
+  subst (λ (c : ℕ). NeedsSave (answer c view.held opened.page)) s.runs.capacity_is needs,
+  (
+    page_read capacities grids h d number capacity flips view label opened s opens,
+    ap (λ (x : Documents). as_holding view.held x) (s.runs.shows was),
+  ),
+)
 kept_does capacities grids h d number capacity flips kept.New view label opened s opens needs was honest = (
   opened.page,
-  page_of_label h number label opened.page s.shows.document s.named
-      (fair_page grids h number flips label opened s.left s.shows opens
-      (honest.0 refl refl (sym s.runs.failed ∙ was))),
   subst (λ (c : ℕ). NeedsSave (answer c view.held opened.page)) s.runs.capacity_is needs,
-  refl,
+  (
+    page_of_label h number label opened.page s.shows.document s.named
+        (fair_page grids h number flips label opened s.left s.shows opens
+        (honest.0 refl refl (sym s.runs.failed ∙ was))),
+    refl,
+  ),
 )
 
 few_kept : (k : Kept) (view : DeskView) (p : PageView) → finite.len view.held ≤ view.capacity →
@@ -569,7 +583,9 @@ page_goes ranges capacities grids h d number capacity flips stop view mid label 
     (Err scan_fault.Conflict) s called opens order runs acts =
     refused_goes ranges capacities grids h d number capacity flips stop view mid label scan_fault.Conflict s called
     acts.1 (λ b. refl) (not_failed grids h d capacity view s.runs runs _) tt (
-      (opened.page, subst (λ (c : ℕ). answer c view.held opened.page ≡ Err scan_fault.Conflict) s.runs.capacity_is acts.0),
+      opened.page,
+      page_read capacities grids h d number capacity flips view label opened s opens,
+      subst (λ (c : ℕ). answer c view.held opened.page ≡ Err scan_fault.Conflict) s.runs.capacity_is acts.0,
       refl,
     )
     (λ fair honest.
@@ -580,8 +596,12 @@ page_goes {A} ranges capacities grids h d number capacity flips stop view mid la
     (Err scan_fault.Full) s called opens order runs acts =
     let full = is_full view.capacity view.held opened.page acts.0 in
     refused_goes ranges capacities grids h d number capacity flips stop view mid label scan_fault.Full s called acts.1
-    (λ b. refl) (not_failed grids h d capacity view s.runs runs _) tt
-    ((opened.page, subst (λ (c : ℕ). answer c view.held opened.page ≡ Err scan_fault.Full) s.runs.capacity_is acts.0), refl)
+    (λ b. refl) (not_failed grids h d capacity view s.runs runs _) tt (
+      opened.page,
+      page_read capacities grids h d number capacity flips view label opened s opens,
+      subst (λ (c : ℕ). answer c view.held opened.page ≡ Err scan_fault.Full) s.runs.capacity_is acts.0,
+      refl,
+    )
     (λ fair.
     let is = fair_page grids h number flips label opened s.left s.shows opens fair in (
       framed grids number flips label.grid s.left opens.opens.read.frame,
@@ -750,7 +770,7 @@ IsStored {A} capacities grids h d number capacity flips stop view mid label s =
     (stored : Documents) × SetStands grids (quiet (Scan d number flips stop) reply ∷ h) d capacity
     (desk_planned mid next_save.Fine).saved stored
     × (IsClean grids (quiet (Scan d number flips stop) reply ∷ h) (AtDesk d) →
-    HoldsOn capacity h (Scan d number flips stop) reply (holding_of view s.runs.stored) (both stored)))
+    ChangesHolding capacity h (Scan d number flips stop) reply (holding_of view s.runs.stored) (both stored)))
 
 stored_stopped : {A : Type 0} (capacities : List ℕ) (grids : List GridView) (h : History A)
     (d number capacity : ℕ) (flips : List (ℕ × ℕ)) (stop : Stop) (view mid : DeskView) (label : LeftLabel A)
@@ -779,7 +799,7 @@ stored_stopped {A} capacities grids h d number capacity flips stop view mid labe
 
     same : mid ≡ desk_planned view next_save.Fine →
         (let reply : Reply A = Stopped in IsClean grids (quiet event reply ∷ h) (AtDesk d) →
-        HoldsOn capacity h event reply (holding_of view s.runs.stored) (both s.runs.stored)) →
+        ChangesHolding capacity h event reply (holding_of view s.runs.stored) (both s.runs.stored)) →
         IsStored capacities grids h d number capacity flips stop view mid label s
     same is does =
         let e : Entry A = quiet (Scan d number flips stop) Stopped in
@@ -806,7 +826,7 @@ stored_stopped {A} capacities grids h d number capacity flips stop view mid labe
         (answer view.capacity view.held opened.page ≡ Ok Again)
         ⊎ (answer view.capacity view.held opened.page ≡ Err scan_fault.Full) →
         (let reply : Reply A = Stopped in IsClean grids (quiet event reply ∷ h) (AtDesk d) →
-        HoldsOn capacity h event reply (holding_of view s.runs.stored) (both s.runs.stored))
+        ChangesHolding capacity h event reply (holding_of view s.runs.stored) (both s.runs.stored))
     kept_as opened opens was why honest =
         saved_when h d stop _ _ may (sym s.runs.failed ∙ was) (record {
           page = opened.page;
@@ -901,7 +921,7 @@ stored_stopped {A} capacities grids h d number capacity flips stop view mid labe
         view.is_failed ≡ false →
         given ≡ Err (origin.scan_fault fault) →
         (let reply : Reply A = Stopped in IsClean grids (quiet event reply ∷ h) (AtDesk d) →
-        HoldsOn capacity h event reply (holding_of view s.runs.stored) (both s.runs.stored))
+        ChangesHolding capacity h event reply (holding_of view s.runs.stored) (both s.runs.stored))
     unopened fault opens was is honest =
         saved_when h d stop _ _ may (sym s.runs.failed ∙ was) (record {
           page = its_page;
@@ -1006,7 +1026,7 @@ pub scan_goes : {A : Type 0} (ranges : List Range) (capacities : List ℕ) (grid
 scan_goes {A} ranges capacities grids h d number capacity flips stop view label reply state s (inl none) =
     memory_goes ranges capacities grids h (Scan d number flips stop) d capacity view reply state s.room s.runs refl
     s.there (refl, tt)
-    (λ id m t. t) (λ id x. x) (λ x. refl) tt tt none.0 none.1
+    (λ id m t. t) (λ id x. x) refl tt tt none.0 none.1
 scan_goes {A} ranges capacities grids h d number capacity flips stop view label reply state s (inr (inl made)) =
     subst (λ (r : Reply A). DeskGoes ranges capacities grids h (Scan d number flips stop) r d capacity state)
     (sym made.reply_is)
@@ -1022,6 +1042,6 @@ scan_goes {A} ranges capacities grids h d number capacity flips stop view label 
 scan_goes ranges capacities grids h d number capacity flips stop view label reply state s (inr (inr (inr lacks))) =
     memory_goes ranges capacities grids h (Scan d number flips stop) d capacity view reply state s.room s.runs refl
     s.there (refl, tt)
-    (λ id m t. t) (λ id x. x) (λ x. refl) tt tt lacks.0
+    (λ id m t. t) (λ id x. x) refl tt tt lacks.0
     (lacks_same stop _ view state s.runs.store.ready
     (none_scanned (flipped label.grid flips) (desk_planned view next_save.Fine)) lacks.1)

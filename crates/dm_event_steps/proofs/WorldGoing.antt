@@ -36,7 +36,7 @@ use Rattle.dm_event_steps.specs.declared.actor.LeftExport.{LeftExport}
 use Rattle.dm_event_steps.specs.Labels.{name_of, grid_of, ShowsDocument}
 use Rattle.dm_event_steps.specs.Exports.{export_name_of, ShowsPages}
 use Rattle.dm_event_steps.specs.Stands.{PrinterStands}
-use Rattle.dm_event_history.specs.Held.{Holding, CanHold, AreHeld}
+use Rattle.dm_event_history.specs.Held.{Holding, CanHold, DesksCanHold}
 use Rattle.dm_event_history.proofs.Gotten.{other_has}
 use Rattle.dm_event_steps.specs.DeskStands.{holding_of, DeskStands}
 use Rattle.dm_event_steps.specs.Worlds.{WorldView, grids_of}
@@ -205,7 +205,7 @@ replies_more grids more capacities (e ∷ h) is = (
 
 -- and what clean desks may hold
 held_more : {A : Type 0} (grids more : List GridView) (capacities : List ℕ) (h : History A) →
-    AreHeld grids capacities h → AreHeld (grids ++ more) capacities h
+    DesksCanHold grids capacities h → DesksCanHold (grids ++ more) capacities h
 held_more grids more capacities [] is = tt
 held_more grids more capacities (e ∷ h) is = (
   (λ d capacity here clean. is.0 d capacity here (clean_less grids more (e ∷ h) (AtDesk d) clean)),
@@ -368,7 +368,7 @@ goes_on {A} ranges capacities world new h entry s g =
             let desk = other_has new.desks capacities d capacity (sym g.desk_count) here in
             held_there (grids_of new) (entry ∷ h) d capacity desk.0.state
             (g.desks d capacity desk.0 here desk.1).1 clean,
-        subst (λ (l : List GridView). AreHeld l capacities h) (sym grids)
+        subst (λ (l : List GridView). DesksCanHold l capacities h) (sym grids)
             (held_more (grids_of world) (map grid_of g.more) capacities h s.held),
       );
       left = record {

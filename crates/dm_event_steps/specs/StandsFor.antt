@@ -7,7 +7,7 @@ use Rattle.dm_event_history.specs.History.{Entry, History, events_of, exports, r
 use Rattle.dm_event_history.specs.Legal.{AreDisjoint, IsLegal}
 use Rattle.dm_event_history.specs.Honest.{AreMarkedFair, AreHonestReplies}
 use Rattle.dm_event_history.specs.Safe.{IsSafe}
-use Rattle.dm_event_history.specs.Held.{AreHeld}
+use Rattle.dm_event_history.specs.Held.{DesksCanHold}
 use Rattle.dm_event_history.specs.Tickets.{TakesOnce}
 use Rattle.dm_event_history.specs.Imports.{ImportsExports}
 use Rattle.dm_event_steps.specs.declared.actor.PrinterActor.{PrinterActor}
@@ -30,7 +30,7 @@ pub record StandsFor {A : Type 0} (ranges : List Range) (capacities : List ℕ) 
   pub safe : IsSafe (grids_of world) h
   pub answers : AreHonestReplies (grids_of world) capacities h
   -- and there is what each may have shown and kept
-  pub held : AreHeld (grids_of world) capacities h
+  pub held : DesksCanHold (grids_of world) capacities h
   -- the labels, tickets and exports that left are the history's
   pub left : AreOf h (left_of world)
   pub labels : (i : ℕ) (label : LeftLabel A) → slice_get world.labels i ≡ Some label → ShowsDocument h label

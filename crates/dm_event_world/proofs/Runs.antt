@@ -11,7 +11,8 @@ use Rattle.dm_event_world.specs.declared.answers.Answer.{Answer}
 use Rattle.dm_event_world.specs.declared.answers.Answer.TheVariants.{Given, NotGiven}
 use Rattle.dm_event_world.specs.Runs.{Continues, GoesOn, GoesOnByAll}
 use Rattle.dm_event_world.specs.Watched.{given, marks, replies, IsScan, HasFlips, IsFaithfulIfHonestBy, IsLookedAt, Answers, AnswersAll}
-use Rattle.dm_event_world.proofs.ScannedLabels.{near_itself, not_named}
+use Rattle.dm_event_steps.proofs.NearItself.{near_itself}
+use Rattle.dm_event_world.proofs.ScannedLabels.{not_named}
 
 -- one event more
 pub runs_more : {A : Type 0} (old mid new : WorldView A) (events : List (Event A)) (all : List (Reply A))

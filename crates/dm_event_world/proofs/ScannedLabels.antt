@@ -24,15 +24,6 @@ use Rattle.dm_event_steps.specs.DeskActs.{scan_reply, DeskActs}
 use Rattle.dm_event_steps.specs.Worlds.{WorldView, IsNamed, IsFairIn, Steps}
 use Rattle.dm_event_world.specs.Watched.{IsLookedAt}
 
--- a grid is near itself
-pub near_itself : (grid : GridView) → IsNear grid grid
-near_itself grid = record {
-  same_size = refl;
-  words = λ b within.
-      (let m : List ℕ = block_of grid.size b (words_of_grid grid) in
-      let none = rw (append-nil m) at (differ_after m [] [] refl) in omega arith);
-}
-
 -- a scan of what is there is not answered `NoSuch`
 pub not_named : {A : Type 0} (old new : WorldView A) (d label : ℕ) (flips : List (ℕ × ℕ)) (stop : Stop)
     (reply : Reply A) → reply ≡ NoSuch → Steps old (Scan d label flips stop) reply new →

@@ -13,7 +13,7 @@ use Rattle.dm_event_history.specs.Saving.{may_save}
 use Rattle.dm_event_history.specs.Headline.{Batch, labels_of, IsScanOf, MayHaveSaved}
 use Rattle.dm_event_history.specs.Tainted.{AtDesk, IsTainted}
 use Rattle.dm_event_history.proofs.Tainting.{is_tainted, untainted_by}
-use Rattle.dm_event_history.proofs.Refuted.{first_label}
+use Rattle.dm_event_history.proofs.RefutedPrints.{first_label}
 use Rattle.dm_event_history.specs.Worked.{digits, two_ranges}
 use Rattle.dm_event_history.specs.Unfaithful.{page, print, scan, two_desks}
 use Rattle.dm_event_world.specs.Shown.{IsShownForGood, shown_events, shown_answers, worn, refused, stopped_events, stopped_answers, AreAnsweredWrongly}

@@ -1,4 +1,5 @@
-use Rattle.dm_event_history.proofs.Refuted.{are_unfaithful, are_tainted}
+use Rattle.dm_event_history.proofs.Refuted.{are_unfaithful}
+use Rattle.dm_event_history.proofs.RefutedTainted.{are_tainted}
 use Rattle.dm_event_history.proofs.Right.{right_document_is}
 use Rattle.dm_event_history.proofs.laws.worked_runs.Goals as goal
 
