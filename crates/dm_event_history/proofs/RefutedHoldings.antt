@@ -1,5 +1,5 @@
 -- Runs that nothing a desk may hold explains are refuted.
-use Rattle.std.proofs.Common.{◌≡◌, ◌<◌, ◌≤◌, ◌+◌, inl, inr, ℕ, Bool, true, false, cond, Option, Some, None, Ok, Err, List, [], ◌∷◌, length, map, refl, ap, sym, ◌∙◌, subst, arith, ◌⊎◌, Result, slice_get}
+use Rattle.std.proofs.Common.{◌≡◌, ◌<◌, ◌≤◌, ◌+◌, inl, inr, ℕ, Bool, true, false, cond, Option, Some, None, Ok, Err, List, [], ◌∷◌, length, map, refl, ap, sym, ◌∙◌, subst, arith, Result, slice_get}
 use Rattle.std.specs.Prelude.{MatchBool, is_some, nat_lt, if◌then◌else◌}
 use Rattle.std.specs.FinMap as finite
 use Rattle.std.specs.FinMap.{get-empty, len-empty, len-insert}
@@ -12,17 +12,18 @@ use Rattle.dm_assembly_desk.specs.Pages.{Pages, missing_mask}
 use Rattle.dm_assembly_desk.specs.Documents.{Documents, with_page, pages_with}
 use Rattle.dm_assembly_desk.specs.Answers.{Answer, answer, answer_at}
 use Rattle.dm_assembly_desk.specs.Asking.{Asks, AsksWhole}
-use Rattle.dm_assembly_desk.specs.declared.reply.Kind.TheVariants.{New, Again, Complete}
+use Rattle.dm_assembly_desk.specs.declared.reply.Kind.TheVariants.{New}
 use Rattle.dm_assembly_desk.specs.declared.fault.AskFault.TheVariants.{NotHeld, Incomplete}
 use Rattle.dm_assembly_desk.specs.declared.fault.ScanFault.TheVariants as scan_fault
 use Rattle.dm_event_history.specs.declared.event.Event.{Event}
 use Rattle.dm_event_history.specs.declared.event.Event.TheVariants.{Scan, RestartDesk, Ask, Forget}
 use Rattle.dm_event_history.specs.declared.reply.Reply.{Reply}
 use Rattle.dm_event_history.specs.declared.reply.Reply.TheVariants.{Printed, Scanned, AskRefused, Restarted, Stopped}
+use Rattle.dm_event_history.specs.declared.stop.Stop.{Stop}
 use Rattle.dm_event_history.specs.declared.stop.Stop.TheVariants as stops
 use Rattle.dm_event_history.specs.History.{History, Entry, LabelName, names_from}
 use Rattle.dm_event_history.specs.Tainted.{AtDesk, IsTainted}
-use Rattle.dm_event_history.specs.Held.{Holding, both, StoppedScan, CanHold, first_entries}
+use Rattle.dm_event_history.specs.Held.{Holding, both, IsPageOfLabel, DidWhatItCould, CanHold, first_entries}
 use Rattle.dm_event_history.specs.Worked.{digits, two_ranges}
 use Rattle.dm_event_history.specs.Unfaithful.{Run, IsFaithfulRun, IsFaithfulMarked, print, scan, page, lost_by_a_stop, held_though_forgotten, beyond_its_room, full_of_nothing}
 use Rattle.dm_event_history.proofs.HeldDocuments.{get_same, get_other, get_removed}
@@ -102,19 +103,16 @@ with_page_held held p id same none =
     ap (finite.get (with_page held p)) (sym same) ∙ get_same held p.id (pages_with held p) in cc (some, none)
 
 -- nothing is held after a stopped scan but its page
-took_first : {A : Type 0} (before : History A) (label : ℕ) (new : Holding) (m : StoppedScan 2 before label 0 (both nothing)
-    new) → new ≡ both (with_page nothing m.page)
-took_first before label new m = by_case m.took
-  where
-    by_case : (((answer 2 nothing m.page ≡ Ok New) ⊎ (answer 2 nothing m.page ≡ Ok Complete))
-        × (new ≡ both (with_page nothing m.page)))
-        ⊎ (((answer 2 nothing m.page ≡ Ok Again)
-        ⊎ ((answer 2 nothing m.page ≡ Err scan_fault.Full) ⊎ (1 ≤ 0))) × (new ≡ both nothing)) →
-        new ≡ both (with_page nothing m.page)
-    by_case (inl took) = took.1
-    by_case (inr (inl again, same)) = (let is = first_is_new m.page in absurd (cc (again, is)))
-    by_case (inr (inr (inl full), same)) = (let is = first_is_new m.page in absurd (cc (full, is)))
-    by_case (inr (inr (inr flipped), same)) = absurd (omega arith)
+took_first : {A : Type 0} (before : History A) (desk label : ℕ) (stop : Stop) (new : Holding) →
+    DidWhatItCould 2 before (Scan desk label [] stop) (both nothing) new →
+    (p : PageView) × IsPageOfLabel before label p × (new ≡ both (with_page nothing p))
+took_first before desk label stop new (inl (content, took, is)) =
+    (took.0, took.1, is ∙ ap both took.3)
+took_first before desk label stop new (inr ((p, of_label, inl again), is)) =
+    (let first = first_is_new p in absurd (cc (again, first)))
+took_first before desk label stop new (inr ((p, of_label, inr (inl full)), is)) =
+    (let first = first_is_new p in absurd (cc (full, first)))
+took_first before desk label stop new (inr ((p, of_label, inr (inr flipped)), is)) = absurd (omega arith)
 
 -- what an ask tells as not held is not
 not_held : (o : Option Pages) → Asks {X = List ℕ} (λ given. given) o (Err NotHeld) → o ≡ None
@@ -154,11 +152,11 @@ lost_by_a_stop_is A =
     stopped : (a b : Hidden) → 0 ≡ a.0 → (h : Holding) → CanHold 2 (two b ∷ one a ∷ []) 0 h →
         finite.get h.stored 0 ≡ None → ⊥
     stopped a b own h (inl x) none =
-        let m : StoppedScan 2 (one a ∷ []) 0 0 (both nothing) h =
-        subst (λ (k : Holding). StoppedScan 2 (one a ∷ []) 0 0 k h) (at_first a x.1 x.2) x.3 in
-        let is : h ≡ both (with_page nothing m.page) = took_first (one a ∷ []) 0 h m in
-        with_page_held nothing m.page 0 (label_is a _ own m.of_label.has_left)
-        (ap (λ (k : Holding). finite.get k.stored 0) (sym is) ∙ none)
+        let took = took_first (one a ∷ []) 0 0 (stops.InSave kept.New) h
+        (subst (λ (k : Holding). DidWhatItCould 2 (one a ∷ []) (Scan 0 0 [] (stops.InSave kept.New)) k h)
+        (at_first a x.1 x.2) x.3) in
+        with_page_held nothing took.0 0 (label_is a _ own took.1.has_left)
+        (ap (λ (k : Holding). finite.get k.stored 0) (sym took.2) ∙ none)
     stopped a b own h (inr x) none = x.0 refl
 
     restarted : (a b c : Hidden) → 0 ≡ a.0 → (h : Holding) → CanHold 2 (three c ∷ two b ∷ one a ∷ []) 0 h →
@@ -205,7 +203,8 @@ held_though_forgotten_is A =
     forgotten : (a b c : Hidden) (h : Holding) → CanHold 2 (three c ∷ two b ∷ one a ∷ []) 0 h →
         finite.get h.stored 0 ≡ None
     forgotten a b c h (inl x) = elim x.3 [
-      | inl let_go ↦ ap (λ (k : Holding). finite.get k.stored 0) let_go.1 ∙ get_removed x.1.shown 0
+      | inl let_go ↦ ap (λ (k : Holding). finite.get k.stored 0) let_go.2 ∙
+          ap (λ (d : Documents). finite.get d 0) let_go.1.1 ∙ get_removed x.1.shown 0
       | inr none ↦ ap (λ (k : Holding). finite.get k.stored 0) none.1 ∙
           ap (λ (d : Documents). finite.get d 0) (scanned a b x.1 x.2) ∙ none.0
     ]

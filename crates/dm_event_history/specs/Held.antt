@@ -1,5 +1,5 @@
--- What a desk shows and what its set holds, entry by entry, and so what it answers: what `accept`, `document`, `forget`,
--- `export` and `import` of `dm_assembly_desk` do with such documents.
+-- What a desk shows and what its set holds, entry by entry, and so what it answers: what `accept`, `document`,
+-- `forget`, `export` and `import` of `dm_assembly_desk` do with such documents.
 use Rattle.std.specs.Prelude.{◌≡◌, ◌≢◌, ◌⊎◌, ◌+◌, ◌≤◌, ℕ, nat_le, false, ◌&&◌, not, if◌then◌else◌, MatchBool, Some, None, IsSome, List, [], ◌∷◌, length, slice_get, Ok, Err}
 use Rattle.std.specs.FinMap as map
 use Rattle.dm_finder_frame.specs.Grids.{GridView}
@@ -61,7 +61,7 @@ pub record ArePagesOfExport {A : Type 0} (before : History A) (export id : ℕ) 
   pub printed : docs before id ≡ Some cut
   pub each : (m : ℕ) (bytes : List ℕ) → page pages m ≡ Some bytes → IsPart cut m bytes
 
--- ---- what is held
+-- ---- holdings
 
 -- what a desk shows, and what its set holds: the same, unless a save failed since its last restart
 pub record Holding : Type 0 where
@@ -80,38 +80,56 @@ abbrev pub with_answered : Kind → Documents → Documents → Documents
 with_answered Again old new = old
 with_answered kind old new = new
 
+-- ---- what calls save
+
+-- What is stored once a call saved, at a desk that shows these documents. A scan adds the page of its label, which
+-- isn't shown, if there is room; a forget takes away a document that is shown; an import adds pages of its export, of
+-- which one isn't shown, if there is room.
+abbrev pub WouldSave : {A : Type 0} → ℕ → History A → Event A → Documents → Documents → Type 0
+WouldSave capacity before (Scan desk label flips stop) shown content =
+    (page : PageView) × IsPageOfLabel before label page × NeedsSave (answer capacity shown page)
+    × (content ≡ with_page shown page)
+WouldSave capacity before (Forget desk id stop) shown content =
+    IsSome (map.get shown id) × (content ≡ map.remove shown id)
+WouldSave capacity before (Import desk export stop) shown content =
+    (id : ℕ) × (pages : Pages) × ArePagesOfExport before export id pages
+    × NeedsSave (import_answer capacity shown id pages) × (content ≡ with_file shown id pages)
+WouldSave capacity before event shown content = ⊥
+
+-- A call has nothing to save, or there is no room. If a module was flipped, the label may have been refused instead.
+abbrev pub WouldNotSave : {A : Type 0} → ℕ → History A → Event A → Documents → Type 0
+WouldNotSave capacity before (Scan desk label flips stop) shown =
+    (page : PageView) × IsPageOfLabel before label page
+    × ((answer capacity shown page ≡ Ok Again)
+    ⊎ ((answer capacity shown page ≡ Err scan_fault.Full) ⊎ (1 ≤ length flips)))
+WouldNotSave capacity before (Forget desk id stop) shown = map.get shown id ≡ None
+WouldNotSave capacity before (Import desk export stop) shown =
+    (id : ℕ) × (pages : Pages) × ArePagesOfExport before export id pages
+    × ((import_answer capacity shown id pages ≡ Ok Again)
+    ⊎ (import_answer capacity shown id pages ≡ Err import_fault.Full))
+WouldNotSave capacity before event shown = ⊥
+
+-- a call did what it could: it saved, or it had nothing to save
+abbrev pub DidWhatItCould : {A : Type 0} → ℕ → History A → Event A → Holding → Holding → Type 0
+DidWhatItCould capacity before event old new =
+    ((content : Documents) × WouldSave capacity before event old.shown content × (new ≡ both content))
+    ⊎ (WouldNotSave capacity before event old.shown × (new ≡ both old.stored))
+
+-- its save failed and left the new content, which the desk doesn't show
+abbrev pub StoresUnshown : {A : Type 0} → ℕ → History A → Event A → Holding → Holding → Type 0
+StoresUnshown capacity before event old new =
+    (content : Documents) × WouldSave capacity before event old.shown content × (new ≡ with_stored old content)
+
 -- what a stopped call did: the first if it came past its save at a desk that had not failed, else the second
 abbrev pub WhenStopped : {A : Type 0} → History A → ℕ → Stop → Type 0 → Type 0 → Type 0
 WhenStopped before desk stop Saved Unsaved =
     MatchBool (stops_after_save (Some stop) && not (is_failed before (DeskAt desk))) Saved Unsaved
 
--- What a stopped scan did: it took the page, which was not held; or it didn't, as the page was held, the desk had no room
--- for its document, or a module was flipped, for which the label may have been refused.
-pub record StoppedScan {A : Type 0} (capacity : ℕ) (before : History A) (label flip_count : ℕ) (old new : Holding)
-    : Type 0 where
-  pub page : PageView
-  pub of_label : IsPageOfLabel before label page
-  pub took :
-      (NeedsSave (answer capacity old.shown page) × (new ≡ both (with_page old.shown page)))
-      ⊎ (((answer capacity old.shown page ≡ Ok Again)
-      ⊎ ((answer capacity old.shown page ≡ Err scan_fault.Full) ⊎ (1 ≤ flip_count)))
-      × (new ≡ both old.stored))
+-- ---- what is held then
 
--- what a stopped import did: it took pages that were not held, or all were held, or the desk had no room
-pub record StoppedImport {A : Type 0} (capacity : ℕ) (before : History A) (export : ℕ) (old new : Holding)
-    : Type 0 where
-  pub id : ℕ
-  pub pages : Pages
-  pub of_export : ArePagesOfExport before export id pages
-  pub took :
-      (NeedsSave (import_answer capacity old.shown id pages) × (new ≡ both (with_file old.shown id pages)))
-      ⊎ (((import_answer capacity old.shown id pages ≡ Ok Again)
-      ⊎ (import_answer capacity old.shown id pages ≡ Err import_fault.Full))
-      × (new ≡ both old.stored))
-
--- What one event does to what a desk holds, by its reply. A scan that is refused may have been of any page, if a module
--- was flipped, since then it need not be honest; and an import of pages with any bytes, since its export may be tainted.
--- A scan that is refused for memory, or for its label, is not looked into.
+-- What one event does to what a desk holds, by its reply. If a module was flipped, a scan need not be honest, so one
+-- that is refused may have been of any page; and an export may be tainted, so an import that is refused may have been of
+-- pages with any bytes. A scan that is refused for memory, or for its label, is not looked into.
 abbrev pub ChangesHolding : {A : Type 0} → ℕ → History A → Event A → Reply A → Holding → Holding → Type 0
 ChangesHolding capacity before (Scan desk label flips stop) (Scanned accepted) old new =
     (page : PageView) × IsPageOfLabel before label page × NamesPage page accepted
@@ -124,12 +142,11 @@ ChangesHolding capacity before (Scan desk label flips stop) (ScanRefused scan_fa
     (page : PageView) × MayBeRead before label flips page
     × (answer capacity old.shown page ≡ Err scan_fault.Full) × (new ≡ old)
 ChangesHolding capacity before (Scan desk label flips stop) (ScanRefused scan_fault.Save) old new =
-    (page : PageView) × NeedsSave (answer capacity old.shown page)
-    × MatchBool (leaves_new (Some stop))
-    (IsPageOfLabel before label page × (new ≡ with_stored old (with_page old.shown page)))
-    (MayBeRead before label flips page × (new ≡ old))
+    MatchBool (leaves_new (Some stop))
+    (StoresUnshown capacity before (Scan desk label flips stop) old new)
+    ((page : PageView) × MayBeRead before label flips page × NeedsSave (answer capacity old.shown page) × (new ≡ old))
 ChangesHolding capacity before (Scan desk label flips stop) Stopped old new =
-    WhenStopped before desk stop (StoppedScan capacity before label (length flips) old new)
+    WhenStopped before desk stop (DidWhatItCould capacity before (Scan desk label flips stop) old new)
     (new ≡ both old.stored)
 ChangesHolding capacity before (Forget desk id stop) Forgotten old new =
     IsSome (map.get old.shown id) × (new ≡ both (map.remove old.shown id))
@@ -138,14 +155,13 @@ ChangesHolding capacity before (Forget desk id stop) (ForgetRefused forget_fault
 ChangesHolding capacity before (Forget desk id stop) (ForgetRefused forget_fault.Memory) old new =
     IsSome (map.get old.shown id) × (new ≡ old)
 ChangesHolding capacity before (Forget desk id stop) (ForgetRefused forget_fault.Save) old new =
-    IsSome (map.get old.shown id)
-    × MatchBool (leaves_new (Some stop)) (new ≡ with_stored old (map.remove old.shown id)) (new ≡ old)
+    MatchBool (leaves_new (Some stop))
+    (StoresUnshown capacity before (Forget desk id stop) old new)
+    (IsSome (map.get old.shown id) × (new ≡ old))
 ChangesHolding capacity before (Forget desk id stop) Memory old new =
     (is_failed before (DeskAt desk) ≡ false) × IsSome (map.get old.shown id) × (new ≡ old)
 ChangesHolding capacity before (Forget desk id stop) Stopped old new =
-    WhenStopped before desk stop
-    ((IsSome (map.get old.shown id) × (new ≡ both (map.remove old.shown id)))
-    ⊎ ((map.get old.shown id ≡ None) × (new ≡ both old.stored)))
+    WhenStopped before desk stop (DidWhatItCould capacity before (Forget desk id stop) old new)
     (new ≡ both old.stored)
 ChangesHolding capacity before (Import desk export stop) (Imported imported) old new =
     (id : ℕ) × (pages : Pages) × ArePagesOfExport before export id pages × NamesFile old.shown id pages imported
@@ -161,15 +177,16 @@ ChangesHolding capacity before (Import desk export stop) (ImportRefused import_f
     (id : ℕ) × (pages : Pages) × AreAsTold before export id pages
     × NeedsSave (import_answer capacity old.shown id pages) × (new ≡ old)
 ChangesHolding capacity before (Import desk export stop) (ImportRefused import_fault.Save) old new =
-    (id : ℕ) × (pages : Pages) × NeedsSave (import_answer capacity old.shown id pages)
-    × MatchBool (leaves_new (Some stop))
-    (ArePagesOfExport before export id pages × (new ≡ with_stored old (with_file old.shown id pages)))
-    (AreAsTold before export id pages × (new ≡ old))
+    MatchBool (leaves_new (Some stop))
+    (StoresUnshown capacity before (Import desk export stop) old new)
+    ((id : ℕ) × (pages : Pages) × AreAsTold before export id pages
+    × NeedsSave (import_answer capacity old.shown id pages) × (new ≡ old))
 ChangesHolding capacity before (Import desk export stop) Memory old new =
     (is_failed before (DeskAt desk) ≡ false) × (id : ℕ) × (pages : Pages) × AreAsTold before export id pages
     × NeedsSave (import_answer capacity old.shown id pages) × (new ≡ old)
 ChangesHolding capacity before (Import desk export stop) Stopped old new =
-    WhenStopped before desk stop (StoppedImport capacity before export old new) (new ≡ both old.stored)
+    WhenStopped before desk stop (DidWhatItCould capacity before (Import desk export stop) old new)
+    (new ≡ both old.stored)
 ChangesHolding capacity before (Ask desk id) (Document bytes) old new =
     Asks (λ given. given) (map.get old.shown id) (Ok bytes) × (new ≡ old)
 ChangesHolding capacity before (Ask desk id) (AskRefused fault) old new =

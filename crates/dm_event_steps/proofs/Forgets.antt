@@ -1,6 +1,6 @@
 -- A forget at a running desk gives an entry that fits the history.
 use Rattle.std.proofs.Common.{◌≡◌, ◌≢◌, inl, inr, ◌<◌, ◌≤◌, ℕ, zero, suc, Bool, true, false, Option, Some, None, Result, Ok, Err, List, [], ◌∷◌, length, IsSome, refl, ap, sym, ◌∙◌, subst}
-use Rattle.std.specs.Prelude.{unwrap_or, option_map, MatchBool}
+use Rattle.std.specs.Prelude.{unwrap_or, option_map}
 use Rattle.std.specs.FinMap as finite
 use Rattle.dm_finder_frame.specs.Grids.{GridView}
 use Rattle.dm_store.specs.declared.fuse.Kept.{Kept}
@@ -26,7 +26,7 @@ use Rattle.dm_event_history.specs.declared.stop.Stop.TheVariants as stops
 use Rattle.dm_event_history.specs.Actors.{DeskAt}
 use Rattle.dm_event_history.specs.History.{Entry, History}
 use Rattle.dm_event_history.specs.Running.{failed_after, is_failed, IsOfFailed}
-use Rattle.dm_event_history.specs.Saving.{may_save, stops_after_save, leaves_new}
+use Rattle.dm_event_history.specs.Saving.{may_save, stops_after_save}
 use Rattle.dm_event_history.specs.Holding.{Forgets, IsPossiblyHeld, known_of}
 use Rattle.dm_event_history.specs.Legal.{IsForgetRefused}
 use Rattle.dm_event_history.specs.Tainted.{AtDesk}
@@ -37,7 +37,7 @@ use Rattle.dm_event_steps.specs.declared.actor.DeskState.{DeskState}
 use Rattle.dm_event_steps.specs.declared.actor.DeskState.TheVariants as desks
 use Rattle.dm_event_steps.specs.Acts.{IsCalled, next_save_of}
 use Rattle.dm_event_steps.specs.Gathered.{IsGathered}
-use Rattle.dm_event_history.specs.Held.{both, with_stored, ChangesHolding}
+use Rattle.dm_event_history.specs.Held.{both, ChangesHolding}
 use Rattle.dm_event_steps.specs.DeskStands.{holding_of, SetStands, DeskRuns}
 use Rattle.dm_event_steps.specs.DeskActs.{ForgetsOne, desk_planned, StopsDesk, CallActs, forget_reply}
 use Rattle.dm_event_steps.specs.Goes.{quiet, DeskGoes}
@@ -187,12 +187,12 @@ running_goes {A} ranges capacities grids h d id capacity stop view mid
     (by_kept k.0 (subst (λ (t : Stop). forgetting.FailsToLetGo id (desk_planned view (next_save_of t)) mid) k.1 acts))
   where
     -- what is held then
-    kept_does : (k : Kept) → MatchBool (leaves_new (Some (SaveFault k)))
-        (holding_of view (kept_held k view.held (finite.remove view.held id)) ≡
-        with_stored (holding_of view s.stored) (finite.remove view.held id))
-        (holding_of view (kept_held k view.held (finite.remove view.held id)) ≡ holding_of view s.stored)
-    kept_does kept.Old = ap (holding_of view) (s.shows was)
-    kept_does kept.New = refl
+    kept_does : (k : Kept) → IsSome (finite.get view.held id) →
+        (let reply : Reply A = ForgetRefused forget_fault.Save in
+        ChangesHolding capacity h (Forget d id (SaveFault k)) reply (holding_of view s.stored)
+        (holding_of view (kept_held k view.held (finite.remove view.held id))))
+    kept_does kept.Old held = (held, ap (holding_of view) (s.shows was))
+    kept_does kept.New held = (finite.remove view.held id, (held, refl), refl)
 
     by_kept : (k : Kept) → forgetting.FailsToLetGo id (desk_planned view (next_save_of (SaveFault k))) mid →
         DeskGoes ranges capacities grids h (Forget d id (SaveFault k)) (ForgetRefused forget_fault.Save) d capacity
@@ -209,7 +209,7 @@ running_goes {A} ranges capacities grids h d id capacity stop view mid
         refl refl (gathered_kept grids h d id capacity k view s was)
         (λ honest. gathered_keeps (quiet event reply) h d view.held (λ x. none_leaves event reply _ x)
         (λ i m t. absurd t) (λ i x. x) (s.gathered honest.1))
-        (λ honest. (f.was_held, kept_does k)) (λ honest. tt) (λ fair. tt)
+        (λ honest. kept_does k f.was_held) (λ honest. tt) (λ fair. tt)
 running_goes ranges capacities grids h d id capacity stop view mid
     (Err forget_fault.Failed) there room s called order was acts = absurd acts
 
@@ -294,7 +294,7 @@ stored_stopped {A} grids h d id capacity stop view mid given s may had f = by_fa
               (subst (λ (c : ℕ). finite.len (finite.remove view.held id) ≤ c) s.capacity_is
               (few_remove view.held id view.capacity f.before.few))
               (gathered_less grids h d id capacity stop Stopped view s may was (λ other away x. x)),
-          saved_when h d stop _ _ may (sym s.failed ∙ was) (inl (x.was_held, refl)),
+          saved_when h d stop _ _ may (sym s.failed ∙ was) (inl (finite.remove view.held id, (x.was_held, refl), refl)),
         )
     by_given (Err forget_fault.NotHeld) was had x =
         same x.1 (saved_when h d stop _ _ may (sym s.failed ∙ was) (inr (x.0, refl)))

@@ -437,17 +437,20 @@ kept_does : {A : Type 0} (capacities : List ℕ) (grids : List GridView) (h : Hi
 kept_does capacities grids h d number capacity kept.Old view export s needs was honest = (
   export.id,
   s.shows.pages,
+  as_told capacities grids h d number capacity view export s,
   subst (λ (c : ℕ). NeedsSave (import_answer c view.held export.id s.shows.pages)) s.runs.capacity_is needs,
-  (as_told capacities grids h d number capacity view export s, ap (holding_of view) (s.runs.shows was)),
+  ap (holding_of view) (s.runs.shows was),
 )
 kept_does capacities grids h d number capacity kept.New view export s needs was honest = (
-  export.id,
-  s.shows.pages,
-  subst (λ (c : ℕ). NeedsSave (import_answer c view.held export.id s.shows.pages)) s.runs.capacity_is needs,
+  with_file view.held export.id s.shows.pages,
   (
+    export.id,
+    s.shows.pages,
     pages_of_export capacities grids h d number capacity view export s (honest.0 refl refl (sym s.runs.failed ∙ was)),
+    subst (λ (c : ℕ). NeedsSave (import_answer c view.held export.id s.shows.pages)) s.runs.capacity_is needs,
     refl,
   ),
+  refl,
 )
 
 few_kept : (k : Kept) (view : DeskView) (id : ℕ) (pages : Pages) → finite.len view.held ≤ view.capacity →
@@ -650,16 +653,16 @@ stored_stopped {A} capacities grids h d number capacity stop view mid export giv
         ⊎ (import_answer view.capacity view.held export.id s.shows.pages ≡ Err import_fault.Full) →
         (let reply : Reply A = Stopped in IsClean grids (quiet (Import d number stop) reply ∷ h) (AtDesk d) →
         ChangesHolding capacity h (Import d number stop) reply (holding_of view s.runs.stored) (both s.runs.stored))
-    kept_as was why honest = saved_when h d stop _ _ may (sym s.runs.failed ∙ was) (record {
-      id = export.id;
-      pages = s.shows.pages;
-      of_export = pages_of_export capacities grids h d number capacity view export s (fair was honest);
-      took = inr (
+    kept_as was why honest = saved_when h d stop _ _ may (sym s.runs.failed ∙ was) (inr (
+      (
+        export.id,
+        s.shows.pages,
+        pages_of_export capacities grids h d number capacity view export s (fair was honest),
         subst (λ (c : ℕ). (import_answer c view.held export.id s.shows.pages ≡ Ok Again)
             ⊎ (import_answer c view.held export.id s.shows.pages ≡ Err import_fault.Full)) s.runs.capacity_is why,
-        refl,
-      );
-    })
+      ),
+      refl,
+    ))
 
     took : (kind : Kind) → NeedsSave (import_answer view.capacity view.held export.id s.shows.pages) →
         import_answer view.capacity view.held export.id s.shows.pages ≡ Ok kind →
@@ -674,16 +677,18 @@ stored_stopped {A} capacities grids h d number capacity stop view mid export giv
           (few_with view.capacity view.held export.id s.shows.pages kind f.before.few is))
           (gathered_file capacities grids h d number capacity stop Stopped view export kind s is may
           (λ other m t. absurd t) (λ i x. x) (sym s.runs.failed ∙ keeps.holding.was_running)),
-      λ honest. saved_when h d stop _ _ may (sym s.runs.failed ∙ keeps.holding.was_running) (record {
-        id = export.id;
-        pages = s.shows.pages;
-        of_export = pages_of_export capacities grids h d number capacity view export s
-            (fair keeps.holding.was_running honest);
-        took = inl (
+      λ honest. saved_when h d stop _ _ may (sym s.runs.failed ∙ keeps.holding.was_running) (inl (
+        with_file view.held export.id s.shows.pages,
+        (
+          export.id,
+          s.shows.pages,
+          pages_of_export capacities grids h d number capacity view export s
+              (fair keeps.holding.was_running honest),
           subst (λ (c : ℕ). NeedsSave (import_answer c view.held export.id s.shows.pages)) s.runs.capacity_is needs,
           refl,
-        );
-      }),
+        ),
+        refl,
+      )),
     )
 
     by_kind : (kind : Kind) → view.is_failed ≡ false → import_answer view.capacity view.held export.id s.shows.pages ≡ Ok kind →

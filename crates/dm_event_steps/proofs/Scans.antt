@@ -494,21 +494,21 @@ kept_does : {A : Type 0} (capacities : List ℕ) (grids : List GridView) (h : Hi
     (holding_of view (kept_held k view.held (with_page view.held opened.page))))
 kept_does capacities grids h d number capacity flips kept.Old view label opened s opens needs was honest = (
   opened.page,
+  page_read capacities grids h d number capacity flips view label opened s opens,
   subst (λ (c : ℕ). NeedsSave (answer c view.held opened.page)) s.runs.capacity_is needs,
-  (
-    page_read capacities grids h d number capacity flips view label opened s opens,
-    ap (λ (x : Documents). as_holding view.held x) (s.runs.shows was),
-  ),
+  ap (λ (x : Documents). as_holding view.held x) (s.runs.shows was),
 )
 kept_does capacities grids h d number capacity flips kept.New view label opened s opens needs was honest = (
-  opened.page,
-  subst (λ (c : ℕ). NeedsSave (answer c view.held opened.page)) s.runs.capacity_is needs,
+  with_page view.held opened.page,
   (
+    opened.page,
     page_of_label h number label opened.page s.shows.document s.named
         (fair_page grids h number flips label opened s.left s.shows opens
         (honest.0 refl refl (sym s.runs.failed ∙ was))),
+    subst (λ (c : ℕ). NeedsSave (answer c view.held opened.page)) s.runs.capacity_is needs,
     refl,
   ),
+  refl,
 )
 
 few_kept : (k : Kept) (view : DeskView) (p : PageView) → finite.len view.held ≤ view.capacity →
@@ -828,16 +828,16 @@ stored_stopped {A} capacities grids h d number capacity flips stop view mid labe
         (let reply : Reply A = Stopped in IsClean grids (quiet event reply ∷ h) (AtDesk d) →
         ChangesHolding capacity h event reply (holding_of view s.runs.stored) (both s.runs.stored))
     kept_as opened opens was why honest =
-        saved_when h d stop _ _ may (sym s.runs.failed ∙ was) (record {
-          page = opened.page;
-          of_label = page_of_label h number label opened.page s.shows.document s.named (fair opened opens was honest);
-          took = inr (
+        saved_when h d stop _ _ may (sym s.runs.failed ∙ was) (inr (
+          (
+            opened.page,
+            page_of_label h number label opened.page s.shows.document s.named (fair opened opens was honest),
             subst (λ (c : ℕ). (answer c view.held opened.page ≡ Ok Again)
                 ⊎ ((answer c view.held opened.page ≡ Err scan_fault.Full) ⊎ (1 ≤ length flips))) s.runs.capacity_is
                 (elim why [ inl again ↦ inl again | inr full ↦ inr (inl full) ]),
-            refl,
-          );
-        })
+          ),
+          refl,
+        ))
 
     took : (opened : Opened A) (kind : Kind) → LabelOpens (flipped label.grid flips) (Ok opened) →
         view.is_failed ≡ false → kind ≢ Again →
@@ -854,15 +854,16 @@ stored_stopped {A} capacities grids h d number capacity flips stop view mid labe
               (gathered_page capacities grids h d number capacity flips stop Stopped view label opened kind s opens
               other answered may
               (λ id m t. absurd t) (λ id x. x) (sym s.runs.failed ∙ keeps.holding.was_running)),
-          λ honest. saved_when h d stop _ _ may (sym s.runs.failed ∙ was) (record {
-            page = opened.page;
-            of_label = page_of_label h number label opened.page s.shows.document s.named
-                (fair opened opens was honest);
-            took = inl (
+          λ honest. saved_when h d stop _ _ may (sym s.runs.failed ∙ was) (inl (
+            with_page view.held opened.page,
+            (
+              opened.page,
+              page_of_label h number label opened.page s.shows.document s.named (fair opened opens was honest),
               subst (λ (c : ℕ). NeedsSave (answer c view.held opened.page)) s.runs.capacity_is needs,
               refl,
-            );
-          }),
+            ),
+            refl,
+          )),
         )
 
     by_kind : (opened : Opened A) (kind : Kind) → LabelOpens (flipped label.grid flips) (Ok opened) →
@@ -923,12 +924,14 @@ stored_stopped {A} capacities grids h d number capacity flips stop view mid labe
         (let reply : Reply A = Stopped in IsClean grids (quiet event reply ∷ h) (AtDesk d) →
         ChangesHolding capacity h event reply (holding_of view s.runs.stored) (both s.runs.stored))
     unopened fault opens was is honest =
-        saved_when h d stop _ _ may (sym s.runs.failed ∙ was) (record {
-          page = its_page;
-          of_label = page_of_label h number label its_page s.shows.document s.named
-              (is_labels h label its_page s.shows refl);
-          took = inr (inr (inr (by_frame fault opens was is honest)), refl);
-        })
+        saved_when h d stop _ _ may (sym s.runs.failed ∙ was) (inr (
+          (
+            its_page,
+            page_of_label h number label its_page s.shows.document s.named (is_labels h label its_page s.shows refl),
+            inr (inr (by_frame fault opens was is honest)),
+          ),
+          refl,
+        ))
 
     by_opened : (opened : Result (Opened A) LabelFault) → LabelOpens (flipped label.grid flips) opened →
         view.is_failed ≡ false → Scans opened (desk_planned view next_save.Fine) given mid →
