@@ -1,5 +1,5 @@
--- What a desk shows and what its set holds, entry by entry, and so what it answers: what `accept`, `document`,
--- `forget`, `export` and `import` of `dm_assembly_desk` do with such documents.
+-- What a desk shows, and what its set holds, after each entry of a history; and what `accept`, `document`, `forget`,
+-- `export` and `import` of `dm_assembly_desk` answer by that.
 use Rattle.std.specs.Prelude.{◌≡◌, ◌≢◌, ◌⊎◌, ◌+◌, ◌≤◌, ℕ, nat_le, false, ◌&&◌, not, if◌then◌else◌, MatchBool, Some, None, IsSome, List, [], ◌∷◌, length, slice_get, Ok, Err}
 use Rattle.std.specs.FinMap as map
 use Rattle.dm_finder_frame.specs.Grids.{GridView}
@@ -41,12 +41,14 @@ pub record IsPageOfLabel {A : Type 0} (before : History A) (label : ℕ) (page :
   pub printed : docs before page.id ≡ Some cut
   pub part : IsPart cut page.m page.bytes
 
--- the page is that of the label of this number, if no module is flipped; else it may be any
+-- the page is that of the label of this number, if no module is flipped; else it may be any, even one that no label
+-- carries
 abbrev pub MayBeRead : {A : Type 0} → History A → ℕ → List (ℕ × ℕ) → PageView → Type 0
 MayBeRead before label [] page = IsPageOfLabel before label page
 MayBeRead before label flips page = Unit {0}
 
--- the pages are as many, and just those, as the export of this number was told with
+-- the document, its number of pages and the mask are those that the export of this number was told with; the bytes may
+-- be any
 pub record AreAsTold {A : Type 0} (before : History A) (export id : ℕ) (pages : Pages) : Type 0 where
   pub name : ExportName
   pub has_left : slice_get (exports before) export ≡ Some name
@@ -54,7 +56,7 @@ pub record AreAsTold {A : Type 0} (before : History A) (export id : ℕ) (pages 
   pub count_is : name.count ≡ length pages
   pub mask_is : name.mask ≡ mask pages
 
--- and each is a part of the document that was printed
+-- the same, and each page is its part of the document that was printed
 pub record ArePagesOfExport {A : Type 0} (before : History A) (export id : ℕ) (pages : Pages) : Type 0 where
   pub told : AreAsTold before export id pages
   pub cut : CutDocument
@@ -63,7 +65,8 @@ pub record ArePagesOfExport {A : Type 0} (before : History A) (export id : ℕ) 
 
 -- ---- holdings
 
--- what a desk shows, and what its set holds: the same, unless a save failed since its last restart
+-- What a desk shows, and what its set holds: the same, unless a save failed since its last restart. What a desk that is
+-- down shows is not read.
 pub record Holding : Type 0 where
   pub shown : Documents
   pub stored : Documents
@@ -120,16 +123,19 @@ abbrev pub StoresUnshown : {A : Type 0} → ℕ → History A → Event A → Ho
 StoresUnshown capacity before event old new =
     (content : Documents) × WouldSave capacity before event old.shown content × (new ≡ with_stored old content)
 
--- what a stopped call did: the first if it came past its save at a desk that had not failed, else the second
+-- what a stopped call did: the first, if it was stopped after its save, or in it with the new content kept, at a desk
+-- that had not failed; else the second
 abbrev pub WhenStopped : {A : Type 0} → History A → ℕ → Stop → Type 0 → Type 0 → Type 0
 WhenStopped before desk stop Saved Unsaved =
     MatchBool (stops_after_save (Some stop) && not (is_failed before (DeskAt desk))) Saved Unsaved
 
 -- ---- what is held then
 
--- What one event does to what a desk holds, by its reply. If a module was flipped, a scan need not be honest, so one
--- that is refused may have been of any page; and an export may be tainted, so an import that is refused may have been of
--- pages with any bytes. A scan that is refused for memory, or for its label, is not looked into.
+-- What one event does to what a desk holds, by its reply. If a scan is refused of which a module was flipped, it may
+-- have been of any page, since it need not be honest. If an import is refused, its pages may have any bytes, since its
+-- export may be tainted. But if a failed save left the new content, the page is that of the label, and the pages are
+-- those that were printed, since else the desk is tainted. Of a scan that is refused for memory, or for its label,
+-- nothing is asked.
 abbrev pub ChangesHolding : {A : Type 0} → ℕ → History A → Event A → Reply A → Holding → Holding → Type 0
 ChangesHolding capacity before (Scan desk label flips stop) (Scanned accepted) old new =
     (page : PageView) × IsPageOfLabel before label page × NamesPage page accepted
@@ -218,7 +224,7 @@ DesksCanHold grids capacities (entry ∷ before) =
     (holding : Holding) × CanHold capacity (entry ∷ before) desk holding)
     × DesksCanHold grids capacities before
 
--- the history of the first entries, that many
+-- the history of that many first entries, or of all if there are fewer
 abbrev pub first_entries : {A : Type 0} → ℕ → History A → History A
 first_entries i [] = []
 first_entries i (entry ∷ before) =
