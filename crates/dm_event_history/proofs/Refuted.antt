@@ -3,7 +3,7 @@ use Rattle.std.proofs.Common.{refl}
 use Rattle.dm_event_history.specs.declared.event.Event.TheVariants.{RestartPrinter, Ask}
 use Rattle.dm_event_history.specs.declared.reply.Reply.TheVariants.{Memory}
 use Rattle.dm_event_history.proofs.RefutedHoldings.{beyond_its_room_is, full_of_nothing_is, lost_by_a_stop_is, held_though_forgotten_is}
-use Rattle.dm_event_history.proofs.RefutedLedgers.{exhausted_at_first_is, exhausted_by_itself_is, exhausted_by_no_range_is, exhausted_by_a_refused_give_is, exhausted_though_failed_is, too_long_of_few_is, given_of_another_is, given_though_printed_is, given_again_is, printed_above_the_least_is, printed_untaken_is, printed_of_anothers_ticket_is, given_after_taken_is, printed_of_overtaken_is, given_of_overtaken_is, printed_of_old_is, printed_after_exhausted_is, given_after_exhausted_is, given_though_used_is, printed_though_given_is, refused_though_taken_is, given_of_falling_takes_is, serial_skipped_is, refused_though_free_is, refused_though_for_it_is}
+use Rattle.dm_event_history.proofs.RefutedLedgers.{exhausted_at_first_is, exhausted_by_itself_is, exhausted_by_no_range_is, exhausted_by_a_refused_give_is, exhausted_though_failed_is, too_long_of_few_is, given_of_another_is, given_though_printed_is, given_again_is, printed_above_the_least_is, printed_untaken_is, printed_of_anothers_ticket_is, given_after_taken_is, printed_of_overtaken_is, given_of_overtaken_is, printed_of_old_is, printed_after_exhausted_is, given_after_exhausted_is, given_though_used_is, printed_though_given_is, refused_though_taken_is, given_of_falling_takes_is, serial_skipped_is, refused_though_free_is, refused_though_for_it_is, given_without_memory_is, given_unsaved_is, taken_without_memory_is, taken_unsaved_is, stopped_without_memory_is}
 use Rattle.dm_event_history.specs.Unfaithful.{AreUnfaithful}
 use Rattle.dm_event_history.proofs.RefutedDocuments.{never_printed_is, wrong_document_is, another_document_is, never_scanned_is, begun_unscanned_is, exported_unscanned_is, half_printed_is, never_saved_is, two_documents_is}
 use Rattle.dm_event_history.proofs.RefutedPrints.{printed_twice_is, printed_unseen_is, told_twice_is, wrong_of_two_is, refused_unprinted_is, missing_first_label_is, missing_after_a_refused_give_is, missing_label_is, scanned_outside_is, printed_after_forgotten_is, saved_though_failed_is, printed_of_another_is, left_though_failed_is, never_left_is, printed_beyond_is}
@@ -62,6 +62,11 @@ are_unfaithful A = record {
   serial_skipped_is = serial_skipped_is A;
   refused_though_free_is = refused_though_free_is A;
   refused_though_for_it_is = refused_though_for_it_is A;
+  given_without_memory_is = given_without_memory_is A;
+  given_unsaved_is = given_unsaved_is A;
+  taken_without_memory_is = taken_without_memory_is A;
+  taken_unsaved_is = taken_unsaved_is A;
+  stopped_without_memory_is = stopped_without_memory_is A;
   left_though_failed_is = left_though_failed_is A;
   never_left_is = never_left_is A;
   saved_though_failed_is = saved_though_failed_is A;

@@ -1,6 +1,6 @@
 -- Runs that no ledger explains are refuted: a history behind one of them would have a number free where it isn't, or
 -- would save where it can't.
-use Rattle.std.proofs.Common.{◌≡◌, ◌<◌, ◌≤◌, ◌==◌, ◌&&◌, not, inl, inr, ℕ, min, Bool, true, false, Option, Some, None, List, [], ◌∷◌, length, map, slice_get, refl, ap, sym, ◌∙◌, subst, arith, ◌||◌, eq-eqb}
+use Rattle.std.proofs.Common.{◌≡◌, ◌<◌, ◌≤◌, ◌==◌, ◌&&◌, not, inl, inr, ℕ, min, Bool, true, false, Option, Some, None, List, [], ◌∷◌, length, map, slice_get, refl, ap, sym, ◌∙◌, subst, arith, ◌||◌, eq-eqb, ◌≢◌, IfSome, IsSomeAnd}
 use Rattle.std.specs.Prelude.{nat_lt, nat_le, IsSomeAnd}
 use Rattle.std.proofs.lemmas.Bool.Decides.{nat_tests}
 use Rattle.dm_check_blocks.specs.declared.size.Size.TheVariants.{Side12}
@@ -16,22 +16,22 @@ use Rattle.dm_store.specs.declared.fuse.Kept.TheVariants as kept
 use Rattle.dm_print_ledger.specs.Ranges.{is_in, is_free, free_count, TakesOut, PutsIn}
 use Rattle.dm_print_ledger.specs.Views.{TicketView, PrinterView}
 use Rattle.dm_print_ledger.specs.Printing.{CannotPrint}
-use Rattle.dm_print_ledger.specs.Moving.{CannotGive, CannotTake}
+use Rattle.dm_print_ledger.specs.Moving.{CannotGive, CannotTake, CanGive, CanTake}
 use Rattle.dm_print_ledger.proofs.RangeLaws.{one_list}
 use Rattle.dm_event_history.specs.declared.event.Event.{Event}
 use Rattle.dm_event_history.specs.declared.event.Event.TheVariants.{RestartPrinter, Give, Take}
 use Rattle.dm_event_history.specs.declared.reply.Reply.{Reply}
-use Rattle.dm_event_history.specs.declared.reply.Reply.TheVariants.{Printed, PrintRefused, Given, Restarted, Stopped}
+use Rattle.dm_event_history.specs.declared.reply.Reply.TheVariants.{Printed, PrintRefused, Given, Restarted, Stopped, GiveRefused, TakeRefused, Memory, NoSuch}
 use Rattle.dm_event_history.specs.declared.stop.Stop.{Stop}
 use Rattle.dm_event_history.specs.declared.stop.Stop.TheVariants as stops
 use Rattle.dm_event_history.specs.History.{Entry, History}
 use Rattle.dm_event_history.specs.Actors.{PrinterAt}
 use Rattle.dm_event_history.specs.Numbers.{free_at, last_serial}
-use Rattle.dm_event_history.specs.Ledgers.{GoesByLedger, IsPrinterAfter}
+use Rattle.dm_event_history.specs.Ledgers.{GoesByLedger, IsPrinterAfter, IsReason}
 use Rattle.dm_event_history.specs.Legal.{Fits, IsLegal, LetsOutStopped}
 use Rattle.dm_event_history.specs.Headline.{Batch, batch_of, batches_of, PrintsOnceBy}
 use Rattle.dm_event_history.specs.Worked.{digits, digits_cut, range, two_ranges, first_ticket}
-use Rattle.dm_event_history.specs.Unfaithful.{Run, IsFaithfulRun, other_digits, print, ticket, ticket_back, exhausted_at_first, exhausted_by, exhausted_by_itself, exhausted_by_no_range, exhausted_by_a_refused_give, exhausted_though_failed, too_long_of_few, printed_untaken, given_of_another, given_though_printed, printed_of_anothers_ticket, given_again, given_after_taken, after_overtaken, printed_of_overtaken, given_of_overtaken, printed_of_old, after_exhausted, printed_after_exhausted, given_after_exhausted, printed_above_the_least, given_though_used, printed_though_given, missing_after_a_refused_give, serial_skipped, refused_though_free, refused_though_for_it, refused_though_taken, given_of_falling_takes}
+use Rattle.dm_event_history.specs.Unfaithful.{Run, IsFaithfulRun, other_digits, print, ticket, ticket_back, exhausted_at_first, exhausted_by, exhausted_by_itself, exhausted_by_no_range, exhausted_by_a_refused_give, exhausted_though_failed, too_long_of_few, printed_untaken, given_of_another, given_though_printed, printed_of_anothers_ticket, given_again, given_after_taken, after_overtaken, printed_of_overtaken, given_of_overtaken, printed_of_old, after_exhausted, printed_after_exhausted, given_after_exhausted, printed_above_the_least, given_though_used, printed_though_given, missing_after_a_refused_give, serial_skipped, refused_though_free, refused_though_for_it, refused_though_taken, given_of_falling_takes, given_in_vain, taken_in_vain}
 use Rattle.dm_event_history.proofs.Refuting.{IsBehind}
 use Rattle.dm_event_history.proofs.Deciding.{decided, if_so, if_not, true_false, both, or_left}
 use Rattle.dm_event_history.proofs.FreeNumbers.{none_counted, free_stays, free_goes, saved_there, saved_elsewhere}
@@ -754,3 +754,55 @@ second_lets_out A batches f =
               ap (λ (o : Option Batch). Some o) (is_batch {A = A} 0 other_digits (stops.AfterLabels 2) Stopped y left),
         )
     by_hidden hidden count legal are = absurd (omega arith)
+
+-- ---- refusals for want of memory, or for a save
+
+-- numbers that another printer began with can't be given
+not_given_away : {A : Type 0} (stop : Stop) (fault : GiveFault) →
+    ((view : PrinterView) (given : List TicketView) → (let reply : Reply A = GiveRefused fault in
+    IsReason view given (Give 0 1 (range 10 12) stop) reply) → CanGive view 1 (range 10 12)) →
+    ¬ IsFaithfulRun (given_in_vain A stop fault)
+not_given_away {A} stop fault could = no_history (given_in_vain A stop fault) by_hidden
+  where
+    by_hidden : (hidden : List Hidden) → length hidden ≡ 1 → IsBehind (given_in_vain A stop fault) hidden → ⊥
+    by_hidden (x ∷ []) count legal =
+        let g = legal.0.goes 0 (record { named = refl; may_stop = refl; running = refl; there = λ n. cc (n) }) in
+        let free : false ≡ true = sym (g.is.ledger.free 10) ∙ (could g.view [] g.reason).3 10 refl in cc (free)
+    by_hidden hidden count legal = absurd (omega arith)
+
+pub given_without_memory_is : (A : Type 0) → ¬ IsFaithfulRun (given_in_vain A stops.None give_fault.Memory)
+given_without_memory_is A = not_given_away stops.None give_fault.Memory (λ view given reason. reason)
+
+pub given_unsaved_is : (A : Type 0) → ¬ IsFaithfulRun (given_in_vain A (stops.SaveFault kept.Old) give_fault.Save)
+given_unsaved_is A = not_given_away (stops.SaveFault kept.Old) give_fault.Save (λ view given reason. reason)
+
+-- nor can a ticket be taken again
+not_taken_again : {A : Type 0} (stop : Stop) (reply : Reply A) → reply ≢ NoSuch →
+    ((view : PrinterView) (given : List TicketView) → IsReason view given (Take 1 0 stop) reply →
+    IsSomeAnd (slice_get given 0) (CanTake view)) → ¬ IsFaithfulRun (taken_in_vain A stop reply)
+not_taken_again {A} stop reply there could = no_history (taken_in_vain A stop reply) by_hidden
+  where
+    by_hidden : (hidden : List Hidden) → length hidden ≡ 3 → IsBehind (taken_in_vain A stop reply) hidden → ⊥
+    by_hidden ((ai, ap, al, true) ∷ (bi, bp, bl, true) ∷ c ∷ []) count legal =
+        let g = legal.0.goes 1 (record { named = refl; may_stop = refl; running = refl; there = there }) in
+        let above : 0 < 0 = subst (λ (o : Option ℕ). IfSome o (λ last. last < 0)) (g.is.ledger.givers 0)
+        (could g.view (ticket 0 (range 0 4) ∷ []) g.reason).2 in omega arith
+    by_hidden ((ai, ap, al, false) ∷ b ∷ c ∷ []) count legal =
+        (let saved : false ≡ true = legal.1.1.0.told refl in cc (saved))
+    by_hidden ((ai, ap, al, true) ∷ (bi, bp, bl, false) ∷ c ∷ []) count legal =
+        (let saved : false ≡ true = legal.1.0.told refl in cc (saved))
+    by_hidden hidden count legal = absurd (omega arith)
+
+pub taken_without_memory_is : (A : Type 0) →
+    ¬ IsFaithfulRun (taken_in_vain A stops.None (TakeRefused take_fault.Memory))
+taken_without_memory_is A =
+    not_taken_again stops.None (TakeRefused take_fault.Memory) (λ n. cc (n)) (λ view given reason. reason)
+
+pub taken_unsaved_is : (A : Type 0) →
+    ¬ IsFaithfulRun (taken_in_vain A (stops.SaveFault kept.Old) (TakeRefused take_fault.Save))
+taken_unsaved_is A =
+    not_taken_again (stops.SaveFault kept.Old) (TakeRefused take_fault.Save) (λ n. cc (n)) (λ view given reason. reason)
+
+pub stopped_without_memory_is : (A : Type 0) → ¬ IsFaithfulRun (taken_in_vain A (stops.AfterLabels 0) Memory)
+stopped_without_memory_is A =
+    not_taken_again (stops.AfterLabels 0) Memory (λ n. cc (n)) (λ view given reason. reason)

@@ -35,6 +35,8 @@ use Rattle.dm_event_history.specs.Tainted.{Holder, AtDesk, InExport, IsTainted}
 use Rattle.dm_event_history.specs.Tickets.{TakesOnce}
 use Rattle.dm_event_history.specs.Imports.{ImportsExports}
 use Rattle.dm_event_history.specs.Worked.{digits, range, two_ranges, first_ticket}
+use Rattle.dm_print_ledger.specs.declared.fault.GiveFault.{GiveFault}
+use Rattle.dm_print_ledger.specs.declared.fault.TakeFault.TheVariants as take_fault
 
 -- events, each with its reply
 abbrev pub Run : Type 0 → Type 0
@@ -580,6 +582,16 @@ abbrev pub refused_though_for_it : (A : Type 0) → Run A
 refused_though_for_it A =
     (Give 0 1 first_ticket.range None, Given 0 first_ticket) ∷ (Take 1 0 None, TakeRefused Receiver) ∷ []
 
+-- `explained`: a give of numbers that another printer began with is refused for memory, or for its save, and not since
+-- they aren't free
+abbrev pub given_in_vain : (A : Type 0) → Stop → GiveFault → Run A
+given_in_vain A stop fault = (Give 0 1 (range 10 12) stop, GiveRefused fault) ∷ []
+
+-- `explained`: a ticket that was taken is refused for memory, or for its save, and not as it is old
+abbrev pub taken_in_vain : (A : Type 0) → Stop → Reply A → Run A
+taken_in_vain A stop reply =
+    (Give 0 1 (range 0 4) None, Given 0 (ticket 0 (range 0 4))) ∷ (Take 1 0 None, Taken) ∷ (Take 1 0 stop, reply) ∷ []
+
 -- `each`: memory is refused to a call that takes none
 abbrev pub asked_without_memory : (A : Type 0) → Run A
 asked_without_memory A = (Ask 0 0, Memory) ∷ []
@@ -874,6 +886,11 @@ pub record AreUnfaithful (A : Type 0) : Type 0 where
   pub serial_skipped_is : ¬ IsFaithfulRun (serial_skipped A)
   pub refused_though_free_is : ¬ IsFaithfulRun (refused_though_free A)
   pub refused_though_for_it_is : ¬ IsFaithfulRun (refused_though_for_it A)
+  pub given_without_memory_is : ¬ IsFaithfulRun (given_in_vain A None give_fault.Memory)
+  pub given_unsaved_is : ¬ IsFaithfulRun (given_in_vain A (SaveFault kept.Old) give_fault.Save)
+  pub taken_without_memory_is : ¬ IsFaithfulRun (taken_in_vain A None (TakeRefused take_fault.Memory))
+  pub taken_unsaved_is : ¬ IsFaithfulRun (taken_in_vain A (SaveFault kept.Old) (TakeRefused take_fault.Save))
+  pub stopped_without_memory_is : ¬ IsFaithfulRun (taken_in_vain A (AfterLabels 0) Memory)
   pub left_though_failed_is : ¬ IsFaithfulRun (left_though_failed A)
   pub never_left_is : ¬ IsFaithfulRun (never_left A)
   pub saved_though_failed_is : ¬ IsFaithfulRun (saved_though_failed A)

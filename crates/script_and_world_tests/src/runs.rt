@@ -1,8 +1,8 @@
-//! A world by calls: a run of events, and what has left it.
+//! A world by calls: a run of events, and what has left it; and why no world begins.
 
 use dm_append_label::FileId;
 use dm_event_history::Reply;
-use dm_event_world::{World, run};
+use dm_event_world::{World, WorldFault, run};
 use relay_script::read_script;
 use std::test::Fail;
 
@@ -57,5 +57,21 @@ fn a_run_leaves_labels_tickets_and_exports(rt: HostRuntime) -> Result<(), Fail> 
             .is_some_and(|ticket| ticket.bytes() == [0, 0, 0, 0, 0, 1, 0, 5, 0, 9])
     );
     assert!(rt; world.exports() == 1);
+    Ok(())
+}
+
+#[test]
+fn world_faults_say_what_is_wrong(rt: HostRuntime) -> Result<(), Fail> {
+    let texts = format!(in rt.alloc();
+        "{}\n{}\n{}\n{}",
+        WorldFault::Range,
+        WorldFault::Overlap,
+        WorldFault::Capacity,
+        WorldFault::Memory,
+    )?;
+    assert!(rt;
+        texts.as_str()
+            == "a range is invalid\ntwo ranges share a number\nthere is room for 1 to 1,024 documents\nout of memory"
+    );
     Ok(())
 }
