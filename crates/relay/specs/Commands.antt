@@ -10,7 +10,7 @@ use Rattle.relay.specs.Table.{group_of_command}
 use Rattle.relay.specs.declared.table.Group.{Group}
 use Rattle.relay.specs.declared.table.Group.TheVariants as groups
 use Rattle.relay_streams.specs.Streams.{TakesPart}
-use Rattle.relay_shared.specs.Surroundings.{StreamsView}
+use Rattle.relay_shared.specs.Surroundings.{LeavesErrors, StreamsView}
 use Rattle.relay_shared.specs.declared.document.TheConstants.{DOCUMENT_BYTES}
 use Rattle.relay_desk_commands.specs.declared.import.TheConstants.{IMPORT_BYTES}
 use Rattle.relay_world_command.specs.declared.world.TheConstants.{INPUT_BYTES}
@@ -34,10 +34,6 @@ pub record Surroundings : Type 0 where
   pub saved : Saved
   pub set : SavedSet
   pub streams : StreamsView
-
--- nothing was written to the standard error
-abbrev pub LeavesErrors : StreamsView → StreamsView → Type 0
-LeavesErrors old new = new.errors ≡ old.errors
 
 -- at most this many bytes were read
 abbrev pub ReadsPart : ℕ → StreamsView → StreamsView → Type 0

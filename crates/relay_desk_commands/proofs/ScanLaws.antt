@@ -18,7 +18,7 @@ use Rattle.dm_assembly_desk.specs.declared.fault.ScanFault.TheVariants as scans
 use Rattle.dm_assembly_desk.specs.declared.reply.Accepted.{Accepted}
 use Rattle.dm_assembly_desk.specs.declared.reply.Kind.{Kind}
 use Rattle.dm_assembly_desk.specs.declared.reply.Kind.TheVariants.{New, Again, Complete}
-use Rattle.relay_streams.specs.Refusal.{refused_line}
+use Rattle.relay_shared.specs.EachImage.{refusal_of}
 use Rattle.relay_desk_commands.specs.Scan.{ScansPicture}
 use Rattle.relay_desk_commands.specs.Scan.ScansPicture.{shape, memory}
 
@@ -86,6 +86,6 @@ saved_or_failed opened fault old new false running saved other given =
 
 -- why an image has no grid
 pub no_grid : {A : Type 0} {p : Picture} {before : DeskView} (fault : ShapeFault) → (fault ≡ Shape → HasShape p → ⊥)
-    → (fault ≡ Memory → HasShape p) → ScansPicture A p before (refused_line (shape_fault_name fault)) true before
+    → (fault ≡ Memory → HasShape p) → ScansPicture A p before (refusal_of (shape_fault_name fault)) before
 no_grid Shape none there = shape (none refl)
 no_grid Memory none there = memory (there refl)

@@ -27,9 +27,9 @@ use Rattle.dm_assembly_desk.specs.declared.reply.Accepted.{Accepted}
 use Rattle.dm_assembly_desk.specs.declared.reply.Imported.{Imported}
 use Rattle.dm_assembly_desk.specs.declared.reply.Kind.{Kind}
 use Rattle.dm_assembly_desk.specs.declared.reply.Kind.TheVariants.{New, Again, Complete}
-use Rattle.relay_streams.specs.Refusal.{refused_line}
-use Rattle.relay_streams.specs.Streams.{InputView, OutputView}
-use Rattle.relay_shared.specs.EachImage.{AnswersImages, Comes, EndsImages, TellsImages}
+use Rattle.relay_streams.specs.Streams.{OutputView}
+use Rattle.relay_shared.specs.EachImage.{AnswersImages, Comes, EndsImages, Progress, Said, SoFar, Step, Taken, TellsImages}
+use Rattle.relay_shared.specs.EachImage.{refusal_of}
 use Rattle.relay_shared.specs.EachImage.AnswersImages.{none as no_images, another}
 use Rattle.relay_shared.specs.EachImage.Comes.{image, unread, too_many}
 use Rattle.relay_shared.specs.EachImage.EndsImages.{no_image, last_line}
@@ -121,8 +121,8 @@ page_refused p before (faults.Label fault) after running a failed = absurd a
 
 module _ (A : Type 0) where
   -- the line of a save that failed, which is one of a refusal
-  abbrev IsSaveLine : List ℕ → Bool → Type 0
-  IsSaveLine line is_refused = (line ≡ refused_line (scan_fault_name faults.Save)) × (is_refused ≡ true)
+  abbrev IsSaveLine : Said → Type 0
+  IsSaveLine said = said ≡ refusal_of (scan_fault_name faults.Save)
 
   scanned : (opened : Result (Opened A) LabelFault) (before : DeskView) (reply : Accepted) (after : DeskView)
       → before.is_failed ≡ false → Scans opened before (Ok reply) after → after.is_failed ≡ false
@@ -136,52 +136,44 @@ module _ (A : Type 0) where
       page_refused opened.page before fault after running s failed
   scan_refusal (Err label) before fault after running s failed = as_it_was before after running s.1 failed
 
-  picture_failed : (p : Picture) (before : DeskView) (line : List ℕ) (is_refused : Bool) (after : DeskView)
-      → before.is_failed ≡ false → ScansPicture A p before line is_refused after → after.is_failed ≡ true
-      → IsSaveLine line is_refused
-  picture_failed p before _ _ _ running (scan_accepted grid reply shape inside accepts) failed =
+  picture_failed : (p : Picture) (before : DeskView) (said : Said) (after : DeskView) → before.is_failed ≡ false
+      → ScansPicture A p before said after → after.is_failed ≡ true → IsSaveLine said
+  picture_failed p before _ _ running (scan_accepted grid reply shape inside accepts) failed =
       absurd (let not = scanned accepts.opened before reply _ running accepts.scans in cc)
-  picture_failed p before _ _ _ running (scan_refused grid fault shape inside accepts) failed = (
-    ap (λ (f : ScanFault). refused_line (scan_fault_name f))
-        (scan_refusal accepts.opened before fault _ running accepts.scans failed),
-    refl,
-  )
-  picture_failed p before _ _ _ running (scan_shape bad) failed = absurd cc
-  picture_failed p before _ _ _ running (scan_memory shape) failed = absurd cc
+  picture_failed p before _ _ running (scan_refused grid fault shape inside accepts) failed =
+      ap (λ (f : ScanFault). refusal_of (scan_fault_name f))
+      (scan_refusal accepts.opened before fault _ running accepts.scans failed)
+  picture_failed p before _ _ running (scan_shape bad) failed = absurd cc
+  picture_failed p before _ _ running (scan_memory shape) failed = absurd cc
 
   or_false : (a b : Bool) → (a || b) ≡ false → b ≡ false
   or_false false b is = is
   or_false true b is = absurd cc
 
-  goes_on : (count : ℕ) (now : DeskView) (taken : List ℕ) (rest : InputView) (line : List ℕ) (also last : Bool)
-      (after : DeskView) → Comes (scan_images A) count now taken rest line also last after → last ≡ false
-      → after.is_failed ≡ false
-  goes_on count now taken rest _ _ _ _ (image p few spelled answers is) not_last =
+  goes_on : (count : ℕ) (now : DeskView) (taken : Taken) (step : Step (scan_images A))
+      → Comes (scan_images A) count now taken step → step.last ≡ false → step.state.is_failed ≡ false
+  goes_on count now taken step (image p few spelled answers is) not_last =
       or_false p.plain _ (sym is ∙ not_last)
-  goes_on count now taken rest _ _ _ _ (unread fault few bytes) not_last = absurd cc
-  goes_on count now taken rest _ _ _ _ (too_many is more) not_last = absurd cc
+  goes_on count now taken _ (unread fault few bytes) not_last = absurd cc
+  goes_on count now taken _ (too_many is more) not_last = absurd cc
 
   -- after images that others may follow
-  running_on : (start : DeskView) (count : ℕ) (bytes text : List ℕ) (any : Bool) (now : DeskView)
-      → start.is_failed ≡ false → AnswersImages (scan_images A) start count bytes text any now
-      → now.is_failed ≡ false
-  running_on start _ _ _ _ _ running no_images = running
-  running_on start _ _ _ _ _ running (another before next) = goes_on _ _ _ _ _ _ _ _ next refl
+  running_on : (start : DeskView) (images : SoFar (scan_images A)) → start.is_failed ≡ false
+      → AnswersImages (scan_images A) start images → images.state.is_failed ≡ false
+  running_on start _ running no_images = running
+  running_on start _ running (another before next not_last) = goes_on _ _ _ _ next not_last
 
-  last_failed : (count : ℕ) (now : DeskView) (taken : List ℕ) (rest : InputView) (line : List ℕ) (also last : Bool)
-      (after : DeskView) → now.is_failed ≡ false → Comes (scan_images A) count now taken rest line also last after
-      → after.is_failed ≡ true → IsSaveLine line also
-  last_failed count now taken rest _ _ _ _ running (image p few spelled answers is) failed =
-      picture_failed p now _ _ _ running answers failed
-  last_failed count now taken rest _ _ _ _ running (unread fault few bytes) failed = absurd cc
-  last_failed count now taken rest _ _ _ _ running (too_many is more) failed = absurd cc
+  last_failed : (count : ℕ) (now : DeskView) (taken : Taken) (step : Step (scan_images A)) → now.is_failed ≡ false
+      → Comes (scan_images A) count now taken step → step.state.is_failed ≡ true → IsSaveLine step.said
+  last_failed count now taken step running (image p few spelled answers is) failed =
+      picture_failed p now _ _ running answers failed
+  last_failed count now taken _ running (unread fault few bytes) failed = absurd cc
+  last_failed count now taken _ running (too_many is more) failed = absurd cc
 
-  ended_failed : (count : ℕ) (now : DeskView) (taken : List ℕ) (rest : InputView) (line : List ℕ) (is_refused : Bool)
-      (after : DeskView) → now.is_failed ≡ false
-      → EndsImages (scan_images A) count now taken rest line is_refused after → after.is_failed ≡ true
-      → IsSaveLine line is_refused
-  ended_failed count now _ _ _ _ _ running (no_image few at_end) failed = absurd cc
-  ended_failed count now _ _ _ _ _ running (last_line next) failed = last_failed _ _ _ _ _ _ _ _ running next failed
+  ended_failed : (count : ℕ) (now : DeskView) (taken : Taken) (step : Step (scan_images A)) → now.is_failed ≡ false
+      → EndsImages (scan_images A) count now taken step → step.state.is_failed ≡ true → IsSaveLine step.said
+  ended_failed count now taken _ running (no_image few none at_end) failed = absurd cc
+  ended_failed count now taken step running (last_line next is) failed = last_failed _ _ _ _ running next failed
 
   refused_status : (any last : Bool) (status : ℕ) → last ≡ true → status ≡ (if any || last then 1 else 0)
       → status ≡ 1
@@ -189,23 +181,29 @@ module _ (A : Type 0) where
   refused_status false true status is told = told
   refused_status true true status is told = told
 
+  -- `scan` at a desk
+  abbrev scan_of : DeskView → StreamsView → Progress (scan_images A)
+  scan_of desk streams = record { state = desk; input = streams.input; output = streams.output }
+
   -- the desk has failed, and the command told so
   failed_leaves : (start : DeskView) (old : StreamsView) (status : ℕ) (after : DeskView) (new : StreamsView)
       (left : SetLeft) → start.is_failed ≡ false
-      → TellsImages (scan_images A) start old.input new.input old.output status after new.output
+      → TellsImages (scan_images A) (scan_of start old) status (scan_of after new)
       → after.is_failed ≡ true → ScanLeaves old status new after.saved left
   failed_leaves start old status after new left running (inl told) failed =
-      let line : IsSaveLine told.end_line told.end_refused = ended_failed told.count told.now _ _ _ _ after
-      (running_on start _ _ _ _ _ running told.answered) told.ended failed in
-      save_failed (refused_status told.any_refused told.end_refused status line.1 told.status_is) told.image_lines
-      (subst (λ (l : List ℕ). Appends old.output.contents new.output.contents (told.image_lines ++ l)) line.0
-      told.appended)
+      let is_save : IsSaveLine told.said =
+      ended_failed _ _ _ _ (running_on start _ running told.answered) told.ended failed in
+      save_failed
+      (refused_status _ told.said.refused status (ap (λ (said : Said). said.refused) is_save) told.status_is)
+      told.images.said.line
+      (subst (λ (said : Said). Appends old.output.contents new.output.contents (told.images.said.line ++ said.line))
+      is_save told.appended)
   failed_leaves start old status after new left running (inr stopped) failed =
       output_failed stopped.status_is stopped.failed
 
   pub scan_leaves : (start : DeskView) (old : StreamsView) (status : ℕ) (after : DeskView) (new : StreamsView)
       (left : SetLeft) → start.is_failed ≡ false
-      → TellsImages (scan_images A) start old.input new.input old.output status after new.output → IsKept after left
+      → TellsImages (scan_images A) (scan_of start old) status (scan_of after new) → IsKept after left
       → ScanLeaves old status new after.saved left
   scan_leaves start old status after new left running told kept =
       elim after.is_failed as

@@ -35,7 +35,7 @@ use Rattle.relay_shared.specs.DeskLines.{forgotten_line, imported_line}
 use Rattle.relay_shared.specs.Documents.{HasInputFault}
 use Rattle.relay_shared.specs.Refusals.{refusal_name}
 use Rattle.relay_shared.specs.declared.refusal.Refusal.TheVariants as refusals
-use Rattle.relay_shared.specs.Surroundings.{OnlyOutput, ReadsNothing, RefusesOnErrors, RefusesOnOutput, StreamsView}
+use Rattle.relay_shared.specs.Surroundings.{LeavesErrors, OnlyOutput, ReadsNothing, RefusesOnErrors, RefusesOnOutput, StreamsView}
 use Rattle.relay_shared.specs.Telling.{Tells, TellsRefusal}
 
 -- ---- a desk's files
@@ -163,13 +163,13 @@ ReadsFile old new bytes = TakesFirst old.remaining new.remaining IMPORT_BYTES by
 pub data EndsImport (capacity : ℕ) (old : OnDesk) (status : ℕ) (new : OnDesk) : Type 0 where
   not_read : (fault : InputFault) → HasInputFault new.streams.input fault → new.files ≡ old.files
       → TellsRefusal (input_fault_name fault) old.streams.output new.streams.output status
-      → new.streams.errors ≡ old.streams.errors → EndsImport capacity old status new
+      → LeavesErrors old.streams new.streams → EndsImport capacity old status new
   no_desk : (bytes name : List ℕ) → ReadsFile old.streams.input new.streams.input bytes
       → HasNoDesk old.files capacity name new.files
       → TellsRefusal name old.streams.output new.streams.output status
-      → new.streams.errors ≡ old.streams.errors → EndsImport capacity old status new
+      → LeavesErrors old.streams new.streams → EndsImport capacity old status new
   opened : (bytes : List ℕ) (desk after : DeskView) (reply : Result Imported ImportFault)
       → ReadsFile old.streams.input new.streams.input bytes → OpensDesk old.files capacity new.files.joint desk
       → ImportsBytes bytes desk reply after → new.files.set ≡ after.saved
       → TellsImport reply old.streams.output status new.streams.output
-      → new.streams.errors ≡ old.streams.errors → EndsImport capacity old status new
+      → LeavesErrors old.streams new.streams → EndsImport capacity old status new

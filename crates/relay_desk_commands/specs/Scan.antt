@@ -1,6 +1,6 @@
 -- What `scan` does to the files of a desk, and what it prints: a line for each image, in order, up to the end of the
 -- input, a plain image, bytes that are no image, a save that failed, or the greatest number of images.
-use Rattle.std.specs.Prelude.{◌≡◌, ℕ, Bool, true, false, List, Ok, Err}
+use Rattle.std.specs.Prelude.{◌≡◌, ℕ, false, List, Ok, Err}
 use Rattle.dm_finder_frame.specs.Grids.{GridView}
 use Rattle.dm_pbm_io.specs.FaultNames.{shape_fault_name}
 use Rattle.dm_pbm_io.specs.Image.{Picture}
@@ -12,30 +12,30 @@ use Rattle.dm_assembly_desk.specs.FaultNames.{scan_fault_name}
 use Rattle.dm_assembly_desk.specs.Views.{DeskView, IsInOrder}
 use Rattle.dm_assembly_desk.specs.declared.fault.ScanFault.{ScanFault}
 use Rattle.dm_assembly_desk.specs.declared.reply.Accepted.{Accepted}
-use Rattle.relay_streams.specs.Refusal.{refused_line}
 use Rattle.relay_shared.specs.DeskLines.{accepted_line}
-use Rattle.relay_shared.specs.EachImage.{ImageCommand, TellsImages}
-use Rattle.relay_shared.specs.Surroundings.{RefusesOnOutput}
+use Rattle.relay_shared.specs.EachImage.{ImageCommand, Said, TellsImages, refusal_of}
+use Rattle.relay_shared.specs.Surroundings.{LeavesErrors, RefusesOnOutput}
 use Rattle.relay_desk_commands.specs.Desks.{HasNoDesk, OnDesk, OpensDesk}
 
 -- ---- one image
 
--- What a desk answers to a picture: its grid is handed to the desk, or it has none. The line of the answer, whether it
--- names a refusal, and the desk afterwards. `A` is what the desk allocates in.
-pub data ScansPicture (A : Type 0) (p : Picture) (before : DeskView) : List ℕ → Bool → DeskView → Type 0 where
+-- What is said of a picture, and the desk afterwards: its grid is handed to the desk, or it has none. `A` is what the
+-- desk allocates in.
+pub data ScansPicture (A : Type 0) (p : Picture) (before : DeskView) : Said → DeskView → Type 0 where
   accepted : {after : DeskView} (grid : GridView) (reply : Accepted) → HasShape p → IsGridInside p grid
-      → AcceptsGrid A grid before (Ok reply) after → ScansPicture A p before (accepted_line reply) false after
+      → AcceptsGrid A grid before (Ok reply) after
+      → ScansPicture A p before (record { line = accepted_line reply; refused = false }) after
   refused : {after : DeskView} (grid : GridView) (fault : ScanFault) → HasShape p → IsGridInside p grid
       → AcceptsGrid A grid before (Err fault) after
-      → ScansPicture A p before (refused_line (scan_fault_name fault)) true after
-  shape : ¬ HasShape p → ScansPicture A p before (refused_line (shape_fault_name Shape)) true before
-  memory : HasShape p → ScansPicture A p before (refused_line (shape_fault_name Memory)) true before
+      → ScansPicture A p before (refusal_of (scan_fault_name fault)) after
+  shape : ¬ HasShape p → ScansPicture A p before (refusal_of (shape_fault_name Shape)) before
+  memory : HasShape p → ScansPicture A p before (refusal_of (shape_fault_name Memory)) before
 
 -- `scan` as a command over images: its state is the desk, and after a save that failed it reads no more
 abbrev pub scan_images : Type 0 → ImageCommand
 scan_images A = record {
   State = DeskView;
-  Answers = λ before p line refused after. ScansPicture A p before line refused after;
+  Answers = λ before p said after. ScansPicture A p before said after;
   has_ended = λ desk. desk.is_failed;
 }
 
@@ -49,7 +49,9 @@ pub data EndsScan (A : Type 0) (capacity : ℕ) (old : OnDesk) (status : ℕ) (n
   no_desk : (name : List ℕ) → HasNoDesk old.files capacity name new.files
       → RefusesOnOutput name old.streams status new.streams → EndsScan A capacity old status new
   opened : (desk after : DeskView) → OpensDesk old.files capacity new.files.joint desk
-      → TellsImages (scan_images A) desk old.streams.input new.streams.input old.streams.output status after
-      new.streams.output
+      → TellsImages (scan_images A)
+      (record { state = desk; input = old.streams.input; output = old.streams.output })
+      status
+      (record { state = after; input = new.streams.input; output = new.streams.output })
       → KeepsPages desk.held after.held → IsInOrder after → new.files.set ≡ after.saved
-      → new.streams.errors ≡ old.streams.errors → EndsScan A capacity old status new
+      → LeavesErrors old.streams new.streams → EndsScan A capacity old status new

@@ -16,92 +16,134 @@ use Rattle.relay_shared.specs.declared.images.TheConstants.{MOST_IMAGES}
 use Rattle.relay_shared.specs.declared.images.Answered.{Answered}
 use Rattle.relay_shared.specs.declared.refusal.Refusal.TheVariants.{TooMany}
 
--- The states of a command; what it answers to a picture: from a state the line, whether the line names a refusal, and
--- the state afterwards; and whether it has ended in a state, and reads no more.
+-- ---- what is said
+
+-- a line, or some, and whether any of them names a refusal
+pub record Said : Type 0 where
+  pub line : List ℕ
+  pub refused : Bool
+
+abbrev pub nothing : Said
+nothing = record { line = []; refused = false }
+
+-- the line of a refusal of this name
+abbrev pub refusal_of : List ℕ → Said
+refusal_of name = record { line = refused_line name; refused = true }
+
+abbrev pub said_after : Said → Said → Said
+said_after before now = record { line = before.line ++ now.line; refused = before.refused || now.refused }
+
+-- ---- the command
+
+-- The states of a command; what it answers to a picture: from a state what it says, and the state afterwards; and
+-- whether it has ended in a state, and reads no more.
 pub record ImageCommand : Type 1 where
   pub State : Type 0
-  pub Answers : State → Picture → List ℕ → Bool → State → Type 0
+  pub Answers : State → Picture → Said → State → Type 0
   pub has_ended : State → Bool
 
--- What comes on the input after this many images, unless it ends: what was taken, what is left, the line, whether it
--- names a refusal, whether nothing is read after it, and the state.
-pub data Comes (c : ImageCommand) (count : ℕ) (now : c.State) (taken : List ℕ) (rest : InputView)
-    : List ℕ → Bool → Bool → c.State → Type 0 where
-  image : {line : List ℕ} {refused last : Bool} {after : c.State} (p : Picture) → count < MOST_IMAGES → Spells taken p
-      → c.Answers now p line refused after → last ≡ (p.plain || c.has_ended after)
-      → Comes c count now taken rest line refused last after
-  unread : (fault : PbmFault) → count < MOST_IMAGES → IsUnread fault taken rest
-      → Comes c count now taken rest (refused_line (pbm_fault_name fault)) true true now
-  too_many : count ≡ MOST_IMAGES → IsAnother taken rest
-      → Comes c count now taken rest (refused_line (refusal_name TooMany)) true true now
+-- its state and its streams
+pub record Progress (c : ImageCommand) : Type 0 where
+  pub state : c.State
+  pub input : InputView
+  pub output : OutputView
 
--- this many images that others may follow, the bytes that spell them, their lines, both in order, whether any names a
--- refusal, and the state after them
-pub data AnswersImages (c : ImageCommand) (start : c.State) : ℕ → List ℕ → List ℕ → Bool → c.State → Type 0 where
-  none : AnswersImages c start 0 [] [] false start
-  another : {count : ℕ} {bytes taken text line : List ℕ} {refused also : Bool} {now after : c.State} {rest : InputView}
-      → AnswersImages c start count bytes text refused now → Comes c count now taken rest line also false after
-      → AnswersImages c start (count + 1) (bytes ++ taken) (text ++ line) (refused || also) after
+-- its state and its output, while it answers to one image
+pub record AtImage (c : ImageCommand) : Type 0 where
+  pub state : c.State
+  pub output : OutputView
 
--- How the input ends after this many images: what was taken, what is left, the last line, if there is one, whether it
--- names a refusal, and the state.
-pub data EndsImages (c : ImageCommand) (count : ℕ) (now : c.State)
-    : List ℕ → InputView → List ℕ → Bool → c.State → Type 0 where
-  no_image : {rest : InputView} → count ≤ MOST_IMAGES → IsAtEnd rest.remaining
-      → EndsImages c count now [] rest [] false now
-  last_line : {taken line : List ℕ} {rest : InputView} {refused : Bool} {after : c.State}
-      → Comes c count now taken rest line refused true after → EndsImages c count now taken rest line refused after
+-- ---- one step
+
+-- what was taken of the input, and what is left
+pub record Taken : Type 0 where
+  pub bytes : List ℕ
+  pub rest : InputView
+
+-- what was said, whether nothing is read after it, and the state
+pub record Step (c : ImageCommand) : Type 0 where
+  pub said : Said
+  pub last : Bool
+  pub state : c.State
+
+abbrev pub last_step : (c : ImageCommand) → c.State → Said → Step c
+last_step c now said = record { said = said; last = true; state = now }
+
+-- what comes on the input after this many images, unless it ends
+pub data Comes (c : ImageCommand) (count : ℕ) (now : c.State) (taken : Taken) : Step c → Type 0 where
+  image : {step : Step c} (p : Picture) → count < MOST_IMAGES → Spells taken.bytes p
+      → c.Answers now p step.said step.state → step.last ≡ (p.plain || c.has_ended step.state)
+      → Comes c count now taken step
+  unread : (fault : PbmFault) → count < MOST_IMAGES → IsUnread fault taken.bytes taken.rest
+      → Comes c count now taken (last_step c now (refusal_of (pbm_fault_name fault)))
+  too_many : count ≡ MOST_IMAGES → IsAnother taken.bytes taken.rest
+      → Comes c count now taken (last_step c now (refusal_of (refusal_name TooMany)))
+
+-- how the input ends after this many images
+pub data EndsImages (c : ImageCommand) (count : ℕ) (now : c.State) (taken : Taken) : Step c → Type 0 where
+  no_image : count ≤ MOST_IMAGES → taken.bytes ≡ [] → IsAtEnd taken.rest.remaining
+      → EndsImages c count now taken (last_step c now nothing)
+  last_line : {step : Step c} → Comes c count now taken step → step.last ≡ true → EndsImages c count now taken step
+
+-- the answer to one picture: its line was written, or the output has failed and a part of the line is out
+pub record AnswersPicture (c : ImageCommand) (p : Picture) (old : AtImage c) (result : Result Answered WriteFault)
+    (new : AtImage c) : Type 0 where
+  pub said : Said
+  pub answers : c.Answers old.state p said new.state
+  pub told : MatchResult result
+      (λ a. Appends old.output.contents new.output.contents said.line × (a.refused ≡ said.refused)
+      × (a.last ≡ c.has_ended new.state))
+      (λ _. AppendsPart old.output.contents new.output.contents said.line × (new.output.has_failed ≡ true))
+
+-- ---- all of them
+
+-- how many images were answered, the bytes that spell them, what was said of them, and the state
+pub record SoFar (c : ImageCommand) : Type 0 where
+  pub count : ℕ
+  pub bytes : List ℕ
+  pub said : Said
+  pub state : c.State
+
+-- images that others may follow, in order
+pub data AnswersImages (c : ImageCommand) (start : c.State) : SoFar c → Type 0 where
+  none : AnswersImages c start (record { count = 0; bytes = []; said = nothing; state = start })
+  another : {before : SoFar c} {taken : Taken} {step : Step c} → AnswersImages c start before
+      → Comes c before.count before.state taken step → step.last ≡ false
+      → AnswersImages c start (record {
+        count = before.count + 1;
+        bytes = before.bytes ++ taken.bytes;
+        said = said_after before.said step.said;
+        state = step.state;
+      })
 
 -- What was taken of the input is images and its end, the command has answered to each image, in order, their lines were
 -- written, and the exit status says whether any of them names a refusal.
-pub record AnswersInput (c : ImageCommand) (start : c.State) (input rest : InputView) (output written : OutputView)
-    (status : ℕ) (after : c.State) : Type 0 where
-  pub count : ℕ
-  pub now : c.State
-  pub images_taken : List ℕ
-  pub image_lines : List ℕ
-  pub any_refused : Bool
-  pub end_taken : List ℕ
-  pub end_line : List ℕ
-  pub end_refused : Bool
-  pub answered : AnswersImages c start count images_taken image_lines any_refused now
-  pub ended : EndsImages c count now end_taken rest end_line end_refused after
-  pub consumed : Consumes input.remaining rest.remaining (images_taken ++ end_taken)
-  pub appended : Appends output.contents written.contents (image_lines ++ end_line)
-  pub status_is : status ≡ (if any_refused || end_refused then 1 else 0)
+pub record AnswersInput (c : ImageCommand) (old : Progress c) (status : ℕ) (new : Progress c) : Type 0 where
+  pub images : SoFar c
+  pub answered : AnswersImages c old.state images
+  pub end_bytes : List ℕ
+  pub said : Said
+  pub ended : EndsImages c images.count images.state (record { bytes = end_bytes; rest = new.input })
+      (last_step c new.state said)
+  pub consumed : Consumes old.input.remaining new.input.remaining (images.bytes ++ end_bytes)
+  pub appended : Appends old.output.contents new.output.contents (images.said.line ++ said.line)
+  pub status_is : status ≡ (if images.said.refused || said.refused then 1 else 0)
 
 -- The output has failed. What was taken of the input is images and what comes last, and the command has answered to
 -- them, in order, and to no other. The lines of the images are out, then a part of the last line, and nothing else.
-pub record StopsAnswering (c : ImageCommand) (start : c.State) (input rest : InputView) (output written : OutputView)
-    (status : ℕ) (after : c.State) : Type 0 where
-  pub count : ℕ
-  pub now : c.State
-  pub images_taken : List ℕ
-  pub image_lines : List ℕ
-  pub any_refused : Bool
-  pub end_taken : List ℕ
-  pub last_line : List ℕ
-  pub last_refused : Bool
+pub record StopsAnswering (c : ImageCommand) (old : Progress c) (status : ℕ) (new : Progress c) : Type 0 where
+  pub images : SoFar c
+  pub answered : AnswersImages c old.state images
+  pub end_bytes : List ℕ
+  pub said : Said
   pub is_end : Bool
-  pub answered : AnswersImages c start count images_taken image_lines any_refused now
-  pub comes : Comes c count now end_taken rest last_line last_refused is_end after
-  pub consumed : Consumes input.remaining rest.remaining (images_taken ++ end_taken)
-  pub appended : AppendsThenPart output.contents written.contents image_lines last_line
-  pub failed : written.has_failed ≡ true
+  pub comes : Comes c images.count images.state (record { bytes = end_bytes; rest = new.input })
+      (record { said = said; last = is_end; state = new.state })
+  pub consumed : Consumes old.input.remaining new.input.remaining (images.bytes ++ end_bytes)
+  pub appended : AppendsThenPart old.output.contents new.output.contents images.said.line said.line
+  pub failed : new.output.has_failed ≡ true
   pub status_is : status ≡ 1
 
 -- how a command over images ends: the lines of its input were written, or the output has failed at one of them
-abbrev pub TellsImages : (c : ImageCommand) → c.State → InputView → InputView → OutputView → ℕ → c.State → OutputView →
-    Type 0
-TellsImages c start input rest old status after new =
-    AnswersInput c start input rest old new status after ⊎ StopsAnswering c start input rest old new status after
-
--- the answer to one picture: its line was written, or the output has failed and a part of the line is out
-pub record AnswersPicture (c : ImageCommand) (now : c.State) (p : Picture) (result : Result Answered WriteFault)
-    (after : c.State) (old new : OutputView) : Type 0 where
-  pub line : List ℕ
-  pub refused : Bool
-  pub answers : c.Answers now p line refused after
-  pub told : MatchResult result
-      (λ a. Appends old.contents new.contents line × (a.refused ≡ refused) × (a.last ≡ c.has_ended after))
-      (λ _. AppendsPart old.contents new.contents line × (new.has_failed ≡ true))
+abbrev pub TellsImages : (c : ImageCommand) → Progress c → ℕ → Progress c → Type 0
+TellsImages c old status new = AnswersInput c old status new ⊎ StopsAnswering c old status new

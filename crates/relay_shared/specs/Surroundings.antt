@@ -21,13 +21,20 @@ OnlyErrors old new = new ≡ record old { errors = new.errors }
 abbrev pub ReadsNothing : StreamsView → StreamsView → Type 0
 ReadsNothing old new = new.input ≡ old.input
 
--- A line was told on the output, with this exit status, and nothing happened to the other streams.
+-- nothing was written to the standard error
+abbrev pub LeavesErrors : StreamsView → StreamsView → Type 0
+LeavesErrors old new = new.errors ≡ old.errors
+
+-- The line was written on the output, and the exit status is 0; or the output has failed, with a part of the line, and
+-- the exit status is 1. Nothing happened to the other streams.
 abbrev pub TellsOnOutput : List ℕ → StreamsView → ℕ → StreamsView → Type 0
 TellsOnOutput line old status new = Tells line 0 old.output new.output status × OnlyOutput old new
 
--- So was a refusal, or on the standard error.
+-- The line of a refusal was written on the output, or the output has failed, with a part of the line; the exit status is
+-- 1. Nothing happened to the other streams.
 abbrev pub RefusesOnOutput : List ℕ → StreamsView → ℕ → StreamsView → Type 0
 RefusesOnOutput name old status new = TellsRefusal name old.output new.output status × OnlyOutput old new
 
+-- the same, on the standard error in place of the output
 abbrev pub RefusesOnErrors : List ℕ → StreamsView → ℕ → StreamsView → Type 0
 RefusesOnErrors name old status new = TellsRefusal name old.errors new.errors status × OnlyErrors old new

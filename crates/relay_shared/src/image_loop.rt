@@ -1,7 +1,7 @@
 //! A command over images: one loop for all that answer to each image by a line.
 
 ghost use Rattle.std.specs.Prelude.{◌≡◌, ◌<◌, true, false, MatchResult};
-ghost use Rattle.relay_shared.specs.EachImage.{TellsImages};
+ghost use Rattle.relay_shared.specs.EachImage.{Progress, TellsImages};
 ghost use Rattle.relay_shared.specs.declared.images.TheConstants.{MOST_IMAGES};
 ghost use Rattle.relay_shared.specs.inner.Steps.{StopsStep, TakesStep};
 
@@ -35,8 +35,10 @@ pub trait OnImages<A: Allocator + Copy> {
         image: &Image<A>,
     ) -> Result<Answered, WriteFault>
         requires running { command.has_ended (state self.old) ≡ false }
-        ensures answer { AnswersPicture command (state self.old) (picture image.now) result (state self.new)
-            output.old output.new }
+        ensures answer { AnswersPicture command (picture image.now)
+            (record { state = state self.old; output = output.old })
+            result
+            (record { state = state self.new; output = output.new }) }
         ensures kept { keeps (state self.old) (state self.new) };
 
     /// Called after the line of an image that could not be read, with its number, from 1, and the refusal's name.
@@ -58,11 +60,11 @@ fn next_image<A: Allocator + Copy, C: OnImages<A>, R: Read, W: Write>(
 ) -> Result<Answered, WriteFault>
     requires running { C.command.has_ended (C.state command.old) ≡ false }
     requires few { count < MOST_IMAGES }
-    ensures step { MatchResult result
-        (λ answered. TakesStep C.command count (C.state command.old) input.old input.new answered
-        (C.state command.new) output.old output.new)
-        (λ _. StopsStep C.command count (C.state command.old) input.old input.new
-        (C.state command.new) output.old output.new) }
+    ensures step { let old : Progress C.command = record { state = C.state command.old; input = input.old; output = output.old } in
+        let new : Progress C.command = record { state = C.state command.new; input = input.new; output = output.new } in
+        MatchResult result
+        (λ answered. TakesStep C.command count old answered new)
+        (λ _. StopsStep C.command count old new) }
     ensures kept { C.keeps (C.state command.old) (C.state command.new) }
 {
     match Image::read(alloc, input) {
@@ -95,10 +97,12 @@ fn end_at_most<A: Allocator + Copy, C: OnImages<A>, R: Read, W: Write>(
     input: &mut Input<R>,
     output: &mut Output<W>,
 ) -> Result<bool, WriteFault>
-    ensures { (now : C.command.State) → MatchResult result
-        (λ refused. TakesStep C.command MOST_IMAGES now input.old input.new (record { refused = refused; last = true })
-        now output.old output.new)
-        (λ _. StopsStep C.command MOST_IMAGES now input.old input.new now output.old output.new) }
+    ensures { (now : C.command.State) →
+        let old : Progress C.command = record { state = now; input = input.old; output = output.old } in
+        let new : Progress C.command = record { state = now; input = input.new; output = output.new } in
+        MatchResult result
+        (λ refused. TakesStep C.command MOST_IMAGES old (record { refused = refused; last = true }) new)
+        (λ _. StopsStep C.command MOST_IMAGES old new) }
 {
     if is_at_end(alloc, input) {
         return Ok(false);
@@ -116,8 +120,10 @@ pub fn each_image<A: Allocator + Copy, C: OnImages<A>, R: Read, W: Write>(
     output: &mut Output<W>,
 ) -> u8
     requires { C.command.has_ended (C.state command.old) ≡ false }
-    ensures told { TellsImages C.command (C.state command.old) input.old input.new output.old result
-        (C.state command.new) output.new }
+    ensures told { TellsImages C.command
+        (record { state = C.state command.old; input = input.old; output = output.old })
+        result
+        (record { state = C.state command.new; input = input.new; output = output.new }) }
     ensures kept { C.keeps (C.state command.old) (C.state command.new) }
 {
     let mut refused = false;

@@ -12,7 +12,7 @@ use Rattle.relay_streams.specs.declared.fault.WriteFault.{WriteFault}
 use Rattle.relay_symbol_commands.specs.DocumentSymbol.{CarriesDocument, PrintsRefusal}
 use Rattle.relay_symbol_commands.specs.declared.document_symbol.Form.{Form}
 use Rattle.relay_shared.specs.Documents.{document_of}
-use Rattle.relay_shared.specs.Surroundings.{StreamsView}
+use Rattle.relay_shared.specs.Surroundings.{LeavesErrors, StreamsView}
 use Rattle.relay_shared.specs.Telling.{TellsRefusal}
 use Rattle.relay_shared.specs.declared.document.TheConstants.{DOCUMENT_BYTES}
 
@@ -51,7 +51,7 @@ pub record EndsDraw (form : Form) (plain : Bool) (old : StreamsView) (status : �
   pub status_is : (status ≡ 0) ⊎ (status ≡ 1)
   pub part : TakesPart old.input.remaining new.input.remaining DOCUMENT_BYTES
   pub drawn : status ≡ 0 → PrintsDrawing form plain old new
-  pub silent : status ≡ 0 → new.errors ≡ old.errors
+  pub silent : status ≡ 0 → LeavesErrors old new
   pub refused : status ≡ 1 → PrintsRefusal form old.input new.input old.errors new.errors
       ⊎ PrintsWriteRefusal new.output old.errors new.errors
   pub nothing_else : status ≡ 1 → ((new.output.has_failed ≡ true) × PrintsPartOfDrawing form plain old new)

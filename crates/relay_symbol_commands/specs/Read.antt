@@ -1,7 +1,7 @@
 -- What `read` prints: a line for each image, in order, up to the end of the input, a plain image, bytes that are no
 -- image, or the greatest number of images. What a symbol carries is the standard's (ISO/IEC 16022:2006, 5.2 and 5.6,
 -- Annexes A, E and F), how images follow one another Netpbm's, and where reading ends this project's own rule.
-use Rattle.std.specs.Prelude.{◌≡◌, ◌≢◌, ℕ, Bool, true, false, List, Err}
+use Rattle.std.specs.Prelude.{◌≡◌, ◌≢◌, ℕ, false, List, Err}
 use Rattle.dm_gf256.specs.Polynomial.{differ}
 use Rattle.dm_check_blocks.specs.Sizes.{side}
 use Rattle.dm_encodation.specs.Grammar.{ReadsOnly, StuckOnly}
@@ -21,9 +21,8 @@ use Rattle.dm_append_label.specs.declared.fault.PageFault.{PageFault}
 use Rattle.dm_append_label.specs.declared.fault.PageFault.TheVariants as page_faults
 use Rattle.dm_pbm_io.specs.SymbolImage.{HasShape, IsGridInside}
 use Rattle.dm_pbm_io.specs.Image.{Picture}
-use Rattle.relay_streams.specs.Refusal.{refused_line}
-use Rattle.relay_shared.specs.EachImage.{ImageCommand, TellsImages}
-use Rattle.relay_shared.specs.Surroundings.{StreamsView}
+use Rattle.relay_shared.specs.EachImage.{ImageCommand, Said, TellsImages, refusal_of}
+use Rattle.relay_shared.specs.Surroundings.{LeavesErrors, StreamsView}
 use Rattle.relay_symbol_commands.specs.Refusals.{read_refusal_name}
 use Rattle.relay_symbol_commands.specs.ReadLines.{label_line, symbol_line}
 use Rattle.relay_symbol_commands.specs.declared.refusal.ReadRefusal.{ReadRefusal}
@@ -62,12 +61,12 @@ pub data RefusesPicture (p : Picture) : ReadRefusal → Type 0 where
   grid : {refusal : ReadRefusal} (grid : GridView) → HasShape p → IsGridInside p grid → RefusesGrid grid refusal
       → RefusesPicture p refusal
 
--- the line of a picture, and whether it names a refusal
-pub data PrintsPicture (p : Picture) : List ℕ → Bool → Type 0 where
+-- what is said of a picture
+pub data PrintsPicture (p : Picture) : Said → Type 0 where
   read : {line : List ℕ} (grid : GridView) → HasShape p → IsGridInside p grid → HasLine grid line →
-      PrintsPicture p line false
+      PrintsPicture p (record { line = line; refused = false })
   refused : (refusal : ReadRefusal) → RefusesPicture p refusal →
-      PrintsPicture p (refused_line (read_refusal_name refusal)) true
+      PrintsPicture p (refusal_of (read_refusal_name refusal))
 
 -- ---- the whole input
 
@@ -75,7 +74,7 @@ pub data PrintsPicture (p : Picture) : List ℕ → Bool → Type 0 where
 abbrev pub read_images : ImageCommand
 read_images = record {
   State = Unit {0};
-  Answers = λ _ p line refused _. PrintsPicture p line refused;
+  Answers = λ _ p said _. PrintsPicture p said;
   has_ended = λ _. false;
 }
 
@@ -83,4 +82,8 @@ read_images = record {
 -- output has failed at one of them. Nothing goes to the standard error.
 abbrev pub EndsRead : StreamsView → ℕ → StreamsView → Type 0
 EndsRead old status new =
-    TellsImages read_images tt old.input new.input old.output status tt new.output × (new.errors ≡ old.errors)
+    TellsImages read_images
+    (record { state = tt; input = old.input; output = old.output })
+    status
+    (record { state = tt; input = new.input; output = new.output })
+    × LeavesErrors old new

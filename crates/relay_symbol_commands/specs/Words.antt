@@ -8,7 +8,7 @@ use Rattle.relay_streams.specs.Streams.{AppendsPart, TakesPart}
 use Rattle.relay_symbol_commands.specs.DocumentSymbol.{CarriesDocument, PrintsRefusal}
 use Rattle.relay_symbol_commands.specs.declared.document_symbol.Form.{Form}
 use Rattle.relay_shared.specs.Documents.{document_of}
-use Rattle.relay_shared.specs.Surroundings.{StreamsView}
+use Rattle.relay_shared.specs.Surroundings.{LeavesErrors, StreamsView}
 use Rattle.relay_shared.specs.declared.document.TheConstants.{DOCUMENT_BYTES}
 
 -- the words in decimal, a space between each two, and a line end
@@ -46,4 +46,4 @@ pub record EndsWords (form : Form) (old : StreamsView) (status : ℕ) (new : Str
   pub printed : status ≡ 0 → PrintsWords form old new
   pub refused : status ≡ 1 → ((new.output.has_failed ≡ true) × PrintsPartOfWords form old new)
       ⊎ PrintsRefusal form old.input new.input old.output new.output
-  pub silent : new.errors ≡ old.errors
+  pub silent : LeavesErrors old new

@@ -81,7 +81,8 @@ pub(crate) fn line_of_image<A: Allocator + Copy>(
     reader: &mut SymbolReader<A>,
     image: &Image<A>,
 ) -> Result<String<A>, ReadRefusal>
-    ensures line { IfOk result (λ line. PrintsPicture (picture image.now) (string_bytes line) false) }
+    ensures line { IfOk result (λ line.
+        PrintsPicture (picture image.now) (record { line = string_bytes line; refused = false })) }
     ensures refused { IfErr result (RefusesPicture (picture image.now)) }
 {
     match grid_of(alloc, image) {

@@ -4,6 +4,7 @@ ghost use Rattle.std.specs.Prelude.{◌≡◌, true, IfOk, OnOk, OnErr};
 ghost use Rattle.std.specs.List.{flat_map};
 ghost use Rattle.std.specs.Io.KnownBytes.{Appends};
 ghost use Rattle.relay_streams.specs.Streams.{AppendsPart, TakesPart};
+ghost use Rattle.relay_shared.specs.Surroundings.{LeavesErrors};
 ghost use Rattle.relay_world_command.specs.ReplyLines.{answer_line, has_refusal};
 ghost use Rattle.relay_world_command.specs.World.{EndsWorld, TellsAnswers};
 
@@ -56,7 +57,7 @@ pub fn world_command<A: Allocator + Copy, R: Read, W: Write, E: Write>(
     streams: &mut Streams<R, W, E>,
 ) -> u8
     ensures part { TakesPart streams.old.input.remaining streams.new.input.remaining INPUT_BYTES }
-    ensures silent { streams.new.errors ≡ streams.old.errors }
+    ensures silent { LeavesErrors streams.old streams.new }
     ensures ends { EndsWorld A streams.old result streams.new }
 {
     let bytes = match streams.input.read_up_to(alloc, INPUT_BYTES) {

@@ -1,37 +1,49 @@
 -- One step over images: what was taken of the input, what is left, and the line that was written.
 use Rattle.std.specs.Prelude.{◌≡◌, ℕ, true, false, Bool, List}
 use Rattle.std.specs.Io.KnownBytes.{Appends, Consumes}
-use Rattle.relay_streams.specs.Streams.{AppendsPart, InputView, OutputView}
-use Rattle.relay_shared.specs.EachImage.{AnswersImages, Comes, EndsImages, ImageCommand}
+use Rattle.relay_streams.specs.Streams.{AppendsPart}
+use Rattle.relay_shared.specs.EachImage.{AnswersImages, Comes, Progress, EndsImages, ImageCommand, SoFar, Step, Taken}
 use Rattle.relay_shared.specs.declared.images.Answered.{Answered}
 
+-- the bytes that were taken, and what is left of the input afterwards
+abbrev pub taken_to : {c : ImageCommand} → List ℕ → Progress c → Taken
+taken_to bytes new = record { bytes = bytes; rest = new.input }
+
+-- the step that says this line, as it was answered
+abbrev pub step_to : {c : ImageCommand} → List ℕ → Answered → Progress c → Step c
+step_to line answered new =
+    record { said = record { line = line; refused = answered.refused }; last = answered.last; state = new.state }
+
 -- the next line was written, or the input has ended
-pub record TakesStep (c : ImageCommand) (count : ℕ) (now : c.State) (input rest : InputView) (answered : Answered)
-    (after : c.State) (old new : OutputView) : Type 0 where
-  pub taken : List ℕ
+pub record TakesStep (c : ImageCommand) (count : ℕ) (old : Progress c) (answered : Answered) (new : Progress c)
+    : Type 0 where
+  pub bytes : List ℕ
   pub line : List ℕ
-  pub consumed : Consumes input.remaining rest.remaining taken
-  pub appended : Appends old.contents new.contents line
-  pub goes_on : answered.last ≡ false → Comes c count now taken rest line answered.refused false after
-  pub ends : answered.last ≡ true → EndsImages c count now taken rest line answered.refused after
+  pub consumed : Consumes old.input.remaining new.input.remaining bytes
+  pub appended : Appends old.output.contents new.output.contents line
+  pub goes_on : answered.last ≡ false → Comes c count old.state (taken_to bytes new) (step_to line answered new)
+  pub ends : answered.last ≡ true → EndsImages c count old.state (taken_to bytes new) (step_to line answered new)
 
 -- the output has failed, and a part of the next line is out
-pub record StopsStep (c : ImageCommand) (count : ℕ) (now : c.State) (input rest : InputView) (after : c.State)
-    (old new : OutputView) : Type 0 where
-  pub taken : List ℕ
+pub record StopsStep (c : ImageCommand) (count : ℕ) (old new : Progress c) : Type 0 where
+  pub bytes : List ℕ
   pub line : List ℕ
-  pub refused : Bool
-  pub last : Bool
-  pub consumed : Consumes input.remaining rest.remaining taken
-  pub comes : Comes c count now taken rest line refused last after
-  pub part : AppendsPart old.contents new.contents line
-  pub failed : new.has_failed ≡ true
+  pub answered : Answered
+  pub consumed : Consumes old.input.remaining new.input.remaining bytes
+  pub comes : Comes c count old.state (taken_to bytes new) (step_to line answered new)
+  pub part : AppendsPart old.output.contents new.output.contents line
+  pub failed : new.output.has_failed ≡ true
 
 -- the lines of this many images were written, and others may follow
-pub record WritesImages (c : ImageCommand) (count : ℕ) (start : c.State) (input rest : InputView) (refused : Bool)
-    (now : c.State) (old new : OutputView) : Type 0 where
-  pub taken : List ℕ
-  pub lines : List ℕ
-  pub answered : AnswersImages c start count taken lines refused now
-  pub consumed : Consumes input.remaining rest.remaining taken
-  pub appended : Appends old.contents new.contents lines
+pub record WritesImages (c : ImageCommand) (count : ℕ) (old : Progress c) (refused : Bool) (new : Progress c)
+    : Type 0 where
+  pub bytes : List ℕ
+  pub line : List ℕ
+  pub answered : AnswersImages c old.state (record {
+    count = count;
+    bytes = bytes;
+    said = record { line = line; refused = refused };
+    state = new.state;
+  })
+  pub consumed : Consumes old.input.remaining new.input.remaining bytes
+  pub appended : Appends old.output.contents new.output.contents line

@@ -12,7 +12,7 @@ returns-in-Ok-clause-line g c =
     let p = picture c.args.image.now in
     let inside = c.in-Ok.ensures.grid in
     if_ok_follows (λ line. HasLine c.in-Ok.grid (string_bytes line))
-    (λ line. PrintsPicture p (string_bytes line) false) c.line_of_grid.result
+    (λ line. PrintsPicture p (record { line = string_bytes line; refused = false })) c.line_of_grid.result
     (λ line h. read c.in-Ok.grid inside.0 inside.1 h) c.line_of_grid.ensures.line
 
 pub returns-in-Ok-clause-refused : goal.returns-in-Ok-clause-refused

@@ -6,8 +6,7 @@ use Rattle.relay_desk_commands.proofs.scan.ScanningOnImages.answer.Goals as goal
 
 pub returns-in-Err-clause-answer : goal.returns-in-Err-clause-answer
 returns-in-Err-clause-answer g c = record {
-  line = _;
-  refused = _;
+  said = _;
   answers = no_grid c.in-Err.shape (λ e. c.in-Err.ensures.shape (ap Err e)) (λ e. c.in-Err.ensures.memory (ap Err e));
   told = (rw c.name.ensures at c.in_ok-put_refusal-in-Err.ensures.written, refl, sym c.requires.running);
 }
@@ -16,8 +15,7 @@ pub returns-in_err-put_refusal-in-Err-clause-answer : goal.returns-in_err-put_re
 returns-in_err-put_refusal-in-Err-clause-answer g c =
     let p = err_from_is_err_and c.from_residual.result c.from_residual.ensures.1 in
     rw p.1 record {
-      line = _;
-      refused = _;
+      said = _;
       answers =
           no_grid c.in-Err.shape (λ e. c.in-Err.ensures.shape (ap Err e)) (λ e. c.in-Err.ensures.memory (ap Err e));
       told = (rw c.name.ensures at c.put_refusal.ensures.part, c.in_err-put_refusal-in-Err.ensures.failed);
@@ -29,8 +27,7 @@ returns-in-Ok-accept-clause-answer g c =
     let inside = c.in-Ok.ensures.grid in
     let runs = runs_after accepts.opened c.in-Ok-accept.accepted _ c.accept.new.self c.requires.running accepts.scans in
     record {
-      line = _;
-      refused = _;
+      said = _;
       answers = accepted c.in-Ok.grid c.in-Ok-accept.accepted inside.0 inside.1 accepts;
       told = (c.in_ok-put_accepted-in-Ok-accept.ensures.written, refl, sym runs);
     }
@@ -41,8 +38,7 @@ returns-in_err-put_accepted-in-Ok-accept-clause-answer g c =
     let p = err_from_is_err_and last.result last.ensures.1 in
     let inside = c.in-Ok.ensures.grid in
     rw p.1 record {
-      line = _;
-      refused = _;
+      said = _;
       answers = accepted c.in-Ok.grid c.in-Ok-accept.accepted inside.0 inside.1
           (c.in-Ok-accept.ensures.scanned c.requires.running);
       told = (c.put_accepted.ensures.part, c.in_err-put_accepted-in-Ok-accept.ensures.failed);
@@ -56,8 +52,7 @@ returns-clause-answer g c =
     let ends = saved_or_failed accepts.opened c.in-Err-accept.fault _ c.accept.new.self c.is_save-last.result
     c.requires.running c.is_save-last.ensures.yes c.is_save-last.ensures.no accepts.scans in
     record {
-      line = _;
-      refused = _;
+      said = _;
       answers = refused c.in-Ok.grid c.in-Err-accept.fault inside.0 inside.1 accepts;
       told = (rw c.name-in-Err-accept.ensures at put, refl, ends);
     }
@@ -68,8 +63,7 @@ returns-in_err-put_refusal-in-Err-accept-clause-answer g c =
     let p = err_from_is_err_and last.result last.ensures.1 in
     let inside = c.in-Ok.ensures.grid in
     rw p.1 record {
-      line = _;
-      refused = _;
+      said = _;
       answers = refused c.in-Ok.grid c.in-Err-accept.fault inside.0 inside.1
           (c.in-Err-accept.ensures.scanned c.requires.running);
       told = (
