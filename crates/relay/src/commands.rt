@@ -3,6 +3,7 @@
 ghost use Rattle.std.specs.Prelude.{◌≡◌};
 ghost use Rattle.relay.specs.Commands.{Does, DoesOnDesk, DoesOnLedger, DoesOnStreams};
 ghost use Rattle.relay.specs.Table.{group_of_command};
+ghost use Rattle.relay.specs.inner.Prints.{IsPrint};
 
 use crate::table::{Group, group_of, work_of};
 use dm_print_ledger::Range;
@@ -47,29 +48,20 @@ fn do_stream_command<A: Allocator + Copy, R: Read, W: Write, E: Write>(
     }
 }
 
-// Does a command over the store of a ledger.
-fn do_ledger_command<A: Allocator + Copy, S: Store, R: Read, W: Write, E: Write>(
+// Does a command that prints a document.
+fn do_print_command<A: Allocator + Copy, S: Store, R: Read, W: Write, E: Write>(
     alloc: A,
     store: S,
     streams: &mut Streams<R, W, E>,
     command: Command,
 ) -> Ended<S>
-    requires { group_of_command command ≡ Group.Ledger }
+    requires { IsPrint command }
     ensures { DoesOnLedger command.entry
         (record { saved = S.state store; streams = streams.old })
         result.status
         (record { saved = S.state result.store; streams = streams.new }) }
 {
     match command {
-        Command::Ledger {
-            number,
-            first,
-            last,
-            ..
-        } => {
-            let range = Range { first, last };
-            ledger_command(alloc, store, streams, LedgerOptions { number, range })
-        }
         Command::Print {
             number,
             side,
@@ -96,6 +88,33 @@ fn do_ledger_command<A: Allocator + Copy, S: Store, R: Read, W: Write, E: Write>
             };
             print_auto_command(alloc, store, streams, options)
         }
+        _ => unreachable!(),
+    }
+}
+
+// Does a command over the store of a ledger.
+fn do_ledger_command<A: Allocator + Copy, S: Store, R: Read, W: Write, E: Write>(
+    alloc: A,
+    store: S,
+    streams: &mut Streams<R, W, E>,
+    command: Command,
+) -> Ended<S>
+    requires { group_of_command command ≡ Group.Ledger }
+    ensures { DoesOnLedger command.entry
+        (record { saved = S.state store; streams = streams.old })
+        result.status
+        (record { saved = S.state result.store; streams = streams.new }) }
+{
+    match command {
+        Command::Ledger {
+            number,
+            first,
+            last,
+            ..
+        } => {
+            let range = Range { first, last };
+            ledger_command(alloc, store, streams, LedgerOptions { number, range })
+        }
         Command::Give {
             number,
             to,
@@ -114,7 +133,7 @@ fn do_ledger_command<A: Allocator + Copy, S: Store, R: Read, W: Write, E: Write>
             take_command(alloc, store, streams, options)
         }
         Command::Left { .. } => left_command(store, streams),
-        _ => unreachable!(),
+        _ => do_print_command(alloc, store, streams, command),
     }
 }
 

@@ -1,0 +1,2 @@
+-- What only contracts of private functions cite.
+pub mod Prints
