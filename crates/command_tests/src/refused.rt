@@ -20,8 +20,8 @@ fn is_refused(ended: &CallEnd<Vec<u8>>, call: Call) -> bool {
     ended.status == 1 && line == LINE && other.is_empty() && saves_nothing(ended, call)
 }
 
-// Whether a print was refused after its save: the identification is told of and used, and the labels before the refusal
-// are out.
+// Whether a print was refused after its save: its line is out, the identification is used, and the labels before the
+// refusal are out.
 fn is_cut_short(ended: &CallEnd<Vec<u8>>, whole: &CallEnd<Vec<u8>>) -> bool {
     ended.status == 1
         && whole.writer.starts_with(&ended.writer)

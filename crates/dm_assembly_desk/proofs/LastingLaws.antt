@@ -1,5 +1,5 @@
--- What a stop may leave of what a desk holds, after a save of one document: it is told of the other documents by what
--- the set leaves of keys that were not saved, and of the one by how the save ended.
+-- What a stop may leave of what a desk holds, after a save of one document: of the other documents, what the set leaves
+-- of keys that were not saved; of the one, what follows from how the save ended.
 use Rattle.std.proofs.Common.{◌≡◌, ℕ, Bool, true, false, cond, List, Option, Some, None, Result, Ok, Err, inl, inr, ⊎_elim, refl, sym, ap, subst, ◌∙◌}
 use Rattle.std.specs.Prelude.{◌≢◌, ◌+◌, option_map, take, IsTrue, IfOk}
 use Rattle.std.specs.Ordering.{nat_cmp, eq_by_cmp}

@@ -12,8 +12,8 @@
 //! of its pages is held, and then it is these, joined in order. A call on one document leaves all others. Every
 //! refusal but a failed save leaves the desk and its set as they were; after one that failed the set holds the old or
 //! the new file, and the desk answers `Failed` until it is opened again. A desk that is opened on what an honest set
-//! kept holds exactly that; and on what a stop of the machine left of a durable set, each document that was held. What
-//! is told of a file without a desk is so of it, or says why it is none.
+//! kept holds exactly that; and on what a stop of the machine left of a durable set, each document that was held. A file
+//! that is looked at without a desk is described as it is, or it is said why it is none.
 #![tactic(auto)]
 
 mod accepting;

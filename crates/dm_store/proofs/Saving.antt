@@ -115,7 +115,7 @@ remove_ends_late old mid new name removed ended ok removes still syncs = record 
 pub keeps_same : {old : DiskState} {name : List ℕ} → Keeps old name old
 keeps_same = record { seen = refl; synced = λ on. on; left = λ content leaves. leaves }
 
--- a remove whose answer is told in other words
+-- a remove whose answer is of another type
 pub removes_on : {F G : Type 0} (old new : DiskState) (name : List ℕ) (inner : Result (Unit {0}) F)
     (answer : Result (Unit {0}) G) → (IsOk answer → IsOk inner) → (IsErr answer → IsErr inner) →
     RemovesFile old name inner new → RemovesFile old name answer new

@@ -30,7 +30,7 @@ unfoldable pub held_below : (ℕ → Content) → ℕ → Contents
 held_below found zero = map.empty
 held_below found (suc n) = with_found (held_below found n) n (found n)
 
--- what a reader finds under the name of a key's file; nothing is told of a disk that is not honest
+-- what a reader finds under the name of a key's file; of a disk that is not honest nothing is said
 abbrev pub found_in : DiskState → List ℕ → ℕ → Content
 found_in disk folder key = if disk.is_honest then disk.seen (key_path folder key) else None
 

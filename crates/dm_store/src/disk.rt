@@ -37,7 +37,7 @@ pub trait Disk: Drop {
     /// Whether it is honest, what a reader finds, and what a stop may leave.
     ghost state: { Self → DiskState };
 
-    /// The bytes of the file under a name, or their first `limit + 1` where they are longer, or `None` where no file is.
+    /// The bytes of the file under a name, or their first `limit + 1` if they are longer, or `None` if no file is there.
     fn read(&mut self, name: &str, limit: usize) -> Result<Option<Vec<u8, Self::Memory>>, LoadFault>
         ensures honesty { (state self.new).is_honest ≡ (state self.old).is_honest }
         ensures kept { KeepsAll (state self.old) (state self.new) }
@@ -89,8 +89,8 @@ pub trait Folders: Disk {
     ghost use Rattle.dm_store.specs.Disk.{KeepsAll};
     ghost use Rattle.dm_store.specs.Folder.{contents_in};
 
-    /// Makes the folder, if it isn't there, and brings its entry in the folder above it to the disk in either case. What
-    /// is said of the files in it rests on that.
+    /// Makes the folder, if it isn't there, and brings its entry in the folder above it to the disk in either case.
+    /// What is said of the files in it rests on that.
     fn make_folder(&mut self, folder: &str) -> Result<(), DiskFault>
         ensures honesty { (Self.state self.new).is_honest ≡ (Self.state self.old).is_honest }
         ensures kept { KeepsAll (Self.state self.old) (Self.state self.new) };

@@ -11,8 +11,8 @@ use crate::fuse_disk::FuseDisk;
 use crate::store::{ReplaceFault, Store};
 use std::alloc::Allocator;
 
-/// Saves bytes in the file at `path` on a machine that stops after `passes` calls of the disk, and gives the disk as the
-/// stop left it. A save makes four calls. With [`Kept::New`] the call at which it stops is still made.
+/// Saves bytes in the file at `path` on a machine that stops after `passes` calls of the disk, and gives the disk as
+/// the stop left it. A save makes four calls. With [`Kept::New`] the call at which it stops is still made.
 pub fn save_until_stop<D: Disk, A: Allocator + Copy>(
     alloc: A,
     disk: D,

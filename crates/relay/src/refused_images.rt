@@ -5,7 +5,7 @@ use dm_append_label::FileId;
 use relay_desk_commands::Notes;
 use std::rt::Files;
 
-/// Names refused images on the standard error, as `relay: image N: NAME`, or `relay: image N (IIII): NAME` where it is a
+/// Names refused images on the standard error, as `relay: image N: NAME`, or `relay: image N (IIII): NAME` if it is a
 /// label of this identification.
 #[derive(Drop)]
 pub(crate) struct RefusedImages<'a, R: Files> {

@@ -83,8 +83,8 @@ fn row_refusing_on_errors<'a>(file: &'a str, work: Work) -> Row<'a>
     }
 }
 
-// The same, but of a command that is tried up to its save before anything is locked: so its refusal is told even while
-// another program is at work there.
+// The same, but of a command that is tried up to its save before anything is locked: so it is refused even while another
+// program is at work there.
 fn row_tried_first<'a>(file: &'a str, work: Work) -> Row<'a>
     ensures { result ≡ row_tried_first file.now work }
 {

@@ -1,14 +1,14 @@
-//! What is told of a refused image beside its line.
+//! What is noted of a refused image, beside its line.
 
 use dm_append_label::FileId;
 
-/// Is told which image a refusal of `scan` is of. No contract says what becomes of it.
+/// Notes which image a refusal of `scan` is of. No contract says what becomes of it.
 pub trait Notes {
     /// The image of this number, from 1, was refused by this name. It is a label of this identification, or none.
     fn note(&mut self, image: u32, id: Option<FileId>, name: &str);
 }
 
-/// Lets go what it is told.
+/// Notes nothing.
 #[derive(Clone, Copy, Debug, Default)]
 pub struct NoNotes;
 

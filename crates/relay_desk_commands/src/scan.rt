@@ -103,7 +103,7 @@ impl<'a, T: StoreSet, A: Allocator + Copy, N: Notes> OnImages<A> for Scanning<'a
 /// each `IIII m/n new`, `again` or `complete`, after the save, or `refused NAME`. A refused image doesn't end the
 /// command; a save that failed does, and so do bytes that are no image, and a plain image. At most 65,536 images are
 /// read. The desk is opened before anything is read. The exit status is 0 where no line names a refusal, and else 1.
-/// After the line of a refused image it is told to `notes`, with the number of the image.
+/// After the line of a refused image `notes` gets the number of the image and the refusal.
 pub fn scan_with_notes<
     A: Allocator + Copy,
     S: Store,

@@ -39,7 +39,7 @@ pub data EndsLedger (options : LedgerOptions) (old : OnLedger) (status : ℕ) (n
 
 -- ---- give
 
--- what is told of a printer's answer to a range that it is to give
+-- the line of a printer's answer to a range that it is to give
 abbrev pub TellsGive : Result TicketView GiveFault → StreamsView → ℕ → StreamsView → Type 0
 TellsGive (Ok ticket) old status new = TellsOnOutput (ticket_line ticket) old status new
 TellsGive (Err fault) old status new = RefusesOnOutput (give_fault_name fault) old status new
@@ -55,7 +55,7 @@ pub data EndsGive (options : GiveOptions) (old : OnLedger) (status : ℕ) (new :
 
 -- ---- take
 
--- what is told of a printer's answer to a ticket that it is to take, if this many identifications are free then
+-- the line of a printer's answer to a ticket that it is to take, if this many identifications are free then
 abbrev pub TellsTake : Result (Unit {0}) TakeFault → ℕ → StreamsView → ℕ → StreamsView → Type 0
 TellsTake (Ok _) left old status new = TellsOnOutput (taken_line left) old status new
 TellsTake (Err fault) left old status new = RefusesOnOutput (take_fault_name fault) old status new

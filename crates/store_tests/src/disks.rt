@@ -8,7 +8,8 @@ use std::alloc::{AllocError, Global};
 use std::process::Abort;
 use std::test::Fail;
 
-// Which contents a stop may leave in the file: the old one, the new one, and any other, as a part of the new or nothing.
+// Which contents a stop may leave in the file: the old one, the new one, and any other, as a part of the new one or
+// nothing.
 #[derive(Clone, Copy, PartialEq, Eq)]
 struct Leaves {
     old: bool,

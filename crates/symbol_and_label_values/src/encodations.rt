@@ -139,7 +139,7 @@ fn texts_are_written_and_read(rt: HostRuntime) {
     }
 }
 
-// How many times a byte fits a room of so many words, and how many words it then needs.
+// How many times a byte fits a room of that many words, and how many words it then needs.
 const ROOMS: [(Scheme, u8, usize, usize, usize); 12] = [
     (Scheme::Ascii, b'7', 1304, 2608, 1304),
     (Scheme::Ascii, b'A', 1304, 1304, 1304),

@@ -1,5 +1,5 @@
-//! Spoiled copies of bytes, for tests of what reads them: one byte is changed or added, or the end is cut off. And counts
-//! of what is answered to them.
+//! Spoiled copies of bytes, for tests of what reads them: one byte is changed or added, or the end is cut off. And
+//! counts of what is answered to them.
 
 use std::alloc::{AllocError, Global};
 
