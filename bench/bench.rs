@@ -265,9 +265,8 @@ fn measure_all() {
     }
 }
 
-// Does one kind of work on the greatest size that many times, for a profile; answers whether there is such a kind.
-fn repeat(kind: &str, times: usize) -> bool {
-    let size = SIZES[SIZES.len() - 1];
+// Does one kind of work on a size that many times, for a profile; answers whether there is such a kind.
+fn repeat(kind: &str, times: usize, size: Size) -> bool {
     let text = size.digits(size.data_words);
     let clean = drawn(size, &text);
     let damaged = size.damaged(&clean, size.limit());
@@ -286,15 +285,27 @@ fn repeat(kind: &str, times: usize) -> bool {
     true
 }
 
+// The same by the words of the command line: a kind, how many times, and a side, else the greatest.
+fn repeat_words(words: &[String]) -> bool {
+    let (kind, times, side) = match words {
+        [kind, times] => (kind, times.parse(), Ok(SIZES[SIZES.len() - 1].side)),
+        [kind, times, side] => (kind, times.parse(), side.parse()),
+        _ => return false,
+    };
+    let (Ok(times), Ok(side)) = (times, side) else {
+        return false;
+    };
+    let size = SIZES.into_iter().find(|size| size.side == side);
+    size.is_some_and(|size| repeat(kind, times, size))
+}
+
 fn main() -> ExitCode {
     let words: Vec<String> = std::env::args().skip(1).collect();
-    match words.as_slice() {
-        [] => measure_all(),
-        [kind, times] if times.parse().is_ok_and(|times| repeat(kind, times)) => {}
-        _ => {
-            eprintln!("bench: no words, or one of make, read and correct, and a number of times");
-            return ExitCode::from(2);
-        }
+    if words.is_empty() {
+        measure_all();
+    } else if !repeat_words(&words) {
+        eprintln!("bench: no words, or make, read or correct, a number of times, and a side (10, 52 or 132)");
+        return ExitCode::from(2);
     }
     ExitCode::SUCCESS
 }

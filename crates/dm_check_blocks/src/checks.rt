@@ -5,8 +5,8 @@ ghost use Rattle.std.specs.List.{All};
 ghost use Rattle.dm_gf256.specs.Polynomial.{IsBlockWord};
 ghost use Rattle.dm_check_blocks.specs.inner.Remainders.{IsGenerator, AddsWord};
 
-use crate::generator::{MOST_CHECKS, coefficients_of};
-use crate::multiples::{Multiples, WINDOW_WORDS};
+use crate::generator::MOST_CHECKS;
+use crate::multiples::{Multiples, WINDOW_WORDS, generator_row};
 use dm_gf256::add_multiple;
 
 // Divides one word more of the message: `checks` is the remainder so far, and `generator` the generator
@@ -64,8 +64,8 @@ pub(crate) fn fill(message: &[u8], checks: &mut [u8])
     ensures { IsBlockWord (length checks.old) (message.now ++ checks.new) }
 {
     if message.len() < FEWEST_BY_ROWS {
-        let coefficients = coefficients_of(checks.len());
-        fill_word_by_word(message, checks, &coefficients[1..checks.len() + 1]);
+        let row = generator_row(checks.len());
+        fill_word_by_word(message, checks, &row[..checks.len()]);
     } else {
         fill_by_rows(message, checks);
     }

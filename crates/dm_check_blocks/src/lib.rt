@@ -11,6 +11,7 @@
 
 mod checks;
 mod generator;
+mod listed;
 mod multiples;
 mod size;
 mod symbol;

@@ -13,6 +13,7 @@ ghost use Rattle.dm_check_blocks.specs.Division.{row_at, IsDivided};
 ghost use Rattle.dm_check_blocks.specs.inner.Remainders.{IsGenerator, IsStep, AreMultiples};
 
 use crate::generator::{MOST_CHECKS, coefficients_of};
+use crate::listed::listed;
 
 // The words of a row: room for the most check words, and a whole number of registers of 16.
 const ROW_WORDS: usize = 80;
@@ -84,16 +85,21 @@ fn multiples_of(row: &Row) -> [Row; 16]
     rows
 }
 
-// The generator polynomial for that many check words as a row.
-fn generator_row(checks: usize) -> Row
+/// The generator polynomial for that many check words as a row.
+pub(crate) fn generator_row(checks: usize) -> Row
     requires { checks ≤ MOST_CHECKS }
     ensures size { length result ≡ ROW_WORDS }
     ensures generator { IsGenerator (take checks result) }
     ensures zeros { (k : ℕ) → checks ≤ k → slice_index result k ≡ 0 }
 {
-    let coefficients = coefficients_of(checks);
     let mut row = [0; ROW_WORDS];
-    row[..checks].copy_from_slice(&coefficients[1..checks + 1]);
+    match listed(checks) {
+        Some(generator) => row[..checks].copy_from_slice(generator),
+        None => {
+            let coefficients = coefficients_of(checks);
+            row[..checks].copy_from_slice(&coefficients[1..checks + 1]);
+        }
+    }
     row
 }
 

@@ -1,8 +1,8 @@
 //! Correction of one block.
 
-ghost use Rattle.std.specs.Prelude.{◌≡◌, ◌<◌, ◌≤◌, ℕ, List, length, IfOk, OnOk, OnErr, IfSome, IfNone, OnSome};
+ghost use Rattle.std.specs.Prelude.{◌≡◌, ◌<◌, ◌≤◌, ℕ, List, length, IsTrue, IfOk, OnOk, OnErr, IfSome, IfNone, OnSome};
 ghost use Rattle.std.specs.List.{All};
-ghost use Rattle.dm_gf256.specs.Polynomial.{differ};
+ghost use Rattle.dm_gf256.specs.Polynomial.{differ, IsBlockWord};
 ghost use Rattle.dm_corrector.specs.Corrections.{Corrects};
 
 use crate::elements::is_zero;
@@ -13,7 +13,7 @@ use crate::massey::Massey;
 use crate::remainder::{divided, has_no_remainder};
 use crate::roots::roots_of;
 use crate::syndromes::{MOST_WORDS, all_zero, is_block_word, syndromes_of};
-use dm_check_blocks::{MOST_CHECKS, Multiples};
+use dm_check_blocks::{MOST_CHECKS, Multiples, checks_of};
 use thiserror::Error;
 
 /// No block word is within the limit of wrong words.
@@ -152,6 +152,65 @@ fn correct_by_remainder(multiples: &Multiples, block: &mut [u8]) -> Result<u8, U
     }
 }
 
+// Corrects one long block. It is kept apart from `correct`, which would clear memory for the multiples of the generator
+// polynomial for short blocks too.
+#[inline(never)]
+fn correct_long(block: &mut [u8], checks: usize) -> Result<u8, Uncorrectable>
+    requires some { 1 ≤ checks }
+    requires most { checks ≤ MOST_CHECKS }
+    requires longer { checks < length block.old }
+    requires fits { length block.old ≤ MOST_WORDS }
+    ensures near { OnOk result (Corrects checks block.old block.new) }
+    ensures changed { IfOk result (λ k. k ≡ differ block.old block.new) }
+    ensures only { OnOk result ((w : List ℕ) → Corrects checks block.old w → w ≡ block.new) }
+
+    ensures none { OnErr result ((w : List ℕ) → Corrects checks block.old w → ⊥) }
+    ensures unchanged { OnErr result (block.new ≡ block.old) }
+{
+    correct_by_remainder(&Multiples::of_generator(checks), block)
+}
+
+// Whether a block's check words are those of its data words, so that it is a block word.
+fn has_its_checks(block: &[u8], checks: usize) -> bool
+    requires some { 1 ≤ checks }
+    requires most { checks ≤ MOST_CHECKS }
+    requires longer { checks < length block.now }
+    requires fits { length block.now ≤ MOST_WORDS }
+    ensures block_word { IsTrue result → IsBlockWord checks block.now }
+    ensures bytes { All (λ word. word < 256) block.now }
+{
+    let data = block.len() - checks;
+    let mut room = [0; MOST_CHECKS];
+    let wanted = &mut room[..checks];
+    checks_of(&block[..data], wanted);
+    for k in 0..checks {
+        if block[data + k] != wanted[k] {
+            return false;
+        }
+    }
+    true
+}
+
+// Corrects one short block, for which the multiples of the generator polynomial are not worth their making.
+fn correct_short(block: &mut [u8], checks: usize) -> Result<u8, Uncorrectable>
+    requires some { 1 ≤ checks }
+    requires most { checks ≤ MOST_CHECKS }
+    requires longer { checks < length block.old }
+    requires fits { length block.old ≤ MOST_WORDS }
+    ensures near { OnOk result (Corrects checks block.old block.new) }
+    ensures changed { IfOk result (λ k. k ≡ differ block.old block.new) }
+    ensures only { OnOk result ((w : List ℕ) → Corrects checks block.old w → w ≡ block.new) }
+
+    ensures none { OnErr result ((w : List ℕ) → Corrects checks block.old w → ⊥) }
+    ensures unchanged { OnErr result (block.new ≡ block.old) }
+{
+    if has_its_checks(block, checks) {
+        Ok(0)
+    } else {
+        correct_with(&Massey, block, checks)
+    }
+}
+
 // The fewest data words of a block for which the multiples of the generator polynomial are worth their making.
 const FEWEST_BY_REMAINDER: usize = 19;
 
@@ -173,8 +232,8 @@ pub fn correct(block: &mut [u8], checks: usize) -> Result<u8, Uncorrectable>
     ensures unchanged { OnErr result (block.new ≡ block.old) }
 {
     if block.len() - checks < FEWEST_BY_REMAINDER {
-        correct_with(&Massey, block, checks)
+        correct_short(block, checks)
     } else {
-        correct_by_remainder(&Multiples::of_generator(checks), block)
+        correct_long(block, checks)
     }
 }

@@ -25,6 +25,11 @@ unfolding row
 most_region Side10 = lit≤ tt
 most_region _ = lit≤ tt
 
+pub most_across : (s : Size) → across s ≤ 6
+unfolding row
+most_across Side10 = lit≤ tt
+most_across _ = lit≤ tt
+
 pub most_side : (s : Size) → side s ≤ 132
 unfolding row
 most_side Side10 = lit≤ tt

@@ -18,7 +18,7 @@ use Rattle.dm_finder_frame.proofs.FramedRows.{inner_piece, top_piece, bottom_pie
 use Rattle.dm_finder_frame.proofs.GridPlaces.{fills_side, most_side, mapping_place_below}
 
 -- the parts of the regions before one, and its own, fit in those of all
-parts_fit : (b q f : ℕ) → b < q → b * f + f ≤ q * f
+pub parts_fit : (b q f : ℕ) → b < q → b * f + f ≤ q * f
 parts_fit b q f h = let m : (b + 1) * f ≤ q * f = mul-le-mul_right f (let l : b + 1 ≤ q = omega arith in l) in omega arith
 
 -- one region's part of a row of the grid more, h being the side of a region

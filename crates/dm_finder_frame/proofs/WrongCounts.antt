@@ -1,11 +1,13 @@
 -- Counts of wrong modules over a row and then the next.
-use Rattle.std.specs.Prelude.{◌%◌, not}
+use Rattle.std.specs.Prelude.{◌/◌, ◌%◌, not}
+use Rattle.std.specs.List.{between}
 use mir.Val.{bool_byte}
-use Rattle.std.proofs.Common.{◌≡◌, ◌⊎◌, inl, inr, ℕ, zero, suc, ◌+◌, ◌-◌, ◌*◌, ◌<◌, ◌≤◌, Bool, false, ◌&&◌, ◌||◌, eqb, cond, refl, true, ap, sym, ◌∙◌, arith, add-zero, zero-add}
+use Rattle.std.proofs.Common.{◌≡◌, ◌⊎◌, inl, inr, ℕ, zero, suc, ◌+◌, ◌-◌, ◌*◌, ◌<◌, ◌≤◌, Bool, List, get_or, false, ◌&&◌, ◌||◌, eqb, cond, refl, true, ap, sym, ◌∙◌, arith, add-zero, zero-add}
 use Rattle.std.proofs.lemmas.Bool.Decides.{nat_tests}
+use Rattle.std.proofs.lemmas.List.Edits.{get_or-between}
 use Rattle.std.proofs.lemmas.List.FromFn.{sum_by-map-range_with_len_more}
 use Rattle.std.proofs.Math.Nat.{mul-le-mul_right}
-use Rattle.std.proofs.lemmas.Nat.{div-mul-add, mod-mul-add}
+use Rattle.std.proofs.lemmas.Nat.{div-mul-add, mod-mul-add, mod_below, div-add-mod'}
 use Rattle.dm_check_blocks.specs.Sizes.{side, region, across}
 use Rattle.dm_finder_frame.specs.Frame.{is_wrong, is_wrong_at, wrong_module, is_on_frame, frame_value}
 use Rattle.dm_finder_frame.specs.Grids.{GridView, grid_module_at}
@@ -169,3 +171,26 @@ test_number false = refl
 pub at_most_one : (x : Bool) → cond x 1 0 ≤ 1
 at_most_one true = omega arith
 at_most_one false = omega arith
+
+-- a module of a row of the grid
+pub line_module : (g : GridView) (r c : ℕ) (line : List Bool) → r < side g.size → c < side g.size
+    → line ≡ between (r * side g.size) ((r + 1) * side g.size) g.modules → get_or line c false ≡ grid_module_at g r c
+line_module g r c line row_in column_in is =
+    let n = side g.size in
+    let below : (r + 1) * n ≡ r * n + n = omega arith in
+    ap (λ (x : List Bool). get_or x c false) is
+    ∙ get_or-between g.modules (r * n) ((r + 1) * n) c false (omega (arith, below))
+
+-- the place of the next row in its framed regions: the first after the last, else the one after
+pub turned : (f r p q : ℕ) → 0 < f → p ≡ r % f → p ≡ f - 1 → q ≡ 0 → q ≡ (r + 1) % f
+turned f r p q some is last next =
+    let parts = div-add-mod' r f in
+    let turn : r + 1 ≡ (r / f + 1) * f + 0 = omega arith in
+    next ∙ sym (ap (λ x. x % f) turn ∙ mod-mul-add (r / f + 1) f 0 some)
+
+pub passed : (f r p q : ℕ) → 0 < f → p ≡ r % f → (p ≡ f - 1 → ⊥) → q ≡ p + 1 → q ≡ (r + 1) % f
+passed f r p q some is other next =
+    let below = mod_below r f some in
+    let parts = div-add-mod' r f in
+    let after : r + 1 ≡ r / f * f + (p + 1) = omega arith in
+    next ∙ sym (ap (λ x. x % f) after ∙ mod-mul-add (r / f) f (p + 1) (omega arith))

@@ -1,7 +1,7 @@
 //! From the grid to the mapping matrix.
 
 ghost use Rattle.std.specs.Prelude.{◌≡◌, ◌<◌, ◌≤◌, ◌+◌, ◌*◌, ◌%◌, ◌⊎◌, ◌||◌, ◌==◌, IfOk, OnOk, if◌then◌else◌, not};
-ghost use Rattle.dm_check_blocks.specs.Sizes.{mapping, region, side};
+ghost use Rattle.dm_check_blocks.specs.Sizes.{across as across_of, mapping, region, side};
 ghost use Rattle.dm_finder_frame.specs.Frame.{matrix_module, matrix_of_grid, wrong_frame_modules};
 ghost use Rattle.dm_finder_frame.specs.inner.Filled.{first_modules, wrong_among};
 ghost use Rattle.dm_finder_frame.specs.UnframeOutcome.{Unframes};
@@ -41,63 +41,74 @@ fn is_dark_at_end(is_last: bool, column: u16) -> bool
 }
 
 // How many modules of the finder patterns are wrong in the first or the last row of framed regions.
-fn wrong_in_row<A: Allocator>(grid: &Grid<A>, row: u16) -> u16
+fn wrong_in_row<A: Allocator>(grid: &Grid<A>, row: u16, is_last: bool) -> u16
     requires row_in { row < side grid.now.size }
     requires at_end { let h = region grid.now.size in (row % (h + 2) ≡ 0) ⊎ (row % (h + 2) ≡ h + 1) }
+    requires which { let h = region grid.now.size in is_last ≡ (row % (h + 2) == h + 1) }
     ensures count { result ≡ wrong_among grid.now (row * side grid.now.size) (side grid.now.size) }
     ensures most { result ≤ side grid.now.size }
 {
-    let framed = grid.size().region() + 2;
-    let is_last = row % framed == framed - 1;
+    let line = grid.row(row);
+    let _size = grid.size();
     let mut wrong = 0;
     for column in 0..grid.side() {
         let wanted = is_dark_at_end(is_last, column);
-        wrong += u16::from(differs(grid.module(row, column), wanted));
+        wrong += u16::from(differs(line[column as usize], wanted));
     }
     wrong
 }
 
 // The same of a row inside of its framed regions, where only the first and the last column of each region can be wrong.
-fn wrong_at_sides<A: Allocator>(grid: &Grid<A>, row: u16) -> u16
+// There are `across` regions side by side, each `framed` wide with its frame.
+fn wrong_at_sides<A: Allocator>(grid: &Grid<A>, row: u16, framed: u16, across: u16) -> u16
     requires row_in { row < side grid.now.size }
     requires inside { let h = region grid.now.size in (1 ≤ row % (h + 2)) × (row % (h + 2) ≤ h) }
+    requires framed { framed ≡ region grid.now.size + 2 }
+    requires across { across ≡ across_of grid.now.size }
     ensures count { result ≡ wrong_among grid.now (row * side grid.now.size) (side grid.now.size) }
     ensures most { result ≤ side grid.now.size }
 {
-    let size = grid.size();
-    let framed = size.region() + 2;
-    let is_odd = row % framed % 2 == 1;
+    let line = grid.row(row);
+    let _size = grid.size();
+    let is_odd = row % 2 == 1;
     let mut wrong = 0;
-    for b in 0..size.across() {
-        let left = differs(grid.module(row, b * framed), true);
-        let right = differs(grid.module(row, b * framed + framed - 1), is_odd);
+    for b in 0..across {
+        let first = b as usize * framed as usize;
+        let left = differs(line[first], true);
+        let right = differs(line[first + framed as usize - 1], is_odd);
         wrong += u16::from(left) + u16::from(right);
     }
     wrong
 }
 
-// The same of any row.
-fn wrong_of_row<A: Allocator>(grid: &Grid<A>, row: u16) -> u16
+// The same of any row, given its place in its framed regions.
+fn wrong_of_row<A: Allocator>(grid: &Grid<A>, row: u16, place: u16, framed: u16, across: u16) -> u16
     requires row_in { row < side grid.now.size }
+    requires place { place ≡ row % (region grid.now.size + 2) }
+    requires framed { framed ≡ region grid.now.size + 2 }
+    requires across { across ≡ across_of grid.now.size }
     ensures count { result ≡ wrong_among grid.now (row * side grid.now.size) (side grid.now.size) }
     ensures most { result ≤ side grid.now.size }
 {
-    let region = grid.size().region();
-    let place = row % (region + 2);
-    if place == 0 || place > region {
-        wrong_in_row(grid, row)
+    if place == 0 || place == framed - 1 {
+        wrong_in_row(grid, row, place != 0)
     } else {
-        wrong_at_sides(grid, row)
+        wrong_at_sides(grid, row, framed, across)
     }
 }
 
-// How many modules of a grid's finder patterns are wrong.
+// How many modules of a grid's finder patterns are wrong. The place of each row is counted, since to divide costs more.
 fn wrong_count<A: Allocator>(grid: &Grid<A>) -> u16
     ensures { result ≡ wrong_frame_modules grid.now }
 {
+    let size = grid.size();
+    let framed = size.region() + 2;
+    let across = size.across();
     let mut wrong = 0;
+    let mut place = 0;
     for row in 0..grid.side() {
-        wrong += wrong_of_row(grid, row);
+        wrong += wrong_of_row(grid, row, place, framed, across);
+        place = if place == framed - 1 { 0 } else { place + 1 };
     }
     wrong
 }

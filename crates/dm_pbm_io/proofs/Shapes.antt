@@ -1,5 +1,5 @@
 -- Which pictures have the shape of a grid.
-use Rattle.std.proofs.Common.{◌<◌, ◌≤◌, lit≤, arith}
+use Rattle.std.proofs.Common.{◌≡◌, ◌+◌, ◌-◌, ◌*◌, ◌<◌, ◌≤◌, lit≤, arith, ap}
 use Rattle.dm_check_blocks.specs.declared.size.Size.{Size}
 use Rattle.dm_check_blocks.specs.declared.size.Size.TheVariants.{Side10}
 use Rattle.dm_check_blocks.specs.Sizes.{side, row}
@@ -15,3 +15,13 @@ smallest_side _ = lit≤ tt
 -- an image less than three pixels wide has no place for a symbol
 pub too_narrow : (p : Picture) → p.width < 3 → HasShape p → ⊥
 too_narrow p h shape = omega (arith, smallest_side shape.size, shape.side)
+
+-- an image with that shape is at least three pixels wide
+pub wide_enough : (p : Picture) → HasShape p → 3 ≤ p.width
+wide_enough p shape = omega (arith, smallest_side shape.size, shape.side)
+
+-- as many modules stand inside as the symbol has
+pub as_many : (p : Picture) (s : Size) → side s + 2 ≡ p.width → (p.width - 2) * (p.width - 2) ≡ side s * side s
+as_many p s e =
+    let n : p.width - 2 ≡ side s = omega arith in
+    ap (λ k. k * k) n

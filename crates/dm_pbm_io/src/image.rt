@@ -1,6 +1,6 @@
 //! Images, and their reading.
 
-ghost use Rattle.std.specs.Prelude.{◌≡◌, ◌<◌, ◌≤◌, ◌*◌, ℕ, List, [], ◌∷◌, vec_capacity, MatchResult, MatchOption};
+ghost use Rattle.std.specs.Prelude.{◌≡◌, ◌<◌, ◌≤◌, ◌*◌, ℕ, List, [], ◌∷◌, ◌++◌, vec_capacity, Some, IsErrOf, MatchResult, MatchOption};
 ghost use Rattle.std.specs.Io.KnownBytes.{Consumes, Keeps, IsAtEnd};
 ghost use Rattle.dm_pbm_io.specs.Header.{magic};
 ghost use Rattle.dm_pbm_io.specs.Image.{IsNoMagic, IsRaster, Spells, SpellsAfterMagic, Refuses, RefusesAfterMagic};
@@ -12,8 +12,9 @@ ghost use Rattle.dm_pbm_io.specs.inner.Streaming.{FindsEnd, Takes, TakesUntil};
 use crate::fault::{PbmFault, RasterFault};
 use crate::header::read_size;
 use crate::limits::GREATEST_SIDE;
-use crate::raster::{read_packed, read_plain};
-use crate::source::{ByteSource, read_byte};
+use crate::packed::RowSource;
+use crate::raster::{push_light, read_packed, read_plain};
+use crate::source::{ByteSource, InMemory, read_byte};
 use relay_streams::Input;
 use std::alloc::{Allocator, Global};
 use std::io::Read;
@@ -63,7 +64,7 @@ fn read_magic<M, S: ByteSource<M>>(source: &mut S) -> Result<Option<bool>, PbmFa
 }
 
 // The pixels of an image, for which there is room.
-fn read_raster<M, S: ByteSource<M>, A: Allocator>(
+fn read_raster<M, S: RowSource<M>, A: Allocator>(
     source: &mut S,
     pixels: &mut Vec<bool, A>,
     plain: bool,
@@ -84,12 +85,13 @@ fn read_raster<M, S: ByteSource<M>, A: Allocator>(
     if plain {
         read_plain(source, pixels, width * height)
     } else {
-        Ok(read_packed(source, pixels, width, height)?)
+        push_light(pixels, width * height);
+        Ok(read_packed(source, pixels.as_mut_slice(), width, height)?)
     }
 }
 
 // The image after its magic number.
-fn read_after_magic<M, S: ByteSource<M>, A: Allocator + Copy>(
+fn read_after_magic<M, S: RowSource<M>, A: Allocator + Copy>(
     alloc: A,
     source: &mut S,
     plain: bool,
@@ -118,7 +120,7 @@ fn read_after_magic<M, S: ByteSource<M>, A: Allocator + Copy>(
 }
 
 // The next image of a source, or `None` at its end. No byte after the image is taken.
-fn read_from<M, S: ByteSource<M>, A: Allocator + Copy>(
+fn read_from<M, S: RowSource<M>, A: Allocator + Copy>(
     alloc: A,
     source: &mut S,
 ) -> Result<Option<Image<A>>, PbmFault>
@@ -156,6 +158,22 @@ pub fn read_image<R: Read, A: Allocator + Copy>(
         × Refuses fault taken (R.remaining reader.new)) }
 {
     read_from(alloc, reader)
+}
+
+/// The image that the bytes begin with, or `None` if there are none.
+///
+/// # Errors
+/// As [`Image::read`], but for `Read`, which does not come.
+pub fn image_in<A: Allocator + Copy>(alloc: A, bytes: &[u8]) -> Result<Option<Image<A>>, PbmFault>
+    ensures image { MatchResult result
+        (λ found. MatchOption found (bytes.now ≡ [])
+        (λ image. (taken : List ℕ) × (rest : List ℕ) × (bytes.now ≡ taken ++ rest) × Spells taken (picture image)))
+        (λ fault. (taken : List ℕ) × (rest : List ℕ) × (bytes.now ≡ taken ++ rest)
+        × Refuses fault taken (Some rest)) }
+    ensures never_failed { IsErrOf result PbmFault.Read → ⊥ }
+{
+    let mut source = bytes;
+    read_from::<InMemory, &[u8], A>(alloc, &mut source)
 }
 
 impl<A: Allocator + Copy> Image<A> {

@@ -1,6 +1,6 @@
-//! Where the bytes of an image come from: a reader that remembers whether it has failed, or any reader.
+//! Where the bytes of an image come from: a reader that remembers whether it has failed, any reader, or memory.
 
-ghost use Rattle.std.specs.Prelude.{◌≡◌, ◌<◌, List, ℕ, [], ◌∷◌, true, length, IfOk, OnErr, MatchResult};
+ghost use Rattle.std.specs.Prelude.{◌≡◌, ◌<◌, List, ℕ, [], ◌∷◌, true, false, Some, length, IfOk, OnErr, MatchResult};
 ghost use Rattle.std.specs.Io.KnownBytes.{Keeps};
 ghost use Rattle.relay_streams.specs.Streams.{InputView, TakesFewer};
 ghost use Rattle.dm_pbm_io.specs.Stops.{HasNoByte};
@@ -17,7 +17,10 @@ pub(crate) struct Remembering;
 /// Marks a bare reader. It counts as failed from the start, so that nothing is claimed of its failures.
 pub(crate) struct Bare;
 
-/// A source of bytes. The mark `M` keeps the two impls apart.
+/// Marks bytes in memory, of which no read fails.
+pub(crate) struct InMemory;
+
+/// A source of bytes. The mark `M` keeps the impls apart.
 pub(crate) trait ByteSource<M> {
     ghost view: { Self → InputView };
 
@@ -56,6 +59,28 @@ impl<R: Read> ByteSource<Bare> for R {
 
     fn fill_buffer(&mut self, buffer: &mut [u8]) -> Result<usize, ReadFault> {
         fill_from(self, buffer)
+    }
+}
+
+impl ByteSource<InMemory> for &[u8] {
+    ghost view = { λ bytes. record { remaining = Some bytes.now; has_failed = false } };
+
+    #[inline(always)]
+    fn next(&mut self) -> Result<Option<u8>, ReadFault> {
+        let bytes: &[u8] = *self;
+        if bytes.is_empty() {
+            return Ok(None);
+        }
+        *self = &bytes[1..];
+        Ok(Some(bytes[0]))
+    }
+
+    fn fill_buffer(&mut self, buffer: &mut [u8]) -> Result<usize, ReadFault> {
+        let bytes: &[u8] = *self;
+        let count = bytes.len().min(buffer.len());
+        buffer[..count].copy_from_slice(&bytes[..count]);
+        *self = &bytes[count..];
+        Ok(count)
     }
 }
 

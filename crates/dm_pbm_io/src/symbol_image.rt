@@ -1,6 +1,6 @@
 //! From a grid to its image, inside a quiet zone one pixel wide, and back.
 
-ghost use Rattle.std.specs.Prelude.{◌≡◌, ◌+◌, ◌*◌, ◌<◌, ◌≤◌, IfOk, IsErrOf, length};
+ghost use Rattle.std.specs.Prelude.{◌≡◌, ◌+◌, ◌*◌, ◌<◌, ◌≤◌, IfOk, IsErrOf, MatchOption, length};
 ghost use Rattle.dm_check_blocks.specs.Sizes as sizes;
 ghost use Rattle.dm_finder_frame.specs.Grids.{square_of};
 ghost use Rattle.dm_pbm_io.specs.SymbolImage.{HasShape, IsGridInside, image_with_quiet_zone, modules_inside};
@@ -71,6 +71,21 @@ fn modules_of<A: Allocator + Copy, B: Allocator>(
     Ok(modules)
 }
 
+// The size of the symbol that an image shows inside its quiet zone, if it has the shape of one.
+fn size_in<A: Allocator>(image: &Image<A>) -> Option<Size>
+    ensures { MatchOption result (HasShape (picture image.now) → ⊥)
+        (λ size. HasShape (picture image.now) × (sizes.side size + 2 ≡ image.now.width)) }
+{
+    let count = image.width as usize * image.height as usize;
+    if image.width != image.height || image.pixels.len() != count {
+        return None;
+    }
+    if image.width < 3 {
+        return None;
+    }
+    Size::of_side(image.width - 2)
+}
+
 /// The grid of the pixels inside the quiet zone, one pixel wide on each side, whose own pixels aren't looked at.
 ///
 /// # Errors
@@ -84,15 +99,35 @@ pub fn grid_of<A: Allocator + Copy, B: Allocator>(
     ensures shape { IsErrOf result ShapeFault.Shape → HasShape (picture image.now) → ⊥ }
     ensures memory { IsErrOf result ShapeFault.Memory → HasShape (picture image.now) }
 {
-    let count = image.width as usize * image.height as usize;
-    if image.width != image.height || image.pixels.len() != count {
-        return Err(ShapeFault::Shape);
-    }
-    if image.width < 3 {
-        return Err(ShapeFault::Shape);
-    }
-    let Some(size) = Size::of_side(image.width - 2) else {
+    let Some(size) = size_in(image) else {
         return Err(ShapeFault::Shape);
     };
     Ok(Grid::from_modules(size, modules_of(alloc, image)?))
+}
+
+// The pixels inside the quiet zone, row by row, in the memory of all pixels. Each row moves to a place before its own.
+fn modules_moved<A: Allocator>(image: Image<A>) -> Vec<bool, A>
+    requires square { image.width ≡ image.height }
+    requires zone { 3 ≤ image.width }
+    requires count { length image.pixels.items ≡ image.width * image.height }
+    ensures { result.items ≡ modules_inside (picture image) }
+{
+    let width = image.width as usize;
+    let side = width - 2;
+    let mut pixels = image.pixels;
+    for row in 0..side {
+        let start = (row + 1) * width + 1;
+        pixels.copy_within(start..start + side, row * side);
+    }
+    pixels.truncate(side * side);
+    pixels
+}
+
+/// The grid that `grid_of` gives, in the memory of the image, or `None` where the image has not the shape of a symbol.
+pub fn grid_moved<A: Allocator>(image: Image<A>) -> Option<Grid<A>>
+    ensures { MatchOption result (HasShape (picture image) → ⊥)
+        (λ grid. HasShape (picture image) × IsGridInside (picture image) grid) }
+{
+    let size = size_in(&image)?;
+    Some(Grid::from_modules(size, modules_moved(image)))
 }

@@ -3,7 +3,9 @@
 ghost use Rattle.std.specs.Prelude.{◌≡◌, ◌*◌, IfOk, length};
 
 use dm_finder_frame::Grid;
-use dm_pbm_io::{Image, PbmFault, grid_of, image_of, read_image, write_image};
+use dm_pbm_io::{
+    Image, PbmFault, grid_moved, grid_of, image_in, image_of, read_image, write_image,
+};
 use relay_streams::{Input, Output};
 use std::alloc::{AllocError, Global};
 use std::io::Read;
@@ -39,6 +41,7 @@ const REFUSALS: [(&[u8], Option<PbmFault>); 16] = [
 fn bytes_are_refused(rt: HostRuntime) {
     let alloc = rt.alloc();
     for (bytes, fault) in REFUSALS {
+        assert!(rt; image_in(alloc, bytes).err() == fault, "{bytes:?}");
         for passes in 0..bytes.len() + 1 {
             let reader = InterruptedReader::new(bytes, passes);
             assert!(rt;
@@ -157,6 +160,9 @@ fn a_symbol_is_read_and_drawn(rt: HostRuntime) -> Result<(), Fail> {
         assert!(rt; image.plain == plain);
         let grid = grid_of(alloc, &image)?;
         assert!(rt; is_symbol(&grid));
+        let image = image_in(alloc, text)?.expect(&rt, "an image");
+        let moved = grid_moved(image).expect(&rt, "a grid");
+        assert!(rt; is_symbol(&moved));
         let image = image_of(alloc, &grid, plain)?;
         let mut bytes = Vec::new(alloc);
         write_image(&mut bytes, &image)?;

@@ -1,11 +1,11 @@
 use Rattle.std.specs.Prelude.{◌%◌}
-use Rattle.std.proofs.Common.{◌≡◌, ℕ, ◌+◌, ◌-◌, ◌*◌, ◌<◌, ◌||◌, Bool, cond, eqb, ap, sym, ◌∙◌, arith}
+use Rattle.std.proofs.Common.{◌≡◌, ℕ, ◌+◌, ◌*◌, ◌<◌, ◌||◌, Bool, cond, eqb, false, get_or, ap, sym, ◌∙◌, arith}
 use Rattle.dm_check_blocks.specs.Sizes.{side, region}
 use Rattle.dm_finder_frame.specs.Frame.{is_wrong}
 use Rattle.dm_finder_frame.specs.Grids.{GridView, grid_module_at}
 use Rattle.dm_finder_frame.specs.inner.Filled.{wrong_among}
 use Rattle.dm_finder_frame.proofs.GridPlaces.{even_columns}
-use Rattle.dm_finder_frame.proofs.WrongCounts.{one_more, is_test, differs_is, wrong_is, on_ends, ends_value, test_number, at_most_one}
+use Rattle.dm_finder_frame.proofs.WrongCounts.{line_module, one_more, is_test, differs_is, wrong_is, on_ends, ends_value, test_number, at_most_one}
 use Rattle.dm_finder_frame.proofs.unframing.wrong_in_row.Goals as goal
 
 -- one module more is counted
@@ -18,10 +18,6 @@ counts g first n a b t ea et eb =
     let same : one t ≡ one (is_wrong g (first + n)) = ap one et in
     omega (arith, e, same, ea, eb)
 
--- the last place of a framed region
-last_place : (h : ℕ) → h + 2 - 1 ≡ h + 1
-last_place h = omega arith
-
 pub loop-column-preserved : goal.loop-column-preserved
 loop-column-preserved k c =
     let g = c.args.grid.now in
@@ -32,15 +28,12 @@ loop-column-preserved k c =
     let q = n % (h + 2) in
     let there : n < side g.size = omega (arith, c.side-column-end.ensures.value) in
     let dark = grid_module_at g r n in
-    let last : ℕ → Bool = λ x. eqb (r % (x + 2)) (x + 2 - 1) in
-    let is_last : last c.region-framed.result ≡ eqb p (h + 1) =
-    ap last (c.region-framed.ensures.value ∙ ap region c.size.ensures.same) ∙ ap (eqb p) (last_place h) in
     let wanted : c.is_dark_at_end-wanted.result ≡ (eqb p (h + 1) || eqb (q % 2) 0) =
-    c.is_dark_at_end-wanted.ensures ∙ ap (λ x. x || eqb (n % 2) 0) is_last
+    c.is_dark_at_end-wanted.ensures ∙ ap (λ x. x || eqb (n % 2) 0) c.requires.which
     ∙ ap (λ x. eqb p (h + 1) || eqb x 0) (sym (even_columns g.size n)) in
     let t : c.differs.result ≡ is_wrong g (r * side g.size + n) =
-    differs_is c.differs.result c.module.result dark c.is_dark_at_end-wanted.result _ c.differs.ensures
-    c.module.ensures wanted
+    differs_is c.differs.result (get_or c.row-line.result.now n false) dark c.is_dark_at_end-wanted.result _
+    c.differs.ensures (line_module g r n c.row-line.result.now c.requires.row_in there c.row-line.ensures) wanted
     ∙ sym (wrong_is h p q dark _ (on_ends h p q c.requires.at_end) (ends_value h p q c.requires.at_end))
     ∙ is_test g r n there in
     let one = c.from-wrong.ensures ∙ test_number c.differs.result in

@@ -1,0 +1,37 @@
+use Rattle.std.proofs.Common.{◌≡◌, ◌<◌, ℕ, ◌+◌, ◌-◌, ◌*◌, ◌/◌, ◌%◌, ◌++◌, ◌∷◌, [], List, Bool, min, length, take, drop, get_or, flat_map, ap, sym, ◌∙◌, append-nil, rules, arith, take_all, length-drop, drop_of_length-le}
+use Rattle.std.proofs.lemmas.List.{take_more, length-take-le}
+use borrow.Rule.Slice.PartMut.{put_mid, post_of}
+use Rattle.dm_pbm_io.specs.Raster.{bits, row_of}
+use Rattle.dm_pbm_io.proofs.Rows.{row_more}
+use Rattle.dm_pbm_io.proofs.packed.draw_row.Goals as goal
+
+-- the last pixels of a row, of which the whole bytes are drawn
+last_drawn : (whole rest width : ℕ) (row : List ℕ) (pixels last : List Bool) → length pixels ≡ width
+    → 8 * whole + rest ≡ width → 0 < rest → rest < 8 → length row ≡ whole + 1
+    → take (8 * whole) pixels ≡ flat_map bits (take whole row) → last ≡ take rest (bits (get_or row whole 0))
+    → put_mid (8 * whole) (length pixels - 8 * whole) pixels last ≡ row_of width row
+last_drawn whole rest width row pixels last wide parts some few rows done is =
+    let b = get_or row whole 0 in
+    let left = take whole row in
+    let first = take (8 * whole) pixels in
+    let none : post_of (8 * whole) (length pixels - 8 * whole) pixels ≡ [] =
+    drop_of_length-le (drop (8 * whole) pixels) (omega (arith, length-drop (8 * whole) pixels)) in
+    let short : length first ≡ 8 * whole = length-take-le (8 * whole) pixels (omega arith) in
+    let front : row_of width left ≡ first = ap (take width) (sym done) ∙ take_all width first (omega arith) in
+    let size : length left ≡ whole = length-take-le whole row (omega arith) in
+    let room : min (width - 8 * whole) 8 ≡ rest = omega arith in
+    let all : left ++ b ∷ [] ≡ row =
+    sym (take_more row whole 0 (omega arith)) ∙ take_all (whole + 1) row (omega arith) in
+    ap (λ t. first ++ (last ++ t)) none ∙ ap (λ t. first ++ t) (append-nil last ∙ is)
+    ∙ ap (λ t. t ++ take rest (bits b)) (sym front) ∙ ap (λ m. row_of width left ++ take m (bits b)) (sym room)
+    ∙ sym (row_more width whole b left size (omega arith)) ∙ ap (row_of width) all
+
+pub returns-then-rest-ne0 : goal.returns-then-rest-ne0
+returns-then-rest-ne0 c =
+    let width = length c.args.pixels.now in
+    let at : c.loop-at.at ≡ width / 8 = omega arith in
+    let same : length c.loop-at.pixels ≡ width = search rules in
+    last_drawn (width / 8) (width % 8) width c.args.row.now c.loop-at.pixels _ same (omega arith)
+    (omega arith) (omega arith) (omega arith) (rw at at c.loop-at.invariant)
+    (c.copy_from_slice-then-rest-ne0.ensures.after ∙ ap (λ n. take (n % 8) c.bits_of-bits.result) same
+    ∙ ap (take (width % 8)) c.bits_of-bits.ensures)

@@ -1,0 +1,89 @@
+//! The rows of packed rasters, from a source to pixels. A reader's row goes through a buffer; that of bytes in memory
+//! is drawn from where it stands.
+
+ghost use Rattle.std.specs.Prelude.{◌≡◌, ℕ, ◌<◌, ◌≤◌, List, length, MatchResult};
+ghost use Rattle.dm_pbm_io.specs.Raster.{stride, row_of};
+ghost use Rattle.dm_pbm_io.specs.Stops.{HasNoByte};
+ghost use Rattle.dm_pbm_io.specs.inner.Narrow.{byte_fault};
+ghost use Rattle.dm_pbm_io.specs.inner.Streaming.{Takes, TakesUntil};
+
+use crate::fault::ByteFault;
+use crate::limits::GREATEST_SIDE;
+use crate::source::{Bare, ByteSource, InMemory, Remembering, next_row};
+use dm_placement::bits_of;
+use relay_streams::Input;
+use std::io::Read;
+
+// The most bytes of a row of a packed raster.
+const ROW_BYTES: usize = 128;
+
+// Draws the pixels of the bytes of a row.
+fn draw_row(pixels: &mut [bool], row: &[u8])
+    requires { length row.now ≡ stride (length pixels.old) }
+    ensures { pixels.new ≡ row_of (length pixels.old) row.now }
+{
+    let whole = pixels.len() / 8;
+    for at in 0..whole {
+        pixels[8 * at..8 * at + 8].copy_from_slice(&bits_of(row[at]));
+    }
+    let rest = pixels.len() % 8;
+    if rest != 0 {
+        let bits = bits_of(row[whole]);
+        pixels[8 * whole..].copy_from_slice(&bits[..rest]);
+    }
+}
+
+// Draws the next row of a packed raster, by way of a buffer.
+fn draw_from<M, S: ByteSource<M>>(source: &mut S, pixels: &mut [bool]) -> Result<(), ByteFault>
+    requires { length pixels.old ≤ GREATEST_SIDE }
+    ensures { MatchResult result
+        (λ _. (row : List ℕ) × Takes (S.view source.old) (S.view source.new) row
+        × (length row ≡ stride (length pixels.old)) × (pixels.new ≡ row_of (length pixels.old) row))
+        (λ fault. (part : List ℕ) × TakesUntil (S.view source.old) (S.view source.new) part (byte_fault fault)
+        × (length part < stride (length pixels.old)) × HasNoByte (S.view source.new).remaining (byte_fault fault)) }
+{
+    let mut bytes = [0u8; ROW_BYTES];
+    let row = &mut bytes[..pixels.len().div_ceil(8)];
+    next_row(source, row)?;
+    draw_row(pixels, row);
+    Ok(())
+}
+
+/// A source of the rows of packed rasters.
+pub(crate) trait RowSource<M>: ByteSource<M> {
+    /// Draws the next row over other pixels. The image needs all of its bytes.
+    fn draw_next(&mut self, pixels: &mut [bool]) -> Result<(), ByteFault>
+        requires { length pixels.old ≤ GREATEST_SIDE }
+        ensures { MatchResult result
+            (λ _. (row : List ℕ) × Takes (Self.view self.old) (Self.view self.new) row
+            × (length row ≡ stride (length pixels.old)) × (pixels.new ≡ row_of (length pixels.old) row))
+            (λ fault. (part : List ℕ) × TakesUntil (Self.view self.old) (Self.view self.new) part (byte_fault fault)
+            × (length part < stride (length pixels.old))
+            × HasNoByte (Self.view self.new).remaining (byte_fault fault)) };
+}
+
+impl<R: Read> RowSource<Remembering> for Input<R> {
+    fn draw_next(&mut self, pixels: &mut [bool]) -> Result<(), ByteFault> {
+        draw_from(self, pixels)
+    }
+}
+
+impl<R: Read> RowSource<Bare> for R {
+    fn draw_next(&mut self, pixels: &mut [bool]) -> Result<(), ByteFault> {
+        draw_from(self, pixels)
+    }
+}
+
+impl RowSource<InMemory> for &[u8] {
+    fn draw_next(&mut self, pixels: &mut [bool]) -> Result<(), ByteFault> {
+        let bytes: &[u8] = *self;
+        let count = pixels.len().div_ceil(8);
+        if bytes.len() < count {
+            *self = &bytes[bytes.len()..];
+            return Err(ByteFault::Cut);
+        }
+        draw_row(pixels, &bytes[..count]);
+        *self = &bytes[count..];
+        Ok(())
+    }
+}
