@@ -9,13 +9,18 @@ mod symbol;
 
 use measure::{Spread, greatest_heap, repeats, spread_of};
 use others::{Maker, Reader};
-use softcairn::Buffer;
+use softcairn::{Batch, Buffer};
 use std::fmt;
 use std::hint::black_box;
 use std::process::ExitCode;
 use symbol::{HEAD_WORDS, SIZES, Size};
 
 const OURS: &str = "softcairn";
+
+const OUR_BATCH: &str = "softcairn, batch";
+
+/// How many symbols a batch has.
+const BATCH: usize = 128;
 
 #[derive(Clone, Copy, PartialEq)]
 enum Kind {
@@ -54,6 +59,8 @@ struct Contender {
     library: &'static str,
     /// Pixels along a module that it reads.
     scale: usize,
+    /// Symbols of a call.
+    symbols: usize,
     call: Box<dyn FnMut()>,
 }
 
@@ -65,7 +72,12 @@ struct Contest {
 
 impl Contest {
     fn add(&mut self, work: Work, library: &'static str, scale: usize, call: impl FnMut() + 'static) {
-        self.contenders.push(Contender { work, library, scale, call: Box::new(call) });
+        self.contenders.push(Contender { work, library, scale, symbols: 1, call: Box::new(call) });
+    }
+
+    fn add_batch(&mut self, work: Work, call: impl FnMut() + 'static) {
+        let call = Box::new(call);
+        self.contenders.push(Contender { work, library: OUR_BATCH, scale: 1, symbols: BATCH, call });
     }
 
     fn add_making(&mut self, size: Size) {
@@ -76,6 +88,13 @@ impl Contest {
         let ours = text.clone();
         self.add(work, OURS, 1, move || {
             black_box(buffer.symbol_from_text(size.side, black_box(&ours)));
+        });
+        let image = drawn(size, &text);
+        let mut batch = Batch::new(size.side, &text, &image, BATCH);
+        batch.clear_images();
+        assert!(batch.draw() && batch.holds(&text, &image));
+        self.add_batch(work, move || {
+            black_box(black_box(&mut batch).draw());
         });
         for maker in others::makers() {
             self.add_maker(work, size, &text, &modules, maker);
@@ -107,6 +126,12 @@ impl Contest {
         let ours = image.clone();
         self.add(work, OURS, 1, move || {
             black_box(buffer.text_from_image(black_box(&ours)));
+        });
+        let mut batch = Batch::new(size.side, &text, &image, BATCH);
+        batch.clear_texts();
+        assert!(batch.read() && batch.holds(&text, &image));
+        self.add_batch(work, move || {
+            black_box(black_box(&mut batch).read());
         });
         for reader in others::readers() {
             self.add_reader(work, size, &text, &image, reader);
@@ -185,25 +210,30 @@ fn print_aim(what: &str, ours: Option<&[f64]>, others: Option<&[f64]>, aim: f64)
         None => println!("- {what}: not measured; aim at most {aim}"),
         Some(Spread { low, middle, high }) => {
             let verdict = if middle <= aim { "reached" } else { "not reached" };
-            println!("- {what}: {middle:.2} ({low:.2} to {high:.2}); aim at most {aim}: {verdict}");
+            println!("- {what}: {middle:.3} ({low:.3} to {high:.3}); aim at most {aim}: {verdict}");
         }
     }
 }
 
 /// What is aimed at on each side: the most of libiec16022's time to make a symbol, of ZXing's to read a clean
 /// one, and, to read one with wrong words, of ZXing's to read a clean one.
-const AIMS: [(u16, [f64; 3]); 3] =
-    [(10, [0.85, 0.17, 0.28]), (52, [0.20, 0.06, 0.17]), (132, [0.09, 0.03, 0.13])];
+type Aims = [(u16, [f64; 3]); 3];
 
-fn print_aims(times: &[Times]) {
+/// Of single calls.
+const AIMS: Aims = [(10, [0.85, 0.17, 0.28]), (52, [0.20, 0.06, 0.17]), (132, [0.09, 0.03, 0.13])];
+
+/// Of batches.
+const BATCH_AIMS: Aims = [(10, [0.50, 0.11, 0.22]), (52, [0.14, 0.045, 0.16]), (132, [0.06, 0.02, 0.12])];
+
+fn print_aims(times: &[Times], library: &str, aims: &Aims) {
     for size in SIZES {
-        let Some((_, [make_aim, clean_aim, damaged_aim])) = AIMS.iter().find(|(side, _)| *side == size.side) else {
+        let Some((_, [make_aim, clean_aim, damaged_aim])) = aims.iter().find(|(side, _)| *side == size.side) else {
             continue;
         };
         let make = Work { kind: Kind::Make, side: size.side, wrong: 0 };
         let clean = Work { kind: Kind::Read, side: size.side, wrong: 0 };
         let damaged = Work { kind: Kind::Read, side: size.side, wrong: size.limit() };
-        let ours = |work| times_of(times, work, OURS);
+        let ours = |work| times_of(times, work, library);
         let zxing = times_of(times, clean, "ZXing, pure");
         print_aim(&format!("{make}, to libiec16022"), ours(make), times_of(times, make, "libiec16022"), *make_aim);
         print_aim(&format!("{clean}, to ZXing, pure"), ours(clean), zxing, *clean_aim);
@@ -244,19 +274,23 @@ fn measure_all() {
     let times: Vec<Times> = contenders
         .iter()
         .zip(repeats)
-        .map(|(Contender { work, library, scale, .. }, microseconds)| Times {
+        .map(|(Contender { work, library, scale, symbols, .. }, microseconds)| Times {
             work: *work,
             library,
             scale: *scale,
-            microseconds,
+            microseconds: microseconds.iter().map(|time| time / *symbols as f64).collect(),
         })
         .collect();
     print_times(&times);
     println!();
-    print_aims(&times);
+    println!("Single calls:\n");
+    print_aims(&times, OURS, &AIMS);
     for size in SIZES {
         print_heap(size);
     }
+    println!("\nBatches of {BATCH}, what they keep made anew for each:\n");
+    print_aims(&times, OUR_BATCH, &BATCH_AIMS);
+    println!();
     for remark in &remarks {
         println!("- {remark}");
     }

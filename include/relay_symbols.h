@@ -45,6 +45,31 @@ size_t relay_text_from_image(const uint8_t *image, size_t image_length, uint8_t 
  * wrong, the words have no head or no text after it, the bytes have no room, or memory is refused. */
 size_t relay_page_from_image(const uint8_t *image, size_t image_length, uint8_t *bytes, size_t bytes_length);
 
+/* The length of each image of a symbol of this side, also of a label: a header, and rows of whole bytes. */
+#define RELAY_IMAGE_LENGTH(side) (((side) + 2 < 100 ? 9 : 11) + ((side) + 2) * (((side) + 9) / 8))
+
+/* Many symbols of one side. What depends on the side alone is made once for all of them, so that each costs less than by
+ * a call of its own. No symbol depends on another, nor on what a call was asked before.
+ *
+ * `count` texts and `count` images stand in arrays of `count` rooms of equal length, as
+ *
+ *     uint8_t texts[COUNT][64], images[COUNT][RELAY_IMAGE_LENGTH(52)];
+ *     size_t lengths[COUNT];
+ *
+ * do, each at the front of its room. The lengths of whole arrays are passed, `sizeof texts` and `sizeof images`. */
+
+/* Draws the symbol of each text, until one is refused, and answers how many are drawn: `count`, or the number of the first
+ * text, from 0, that is longer than its room or does not fit a symbol of this side, whose image has no room, or for which
+ * memory is refused; 0 where no symbol has this side. The rooms of images from that one on are as they were. */
+size_t relay_symbols_from_texts(uint16_t side, const uint8_t *texts, size_t texts_length, const size_t *lengths,
+                                size_t count, uint8_t *images, size_t images_length);
+
+/* Reads the symbol of each image and corrects it, and answers how many are read. lengths[k] is then the length of the
+ * k-th text, from 0, or RELAY_REFUSED, with its room as it was, where relay_text_from_image would refuse the k-th image
+ * and room. Images of another side are read too, at more cost; where no symbol has this side, all are refused. */
+size_t relay_texts_from_images(uint16_t side, const uint8_t *images, size_t images_length, uint8_t *texts,
+                               size_t texts_length, size_t *lengths, size_t count);
+
 #ifdef __cplusplus
 }
 #endif

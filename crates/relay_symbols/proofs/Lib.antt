@@ -1,1 +1,2 @@
+pub mod BatchRooms
 pub mod Outcomes

@@ -1,6 +1,7 @@
 //! Symbols for programs in C.
 
-ghost use Rattle.std.specs.Prelude.{◌≡◌, ◌≢◌, ◌≤◌, ◌^◌, ◌-◌, IfSome, length, take};
+ghost use Rattle.std.specs.Prelude.{◌≡◌, ◌≢◌, ◌≤◌, ◌^◌, ◌-◌, ℕ, List, IfSome, length, take};
+ghost use Rattle.relay_symbols.specs.Images.{ShowsGrid};
 ghost use Rattle.relay_symbols.specs.Symbols.{DrawsText, DrawsWords, ReadsText};
 
 use crate::drawing::grid_image;
@@ -8,6 +9,7 @@ use crate::opening::grid_from;
 use crate::putting::put;
 use dm_check_blocks::Size;
 use dm_encodation::{Scheme, decode, encode};
+use dm_finder_frame::Grid;
 use dm_symbol::{correct_grid, draw_symbol, draw_words};
 use std::alloc::{Allocator, Global};
 
@@ -75,15 +77,22 @@ pub extern "C" fn relay_image_from_words(
     put(&bytes, image).unwrap_or(0)
 }
 
+// The text of the symbol of a grid, which an image shows.
+pub(crate) fn text_of_grid<A: Allocator + Copy>(alloc: A, grid: &Grid<A>) -> Option<Vec<u8, A>>
+    ensures { IfSome result (λ text. (image : List ℕ) → ShowsGrid image grid.now → ReadsText image text.items) }
+{
+    let Ok(symbol) = correct_grid(alloc, grid) else {
+        return None;
+    };
+    decode(alloc, symbol.data(), 0).ok()
+}
+
 // The text of the symbol of an image.
 fn text_of<A: Allocator + Copy>(alloc: A, image: &[u8]) -> Option<Vec<u8, A>>
     ensures { IfSome result (λ text. ReadsText image.now text.items) }
 {
     let grid = grid_from(alloc, image)?;
-    let Ok(symbol) = correct_grid(alloc, &grid) else {
-        return None;
-    };
-    decode(alloc, symbol.data(), 0).ok()
+    text_of_grid(alloc, &grid)
 }
 
 /// Reads the symbol of the image that `image` begins with, corrects it, and answers the length of its text, which

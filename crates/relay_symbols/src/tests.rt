@@ -1,6 +1,6 @@
 use crate::{
     relay_image_from_words, relay_label_from_text, relay_page_from_image, relay_symbol_from_text,
-    relay_text_from_image,
+    relay_symbols_from_texts, relay_text_from_image, relay_texts_from_images,
 };
 
 // All words of the symbol of side 10 that carries the digits 123456, and its image.
@@ -47,4 +47,34 @@ fn refuses_and_writes_nothing(rt: HostRuntime) {
     assert!(rt; relay_text_from_image(rt.alloc(), b"P4", &mut text) == usize::MAX);
     assert!(rt; relay_page_from_image(rt.alloc(), IMAGE, &mut text) == usize::MAX);
     assert!(rt; text == [7; 5]);
+}
+
+// Of two texts the second is longer than its room; no image has room in 64 bytes.
+#[test]
+fn draws_a_batch(rt: HostRuntime) {
+    let mut images = [7; 2 * 33];
+    let drawn = relay_symbols_from_texts(rt.alloc(), 10, b"123456xxxxxx", &[6, 7], &mut images);
+    assert!(rt; drawn == 1);
+    assert!(rt; images.starts_with(IMAGE));
+    assert!(rt; images.ends_with(&[7; 33]));
+    let mut images = [7; 64];
+    let drawn = relay_symbols_from_texts(rt.alloc(), 10, b"1212", &[2, 2], &mut images);
+    assert!(rt; drawn == 0);
+    assert!(rt; images == [7; 64]);
+}
+
+// The second image is none, and no size has 11 modules along a side.
+#[test]
+fn reads_a_batch(rt: HostRuntime) {
+    let mut images = [0; 66];
+    images[..33].copy_from_slice(IMAGE);
+    let mut texts = [7; 12];
+    let mut lengths = [0, 0];
+    let read = relay_texts_from_images(rt.alloc(), 10, &images, &mut texts, &mut lengths);
+    assert!(rt; read == 1);
+    assert!(rt; lengths == [6, usize::MAX]);
+    assert!(rt; &texts == b"123456\x07\x07\x07\x07\x07\x07");
+    let read = relay_texts_from_images(rt.alloc(), 11, &images, &mut texts, &mut lengths);
+    assert!(rt; read == 0);
+    assert!(rt; lengths == [usize::MAX, usize::MAX]);
 }

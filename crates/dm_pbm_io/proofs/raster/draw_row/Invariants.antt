@@ -1,7 +1,0 @@
-use Rattle.std.proofs.Common.{◌≡◌, ◌*◌, take, flat_map}
-use Rattle.dm_pbm_io.specs.Raster.{bits}
-use Rattle.dm_pbm_io.proofs.raster.draw_row.Given as goal
-
--- the pixels of the first bytes are drawn
-abbrev pub invariant-loop-at : goal.invariant-loop-at
-invariant-loop-at l = take (8 * l.at) l.pixels ≡ flat_map bits (take l.at l.row)

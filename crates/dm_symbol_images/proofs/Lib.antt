@@ -1,0 +1,3 @@
+pub mod PixelPlaces
+pub mod ShownImages
+pub mod ShownWords

@@ -1,0 +1,3 @@
+-- Private: only contracts inside this crate cite what stands in this folder.
+pub mod Pictures
+pub mod Putting
