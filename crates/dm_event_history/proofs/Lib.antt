@@ -20,6 +20,8 @@ pub mod PrintsOnce
 pub mod RisingTickets
 pub mod TakesOnce
 pub mod ImportsExports
+pub mod HonestScans
+pub mod WrongModules
 pub mod Holdings
 pub mod Faithful
 pub mod WorkedOut
@@ -29,6 +31,8 @@ pub mod Right
 pub mod Explained
 pub mod RefutedLedgers
 pub mod RefutedHoldings
+pub mod RefutedScans
+pub mod RefutedImports
 pub mod Refuting
 pub mod RefutedDocuments
 pub mod RefutedPrints

@@ -6,6 +6,7 @@ use Rattle.std.specs.FinMap.{get-empty, len-empty, len-insert}
 use Rattle.std.specs.Cmp.{nat_cmp_total}
 use Rattle.std.specs.Ordering.{nat_cmp}
 use Rattle.std.proofs.lemmas.Bool.Decides.{nat_tests}
+use Rattle.dm_finder_frame.specs.Frame.{wrong_frame_modules}
 use Rattle.dm_append_label.specs.Pages.{PageView}
 use Rattle.dm_store.specs.declared.fuse.Kept.TheVariants as kept
 use Rattle.dm_assembly_desk.specs.Pages.{Pages, missing_mask}
@@ -24,10 +25,11 @@ use Rattle.dm_event_history.specs.declared.stop.Stop.TheVariants as stops
 use Rattle.dm_event_history.specs.History.{History, Entry, LabelName, names_from}
 use Rattle.dm_event_history.specs.Tainted.{AtDesk, IsTainted}
 use Rattle.dm_event_history.specs.Held.{Holding, both, IsPageOfLabel, DidWhatItCould, CanHold, first_entries}
+use Rattle.dm_event_history.specs.Headline.{WasFoundHonest}
 use Rattle.dm_event_history.specs.Worked.{digits, two_ranges}
 use Rattle.dm_event_history.specs.Unfaithful.{Run, IsFaithfulRun, IsFaithfulMarked, print, scan, page, lost_by_a_stop, held_though_forgotten, beyond_its_room, full_of_nothing}
 use Rattle.dm_event_history.proofs.HeldDocuments.{get_same, get_other, get_removed}
-use Rattle.dm_event_history.proofs.Refuting.{IsBehind}
+use Rattle.dm_event_history.proofs.Refuting.{IsBehind, marks}
 use Rattle.dm_event_history.proofs.Tainting.{untainted, untainted_by}
 use Rattle.dm_event_history.proofs.Explained.{Hidden, known, history_of, behind_run}
 use Rattle.std.specs.List.{list_all}
@@ -35,12 +37,13 @@ use Rattle.dm_assembly_desk.specs.declared.fault.AskFault.{AskFault}
 use Rattle.dm_event_history.proofs.Batches.{name_at}
 
 -- what desk 0 may hold after that many events of a run
-abbrev IsHeldAfter : {A : Type 0} → Run A → ℕ → List Hidden → Holding → Type 0
+abbrev pub IsHeldAfter : {A : Type 0} → Run A → ℕ → List Hidden → Holding → Type 0
 IsHeldAfter run i hidden holding =
-    CanHold 2 (first_entries i (history_of (map (λ one. one.0) run) (map (λ one. one.1) run) hidden [])) 0 holding
+    CanHold (WasFoundHonest (marks run)) 2
+    (first_entries i (history_of (map (λ one. one.0) run) (map (λ one. one.1) run) hidden [])) 0 holding
 
 -- there is nothing, so the run is not faithful
-no_holding : {A : Type 0} (run : Run A) (i : ℕ) → i ≤ length (map (λ (one : Event A × Reply A). one.0) run) →
+pub no_holding : {A : Type 0} (run : Run A) (i : ℕ) → i ≤ length (map (λ (one : Event A × Reply A). one.0) run) →
     ¬ IsTainted (map (λ one. one.0) run) (map (λ one. true) run) (map (λ one. one.1) run) i (AtDesk 0) →
     ((hidden : List Hidden) → length hidden ≡ length (map (λ (one : Event A × Reply A). one.0) run) →
     IsBehind run hidden → (holding : Holding) → IsHeldAfter run i hidden holding → ⊥) →
@@ -49,13 +52,13 @@ no_holding {A} run i below clean none (batches, f) =
     let b = behind_run two_ranges 2 batches (map (λ one. one.0) run) (map (λ one. one.1) run) f.prints.explained in
     let held = f.held i 0 2 below refl clean in
     none b.hidden b.count b.legal held.0
-    (subst (λ (h : History A). CanHold 2 (first_entries i h) 0 held.0) (sym b.same) held.1)
+    (subst (λ (h : History A). CanHold (WasFoundHonest (marks run)) 2 (first_entries i h) 0 held.0) (sym b.same) held.1)
 
-abbrev nothing : Documents
+abbrev pub nothing : Documents
 nothing = finite.empty
 
 -- a first page is new
-first_is_new : (p : PageView) → answer 2 nothing p ≡ Ok New
+pub first_is_new : (p : PageView) → answer 2 nothing p ≡ Ok New
 first_is_new p =
     ap (λ (o : Option Pages). answer_at 2 (finite.len nothing) p o) (get-empty nat_cmp p.id) ∙
     ap (λ (n : ℕ). answer_at 2 n p None) (len-empty nat_cmp Pages)
@@ -73,7 +76,7 @@ new_below held p is none =
     by_room false less x = absurd (cc (x))
 
 -- one document more is held once a page is whose document was not
-one_more : (held : Documents) (p : PageView) → finite.get held p.id ≡ None →
+pub one_more : (held : Documents) (p : PageView) → finite.get held p.id ≡ None →
     finite.len (with_page held p) ≡ finite.len held + 1
 one_more held p none = len-insert nat_cmp_total held p.id (pages_with held p) ∙
     ap (λ (o : Option Pages). cond (is_some o) (finite.len held) (finite.len held + 1)) none
@@ -97,7 +100,8 @@ crowded p q r one two p_is q_is r_is one_is two_is new =
     omega arith
 
 -- a document of which a page was taken is held
-with_page_held : (held : Documents) (p : PageView) (id : ℕ) → p.id ≡ id → finite.get (with_page held p) id ≡ None → ⊥
+pub with_page_held : (held : Documents) (p : PageView) (id : ℕ) → p.id ≡ id →
+    finite.get (with_page held p) id ≡ None → ⊥
 with_page_held held p id same none =
     let some : finite.get (with_page held p) id ≡ Some (pages_with held p) =
     ap (finite.get (with_page held p)) (sym same) ∙ get_same held p.id (pages_with held p) in cc (some, none)
@@ -112,10 +116,11 @@ took_first before desk label stop new (inr ((p, of_label, inl again), is)) =
     (let first = first_is_new p in absurd (cc (again, first)))
 took_first before desk label stop new (inr ((p, of_label, inr (inl full)), is)) =
     (let first = first_is_new p in absurd (cc (full, first)))
-took_first before desk label stop new (inr ((p, of_label, inr (inr flipped)), is)) = absurd (omega arith)
+took_first before desk label stop new (inr ((p, of_label, inr (inr loses)), is)) =
+    absurd (loses.lost (let none : wrong_frame_modules loses.grid ≡ 0 = loses.none_wrong in omega arith))
 
 -- what an ask tells as not held is not
-not_held : (o : Option Pages) → Asks {X = List ℕ} (λ given. given) o (Err NotHeld) → o ≡ None
+pub not_held : (o : Option Pages) → Asks {X = List ℕ} (λ given. given) o (Err NotHeld) → o ≡ None
 not_held None asks = refl
 not_held (Some pages) asks = by_all (list_all is_some pages) asks
   where
@@ -125,7 +130,7 @@ not_held (Some pages) asks = by_all (list_all is_some pages) asks
     by_all false x = absurd (cc (x))
 
 -- the label that is scanned is of the print
-label_is : (x : Hidden) (name : LabelName) → 0 ≡ x.0 →
+pub label_is : (x : Hidden) (name : LabelName) → 0 ≡ x.0 →
     slice_get (names_from x.0 (length x.1) 1 x.2) 0 ≡ Some name → name.id ≡ 0
 label_is x name own is = (name_at x.0 (length x.1) 1 x.2 0 name is).1 ∙ sym own
 
@@ -133,6 +138,9 @@ pub lost_by_a_stop_is : (A : Type 0) → ¬ IsFaithfulRun (lost_by_a_stop A)
 lost_by_a_stop_is A =
     no_holding (lost_by_a_stop A) 4 (omega arith) (untainted (lost_by_a_stop A) 4 (AtDesk 0)) by_hidden
   where
+    found : History A → Event A → Type 0
+    found = WasFoundHonest (marks (lost_by_a_stop A))
+
     one : Hidden → Entry A
     one x = known (print 0 digits stops.None) (Printed 0 0 2) x
 
@@ -145,11 +153,11 @@ lost_by_a_stop_is A =
     four : Hidden → Entry A
     four x = known (Ask 0 0) (AskRefused NotHeld) x
 
-    at_first : (a : Hidden) (h : Holding) → CanHold 2 (one a ∷ []) 0 h → h ≡ both nothing
+    at_first : (a : Hidden) (h : Holding) → CanHold found 2 (one a ∷ []) 0 h → h ≡ both nothing
     at_first a h (inl x) = (let named = x.0 in absurd (cc (named)))
     at_first a h (inr x) = x.1
 
-    stopped : (a b : Hidden) → 0 ≡ a.0 → (h : Holding) → CanHold 2 (two b ∷ one a ∷ []) 0 h →
+    stopped : (a b : Hidden) → 0 ≡ a.0 → (h : Holding) → CanHold found 2 (two b ∷ one a ∷ []) 0 h →
         finite.get h.stored 0 ≡ None → ⊥
     stopped a b own h (inl x) none =
         let took = took_first (one a ∷ []) 0 0 (stops.InSave kept.New) h
@@ -159,13 +167,14 @@ lost_by_a_stop_is A =
         (ap (λ (k : Holding). finite.get k.stored 0) (sym took.2) ∙ none)
     stopped a b own h (inr x) none = x.0 refl
 
-    restarted : (a b c : Hidden) → 0 ≡ a.0 → (h : Holding) → CanHold 2 (three c ∷ two b ∷ one a ∷ []) 0 h →
+    restarted : (a b c : Hidden) → 0 ≡ a.0 → (h : Holding) → CanHold found 2 (three c ∷ two b ∷ one a ∷ []) 0 h →
         finite.get h.shown 0 ≡ None → ⊥
     restarted a b c own h (inl x) none =
         stopped a b own x.1 x.2 (ap (λ (k : Holding). finite.get k.shown 0) (sym x.3) ∙ none)
     restarted a b c own h (inr x) none = x.0 refl
 
-    asked : (a b c d : Hidden) → 0 ≡ a.0 → (h : Holding) → CanHold 2 (four d ∷ three c ∷ two b ∷ one a ∷ []) 0 h → ⊥
+    asked : (a b c d : Hidden) → 0 ≡ a.0 → (h : Holding) →
+        CanHold found 2 (four d ∷ three c ∷ two b ∷ one a ∷ []) 0 h → ⊥
     asked a b c d own h (inl x) = restarted a b c own x.1 x.2 (not_held (finite.get x.1.shown 0) x.3.0)
     asked a b c d own h (inr x) = x.0 refl
 
@@ -179,6 +188,9 @@ pub held_though_forgotten_is : (A : Type 0) → ¬ IsFaithfulRun (held_though_fo
 held_though_forgotten_is A =
     no_holding (held_though_forgotten A) 5 (omega arith) (untainted (held_though_forgotten A) 5 (AtDesk 0)) by_hidden
   where
+    found : History A → Event A → Type 0
+    found = WasFoundHonest (marks (held_though_forgotten A))
+
     one : Hidden → Entry A
     one x = known (print 0 digits stops.None) (Printed 0 0 2) x
 
@@ -195,12 +207,12 @@ held_though_forgotten_is A =
     five x = known (Ask 0 0) (AskRefused (Incomplete 2)) x
 
     -- after a scan that is told a desk shows what its set holds
-    scanned : (a b : Hidden) (h : Holding) → CanHold 2 (two b ∷ one a ∷ []) 0 h → h.stored ≡ h.shown
+    scanned : (a b : Hidden) (h : Holding) → CanHold found 2 (two b ∷ one a ∷ []) 0 h → h.stored ≡ h.shown
     scanned a b h (inl x) =
         let is = x.3.4 in ap (λ (k : Holding). k.stored) is ∙ sym (ap (λ (k : Holding). k.shown) is)
     scanned a b h (inr x) = absurd (x.0 refl)
 
-    forgotten : (a b c : Hidden) (h : Holding) → CanHold 2 (three c ∷ two b ∷ one a ∷ []) 0 h →
+    forgotten : (a b c : Hidden) (h : Holding) → CanHold found 2 (three c ∷ two b ∷ one a ∷ []) 0 h →
         finite.get h.stored 0 ≡ None
     forgotten a b c h (inl x) = elim x.3 [
       | inl let_go ↦ ap (λ (k : Holding). finite.get k.stored 0) let_go.2 ∙
@@ -210,14 +222,14 @@ held_though_forgotten_is A =
     ]
     forgotten a b c h (inr x) = absurd (x.0 refl)
 
-    restarted : (a b c d : Hidden) (h : Holding) → CanHold 2 (four d ∷ three c ∷ two b ∷ one a ∷ []) 0 h →
+    restarted : (a b c d : Hidden) (h : Holding) → CanHold found 2 (four d ∷ three c ∷ two b ∷ one a ∷ []) 0 h →
         finite.get h.shown 0 ≡ None
     restarted a b c d h (inl x) =
         ap (λ (k : Holding). finite.get k.shown 0) x.3 ∙ forgotten a b c x.1 x.2
     restarted a b c d h (inr x) = absurd (x.0 refl)
 
     asked : (a b c d e : Hidden) (h : Holding) →
-        CanHold 2 (five e ∷ four d ∷ three c ∷ two b ∷ one a ∷ []) 0 h → ⊥
+        CanHold found 2 (five e ∷ four d ∷ three c ∷ two b ∷ one a ∷ []) 0 h → ⊥
     asked a b c d e h (inl x) =
         (let told : ◌≡◌ {A = Result (List ℕ) AskFault} (Err (Incomplete 2)) (Err NotHeld) =
         subst (λ (o : Option Pages). Asks {X = List ℕ} (λ given. given) o (Err (Incomplete 2)))
@@ -233,6 +245,9 @@ pub beyond_its_room_is : (A : Type 0) → ¬ IsFaithfulRun (beyond_its_room A)
 beyond_its_room_is A =
     no_holding (beyond_its_room A) 6 (omega arith) (untainted (beyond_its_room A) 6 (AtDesk 0)) by_hidden
   where
+    found : History A → Event A → Type 0
+    found = WasFoundHonest (marks (beyond_its_room A))
+
     printed : ℕ → ℕ → Hidden → Entry A
     printed id first x = known (print 0 digits stops.None) (Printed id first 2) x
 
@@ -242,7 +257,7 @@ beyond_its_room_is A =
     prints : Hidden → Hidden → Hidden → History A
     prints a b c = printed 2 4 c ∷ printed 1 2 b ∷ printed 0 0 a ∷ []
 
-    unmoved : (a b c : Hidden) (h : Holding) → CanHold 2 (prints a b c) 0 h → h ≡ both nothing
+    unmoved : (a b c : Hidden) (h : Holding) → CanHold found 2 (prints a b c) 0 h → h ≡ both nothing
     unmoved a b c h (inl x) = (let named = x.0 in absurd (cc (named)))
     unmoved a b c h (inr (away, inl x)) = (let named = x.0 in absurd (cc (named)))
     unmoved a b c h (inr (away, inr (far, inl x))) = (let named = x.0 in absurd (cc (named)))
@@ -250,8 +265,8 @@ beyond_its_room_is A =
 
     -- a page that is told as new was
     took : (label id : ℕ) (x : Hidden) (before : History A) (h : Holding) →
-        CanHold 2 (taken label id x ∷ before) 0 h →
-        (old : Holding) × (p : PageView) × CanHold 2 before 0 old × (p.id ≡ id) × (answer 2 old.shown p ≡ Ok New)
+        CanHold found 2 (taken label id x ∷ before) 0 h →
+        (old : Holding) × (p : PageView) × CanHold found 2 before 0 old × (p.id ≡ id) × (answer 2 old.shown p ≡ Ok New)
         × (h.shown ≡ with_page old.shown p)
     took label id x before h (inl t) =
         (t.1, t.3.0, t.2, sym t.3.2.id_is, t.3.3, ap (λ (k : Holding). k.shown) t.3.4)
@@ -273,7 +288,7 @@ full_of_nothing_is A (batches, f) =
     let b = behind_run two_ranges 4 batches events replies f.prints.explained in
     let held = f.held 2 0 2 (omega arith) refl (untainted_by events found replies 2 (AtDesk 0) refl) in
     by_hidden b.hidden b.count held.0
-    (subst (λ (h : History A). CanHold 2 (first_entries 2 h) 0 held.0) (sym b.same) held.1)
+    (subst (λ (h : History A). CanHold (WasFoundHonest found) 2 (first_entries 2 h) 0 held.0) (sym b.same) held.1)
   where
     events : List (Event A)
     events = map (λ one. one.0) (full_of_nothing A)
@@ -285,7 +300,7 @@ full_of_nothing_is A (batches, f) =
     replies = map (λ one. one.2) (full_of_nothing A)
 
     by_hidden : (hidden : List Hidden) → length hidden ≡ 2 → (holding : Holding) →
-        CanHold 2 (first_entries 2 (history_of events replies hidden [])) 0 holding → ⊥
+        CanHold (WasFoundHonest found) 2 (first_entries 2 (history_of events replies hidden [])) 0 holding → ⊥
     by_hidden (a ∷ b ∷ []) count holding (inl (named, old, inl x, does)) = (let away = x.0 in absurd (cc (away)))
     by_hidden (a ∷ b ∷ []) count holding (inl (named, old, inr x, does)) =
         (let full = subst (λ (k : Holding). answer 2 k.shown does.0 ≡ Err scan_fault.Full) x.1 does.2 in

@@ -22,7 +22,7 @@ use Rattle.dm_event_history.specs.Places.{IsOpened}
 use Rattle.dm_event_history.specs.Actors.{DeskAt, actor_of}
 use Rattle.dm_event_history.specs.Legal.{NeedsRunning}
 use Rattle.dm_event_history.proofs.Deciding.{true_false}
-use Rattle.dm_event_history.proofs.RightHistory.{are_parts, right_history, right_is_legal, right_is_held}
+use Rattle.dm_event_history.proofs.RightHistory.{are_parts, first_of_two, second_of_two, right_history, right_is_legal, right_is_held}
 use Rattle.dm_event_history.specs.Worked.{digits, two_ranges}
 use Rattle.dm_event_history.specs.Headline.{Batch, LeftBy, labels_of, HasModules, AllLeft, IsScanOf, MayHaveSaved, WasScanned, WasPrinted, IsAt, MayHold, Holds, known_before}
 use Rattle.dm_event_history.specs.Holding.{Takes, MayTake, Forgets}
@@ -75,7 +75,7 @@ right_document_is A = (
         absurd (none_exported i index told n mask answered);
     agrees = λ i desk event reply asked answered actor clean. all_agree i desk event reply asked answered actor;
     not_imported = λ i desk export stop fault asked answered clean clean_too. absurd (none_imported i fault answered);
-    held = λ i desk capacity below here untainted. right_is_held A i desk capacity below here;
+    held = λ i desk capacity below here untainted. right_is_held A _ i desk capacity below here;
   },
 )
   where
@@ -170,10 +170,10 @@ right_document_is A = (
         (record { may = tt; stopped = λ is. tt })
     each_replied (suc (suc zero)) event reply asked answered =
         only IsReplyTo {x = scan 0} {p = Scanned (page 10 1 New)} asked answered
-        (record { may = λ other. refl; stopped = λ is. absurd is })
+        (record { may = record { no_stop = λ _. refl; is_head = first_of_two }; stopped = λ is. absurd is })
     each_replied (suc (suc (suc zero))) event reply asked answered =
         only IsReplyTo {x = scan 1} {p = Scanned (page 10 2 Complete)} asked answered
-        (record { may = λ other. refl; stopped = λ is. absurd is })
+        (record { may = record { no_stop = λ _. refl; is_head = second_of_two }; stopped = λ is. absurd is })
     each_replied (suc (suc (suc (suc zero)))) event reply asked answered =
         only IsReplyTo {x = Ask 0 10} {p = Document other_digits} asked answered
         (record { may = tt; stopped = λ is. absurd is })

@@ -7,11 +7,13 @@ use Rattle.dm_encodation.specs.declared.scheme.Scheme.TheVariants.{Ascii}
 use Rattle.dm_encodation.specs.Written.{IsGreatestPrefix, need_of}
 use Rattle.dm_encodation.specs.Written as written
 use Rattle.dm_append_label.specs.Parts.{AreParts}
+use Rattle.dm_append_label.specs.Heads.{IsHead}
 use Rattle.dm_store.specs.Saved.{Saved, MemoryOpen, LoadsFine, SavesFine}
 use Rattle.dm_print_ledger.specs.declared.range.Range.{Range}
 use Rattle.dm_print_ledger.specs.Ranges.{is_free, is_in}
 use Rattle.dm_print_ledger.specs.Views.{PrinterView}
 use Rattle.dm_assembly_desk.specs.declared.reply.Kind.TheVariants.{New, Complete}
+use Rattle.dm_event_history.specs.declared.event.Event.{Event}
 use Rattle.dm_event_history.specs.declared.event.Event.TheVariants.{Ask}
 use Rattle.dm_event_history.specs.declared.reply.Reply.TheVariants.{Scanned, Document, Stopped}
 use Rattle.dm_event_history.specs.declared.stop.Stop.TheVariants as stops
@@ -266,9 +268,28 @@ fits_second A = record {
     goes_at (suc zero) named = goes_second A
     goes_at (suc (suc printer)) named = absurd (cc (named))
 
+-- a label of two
+pub first_of_two : IsHead (record { m = 1; n = 2; id = 10 })
+first_of_two = record {
+  id_fits = omega arith;
+  least = omega arith;
+  most = omega arith;
+  first = omega arith;
+  last = omega arith;
+}
+
+pub second_of_two : IsHead (record { m = 2; n = 2; id = 10 })
+second_of_two = record {
+  id_fits = omega arith;
+  least = omega arith;
+  most = omega arith;
+  first = omega arith;
+  last = omega arith;
+}
+
 fits_scan : (A : Type 0) → Fits two_ranges 2 (printed_history A) (told false (scan 0) (Scanned (page 10 1 New)))
 fits_scan A = record {
-  reply = λ _. refl;
+  reply = record { no_stop = λ _. refl; is_head = first_of_two };
   lets_out = refl;
   parts = λ some. absurd (omega arith);
   no_such = λ x. cc;
@@ -305,7 +326,7 @@ scanned_history A = told false (scan 0) (Scanned (page 10 1 New)) ∷ printed_hi
 fits_second_scan : (A : Type 0) →
     Fits two_ranges 2 (scanned_history A) (told false (scan 1) (Scanned (page 10 2 Complete)))
 fits_second_scan A = record {
-  reply = λ _. refl;
+  reply = record { no_stop = λ _. refl; is_head = second_of_two };
   lets_out = refl;
   parts = λ some. absurd (omega arith);
   no_such = λ x. cc;
@@ -405,15 +426,19 @@ first_is_new =
 second_completes : answer 2 half_held second_page ≡ Ok Complete
 second_completes = ap (λ (o : Option Pages). answer_at 2 (map.len half_held) second_page o) half_is
 
--- no desk does anything before the third event
-held_none : (A : Type 0) (desk : ℕ) → CanHold 2 (printed_history A) desk (both map.empty)
-held_none A desk = inr ((λ x. cc), inr ((λ x. cc), refl))
+-- which events were found honest, each by what came before it
+abbrev Finding : Type 0 → Type 1
+Finding A = History A → Event A → Type 0
 
-held_half : (A : Type 0) → CanHold 2 (scanned_history A) 0 (both half_held)
-held_half A = inl (
+-- no desk does anything before the third event
+held_none : (A : Type 0) (Found : Finding A) (desk : ℕ) → CanHold Found 2 (printed_history A) desk (both map.empty)
+held_none A Found desk = inr ((λ x. cc), inr ((λ x. cc), refl))
+
+held_half : (A : Type 0) (Found : Finding A) → CanHold Found 2 (scanned_history A) 0 (both half_held)
+held_half A Found = inl (
   refl,
   both map.empty,
-  held_none A 0,
+  held_none A Found 0,
   (
     first_page,
     record { has_left = refl; cut = other_cut; printed = refl; part = (0, refl, refl) },
@@ -426,11 +451,11 @@ held_half A = inl (
 abbrev gathered_history : (A : Type 0) → History A
 gathered_history A = told false (scan 1) (Scanned (page 10 2 Complete)) ∷ scanned_history A
 
-held_all : (A : Type 0) → CanHold 2 (gathered_history A) 0 (both all_held)
-held_all A = inl (
+held_all : (A : Type 0) (Found : Finding A) → CanHold Found 2 (gathered_history A) 0 (both all_held)
+held_all A Found = inl (
   refl,
   both half_held,
-  held_half A,
+  held_half A Found,
   (
     second_page,
     record { has_left = refl; cut = other_cut; printed = refl; part = (1, refl, refl) },
@@ -440,53 +465,56 @@ held_all A = inl (
   ),
 )
 
-held_asked : (A : Type 0) → CanHold 2 (right_history A) 0 (both all_held)
-held_asked A = inl (
+held_asked : (A : Type 0) (Found : Finding A) → CanHold Found 2 (right_history A) 0 (both all_held)
+held_asked A Found = inl (
   refl,
   both all_held,
-  held_all A,
+  held_all A Found,
   (subst (λ (o : Option Pages). Asks (λ given. given) o (Ok other_digits)) (sym all_is) refl, refl),
 )
 
 -- the other desk holds nothing
-held_elsewhere : (A : Type 0) (desk : ℕ) → 0 ≢ desk →
-    CanHold 2 (right_history A) desk (both map.empty) × CanHold 2 (gathered_history A) desk (both map.empty)
-    × CanHold 2 (scanned_history A) desk (both map.empty)
-held_elsewhere A desk other =
+held_elsewhere : (A : Type 0) (Found : Finding A) (desk : ℕ) → 0 ≢ desk →
+    CanHold Found 2 (right_history A) desk (both map.empty)
+    × CanHold Found 2 (gathered_history A) desk (both map.empty)
+    × CanHold Found 2 (scanned_history A) desk (both map.empty)
+held_elsewhere A Found desk other =
     let away : DeskAt 0 ≢ DeskAt desk = (λ same. other (cc (same))) in
-    let one : CanHold 2 (scanned_history A) desk (both map.empty) = inr (away, held_none A desk) in
-    let two : CanHold 2 (gathered_history A) desk (both map.empty) = inr (away, one) in (inr (away, two), two, one)
+    let one : CanHold Found 2 (scanned_history A) desk (both map.empty) = inr (away, held_none A Found desk) in
+    let two : CanHold Found 2 (gathered_history A) desk (both map.empty) = inr (away, one) in
+    (inr (away, two), two, one)
 
 -- after any number of events there is what each of the two desks may hold
-pub right_is_held : (A : Type 0) (i desk capacity : ℕ) → i ≤ 5 → slice_get two_desks desk ≡ Some capacity →
-    (holding : Holding) × CanHold capacity (first_entries i (right_history A)) desk holding
-right_is_held A i zero capacity below here =
+pub right_is_held : (A : Type 0) (Found : Finding A) (i desk capacity : ℕ) → i ≤ 5 →
+    slice_get two_desks desk ≡ Some capacity →
+    (holding : Holding) × CanHold Found capacity (first_entries i (right_history A)) desk holding
+right_is_held A Found i zero capacity below here =
     (let room : Some 2 ≡ Some capacity = here in
     let is : 2 ≡ capacity = cc (room) in
-    subst (λ (c : ℕ). (holding : Holding) × CanHold c (first_entries i (right_history A)) 0 holding) is
+    subst (λ (c : ℕ). (holding : Holding) × CanHold Found c (first_entries i (right_history A)) 0 holding) is
     (by_count i below))
   where
-    by_count : (i : ℕ) → i ≤ 5 → (holding : Holding) × CanHold 2 (first_entries i (right_history A)) 0 holding
+    by_count : (i : ℕ) → i ≤ 5 → (holding : Holding) × CanHold Found 2 (first_entries i (right_history A)) 0 holding
     by_count zero below = (both map.empty, refl)
     by_count (suc zero) below = (both map.empty, inr ((λ x. cc), refl))
-    by_count (suc (suc zero)) below = (both map.empty, held_none A 0)
-    by_count (suc (suc (suc zero))) below = (both half_held, held_half A)
-    by_count (suc (suc (suc (suc zero)))) below = (both all_held, held_all A)
-    by_count (suc (suc (suc (suc (suc zero))))) below = (both all_held, held_asked A)
+    by_count (suc (suc zero)) below = (both map.empty, held_none A Found 0)
+    by_count (suc (suc (suc zero))) below = (both half_held, held_half A Found)
+    by_count (suc (suc (suc (suc zero)))) below = (both all_held, held_all A Found)
+    by_count (suc (suc (suc (suc (suc zero))))) below = (both all_held, held_asked A Found)
     by_count (suc (suc (suc (suc (suc (suc i)))))) below = absurd (omega arith)
-right_is_held A i (suc zero) capacity below here =
+right_is_held A Found i (suc zero) capacity below here =
     (let room : Some 2 ≡ Some capacity = here in
     let is : 2 ≡ capacity = cc (room) in
-    subst (λ (c : ℕ). (holding : Holding) × CanHold c (first_entries i (right_history A)) 1 holding) is
+    subst (λ (c : ℕ). (holding : Holding) × CanHold Found c (first_entries i (right_history A)) 1 holding) is
     (by_count i below))
   where
-    by_count : (i : ℕ) → i ≤ 5 → (holding : Holding) × CanHold 2 (first_entries i (right_history A)) 1 holding
+    by_count : (i : ℕ) → i ≤ 5 → (holding : Holding) × CanHold Found 2 (first_entries i (right_history A)) 1 holding
     by_count zero below = (both map.empty, refl)
     by_count (suc zero) below = (both map.empty, inr ((λ x. cc), refl))
-    by_count (suc (suc zero)) below = (both map.empty, held_none A 1)
-    by_count (suc (suc (suc zero))) below = (both map.empty, (held_elsewhere A 1 (λ x. omega (arith, x))).2)
-    by_count (suc (suc (suc (suc zero)))) below = (both map.empty, (held_elsewhere A 1 (λ x. omega (arith, x))).1)
+    by_count (suc (suc zero)) below = (both map.empty, held_none A Found 1)
+    by_count (suc (suc (suc zero))) below = (both map.empty, (held_elsewhere A Found 1 (λ x. omega (arith, x))).2)
+    by_count (suc (suc (suc (suc zero)))) below = (both map.empty, (held_elsewhere A Found 1 (λ x. omega (arith, x))).1)
     by_count (suc (suc (suc (suc (suc zero))))) below =
-        (both map.empty, (held_elsewhere A 1 (λ x. omega (arith, x))).0)
+        (both map.empty, (held_elsewhere A Found 1 (λ x. omega (arith, x))).0)
     by_count (suc (suc (suc (suc (suc (suc i)))))) below = absurd (omega arith)
-right_is_held A i (suc (suc desk)) capacity below here = absurd (cc (here))
+right_is_held A Found i (suc (suc desk)) capacity below here = absurd (cc (here))

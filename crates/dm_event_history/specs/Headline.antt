@@ -285,6 +285,10 @@ MayNotImport capacities known desk export import_fault.Conflict = ⊥
 MayNotImport capacities known desk export import_fault.Full = IsFullForExport capacities known desk export
 MayNotImport capacities known desk export fault = Unit {0}
 
+-- the event that comes after this history was found honest, by its mark
+abbrev pub WasFoundHonest : {A : Type 0} → List Bool → History A → Event A → Type 0
+WasFoundHonest marks before event = slice_get marks (length before) ≡ Some true
+
 -- What desks tell of documents and pages is as they were printed and scanned, if the desk that tells it is not tainted;
 -- and what any desk tells of an honest scan is as its label was printed. There is a desk for each capacity, with room
 -- for that many documents. The marks say which events were found honest.
@@ -343,10 +347,12 @@ pub record IsFaithfulBy {A : Type 0} (ranges : List Range) (capacities : List �
       slice_get events i ≡ Some (Import desk export stop) → slice_get replies i ≡ Some (ImportRefused fault) →
       ¬ IsTainted events marks replies i (AtDesk desk) → ¬ IsTainted events marks replies i (InExport export) →
       MayNotImport capacities (known_before batches events replies i) desk export fault
-  -- and each desk that is not tainted by the first i events has a holding that agrees with all its replies to them
+  -- and each desk that is not tainted by the first i events has a holding that agrees with all its replies to them, if
+  -- just those scans are honest that were found so
   pub held : (i desk capacity : ℕ) → i ≤ length events → slice_get capacities desk ≡ Some capacity →
       ¬ IsTainted events marks replies i (AtDesk desk) →
-      (holding : Holding) × CanHold capacity (first_entries i prints.explained.history) desk holding
+      (holding : Holding)
+      × CanHold (WasFoundHonest marks) capacity (first_entries i prints.explained.history) desk holding
 
 -- the headline
 abbrev pub IsFaithful : {A : Type 0} → List Range → List ℕ → List (Event A) → List Bool → List (Reply A) → Type 0

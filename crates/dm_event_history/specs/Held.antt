@@ -2,8 +2,12 @@
 -- `export` and `import` of `dm_assembly_desk` answer by that.
 use Rattle.std.specs.Prelude.{◌≡◌, ◌≢◌, ◌⊎◌, ◌+◌, ◌≤◌, ℕ, nat_le, false, ◌&&◌, not, if◌then◌else◌, MatchBool, Some, None, IsSome, List, [], ◌∷◌, length, slice_get, Ok, Err}
 use Rattle.std.specs.FinMap as map
-use Rattle.dm_finder_frame.specs.Grids.{GridView}
+use Rattle.dm_finder_frame.specs.Grids.{GridView, flipped}
+use Rattle.dm_finder_frame.specs.Frame.{wrong_frame_modules}
+use Rattle.dm_finder_frame.specs.UnframeOutcome.{HasGoodFrame}
 use Rattle.dm_append_label.specs.Pages.{PageView}
+use Rattle.dm_append_label.specs.Heads.{IsHead, head_of}
+use Rattle.dm_append_label.specs.declared.opening.TheConstants.{MOST_PAGE_BYTES}
 use Rattle.dm_assembly_desk.specs.Pages.{Pages, page, mask}
 use Rattle.dm_assembly_desk.specs.Documents.{Documents, with_page}
 use Rattle.dm_assembly_desk.specs.Answers.{answer, NeedsSave}
@@ -22,17 +26,21 @@ use Rattle.dm_event_history.specs.declared.reply.Reply.{Reply}
 use Rattle.dm_event_history.specs.declared.reply.Reply.TheVariants.{Scanned, ScanRefused, Document, AskRefused, Forgotten, ForgetRefused, Exported, ExportRefused, Imported, ImportRefused, Restarted, Stopped, Memory}
 use Rattle.dm_event_history.specs.declared.stop.Stop.{Stop}
 use Rattle.dm_event_history.specs.Actors.{DeskAt, actor_of}
-use Rattle.dm_event_history.specs.History.{History, CutDocument, ExportName, out, docs, exports}
+use Rattle.dm_event_history.specs.History.{History, CutDocument, ExportName, out, docs, exports, exported_parts}
 use Rattle.dm_event_history.specs.Running.{is_failed}
 use Rattle.dm_event_history.specs.Saving.{leaves_new, stops_after_save}
 use Rattle.dm_event_history.specs.Tainted.{AtDesk}
-use Rattle.dm_event_history.specs.Honest.{IsClean}
+use Rattle.dm_event_history.specs.Honest.{IsFair, IsClean}
 
 -- ---- pages
 
+-- the bytes are part m of these
+abbrev pub IsPartOf : List (List ℕ) → ℕ → List ℕ → Type 0
+IsPartOf parts m bytes = (i : ℕ) × (m ≡ i + 1) × (slice_get parts i ≡ Some bytes)
+
 -- the bytes are part m of the document
 abbrev pub IsPart : CutDocument → ℕ → List ℕ → Type 0
-IsPart document m bytes = (i : ℕ) × (m ≡ i + 1) × (slice_get document.parts i ≡ Some bytes)
+IsPart document m bytes = IsPartOf document.parts m bytes
 
 -- the page is that of the label of this number, with its part of the document that was printed
 pub record IsPageOfLabel {A : Type 0} (before : History A) (label : ℕ) (page : PageView) : Type 0 where
@@ -41,24 +49,41 @@ pub record IsPageOfLabel {A : Type 0} (before : History A) (label : ℕ) (page :
   pub printed : docs before page.id ≡ Some cut
   pub part : IsPart cut page.m page.bytes
 
--- the page is that of the label of this number, if no module is flipped; else it may be any, even one that no label
--- carries
-abbrev pub MayBeRead : {A : Type 0} → History A → ℕ → List (ℕ × ℕ) → PageView → Type 0
-MayBeRead before label [] page = IsPageOfLabel before label page
-MayBeRead before label flips page = Unit {0}
+-- A scan of the label of this number may have read the page: it is one that a label can have, m of n, of 2 to 16 pages
+-- of a document; and it is that of this label if the scan was honest, or if no module was flipped.
+pub record MayBeRead {A : Type 0} (Honest : Type 0) (before : History A) (label : ℕ) (flips : List (ℕ × ℕ))
+    (page : PageView) : Type 0 where
+  pub head : IsHead (head_of page)
+  pub short : length page.bytes ≤ MOST_PAGE_BYTES
+  pub honest : Honest → IsPageOfLabel before label page
+  pub unflipped : flips ≡ [] → IsPageOfLabel before label page
 
--- the document, its number of pages and the mask are those that the export of this number was told with; the bytes may
--- be any
-pub record AreAsTold {A : Type 0} (before : History A) (export id : ℕ) (pages : Pages) : Type 0 where
+-- With these modules flipped more than an eighth of the modules of the finder patterns of the page's label are wrong. A
+-- label has the finder patterns of its size, and none of their modules is wrong as it leaves.
+pub record LosesFrame {A : Type 0} (before : History A) (page : PageView) (flips : List (ℕ × ℕ)) : Type 0 where
+  pub cut : CutDocument
+  pub printed : docs before page.id ≡ Some cut
+  pub grid : GridView
+  pub size_is : grid.size ≡ cut.size
+  pub none_wrong : wrong_frame_modules grid ≡ 0
+  pub lost : ¬ HasGoodFrame (flipped grid flips)
+
+-- These are the pages of the export of this number: the document, its number of pages and the mask are those that it
+-- was told with, and the bytes are its parts. No reply tells the parts; the history has one list of them, for all
+-- imports.
+pub record AreSent {A : Type 0} (before : History A) (export id : ℕ) (pages : Pages) : Type 0 where
   pub name : ExportName
   pub has_left : slice_get (exports before) export ≡ Some name
   pub id_is : id ≡ name.id
   pub count_is : name.count ≡ length pages
   pub mask_is : name.mask ≡ mask pages
+  pub parts : List (List ℕ)
+  pub parts_are : slice_get (exported_parts before) export ≡ Some parts
+  pub each : (m : ℕ) (bytes : List ℕ) → page pages m ≡ Some bytes → IsPartOf parts m bytes
 
 -- the same, and each page is its part of the document that was printed
 pub record ArePagesOfExport {A : Type 0} (before : History A) (export id : ℕ) (pages : Pages) : Type 0 where
-  pub told : AreAsTold before export id pages
+  pub sent : AreSent before export id pages
   pub cut : CutDocument
   pub printed : docs before id ≡ Some cut
   pub each : (m : ℕ) (bytes : List ℕ) → page pages m ≡ Some bytes → IsPart cut m bytes
@@ -99,12 +124,12 @@ WouldSave capacity before (Import desk export stop) shown content =
     × NeedsSave (import_answer capacity shown id pages) × (content ≡ with_file shown id pages)
 WouldSave capacity before event shown content = ⊥
 
--- A call has nothing to save, or there is no room. If a module was flipped, the label may have been refused instead.
+-- A call has nothing to save, or there is no room; or a label is refused, for its finder patterns.
 abbrev pub WouldNotSave : {A : Type 0} → ℕ → History A → Event A → Documents → Type 0
 WouldNotSave capacity before (Scan desk label flips stop) shown =
     (page : PageView) × IsPageOfLabel before label page
     × ((answer capacity shown page ≡ Ok Again)
-    ⊎ ((answer capacity shown page ≡ Err scan_fault.Full) ⊎ (1 ≤ length flips)))
+    ⊎ ((answer capacity shown page ≡ Err scan_fault.Full) ⊎ LosesFrame before page flips))
 WouldNotSave capacity before (Forget desk id stop) shown = map.get shown id ≡ None
 WouldNotSave capacity before (Import desk export stop) shown =
     (id : ℕ) × (pages : Pages) × ArePagesOfExport before export id pages
@@ -131,97 +156,103 @@ WhenStopped before desk stop Saved Unsaved =
 
 -- ---- what is held then
 
--- What one event does to what a desk holds, by its reply. If a scan is refused of which a module was flipped, it may
--- have been of any page, since it need not be honest. If an import is refused, its pages may have any bytes, since its
--- export may be tainted. But if a failed save left the new content, the page is that of the label, and the pages are
--- those that were printed, since else the desk is tainted. Of a scan that is refused for memory, or for its label,
--- nothing is asked.
-abbrev pub ChangesHolding : {A : Type 0} → ℕ → History A → Event A → Reply A → Holding → Holding → Type 0
-ChangesHolding capacity before (Scan desk label flips stop) (Scanned accepted) old new =
+-- What one event does to what a desk holds, by its reply. `Honest` says that the event was honest: the page of a scan
+-- that was not, and is refused, need not be that of its label; and the pages of an import that is refused need not be
+-- those that were printed, since its export may be tainted. But if a failed save left the new content, the page is that
+-- of the label, and the pages are those that were printed, since else the desk is tainted. Of a scan that is refused
+-- for memory, or for its label, nothing is asked.
+abbrev pub ChangesHolding : {A : Type 0} → Type 0 → ℕ → History A → Event A → Reply A → Holding → Holding → Type 0
+ChangesHolding Honest capacity before (Scan desk label flips stop) (Scanned accepted) old new =
     (page : PageView) × IsPageOfLabel before label page × NamesPage page accepted
     × (answer capacity old.shown page ≡ Ok accepted.kind)
     × (new ≡ both (with_answered accepted.kind old.shown (with_page old.shown page)))
-ChangesHolding capacity before (Scan desk label flips stop) (ScanRefused scan_fault.Conflict) old new =
-    (page : PageView) × MayBeRead before label flips page
+ChangesHolding Honest capacity before (Scan desk label flips stop) (ScanRefused scan_fault.Conflict) old new =
+    (page : PageView) × MayBeRead Honest before label flips page
     × (answer capacity old.shown page ≡ Err scan_fault.Conflict) × (new ≡ old)
-ChangesHolding capacity before (Scan desk label flips stop) (ScanRefused scan_fault.Full) old new =
-    (page : PageView) × MayBeRead before label flips page
+ChangesHolding Honest capacity before (Scan desk label flips stop) (ScanRefused scan_fault.Full) old new =
+    (page : PageView) × MayBeRead Honest before label flips page
     × (answer capacity old.shown page ≡ Err scan_fault.Full) × (new ≡ old)
-ChangesHolding capacity before (Scan desk label flips stop) (ScanRefused scan_fault.Save) old new =
+ChangesHolding Honest capacity before (Scan desk label flips stop) (ScanRefused scan_fault.Save) old new =
     MatchBool (leaves_new (Some stop))
     (StoresUnshown capacity before (Scan desk label flips stop) old new)
-    ((page : PageView) × MayBeRead before label flips page × NeedsSave (answer capacity old.shown page) × (new ≡ old))
-ChangesHolding capacity before (Scan desk label flips stop) Stopped old new =
+    ((page : PageView) × MayBeRead Honest before label flips page
+    × NeedsSave (answer capacity old.shown page) × (new ≡ old))
+ChangesHolding Honest capacity before (Scan desk label flips stop) Stopped old new =
     WhenStopped before desk stop (DidWhatItCould capacity before (Scan desk label flips stop) old new)
     (new ≡ both old.stored)
-ChangesHolding capacity before (Forget desk id stop) Forgotten old new =
+ChangesHolding Honest capacity before (Forget desk id stop) Forgotten old new =
     IsSome (map.get old.shown id) × (new ≡ both (map.remove old.shown id))
-ChangesHolding capacity before (Forget desk id stop) (ForgetRefused forget_fault.NotHeld) old new =
+ChangesHolding Honest capacity before (Forget desk id stop) (ForgetRefused forget_fault.NotHeld) old new =
     (map.get old.shown id ≡ None) × (new ≡ old)
-ChangesHolding capacity before (Forget desk id stop) (ForgetRefused forget_fault.Memory) old new =
+ChangesHolding Honest capacity before (Forget desk id stop) (ForgetRefused forget_fault.Memory) old new =
     IsSome (map.get old.shown id) × (new ≡ old)
-ChangesHolding capacity before (Forget desk id stop) (ForgetRefused forget_fault.Save) old new =
+ChangesHolding Honest capacity before (Forget desk id stop) (ForgetRefused forget_fault.Save) old new =
     MatchBool (leaves_new (Some stop))
     (StoresUnshown capacity before (Forget desk id stop) old new)
     (IsSome (map.get old.shown id) × (new ≡ old))
-ChangesHolding capacity before (Forget desk id stop) Memory old new =
+ChangesHolding Honest capacity before (Forget desk id stop) Memory old new =
     (is_failed before (DeskAt desk) ≡ false) × IsSome (map.get old.shown id) × (new ≡ old)
-ChangesHolding capacity before (Forget desk id stop) Stopped old new =
+ChangesHolding Honest capacity before (Forget desk id stop) Stopped old new =
     WhenStopped before desk stop (DidWhatItCould capacity before (Forget desk id stop) old new)
     (new ≡ both old.stored)
-ChangesHolding capacity before (Import desk export stop) (Imported imported) old new =
+ChangesHolding Honest capacity before (Import desk export stop) (Imported imported) old new =
     (id : ℕ) × (pages : Pages) × ArePagesOfExport before export id pages × NamesFile old.shown id pages imported
     × (import_answer capacity old.shown id pages ≡ Ok imported.kind)
     × (new ≡ both (with_answered imported.kind old.shown (with_file old.shown id pages)))
-ChangesHolding capacity before (Import desk export stop) (ImportRefused import_fault.Conflict) old new =
-    (id : ℕ) × (pages : Pages) × AreAsTold before export id pages
+ChangesHolding Honest capacity before (Import desk export stop) (ImportRefused import_fault.Conflict) old new =
+    (id : ℕ) × (pages : Pages) × AreSent before export id pages
     × (import_answer capacity old.shown id pages ≡ Err import_fault.Conflict) × (new ≡ old)
-ChangesHolding capacity before (Import desk export stop) (ImportRefused import_fault.Full) old new =
-    (id : ℕ) × (pages : Pages) × AreAsTold before export id pages
+ChangesHolding Honest capacity before (Import desk export stop) (ImportRefused import_fault.Full) old new =
+    (id : ℕ) × (pages : Pages) × AreSent before export id pages
     × (import_answer capacity old.shown id pages ≡ Err import_fault.Full) × (new ≡ old)
-ChangesHolding capacity before (Import desk export stop) (ImportRefused import_fault.Memory) old new =
-    (id : ℕ) × (pages : Pages) × AreAsTold before export id pages
+ChangesHolding Honest capacity before (Import desk export stop) (ImportRefused import_fault.Memory) old new =
+    (id : ℕ) × (pages : Pages) × AreSent before export id pages
     × NeedsSave (import_answer capacity old.shown id pages) × (new ≡ old)
-ChangesHolding capacity before (Import desk export stop) (ImportRefused import_fault.Save) old new =
+ChangesHolding Honest capacity before (Import desk export stop) (ImportRefused import_fault.Save) old new =
     MatchBool (leaves_new (Some stop))
     (StoresUnshown capacity before (Import desk export stop) old new)
-    ((id : ℕ) × (pages : Pages) × AreAsTold before export id pages
+    ((id : ℕ) × (pages : Pages) × AreSent before export id pages
     × NeedsSave (import_answer capacity old.shown id pages) × (new ≡ old))
-ChangesHolding capacity before (Import desk export stop) Memory old new =
-    (is_failed before (DeskAt desk) ≡ false) × (id : ℕ) × (pages : Pages) × AreAsTold before export id pages
+ChangesHolding Honest capacity before (Import desk export stop) Memory old new =
+    (is_failed before (DeskAt desk) ≡ false) × (id : ℕ) × (pages : Pages) × AreSent before export id pages
     × NeedsSave (import_answer capacity old.shown id pages) × (new ≡ old)
-ChangesHolding capacity before (Import desk export stop) Stopped old new =
+ChangesHolding Honest capacity before (Import desk export stop) Stopped old new =
     WhenStopped before desk stop (DidWhatItCould capacity before (Import desk export stop) old new)
     (new ≡ both old.stored)
-ChangesHolding capacity before (Ask desk id) (Document bytes) old new =
+ChangesHolding Honest capacity before (Ask desk id) (Document bytes) old new =
     Asks (λ given. given) (map.get old.shown id) (Ok bytes) × (new ≡ old)
-ChangesHolding capacity before (Ask desk id) (AskRefused fault) old new =
+ChangesHolding Honest capacity before (Ask desk id) (AskRefused fault) old new =
     Asks {X = List ℕ} (λ given. given) (map.get old.shown id) (Err fault)
     × NamesMissing {X = List ℕ} (map.get old.shown id) (Err fault) × (new ≡ old)
-ChangesHolding capacity before (Export desk id) (Exported index told n bits) old new =
+ChangesHolding Honest capacity before (Export desk id) (Exported index told n bits) old new =
     (pages : Pages) × (map.get old.shown id ≡ Some pages) × (n ≡ length pages) × (bits ≡ mask pages) × (new ≡ old)
-ChangesHolding capacity before (Export desk id) (ExportRefused fault) old new =
+ChangesHolding Honest capacity before (Export desk id) (ExportRefused fault) old new =
     Exports {X = List ℕ} (λ given. given) id (map.get old.shown id) (Err fault) × (new ≡ old)
-ChangesHolding capacity before (RestartDesk desk) Restarted old new = new ≡ both old.stored
-ChangesHolding capacity before event reply old new = new ≡ old
+ChangesHolding Honest capacity before (RestartDesk desk) Restarted old new = new ≡ both old.stored
+ChangesHolding Honest capacity before event reply old new = new ≡ old
 
 -- ---- histories
 
--- a desk with room for that many documents can hold this after a history: each of its entries did what its reply says
-abbrev pub CanHold : {A : Type 0} → ℕ → History A → ℕ → Holding → Type 0
-CanHold capacity [] desk holding = holding ≡ both map.empty
-CanHold capacity (entry ∷ before) desk holding =
+-- A desk with room for that many documents can hold this after a history: each of its entries did what its reply says.
+-- `IsHonest` says which events were honest, each by what came before it.
+abbrev pub CanHold : {A : Type 0} → (History A → Event A → Type 0) → ℕ → History A → ℕ → Holding → Type 0
+CanHold IsHonest capacity [] desk holding = holding ≡ both map.empty
+CanHold IsHonest capacity (entry ∷ before) desk holding =
     ((actor_of entry.event ≡ DeskAt desk)
-    × (old : Holding) × CanHold capacity before desk old
-    × ChangesHolding capacity before entry.event entry.reply old holding)
-    ⊎ ((actor_of entry.event ≢ DeskAt desk) × CanHold capacity before desk holding)
+    × (old : Holding) × CanHold IsHonest capacity before desk old
+    × ChangesHolding (IsHonest before entry.event) capacity before entry.event entry.reply old holding)
+    ⊎ ((actor_of entry.event ≢ DeskAt desk) × CanHold IsHonest capacity before desk holding)
+
+-- the same, if just the fair scans are honest; `grids` are the labels that left
+abbrev pub CanHoldBy : {A : Type 0} → List GridView → ℕ → History A → ℕ → Holding → Type 0
+CanHoldBy grids capacity history desk holding = CanHold (λ before. IsFair grids) capacity history desk holding
 
 -- after each entry each desk that is clean then has something that it can hold
 abbrev pub DesksCanHold : {A : Type 0} → List GridView → List ℕ → History A → Type 0
 DesksCanHold grids capacities [] = Unit {0}
 DesksCanHold grids capacities (entry ∷ before) =
     ((desk capacity : ℕ) → slice_get capacities desk ≡ Some capacity → IsClean grids (entry ∷ before) (AtDesk desk) →
-    (holding : Holding) × CanHold capacity (entry ∷ before) desk holding)
+    (holding : Holding) × CanHoldBy grids capacity (entry ∷ before) desk holding)
     × DesksCanHold grids capacities before
 
 -- the history of that many first entries, or of all if there are fewer

@@ -10,7 +10,7 @@ use Rattle.dm_event_history.specs.declared.reply.Reply.{Reply}
 use Rattle.dm_event_history.specs.declared.reply.Reply.TheVariants.{Given, Exported}
 
 -- an event and its reply; of a print also its identification, the parts of its document, and how many of their labels
--- left; of a print, a give and a take also whether it saved
+-- left; of an export also the parts that it has; of a print, a give and a take also whether it saved
 pub record Entry (A : Type 0) : Type 0 where
   pub event : Event A
   pub reply : Reply A
@@ -97,3 +97,13 @@ exported reply = []
 abbrev pub exports : {A : Type 0} → History A → List ExportName
 exports [] = []
 exports (entry ∷ before) = exports before ++ exported entry.reply
+
+-- the parts that an export has, each at the place of its page, if the reply tells of one
+abbrev pub parts_in : {A : Type 0} → Reply A → List (List ℕ) → List (List (List ℕ))
+parts_in (Exported index id n mask) parts = parts ∷ []
+parts_in reply parts = []
+
+-- the parts of the exports that were answered, the first of them first
+abbrev pub exported_parts : {A : Type 0} → History A → List (List (List ℕ))
+exported_parts [] = []
+exported_parts (entry ∷ before) = exported_parts before ++ parts_in entry.reply entry.parts

@@ -3,6 +3,7 @@
 use Rattle.std.specs.Prelude.{◌≡◌, ◌≢◌, ◌↔◌, ◌⊎◌, ◌<◌, ◌≤◌, ℕ, Bool, true, false, Some, List, [], ◌∷◌, length, slice_get, IsSomeAnd, IfSome, AllPairs, All, min}
 use Rattle.dm_check_blocks.specs.Sizes.{side}
 use Rattle.dm_append_label.specs.Parts.{AreParts, HasNoEnds}
+use Rattle.dm_append_label.specs.Heads.{IsHead}
 use Rattle.dm_store.specs.declared.fuse.Kept.{Kept}
 use Rattle.dm_store.specs.declared.fuse.Kept.TheVariants.{New}
 use Rattle.dm_print_ledger.specs.declared.range.Range.{Range}
@@ -16,6 +17,7 @@ use Rattle.dm_print_ledger.specs.declared.fault.OpenFault.TheVariants as open_fa
 use Rattle.dm_print_ledger.specs.Ranges.{IsRange, is_in}
 use Rattle.dm_print_ledger.specs.Views.{TicketView}
 use Rattle.dm_assembly_desk.specs.declared.reply.Kind.TheVariants.{Again}
+use Rattle.dm_assembly_desk.specs.declared.reply.Accepted.{Accepted}
 use Rattle.dm_assembly_desk.specs.declared.fault.ScanFault.{ScanFault}
 use Rattle.dm_assembly_desk.specs.declared.fault.ScanFault.TheVariants as scan_fault
 use Rattle.dm_assembly_desk.specs.declared.fault.ForgetFault.{ForgetFault}
@@ -164,6 +166,12 @@ IsTakeRefused before printer ticket stop take_fault.Overlap = ⊥
 IsTakeRefused before printer ticket stop take_fault.Save = IsSaveFault stop
 IsTakeRefused before printer ticket stop other = Unit {0}
 
+-- The page that is told of a scan, whether the desk is clean or not, is one that a label can have: m of n, of 2 to 16.
+-- `New` and `Complete` are told only if nothing was to happen to the call.
+pub record IsAccepted (stop : Stop) (accepted : Accepted) : Type 0 where
+  pub no_stop : accepted.kind ≢ Again → stop ≡ stops.None
+  pub is_head : IsHead (record { m = accepted.m; n = accepted.n; id = accepted.id })
+
 -- why a scan, a forget and an import are refused, whether their desk is clean or not: an import never for the bytes of
 -- an export
 abbrev pub IsScanRefused : {A : Type 0} → History A → ℕ → Stop → ScanFault → Type 0
@@ -219,8 +227,7 @@ IsReply ranges before id left (Print printer document size scheme stop) (PrintRe
     IsPrintRefused ranges before printer (record { bytes = document; size = size; scheme = scheme; parts = [] }) stop
     fault
 IsReply ranges before id left (Print printer document size scheme stop) Stopped = Unit {0}
-IsReply ranges before id left (Scan desk label flips stop) (Scanned accepted) =
-    accepted.kind ≢ Again → stop ≡ stops.None
+IsReply ranges before id left (Scan desk label flips stop) (Scanned accepted) = IsAccepted stop accepted
 IsReply ranges before id left (Scan desk label flips stop) (ScanRefused fault) = IsScanRefused before desk stop fault
 IsReply ranges before id left (Scan desk label flips stop) Stopped = Unit {0}
 IsReply ranges before id left (RestartPrinter printer) Restarted = Unit {0}

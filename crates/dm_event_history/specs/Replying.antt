@@ -17,19 +17,19 @@ use Rattle.dm_event_history.specs.declared.reply.Reply.TheVariants.{Printed, Pri
 use Rattle.dm_event_history.specs.declared.stop.Stop.TheVariants as stops
 use Rattle.dm_event_history.specs.Actors.{Actor, PrinterAt, DeskAt, actor_of, is_same}
 use Rattle.dm_event_history.specs.Running.{down_after, failed_after, TellsFailed, IsNoAnswer, IsOfFailed}
-use Rattle.dm_event_history.specs.Legal.{IsSaveFault, IsStopped, NeedsRunning, MayLackMemory}
+use Rattle.dm_event_history.specs.Legal.{IsSaveFault, IsStopped, NeedsRunning, MayLackMemory, IsAccepted}
 
 -- ---- one event
 
 -- The reply is one to the event. What tells of a save is told only if nothing was to happen to the call, and `Save`
--- only if the save was to meet a fault. A restart is refused for memory alone. A range is given only if it is one, and
--- to another printer, and is refused as `Range` or `Receiver` only if not. No import is refused for the bytes of an
--- export.
+-- only if the save was to meet a fault. The page that is told of a scan is one that a label can have. A restart is
+-- refused for memory alone. A range is given only if it is one, and to another printer, and is refused as `Range` or
+-- `Receiver` only if not. No import is refused for the bytes of an export.
 abbrev pub MayReply : {A : Type 0} → Event A → Reply A → Type 0
 MayReply (Print printer document size scheme stop) (Printed id first count) = stop ≡ stops.None
 MayReply (Print printer document size scheme stop) (PrintRefused print_fault.Save) = IsSaveFault stop
 MayReply (Print printer document size scheme stop) (PrintRefused fault) = Unit {0}
-MayReply (Scan desk label flips stop) (Scanned accepted) = accepted.kind ≢ Again → stop ≡ stops.None
+MayReply (Scan desk label flips stop) (Scanned accepted) = IsAccepted stop accepted
 MayReply (Scan desk label flips stop) (ScanRefused scan_fault.Save) = IsSaveFault stop
 MayReply (Scan desk label flips stop) (ScanRefused fault) = Unit {0}
 MayReply (RestartPrinter printer) Restarted = Unit {0}

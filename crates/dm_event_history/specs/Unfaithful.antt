@@ -302,6 +302,20 @@ lost_by_a_stop A =
     (print 0 digits None, Printed 0 0 2) ∷
     (Scan 0 0 [] (InSave kept.New), Stopped) ∷ (RestartDesk 0, Restarted) ∷ (Ask 0 0, AskRefused NotHeld) ∷ []
 
+-- `held`: the same, of a label of whose finder patterns one module is flipped
+abbrev pub lost_by_a_flip : (A : Type 0) → Run A
+lost_by_a_flip A =
+    (print 0 digits None, Printed 0 0 2) ∷
+    (Scan 0 0 ((0, 0) ∷ []) (InSave kept.New), Stopped) ∷
+    (RestartDesk 0, Restarted) ∷ (Ask 0 0, AskRefused NotHeld) ∷ []
+
+-- `held`: a page was told as taken, and an honest scan of its label, of which a module is flipped, fails to save it
+abbrev pub saved_though_shown : (A : Type 0) → Run A
+saved_though_shown A =
+    (print 0 digits None, Printed 0 0 2) ∷
+    (scan 0, Scanned (page 0 1 New)) ∷
+    (Scan 0 0 ((0, 0) ∷ []) (SaveFault kept.Old), ScanRefused scan_fault.Save) ∷ []
+
 -- `held`: a page is missing of a document that was forgotten, by a forget that was stopped after its save
 abbrev pub held_though_forgotten : (A : Type 0) → Run A
 held_though_forgotten A =
@@ -528,6 +542,11 @@ stopped_unasked A = (Ask 0 0, Stopped) ∷ []
 
 abbrev pub forgotten_with_a_fault : (A : Type 0) → Run A
 forgotten_with_a_fault A = (Forget 0 0 (SaveFault kept.New), Forgotten) ∷ []
+
+-- `each` and `explained`: a page that no label can have is told of a scan, the third of two, one of 17, or one of an
+-- identification above 64,515
+abbrev pub scanned_as : (A : Type 0) → ℕ → ℕ → ℕ → Run A
+scanned_as A id m n = (Scan 0 0 ((0, 0) ∷ []) None, Scanned (record { id = id; m = m; n = n; kind = New })) ∷ []
 
 abbrev pub scanned_though_stopped : (A : Type 0) → Run A
 scanned_though_stopped A = (Scan 0 0 [] BeforeSave, Scanned (page 0 1 Again)) ∷ []
@@ -802,6 +821,40 @@ full_of_nothing A =
     (print 0 digits None, true, Printed 0 0 2) ∷
     (Scan 0 0 ((0, 0) ∷ []) None, false, ScanRefused scan_fault.Full) ∷ []
 
+-- `held`, of a desk that is not tainted: a page was told as taken, and a scan of its perfect label, though it was not
+-- found honest, fails to save it
+abbrev pub saved_though_perfect : (A : Type 0) → MarkedRun A
+saved_though_perfect A =
+    (print 0 digits None, true, Printed 0 0 2) ∷
+    (scan 0, true, Scanned (page 0 1 New)) ∷
+    (Scan 0 0 [] (SaveFault kept.Old), false, ScanRefused scan_fault.Save) ∷ []
+
+-- of one desk, which has room for one document
+abbrev pub IsFaithfulAlone : {A : Type 0} → MarkedRun A → Type 0
+IsFaithfulAlone run =
+    IsFaithful two_ranges (1 ∷ []) (map (λ one. one.0) run) (map (λ one. one.1) run) (map (λ one. one.2) run)
+
+-- `held`, of such a desk that is not tainted: it holds both pages of a document, and fails to save that of a dishonest
+-- scan, which can be no third of two
+abbrev pub saved_though_whole : (A : Type 0) → MarkedRun A
+saved_though_whole A =
+    (print 0 digits None, true, Printed 0 0 2) ∷
+    (scan 0, true, Scanned (page 0 1 New)) ∷
+    (scan 1, true, Scanned (page 0 2 Complete)) ∷
+    (Scan 0 0 ((0, 0) ∷ []) (SaveFault kept.Old), false, ScanRefused scan_fault.Save) ∷ []
+
+-- `held`, of a desk that is not tainted: it refuses a tainted export for a conflict with the page that it holds, and
+-- then for want of memory to save a page of it
+abbrev pub refused_two_ways : (A : Type 0) → MarkedRun A
+refused_two_ways A =
+    (print 0 digits None, true, Printed 0 0 2) ∷
+    (Scan 2 0 ((0, 0) ∷ []) None, false, Scanned (page 0 1 New)) ∷
+    (Scan 2 0 ((0, 0) ∷ []) None, false, Scanned (page 0 2 Complete)) ∷
+    (Export 2 0, true, Exported 0 0 2 3) ∷
+    (scan 0, true, Scanned (page 0 1 New)) ∷
+    (Import 0 0 None, true, ImportRefused import_fault.Conflict) ∷
+    (Import 0 0 None, true, ImportRefused import_fault.Memory) ∷ []
+
 -- `given`, of a desk that is not tainted: its dishonest scan was refused
 abbrev pub wrong_after_a_refused_scan : (A : Type 0) → MarkedRun A
 wrong_after_a_refused_scan A =
@@ -908,6 +961,10 @@ pub record AreUnfaithful (A : Type 0) : Type 0 where
   pub exported_in_part_is : ¬ IsFaithfulRun (exported_in_part A)
   pub added_again_is : ¬ IsFaithfulRun (added_again A)
   pub lost_by_a_stop_is : ¬ IsFaithfulRun (lost_by_a_stop A)
+  pub lost_by_a_flip_is : ¬ IsFaithfulRun (lost_by_a_flip A)
+  pub saved_though_shown_is : ¬ IsFaithfulRun (saved_though_shown A)
+  pub saved_though_whole_is : ¬ IsFaithfulAlone (saved_though_whole A)
+  pub saved_though_perfect_is : ¬ IsFaithfulMarked (saved_though_perfect A)
   pub held_though_forgotten_is : ¬ IsFaithfulRun (held_though_forgotten A)
   pub beyond_its_room_is : ¬ IsFaithfulRun (beyond_its_room A)
   pub full_of_nothing_is : ¬ IsFaithfulMarked (full_of_nothing A)
@@ -921,6 +978,7 @@ pub record AreUnfaithful (A : Type 0) : Type 0 where
   pub exhausted_by_a_refused_give_is : ¬ IsFaithfulRun (exhausted_by_a_refused_give A)
   pub exhausted_though_failed_is : ¬ IsFaithfulRun (exhausted_though_failed A)
   pub too_long_of_few_is : ¬ IsFaithfulRun (too_long_of_few A)
+  pub refused_two_ways_is : ¬ IsFaithfulMarked (refused_two_ways A)
   pub wrong_after_a_refused_scan_is : ¬ IsFaithfulMarked (wrong_after_a_refused_scan A)
   pub wrong_after_a_failed_scan_is : ¬ IsFaithfulMarked (wrong_after_a_failed_scan A)
   pub wrong_after_a_failed_import_is : ¬ IsFaithfulMarked (wrong_after_a_failed_import A)
@@ -929,6 +987,9 @@ pub record AreUnfaithful (A : Type 0) : Type 0 where
   pub another_call_is : ¬ AreRepliesRun (another_call A)
   pub stopped_unasked_is : ¬ AreRepliesRun (stopped_unasked A)
   pub forgotten_with_a_fault_is : ¬ AreRepliesRun (forgotten_with_a_fault A)
+  pub third_of_two_is : ¬ AreRepliesRun (scanned_as A 0 3 2)
+  pub one_of_17_is : ¬ AreRepliesRun (scanned_as A 0 1 17)
+  pub of_no_identification_is : ¬ AreRepliesRun (scanned_as A 64516 1 2)
   pub scanned_though_stopped_is : ¬ AreRepliesRun (scanned_though_stopped A)
   pub failed_without_a_fault_is : ¬ AreRepliesRun (failed_without_a_fault A)
   pub damaged_by_itself_is : ¬ AreRepliesRun (damaged_by_itself A)

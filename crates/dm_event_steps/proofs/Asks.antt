@@ -32,7 +32,7 @@ use Rattle.dm_event_history.proofs.WhoActs.{is_down_same, is_failed_same}
 use Rattle.dm_event_steps.specs.declared.actor.DeskState.{DeskState}
 use Rattle.dm_event_steps.specs.declared.actor.DeskState.TheVariants as desks
 use Rattle.dm_event_steps.specs.Gathered.{IsGathered}
-use Rattle.dm_event_history.specs.Held.{ChangesHolding, CanHold}
+use Rattle.dm_event_history.specs.Held.{ChangesHolding, CanHoldBy}
 use Rattle.dm_event_steps.specs.DeskStands.{holding_of, SetStands, DeskRuns, DeskStands}
 use Rattle.dm_event_steps.specs.DeskActs.{ask_reply, AskActs, desk_saved, RestartDeskActs}
 use Rattle.dm_event_steps.specs.Goes.{quiet, DeskGoes}
@@ -230,7 +230,8 @@ ask_goes {A} ranges capacities grids h d id capacity view reply state legal ther
         IsTold ranges (length capacities) h (Ask d id) (ask_reply given) d →
         down_after (ask_reply {A = A} given) false ≡ false →
         failed_after (ask_reply {A = A} given) (is_failed h (DeskAt d)) ≡ is_failed h (DeskAt d) →
-        ChangesHolding capacity h (Ask d id) (ask_reply given) (holding_of view s.stored) (holding_of view s.stored) →
+        ChangesHolding (Unit {0}) capacity h (Ask d id) (ask_reply given) (holding_of view s.stored)
+        (holding_of view s.stored) →
         Asks (λ bytes. bytes) (finite.get view.held id) given → NamesMissing (finite.get view.held id) given →
         DeskGoes ranges capacities grids h (Ask d id) (ask_reply given) d capacity (desks.Running view)
     goes given told up failed does asks missing =
@@ -279,7 +280,7 @@ set_of grids h d capacity (desks.Down saved) s = (s.1.stored, s.1.store)
 
 can_of : {A : Type 0} (grids : List GridView) (h : History A) (d capacity : ℕ) (state : DeskState A) →
     (s : DeskStands grids h d capacity state) → IsClean grids h (AtDesk d) →
-    (shown : Documents) × CanHold capacity h d
+    (shown : Documents) × CanHoldBy grids capacity h d
     (record { shown = shown; stored = (set_of grids h d capacity state s).0 })
 unfolding set_of
 can_of grids h d capacity (desks.Running view) s honest = (view.held, s.1.can honest)
@@ -305,7 +306,7 @@ restart_desk_goes {A} ranges capacities grids h d capacity Restarted was state t
     (λ honest. honest.1) (λ x. none_leaves event Restarted _ x) (λ id m x. absurd x) (λ id x. x) t.1 in
     let held : acts.0.held ≡ t.0 = acts.2.shows t.0 t.1.holds t.1.few in
     subst (λ (x : DeskState A). DeskGoes ranges capacities grids h event Restarted d capacity x) (sym acts.1) (record {
-      fits = desk_fits ranges (length capacities) h event Restarted d (record {
+      fits = desk_fits ranges (length capacities) h event Restarted [] d refl (record {
         named = refl;
         there = there;
         some_such = λ x. cc;
@@ -327,7 +328,8 @@ restart_desk_goes {A} ranges capacities grids h d capacity Restarted was state t
           store = subst (λ (v : SavedSet). SetStands grids (e ∷ h) d capacity v t.0) (sym acts.2.same) store;
           shows = λ _. held;
           gathered = λ honest. subst (λ (x : Documents). IsGathered (e ∷ h) d x) (sym held) (store.gathered honest);
-          can = λ honest. subst (λ (x : Documents). CanHold capacity (e ∷ h) d (record { shown = x; stored = t.0 }))
+          can = λ honest. subst
+              (λ (x : Documents). CanHoldBy grids capacity (e ∷ h) d (record { shown = x; stored = t.0 }))
               (sym held) (inl (refl, _, (can_of grids h d capacity was s honest.1).1, refl));
         },
       );
@@ -341,7 +343,7 @@ restart_desk_goes {A} ranges capacities grids h d capacity (DeskRefused fault) w
     let t : (stored : Documents) × SetStands grids h d capacity (desk_saved was) stored =
     set_of grids h d capacity was s in
     subst (λ (x : DeskState A). DeskGoes ranges capacities grids h event reply d capacity x) (sym acts.0) (record {
-      fits = desk_fits ranges (length capacities) h event reply d (record {
+      fits = desk_fits ranges (length capacities) h event reply [] d refl (record {
         named = refl;
         there = there;
         some_such = λ x. cc;

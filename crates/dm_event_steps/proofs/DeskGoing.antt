@@ -1,5 +1,5 @@
 -- What is left of one event at a desk: its entry fits, and the desk stands, as it was, with what it saved, or down.
-use Rattle.std.proofs.Common.{◌≡◌, ◌≢◌, ◌⊎◌, inl, inr, ◌<◌, ◌≤◌, ℕ, true, false, None, List, ◌∷◌, length, IsSome, refl, ap, sym, ◌∙◌, subst, arith, ◌&&◌, not, Bool, Some}
+use Rattle.std.proofs.Common.{◌≡◌, ◌≢◌, ◌⊎◌, inl, inr, ◌<◌, ◌≤◌, ℕ, true, false, None, List, [], ◌∷◌, length, IsSome, refl, ap, sym, ◌∙◌, subst, arith, ◌&&◌, not, Bool, Some}
 use Rattle.std.specs.FinMap as finite
 use Rattle.dm_finder_frame.specs.Grids.{GridView}
 use Rattle.dm_store.specs.Saved.{SavePlan, Outcome, Done, Faulted, HeldAfterFault}
@@ -24,9 +24,9 @@ use Rattle.dm_event_history.specs.History.{Entry, History, docs, exports}
 use Rattle.dm_event_history.specs.Running.{down_after, is_down, failed_after, is_failed, IsOfFailed}
 use Rattle.dm_event_history.specs.Saving.{tells_of_save}
 use Rattle.dm_event_history.specs.Holding.{Takes, Forgets}
-use Rattle.dm_event_history.specs.Legal.{Fits, IsThere, IsStopped, IsStopping, NeedsRunning}
+use Rattle.dm_event_history.specs.Legal.{LetsOut, Fits, IsThere, IsStopped, IsStopping, NeedsRunning}
 use Rattle.dm_event_history.specs.Tainted.{AtDesk}
-use Rattle.dm_event_history.specs.Honest.{IsClean, BringsClean, IsHonestReply}
+use Rattle.dm_event_history.specs.Honest.{IsFair, IsClean, BringsClean, IsHonestReply}
 use Rattle.dm_event_history.specs.Safe.{IsReplySafe}
 use Rattle.dm_event_history.proofs.WhoActs.{is_down_same, is_failed_same}
 use Rattle.dm_event_steps.specs.declared.actor.DeskState.{DeskState}
@@ -37,11 +37,11 @@ use Rattle.std.specs.Prelude.{MatchBool}
 use Rattle.dm_event_history.specs.Saving.{stops_after_save}
 use Rattle.dm_assembly_desk.specs.declared.reply.Kind.{Kind}
 use Rattle.dm_assembly_desk.specs.declared.reply.Kind.TheVariants.{New, Again, Complete}
-use Rattle.dm_event_history.specs.Held.{with_answered, Holding, both, WhenStopped, ChangesHolding, CanHold}
+use Rattle.dm_event_history.specs.Held.{with_answered, Holding, both, WhenStopped, ChangesHolding, CanHoldBy}
 use Rattle.dm_event_history.proofs.Deciding.{and_so}
 use Rattle.dm_event_steps.specs.DeskStands.{holding_of, IsReadySet, SetStands, DeskRuns, DeskLiesDown}
 use Rattle.dm_event_steps.specs.DeskActs.{desk_planned, DeskLacksMemory}
-use Rattle.dm_event_steps.specs.Goes.{quiet, DeskGoes}
+use Rattle.dm_event_steps.specs.Goes.{sending, quiet, DeskSends, DeskGoes}
 use Rattle.dm_event_steps.proofs.PrinterGoing.{IsFine, not_both}
 use Rattle.dm_event_steps.proofs.Gathering.{gathered_keeps}
 
@@ -64,11 +64,11 @@ pub record IsTold {A : Type 0} (ranges : List Range) (desks : ℕ) (h : History 
   pub untold : ¬ (tells_of_save reply ≡ true)
 
 pub desk_fits : {A : Type 0} (ranges : List Range) (desks : ℕ) (h : History A) (event : Event A) (reply : Reply A)
-    (d : ℕ) →
-    IsTold ranges desks h event reply d → Fits ranges desks h (quiet event reply)
-desk_fits ranges desks h event reply d c = record {
+    (parts : List (List ℕ)) (d : ℕ) → LetsOut event reply false parts 0 →
+    IsTold ranges desks h event reply d → Fits ranges desks h (sending event reply parts)
+desk_fits ranges desks h event reply parts d none c = record {
   reply = c.is_reply.1;
-  lets_out = c.is_reply.0;
+  lets_out = none;
   parts = λ none. absurd (omega arith);
   no_such = λ e. absurd (c.some_such e);
   there = λ _. c.there;
@@ -118,8 +118,8 @@ pub running_keeps : {A : Type 0} (e : Entry A) (h : History A) (grids all : List
     ((id m : ℕ) → Takes (exports h) e.event e.reply d id m →
     IsSome (page_at view.held id m) × IsSome (page_at s.stored id m)) →
     ((id : ℕ) → ¬ Forgets e.event e.reply d id) →
-    (IsClean all (e ∷ h) (AtDesk d) → CanHold capacity h d (holding_of view s.stored) →
-    CanHold capacity (e ∷ h) d (holding_of view s.stored)) → DeskRuns all (e ∷ h) d capacity view
+    (IsClean all (e ∷ h) (AtDesk d) → CanHoldBy grids capacity h d (holding_of view s.stored) →
+    CanHoldBy all capacity (e ∷ h) d (holding_of view s.stored)) → DeskRuns all (e ∷ h) d capacity view
 running_keeps e h grids all d capacity view back fresh up failed s takes stays can = record {
   up = up;
   failed = s.failed ∙ sym failed;
@@ -177,26 +177,26 @@ faulted_with (AfterLabels k) view mid content called saves = absurd called
 
 -- ---- how a desk goes on
 
--- a running desk that is left as it was, whatever the reply
-pub desk_kept : {A : Type 0} (ranges : List Range) (capacities : List ℕ) (grids : List GridView) (h : History A)
-    (event : Event A) (reply : Reply A)
+-- a running desk that is left as it was, whatever the reply, and whatever it exports
+pub desk_sends : {A : Type 0} (ranges : List Range) (capacities : List ℕ) (grids : List GridView) (h : History A)
+    (event : Event A) (reply : Reply A) (parts : List (List ℕ))
     (d capacity : ℕ) (view after : DeskView) → IsCapacity capacity → (s : DeskRuns grids h d capacity view) →
-    after ≡ view →
+    after ≡ view → LetsOut event reply false parts 0 →
     IsTold ranges (length capacities) h event reply d → down_after reply false ≡ false →
     failed_after reply (is_failed h (DeskAt d)) ≡ is_failed h (DeskAt d) →
     ((id m : ℕ) → Takes (exports h) event reply d id m →
     IsSome (page_at view.held id m) × IsSome (page_at s.stored id m)) →
     ((id : ℕ) → ¬ Forgets event reply d id) →
-    (IsClean grids (quiet event reply ∷ h) (AtDesk d) →
-    ChangesHolding capacity h event reply (holding_of view s.stored) (holding_of view s.stored)) →
-    (IsClean grids (quiet event reply ∷ h) (AtDesk d) → IsReplySafe h event reply) →
+    (IsClean grids (sending event reply parts ∷ h) (AtDesk d) →
+    ChangesHolding (IsFair grids event) capacity h event reply (holding_of view s.stored) (holding_of view s.stored)) →
+    (IsClean grids (sending event reply parts ∷ h) (AtDesk d) → IsReplySafe h event reply) →
     (BringsClean grids h event → IsHonestReply grids capacities h event reply) →
-    DeskGoes ranges capacities grids h event reply d capacity (desks.Running after)
-desk_kept {A} ranges capacities grids h event reply d capacity view after room s same told up failed takes stays does
-    safe answers =
-    let e : Entry A = quiet event reply in
+    DeskSends ranges capacities grids h event reply parts d capacity (desks.Running after)
+desk_sends {A} ranges capacities grids h event reply parts d capacity view after room s same none told up failed takes
+    stays does safe answers =
+    let e : Entry A = sending event reply parts in
     record {
-      fits = desk_fits ranges (length capacities) h event reply d told;
+      fits = desk_fits ranges (length capacities) h event reply parts d none told;
       stands = (
         room,
         subst (λ (v : DeskView). DeskRuns grids (e ∷ h) d capacity v) (sym same)
@@ -208,6 +208,26 @@ desk_kept {A} ranges capacities grids h event reply d capacity view after room s
       safe = safe;
       answers = answers;
     }
+
+-- the same, if it exports nothing
+pub desk_kept : {A : Type 0} (ranges : List Range) (capacities : List ℕ) (grids : List GridView) (h : History A)
+    (event : Event A) (reply : Reply A)
+    (d capacity : ℕ) (view after : DeskView) → IsCapacity capacity → (s : DeskRuns grids h d capacity view) →
+    after ≡ view →
+    IsTold ranges (length capacities) h event reply d → down_after reply false ≡ false →
+    failed_after reply (is_failed h (DeskAt d)) ≡ is_failed h (DeskAt d) →
+    ((id m : ℕ) → Takes (exports h) event reply d id m →
+    IsSome (page_at view.held id m) × IsSome (page_at s.stored id m)) →
+    ((id : ℕ) → ¬ Forgets event reply d id) →
+    (IsClean grids (quiet event reply ∷ h) (AtDesk d) →
+    ChangesHolding (IsFair grids event) capacity h event reply (holding_of view s.stored) (holding_of view s.stored)) →
+    (IsClean grids (quiet event reply ∷ h) (AtDesk d) → IsReplySafe h event reply) →
+    (BringsClean grids h event → IsHonestReply grids capacities h event reply) →
+    DeskGoes ranges capacities grids h event reply d capacity (desks.Running after)
+desk_kept ranges capacities grids h event reply d capacity view after room s same told up failed takes stays does safe
+    answers =
+    desk_sends ranges capacities grids h event reply [] d capacity view after room s same told.is_reply.0 told up failed
+    takes stays does safe answers
 
 -- the set of a desk that saved
 pub set_saved : {A : Type 0} (grids : List GridView) (e : Entry A) (h : History A) (d capacity : ℕ)
@@ -235,7 +255,7 @@ pub desk_saves : {A : Type 0} (ranges : List Range) (capacities : List ℕ) (gri
     failed_after reply (is_failed h (DeskAt d)) ≡ is_failed h (DeskAt d) →
     (IsClean grids (quiet event reply ∷ h) (AtDesk d) → IsGathered (quiet event reply ∷ h) d held) →
     (IsClean grids (quiet event reply ∷ h) (AtDesk d) →
-    ChangesHolding capacity h event reply (holding_of view s.stored) (both held)) →
+    ChangesHolding (IsFair grids event) capacity h event reply (holding_of view s.stored) (both held)) →
     (IsClean grids (quiet event reply ∷ h) (AtDesk d) → IsReplySafe h event reply) →
     (BringsClean grids h event → IsHonestReply grids capacities h event reply) →
     DeskGoes ranges capacities grids h event reply d capacity (desks.Running (desk_planned mid next_save.Fine))
@@ -243,7 +263,7 @@ desk_saves {A} ranges capacities grids h event reply d capacity view mid plan co
     up failed gathered does safe answers =
     let e : Entry A = quiet event reply in
     record {
-      fits = desk_fits ranges (length capacities) h event reply d told;
+      fits = desk_fits ranges (length capacities) h event reply [] d told.is_reply.0 told;
       stands = (
         room,
         record {
@@ -255,7 +275,8 @@ desk_saves {A} ranges capacities grids h event reply d capacity view mid plan co
           store = set_saved grids e h d capacity view mid plan content held s.store.ready saves holding few gathered;
           shows = λ _. holding.holds;
           gathered = λ honest. subst (λ (x : Documents). IsGathered (e ∷ h) d x) (sym holding.holds) (gathered honest);
-          can = λ honest. subst (λ (x : Documents). CanHold capacity (e ∷ h) d (record { shown = x; stored = held }))
+          can = λ honest. subst
+              (λ (x : Documents). CanHoldBy grids capacity (e ∷ h) d (record { shown = x; stored = held }))
               (sym holding.holds) (inl (told.named, _, s.can honest.1, does honest));
         },
       );
@@ -288,7 +309,8 @@ pub desk_fails : {A : Type 0} (ranges : List Range) (capacities : List ℕ) (gri
     IsGathered (quiet event reply ∷ h) d (kept_held k view.held held)) →
     (IsClean grids (quiet event reply ∷ h) (AtDesk d) → IsGathered (quiet event reply ∷ h) d view.held) →
     (IsClean grids (quiet event reply ∷ h) (AtDesk d) →
-    ChangesHolding capacity h event reply (holding_of view s.stored) (holding_of view (kept_held k view.held held))) →
+    ChangesHolding (IsFair grids event) capacity h event reply (holding_of view s.stored)
+    (holding_of view (kept_held k view.held held))) →
     (IsClean grids (quiet event reply ∷ h) (AtDesk d) → IsReplySafe h event reply) →
     (BringsClean grids h event → IsHonestReply grids capacities h event reply) →
     DeskGoes ranges capacities grids h event reply d capacity (desks.Running (desk_planned mid next_save.Fine))
@@ -297,7 +319,7 @@ desk_fails {A} ranges capacities grids h event reply d capacity view mid k conte
     let e : Entry A = quiet event reply in
     let kept = fails.kept s.store.ready.honest in
     record {
-      fits = desk_fits ranges (length capacities) h event reply d told;
+      fits = desk_fits ranges (length capacities) h event reply [] d told.is_reply.0 told;
       stands = (
         room,
         record {
@@ -314,7 +336,7 @@ desk_fails {A} ranges capacities grids h event reply d capacity view mid k conte
           };
           shows = λ running. let f : mid.is_failed ≡ true = fails.failed in cc (running, f);
           gathered = λ honest. subst (λ (x : Documents). IsGathered (e ∷ h) d x) (sym fails.holds) (shown honest);
-          can = λ honest. subst (λ (x : Documents). CanHold capacity (e ∷ h) d (record {
+          can = λ honest. subst (λ (x : Documents). CanHoldBy grids capacity (e ∷ h) d (record {
             shown = x;
             stored = kept_held k view.held held;
           })) (sym fails.holds) (inl (told.named, _, s.can honest.1, does honest));
@@ -331,14 +353,14 @@ pub desk_stopped : {A : Type 0} (ranges : List Range) (capacities : List ℕ) (g
     (let reply : Reply A = Stopped in IsTold ranges (length capacities) h event reply d) →
     (let reply : Reply A = Stopped in SetStands grids (quiet event reply ∷ h) d capacity saved stored) →
     (let reply : Reply A = Stopped in IsClean grids (quiet event reply ∷ h) (AtDesk d) →
-    CanHold capacity (quiet event reply ∷ h) d (both stored)) →
+    CanHoldBy grids capacity (quiet event reply ∷ h) d (both stored)) →
     (let reply : Reply A = Stopped in IsReplySafe h event reply) →
     (let reply : Reply A = Stopped in IsHonestReply grids capacities h event reply) →
     state ≡ desks.Down saved → DeskGoes ranges capacities grids h event Stopped d capacity state
 desk_stopped {A} ranges capacities grids h event d capacity saved stored state room told store can safe answers is =
     let e : Entry A = quiet event Stopped in
     subst (λ (x : DeskState A). DeskGoes ranges capacities grids h event Stopped d capacity x) (sym is) (record {
-      fits = desk_fits ranges (length capacities) h event Stopped d told;
+      fits = desk_fits ranges (length capacities) h event Stopped [] d told.is_reply.0 told;
       stands = (
         room,
         record {
@@ -362,7 +384,7 @@ pub desk_down : {A : Type 0} (ranges : List Range) (capacities : List ℕ) (grid
     DeskLiesDown grids h d capacity saved →
     ((id m : ℕ) → (let none : Reply A = Down in ¬ Takes (exports h) event none d id m)) →
     ((id : ℕ) → (let none : Reply A = Down in ¬ Forgets event none d id)) →
-    ((x : Holding) → (let none : Reply A = Down in ChangesHolding capacity h event none x x)) →
+    ((x : Holding) → (let none : Reply A = Down in ChangesHolding (IsFair grids event) capacity h event none x x)) →
     (let none : Reply A = Down in IsReplySafe h event none) →
     (let none : Reply A = Down in IsHonestReply grids capacities h event none) →
     reply ≡ Down → state ≡ desks.Down saved → DeskGoes ranges capacities grids h event reply d capacity state
@@ -371,7 +393,7 @@ desk_down {A} ranges capacities grids h event reply d capacity saved state room 
     let e : Entry A = quiet event Down in
     subst (λ (y : Reply A). DeskGoes ranges capacities grids h event y d capacity state) (sym is)
     (subst (λ (x : DeskState A). DeskGoes ranges capacities grids h event Down d capacity x) (sym at) (record {
-      fits = desk_fits ranges (length capacities) h event Down d (record {
+      fits = desk_fits ranges (length capacities) h event Down [] d is_reply.0 (record {
         named = named;
         there = there;
         some_such = λ x. cc;
@@ -407,7 +429,8 @@ pub memory_goes : {A : Type 0} (ranges : List Range) (capacities : List ℕ) (gr
     (let none : Reply A = Memory in IsFine ranges h 0 event none) →
     ((id m : ℕ) → (let none : Reply A = Memory in ¬ Takes (exports h) event none d id m)) →
     ((id : ℕ) → (let none : Reply A = Memory in ¬ Forgets event none d id)) →
-    (let none : Reply A = Memory in ChangesHolding capacity h event none (holding_of view s.stored) (holding_of view s.stored)) →
+    (let none : Reply A = Memory in
+    ChangesHolding (IsFair grids event) capacity h event none (holding_of view s.stored) (holding_of view s.stored)) →
     (let none : Reply A = Memory in IsReplySafe h event none) →
     (let none : Reply A = Memory in IsHonestReply grids capacities h event none) →
     reply ≡ Memory → state ≡ desks.Running view → DeskGoes ranges capacities grids h event reply d capacity state
@@ -452,9 +475,10 @@ unsaved_when h d stop Saved Unsaved failed unsaved =
 -- a desk that is stopped before its save shows what its set held
 pub can_still : {A : Type 0} (grids : List GridView) (h : History A) (event : Event A) (d capacity : ℕ)
     (view : DeskView) → (s : DeskRuns grids h d capacity view) → actor_of event ≡ DeskAt d →
-    (let reply : Reply A = Stopped in ChangesHolding capacity h event reply (holding_of view s.stored) (both s.stored)) →
+    (let reply : Reply A = Stopped in
+    ChangesHolding (IsFair grids event) capacity h event reply (holding_of view s.stored) (both s.stored)) →
     (let reply : Reply A = Stopped in IsClean grids (quiet event reply ∷ h) (AtDesk d) →
-    CanHold capacity (quiet event reply ∷ h) d (both s.stored))
+    CanHoldBy grids capacity (quiet event reply ∷ h) d (both s.stored))
 can_still grids h event d capacity view s named does honest = inl (named, _, s.can honest.1, does)
 
 -- a call that lacked memory changed nothing, so the desk is as it was

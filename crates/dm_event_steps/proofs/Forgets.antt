@@ -112,7 +112,8 @@ refused_goes : {A : Type 0} (ranges : List Range) (capacities : List ℕ) (grids
     (let reply : Reply A = ForgetRefused fault in is_failed h (DeskAt d) ≡ true → IsOfFailed (Forget d id stop) reply) →
     IsForgetRefused h d stop fault →
     (let reply : Reply A = ForgetRefused fault in
-    ChangesHolding capacity h (Forget d id stop) reply (holding_of view s.stored) (holding_of view s.stored)) →
+    ChangesHolding (Unit {0}) capacity h (Forget d id stop) reply (holding_of view s.stored)
+    (holding_of view s.stored)) →
     (IsClean grids (quiet (Forget d id stop) (ForgetRefused fault) ∷ h) (AtDesk d) →
     IsForgetSafe (known_of h) d id fault) →
     DeskGoes ranges capacities grids h (Forget d id stop) (ForgetRefused fault) d capacity
@@ -189,7 +190,7 @@ running_goes {A} ranges capacities grids h d id capacity stop view mid
     -- what is held then
     kept_does : (k : Kept) → IsSome (finite.get view.held id) →
         (let reply : Reply A = ForgetRefused forget_fault.Save in
-        ChangesHolding capacity h (Forget d id (SaveFault k)) reply (holding_of view s.stored)
+        ChangesHolding (Unit {0}) capacity h (Forget d id (SaveFault k)) reply (holding_of view s.stored)
         (holding_of view (kept_held k view.held (finite.remove view.held id))))
     kept_does kept.Old held = (held, ap (holding_of view) (s.shows was))
     kept_does kept.New held = (finite.remove view.held id, (held, refl), refl)
@@ -258,7 +259,7 @@ IsStored {A} grids h d id capacity stop view mid s =
     (let reply : Reply A = Stopped in
     (stored : Documents) × SetStands grids (quiet (Forget d id stop) reply ∷ h) d capacity
     (desk_planned mid next_save.Fine).saved stored
-    × ChangesHolding capacity h (Forget d id stop) reply (holding_of view s.stored) (both stored))
+    × ChangesHolding (Unit {0}) capacity h (Forget d id stop) reply (holding_of view s.stored) (both stored))
 
 stored_stopped : {A : Type 0} (grids : List GridView) (h : History A) (d id capacity : ℕ) (stop : Stop)
     (view mid : DeskView)
@@ -270,7 +271,7 @@ stored_stopped {A} grids h d id capacity stop view mid given s may had f = by_fa
   where
     same : mid ≡ desk_planned view next_save.Fine →
         (let reply : Reply A = Stopped in
-        ChangesHolding capacity h (Forget d id stop) reply (holding_of view s.stored) (both s.stored)) →
+        ChangesHolding (Unit {0}) capacity h (Forget d id stop) reply (holding_of view s.stored) (both s.stored)) →
         IsStored grids h d id capacity stop view mid s
     same is does =
         let e : Entry A = quiet (Forget d id stop) Stopped in

@@ -1,5 +1,5 @@
 -- An import at a running desk gives an entry that fits the history.
-use Rattle.std.proofs.Common.{◌≡◌, ◌≢◌, ◌⊎◌, inl, inr, ◌+◌, ◌<◌, ◌≤◌, ◌&&◌, ℕ, Bool, true, false, Option, Some, None, Result, Ok, Err, List, [], ◌∷◌, length, slice_get, IsSome, IsSomeAnd, refl, ap, sym, ◌∙◌, subst, arith}
+use Rattle.std.proofs.Common.{◌≡◌, ◌≢◌, ◌⊎◌, inl, inr, ◌+◌, ◌<◌, ◌≤◌, ◌&&◌, ℕ, Bool, true, false, Option, Some, None, Result, Ok, Err, List, [], ◌∷◌, length, map, slice_get, IsSome, IsSomeAnd, refl, ap, sym, ◌∙◌, subst, arith}
 use Rattle.std.specs.Prelude.{is_some, is_none, unwrap_or, option_map}
 use Rattle.std.specs.Option.{option_or}
 use Rattle.std.specs.Cmp.{nat_cmp_total}
@@ -15,7 +15,7 @@ use Rattle.dm_assembly_desk.specs.declared.reply.Kind.TheVariants.{New, Again, C
 use Rattle.dm_assembly_desk.specs.declared.reply.Imported as imported_type
 use Rattle.dm_assembly_desk.specs.declared.fault.ImportFault.{ImportFault}
 use Rattle.dm_assembly_desk.specs.declared.fault.ImportFault.TheVariants as import_fault
-use Rattle.dm_assembly_desk.specs.Pages.{Pages, page, names}
+use Rattle.dm_assembly_desk.specs.Pages.{Pages, page, page_bytes, names}
 use Rattle.dm_assembly_desk.specs.Documents.{Documents, page_at}
 use Rattle.dm_assembly_desk.specs.Views.{DeskView, IsCapacity, IsInOrder}
 use Rattle.dm_assembly_desk.specs.Answers.{NeedsSave}
@@ -50,7 +50,7 @@ use Rattle.dm_event_steps.specs.declared.actor.DeskState.TheVariants as desks
 use Rattle.dm_event_steps.specs.declared.actor.LeftExport.{LeftExport}
 use Rattle.dm_event_steps.specs.Acts.{IsCalled, next_save_of}
 use Rattle.dm_event_steps.specs.Gathered.{IsGathered}
-use Rattle.dm_event_history.specs.Held.{both, with_answered, AreAsTold, ArePagesOfExport, ChangesHolding}
+use Rattle.dm_event_history.specs.Held.{both, with_answered, AreSent, ArePagesOfExport, ChangesHolding}
 use Rattle.dm_event_steps.specs.DeskStands.{holding_of, SetStands, DeskRuns}
 use Rattle.dm_event_steps.specs.DeskActs.{ImportsIn, desk_planned, StopsDesk, CallActs, import_reply}
 use Rattle.dm_event_steps.specs.Exports.{export_name_of, AreParts, ShowsPages}
@@ -58,7 +58,7 @@ use Rattle.dm_event_steps.specs.Goes.{quiet, DeskGoes}
 use Rattle.dm_event_history.proofs.HeldDocuments.{get_other}
 use Rattle.dm_event_steps.proofs.Asks.{not_surely, counted_is, page_is, some_none}
 use Rattle.dm_event_steps.proofs.Scans.{other_held}
-use Rattle.dm_event_steps.proofs.Exports.{named_there, there_named}
+use Rattle.dm_event_steps.proofs.Exports.{sent_part, named_there, there_named}
 use Rattle.dm_event_steps.proofs.Gathering.{HoldsFileToo, gathered_keeps, gathered_with_file}
 use Rattle.dm_event_steps.proofs.DeskGoing.{none_leaves, not_failed, memory_goes, lacks_same, set_keeps, fine_desk, done_with_none, faulted_with, desk_kept, set_saved, desk_saves, kept_held, desk_fails, desk_stopped, call_told, stop_told, saved_when, unsaved_when, can_still, with_other}
 
@@ -271,16 +271,19 @@ no_conflict h d id held own pages g parts is (inr differs) =
 
 -- ---- what is held then
 
--- the pages of an export are those that it was told with
-as_told : {A : Type 0} (capacities : List ℕ) (grids : List GridView) (h : History A) (d number capacity : ℕ)
+-- the pages of an export are those that were sent
+as_sent : {A : Type 0} (capacities : List ℕ) (grids : List GridView) (h : History A) (d number capacity : ℕ)
     (view : DeskView) (export : LeftExport A) → (s : IsBrought capacities grids h d number capacity view export) →
-    AreAsTold h number export.id s.shows.pages
-as_told capacities grids h d number capacity view export s = record {
+    AreSent h number export.id s.shows.pages
+as_sent capacities grids h d number capacity view export s = record {
   name = export_name_of export;
   has_left = s.named;
   id_is = refl;
   count_is = s.shows.count_is;
   mask_is = s.shows.mask_is;
+  parts = map page_bytes s.shows.pages;
+  parts_are = s.shows.sent;
+  each = sent_part s.shows.pages;
 }
 
 -- and those of a clean one are parts of what was printed
@@ -289,7 +292,7 @@ pages_of_export : {A : Type 0} (capacities : List ℕ) (grids : List GridView) (
     IsClean grids h (InExport number) → ArePagesOfExport h number export.id s.shows.pages
 pages_of_export capacities grids h d number capacity view export s clean =
     let parts = s.shows.parts clean in record {
-      told = as_told capacities grids h d number capacity view export s;
+      sent = as_sent capacities grids h d number capacity view export s;
       cut = parts.cut;
       printed = parts.printed;
       each = parts.each;
@@ -307,7 +310,8 @@ refused_goes : {A : Type 0} (ranges : List Range) (capacities : List ℕ) (grids
     is_failed h (DeskAt d) ≡ true → IsOfFailed (Import d number stop) reply) →
     IsImportRefused h d stop fault →
     (let reply : Reply A = ImportRefused fault in
-    ChangesHolding capacity h (Import d number stop) reply (holding_of view s.runs.stored) (holding_of view s.runs.stored)) →
+    ChangesHolding (Unit {0}) capacity h (Import d number stop) reply (holding_of view s.runs.stored)
+    (holding_of view s.runs.stored)) →
     (IsClean grids h (InExport number) → IsHonestlyNotImported grids capacities h d number fault) →
     DeskGoes ranges capacities grids h (Import d number stop) (ImportRefused fault) d capacity
     (desks.Running (desk_planned mid next_save.Fine))
@@ -432,12 +436,12 @@ kept_does : {A : Type 0} (capacities : List ℕ) (grids : List GridView) (h : Hi
     NeedsSave (import_answer view.capacity view.held export.id s.shows.pages) → view.is_failed ≡ false →
     IsClean grids (quiet (Import d number (SaveFault k)) (ImportRefused import_fault.Save) ∷ h) (AtDesk d) →
     (let reply : Reply A = ImportRefused import_fault.Save in
-    ChangesHolding capacity h (Import d number (SaveFault k)) reply (holding_of view s.runs.stored)
+    ChangesHolding (Unit {0}) capacity h (Import d number (SaveFault k)) reply (holding_of view s.runs.stored)
     (holding_of view (kept_held k view.held (with_file view.held export.id s.shows.pages))))
 kept_does capacities grids h d number capacity kept.Old view export s needs was honest = (
   export.id,
   s.shows.pages,
-  as_told capacities grids h d number capacity view export s,
+  as_sent capacities grids h d number capacity view export s,
   subst (λ (c : ℕ). NeedsSave (import_answer c view.held export.id s.shows.pages)) s.runs.capacity_is needs,
   ap (holding_of view) (s.runs.shows was),
 )
@@ -518,7 +522,7 @@ file_goes ranges capacities grids h d number capacity stop view mid export
     (λ b. refl) (not_failed grids h d capacity view s.runs was _) tt (
       export.id,
       s.shows.pages,
-      as_told capacities grids h d number capacity view export s,
+      as_sent capacities grids h d number capacity view export s,
       subst (λ (c : ℕ). import_answer c view.held export.id s.shows.pages ≡ Err import_fault.Conflict)
           s.runs.capacity_is acts.0,
       refl,
@@ -532,7 +536,7 @@ file_goes ranges capacities grids h d number capacity stop view mid export
     (λ b. refl) (not_failed grids h d capacity view s.runs was _) tt (
       export.id,
       s.shows.pages,
-      as_told capacities grids h d number capacity view export s,
+      as_sent capacities grids h d number capacity view export s,
       subst (λ (c : ℕ). import_answer c view.held export.id s.shows.pages ≡ Err import_fault.Full)
           s.runs.capacity_is acts.0,
       refl,
@@ -551,7 +555,7 @@ file_goes ranges capacities grids h d number capacity stop view mid export
     (λ b. refl) (not_failed grids h d capacity view s.runs was _) tt (
       export.id,
       s.shows.pages,
-      as_told capacities grids h d number capacity view export s,
+      as_sent capacities grids h d number capacity view export s,
       subst (λ (c : ℕ). NeedsSave (import_answer c view.held export.id s.shows.pages)) s.runs.capacity_is acts.0,
       refl,
     )
@@ -613,7 +617,7 @@ IsStored {A} capacities grids h d number capacity stop view mid export s =
     (stored : Documents) × SetStands grids (quiet (Import d number stop) reply ∷ h) d capacity
     (desk_planned mid next_save.Fine).saved stored
     × (IsClean grids (quiet (Import d number stop) reply ∷ h) (AtDesk d) →
-    ChangesHolding capacity h (Import d number stop) reply (holding_of view s.runs.stored) (both stored)))
+    ChangesHolding (Unit {0}) capacity h (Import d number stop) reply (holding_of view s.runs.stored) (both stored)))
 
 stored_stopped : {A : Type 0} (capacities : List ℕ) (grids : List GridView) (h : History A) (d number capacity : ℕ)
     (stop : Stop) (view mid : DeskView)
@@ -627,7 +631,8 @@ stored_stopped {A} capacities grids h d number capacity stop view mid export giv
   where
     same : mid ≡ desk_planned view next_save.Fine →
         (let reply : Reply A = Stopped in IsClean grids (quiet (Import d number stop) reply ∷ h) (AtDesk d) →
-        ChangesHolding capacity h (Import d number stop) reply (holding_of view s.runs.stored) (both s.runs.stored)) →
+        ChangesHolding (Unit {0}) capacity h (Import d number stop) reply (holding_of view s.runs.stored)
+        (both s.runs.stored)) →
         IsStored capacities grids h d number capacity stop view mid export s
     same is does =
         let e : Entry A = quiet (Import d number stop) Stopped in
@@ -652,7 +657,8 @@ stored_stopped {A} capacities grids h d number capacity stop view mid export giv
         (import_answer view.capacity view.held export.id s.shows.pages ≡ Ok Again)
         ⊎ (import_answer view.capacity view.held export.id s.shows.pages ≡ Err import_fault.Full) →
         (let reply : Reply A = Stopped in IsClean grids (quiet (Import d number stop) reply ∷ h) (AtDesk d) →
-        ChangesHolding capacity h (Import d number stop) reply (holding_of view s.runs.stored) (both s.runs.stored))
+        ChangesHolding (Unit {0}) capacity h (Import d number stop) reply (holding_of view s.runs.stored)
+        (both s.runs.stored))
     kept_as was why honest = saved_when h d stop _ _ may (sym s.runs.failed ∙ was) (inr (
       (
         export.id,
@@ -803,7 +809,7 @@ import_goes ranges capacities grids h d number capacity stop view export reply s
       sym s.runs.failed ∙ none.1,
       export.id,
       s.shows.pages,
-      as_told capacities grids h d number capacity view export s,
+      as_sent capacities grids h d number capacity view export s,
       subst (λ (c : ℕ). NeedsSave (import_answer c view.held export.id s.shows.pages)) s.runs.capacity_is none.2,
       refl,
     )

@@ -9,8 +9,8 @@ pub mod EachPrinter
 pub mod DeskFacts
 pub mod Gathering
 pub mod DeskGoing
-pub mod WrongModules
 pub mod NearItself
+pub mod OpenedHeads
 pub mod Scans
 pub mod Asks
 pub mod Forgets

@@ -13,7 +13,7 @@ use Rattle.dm_event_history.specs.Actors.{Actor, PrinterAt, DeskAt, actor_of}
 use Rattle.dm_event_history.specs.History.{Entry, History, exported, exports}
 use Rattle.dm_event_history.specs.Holding.{Takes, Forgets}
 use Rattle.dm_event_history.specs.Legal.{IsThere, IsReply}
-use Rattle.dm_event_history.specs.Honest.{IsHonestReply}
+use Rattle.dm_event_history.specs.Honest.{IsFair, IsHonestReply}
 use Rattle.dm_event_history.specs.Safe.{IsReplySafe}
 use Rattle.dm_event_history.proofs.Fresh.{all_placed}
 use Rattle.dm_event_history.proofs.WhoActs.{actor_or_other, is_down_same, is_failed_same}
@@ -21,10 +21,10 @@ use Rattle.dm_event_steps.specs.declared.actor.DeskState.{DeskState}
 use Rattle.dm_event_steps.specs.declared.actor.DeskState.TheVariants as desks
 use Rattle.dm_event_steps.specs.declared.actor.LeftExport.{LeftExport}
 use Rattle.dm_event_steps.specs.Labels.{grid_of}
-use Rattle.dm_event_history.specs.Held.{Holding, ChangesHolding, CanHold}
+use Rattle.dm_event_history.specs.Held.{Holding, ChangesHolding, CanHoldBy}
 use Rattle.dm_event_steps.specs.DeskStands.{DeskStands}
 use Rattle.dm_event_steps.specs.DeskActs.{DeskActs}
-use Rattle.dm_event_steps.specs.Goes.{quiet, DeskGoes, ExportsGo}
+use Rattle.dm_event_steps.specs.Goes.{sending, quiet, DeskGoes, DeskGoesOn}
 use Rattle.dm_event_steps.specs.Worlds.{WorldView, left_of, grids_of, IsNamed, Steps}
 use Rattle.dm_event_steps.specs.StandsFor.{StandsFor}
 use Rattle.dm_event_steps.proofs.PrinterGoing.{IsFine}
@@ -45,9 +45,9 @@ no_exports : {A : Type 0} (ranges : List Range) (capacities : List ℕ) (grids :
     (event : Event A) (reply : Reply A)
     (d capacity : ℕ) (state : DeskState A) (old new : List (LeftExport A)) → new ≡ old → exported reply ≡ [] →
     DeskGoes ranges capacities grids h event reply d capacity state →
-    DeskGoes ranges capacities grids h event reply d capacity state × ExportsGo grids h event reply old new
+    DeskGoesOn ranges capacities grids h event reply d capacity state old new
 no_exports ranges capacities grids h event reply d capacity state old new same none g =
-    (g, no_export grids h event reply old new same none)
+    ([], g, no_export grids h event reply [] old new same none)
 
 -- only an export is answered so
 exports_none : {A : Type 0} (ranges : List Range) (capacities : List ℕ) (grids : List GridView) (h : History A)
@@ -68,7 +68,7 @@ silent : {A : Type 0} (ranges : List Range) (capacities : List ℕ) (grids : Lis
     (d capacity : ℕ) (state : DeskState A) (old new : List (LeftExport A)) → ((desk id : ℕ) → event ≢ Export desk id) →
     new ≡ old →
     DeskGoes ranges capacities grids h event reply d capacity state →
-    DeskGoes ranges capacities grids h event reply d capacity state × ExportsGo grids h event reply old new
+    DeskGoesOn ranges capacities grids h event reply d capacity state old new
 silent ranges capacities grids h event reply d capacity state old new other same g =
     no_exports ranges capacities grids h event reply d capacity state old new same
     (exports_none ranges capacities grids h event reply d capacity state other g) g
@@ -82,8 +82,7 @@ desk_goes : {A : Type 0} (ranges : List Range) (capacities : List ℕ) (world : 
     IsThere (length ranges) (length capacities) h event → slice_get capacities d ≡ Some capacity →
     DeskStands (grids_of world) h d capacity was →
     DeskActs world.labels event capacity was world.exports reply state new →
-    DeskGoes ranges capacities (grids_of world) h event reply d capacity state ×
-    ExportsGo (grids_of world) h event reply world.exports new
+    DeskGoesOn ranges capacities (grids_of world) h event reply d capacity state world.exports new
 desk_goes {A} ranges capacities world h (Scan c number flips stop) reply d capacity
     (desks.Running view) state new s named there at stands acts =
     let same : c ≡ d = cc in
@@ -134,8 +133,8 @@ desk_goes {A} ranges capacities world h (Ask c id) reply d capacity
 desk_goes {A} ranges capacities world h (Export c id) reply d capacity
     (desks.Running view) state new s named there at stands acts =
     let same : c ≡ d = cc in
-    subst (λ (i : ℕ). DeskGoes ranges capacities (grids_of world) h (Export i id) reply d capacity state ×
-    ExportsGo (grids_of world) h (Export i id) reply world.exports new) (sym same)
+    subst (λ (i : ℕ). DeskGoesOn ranges capacities (grids_of world) h (Export i id) reply d capacity state world.exports
+    new) (sym same)
     (export_goes ranges capacities (grids_of world) h d id capacity reply view state world.exports new
     (subst (λ (i : ℕ). i < length capacities) same there) stands.0 stands.1 s.export_names acts.0 acts.1)
 desk_goes {A} ranges capacities world h (RestartDesk c) reply d capacity was state new s named there at stands acts =
@@ -244,24 +243,25 @@ no_such_answers grids capacities h (Take p ticket stop) = tt
 no_such_answers grids capacities h (Export c i) = tt
 no_such_answers grids capacities h (Import c export stop) = tt
 
-no_such_holds : {A : Type 0} (capacity : ℕ) (h : History A) (event : Event A) (x : Holding) →
-    ChangesHolding capacity h event NoSuch x x
-no_such_holds capacity h (Print p document size scheme stop) x = refl
-no_such_holds capacity h (Scan c l flips stop) x = refl
-no_such_holds capacity h (RestartPrinter p) x = refl
-no_such_holds capacity h (RestartDesk c) x = refl
-no_such_holds capacity h (Ask c i) x = refl
-no_such_holds capacity h (Forget c i stop) x = refl
-no_such_holds capacity h (Give p receiver range stop) x = refl
-no_such_holds capacity h (Take p ticket stop) x = refl
-no_such_holds capacity h (Export c i) x = refl
-no_such_holds capacity h (Import c export stop) x = refl
+no_such_holds : {A : Type 0} (Honest : Type 0) (capacity : ℕ) (h : History A) (event : Event A) (x : Holding) →
+    ChangesHolding Honest capacity h event NoSuch x x
+no_such_holds Honest capacity h (Print p document size scheme stop) x = refl
+no_such_holds Honest capacity h (Scan c l flips stop) x = refl
+no_such_holds Honest capacity h (RestartPrinter p) x = refl
+no_such_holds Honest capacity h (RestartDesk c) x = refl
+no_such_holds Honest capacity h (Ask c i) x = refl
+no_such_holds Honest capacity h (Forget c i stop) x = refl
+no_such_holds Honest capacity h (Give p receiver range stop) x = refl
+no_such_holds Honest capacity h (Take p ticket stop) x = refl
+no_such_holds Honest capacity h (Export c i) x = refl
+no_such_holds Honest capacity h (Import c export stop) x = refl
 
 -- nor is anything held that was not
-none_held : {A : Type 0} (capacity : ℕ) (h : History A) (event : Event A) (d : ℕ) (x : Holding) →
-    CanHold capacity h d x → CanHold capacity (quiet event NoSuch ∷ h) d x
-none_held capacity h event d x c = elim (actor_or_other (actor_of event) (DeskAt d)) [
-  | inl same ↦ inl (same, x, c, no_such_holds capacity h event x)
+none_held : {A : Type 0} (grids : List GridView) (capacity : ℕ) (h : History A) (event : Event A) (d : ℕ)
+    (x : Holding) →
+    CanHoldBy grids capacity h d x → CanHoldBy grids capacity (quiet event NoSuch ∷ h) d x
+none_held grids capacity h event d x c = elim (actor_or_other (actor_of event) (DeskAt d)) [
+  | inl same ↦ inl (same, x, c, no_such_holds (IsFair grids event) capacity h event x)
   | inr other ↦ inr (other, c)
 ]
 
@@ -322,7 +322,7 @@ none_goes {A} ranges capacities world h event s away =
             desk_keeps e h (grids_of world) (grids_of world) c room desk.state
                 (λ honest. honest.1) (λ some. none_leaves {A = A} event NoSuch _ some)
                 (quiet_none event h (DeskAt c)) (no_take h event c) (no_forget event c)
-                (none_held room h event c) old.1,
+                (none_held (grids_of world) room h event c) old.1,
           );
     })
 
@@ -361,9 +361,9 @@ steps_on {A} ranges capacities h old new event reply s (inr (inr at)) =
     (there_of ranges capacities old h event s at.there) own.1 stands.1
     (subst (λ (c : ℕ). DeskActs old.labels event c at.actor.state old.exports reply at.after new.exports) stands.0
     at.acts) in (
-      quiet event reply,
+      sending event reply g.0,
       refl,
       refl,
-      desk_steps ranges capacities old new h event reply at.desk own.0 at.actor at.after s at.named own.1 at.was
-          at.desks at.printers at.labels at.tickets g.0 g.1,
+      desk_steps ranges capacities old new h event reply g.0 at.desk own.0 at.actor at.after s at.named own.1 at.was
+          at.desks at.printers at.labels at.tickets g.1 g.2,
     )

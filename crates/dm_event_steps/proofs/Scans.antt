@@ -57,15 +57,16 @@ use Rattle.dm_event_steps.specs.declared.actor.LeftLabel.{LeftLabel}
 use Rattle.dm_event_steps.specs.Labels.{name_of, ShowsDocument}
 use Rattle.dm_event_steps.specs.Acts.{IsCalled, next_save_of}
 use Rattle.dm_event_steps.specs.Gathered.{IsGathered}
-use Rattle.dm_event_history.specs.Held.{MayBeRead, Holding, both, with_answered, IsPageOfLabel, ChangesHolding, IsPart}
+use Rattle.dm_event_history.specs.Held.{MayBeRead, LosesFrame, Holding, both, with_answered, IsPageOfLabel, ChangesHolding, IsPart}
 use Rattle.dm_event_steps.specs.DeskStands.{holding_of, SetStands, DeskRuns}
 use Rattle.dm_event_steps.specs.DeskActs.{Accepts, desk_planned, StopsDesk, scan_reply, ScanActs}
 use Rattle.dm_event_steps.specs.Goes.{quiet, DeskGoes}
-use Rattle.dm_event_steps.proofs.WrongModules.{few_wrong}
+use Rattle.dm_event_history.proofs.WrongModules.{few_wrong}
 use Rattle.dm_event_steps.proofs.PrinterGoing.{IsFine, not_both}
 use Rattle.dm_event_steps.proofs.Asks.{not_surely}
 use Rattle.dm_event_steps.proofs.DeskFacts.{HoldsPage, is_free, holds_also, holds_all_others, lacks_another, Disagrees, holds_again, disagrees, is_full, some_page}
 use Rattle.dm_event_steps.proofs.NearItself.{near_itself}
+use Rattle.dm_event_steps.proofs.OpenedHeads.{opened_head, accepted_head}
 use Rattle.dm_event_steps.proofs.Gathering.{gathered_keeps, gathered_with}
 use Rattle.dm_event_steps.proofs.DeskGoing.{none_leaves, not_failed, memory_goes, lacks_same, IsTold, set_keeps, fine_desk, done_with_none, faulted_with, desk_kept, set_saved, desk_saves, kept_held, desk_fails, desk_stopped, saved_when, unsaved_when, can_still, with_other}
 use Rattle.dm_assembly_desk.specs.FaultOrigin as origin
@@ -316,15 +317,26 @@ page_of_label h number label p cut named is = record {
   part = is.part;
 }
 
--- so the page of a scan is, if no module is flipped
+-- what a scan may have read
 page_read : {A : Type 0} (capacities : List ℕ) (grids : List GridView) (h : History A) (d number capacity : ℕ)
     (flips : List (ℕ × ℕ)) (view : DeskView) (label : LeftLabel A) (opened : Opened A) →
     IsScanned capacities grids h d number capacity flips view label →
-    LabelOpens (flipped label.grid flips) (Ok opened) → MayBeRead h number flips opened.page
-page_read capacities grids h d number capacity [] view label opened s opens =
-    page_of_label h number label opened.page s.shows.document s.named
-    (fair_page grids h number [] label opened s.left s.shows opens (λ grid left. near_itself grid))
-page_read capacities grids h d number capacity (flip ∷ flips) view label opened s opens = tt
+    LabelOpens (flipped label.grid flips) (Ok opened) →
+    MayBeRead (IsFairScan grids number flips) h number flips opened.page
+page_read {A} capacities grids h d number capacity flips view label opened s opens = record {
+  head = opened_head (flipped label.grid flips) opened opens;
+  short = opens.short;
+  honest = its;
+  unflipped = λ none. its (unflipped_fair flips none);
+}
+  where
+    its : IsFairScan grids number flips → IsPageOfLabel h number opened.page
+    its fair = page_of_label h number label opened.page s.shows.document s.named
+        (fair_page grids h number flips label opened s.left s.shows opens fair)
+
+    unflipped_fair : (f : List (ℕ × ℕ)) → f ≡ [] → IsFairScan grids number f
+    unflipped_fair [] none = λ grid left. near_itself grid
+    unflipped_fair (flip ∷ rest) none = absurd (cc (none))
 
 abbrev as_holding : Documents → Documents → Holding
 as_holding shown stored = record { shown = shown; stored = stored }
@@ -342,7 +354,8 @@ refused_goes : {A : Type 0} (ranges : List Range) (capacities : List ℕ) (grids
     is_failed h (DeskAt d) ≡ true → IsOfFailed (Scan d number flips stop) reply) →
     IsScanRefused h d stop fault →
     (let reply : Reply A = ScanRefused fault in
-    ChangesHolding capacity h (Scan d number flips stop) reply (holding_of view s.runs.stored)
+    ChangesHolding (IsFairScan grids number flips) capacity h (Scan d number flips stop) reply
+    (holding_of view s.runs.stored)
     (holding_of view s.runs.stored)) →
     (IsFairScan grids number flips → IsHonestlyRefused grids capacities h d number flips fault) →
     DeskGoes ranges capacities grids h (Scan d number flips stop) (ScanRefused fault) d capacity
@@ -381,7 +394,8 @@ again_goes {A} ranges capacities grids h d number capacity flips stop view mid l
     desk_kept ranges capacities grids h event reply d capacity view (desk_planned mid next_save.Fine) s.room s.runs
     (ap (λ (v : DeskView). desk_planned v next_save.Fine) same ∙ fine_desk view (next_save_of stop) s.runs.store.ready)
     (made_told ranges capacities h d number flips stop reply s.there s.runs.up called (λ x. cc) (λ x. cc) (λ x. cc)
-    (refl, (λ other. absurd (other again))) (not_failed grids h d capacity view s.runs runs _) (λ x. cc))
+    (refl, accepted_head (flipped label.grid flips) opened a stop opens names (λ other. absurd (other again)))
+    (not_failed grids h d capacity view s.runs runs _) (λ x. cc))
     refl refl
     (λ id m t. (
       at id m t.1 t.2,
@@ -430,7 +444,8 @@ took_goes {A} ranges capacities grids h d number capacity flips stop view mid la
     (subst (λ (c : ℕ). finite.len (with_page view.held opened.page) ≤ c) s.runs.capacity_is
     (few_with view.capacity view.held opened.page order.few needs))
     (made_told ranges capacities h d number flips stop reply s.there s.runs.up called
-    (λ x. cc) (λ x. cc) (λ x. cc) (refl, (λ _. none))
+    (λ x. cc) (λ x. cc) (λ x. cc)
+    (refl, accepted_head (flipped label.grid flips) opened a stop opens names (λ _. none))
     (not_failed grids h d capacity view s.runs keeps.holding.was_running _) (λ x. cc))
     refl refl
     (gathered_page capacities grids h d number capacity flips stop reply view label opened a.kind s opens other answered
@@ -490,7 +505,8 @@ kept_does : {A : Type 0} (capacities : List ℕ) (grids : List GridView) (h : Hi
     NeedsSave (answer view.capacity view.held opened.page) → view.is_failed ≡ false →
     IsClean grids (quiet (Scan d number flips (SaveFault k)) (ScanRefused scan_fault.Save) ∷ h) (AtDesk d) →
     (let reply : Reply A = ScanRefused scan_fault.Save in
-    ChangesHolding capacity h (Scan d number flips (SaveFault k)) reply (holding_of view s.runs.stored)
+    ChangesHolding (IsFairScan grids number flips) capacity h (Scan d number flips (SaveFault k)) reply
+    (holding_of view s.runs.stored)
     (holding_of view (kept_held k view.held (with_page view.held opened.page))))
 kept_does capacities grids h d number capacity flips kept.Old view label opened s opens needs was honest = (
   opened.page,
@@ -770,7 +786,8 @@ IsStored {A} capacities grids h d number capacity flips stop view mid label s =
     (stored : Documents) × SetStands grids (quiet (Scan d number flips stop) reply ∷ h) d capacity
     (desk_planned mid next_save.Fine).saved stored
     × (IsClean grids (quiet (Scan d number flips stop) reply ∷ h) (AtDesk d) →
-    ChangesHolding capacity h (Scan d number flips stop) reply (holding_of view s.runs.stored) (both stored)))
+    ChangesHolding (IsFairScan grids number flips) capacity h (Scan d number flips stop) reply
+    (holding_of view s.runs.stored) (both stored)))
 
 stored_stopped : {A : Type 0} (capacities : List ℕ) (grids : List GridView) (h : History A)
     (d number capacity : ℕ) (flips : List (ℕ × ℕ)) (stop : Stop) (view mid : DeskView) (label : LeftLabel A)
@@ -799,7 +816,8 @@ stored_stopped {A} capacities grids h d number capacity flips stop view mid labe
 
     same : mid ≡ desk_planned view next_save.Fine →
         (let reply : Reply A = Stopped in IsClean grids (quiet event reply ∷ h) (AtDesk d) →
-        ChangesHolding capacity h event reply (holding_of view s.runs.stored) (both s.runs.stored)) →
+        ChangesHolding (IsFairScan grids number flips) capacity h event reply (holding_of view s.runs.stored)
+        (both s.runs.stored)) →
         IsStored capacities grids h d number capacity flips stop view mid label s
     same is does =
         let e : Entry A = quiet (Scan d number flips stop) Stopped in
@@ -826,14 +844,16 @@ stored_stopped {A} capacities grids h d number capacity flips stop view mid labe
         (answer view.capacity view.held opened.page ≡ Ok Again)
         ⊎ (answer view.capacity view.held opened.page ≡ Err scan_fault.Full) →
         (let reply : Reply A = Stopped in IsClean grids (quiet event reply ∷ h) (AtDesk d) →
-        ChangesHolding capacity h event reply (holding_of view s.runs.stored) (both s.runs.stored))
+        ChangesHolding (IsFairScan grids number flips) capacity h event reply (holding_of view s.runs.stored)
+        (both s.runs.stored))
     kept_as opened opens was why honest =
         saved_when h d stop _ _ may (sym s.runs.failed ∙ was) (inr (
           (
             opened.page,
             page_of_label h number label opened.page s.shows.document s.named (fair opened opens was honest),
             subst (λ (c : ℕ). (answer c view.held opened.page ≡ Ok Again)
-                ⊎ ((answer c view.held opened.page ≡ Err scan_fault.Full) ⊎ (1 ≤ length flips))) s.runs.capacity_is
+                ⊎ ((answer c view.held opened.page ≡ Err scan_fault.Full) ⊎ LosesFrame h opened.page flips))
+                s.runs.capacity_is
                 (elim why [ inl again ↦ inl again | inr full ↦ inr (inl full) ]),
           ),
           refl,
@@ -892,16 +912,22 @@ stored_stopped {A} capacities grids h d number capacity flips stop view mid labe
     by_page opened (Err scan_fault.Failed) opens was had x = absurd x
     by_page opened (Err (scan_fault.Label fault)) opens was had x = absurd x
 
-    -- a module of the finder patterns was flipped
+    -- too many modules of the finder patterns were flipped
     by_frame : (fault : LabelFault) → (let none : Result (Opened A) LabelFault = Err fault in LabelOpens (flipped label.grid flips) none) →
         view.is_failed ≡ false →
         given ≡ Err (origin.scan_fault fault) →
-        (let reply : Reply A = Stopped in IsClean grids (quiet event reply ∷ h) (AtDesk d)) → 1 ≤ length flips
+        (let reply : Reply A = Stopped in IsClean grids (quiet event reply ∷ h) (AtDesk d)) →
+        LosesFrame h its_page flips
     by_frame labels.Memory opens was is honest = absurd (had is)
     by_frame (labels.Border wrong) opens was is honest =
-        (let few : wrong ≤ length flips = few_wrong label.grid flips wrong
-        (ap wrong_frame_modules s.shows.carries.drawn ∙ frame_has_no_wrong_module _ _) opens.opens in
-        let many = opens.opens.0 in let same_wrong = opens.opens.1 in omega arith)
+        record {
+          cut = s.shows.document;
+          printed = s.shows.printed;
+          grid = label.grid;
+          size_is = s.shows.size_is;
+          none_wrong = ap wrong_frame_modules s.shows.carries.drawn ∙ frame_has_no_wrong_module _ _;
+          lost = λ good. let many = opens.opens.0 in omega (arith, good, many);
+        }
     by_frame (labels.Block block) opens was is honest =
         absurd (never_so grids h number flips label (labels.Block block) (Err (labels.Block block)) refl s.left s.shows
         opens (honest.0 refl may (sym s.runs.failed ∙ was)))
@@ -922,7 +948,8 @@ stored_stopped {A} capacities grids h d number capacity flips stop view mid labe
         view.is_failed ≡ false →
         given ≡ Err (origin.scan_fault fault) →
         (let reply : Reply A = Stopped in IsClean grids (quiet event reply ∷ h) (AtDesk d) →
-        ChangesHolding capacity h event reply (holding_of view s.runs.stored) (both s.runs.stored))
+        ChangesHolding (IsFairScan grids number flips) capacity h event reply (holding_of view s.runs.stored)
+        (both s.runs.stored))
     unopened fault opens was is honest =
         saved_when h d stop _ _ may (sym s.runs.failed ∙ was) (inr (
           (

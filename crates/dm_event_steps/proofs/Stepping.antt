@@ -27,12 +27,12 @@ use Rattle.dm_event_steps.specs.Labels.{name_of, grid_of, ShowsDocument}
 use Rattle.dm_event_steps.specs.Exports.{export_name_of, ShowsPages}
 use Rattle.dm_event_steps.specs.Stands.{PrinterStands}
 use Rattle.dm_event_steps.specs.DeskStands.{DeskStands}
-use Rattle.dm_event_steps.specs.Goes.{PrinterGoes, quiet, DeskGoes, ExportsGo}
+use Rattle.dm_event_steps.specs.Goes.{PrinterGoes, sending, DeskSends, ExportsGo}
 use Rattle.dm_event_steps.specs.Worlds.{WorldView, left_of, grids_of, IsNamed}
 use Rattle.dm_event_steps.specs.StandsFor.{StandsFor}
 use Rattle.dm_event_history.proofs.FreeNumbers.{saved_elsewhere}
 use Rattle.dm_event_steps.proofs.DeskGoing.{none_leaves}
-use Rattle.dm_event_steps.proofs.WorldGoing.{get_set_same, get_set_other, get_map, get_map_from, clean_before, quiet_other, printer_keeps, desk_keeps, fresh_of, grids_more, goes_on}
+use Rattle.dm_event_steps.proofs.WorldGoing.{get_set_same, get_set_other, get_map, get_map_from, clean_before, holds_more, quiet_other, printer_keeps, desk_keeps, fresh_of, grids_more, goes_on}
 
 -- ---- what the replies of printers and desks say
 
@@ -224,7 +224,11 @@ printer_steps {A} ranges capacities world new h event reply p actor after s name
                 (quiet_other g.entry h (DeskAt d) other)
                 (λ id m took. other (takes_there h g.entry.event g.entry.reply d id m took))
                 (λ id x. other (forgets_there g.entry.event g.entry.reply d id x))
-                (λ x c. inr (other, c)) old.1,
+                (λ x c. inr (
+                  other,
+                  holds_more (grids_of world) (grids_of new) (map grid_of g.more) capacity h d x grids c,
+                ))
+                old.1,
           );
     })
   where
@@ -242,18 +246,18 @@ printer_steps {A} ranges capacities world new h event reply p actor after s name
 -- ---- a desk's step
 
 pub desk_steps : {A : Type 0} (ranges : List Range) (capacities : List ℕ) (world new : WorldView A) (h : History A)
-    (event : Event A) (reply : Reply A)
+    (event : Event A) (reply : Reply A) (parts : List (List ℕ))
     (d capacity : ℕ) (actor : DeskActor A) (after : DeskState A) →
     StandsFor ranges capacities world h → actor_of event ≡ DeskAt d →
     slice_get capacities d ≡ Some capacity → slice_get world.desks d ≡ Some actor →
     new.desks ≡ slice_set world.desks d (record { capacity = actor.capacity; state = after }) →
     new.printers ≡ world.printers → new.labels ≡ world.labels → new.tickets ≡ world.tickets →
-    DeskGoes ranges capacities (grids_of world) h event reply d capacity after →
-    ExportsGo (grids_of world) h event reply world.exports new.exports →
-    StandsFor ranges capacities new (quiet event reply ∷ h)
-desk_steps {A} ranges capacities world new h event reply d capacity actor after s named at was set printers_same
+    DeskSends ranges capacities (grids_of world) h event reply parts d capacity after →
+    ExportsGo (grids_of world) h event reply parts world.exports new.exports →
+    StandsFor ranges capacities new (sending event reply parts ∷ h)
+desk_steps {A} ranges capacities world new h event reply parts d capacity actor after s named at was set printers_same
     labels_same tickets_same g x =
-    let e : Entry A = quiet event reply in
+    let e : Entry A = sending event reply parts in
     let old = s.desks d capacity actor at was in
     let grids : grids_of new ≡ grids_of world = ap (map grid_of) labels_same in
     goes_on ranges capacities world new h e s (record {
@@ -308,10 +312,11 @@ desk_steps {A} ranges capacities world new h event reply d capacity actor after 
     own_desk : (c : ℕ) → actor_of event ≡ DeskAt c → c ≡ d
     own_desk c actor = (let x : DeskAt c ≡ DeskAt d = sym actor ∙ named in cc (x))
 
-    own_one : (actor.capacity ≡ capacity) × DeskStands (grids_of world) (quiet event reply ∷ h) d capacity after →
+    own_one : (actor.capacity ≡ capacity)
+        × DeskStands (grids_of world) (sending event reply parts ∷ h) d capacity after →
         (c room : ℕ) (desk : DeskActor A) → d ≡ c → slice_get capacities c ≡ Some room →
         slice_get (slice_set world.desks d (record { capacity = actor.capacity; state = after })) c ≡ Some desk →
-        (desk.capacity ≡ room) × DeskStands (grids_of world) (quiet event reply ∷ h) c room desk.state
+        (desk.capacity ≡ room) × DeskStands (grids_of world) (sending event reply parts ∷ h) c room desk.state
     own_one stands c room desk same here now =
         let mine : DeskActor A = record { capacity = actor.capacity; state = after } in
         let is : slice_get (slice_set world.desks d mine) d ≡ Some mine = get_set_same world.desks d mine actor was in
@@ -322,8 +327,8 @@ desk_steps {A} ranges capacities world new h event reply d capacity actor after 
         (sym same) here in
         let room_is : capacity ≡ room = cc (at, here') in
         subst (λ (i : ℕ). (desk.capacity ≡ room) ×
-        DeskStands (grids_of world) (quiet event reply ∷ h) i room desk.state) same
+        DeskStands (grids_of world) (sending event reply parts ∷ h) i room desk.state) same
         (subst (λ (n : ℕ). (desk.capacity ≡ n) ×
-        DeskStands (grids_of world) (quiet event reply ∷ h) d n desk.state) room_is
+        DeskStands (grids_of world) (sending event reply parts ∷ h) d n desk.state) room_is
         (subst (λ (a : DeskActor A). (a.capacity ≡ capacity) ×
-        DeskStands (grids_of world) (quiet event reply ∷ h) d capacity a.state) desk_is stands))
+        DeskStands (grids_of world) (sending event reply parts ∷ h) d capacity a.state) desk_is stands))

@@ -6,6 +6,7 @@ use Rattle.dm_append_label.specs.declared.fault.LabelFault.{LabelFault}
 use Rattle.dm_append_label.specs.declared.fault.LabelFault.TheVariants as label_faults
 use Rattle.dm_print_ledger.specs.declared.range.Range.{Range}
 use Rattle.dm_print_ledger.specs.Views.{TicketView}
+use Rattle.dm_assembly_desk.specs.Pages.{page_bytes}
 use Rattle.dm_assembly_desk.specs.declared.fault.ScanFault.{ScanFault}
 use Rattle.dm_assembly_desk.specs.declared.fault.ScanFault.TheVariants as scan_fault
 use Rattle.dm_assembly_desk.specs.declared.fault.ImportFault.TheVariants as import_fault
@@ -14,7 +15,7 @@ use Rattle.dm_event_history.specs.declared.event.Event.TheVariants.{Print, Scan,
 use Rattle.dm_event_history.specs.declared.reply.Reply.{Reply}
 use Rattle.dm_event_history.specs.declared.reply.Reply.TheVariants.{Scanned, ScanRefused, ImportRefused}
 use Rattle.dm_event_history.specs.Actors.{Actor, PrinterAt, DeskAt, actor_of}
-use Rattle.dm_event_history.specs.History.{Entry, History, names_from, out, docs, given, exports, exported}
+use Rattle.dm_event_history.specs.History.{Entry, History, names_from, out, docs, given, exports, exported, parts_in, exported_parts}
 use Rattle.dm_event_history.specs.Running.{is_down, is_failed}
 use Rattle.dm_event_history.specs.Holding.{Takes, Forgets}
 use Rattle.dm_event_history.specs.Legal.{Fits}
@@ -23,6 +24,7 @@ use Rattle.dm_event_history.specs.Honest.{IsFair, IsCleanBy, IsClean, BringsClea
 use Rattle.dm_event_history.specs.Safe.{IsReplySafe, IsSafe}
 use Rattle.dm_event_history.proofs.Batches.{in_either}
 use Rattle.dm_event_history.proofs.Gotten.{get_more}
+use Rattle.dm_event_history.proofs.HonestScans.{AreToo, less_holds}
 use Rattle.dm_event_history.proofs.WhoActs.{is_down_other, is_failed_other}
 use Rattle.dm_event_history.proofs.Printed.{docs_keep}
 use Rattle.dm_event_history.proofs.Fresh.{all_placed, fresh_next}
@@ -36,7 +38,7 @@ use Rattle.dm_event_steps.specs.declared.actor.LeftExport.{LeftExport}
 use Rattle.dm_event_steps.specs.Labels.{name_of, grid_of, ShowsDocument}
 use Rattle.dm_event_steps.specs.Exports.{export_name_of, ShowsPages}
 use Rattle.dm_event_steps.specs.Stands.{PrinterStands}
-use Rattle.dm_event_history.specs.Held.{Holding, CanHold, DesksCanHold}
+use Rattle.dm_event_history.specs.Held.{Holding, CanHoldBy, DesksCanHold}
 use Rattle.dm_event_history.proofs.Gotten.{other_has}
 use Rattle.dm_event_steps.specs.DeskStands.{holding_of, DeskStands}
 use Rattle.dm_event_steps.specs.Worlds.{WorldView, grids_of}
@@ -203,19 +205,33 @@ replies_more grids more capacities (e ∷ h) is = (
   replies_more grids more capacities h is.1,
 )
 
+-- what a desk can hold it can hold over more labels: no more scans are fair
+fair_too : {A : Type 0} (grids more : List GridView) (h : History A) →
+    AreToo (λ before. IsFair (grids ++ more)) (λ before. IsFair grids) h
+fair_too grids more [] = tt
+fair_too grids more (e ∷ h) = ((λ there is. fair_less grids more e.event is), fair_too grids more h)
+
+pub holds_more : {A : Type 0} (grids all more : List GridView) (capacity : ℕ) (h : History A) (d : ℕ) (x : Holding) →
+    all ≡ grids ++ more → CanHoldBy grids capacity h d x → CanHoldBy all capacity h d x
+holds_more grids all more capacity h d x is can =
+    subst (λ (l : List GridView). CanHoldBy l capacity h d x) (sym is)
+    (less_holds (λ before. IsFair (grids ++ more)) (λ before. IsFair grids) capacity h d x (fair_too grids more h) can)
+
 -- and what clean desks may hold
 held_more : {A : Type 0} (grids more : List GridView) (capacities : List ℕ) (h : History A) →
     DesksCanHold grids capacities h → DesksCanHold (grids ++ more) capacities h
 held_more grids more capacities [] is = tt
 held_more grids more capacities (e ∷ h) is = (
-  (λ d capacity here clean. is.0 d capacity here (clean_less grids more (e ∷ h) (AtDesk d) clean)),
+  (λ d capacity here clean.
+      let own = is.0 d capacity here (clean_less grids more (e ∷ h) (AtDesk d) clean) in
+      (own.0, holds_more grids (grids ++ more) more capacity (e ∷ h) d own.0 refl own.1)),
   held_more grids more capacities h is.1,
 )
 
 -- a desk that stands for a history may hold what it holds
 held_there : {A : Type 0} (grids : List GridView) (h : History A) (d capacity : ℕ) (state : DeskState A) →
     DeskStands grids h d capacity state → IsClean grids h (AtDesk d) →
-    (holding : Holding) × CanHold capacity h d holding
+    (holding : Holding) × CanHoldBy grids capacity h d holding
 held_there grids h d capacity (desks.Running view) s clean = (holding_of view s.1.stored, s.1.can clean)
 held_there grids h d capacity (desks.Down saved) s clean = (let c = s.1.can clean in (_, c.1))
 
@@ -258,7 +274,7 @@ pub desk_keeps : {A : Type 0} (e : Entry A) (h : History A) (grids all : List Gr
     (IsClean all (e ∷ h) (AtDesk d) → IsClean grids h (AtDesk d)) → (0 < e.left → docs h e.id ≡ None) →
     IsQuietFor e h (DeskAt d) →
     ((id m : ℕ) → ¬ Takes (exports h) e.event e.reply d id m) → ((id : ℕ) → ¬ Forgets e.event e.reply d id) →
-    ((x : Holding) → CanHold capacity h d x → CanHold capacity (e ∷ h) d x) →
+    ((x : Holding) → CanHoldBy grids capacity h d x → CanHoldBy all capacity (e ∷ h) d x) →
     DeskStands grids h d capacity state → DeskStands all (e ∷ h) d capacity state
 desk_keeps e h grids all d capacity (desks.Running view) back fresh quiet takes stays can s = (
   s.0,
@@ -298,6 +314,7 @@ pages_keep grids all more e h number export is fresh x = record {
   spells = x.spells;
   count_is = x.count_is;
   mask_is = x.mask_is;
+  sent = get_more (exported_parts h) (parts_in e.reply e.parts) number (map page_bytes x.pages) x.sent;
   parts = λ clean. parts_keep e h export.id x.pages fresh
       (x.parts (clean_before grids all more e h (InExport number) is clean));
 }

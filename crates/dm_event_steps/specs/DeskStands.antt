@@ -11,7 +11,7 @@ use Rattle.dm_event_history.specs.History.{History}
 use Rattle.dm_event_history.specs.Running.{is_down, is_failed}
 use Rattle.dm_event_history.specs.Tainted.{AtDesk}
 use Rattle.dm_event_history.specs.Honest.{IsClean}
-use Rattle.dm_event_history.specs.Held.{Holding, CanHold}
+use Rattle.dm_event_history.specs.Held.{Holding, CanHoldBy}
 use Rattle.dm_event_steps.specs.declared.actor.DeskState.{DeskState}
 use Rattle.dm_event_steps.specs.declared.actor.DeskState.TheVariants.{Running, Down}
 use Rattle.dm_event_steps.specs.Gathered.{IsGathered}
@@ -46,7 +46,7 @@ pub record DeskRuns {A : Type 0} (grids : List GridView) (h : History A) (desk c
   pub store : SetStands grids h desk capacity view.saved stored
   pub shows : view.is_failed ≡ false → view.held ≡ stored
   pub gathered : IsClean grids h (AtDesk desk) → IsGathered h desk view.held
-  pub can : IsClean grids h (AtDesk desk) → CanHold capacity h desk (holding_of view stored)
+  pub can : IsClean grids h (AtDesk desk) → CanHoldBy grids capacity h desk (holding_of view stored)
 
 -- a desk that is down
 pub record DeskLiesDown {A : Type 0} (grids : List GridView) (h : History A) (desk capacity : ℕ) (saved : SavedSet)
@@ -55,7 +55,7 @@ pub record DeskLiesDown {A : Type 0} (grids : List GridView) (h : History A) (de
   pub stored : Documents
   pub store : SetStands grids h desk capacity saved stored
   pub can : IsClean grids h (AtDesk desk) →
-      (shown : Documents) × CanHold capacity h desk (record { shown = shown; stored = stored })
+      (shown : Documents) × CanHoldBy grids capacity h desk (record { shown = shown; stored = stored })
 
 -- a desk with room for that many documents stands for its part of the history
 abbrev pub DeskStands : {A : Type 0} → List GridView → History A → ℕ → ℕ → DeskState A → Type 0

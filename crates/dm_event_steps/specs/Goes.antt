@@ -51,25 +51,43 @@ EachPrinterGoesOn A = (ranges : List Range) (desks : ℕ) (h : History A) (event
 
 -- ---- desks
 
--- a desk tells of no identification: the entry of an event at it
+-- A desk tells of no identification: the entry of an event at it. An export has these parts.
+abbrev pub sending : {A : Type 0} → Event A → Reply A → List (List ℕ) → Entry A
+sending event reply parts = record { event = event; reply = reply; id = 0; parts = parts; left = 0; saved = false }
+
+-- the same, of an event that is no export
 abbrev pub quiet : {A : Type 0} → Event A → Reply A → Entry A
-quiet event reply = record { event = event; reply = reply; id = 0; parts = []; left = 0; saved = false }
+quiet event reply = sending event reply []
 
 -- The entry of an event at a desk, with this event and this reply, fits the history, and the desk stands for the longer
 -- one. If the desk is clean then, the reply is safe. If the event brings nothing but what is clean, it is answered
 -- so.
-pub record DeskGoes {A : Type 0} (ranges : List Range) (capacities : List ℕ) (grids : List GridView) (h : History A)
-    (event : Event A) (reply : Reply A) (desk capacity : ℕ) (state : DeskState A) : Type 0 where
-  pub fits : Fits ranges (length capacities) h (quiet event reply)
-  pub stands : DeskStands grids (quiet event reply ∷ h) desk capacity state
-  pub safe : IsClean grids (quiet event reply ∷ h) (AtDesk desk) → IsReplySafe h event reply
+pub record DeskSends {A : Type 0} (ranges : List Range) (capacities : List ℕ) (grids : List GridView) (h : History A)
+    (event : Event A) (reply : Reply A) (parts : List (List ℕ)) (desk capacity : ℕ) (state : DeskState A)
+    : Type 0 where
+  pub fits : Fits ranges (length capacities) h (sending event reply parts)
+  pub stands : DeskStands grids (sending event reply parts ∷ h) desk capacity state
+  pub safe : IsClean grids (sending event reply parts ∷ h) (AtDesk desk) → IsReplySafe h event reply
   pub answers : BringsClean grids h event → IsHonestReply grids capacities h event reply
+
+-- the same, of an event that is no export
+abbrev pub DeskGoes : {A : Type 0} → List Range → List ℕ → List GridView → History A → Event A → Reply A → ℕ → ℕ →
+    DeskState A → Type 0
+DeskGoes ranges capacities grids h event reply desk capacity state =
+    DeskSends ranges capacities grids h event reply [] desk capacity state
 
 -- the exports that left by an event are those of its reply, and show their pages
 pub record ExportsGo {A : Type 0} (grids : List GridView) (h : History A) (event : Event A) (reply : Reply A)
-    (old new : List (LeftExport A)) : Type 0 where
+    (parts : List (List ℕ)) (old new : List (LeftExport A)) : Type 0 where
   pub more : List (LeftExport A)
   pub exports_are : new ≡ old ++ more
   pub names : map export_name_of more ≡ exported reply
   pub shows : (i : ℕ) (export : LeftExport A) → slice_get more i ≡ Some export →
-      ShowsPages grids (quiet event reply ∷ h) (length old + i) export
+      ShowsPages grids (sending event reply parts ∷ h) (length old + i) export
+
+-- both, by the entry of some parts
+abbrev pub DeskGoesOn : {A : Type 0} → List Range → List ℕ → List GridView → History A → Event A → Reply A → ℕ → ℕ →
+    DeskState A → List (LeftExport A) → List (LeftExport A) → Type 0
+DeskGoesOn ranges capacities grids h event reply desk capacity state old new =
+    (parts : List (List ℕ)) × DeskSends ranges capacities grids h event reply parts desk capacity state
+    × ExportsGo grids h event reply parts old new

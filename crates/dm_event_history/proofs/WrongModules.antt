@@ -82,7 +82,8 @@ one_flip g r c =
     one_more (is_wrong (grid_with_flipped g r c)) (is_wrong g) (r * side g.size + c)
     (λ i other. same_elsewhere g r c i other) 0 (side g.size * side g.size)
 
-all_flips : (g : GridView) (flips : List (ℕ × ℕ)) →
+-- each flip makes one module wrong at most
+pub all_flips : (g : GridView) (flips : List (ℕ × ℕ)) →
     wrong_frame_modules (flipped g flips) ≤ wrong_frame_modules g + length flips
 all_flips g [] = omega arith
 all_flips g (flip ∷ flips) =
