@@ -9,7 +9,10 @@ static size_t numbers_read(void) {
     static uint8_t texts[3][8] = {"100", "2000", "30000"}, images[3][RELAY_IMAGE_LENGTH(12)];
     size_t lengths[3] = {3, 4, 5};
     size_t drawn = relay_symbols_from_texts(12, texts[0], sizeof texts, lengths, 3, images[0], sizeof images);
-    return relay_texts_from_images(12, images[0], sizeof images, texts[0], sizeof texts, lengths, drawn);
+    if (drawn != 3) {
+        return 0;
+    }
+    return relay_texts_from_images(12, images[0], sizeof images, texts[0], sizeof texts, lengths, 3);
 }
 
 int main(int count, char **words) {

@@ -1,12 +1,14 @@
 /* Data Matrix symbols and labels (ECC 200, square sides 10 to 132) by Softcairn's static library: `rt lib` in
  * crates/relay_symbols proves and builds out/librelay_symbols.a there.
  *
- * Images are in PBM's packed form (`P4`), one pixel per module inside a quiet zone one pixel wide. Texts are written in
- * ASCII encodation; those of C40, Text and Base 256 are read too. 4,096 bytes hold each image and each text.
+ * Images are drawn in PBM's packed form (`P4`), one pixel per module inside a quiet zone one pixel wide; its plain form
+ * (`P1`) is read too. Texts are written in ASCII encodation; those of C40, Text and Base 256 are read too. 4,096 bytes
+ * hold each image and each text.
  *
- * No pointer may be null, nor bytes that a call writes overlap those that it reads. A call that refuses leaves the
- * caller's bytes as they were. The calls keep nothing between them. Memory comes from malloc, by liblibc_c.a
- * of the toolchain, which a program links too (bench/run shows how). */
+ * No pointer may be null, nor bytes that a call writes overlap those that it reads. What a call refuses leaves the
+ * caller's images and texts as they were. The calls keep nothing between them. What is drawn and read is proved; that
+ * nothing else is refused than is said here is tested. Any call may be refused its memory, which comes from malloc, by
+ * liblibc_c.a of the toolchain, which a program links too (bench/run shows how). */
 #ifndef RELAY_SYMBOLS_H
 #define RELAY_SYMBOLS_H
 
@@ -17,7 +19,7 @@
 extern "C" {
 #endif
 
-/* What the calls that read answer where they refuse. Those that draw answer 0. */
+/* What the calls that read one symbol answer if they refuse. Those that draw one answer 0. */
 #define RELAY_REFUSED SIZE_MAX
 
 /* Draws the symbol of this side that carries the text. Answers the length of its image, or 0 where no symbol has this
@@ -48,25 +50,27 @@ size_t relay_page_from_image(const uint8_t *image, size_t image_length, uint8_t 
 /* The length of each image of a symbol of this side, also of a label: a header, and rows of whole bytes. */
 #define RELAY_IMAGE_LENGTH(side) (((side) + 2 < 100 ? 9 : 11) + ((side) + 2) * (((side) + 9) / 8))
 
-/* Many symbols of one side. What depends on the side alone is made once for all of them, so that each costs less than by
- * a call of its own. No symbol depends on another, nor on what a call was asked before.
+/* Many symbols of one side. What depends on the side alone is made once for all of them, so that many cost less than as
+ * many calls. What is drawn or read of one symbol depends on no other, nor on what a call was asked before.
  *
  * `count` texts and `count` images stand in arrays of `count` rooms of equal length, as
  *
  *     uint8_t texts[COUNT][64], images[COUNT][RELAY_IMAGE_LENGTH(52)];
  *     size_t lengths[COUNT];
  *
- * do, each at the front of its room. The lengths of whole arrays are passed, `sizeof texts` and `sizeof images`. */
+ * do, each at the front of its room. The lengths of whole arrays are passed, `sizeof texts` and `sizeof images`: a room
+ * is that length divided by `count`, and bytes after the last room are left alone. What is after a text or an image in
+ * its room stays as it was. */
 
-/* Draws the symbol of each text, until one is refused, and answers how many are drawn: `count`, or the number of the first
- * text, from 0, that is longer than its room or does not fit a symbol of this side, whose image has no room, or for which
- * memory is refused; 0 where no symbol has this side. The rooms of images from that one on are as they were. */
+/* Draws the symbol of each text, until one is refused, and answers how many are drawn: `count`, or the number of the
+ * first text, from 0, that is longer than its room or does not fit a symbol of this side, whose image has no room, or for
+ * which memory is refused; 0 if no symbol has this side. The rooms of images from that one on are as they were. */
 size_t relay_symbols_from_texts(uint16_t side, const uint8_t *texts, size_t texts_length, const size_t *lengths,
                                 size_t count, uint8_t *images, size_t images_length);
 
 /* Reads the symbol of each image and corrects it, and answers how many are read. lengths[k] is then the length of the
- * k-th text, from 0, or RELAY_REFUSED, with its room as it was, where relay_text_from_image would refuse the k-th image
- * and room. Images of another side are read too, at more cost; where no symbol has this side, all are refused. */
+ * k-th text, from 0, or RELAY_REFUSED, with its room as it was, if relay_text_from_image would refuse the k-th image
+ * and room. Images of another side are read too, at more cost; if no symbol has this side, all are refused. */
 size_t relay_texts_from_images(uint16_t side, const uint8_t *images, size_t images_length, uint8_t *texts,
                                size_t texts_length, size_t *lengths, size_t count);
 

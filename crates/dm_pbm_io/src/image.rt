@@ -160,7 +160,7 @@ pub fn read_image<R: Read, A: Allocator + Copy>(
     read_from(alloc, reader)
 }
 
-/// The image that the bytes begin with, or `None` if there are none.
+/// The image that the bytes begin with, or `None` of no bytes.
 ///
 /// # Errors
 /// As [`Image::read`], but for `Read`, which does not come.

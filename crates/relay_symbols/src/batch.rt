@@ -21,7 +21,7 @@ use dm_symbol::laws::grid_carries_its_words;
 use dm_symbol_images::ImageLayout;
 use std::alloc::{Allocator, Global};
 
-// The layout of the size of a side.
+// The layout of the size of a side, if there is one.
 fn layout_of<A: Allocator + Copy>(alloc: A, modules: u16) -> Option<ImageLayout<A>>
     ensures { IfSome result (λ layout. side layout ≡ modules) }
 {
@@ -47,7 +47,7 @@ fn text_image_with<A: Allocator + Copy>(
     image_bytes(alloc, &image).ok()
 }
 
-// The grid of words carries them: words are bytes.
+// A law, which does nothing when it runs: the grid of words carries these words.
 fn carries_words(size: Size, words: &[u8])
     requires { length words.now ≡ all_words size }
     ensures { words_of_grid (grid_of_words size words.now) ≡ words.now }
@@ -82,6 +82,7 @@ fn text_with<A: Allocator + Copy>(
 ) -> Option<Vec<u8, A>>
     ensures { IfSome result (λ text. ReadsText image.now text.items) }
 {
+    // two laws, which do nothing when they run
     squares_are_whole();
     taken_back();
     let image = image_from(alloc, image)?;
@@ -123,7 +124,7 @@ fn draw_room<A: Allocator + Copy>(
 /// Draws a symbol of this side for each of the texts, as [`relay_symbol_from_text`](crate::relay_symbol_from_text)
 /// does, until one is refused, and answers how many are drawn. Texts and images stand at the fronts of rooms of equal
 /// length, one after another, as many as there are lengths. The rooms of images from the one that is refused on are as
-/// they were. It is refused if no size has this side, its text is longer than its room or does not fit the symbol, its
+/// they were. A text is refused if no size has this side, it is longer than its room or does not fit the symbol, its
 /// image has no room, or memory is refused.
 #[unsafe(no_mangle)]
 pub extern "C" fn relay_symbols_from_texts(
@@ -177,7 +178,7 @@ fn read_room<A: Allocator + Copy>(
     }
 }
 
-// Reads the symbols of all images. No length is that of a text before.
+// Reads the symbols of all images.
 fn read_rooms<A: Allocator + Copy>(
     alloc: A,
     layout: &ImageLayout<A>,
@@ -185,7 +186,6 @@ fn read_rooms<A: Allocator + Copy>(
     texts: &mut [u8],
     lengths: &mut [usize],
 )
-    requires { (k : ℕ) → k < length lengths.old → slice_index lengths.old k ≡ 2 ^ 64 - 1 }
     ensures whole { (length lengths.new ≡ length lengths.old) × (length texts.new ≡ length texts.old) }
     ensures read { (k : ℕ) → k < length lengths.old → ReadsRoom images.now texts.old texts.new lengths.new k }
     ensures rest { IsSameFrom (length lengths.old * room texts.old lengths.old) texts.old texts.new }
@@ -223,8 +223,8 @@ pub extern "C" fn relay_texts_from_images(
     ensures read { (k : ℕ) → k < length lengths.old → ReadsRoom images.now texts.old texts.new lengths.new k }
     ensures rest { IsSameFrom (length lengths.old * room texts.old lengths.old) texts.old texts.new }
 {
-    lengths.fill(usize::MAX);
     let Some(layout) = layout_of(alloc, side) else {
+        lengths.fill(usize::MAX);
         return count_read(lengths);
     };
     read_rooms(alloc, &layout, images, texts, lengths);

@@ -2,6 +2,7 @@ use crate::{
     relay_image_from_words, relay_label_from_text, relay_page_from_image, relay_symbol_from_text,
     relay_symbols_from_texts, relay_text_from_image, relay_texts_from_images,
 };
+use std::alloc::Global;
 
 // All words of the symbol of side 10 that carries the digits 123456, and its image.
 const WORDS: [u8; 8] = [142, 164, 186, 114, 25, 5, 88, 102];
@@ -77,4 +78,49 @@ fn reads_a_batch(rt: HostRuntime) {
     let read = relay_texts_from_images(rt.alloc(), 11, &images, &mut texts, &mut lengths);
     assert!(rt; read == 0);
     assert!(rt; lengths == [usize::MAX, usize::MAX]);
+}
+
+// Whether the first, the third and the fourth image are read, and the second is refused.
+fn are_read(alloc: Global, side: u16, images: [u8; 135]) -> bool {
+    let mut read = [7; 27];
+    let mut lengths = [0; 4];
+    let count = relay_texts_from_images(alloc, side, &images, &mut read, &mut lengths);
+    count == 3
+        && lengths == [6, usize::MAX, 2, 6]
+        && &read == b"123456\x07\x07\x07\x07\x07\x0712\x07\x07\x07\x07123456\x07\x07\x07"
+}
+
+// All of a batch, to its last text and image: an empty text, an image with a wrong module of a finder pattern and one of
+// a word, one of another side, and one that is none among them.
+#[test]
+fn draws_and_reads_all_of_a_batch(rt: HostRuntime) {
+    let mut images = [7; 135];
+    let texts = b"123456------12----123456--x";
+    let drawn = relay_symbols_from_texts(rt.alloc(), 10, texts, &[6, 0, 2, 6], &mut images);
+    assert!(rt; drawn == 4);
+    assert!(rt; images.starts_with(IMAGE));
+    assert!(rt; &images[99..132] == IMAGE);
+    assert!(rt; images.ends_with(&[7; 3]));
+    images[33..66].fill(0);
+    images[99 + 9 + 2] ^= 0x40;
+    images[99 + 9 + 4] ^= 0x20;
+    for side in [10, 12, 132] {
+        assert!(rt; are_read(rt.alloc(), side, images));
+    }
+}
+
+// Two symbols of the largest side, the second of an empty text.
+#[test]
+fn draws_and_reads_the_largest_side(rt: HostRuntime) {
+    let mut images = [7; 2 * 2289];
+    let drawn = relay_symbols_from_texts(rt.alloc(), 132, b"12345x", &[3, 0], &mut images);
+    assert!(rt; drawn == 2);
+    let mut one = [0; 2289];
+    assert!(rt; relay_symbol_from_text(rt.alloc(), 132, b"123", &mut one) == 2289);
+    assert!(rt; images.starts_with(&one));
+    let mut read = [7; 6];
+    let mut lengths = [9, 9];
+    assert!(rt; relay_texts_from_images(rt.alloc(), 132, &images, &mut read, &mut lengths) == 2);
+    assert!(rt; lengths == [3, 0]);
+    assert!(rt; &read == b"123\x07\x07\x07");
 }

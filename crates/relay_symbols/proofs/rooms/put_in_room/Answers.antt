@@ -36,5 +36,6 @@ returns c =
           after = after;
         },
       );
+      no_room = tt;
       refused = tt;
     }
