@@ -2,6 +2,7 @@
 use Rattle.std.proofs.Common.{◌≡◌, ◌<◌, ◌≤◌, inl, inr, ℕ, true, false, [], ◌∷◌, refl, arith}
 use Rattle.dm_assembly_desk.specs.declared.reply.Kind.TheVariants.{New, Again}
 use Rattle.dm_assembly_desk.specs.declared.fault.ImportFault.TheVariants as import_fault
+use Rattle.dm_append_label.specs.declared.fault.LabelFault.TheVariants as label_fault
 use Rattle.dm_assembly_desk.specs.declared.fault.ScanFault.TheVariants as scan_fault
 use Rattle.dm_print_ledger.specs.declared.fault.OpenFault.TheVariants as open_fault
 use Rattle.dm_store.specs.declared.fuse.Kept.TheVariants as kept
@@ -10,7 +11,7 @@ use Rattle.dm_event_history.specs.declared.reply.Reply.TheVariants.{Scanned, Sca
 use Rattle.dm_event_history.specs.declared.stop.Stop.TheVariants as stops
 use Rattle.dm_print_ledger.specs.declared.fault.GiveFault.TheVariants as give_fault
 use Rattle.dm_event_history.specs.Worked.{digits, range}
-use Rattle.dm_event_history.specs.Unfaithful.{scanned_as, given_to_another, AreRepliesRun, scan, page, ticket, another_call, stopped_unasked, forgotten_with_a_fault, scanned_though_stopped, failed_without_a_fault, damaged_by_itself, answered_while_down, down_unstopped, failed_before_a_fault, given_though_failed, missing_printer, refused_import, given_to_itself, refused_range, refused_receiver, third_desk, print}
+use Rattle.dm_event_history.specs.Unfaithful.{scanned_as, memory_of_a_label, given_to_another, AreRepliesRun, scan, page, ticket, another_call, stopped_unasked, forgotten_with_a_fault, scanned_though_stopped, failed_without_a_fault, damaged_by_itself, answered_while_down, down_unstopped, failed_before_a_fault, given_though_failed, missing_printer, refused_import, given_to_itself, refused_range, refused_receiver, third_desk, print}
 
 pub import_damaged_is : (A : Type 0) → ¬ AreRepliesRun (refused_import A import_fault.Damaged)
 import_damaged_is A r = (r.each 3 (Import 1 0 stops.None) (ImportRefused import_fault.Damaged) refl refl).may
@@ -46,6 +47,10 @@ pub of_no_identification_is : (A : Type 0) → ¬ AreRepliesRun (scanned_as A 64
 of_no_identification_is A r =
     let fits : 64516 < 64516 = (r.each 0 (Scan 0 0 ((0, 0) ∷ []) stops.None)
     (Scanned (record { id = 64516; m = 1; n = 2; kind = New })) refl refl).may.is_head.id_fits in omega arith
+
+pub memory_of_a_label_is : (A : Type 0) → ¬ AreRepliesRun (memory_of_a_label A)
+memory_of_a_label_is A r =
+    (r.each 0 (Scan 0 0 ((0, 0) ∷ []) stops.None) (ScanRefused (scan_fault.Label label_fault.Memory)) refl refl).may
 
 pub scanned_though_stopped_is : (A : Type 0) → ¬ AreRepliesRun (scanned_though_stopped A)
 scanned_though_stopped_is A r =

@@ -6,6 +6,7 @@ use Rattle.dm_print_ledger.specs.Views.{TicketView}
 use Rattle.dm_print_ledger.specs.declared.fault.PrintFault.TheVariants as print_fault
 use Rattle.dm_print_ledger.specs.declared.fault.GiveFault.TheVariants as give_fault
 use Rattle.dm_print_ledger.specs.declared.fault.TakeFault.TheVariants as take_fault
+use Rattle.dm_append_label.specs.declared.fault.LabelFault.TheVariants as label_fault
 use Rattle.dm_assembly_desk.specs.declared.fault.ScanFault.TheVariants as scan_fault
 use Rattle.dm_assembly_desk.specs.declared.fault.ForgetFault.TheVariants as forget_fault
 use Rattle.dm_assembly_desk.specs.declared.fault.ImportFault.TheVariants as import_fault
@@ -53,6 +54,8 @@ may_reply ranges h id left (Print p document size scheme stop) (PrintRefused pri
 may_reply ranges h id left (Print p document size scheme stop) (PrintRefused fault) fine stopped down = tt
 may_reply ranges h id left (Scan d label flips stop) (Scanned accepted) fine stopped down = fine
 may_reply ranges h id left (Scan d label flips stop) (ScanRefused scan_fault.Save) fine stopped down = fine
+may_reply ranges h id left (Scan d label flips stop) (ScanRefused (scan_fault.Label label_fault.Memory)) fine stopped
+    down = absurd fine
 may_reply ranges h id left (Scan d label flips stop) (ScanRefused fault) fine stopped down = tt
 may_reply ranges h id left (RestartPrinter p) Restarted fine stopped down = tt
 may_reply ranges h id left (RestartPrinter p) (PrinterRefused fault) fine stopped down = fine

@@ -4,6 +4,7 @@ use Rattle.std.specs.Prelude.{◌≡◌, ◌≢◌, ◌↔◌, ◌⊎◌, ◌<�
 use Rattle.dm_check_blocks.specs.Sizes.{side}
 use Rattle.dm_append_label.specs.Parts.{AreParts, HasNoEnds}
 use Rattle.dm_append_label.specs.Heads.{IsHead}
+use Rattle.dm_append_label.specs.declared.fault.LabelFault.TheVariants as label_fault
 use Rattle.dm_store.specs.declared.fuse.Kept.{Kept}
 use Rattle.dm_store.specs.declared.fuse.Kept.TheVariants.{New}
 use Rattle.dm_print_ledger.specs.declared.range.Range.{Range}
@@ -172,11 +173,12 @@ pub record IsAccepted (stop : Stop) (accepted : Accepted) : Type 0 where
   pub no_stop : accepted.kind ≢ Again → stop ≡ stops.None
   pub is_head : IsHead (record { m = accepted.m; n = accepted.n; id = accepted.id })
 
--- why a scan, a forget and an import are refused, whether their desk is clean or not: an import never for the bytes of
--- an export
+-- Why a scan, a forget and an import are refused, whether their desk is clean or not. Memory that was refused for the
+-- label was refused for the scan; and an import is never refused for the bytes of an export.
 abbrev pub IsScanRefused : {A : Type 0} → History A → ℕ → Stop → ScanFault → Type 0
 IsScanRefused before desk stop scan_fault.Failed = is_failed before (DeskAt desk) ≡ true
 IsScanRefused before desk stop scan_fault.Save = IsSaveFault stop
+IsScanRefused before desk stop (scan_fault.Label label_fault.Memory) = ⊥
 IsScanRefused before desk stop other = Unit {0}
 
 abbrev pub IsForgetRefused : {A : Type 0} → History A → ℕ → Stop → ForgetFault → Type 0

@@ -6,6 +6,7 @@ use Rattle.dm_print_ledger.specs.declared.fault.GiveFault.TheVariants as give_fa
 use Rattle.dm_print_ledger.specs.declared.fault.TakeFault.TheVariants as take_fault
 use Rattle.dm_print_ledger.specs.declared.fault.OpenFault.TheVariants as open_fault
 use Rattle.dm_assembly_desk.specs.declared.reply.Kind.TheVariants.{Again}
+use Rattle.dm_append_label.specs.declared.fault.LabelFault.TheVariants as label_fault
 use Rattle.dm_assembly_desk.specs.declared.fault.ScanFault.TheVariants as scan_fault
 use Rattle.dm_assembly_desk.specs.declared.fault.ForgetFault.TheVariants as forget_fault
 use Rattle.dm_assembly_desk.specs.declared.fault.ImportFault.TheVariants as import_fault
@@ -22,8 +23,8 @@ use Rattle.dm_event_history.specs.Legal.{IsSaveFault, IsStopped, NeedsRunning, M
 -- ---- one event
 
 -- The reply is one to the event. What tells of a save is told only if nothing was to happen to the call, and `Save`
--- only if the save was to meet a fault. The page that is told of a scan is one that a label can have. A restart is
--- refused for memory alone. A range is given only if it is one, and to another printer, and is refused as `Range` or
+-- only if the save was to meet a fault. The page that is told of a scan is one that a label can have, and memory that
+-- was refused for the label was refused for the scan. A restart is refused for memory alone. A range is given only if it is one, and to another printer, and is refused as `Range` or
 -- `Receiver` only if not. No import is refused for the bytes of an export.
 abbrev pub MayReply : {A : Type 0} → Event A → Reply A → Type 0
 MayReply (Print printer document size scheme stop) (Printed id first count) = stop ≡ stops.None
@@ -31,6 +32,7 @@ MayReply (Print printer document size scheme stop) (PrintRefused print_fault.Sav
 MayReply (Print printer document size scheme stop) (PrintRefused fault) = Unit {0}
 MayReply (Scan desk label flips stop) (Scanned accepted) = IsAccepted stop accepted
 MayReply (Scan desk label flips stop) (ScanRefused scan_fault.Save) = IsSaveFault stop
+MayReply (Scan desk label flips stop) (ScanRefused (scan_fault.Label label_fault.Memory)) = ⊥
 MayReply (Scan desk label flips stop) (ScanRefused fault) = Unit {0}
 MayReply (RestartPrinter printer) Restarted = Unit {0}
 MayReply (RestartPrinter printer) (PrinterRefused fault) = fault ≡ open_fault.Memory

@@ -11,6 +11,7 @@ use Rattle.dm_print_ledger.specs.declared.fault.TakeFault.TheVariants.{Old, Over
 use Rattle.dm_print_ledger.specs.declared.range.Range.{Range}
 use Rattle.dm_print_ledger.specs.Views.{TicketView}
 use Rattle.dm_append_label.specs.declared.fault.LabelFault.TheVariants.{Block, Border}
+use Rattle.dm_append_label.specs.declared.fault.LabelFault.TheVariants as label_fault
 use Rattle.dm_assembly_desk.specs.declared.fault.ScanFault.TheVariants as scan_fault
 use Rattle.dm_print_ledger.specs.declared.fault.OpenFault.TheVariants as open_fault
 use Rattle.dm_store.specs.declared.fuse.Kept.TheVariants as kept
@@ -548,6 +549,10 @@ forgotten_with_a_fault A = (Forget 0 0 (SaveFault kept.New), Forgotten) ∷ []
 abbrev pub scanned_as : (A : Type 0) → ℕ → ℕ → ℕ → Run A
 scanned_as A id m n = (Scan 0 0 ((0, 0) ∷ []) None, Scanned (record { id = id; m = m; n = n; kind = New })) ∷ []
 
+-- `each` and `explained`: a scan is refused for its label, for memory
+abbrev pub memory_of_a_label : (A : Type 0) → Run A
+memory_of_a_label A = (Scan 0 0 ((0, 0) ∷ []) None, ScanRefused (scan_fault.Label label_fault.Memory)) ∷ []
+
 abbrev pub scanned_though_stopped : (A : Type 0) → Run A
 scanned_though_stopped A = (Scan 0 0 [] BeforeSave, Scanned (page 0 1 Again)) ∷ []
 
@@ -990,6 +995,7 @@ pub record AreUnfaithful (A : Type 0) : Type 0 where
   pub third_of_two_is : ¬ AreRepliesRun (scanned_as A 0 3 2)
   pub one_of_17_is : ¬ AreRepliesRun (scanned_as A 0 1 17)
   pub of_no_identification_is : ¬ AreRepliesRun (scanned_as A 64516 1 2)
+  pub memory_of_a_label_is : ¬ AreRepliesRun (memory_of_a_label A)
   pub scanned_though_stopped_is : ¬ AreRepliesRun (scanned_though_stopped A)
   pub failed_without_a_fault_is : ¬ AreRepliesRun (failed_without_a_fault A)
   pub damaged_by_itself_is : ¬ AreRepliesRun (damaged_by_itself A)

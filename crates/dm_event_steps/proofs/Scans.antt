@@ -656,16 +656,17 @@ unopened_goes : {A : Type 0} (ranges : List Range) (capacities : List ℕ) (grid
     (given : Result Accepted ScanFault) → IsScanned capacities grids h d number capacity flips view label →
     IsCalled stop → view.is_failed ≡ false →
     given ≡ Err (scan_fault.Label fault) → mid ≡ desk_planned view (next_save_of stop) →
+    IsScanRefused h d stop (scan_fault.Label fault) →
     (IsFairScan grids number flips → IsBeyond grids number flips fault) →
     DeskGoes ranges capacities grids h (Scan d number flips stop) (scan_reply given) d capacity
     (desks.Running (desk_planned mid next_save.Fine))
 unopened_goes {A} ranges capacities grids h d number capacity flips stop view mid label fault given s called runs is
-    same answers =
+    same refuses answers =
     subst (λ (r : Result Accepted ScanFault). DeskGoes ranges capacities grids h (Scan d number flips stop)
     (scan_reply r) d capacity
     (desks.Running (desk_planned mid next_save.Fine))) (sym is)
     (refused_goes ranges capacities grids h d number capacity flips stop view mid label
-    (scan_fault.Label fault) s called same (λ b. refl) (not_failed grids h d capacity view s.runs runs _) tt
+    (scan_fault.Label fault) s called same (λ b. refl) (not_failed grids h d capacity view s.runs runs _) refuses
     refl answers)
 
 -- no fair scan is refused so
@@ -702,7 +703,7 @@ opened_goes {A} ranges capacities grids h d number capacity flips stop view mid 
 opened_goes ranges capacities grids h d number capacity flips stop view mid label
     (Err (labels.Border wrong)) given s called opens order runs acts =
     unopened_goes ranges capacities grids h d number capacity flips stop view mid label
-    (labels.Border wrong) given s called runs acts.0 acts.1
+    (labels.Border wrong) given s called runs acts.0 acts.1 tt
     (λ fair. (
       record { grid = label.grid; has_left = s.left; frame = opens.opens },
       few_wrong label.grid flips wrong
@@ -711,31 +712,31 @@ opened_goes ranges capacities grids h d number capacity flips stop view mid labe
 opened_goes ranges capacities grids h d number capacity flips stop view mid label
     (Err (labels.Block block)) given s called opens order runs acts =
     unopened_goes ranges capacities grids h d number capacity flips stop view mid label
-    (labels.Block block) given s called runs acts.0 acts.1
+    (labels.Block block) given s called runs acts.0 acts.1 tt
     (λ fair. absurd (never_so grids h number flips label (labels.Block block) (Err (labels.Block block)) refl
     s.left s.shows opens fair))
 opened_goes ranges capacities grids h d number capacity flips stop view mid label
     (Err labels.NotAppended) given s called opens order runs acts =
     unopened_goes ranges capacities grids h d number capacity flips stop view mid label labels.NotAppended given s
-    called runs acts.0 acts.1
+    called runs acts.0 acts.1 tt
     (λ fair. absurd (never_so grids h number flips label labels.NotAppended (Err labels.NotAppended) refl
     s.left s.shows opens fair))
 opened_goes ranges capacities grids h d number capacity flips stop view mid label
     (Err (labels.Sequence word)) given s called opens order runs acts =
     unopened_goes ranges capacities grids h d number capacity flips stop view mid label
-    (labels.Sequence word) given s called runs acts.0 acts.1
+    (labels.Sequence word) given s called runs acts.0 acts.1 tt
     (λ fair. absurd (never_so grids h number flips label (labels.Sequence word) (Err (labels.Sequence word)) refl
     s.left s.shows opens fair))
 opened_goes ranges capacities grids h d number capacity flips stop view mid label
     (Err labels.FileId) given s called opens order runs acts =
     unopened_goes ranges capacities grids h d number capacity flips stop view mid label labels.FileId given s called
-    runs acts.0 acts.1
+    runs acts.0 acts.1 tt
     (λ fair. absurd (never_so grids h number flips label labels.FileId (Err labels.FileId) refl
     s.left s.shows opens fair))
 opened_goes ranges capacities grids h d number capacity flips stop view mid label
     (Err (labels.Content fault)) given s called opens order runs acts =
     unopened_goes ranges capacities grids h d number capacity flips stop view mid label
-    (labels.Content fault) given s called runs acts.0 acts.1
+    (labels.Content fault) given s called runs acts.0 acts.1 tt
     (λ fair. absurd (never_so grids h number flips label (labels.Content fault) (Err (labels.Content fault)) refl
     s.left s.shows opens fair))
 
