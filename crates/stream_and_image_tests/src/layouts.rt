@@ -15,7 +15,11 @@ const IMAGE: &[u8] = b"P4\n12 12\n\
 // Whether the words are drawn as that image.
 fn is_drawn<A: Allocator + Copy>(alloc: A) -> Result<bool, AllocError> {
     let layout = ImageLayout::of_size(alloc, Size::Side10)?;
-    let image = layout.image_of_words(alloc, &WORDS)?;
+    let words = WORDS.as_slice();
+    if words.len() != layout.size().all_words() {
+        return Ok(false);
+    }
+    let image = layout.image_of_words(alloc, words)?;
     let mut bytes = Vec::new(alloc);
     match write_image(&mut bytes, &image) {
         Ok(()) => Ok(bytes.as_slice() == IMAGE),
