@@ -259,12 +259,12 @@ held_next {A} ranges grids h e fine safe was = record {
         let one = only (record { id = id; count = n; mask = mask }) name i there in
         let same : record { id = id; count = n; mask = mask } ≡ name = one.0 in
         let none = one.1 in
-        let index_is = fine.index_is in
+        let index_is = fine.0.index_is in
         let number : index ≡ export = omega arith in
         let clean : IsClean grids h (AtDesk d) =
         from d asked id n mask refl (ap (λ (k : ℕ). Exported k id n mask) number) in
         let left = safe d refl ((λ actor saves unfailed. tt), clean) in
-        subst (λ (k : ℕ). Scans h k m) (sym fine.id_is ∙ ap (λ (x : ExportName). x.id) same)
+        subst (λ (k : ℕ). Scans h k m) (sym fine.0.id_is ∙ ap (λ (x : ExportName). x.id) same)
         (was.held d asked m clean (left.possibly m
         (subst (λ (k : ℕ). HasPage k m) (sym (ap (λ (x : ExportName). x.mask) same)) page)))
     leaves event (Exported index id n mask) fine safe export from i name at there m page = absurd fine

@@ -86,7 +86,7 @@ answered_at {A} ranges desks (e ∷ h) k name legal there = elim (in_either (exp
     by_reply (Export desk asked) (Exported index id n mask) reply_is fine i place is =
         let t = only (record { id = id; count = n; mask = mask }) name i is in
         let first : i ≡ 0 = t.0 in
-        let index_is : index ≡ length (exports h) = fine.index_is in
+        let index_is : index ≡ length (exports h) = fine.0.index_is in
         let at : index ≡ k = omega arith in record {
           j = length h;
           before = omega arith;

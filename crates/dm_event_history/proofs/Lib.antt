@@ -22,6 +22,7 @@ pub mod TakesOnce
 pub mod ImportsExports
 pub mod HonestScans
 pub mod WrongModules
+pub mod SameFrames
 pub mod Holdings
 pub mod Faithful
 pub mod WorkedOut
@@ -32,6 +33,7 @@ pub mod Explained
 pub mod RefutedLedgers
 pub mod RefutedHoldings
 pub mod RefutedScans
+pub mod RefutedFrames
 pub mod RefutedImports
 pub mod Refuting
 pub mod RefutedDocuments

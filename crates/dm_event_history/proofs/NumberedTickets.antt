@@ -86,7 +86,7 @@ next_export {A} ranges h e k id n mask fine is =
     by_event e.event (subst (λ (r : Reply A). IsReply ranges h e.id e.left e.event r) is fine)
   where
     by_event : (event : Event A) → IsReply ranges h e.id e.left event (Exported k id n mask) → k ≡ length (exports h)
-    by_event (Export desk asked) fine = fine.index_is
+    by_event (Export desk asked) fine = fine.0.index_is
     by_event event fine = absurd fine
 
 pub ticket_numbered : {A : Type 0} (ranges : List Range) (desks : ℕ) (h : History A) (i k : ℕ) (ticket : TicketView) →

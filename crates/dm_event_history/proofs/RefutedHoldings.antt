@@ -6,7 +6,6 @@ use Rattle.std.specs.FinMap.{get-empty, len-empty, len-insert}
 use Rattle.std.specs.Cmp.{nat_cmp_total}
 use Rattle.std.specs.Ordering.{nat_cmp}
 use Rattle.std.proofs.lemmas.Bool.Decides.{nat_tests}
-use Rattle.dm_finder_frame.specs.Frame.{wrong_frame_modules}
 use Rattle.dm_append_label.specs.Pages.{PageView}
 use Rattle.dm_store.specs.declared.fuse.Kept.TheVariants as kept
 use Rattle.dm_assembly_desk.specs.Pages.{Pages, missing_mask}
@@ -35,6 +34,7 @@ use Rattle.dm_event_history.proofs.Explained.{Hidden, known, history_of, behind_
 use Rattle.std.specs.List.{list_all}
 use Rattle.dm_assembly_desk.specs.declared.fault.AskFault.{AskFault}
 use Rattle.dm_event_history.proofs.Batches.{name_at}
+use Rattle.dm_event_history.proofs.SameFrames.{no_more_wrong}
 
 -- what desk 0 may hold after that many events of a run
 abbrev pub IsHeldAfter : {A : Type 0} → Run A → ℕ → List Hidden → Holding → Type 0
@@ -111,13 +111,13 @@ took_first : {A : Type 0} (before : History A) (desk label : ℕ) (stop : Stop) 
     DidWhatItCould 2 before (Scan desk label [] stop) (both nothing) new →
     (p : PageView) × IsPageOfLabel before label p × (new ≡ both (with_page nothing p))
 took_first before desk label stop new (inl (content, took, is)) =
-    (took.0, took.1, is ∙ ap both took.3)
+    (took.0, took.1, is ∙ ap both took.4)
 took_first before desk label stop new (inr ((p, of_label, inl again), is)) =
     (let first = first_is_new p in absurd (cc (again, first)))
 took_first before desk label stop new (inr ((p, of_label, inr (inl full)), is)) =
     (let first = first_is_new p in absurd (cc (full, first)))
 took_first before desk label stop new (inr ((p, of_label, inr (inr loses)), is)) =
-    absurd (loses.lost (let none : wrong_frame_modules loses.grid ≡ 0 = loses.none_wrong in omega arith))
+    absurd (let none = no_more_wrong [] loses.1.document.size in let many = loses.1.is_such.0 in omega arith)
 
 -- what an ask tells as not held is not
 pub not_held : (o : Option Pages) → Asks {X = List ℕ} (λ given. given) o (Err NotHeld) → o ≡ None

@@ -44,7 +44,7 @@ use Rattle.dm_print_ledger.specs.declared.fault.TakeFault.TheVariants as take_fa
 use Rattle.dm_event_history.specs.Running.{is_failed}
 
 -- there is none, so the run is not faithful
-no_history : {A : Type 0} (run : Run A) →
+pub no_history : {A : Type 0} (run : Run A) →
     ((hidden : List Hidden) → length hidden ≡ length (map (λ (one : Event A × Reply A). one.0) run) →
     IsBehind run hidden → ⊥) →
     ¬ IsFaithfulRun run

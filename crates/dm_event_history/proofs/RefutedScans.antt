@@ -1,6 +1,6 @@
 -- Runs of scans of labels with a module flipped are refuted: the page of an honest one is that of its label, and the
 -- page of any is one that a label can have.
-use Rattle.std.proofs.Common.{◌≡◌, ◌≢◌, ◌≤◌, ◌<◌, ◌+◌, ◌-◌, ◌==◌, inl, inr, ℕ, zero, suc, Bool, true, false, cond, if◌then◌else◌, Option, Some, None, Ok, Err, List, [], ◌∷◌, length, map, slice_get, refl, ap, sym, ◌∙◌, subst, arith}
+use Rattle.std.proofs.Common.{◌≡◌, ◌≢◌, ◌≤◌, ◌<◌, ◌+◌, ◌-◌, ◌*◌, ◌==◌, inl, inr, ℕ, zero, suc, Bool, true, false, cond, if◌then◌else◌, Option, Some, None, Ok, Err, List, [], ◌∷◌, length, map, slice_get, refl, ap, sym, ◌∙◌, subst, arith}
 use Rattle.std.specs.Prelude.{unwrap_or, slice_set, replicate, is_some}
 use Rattle.std.specs.Cmp.{nat_cmp_total}
 use Rattle.std.proofs.lemmas.Bool.{eqb-true}
@@ -8,12 +8,11 @@ use Rattle.std.specs.FinMap as finite
 use Rattle.std.specs.FinMap.{get-empty, len-empty, len-insert}
 use Rattle.std.specs.Ordering.{nat_cmp}
 use Rattle.std.specs.Str.{bytes_eq}
+use Rattle.dm_check_blocks.specs.declared.size.Size.{Size}
 use Rattle.dm_check_blocks.specs.declared.size.Size.TheVariants.{Side12}
 use Rattle.dm_check_blocks.specs.Sizes.{row}
 use Rattle.dm_encodation.specs.declared.scheme.Scheme.TheVariants.{Ascii}
-use Rattle.dm_finder_frame.specs.Grids.{GridView, flipped}
-use Rattle.dm_finder_frame.specs.Frame.{wrong_frame_modules, frame_module_count}
-use Rattle.dm_finder_frame.specs.UnframeOutcome.{HasGoodFrame}
+use Rattle.dm_finder_frame.specs.Frame.{frame_module_count}
 use Rattle.dm_append_label.specs.Pages.{PageView}
 use Rattle.dm_append_label.specs.Heads.{IsHead, head_of}
 use Rattle.dm_store.specs.declared.fuse.Kept.TheVariants as kept
@@ -30,6 +29,7 @@ use Rattle.dm_event_history.specs.declared.reply.Reply.{Reply}
 use Rattle.dm_event_history.specs.declared.reply.Reply.TheVariants.{Printed, Scanned, ScanRefused, AskRefused, Restarted, Stopped}
 use Rattle.dm_event_history.specs.declared.stop.Stop.TheVariants as stops
 use Rattle.dm_event_history.specs.History.{History, Entry, CutDocument, names_from, prints_as, docs}
+use Rattle.dm_event_history.specs.Frames.{wrong_after}
 use Rattle.dm_event_history.specs.Legal.{IsLegal}
 use Rattle.dm_event_history.specs.Tainted.{AtDesk}
 use Rattle.dm_event_history.specs.Held.{MayBeRead, Holding, both, IsPageOfLabel, DidWhatItCould, CanHold, first_entries}
@@ -44,27 +44,26 @@ use Rattle.dm_event_history.proofs.HeldDocuments.{get_same, get_other}
 use Rattle.dm_event_history.proofs.Refuting.{IsBehind, marks}
 use Rattle.dm_event_history.proofs.RefutedHoldings.{no_holding, one_more, IsHeldAfter, nothing, first_is_new, with_page_held, not_held, label_is}
 use Rattle.dm_event_history.proofs.Tainting.{untainted, untainted_by}
-use Rattle.dm_event_history.proofs.WrongModules.{all_flips}
+use Rattle.dm_event_history.proofs.SameFrames.{no_more_wrong}
 
 -- ---- a stopped scan of which one module is flipped
 
-abbrev one_flip : List (ℕ × ℕ)
+abbrev pub one_flip : List (ℕ × ℕ)
 one_flip = (0, 0) ∷ []
 
 -- a print of the digits, all of whose labels left
-abbrev first_print : {A : Type 0} → Hidden → Entry A
+abbrev pub first_print : {A : Type 0} → Hidden → Entry A
 first_print x = known (print 0 digits stops.None) (Printed 0 0 2) x
 
 -- of 44 modules of finder patterns one is wrong at most
-one_is_few : (grid : GridView) → grid.size ≡ Side12 → wrong_frame_modules grid ≡ 0 →
-    HasGoodFrame (flipped grid one_flip)
+one_is_few : (size : Size) → size ≡ Side12 → frame_module_count size < 8 * wrong_after one_flip size → ⊥
 unfolding row
-one_is_few grid size none =
-    let few : wrong_frame_modules (flipped grid one_flip) ≤ wrong_frame_modules grid + 1 = all_flips grid one_flip in
-    let count : frame_module_count grid.size ≡ 44 = ap frame_module_count size in omega (arith, few, count, none)
+one_is_few size is many =
+    let few = no_more_wrong one_flip size in
+    let count : frame_module_count size ≡ 44 = ap frame_module_count is in omega (arith, few, count, many)
 
 -- the digits are printed in labels of side 12
-printed_small : (A : Type 0) (x : Hidden) (id : ℕ) (cut : CutDocument) →
+pub printed_small : (A : Type 0) (x : Hidden) (id : ℕ) (cut : CutDocument) →
     (let h : History A = first_print x ∷ [] in docs h id ≡ Some cut) → cut.size ≡ Side12
 printed_small A x id cut is = by_print (prints_as (first_print {A = A} x) id) is
   where
@@ -81,13 +80,13 @@ took_flipped : (A : Type 0) (x : Hidden) (new : Holding) →
     DidWhatItCould 2 h (Scan 0 0 one_flip (stops.InSave kept.New)) (both nothing) new) →
     (let h : History A = first_print x ∷ [] in
     (p : PageView) × IsPageOfLabel h 0 p × (new ≡ both (with_page nothing p)))
-took_flipped A x new (inl (content, took, is)) = (took.0, took.1, is ∙ ap both took.3)
+took_flipped A x new (inl (content, took, is)) = (took.0, took.1, is ∙ ap both took.4)
 took_flipped A x new (inr ((p, of_label, inl again), is)) = (let first = first_is_new p in absurd (cc (again, first)))
 took_flipped A x new (inr ((p, of_label, inr (inl full)), is)) =
     (let first = first_is_new p in absurd (cc (full, first)))
 took_flipped A x new (inr ((p, of_label, inr (inr loses)), is)) =
-    absurd (loses.lost (one_is_few loses.grid (loses.size_is ∙ printed_small A x p.id loses.cut loses.printed)
-    loses.none_wrong))
+    absurd (one_is_few loses.1.document.size (printed_small A x loses.1.name.id loses.1.document loses.1.printed)
+    loses.1.is_such.0)
 
 pub lost_by_a_flip_is : (A : Type 0) → ¬ IsFaithfulRun (lost_by_a_flip A)
 lost_by_a_flip_is A =

@@ -1,17 +1,38 @@
 -- What a dishonest scan taints in worked runs, and runs that desks tell which it does not taint.
-use Rattle.std.proofs.Common.{◌≡◌, ◌<◌, inl, inr, ℕ, zero, suc, Bool, true, false, Option, List, [], ◌∷◌, map, refl, sym, ◌∙◌, arith}
+use Rattle.std.proofs.Common.{◌≡◌, ◌<◌, ◌≤◌, inl, inr, ℕ, zero, suc, Bool, true, false, Option, List, [], ◌∷◌, length, map, refl, sym, ◌∙◌, arith}
 use Rattle.dm_assembly_desk.specs.declared.reply.Kind.TheVariants.{New}
 use Rattle.dm_event_history.specs.declared.event.Event.{Event}
 use Rattle.dm_event_history.specs.declared.event.Event.TheVariants.{Scan, Export, Import}
 use Rattle.dm_event_history.specs.declared.reply.Reply.{Reply}
 use Rattle.dm_event_history.specs.declared.reply.Reply.TheVariants.{Scanned, Exported, Imported}
 use Rattle.dm_event_history.specs.declared.stop.Stop.TheVariants as stops
+use Rattle.dm_event_history.specs.Legal.{IsLegal, AreSomePages}
 use Rattle.dm_event_history.specs.Headline.{Batch, LeftBy, IsFaithfulBy}
+use Rattle.dm_event_history.proofs.Explained.{Hidden, history_of, of_hidden}
 use Rattle.dm_event_history.specs.Tainted.{AtDesk, InExport}
 use Rattle.dm_event_history.proofs.Tainting.{untainted, is_tainted, untainted_by}
 use Rattle.dm_event_history.specs.Worked.{digits, two_ranges}
-use Rattle.dm_event_history.specs.Unfaithful.{wrong_after_a_refused_scan, wrong_after_a_failed_scan, wrong_after_a_failed_import, IsFaithfulMarked, IsTaintedIn, IsTaintedSo, wrong_at, imported, other_digits, page, four_desks}
+use Rattle.dm_event_history.specs.Unfaithful.{wrong_after_a_refused_scan, wrong_after_a_failed_scan, wrong_after_a_failed_import, IsFaithfulMarked, IsTaintedIn, IsTaintedSo, wrong_at, exported_so, imported, other_digits, page, four_desks}
 use Rattle.dm_event_history.proofs.Refuting.{document_is, digits_differ}
+
+-- what is exported is some pages of a document, and no others
+some_pages : (A : Type 0) (mask : ℕ) → IsFaithfulMarked (exported_so A mask) → AreSomePages 2 mask
+some_pages A mask (batches, f) =
+    let x = of_hidden two_ranges 4 batches (map (λ one. one.0) (exported_so A mask))
+    (map (λ one. one.2) (exported_so A mask)) f.prints.explained in
+    by_hidden x.hidden x.count x.legal
+  where
+    by_hidden : (hidden : List Hidden) → length hidden ≡ 3 →
+        IsLegal two_ranges 4 (history_of (map (λ one. one.0) (exported_so A mask))
+        (map (λ one. one.2) (exported_so A mask)) hidden []) → AreSomePages 2 mask
+    by_hidden (a ∷ b ∷ c ∷ []) count legal = legal.0.reply.1
+    by_hidden hidden count legal = absurd (omega arith)
+
+pub exported_nothing_is : (A : Type 0) → ¬ IsFaithfulMarked (exported_so A 0)
+exported_nothing_is A is = (let some : 1 ≤ 0 = (some_pages A 0 is).some in omega arith)
+
+pub exported_third_of_two_is : (A : Type 0) → ¬ IsFaithfulMarked (exported_so A 4)
+exported_third_of_two_is A is = (let last : 3 ≤ 2 = ((some_pages A 4 is).within 3 refl).1 in omega arith)
 
 -- a document that was never printed is not given at a desk that is not tainted
 wrong_at_is : (A : Type 0) (desk : ℕ) (batches : List (Option Batch)) →

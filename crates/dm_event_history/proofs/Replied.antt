@@ -52,10 +52,10 @@ may_reply ranges h id left (Print p document size scheme stop) (Printed name fir
     fine.no_stop
 may_reply ranges h id left (Print p document size scheme stop) (PrintRefused print_fault.Save) fine stopped down = fine
 may_reply ranges h id left (Print p document size scheme stop) (PrintRefused fault) fine stopped down = tt
-may_reply ranges h id left (Scan d label flips stop) (Scanned accepted) fine stopped down = fine
-may_reply ranges h id left (Scan d label flips stop) (ScanRefused scan_fault.Save) fine stopped down = fine
+may_reply ranges h id left (Scan d label flips stop) (Scanned accepted) fine stopped down = fine.0
+may_reply ranges h id left (Scan d label flips stop) (ScanRefused scan_fault.Save) fine stopped down = fine.0
 may_reply ranges h id left (Scan d label flips stop) (ScanRefused (scan_fault.Label label_fault.Memory)) fine stopped
-    down = absurd fine
+    down = absurd fine.0
 may_reply ranges h id left (Scan d label flips stop) (ScanRefused fault) fine stopped down = tt
 may_reply ranges h id left (RestartPrinter p) Restarted fine stopped down = tt
 may_reply ranges h id left (RestartPrinter p) (PrinterRefused fault) fine stopped down = fine
@@ -81,7 +81,7 @@ may_reply ranges h id left (Give p receiver range stop) (GiveRefused fault) fine
 may_reply ranges h id left (Take p ticket stop) Taken fine stopped down = fine
 may_reply ranges h id left (Take p ticket stop) (TakeRefused take_fault.Save) fine stopped down = fine
 may_reply ranges h id left (Take p ticket stop) (TakeRefused fault) fine stopped down = tt
-may_reply ranges h id left (Export d name) (Exported index told n mask) fine stopped down = fine.id_is
+may_reply ranges h id left (Export d name) (Exported index told n mask) fine stopped down = fine.0.id_is
 may_reply ranges h id left (Export d name) (ExportRefused fault) fine stopped down = tt
 may_reply ranges h id left (Import d export stop) (Imported imported) fine stopped down = fine.no_stop
 may_reply ranges h id left (Import d export stop) (ImportRefused import_fault.Save) fine stopped down = fine
@@ -275,7 +275,7 @@ down_each {A} ranges desks (e ∷ h) legal i event reply asked answered is_such 
 last_failed : {A : Type 0} (ranges : List Range) (h : History A) (id left : ℕ) (event : Event A) (reply : Reply A) →
     IsReply ranges h id left event reply → TellsFailed reply → is_failed h (actor_of event) ≡ true
 last_failed ranges h id left (Print p document size scheme stop) (PrintRefused print_fault.Failed) fine tells = fine
-last_failed ranges h id left (Scan d label flips stop) (ScanRefused scan_fault.Failed) fine tells = fine
+last_failed ranges h id left (Scan d label flips stop) (ScanRefused scan_fault.Failed) fine tells = fine.0
 last_failed ranges h id left (Forget d name stop) (ForgetRefused forget_fault.Failed) fine tells = fine
 last_failed ranges h id left (Give p receiver range stop) (GiveRefused give_fault.Failed) fine tells = fine
 last_failed ranges h id left (Take p ticket stop) (TakeRefused take_fault.Failed) fine tells = fine

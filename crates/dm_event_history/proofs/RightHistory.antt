@@ -18,7 +18,8 @@ use Rattle.dm_event_history.specs.declared.event.Event.TheVariants.{Ask}
 use Rattle.dm_event_history.specs.declared.reply.Reply.TheVariants.{Scanned, Document, Stopped}
 use Rattle.dm_event_history.specs.declared.stop.Stop.TheVariants as stops
 use Rattle.dm_event_history.specs.Actors.{PrinterAt, DeskAt}
-use Rattle.dm_event_history.specs.History.{Entry, History, CutDocument}
+use Rattle.dm_event_history.specs.History.{Entry, History, CutDocument, LabelName, out, docs}
+use Rattle.dm_event_history.specs.Frames.{KeepsFrame}
 use Rattle.dm_event_history.specs.Ledgers.{IsPrinterAfter, GoesByLedger}
 use Rattle.dm_event_history.specs.Legal.{Fits, IsLegal}
 use Rattle.dm_event_history.specs.Worked.{digits, digits_cut, range, two_ranges, told}
@@ -34,6 +35,7 @@ use Rattle.dm_assembly_desk.specs.Answers.{answer, answer_at}
 use Rattle.dm_assembly_desk.specs.Asking.{Asks}
 use Rattle.dm_event_history.specs.Held.{Holding, both, CanHold, first_entries}
 use Rattle.dm_event_history.proofs.HeldDocuments.{get_same}
+use Rattle.dm_event_history.proofs.SameFrames.{no_more_wrong}
 
 -- ---- the parts of the two documents
 
@@ -287,9 +289,20 @@ second_of_two = record {
   last = omega arith;
 }
 
+-- a label of which no module is flipped has all its finder patterns
+unflipped : {A : Type 0} (h : History A) (label : ℕ) (name : LabelName) (document : CutDocument) →
+    slice_get (out h) label ≡ Some name → docs h name.id ≡ Some document → KeepsFrame h label []
+unflipped h label name document has_left printed = record {
+  name = name;
+  has_left = has_left;
+  document = document;
+  printed = printed;
+  is_such = (let none = no_more_wrong [] document.size in omega (arith, none));
+}
+
 fits_scan : (A : Type 0) → Fits two_ranges 2 (printed_history A) (told false (scan 0) (Scanned (page 10 1 New)))
 fits_scan A = record {
-  reply = record { no_stop = λ _. refl; is_head = first_of_two };
+  reply = (record { no_stop = λ _. refl; is_head = first_of_two }, unflipped (printed_history A) 0 _ _ refl refl);
   lets_out = refl;
   parts = λ some. absurd (omega arith);
   no_such = λ x. cc;
@@ -326,7 +339,7 @@ scanned_history A = told false (scan 0) (Scanned (page 10 1 New)) ∷ printed_hi
 fits_second_scan : (A : Type 0) →
     Fits two_ranges 2 (scanned_history A) (told false (scan 1) (Scanned (page 10 2 Complete)))
 fits_second_scan A = record {
-  reply = record { no_stop = λ _. refl; is_head = second_of_two };
+  reply = (record { no_stop = λ _. refl; is_head = second_of_two }, unflipped (scanned_history A) 1 _ _ refl refl);
   lets_out = refl;
   parts = λ some. absurd (omega arith);
   no_such = λ x. cc;

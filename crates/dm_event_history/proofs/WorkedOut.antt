@@ -117,7 +117,7 @@ not_so A = record {
   unsaved_forget = refl;
   unsaved_import = refl;
   no_overlap = λ told. told;
-  no_fault = λ told. (let fault : stops.None ≡ stops.SaveFault told.0 = told.1 in cc (fault));
+  no_fault = λ told. (let fault : stops.None ≡ stops.SaveFault told.0.0 = told.0.1 in cc (fault));
   held = λ safe. safe 1 (travelled_is A).scanned;
   not_old = not_old A;
   down = refl;

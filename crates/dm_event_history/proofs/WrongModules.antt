@@ -14,11 +14,11 @@ use Rattle.dm_event_history.proofs.Deciding.{same_or_other}
 -- ---- counts
 
 -- how many numbers from a on, of n, pass the test
-abbrev passes : (ℕ → Bool) → ℕ → ℕ → ℕ
+abbrev pub passes : (ℕ → Bool) → ℕ → ℕ → ℕ
 passes test a n = count_by (λ (is : Bool). is) (map test (range_with_len a n))
 
 -- 1 for one that passes, and 0 for another
-abbrev one_if : Bool → ℕ
+abbrev pub one_if : Bool → ℕ
 one_if b = if b then 1 else 0
 
 at_most_one : (b : Bool) → one_if b ≤ 1
@@ -26,7 +26,7 @@ at_most_one true = omega arith
 at_most_one false = omega arith
 
 -- the first is counted, and the rest
-counted : (b : Bool) (bs : List Bool) →
+pub counted : (b : Bool) (bs : List Bool) →
     count_by (λ (is : Bool). is) (b ∷ bs) ≡ one_if b + count_by (λ (is : Bool). is) bs
 counted b bs = sum_by-cons one_if b bs
 
@@ -68,7 +68,7 @@ one_more test other k agree a (suc n) = elim (same_or_other a k) [
 -- ---- grids
 
 -- a module that is not flipped is wrong if it was
-same_elsewhere : (g : GridView) (r c i : ℕ) → i ≢ r * side g.size + c →
+pub same_elsewhere : (g : GridView) (r c i : ℕ) → i ≢ r * side g.size + c →
     is_wrong (grid_with_flipped g r c) i ≡ is_wrong g i
 same_elsewhere g r c i other =
     let n = side g.size in

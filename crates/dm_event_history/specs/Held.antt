@@ -2,9 +2,7 @@
 -- `export` and `import` of `dm_assembly_desk` answer by that.
 use Rattle.std.specs.Prelude.{◌≡◌, ◌≢◌, ◌⊎◌, ◌+◌, ◌≤◌, ℕ, nat_le, false, ◌&&◌, not, if◌then◌else◌, MatchBool, Some, None, IsSome, List, [], ◌∷◌, length, slice_get, Ok, Err}
 use Rattle.std.specs.FinMap as map
-use Rattle.dm_finder_frame.specs.Grids.{GridView, flipped}
-use Rattle.dm_finder_frame.specs.Frame.{wrong_frame_modules}
-use Rattle.dm_finder_frame.specs.UnframeOutcome.{HasGoodFrame}
+use Rattle.dm_finder_frame.specs.Grids.{GridView}
 use Rattle.dm_append_label.specs.Pages.{PageView}
 use Rattle.dm_append_label.specs.Heads.{IsHead, head_of}
 use Rattle.dm_append_label.specs.declared.opening.TheConstants.{MOST_PAGE_BYTES}
@@ -27,6 +25,7 @@ use Rattle.dm_event_history.specs.declared.reply.Reply.TheVariants.{Scanned, Sca
 use Rattle.dm_event_history.specs.declared.stop.Stop.{Stop}
 use Rattle.dm_event_history.specs.Actors.{DeskAt, actor_of}
 use Rattle.dm_event_history.specs.History.{History, CutDocument, ExportName, out, docs, exports, exported_parts}
+use Rattle.dm_event_history.specs.Frames.{KeepsFrame, LosesFrame}
 use Rattle.dm_event_history.specs.Running.{is_failed}
 use Rattle.dm_event_history.specs.Saving.{leaves_new, stops_after_save}
 use Rattle.dm_event_history.specs.Tainted.{AtDesk}
@@ -57,16 +56,6 @@ pub record MayBeRead {A : Type 0} (Honest : Type 0) (before : History A) (label 
   pub short : length page.bytes ≤ MOST_PAGE_BYTES
   pub honest : Honest → IsPageOfLabel before label page
   pub unflipped : flips ≡ [] → IsPageOfLabel before label page
-
--- With these modules flipped more than an eighth of the modules of the finder patterns of the page's label are wrong. A
--- label has the finder patterns of its size, and none of their modules is wrong as it leaves.
-pub record LosesFrame {A : Type 0} (before : History A) (page : PageView) (flips : List (ℕ × ℕ)) : Type 0 where
-  pub cut : CutDocument
-  pub printed : docs before page.id ≡ Some cut
-  pub grid : GridView
-  pub size_is : grid.size ≡ cut.size
-  pub none_wrong : wrong_frame_modules grid ≡ 0
-  pub lost : ¬ HasGoodFrame (flipped grid flips)
 
 -- These are the pages of the export of this number: the document, its number of pages and the mask are those that it
 -- was told with, and the bytes are its parts. No reply tells the parts; the history has one list of them, for all
@@ -111,12 +100,12 @@ with_answered kind old new = new
 -- ---- what calls save
 
 -- What is stored once a call saved, at a desk that shows these documents. A scan adds the page of its label, which
--- isn't shown, if there is room; a forget takes away a document that is shown; an import adds pages of its export, of
--- which one isn't shown, if there is room.
+-- isn't shown, if there is room and the label isn't refused for its finder patterns; a forget takes away a document that
+-- is shown; an import adds pages of its export, of which one isn't shown, if there is room.
 abbrev pub WouldSave : {A : Type 0} → ℕ → History A → Event A → Documents → Documents → Type 0
 WouldSave capacity before (Scan desk label flips stop) shown content =
-    (page : PageView) × IsPageOfLabel before label page × NeedsSave (answer capacity shown page)
-    × (content ≡ with_page shown page)
+    (page : PageView) × IsPageOfLabel before label page × KeepsFrame before label flips
+    × NeedsSave (answer capacity shown page) × (content ≡ with_page shown page)
 WouldSave capacity before (Forget desk id stop) shown content =
     IsSome (map.get shown id) × (content ≡ map.remove shown id)
 WouldSave capacity before (Import desk export stop) shown content =
@@ -129,7 +118,7 @@ abbrev pub WouldNotSave : {A : Type 0} → ℕ → History A → Event A → Doc
 WouldNotSave capacity before (Scan desk label flips stop) shown =
     (page : PageView) × IsPageOfLabel before label page
     × ((answer capacity shown page ≡ Ok Again)
-    ⊎ ((answer capacity shown page ≡ Err scan_fault.Full) ⊎ LosesFrame before page flips))
+    ⊎ ((answer capacity shown page ≡ Err scan_fault.Full) ⊎ ((wrong : ℕ) × LosesFrame before label flips wrong)))
 WouldNotSave capacity before (Forget desk id stop) shown = map.get shown id ≡ None
 WouldNotSave capacity before (Import desk export stop) shown =
     (id : ℕ) × (pages : Pages) × ArePagesOfExport before export id pages

@@ -37,6 +37,7 @@ use Rattle.dm_assembly_desk.specs.declared.reply.Imported as imported_type
 use Rattle.dm_event_history.specs.Masks.{HasPage}
 use Rattle.dm_event_history.specs.Actors.{PrinterAt, DeskAt, actor_of}
 use Rattle.dm_event_history.specs.History.{Entry, History, CutDocument, LabelName, ExportName, printed_by, out, docs, tickets, exports}
+use Rattle.dm_event_history.specs.Frames.{KeepsFrame, IsRefusedByFrame}
 use Rattle.dm_event_history.specs.Running.{is_down, is_failed, IsOfFailed}
 use Rattle.dm_event_history.specs.Saving.{stop_of, may_save, stops_after_save, tells_of_save}
 use Rattle.dm_event_history.specs.Numbers.{free_at, gives, last_serial}
@@ -199,6 +200,13 @@ pub record IsExported {A : Type 0} (before : History A) (id index told : ℕ) : 
   pub index_is : index ≡ length (exports before)
   pub id_is : told ≡ id
 
+-- what is told of an export is of a document of 2 to 16 pages, and names some of them
+pub record AreSomePages (n mask : ℕ) : Type 0 where
+  pub least : 2 ≤ n
+  pub most : n ≤ 16
+  pub some : 1 ≤ mask
+  pub within : (m : ℕ) → HasPage mask m → (1 ≤ m) × (m ≤ n)
+
 -- what the reply tells is of the export: its document, as many pages, and as added none but those that it has
 pub record IsImported {A : Type 0} (before : History A) (export : ℕ) (stop : Stop) (imported : imported_type.Imported)
     : Type 0 where
@@ -220,8 +228,9 @@ MayLackMemory (Take printer ticket stop) = stops_after_save (Some stop) ≡ true
 MayLackMemory (Import desk export stop) = stops_after_save (Some stop) ≡ true
 MayLackMemory event = Unit {0}
 
--- The reply is one to the event: what is so where it is given. `New` and `Complete` are told only if
--- nothing was to happen to the call, and a printer or a desk over its own store is refused its restart for memory alone.
+-- The reply is one to the event: what is so where it is given. `New` and `Complete` are told only if nothing was to
+-- happen to the call. Whether a label is refused for its finder patterns depends on its size and the flips alone,
+-- whichever desk it is. A printer or a desk over its own store is refused its restart for memory alone.
 abbrev pub IsReply : {A : Type 0} → List Range → History A → ℕ → ℕ → Event A → Reply A → Type 0
 IsReply ranges before id left (Print printer document size scheme stop) (Printed name first count) =
     IsPrinted before stop id left name first count
@@ -229,8 +238,10 @@ IsReply ranges before id left (Print printer document size scheme stop) (PrintRe
     IsPrintRefused ranges before printer (record { bytes = document; size = size; scheme = scheme; parts = [] }) stop
     fault
 IsReply ranges before id left (Print printer document size scheme stop) Stopped = Unit {0}
-IsReply ranges before id left (Scan desk label flips stop) (Scanned accepted) = IsAccepted stop accepted
-IsReply ranges before id left (Scan desk label flips stop) (ScanRefused fault) = IsScanRefused before desk stop fault
+IsReply ranges before id left (Scan desk label flips stop) (Scanned accepted) =
+    IsAccepted stop accepted × KeepsFrame before label flips
+IsReply ranges before id left (Scan desk label flips stop) (ScanRefused fault) =
+    IsScanRefused before desk stop fault × IsRefusedByFrame before label flips fault
 IsReply ranges before id left (Scan desk label flips stop) Stopped = Unit {0}
 IsReply ranges before id left (RestartPrinter printer) Restarted = Unit {0}
 IsReply ranges before id left (RestartPrinter printer) (PrinterRefused fault) = fault ≡ open_fault.Memory
@@ -250,7 +261,8 @@ IsReply ranges before id left (Take printer ticket stop) Taken = stop ≡ stops.
 IsReply ranges before id left (Take printer ticket stop) (TakeRefused fault) =
     IsTakeRefused before printer ticket stop fault
 IsReply ranges before id left (Take printer ticket stop) Stopped = Unit {0}
-IsReply ranges before id left (Export desk name) (Exported index told n mask) = IsExported before name index told
+IsReply ranges before id left (Export desk name) (Exported index told n mask) =
+    IsExported before name index told × AreSomePages n mask
 IsReply ranges before id left (Export desk name) (ExportRefused fault) = Unit {0}
 IsReply ranges before id left (Import desk export stop) (Imported imported) = IsImported before export stop imported
 IsReply ranges before id left (Import desk export stop) (ImportRefused fault) = IsImportRefused before desk stop fault

@@ -1,5 +1,6 @@
 pub mod Actors
 pub mod History
+pub mod Frames
 pub mod Running
 pub mod Saving
 pub mod Numbers

@@ -310,6 +310,20 @@ lost_by_a_flip A =
     (Scan 0 0 ((0, 0) ∷ []) (InSave kept.New), Stopped) ∷
     (RestartDesk 0, Restarted) ∷ (Ask 0 0, AskRefused NotHeld) ∷ []
 
+-- Modules of the finder patterns of a label of side 12, which have 44: five are no more than an eighth, and six are.
+abbrev pub five_flips : List (ℕ × ℕ)
+five_flips = (0, 0) ∷ (1, 0) ∷ (2, 0) ∷ (3, 0) ∷ (4, 0) ∷ []
+
+abbrev pub six_flips : List (ℕ × ℕ)
+six_flips = (0, 0) ∷ (1, 0) ∷ (2, 0) ∷ (3, 0) ∷ (4, 0) ∷ (5, 0) ∷ []
+
+-- `held`: a page is held of a label of which six are flipped, by a scan that was stopped after its save
+abbrev pub taken_without_frame : (A : Type 0) → Run A
+taken_without_frame A =
+    (print 0 digits None, Printed 0 0 2) ∷
+    (Scan 0 0 six_flips (InSave kept.New), Stopped) ∷
+    (RestartDesk 0, Restarted) ∷ (Ask 0 0, AskRefused (Incomplete 2)) ∷ []
+
 -- `held`: a page was told as taken, and an honest scan of its label, of which a module is flipped, fails to save it
 abbrev pub saved_though_shown : (A : Type 0) → Run A
 saved_though_shown A =
@@ -341,6 +355,23 @@ refused_label A = (print 0 digits None, Printed 0 0 2) ∷ (scan 0, ScanRefused 
 abbrev pub refused_frame : (A : Type 0) → ℕ → Run A
 refused_frame A wrong =
     (print 0 digits None, Printed 0 0 2) ∷ (scan 0, ScanRefused (scan_fault.Label (Border wrong))) ∷ []
+
+-- `explained`: a label is refused for its finder patterns, of whose modules no more than an eighth are wrong
+abbrev pub refused_by_five_flips : (A : Type 0) → Run A
+refused_by_five_flips A =
+    (print 0 digits None, Printed 0 0 2) ∷
+    (Scan 0 0 five_flips None, ScanRefused (scan_fault.Label (Border 5))) ∷ []
+
+-- `explained`: five modules are told as wrong, though six are
+abbrev pub counted_short : (A : Type 0) → Run A
+counted_short A =
+    (print 0 digits None, Printed 0 0 2) ∷
+    (Scan 0 0 six_flips None, ScanRefused (scan_fault.Label (Border 5))) ∷ []
+
+-- `explained`: the page of a label is told, of whose finder patterns more than an eighth of the modules are wrong
+abbrev pub read_without_frame : (A : Type 0) → Run A
+read_without_frame A =
+    (print 0 digits None, Printed 0 0 2) ∷ (Scan 0 0 six_flips None, Scanned (page 0 1 New)) ∷ []
 
 -- `not_refused`: a perfect label is refused for a conflict
 abbrev pub conflicting_label : (A : Type 0) → Run A
@@ -848,6 +879,13 @@ saved_though_whole A =
     (scan 1, true, Scanned (page 0 2 Complete)) ∷
     (Scan 0 0 ((0, 0) ∷ []) (SaveFault kept.Old), false, ScanRefused scan_fault.Save) ∷ []
 
+-- `explained`, of a desk that is tainted: it exports pages of a document of two, none, or the third
+abbrev pub exported_so : (A : Type 0) → ℕ → MarkedRun A
+exported_so A mask =
+    (print 0 digits None, true, Printed 0 0 2) ∷
+    (Scan 0 0 ((0, 0) ∷ []) None, false, Scanned (page 9 1 New)) ∷
+    (Export 0 9, true, Exported 0 9 2 mask) ∷ []
+
 -- `held`, of a desk that is not tainted: it refuses a tainted export for a conflict with the page that it holds, and
 -- then for want of memory to save a page of it
 abbrev pub refused_two_ways : (A : Type 0) → MarkedRun A
@@ -967,6 +1005,7 @@ pub record AreUnfaithful (A : Type 0) : Type 0 where
   pub added_again_is : ¬ IsFaithfulRun (added_again A)
   pub lost_by_a_stop_is : ¬ IsFaithfulRun (lost_by_a_stop A)
   pub lost_by_a_flip_is : ¬ IsFaithfulRun (lost_by_a_flip A)
+  pub taken_without_frame_is : ¬ IsFaithfulRun (taken_without_frame A)
   pub saved_though_shown_is : ¬ IsFaithfulRun (saved_though_shown A)
   pub saved_though_whole_is : ¬ IsFaithfulAlone (saved_though_whole A)
   pub saved_though_perfect_is : ¬ IsFaithfulMarked (saved_though_perfect A)
@@ -976,6 +1015,9 @@ pub record AreUnfaithful (A : Type 0) : Type 0 where
   pub refused_label_is : ¬ IsFaithfulRun (refused_label A)
   pub refused_for_nothing_is : ¬ IsFaithfulRun (refused_frame A 0)
   pub refused_frame_is : ¬ IsFaithfulRun (refused_frame A 6)
+  pub refused_by_five_flips_is : ¬ IsFaithfulRun (refused_by_five_flips A)
+  pub counted_short_is : ¬ IsFaithfulRun (counted_short A)
+  pub read_without_frame_is : ¬ IsFaithfulRun (read_without_frame A)
   pub conflicting_label_is : ¬ IsFaithfulRun (conflicting_label A)
   pub exhausted_at_first_is : ¬ IsFaithfulRun (exhausted_at_first A)
   pub exhausted_by_itself_is : ¬ IsFaithfulRun (exhausted_by_itself A)
@@ -983,6 +1025,8 @@ pub record AreUnfaithful (A : Type 0) : Type 0 where
   pub exhausted_by_a_refused_give_is : ¬ IsFaithfulRun (exhausted_by_a_refused_give A)
   pub exhausted_though_failed_is : ¬ IsFaithfulRun (exhausted_though_failed A)
   pub too_long_of_few_is : ¬ IsFaithfulRun (too_long_of_few A)
+  pub exported_nothing_is : ¬ IsFaithfulMarked (exported_so A 0)
+  pub exported_third_of_two_is : ¬ IsFaithfulMarked (exported_so A 4)
   pub refused_two_ways_is : ¬ IsFaithfulMarked (refused_two_ways A)
   pub wrong_after_a_refused_scan_is : ¬ IsFaithfulMarked (wrong_after_a_refused_scan A)
   pub wrong_after_a_failed_scan_is : ¬ IsFaithfulMarked (wrong_after_a_failed_scan A)

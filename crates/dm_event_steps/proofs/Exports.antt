@@ -1,5 +1,5 @@
 -- An export at a running desk gives an entry that fits the history, and shows its pages.
-use Rattle.std.proofs.Common.{◌+◌, ◌≡◌, ◌≢◌, ◌<◌, ℕ, zero, suc, Bool, true, false, Option, Some, None, Err, List, [], ◌∷◌, ◌++◌, length, map, slice_get, IsSome, refl, ap, sym, ◌∙◌, subst, arith}
+use Rattle.std.proofs.Common.{◌+◌, ◌≡◌, ◌≢◌, ◌<◌, ◌≤◌, ℕ, zero, suc, Bool, true, false, Option, Some, None, Err, List, [], ◌∷◌, ◌++◌, length, map, slice_get, IsSome, refl, ap, sym, ◌∙◌, subst, arith}
 use Rattle.std.specs.Prelude.{is_some, slice_index_or}
 use Rattle.std.specs.FinMap as finite
 use Rattle.std.proofs.lemmas.List.{length-map, length-append, append-nil}
@@ -22,6 +22,7 @@ use Rattle.dm_event_history.specs.History.{Entry, History, CutDocument, docs, ex
 use Rattle.dm_event_history.specs.Running.{down_after, failed_after, is_failed}
 use Rattle.dm_event_history.specs.Saving.{tells_of_save}
 use Rattle.dm_event_history.specs.Masks.{HasPage}
+use Rattle.dm_event_history.specs.Legal.{AreSomePages}
 use Rattle.dm_event_history.specs.Holding.{Forgets}
 use Rattle.dm_event_history.specs.Safe.{IsReplySafe}
 use Rattle.dm_event_history.proofs.Printed.{docs_keep}
@@ -55,6 +56,16 @@ there_named pages m some = names_mask pages m ∙ is_so (page pages m) some
     is_so : (o : Option (List ℕ)) → IsSome o → is_some o ≡ true
     is_so None x = cc
     is_so (Some b) x = refl
+
+-- a page that is there has a number of these
+place_of : (pages : Pages) (m : ℕ) → IsSome (page pages m) → (1 ≤ m) × (m ≤ length pages)
+place_of pages zero some = absurd (cc (some))
+place_of pages (suc i) some = (omega arith, below pages i some)
+  where
+    below : (ps : Pages) (k : ℕ) → IsSome (slice_index_or ps k None) → suc k ≤ length ps
+    below [] k there = absurd (cc (there))
+    below (p ∷ ps) zero there = omega arith
+    below (p ∷ ps) (suc k) there = (let rest = below ps k there in omega arith)
 
 -- ---- parts
 
@@ -190,6 +201,17 @@ export_goes {A} ranges capacities grids h d id capacity reply view state old new
         (shown tells r x tells_is))
     one_shows tells r x tells_is (suc i) y here = cc
 
+    -- what is told is of 2 to 16 pages, and names some of them
+    some_pages : (r : Reply A) → (x : ExportsPages view id old r new) → AreSomePages x.export.count x.export.mask
+    some_pages r x =
+        let entry = x.order.entries id x.pages x.are_held in record {
+          least = subst (λ (n : ℕ). 2 ≤ n) (sym x.count_is) entry.least;
+          most = subst (λ (n : ℕ). n ≤ 16) (sym x.count_is) entry.most;
+          some = subst (λ (k : ℕ). 1 ≤ k) (sym x.mask_is) entry.some_held;
+          within = λ m bit. subst (λ (n : ℕ). (1 ≤ m) × (m ≤ n)) (sym x.count_is)
+              (place_of x.pages m (named_there x.pages m (subst (λ (k : ℕ). HasPage k m) x.mask_is bit)));
+        }
+
     told : (r : Reply A) → ExportsPages view id old r new →
         DeskGoesOn ranges capacities grids h (Export d id) r d capacity state old new
     told r x =
@@ -200,7 +222,7 @@ export_goes {A} ranges capacities grids h d id capacity reply view state old new
         subst (λ (y : Reply A). DeskGoesOn ranges capacities grids h (Export d id) y d capacity state old new)
         (sym x.reply_is) (
           map page_bytes x.pages,
-          goes tells (map page_bytes x.pages) (refl, record { index_is = index; id_is = x.id_is })
+          goes tells (map page_bytes x.pages) (refl, (record { index_is = index; id_is = x.id_is }, some_pages r x))
               (λ y. cc) (λ y. cc) (λ y. cc) (λ y. cc) (λ i y. y) refl (λ b. refl)
               (x.pages, x.are_held, x.count_is, x.mask_is, refl)
               (λ g. record {

@@ -4,13 +4,15 @@ use Rattle.std.specs.Prelude.{is_some, unwrap_or}
 use Rattle.std.specs.Cmp.{nat_cmp_total}
 use Rattle.std.specs.FinMap as finite
 use Rattle.std.specs.FinMap.{len-insert, contains_key-keys}
-use Rattle.std.specs.List.{list_any}
+use Rattle.std.specs.List.{All, list_any}
 use Rattle.std.specs.Ordering.{nat_cmp, eq_by_cmp}
+use Rattle.dm_check_blocks.specs.declared.size.Size.{Size}
+use Rattle.dm_placement.specs.Placement.{placed}
 use Rattle.dm_finder_frame.specs.Grids.{GridView, flipped}
 use Rattle.dm_finder_frame.specs.Frame.{wrong_frame_modules}
-use Rattle.dm_finder_frame.specs.UnframeOutcome.{HasGoodFrame}
+use Rattle.dm_finder_frame.specs.UnframeOutcome.{HasGoodFrame, HasBadFrame}
 use Rattle.dm_finder_frame.proofs.FramedGrids.{frame_has_no_wrong_module}
-use Rattle.dm_symbol.specs.Symbols.{IsNear}
+use Rattle.dm_symbol.specs.Symbols.{IsNear, grid_of_words}
 use Rattle.dm_append_label.specs.Pages.{PageView}
 use Rattle.dm_append_label.specs.Heads.{IsHead, head_of}
 use Rattle.dm_append_label.specs.Opening.{LabelOpens, OpensNear}
@@ -43,6 +45,7 @@ use Rattle.dm_event_history.specs.declared.stop.Stop.TheVariants.{BeforeSave, In
 use Rattle.dm_event_history.specs.declared.stop.Stop.TheVariants as stops
 use Rattle.dm_event_history.specs.Actors.{DeskAt}
 use Rattle.dm_event_history.specs.History.{Entry, History, LabelName, CutDocument, out, docs, exports}
+use Rattle.dm_event_history.specs.Frames.{HasSize, KeepsFrame, LosesFrame, IsRefusedByFrame}
 use Rattle.dm_event_history.specs.Running.{is_down, failed_after, is_failed, IsOfFailed}
 use Rattle.dm_event_history.specs.Saving.{may_save, tells_of_save, stops_after_save}
 use Rattle.dm_event_history.specs.Holding.{Takes, MayTake, Forgets, IsPossiblyHeld, known_of}
@@ -57,11 +60,12 @@ use Rattle.dm_event_steps.specs.declared.actor.LeftLabel.{LeftLabel}
 use Rattle.dm_event_steps.specs.Labels.{name_of, ShowsDocument}
 use Rattle.dm_event_steps.specs.Acts.{IsCalled, next_save_of}
 use Rattle.dm_event_steps.specs.Gathered.{IsGathered}
-use Rattle.dm_event_history.specs.Held.{MayBeRead, LosesFrame, Holding, both, with_answered, IsPageOfLabel, ChangesHolding, IsPart}
+use Rattle.dm_event_history.specs.Held.{MayBeRead, Holding, both, with_answered, IsPageOfLabel, ChangesHolding, IsPart}
 use Rattle.dm_event_steps.specs.DeskStands.{holding_of, SetStands, DeskRuns}
 use Rattle.dm_event_steps.specs.DeskActs.{Accepts, desk_planned, StopsDesk, scan_reply, ScanActs}
 use Rattle.dm_event_steps.specs.Goes.{quiet, DeskGoes}
 use Rattle.dm_event_history.proofs.WrongModules.{few_wrong}
+use Rattle.dm_event_history.proofs.SameFrames.{IsWithin, few_are, many_are}
 use Rattle.dm_event_steps.proofs.PrinterGoing.{IsFine, not_both}
 use Rattle.dm_event_steps.proofs.Asks.{not_surely}
 use Rattle.dm_event_steps.proofs.DeskFacts.{HoldsPage, is_free, holds_also, holds_all_others, lacks_another, Disagrees, holds_again, disagrees, is_full, some_page}
@@ -81,6 +85,60 @@ pub record IsScanned {A : Type 0} (capacities : List ℕ) (grids : List GridView
   pub named : slice_get (out h) number ≡ Some (name_of label)
   pub shows : ShowsDocument h label
   pub there : (d < length capacities) × HasModules h number flips
+
+-- ---- the finder patterns of the scanned grid
+
+-- what is so of the size of the scanned label
+of_size : {A : Type 0} (IsSuch : Size → Type 0) (h : History A) (number : ℕ) (label : LeftLabel A) →
+    slice_get (out h) number ≡ Some (name_of label) → (s : ShowsDocument h label) → IsSuch s.document.size →
+    HasSize IsSuch h number
+of_size IsSuch h number label named s is = record {
+  name = name_of label;
+  has_left = named;
+  document = s.document;
+  printed = s.printed;
+  is_such = is;
+}
+
+-- the flips are within the label
+flips_within : {A : Type 0} (h : History A) (number : ℕ) (flips : List (ℕ × ℕ)) (label : LeftLabel A) →
+    slice_get (out h) number ≡ Some (name_of label) → (s : ShowsDocument h label) → HasModules h number flips →
+    All (IsWithin s.document.size) flips
+flips_within h number flips label named s modules =
+    let name : modules.name ≡ name_of label = (let one = modules.has_left in cc (one, named)) in
+    let other : docs h label.id ≡ Some modules.document =
+    subst (λ (n : LabelName). docs h n.id ≡ Some modules.document) name modules.printed in
+    let own : docs h label.id ≡ Some s.document = s.printed in
+    let same : modules.document ≡ s.document = cc (other, own) in
+    subst (λ (c : CutDocument). All (IsWithin c.size) flips) same modules.within
+
+-- the label's grid is made from a mapping matrix of its document's size
+drawn_from : {A : Type 0} (h : History A) (label : LeftLabel A) (s : ShowsDocument h label) →
+    label.grid ≡ grid_of_words s.document.size s.carries.words
+drawn_from h label s = s.carries.drawn ∙ ap (λ (z : Size). grid_of_words z s.carries.words) s.size_is
+
+keeps_frame : {A : Type 0} (h : History A) (number : ℕ) (flips : List (ℕ × ℕ)) (label : LeftLabel A) →
+    slice_get (out h) number ≡ Some (name_of label) → (s : ShowsDocument h label) → HasModules h number flips →
+    HasGoodFrame (flipped label.grid flips) → KeepsFrame h number flips
+keeps_frame h number flips label named s modules good =
+    of_size _ h number label named s
+    (few_are s.document.size (placed s.document.size s.carries.words) flips (flips_within h number flips label named s modules)
+    (subst (λ (g : GridView). HasGoodFrame (flipped g flips)) (drawn_from h label s) good))
+
+loses_frame : {A : Type 0} (h : History A) (number : ℕ) (flips : List (ℕ × ℕ)) (wrong : ℕ) (label : LeftLabel A) →
+    slice_get (out h) number ≡ Some (name_of label) → (s : ShowsDocument h label) → HasModules h number flips →
+    HasBadFrame (flipped label.grid flips) wrong → LosesFrame h number flips wrong
+loses_frame h number flips wrong label named s modules bad =
+    of_size _ h number label named s
+    (many_are s.document.size (placed s.document.size s.carries.words) flips wrong (flips_within h number flips label named s modules)
+    (subst (λ (g : GridView). HasBadFrame (flipped g flips) wrong) (drawn_from h label s) bad))
+
+-- a label that is opened is not refused for them
+opened_frame : {A : Type 0} (h : History A) (number : ℕ) (flips : List (ℕ × ℕ)) (label : LeftLabel A)
+    (opened : Opened A) → slice_get (out h) number ≡ Some (name_of label) → (s : ShowsDocument h label) →
+    HasModules h number flips → LabelOpens (flipped label.grid flips) (Ok opened) → KeepsFrame h number flips
+opened_frame h number flips label opened named s modules opens =
+    keeps_frame h number flips label named s modules opens.opens.read.frame
 
 -- ---- the page of a fair scan
 
@@ -352,7 +410,7 @@ refused_goes : {A : Type 0} (ranges : List Range) (capacities : List ℕ) (grids
     ((b : Bool) → (let reply : Reply A = ScanRefused fault in failed_after reply b ≡ b)) →
     (let reply : Reply A = ScanRefused fault in
     is_failed h (DeskAt d) ≡ true → IsOfFailed (Scan d number flips stop) reply) →
-    IsScanRefused h d stop fault →
+    IsScanRefused h d stop fault × IsRefusedByFrame h number flips fault →
     (let reply : Reply A = ScanRefused fault in
     ChangesHolding (IsFairScan grids number flips) capacity h (Scan d number flips stop) reply
     (holding_of view s.runs.stored)
@@ -393,8 +451,13 @@ again_goes {A} ranges capacities grids h d number capacity flips stop view mid l
     (subst (λ (k : ℕ). IsSome (page_at view.held opened.page.id k)) (sym names.m_is ∙ y) there) in
     desk_kept ranges capacities grids h event reply d capacity view (desk_planned mid next_save.Fine) s.room s.runs
     (ap (λ (v : DeskView). desk_planned v next_save.Fine) same ∙ fine_desk view (next_save_of stop) s.runs.store.ready)
-    (made_told ranges capacities h d number flips stop reply s.there s.runs.up called (λ x. cc) (λ x. cc) (λ x. cc)
-    (refl, accepted_head (flipped label.grid flips) opened a stop opens names (λ other. absurd (other again)))
+    (made_told ranges capacities h d number flips stop reply s.there s.runs.up called (λ x. cc) (λ x. cc) (λ x. cc) (
+      refl,
+      (
+        accepted_head (flipped label.grid flips) opened a stop opens names (λ other. absurd (other again)),
+        opened_frame h number flips label opened s.named s.shows s.there.1 opens,
+      ),
+    )
     (not_failed grids h d capacity view s.runs runs _) (λ x. cc))
     refl refl
     (λ id m t. (
@@ -444,8 +507,13 @@ took_goes {A} ranges capacities grids h d number capacity flips stop view mid la
     (subst (λ (c : ℕ). finite.len (with_page view.held opened.page) ≤ c) s.runs.capacity_is
     (few_with view.capacity view.held opened.page order.few needs))
     (made_told ranges capacities h d number flips stop reply s.there s.runs.up called
-    (λ x. cc) (λ x. cc) (λ x. cc)
-    (refl, accepted_head (flipped label.grid flips) opened a stop opens names (λ _. none))
+    (λ x. cc) (λ x. cc) (λ x. cc) (
+      refl,
+      (
+        accepted_head (flipped label.grid flips) opened a stop opens names (λ _. none),
+        opened_frame h number flips label opened s.named s.shows s.there.1 opens,
+      ),
+    )
     (not_failed grids h d capacity view s.runs keeps.holding.was_running _) (λ x. cc))
     refl refl
     (gathered_page capacities grids h d number capacity flips stop reply view label opened a.kind s opens other answered
@@ -521,6 +589,7 @@ kept_does capacities grids h d number capacity flips kept.New view label opened 
     page_of_label h number label opened.page s.shows.document s.named
         (fair_page grids h number flips label opened s.left s.shows opens
         (honest.0 refl refl (sym s.runs.failed ∙ was))),
+    opened_frame h number flips label opened s.named s.shows s.there.1 opens,
     subst (λ (c : ℕ). NeedsSave (answer c view.held opened.page)) s.runs.capacity_is needs,
     refl,
   ),
@@ -552,7 +621,8 @@ failed_goes {A} ranges capacities grids h d number capacity flips k view mid lab
     (subst (λ (c : ℕ). finite.len (kept_held k view.held (with_page view.held opened.page)) ≤ c) s.runs.capacity_is
     (few_kept k view opened.page order.few needs))
     (made_told ranges capacities h d number flips (SaveFault k) reply s.there s.runs.up tt
-    (λ x. cc) (λ x. cc) (λ x. cc) (refl, (k, refl))
+    (λ x. cc) (λ x. cc) (λ x. cc)
+    (refl, ((k, refl), opened_frame h number flips label opened s.named s.shows s.there.1 opens))
     (not_failed grids h d capacity view s.runs fails.failing.was_running _) (λ x. cc))
     refl refl
     (gathered_kept capacities grids h d number capacity flips k view label opened s opens needs
@@ -598,7 +668,8 @@ page_goes {A} ranges capacities grids h d number capacity flips stop view mid la
 page_goes ranges capacities grids h d number capacity flips stop view mid label opened
     (Err scan_fault.Conflict) s called opens order runs acts =
     refused_goes ranges capacities grids h d number capacity flips stop view mid label scan_fault.Conflict s called
-    acts.1 (λ b. refl) (not_failed grids h d capacity view s.runs runs _) tt (
+    acts.1 (λ b. refl) (not_failed grids h d capacity view s.runs runs _)
+    (tt, opened_frame h number flips label opened s.named s.shows s.there.1 opens) (
       opened.page,
       page_read capacities grids h d number capacity flips view label opened s opens,
       subst (λ (c : ℕ). answer c view.held opened.page ≡ Err scan_fault.Conflict) s.runs.capacity_is acts.0,
@@ -612,7 +683,8 @@ page_goes {A} ranges capacities grids h d number capacity flips stop view mid la
     (Err scan_fault.Full) s called opens order runs acts =
     let full = is_full view.capacity view.held opened.page acts.0 in
     refused_goes ranges capacities grids h d number capacity flips stop view mid label scan_fault.Full s called acts.1
-    (λ b. refl) (not_failed grids h d capacity view s.runs runs _) tt (
+    (λ b. refl) (not_failed grids h d capacity view s.runs runs _)
+    (tt, opened_frame h number flips label opened s.named s.shows s.there.1 opens) (
       opened.page,
       page_read capacities grids h d number capacity flips view label opened s opens,
       subst (λ (c : ℕ). answer c view.held opened.page ≡ Err scan_fault.Full) s.runs.capacity_is acts.0,
@@ -633,7 +705,8 @@ page_goes {A} ranges capacities grids h d number capacity flips stop view mid la
 page_goes ranges capacities grids h d number capacity flips stop view mid label opened
     (Err scan_fault.Memory) s called opens order runs acts =
     refused_goes ranges capacities grids h d number capacity flips stop view mid label scan_fault.Memory s called acts.1
-    (λ b. refl) (not_failed grids h d capacity view s.runs runs _) tt refl
+    (λ b. refl) (not_failed grids h d capacity view s.runs runs _)
+    (tt, opened_frame h number flips label opened s.named s.shows s.there.1 opens) refl
     (λ fair. framed grids number flips label.grid s.left opens.opens.read.frame)
 page_goes {A} ranges capacities grids h d number capacity flips stop view mid label opened
     (Err scan_fault.Save) s called opens order runs acts =
@@ -656,7 +729,7 @@ unopened_goes : {A : Type 0} (ranges : List Range) (capacities : List ℕ) (grid
     (given : Result Accepted ScanFault) → IsScanned capacities grids h d number capacity flips view label →
     IsCalled stop → view.is_failed ≡ false →
     given ≡ Err (scan_fault.Label fault) → mid ≡ desk_planned view (next_save_of stop) →
-    IsScanRefused h d stop (scan_fault.Label fault) →
+    IsScanRefused h d stop (scan_fault.Label fault) × IsRefusedByFrame h number flips (scan_fault.Label fault) →
     (IsFairScan grids number flips → IsBeyond grids number flips fault) →
     DeskGoes ranges capacities grids h (Scan d number flips stop) (scan_reply given) d capacity
     (desks.Running (desk_planned mid next_save.Fine))
@@ -698,12 +771,14 @@ opened_goes {A} ranges capacities grids h d number capacity flips stop view mid 
     (scan_reply r) d capacity
     (desks.Running (desk_planned mid next_save.Fine))) (sym acts.0)
     (refused_goes ranges capacities grids h d number capacity flips stop view mid label scan_fault.Memory s called
-    acts.1 (λ b. refl) (not_failed grids h d capacity view s.runs runs _) tt refl
+    acts.1 (λ b. refl) (not_failed grids h d capacity view s.runs runs _)
+    (tt, keeps_frame h number flips label s.named s.shows s.there.1 opens.opens) refl
     (λ fair. framed grids number flips label.grid s.left opens.opens))
 opened_goes ranges capacities grids h d number capacity flips stop view mid label
     (Err (labels.Border wrong)) given s called opens order runs acts =
     unopened_goes ranges capacities grids h d number capacity flips stop view mid label
-    (labels.Border wrong) given s called runs acts.0 acts.1 tt
+    (labels.Border wrong) given s called runs acts.0 acts.1
+    (tt, loses_frame h number flips wrong label s.named s.shows s.there.1 opens.opens)
     (λ fair. (
       record { grid = label.grid; has_left = s.left; frame = opens.opens },
       few_wrong label.grid flips wrong
@@ -712,31 +787,34 @@ opened_goes ranges capacities grids h d number capacity flips stop view mid labe
 opened_goes ranges capacities grids h d number capacity flips stop view mid label
     (Err (labels.Block block)) given s called opens order runs acts =
     unopened_goes ranges capacities grids h d number capacity flips stop view mid label
-    (labels.Block block) given s called runs acts.0 acts.1 tt
+    (labels.Block block) given s called runs acts.0 acts.1
+    (tt, keeps_frame h number flips label s.named s.shows s.there.1 opens.opens.0)
     (λ fair. absurd (never_so grids h number flips label (labels.Block block) (Err (labels.Block block)) refl
     s.left s.shows opens fair))
 opened_goes ranges capacities grids h d number capacity flips stop view mid label
     (Err labels.NotAppended) given s called opens order runs acts =
     unopened_goes ranges capacities grids h d number capacity flips stop view mid label labels.NotAppended given s
-    called runs acts.0 acts.1 tt
+    called runs acts.0 acts.1 (tt, keeps_frame h number flips label s.named s.shows s.there.1 opens.opens.1.frame)
     (λ fair. absurd (never_so grids h number flips label labels.NotAppended (Err labels.NotAppended) refl
     s.left s.shows opens fair))
 opened_goes ranges capacities grids h d number capacity flips stop view mid label
     (Err (labels.Sequence word)) given s called opens order runs acts =
     unopened_goes ranges capacities grids h d number capacity flips stop view mid label
-    (labels.Sequence word) given s called runs acts.0 acts.1 tt
+    (labels.Sequence word) given s called runs acts.0 acts.1
+    (tt, keeps_frame h number flips label s.named s.shows s.there.1 opens.opens.1.frame)
     (λ fair. absurd (never_so grids h number flips label (labels.Sequence word) (Err (labels.Sequence word)) refl
     s.left s.shows opens fair))
 opened_goes ranges capacities grids h d number capacity flips stop view mid label
     (Err labels.FileId) given s called opens order runs acts =
     unopened_goes ranges capacities grids h d number capacity flips stop view mid label labels.FileId given s called
-    runs acts.0 acts.1 tt
+    runs acts.0 acts.1 (tt, keeps_frame h number flips label s.named s.shows s.there.1 opens.opens.1.frame)
     (λ fair. absurd (never_so grids h number flips label labels.FileId (Err labels.FileId) refl
     s.left s.shows opens fair))
 opened_goes ranges capacities grids h d number capacity flips stop view mid label
     (Err (labels.Content fault)) given s called opens order runs acts =
     unopened_goes ranges capacities grids h d number capacity flips stop view mid label
-    (labels.Content fault) given s called runs acts.0 acts.1 tt
+    (labels.Content fault) given s called runs acts.0 acts.1
+    (tt, keeps_frame h number flips label s.named s.shows s.there.1 opens.opens.1.frame)
     (λ fair. absurd (never_so grids h number flips label (labels.Content fault) (Err (labels.Content fault)) refl
     s.left s.shows opens fair))
 
@@ -769,7 +847,7 @@ called_goes {A} ranges capacities grids h d number capacity flips stop view mid 
         (desks.Running (desk_planned mid next_save.Fine))) (sym f.0)
         (refused_goes ranges capacities grids h d number capacity flips stop view mid label scan_fault.Failed s called
         f.1 (λ b. refl) (λ _ _. inl tt)
-        (sym s.runs.failed ∙ was) refl (λ fair. tt)))
+        (sym s.runs.failed ∙ was, tt) refl (λ fair. tt)))
     by_failed false was =
         (let x = accepts.scanned was in
         opened_goes ranges capacities grids h d number capacity flips stop view mid label x.opened given s called
@@ -853,7 +931,8 @@ stored_stopped {A} capacities grids h d number capacity flips stop view mid labe
             opened.page,
             page_of_label h number label opened.page s.shows.document s.named (fair opened opens was honest),
             subst (λ (c : ℕ). (answer c view.held opened.page ≡ Ok Again)
-                ⊎ ((answer c view.held opened.page ≡ Err scan_fault.Full) ⊎ LosesFrame h opened.page flips))
+                ⊎ ((answer c view.held opened.page ≡ Err scan_fault.Full)
+                ⊎ ((wrong : ℕ) × LosesFrame h number flips wrong)))
                 s.runs.capacity_is
                 (elim why [ inl again ↦ inl again | inr full ↦ inr (inl full) ]),
           ),
@@ -880,6 +959,7 @@ stored_stopped {A} capacities grids h d number capacity flips stop view mid labe
             (
               opened.page,
               page_of_label h number label opened.page s.shows.document s.named (fair opened opens was honest),
+              opened_frame h number flips label opened s.named s.shows s.there.1 opens,
               subst (λ (c : ℕ). NeedsSave (answer c view.held opened.page)) s.runs.capacity_is needs,
               refl,
             ),
@@ -918,17 +998,10 @@ stored_stopped {A} capacities grids h d number capacity flips stop view mid labe
         view.is_failed ≡ false →
         given ≡ Err (origin.scan_fault fault) →
         (let reply : Reply A = Stopped in IsClean grids (quiet event reply ∷ h) (AtDesk d)) →
-        LosesFrame h its_page flips
+        (wrong : ℕ) × LosesFrame h number flips wrong
     by_frame labels.Memory opens was is honest = absurd (had is)
     by_frame (labels.Border wrong) opens was is honest =
-        record {
-          cut = s.shows.document;
-          printed = s.shows.printed;
-          grid = label.grid;
-          size_is = s.shows.size_is;
-          none_wrong = ap wrong_frame_modules s.shows.carries.drawn ∙ frame_has_no_wrong_module _ _;
-          lost = λ good. let many = opens.opens.0 in omega (arith, good, many);
-        }
+        (wrong, loses_frame h number flips wrong label s.named s.shows s.there.1 opens.opens)
     by_frame (labels.Block block) opens was is honest =
         absurd (never_so grids h number flips label (labels.Block block) (Err (labels.Block block)) refl s.left s.shows
         opens (honest.0 refl may (sym s.runs.failed ∙ was)))
