@@ -11,7 +11,7 @@ use Rattle.dm_event_history.proofs.RefutedDocuments.{never_printed_is, wrong_doc
 use Rattle.dm_event_history.proofs.RefutedPrints.{printed_twice_is, printed_unseen_is, told_twice_is, wrong_of_two_is, refused_unprinted_is, missing_first_label_is, missing_after_a_refused_give_is, missing_label_is, scanned_outside_is, printed_after_forgotten_is, saved_though_failed_is, printed_of_another_is, left_though_failed_is, never_left_is, printed_beyond_is}
 use Rattle.dm_event_history.proofs.RefutedPages.{import_conflicting_is, full_at_first_is, import_full_at_first_is, full_with_one_is, held_and_missing_is, forgotten_elsewhere_is, forgotten_twice_is, again_at_first_is, new_twice_is, new_at_last_is, complete_at_first_is, missing_though_held_is, given_elsewhere_is, lost_by_a_refused_forget_is, imported_at_last_is, exported_in_part_is, added_again_is, refused_label_is, refused_for_nothing_is, refused_frame_is, conflicting_label_is}
 use Rattle.dm_event_history.proofs.RefutedFrames.{refused_by_five_flips_is, counted_short_is, read_without_frame_is, taken_without_frame_is}
-use Rattle.dm_event_history.proofs.RefutedTainted.{exported_nothing_is, exported_third_of_two_is, wrong_after_a_refused_scan_is, wrong_after_a_failed_scan_is, wrong_after_a_failed_import_is, wrong_untainted}
+use Rattle.dm_event_history.proofs.RefutedTainted.{forgotten_without_memory_is, imported_without_memory_is, exported_nothing_is, exported_third_of_two_is, wrong_after_a_refused_scan_is, wrong_after_a_failed_scan_is, wrong_after_a_failed_import_is, wrong_untainted}
 use Rattle.dm_event_history.proofs.RefutedReplies.{third_of_two_is, one_of_17_is, of_no_identification_is, memory_of_a_label_is, import_damaged_is, import_of_a_version_is, import_of_no_pages_is, another_call_is, stopped_unasked_is, forgotten_with_a_fault_is, scanned_though_stopped_is, failed_without_a_fault_is, damaged_by_itself_is, answered_while_down_is, down_unstopped_is, failed_before_a_fault_is, given_though_failed_is, given_to_itself_is, refused_range_is, refused_receiver_is, given_to_another_is, missing_printer_is, third_desk_is}
 use Rattle.dm_event_history.proofs.RefutedTickets.{numbered_twice_is, taken_though_kept_is, taken_twice_is, overlaps_is, one_serial_is, given_falling_is, taken_though_old_is, taken_below_old_is, taken_elsewhere_is, numbered_above_is, taken_falling_is, old_at_first_is, old_after_a_lower_is, old_by_another_giver_is, old_by_another_ticket_is, old_unsaved_is, old_though_failed_is, refused_ungiven_is, missing_ticket_is}
 use Rattle.dm_event_history.proofs.RefutedExports.{imported_another_document_is, imported_none_of_another_is, imported_another_page_is, exported_twice_is, exported_above_is, refused_unexported_is, missing_export_is}
@@ -110,6 +110,8 @@ are_unfaithful A = record {
   too_long_of_few_is = too_long_of_few_is A;
   exported_nothing_is = exported_nothing_is A;
   exported_third_of_two_is = exported_third_of_two_is A;
+  forgotten_without_memory_is = forgotten_without_memory_is A;
+  imported_without_memory_is = imported_without_memory_is A;
   refused_two_ways_is = refused_two_ways_is A;
   wrong_after_a_refused_scan_is = wrong_after_a_refused_scan_is A;
   wrong_after_a_failed_scan_is = wrong_after_a_failed_scan_is A;

@@ -92,6 +92,8 @@ may_reply ranges h id left (Import d export stop) (ImportRefused fault) fine sto
 may_reply ranges h id left event Stopped fine stopped down = stopped refl
 may_reply ranges h id left event Down fine stopped down = down refl
 may_reply ranges h id left event NoSuch fine stopped down = tt
+may_reply ranges h id left (Forget d name stop) Memory fine stopped down = fine.0
+may_reply ranges h id left (Import d export stop) Memory fine stopped down = fine.0
 may_reply ranges h id left event Memory fine stopped down = fine
 may_reply ranges h id left event reply fine stopped down = absurd fine
 

@@ -228,6 +228,10 @@ MayLackMemory (Take printer ticket stop) = stops_after_save (Some stop) ≡ true
 MayLackMemory (Import desk export stop) = stops_after_save (Some stop) ≡ true
 MayLackMemory event = Unit {0}
 
+-- A forget or an import that was to be stopped after its save lacks memory for that: so its desk had not failed.
+abbrev pub LacksForItsSave : {A : Type 0} → History A → ℕ → Stop → Type 0
+LacksForItsSave before desk stop = (stops_after_save (Some stop) ≡ true) × (is_failed before (DeskAt desk) ≡ false)
+
 -- The reply is one to the event: what is so where it is given. `New` and `Complete` are told only if nothing was to
 -- happen to the call. Whether a label is refused for its finder patterns depends on its size and the flips alone,
 -- whichever desk it is. A printer or a desk over its own store is refused its restart for memory alone.
@@ -269,6 +273,8 @@ IsReply ranges before id left (Import desk export stop) (ImportRefused fault) = 
 IsReply ranges before id left (Import desk export stop) Stopped = Unit {0}
 IsReply ranges before id left event Down = Unit {0}
 IsReply ranges before id left event NoSuch = Unit {0}
+IsReply ranges before id left (Forget desk name stop) Memory = LacksForItsSave before desk stop
+IsReply ranges before id left (Import desk export stop) Memory = LacksForItsSave before desk stop
 IsReply ranges before id left event Memory = MayLackMemory event
 -- no other reply is given
 IsReply ranges before id left event reply = ⊥

@@ -886,6 +886,14 @@ exported_so A mask =
     (Scan 0 0 ((0, 0) ∷ []) None, false, Scanned (page 9 1 New)) ∷
     (Export 0 9, true, Exported 0 9 2 mask) ∷ []
 
+-- `explained`, of a desk that is tainted: it has failed, and answers that it lacks memory for a call that saves
+abbrev pub lacking_though_failed : (A : Type 0) → Event A → MarkedRun A
+lacking_though_failed A event =
+    (print 0 digits None, true, Printed 0 0 2) ∷
+    (Scan 0 0 ((0, 0) ∷ []) None, false, Scanned (page 9 1 New)) ∷
+    (Export 0 9, true, Exported 0 9 2 1) ∷
+    (Scan 0 0 ((0, 0) ∷ []) (SaveFault kept.Old), false, ScanRefused scan_fault.Save) ∷ (event, true, Memory) ∷ []
+
 -- `held`, of a desk that is not tainted: it refuses a tainted export for a conflict with the page that it holds, and
 -- then for want of memory to save a page of it
 abbrev pub refused_two_ways : (A : Type 0) → MarkedRun A
@@ -1027,6 +1035,8 @@ pub record AreUnfaithful (A : Type 0) : Type 0 where
   pub too_long_of_few_is : ¬ IsFaithfulRun (too_long_of_few A)
   pub exported_nothing_is : ¬ IsFaithfulMarked (exported_so A 0)
   pub exported_third_of_two_is : ¬ IsFaithfulMarked (exported_so A 4)
+  pub forgotten_without_memory_is : ¬ IsFaithfulMarked (lacking_though_failed A (Forget 0 9 (AfterLabels 0)))
+  pub imported_without_memory_is : ¬ IsFaithfulMarked (lacking_though_failed A (Import 0 0 (AfterLabels 0)))
   pub refused_two_ways_is : ¬ IsFaithfulMarked (refused_two_ways A)
   pub wrong_after_a_refused_scan_is : ¬ IsFaithfulMarked (wrong_after_a_refused_scan A)
   pub wrong_after_a_failed_scan_is : ¬ IsFaithfulMarked (wrong_after_a_failed_scan A)

@@ -383,7 +383,7 @@ forget_goes {A} ranges capacities grids h d id capacity stop view reply state th
     (stopped_goes ranges capacities grids h d id capacity stop view state there room s stopped.1)
 forget_goes ranges capacities grids h d id capacity stop view reply state there room s (inr (inr lacks)) =
     memory_goes ranges capacities grids h (Forget d id stop) d capacity view reply state room s refl there
-    (refl, lacks.1.to_be_stopped) (λ i m t. t) (λ i x. x)
+    (refl, (lacks.1.to_be_stopped, sym s.failed ∙ none.1)) (λ i m t. t) (λ i x. x)
     (sym s.failed ∙ none.1, none.2, refl) tt tt lacks.0
     (lacks_same stop _ view state s.store.ready
     (λ mid call. (none_forgotten id (desk_planned view next_save.Fine) mid call).0) lacks.1)

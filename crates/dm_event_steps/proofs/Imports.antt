@@ -805,7 +805,7 @@ import_goes {A} ranges capacities grids h d number capacity stop view export rep
     (stopped_goes ranges capacities grids h d number capacity stop view export state s stopped.1)
 import_goes ranges capacities grids h d number capacity stop view export reply state s (inr (inr lacks)) =
     memory_goes ranges capacities grids h (Import d number stop) d capacity view reply state s.room s.runs refl s.there
-    (refl, lacks.1.to_be_stopped) (λ i m t. t) (λ i x. x) (
+    (refl, (lacks.1.to_be_stopped, sym s.runs.failed ∙ none.1)) (λ i m t. t) (λ i x. x) (
       sym s.runs.failed ∙ none.1,
       export.id,
       s.shows.pages,
