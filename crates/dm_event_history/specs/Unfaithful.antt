@@ -1,5 +1,5 @@
 -- Runs that are not as they should be, each one step from a run that is: the definitions of the headline alone refuse
--- them. Each would be allowed without the field that its comment names; if that field follows from others, without
+-- them. Each would be allowed without the fields that its comment names; if one of these follows from others, without
 -- these too. There are two printers, which begin with 0 to 9 and with 10 to 19, and two desks, each with room for two
 -- documents. Documents of four digits are printed in labels of side 12.
 use Rattle.std.specs.Prelude.{◌≡◌, ℕ, Bool, true, false, Option, List, [], ◌∷◌, map}
@@ -187,7 +187,8 @@ begun_unscanned A = (print 0 digits None, Printed 0 0 2) ∷ (Ask 0 0, AskRefuse
 abbrev pub exported_unscanned : (A : Type 0) → Run A
 exported_unscanned A = (print 0 digits None, Printed 0 0 2) ∷ (Export 0 0, Exported 0 0 2 1) ∷ []
 
--- `forgotten`: what was forgotten shows that a label left under an identification that is then printed again
+-- `explained`, and `once` with `forgotten`: what was forgotten shows that a label left under an identification that is
+-- then printed again
 abbrev pub printed_after_forgotten : (A : Type 0) → Run A
 printed_after_forgotten A =
     (print 0 digits (AfterLabels 1), Stopped) ∷

@@ -27,15 +27,15 @@ is_shown_for_good A (batches, f) = by_batches batches f
     -- the scan is of label 0
     had : (batches : List (Option Batch)) →
         IsFaithfulIfHonestBy two_ranges two_desks batches (shown_events A) (shown_answers A) →
-        slice_get (labels_of (take 1 batches)) 0 ≡ Some (record { id = 7; number = 1; count = 2 })
+        slice_get (labels_of (take 1 batches)) 0 ≡ Some (record { id = 0; number = 1; count = 2 })
     had batches f =
         let s : IsScanOf batches (given (shown_events A) (shown_answers A)) 1
-        (record { id = 7; number = 1; count = 2 }) =
-        f.faithful.scanned 1 0 0 [] stops.None (record { id = 7; m = 1; n = 2; kind = New }) refl refl refl in
+        (record { id = 0; number = 1; count = 2 }) =
+        f.faithful.scanned 1 0 0 [] stops.None (record { id = 0; m = 1; n = 2; kind = New }) refl refl refl in
         let e : Some (Scan 0 0 [] stops.None) ≡ Some (Scan s.desk s.label s.flips s.stop) = s.event in
         let label_is : 0 ≡ s.label = cc (e) in
         subst (λ (i : ℕ). slice_get (labels_of (take 1 batches)) i ≡ Some (record {
-          id = 7;
+          id = 0;
           number = 1;
           count = 2;
         })) (sym label_is) s.had_left
@@ -46,9 +46,9 @@ is_shown_for_good A (batches, f) = by_batches batches f
     by_batches (None ∷ rest) f = (let x = had (None ∷ rest) f in cc (x))
     by_batches (Some batch ∷ rest) f =
         let p = f.faithful.prints.printed 0 batch refl in
-        let own : batch.id ≡ 7 =
-        first_label batch [] (record { id = 7; number = 1; count = 2 }) p.not_none (had (Some batch ∷ rest) f) in
-        let t = f.faithful.prints.told 4 7 1 2 refl in
+        let own : batch.id ≡ 0 =
+        first_label batch [] (record { id = 0; number = 1; count = 2 }) p.not_none (had (Some batch ∷ rest) f) in
+        let t = f.faithful.prints.told 4 0 1 2 refl in
         let place : ◌≡◌ {A = ℕ} 0 4 = f.faithful.prints.once 0 4 batch t.batch refl t.there (own ∙ sym t.id_is) in
         omega arith
 

@@ -16,8 +16,8 @@ use Rattle.dm_event_world.specs.Watched.{IsFaithfulIfHonest}
 
 -- ---- after a dishonest scan
 
--- A scan that was honest shows that a label of the first print left under identification 7. After one that was not,
--- and told of another page, the second is told to be printed under 7 too, by the same printer.
+-- A scan that was honest shows that a label of the first print left under identification 0. After one that was not,
+-- and told of another page, the second is told to be printed under 0 too, by the same printer.
 abbrev pub shown_events : (A : Type 0) → List (Event A)
 shown_events A =
     print 0 digits (AfterLabels 1) ∷
@@ -28,9 +28,9 @@ shown_events A =
 abbrev pub shown_answers : (A : Type 0) → List (Answer A)
 shown_answers A =
     Given true Stopped ∷
-    Given true (Scanned (page 7 1 New)) ∷
+    Given true (Scanned (page 0 1 New)) ∷
     Given false (Scanned (page 9 1 New)) ∷
-    Given true Restarted ∷ Given true (Printed 7 1 2) ∷ []
+    Given true Restarted ∷ Given true (Printed 0 1 2) ∷ []
 
 -- what was shown while the scans were honest is shown for good
 abbrev pub IsShownForGood : Type 0 → Type 0
