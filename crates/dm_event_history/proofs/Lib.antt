@@ -34,6 +34,7 @@ pub mod RefutedLedgers
 pub mod RefutedHoldings
 pub mod RefutedScans
 pub mod RefutedFrames
+pub mod RefutedStops
 pub mod RefutedImports
 pub mod Refuting
 pub mod RefutedDocuments

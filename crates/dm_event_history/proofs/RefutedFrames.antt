@@ -20,7 +20,7 @@ use Rattle.dm_event_history.specs.History.{History, Entry}
 use Rattle.dm_event_history.specs.Tainted.{AtDesk}
 use Rattle.dm_event_history.specs.Held.{Holding, both, DidWhatItCould, CanHold}
 use Rattle.dm_event_history.specs.Headline.{WasFoundHonest}
-use Rattle.dm_event_history.specs.Unfaithful.{IsFaithfulRun, five_flips, six_flips, refused_by_five_flips, counted_short, read_without_frame, taken_without_frame}
+use Rattle.dm_event_history.specs.Unfaithful.{Run, IsFaithfulRun, after_a_stop, five_flips, six_flips, refused_by_five_flips, counted_short, read_without_frame}
 use Rattle.dm_event_history.proofs.Explained.{Hidden, known}
 use Rattle.dm_event_history.proofs.Refuting.{IsBehind, marks}
 use Rattle.dm_event_history.proofs.RefutedHoldings.{no_holding, IsHeldAfter, nothing}
@@ -41,7 +41,7 @@ six_wrong : (size : Size) → size ≡ Side12 → wrong_after six_flips size ≡
 six_wrong size is = ap (wrong_after six_flips) is ∙ six_are_wrong
 
 -- five are no more than an eighth
-five_are_few : (size : Size) → size ≡ Side12 → frame_module_count size < 8 * wrong_after five_flips size → ⊥
+pub five_are_few : (size : Size) → size ≡ Side12 → frame_module_count size < 8 * wrong_after five_flips size → ⊥
 unfolding row
 five_are_few size is many =
     let five : wrong_after five_flips size ≡ 5 = ap (wrong_after five_flips) is ∙ five_are_wrong in
@@ -83,12 +83,17 @@ read_without_frame_is A = no_history (read_without_frame A) by_hidden
         six_are_many keeps.document.size (printed_small A x keeps.name.id keeps.document keeps.printed) keeps.is_such
     by_hidden hidden count legal = absurd (omega arith)
 
-pub taken_without_frame_is : (A : Type 0) → ¬ IsFaithfulRun (taken_without_frame A)
+-- the run of a stopped scan of a label without them
+abbrev run : (A : Type 0) → Run A
+run A = after_a_stop A six_flips (Ask 0 0) (AskRefused (Incomplete 2))
+
+pub taken_without_frame_is : (A : Type 0) →
+    ¬ IsFaithfulRun (after_a_stop A six_flips (Ask 0 0) (AskRefused (Incomplete 2)))
 taken_without_frame_is A =
-    no_holding (taken_without_frame A) 4 (omega arith) (untainted (taken_without_frame A) 4 (AtDesk 0)) by_hidden
+    no_holding (run A) 4 (omega arith) (untainted (run A) 4 (AtDesk 0)) by_hidden
   where
     found : History A → Event A → Type 0
-    found = WasFoundHonest (marks (taken_without_frame A))
+    found = WasFoundHonest (marks (run A))
 
     two : Hidden → Entry A
     two x = known (Scan 0 0 six_flips (stops.InSave kept.New)) Stopped x
@@ -134,7 +139,7 @@ taken_without_frame_is A =
         in cc (as_none)
     asked a b c d h (inr x) = x.0 refl
 
-    by_hidden : (hidden : List Hidden) → length hidden ≡ 4 → IsBehind (taken_without_frame A) hidden →
-        (holding : Holding) → IsHeldAfter (taken_without_frame A) 4 hidden holding → ⊥
+    by_hidden : (hidden : List Hidden) → length hidden ≡ 4 → IsBehind (run A) hidden →
+        (holding : Holding) → IsHeldAfter (run A) 4 hidden holding → ⊥
     by_hidden (a ∷ b ∷ c ∷ d ∷ []) count legal holding can = asked a b c d holding can
     by_hidden hidden count legal holding can = absurd (omega arith)

@@ -7,7 +7,6 @@ use Rattle.std.specs.Cmp.{nat_cmp_total}
 use Rattle.std.specs.Ordering.{nat_cmp}
 use Rattle.std.proofs.lemmas.Bool.Decides.{nat_tests}
 use Rattle.dm_append_label.specs.Pages.{PageView}
-use Rattle.dm_store.specs.declared.fuse.Kept.TheVariants as kept
 use Rattle.dm_assembly_desk.specs.Pages.{Pages, missing_mask}
 use Rattle.dm_assembly_desk.specs.Documents.{Documents, with_page, pages_with}
 use Rattle.dm_assembly_desk.specs.Answers.{Answer, answer, answer_at}
@@ -16,25 +15,22 @@ use Rattle.dm_assembly_desk.specs.declared.reply.Kind.TheVariants.{New}
 use Rattle.dm_assembly_desk.specs.declared.fault.AskFault.TheVariants.{NotHeld, Incomplete}
 use Rattle.dm_assembly_desk.specs.declared.fault.ScanFault.TheVariants as scan_fault
 use Rattle.dm_event_history.specs.declared.event.Event.{Event}
-use Rattle.dm_event_history.specs.declared.event.Event.TheVariants.{Scan, RestartDesk, Ask, Forget}
 use Rattle.dm_event_history.specs.declared.reply.Reply.{Reply}
-use Rattle.dm_event_history.specs.declared.reply.Reply.TheVariants.{Printed, Scanned, AskRefused, Restarted, Stopped}
-use Rattle.dm_event_history.specs.declared.stop.Stop.{Stop}
+use Rattle.dm_event_history.specs.declared.reply.Reply.TheVariants.{Printed, Scanned}
 use Rattle.dm_event_history.specs.declared.stop.Stop.TheVariants as stops
 use Rattle.dm_event_history.specs.History.{History, Entry, LabelName, names_from}
 use Rattle.dm_event_history.specs.Tainted.{AtDesk, IsTainted}
-use Rattle.dm_event_history.specs.Held.{Holding, both, IsPageOfLabel, DidWhatItCould, CanHold, first_entries}
+use Rattle.dm_event_history.specs.Held.{Holding, both, CanHold, first_entries}
 use Rattle.dm_event_history.specs.Headline.{WasFoundHonest}
 use Rattle.dm_event_history.specs.Worked.{digits, two_ranges}
-use Rattle.dm_event_history.specs.Unfaithful.{Run, IsFaithfulRun, IsFaithfulMarked, print, scan, page, lost_by_a_stop, held_though_forgotten, beyond_its_room, full_of_nothing}
-use Rattle.dm_event_history.proofs.HeldDocuments.{get_same, get_other, get_removed}
+use Rattle.dm_event_history.specs.Unfaithful.{Run, IsFaithfulRun, IsFaithfulMarked, print, scan, page, beyond_its_room, full_of_nothing}
+use Rattle.dm_event_history.proofs.HeldDocuments.{get_same, get_other}
 use Rattle.dm_event_history.proofs.Refuting.{IsBehind, marks}
 use Rattle.dm_event_history.proofs.Tainting.{untainted, untainted_by}
 use Rattle.dm_event_history.proofs.Explained.{Hidden, known, history_of, behind_run}
 use Rattle.std.specs.List.{list_all}
 use Rattle.dm_assembly_desk.specs.declared.fault.AskFault.{AskFault}
 use Rattle.dm_event_history.proofs.Batches.{name_at}
-use Rattle.dm_event_history.proofs.SameFrames.{no_more_wrong}
 
 -- what desk 0 may hold after that many events of a run
 abbrev pub IsHeldAfter : {A : Type 0} → Run A → ℕ → List Hidden → Holding → Type 0
@@ -106,19 +102,6 @@ with_page_held held p id same none =
     let some : finite.get (with_page held p) id ≡ Some (pages_with held p) =
     ap (finite.get (with_page held p)) (sym same) ∙ get_same held p.id (pages_with held p) in cc (some, none)
 
--- nothing is held after a stopped scan but its page
-took_first : {A : Type 0} (before : History A) (desk label : ℕ) (stop : Stop) (new : Holding) →
-    DidWhatItCould 2 before (Scan desk label [] stop) (both nothing) new →
-    (p : PageView) × IsPageOfLabel before label p × (new ≡ both (with_page nothing p))
-took_first before desk label stop new (inl (content, took, is)) =
-    (took.0, took.1, is ∙ ap both took.4)
-took_first before desk label stop new (inr ((p, of_label, inl again), is)) =
-    (let first = first_is_new p in absurd (cc (again, first)))
-took_first before desk label stop new (inr ((p, of_label, inr (inl full)), is)) =
-    (let first = first_is_new p in absurd (cc (full, first)))
-took_first before desk label stop new (inr ((p, of_label, inr (inr loses)), is)) =
-    absurd (let none = no_more_wrong [] loses.1.document.size in let many = loses.1.is_such.0 in omega arith)
-
 -- what an ask tells as not held is not
 pub not_held : (o : Option Pages) → Asks {X = List ℕ} (λ given. given) o (Err NotHeld) → o ≡ None
 not_held None asks = refl
@@ -133,113 +116,6 @@ not_held (Some pages) asks = by_all (list_all is_some pages) asks
 pub label_is : (x : Hidden) (name : LabelName) → 0 ≡ x.0 →
     slice_get (names_from x.0 (length x.1) 1 x.2) 0 ≡ Some name → name.id ≡ 0
 label_is x name own is = (name_at x.0 (length x.1) 1 x.2 0 name is).1 ∙ sym own
-
-pub lost_by_a_stop_is : (A : Type 0) → ¬ IsFaithfulRun (lost_by_a_stop A)
-lost_by_a_stop_is A =
-    no_holding (lost_by_a_stop A) 4 (omega arith) (untainted (lost_by_a_stop A) 4 (AtDesk 0)) by_hidden
-  where
-    found : History A → Event A → Type 0
-    found = WasFoundHonest (marks (lost_by_a_stop A))
-
-    one : Hidden → Entry A
-    one x = known (print 0 digits stops.None) (Printed 0 0 2) x
-
-    two : Hidden → Entry A
-    two x = known (Scan 0 0 [] (stops.InSave kept.New)) Stopped x
-
-    three : Hidden → Entry A
-    three x = known (RestartDesk 0) Restarted x
-
-    four : Hidden → Entry A
-    four x = known (Ask 0 0) (AskRefused NotHeld) x
-
-    at_first : (a : Hidden) (h : Holding) → CanHold found 2 (one a ∷ []) 0 h → h ≡ both nothing
-    at_first a h (inl x) = (let named = x.0 in absurd (cc (named)))
-    at_first a h (inr x) = x.1
-
-    stopped : (a b : Hidden) → 0 ≡ a.0 → (h : Holding) → CanHold found 2 (two b ∷ one a ∷ []) 0 h →
-        finite.get h.stored 0 ≡ None → ⊥
-    stopped a b own h (inl x) none =
-        let took = took_first (one a ∷ []) 0 0 (stops.InSave kept.New) h
-        (subst (λ (k : Holding). DidWhatItCould 2 (one a ∷ []) (Scan 0 0 [] (stops.InSave kept.New)) k h)
-        (at_first a x.1 x.2) x.3) in
-        with_page_held nothing took.0 0 (label_is a _ own took.1.has_left)
-        (ap (λ (k : Holding). finite.get k.stored 0) (sym took.2) ∙ none)
-    stopped a b own h (inr x) none = x.0 refl
-
-    restarted : (a b c : Hidden) → 0 ≡ a.0 → (h : Holding) → CanHold found 2 (three c ∷ two b ∷ one a ∷ []) 0 h →
-        finite.get h.shown 0 ≡ None → ⊥
-    restarted a b c own h (inl x) none =
-        stopped a b own x.1 x.2 (ap (λ (k : Holding). finite.get k.shown 0) (sym x.3) ∙ none)
-    restarted a b c own h (inr x) none = x.0 refl
-
-    asked : (a b c d : Hidden) → 0 ≡ a.0 → (h : Holding) →
-        CanHold found 2 (four d ∷ three c ∷ two b ∷ one a ∷ []) 0 h → ⊥
-    asked a b c d own h (inl x) = restarted a b c own x.1 x.2 (not_held (finite.get x.1.shown 0) x.3.0)
-    asked a b c d own h (inr x) = x.0 refl
-
-    by_hidden : (hidden : List Hidden) → length hidden ≡ 4 → IsBehind (lost_by_a_stop A) hidden → (holding : Holding) →
-        IsHeldAfter (lost_by_a_stop A) 4 hidden holding → ⊥
-    by_hidden (a ∷ b ∷ c ∷ d ∷ []) count legal holding can =
-        asked a b c d legal.1.1.1.0.reply.name_is holding can
-    by_hidden hidden count legal holding can = absurd (omega arith)
-
-pub held_though_forgotten_is : (A : Type 0) → ¬ IsFaithfulRun (held_though_forgotten A)
-held_though_forgotten_is A =
-    no_holding (held_though_forgotten A) 5 (omega arith) (untainted (held_though_forgotten A) 5 (AtDesk 0)) by_hidden
-  where
-    found : History A → Event A → Type 0
-    found = WasFoundHonest (marks (held_though_forgotten A))
-
-    one : Hidden → Entry A
-    one x = known (print 0 digits stops.None) (Printed 0 0 2) x
-
-    two : Hidden → Entry A
-    two x = known (scan 0) (Scanned (page 0 1 New)) x
-
-    three : Hidden → Entry A
-    three x = known (Forget 0 0 (stops.AfterLabels 0)) Stopped x
-
-    four : Hidden → Entry A
-    four x = known (RestartDesk 0) Restarted x
-
-    five : Hidden → Entry A
-    five x = known (Ask 0 0) (AskRefused (Incomplete 2)) x
-
-    -- after a scan that is told a desk shows what its set holds
-    scanned : (a b : Hidden) (h : Holding) → CanHold found 2 (two b ∷ one a ∷ []) 0 h → h.stored ≡ h.shown
-    scanned a b h (inl x) =
-        let is = x.3.4 in ap (λ (k : Holding). k.stored) is ∙ sym (ap (λ (k : Holding). k.shown) is)
-    scanned a b h (inr x) = absurd (x.0 refl)
-
-    forgotten : (a b c : Hidden) (h : Holding) → CanHold found 2 (three c ∷ two b ∷ one a ∷ []) 0 h →
-        finite.get h.stored 0 ≡ None
-    forgotten a b c h (inl x) = elim x.3 [
-      | inl let_go ↦ ap (λ (k : Holding). finite.get k.stored 0) let_go.2 ∙
-          ap (λ (d : Documents). finite.get d 0) let_go.1.1 ∙ get_removed x.1.shown 0
-      | inr none ↦ ap (λ (k : Holding). finite.get k.stored 0) none.1 ∙
-          ap (λ (d : Documents). finite.get d 0) (scanned a b x.1 x.2) ∙ none.0
-    ]
-    forgotten a b c h (inr x) = absurd (x.0 refl)
-
-    restarted : (a b c d : Hidden) (h : Holding) → CanHold found 2 (four d ∷ three c ∷ two b ∷ one a ∷ []) 0 h →
-        finite.get h.shown 0 ≡ None
-    restarted a b c d h (inl x) =
-        ap (λ (k : Holding). finite.get k.shown 0) x.3 ∙ forgotten a b c x.1 x.2
-    restarted a b c d h (inr x) = absurd (x.0 refl)
-
-    asked : (a b c d e : Hidden) (h : Holding) →
-        CanHold found 2 (five e ∷ four d ∷ three c ∷ two b ∷ one a ∷ []) 0 h → ⊥
-    asked a b c d e h (inl x) =
-        (let told : ◌≡◌ {A = Result (List ℕ) AskFault} (Err (Incomplete 2)) (Err NotHeld) =
-        subst (λ (o : Option Pages). Asks {X = List ℕ} (λ given. given) o (Err (Incomplete 2)))
-        (restarted a b c d x.1 x.2) x.3.0 in cc (told))
-    asked a b c d e h (inr x) = x.0 refl
-
-    by_hidden : (hidden : List Hidden) → length hidden ≡ 5 → IsBehind (held_though_forgotten A) hidden →
-        (holding : Holding) → IsHeldAfter (held_though_forgotten A) 5 hidden holding → ⊥
-    by_hidden (a ∷ b ∷ c ∷ d ∷ e ∷ []) count legal holding can = asked a b c d e holding can
-    by_hidden hidden count legal holding can = absurd (omega arith)
 
 pub beyond_its_room_is : (A : Type 0) → ¬ IsFaithfulRun (beyond_its_room A)
 beyond_its_room_is A =

@@ -11,7 +11,7 @@ use Rattle.dm_event_history.specs.declared.reply.Reply.TheVariants.{Scanned, Sca
 use Rattle.dm_event_history.specs.declared.stop.Stop.TheVariants as stops
 use Rattle.dm_print_ledger.specs.declared.fault.GiveFault.TheVariants as give_fault
 use Rattle.dm_event_history.specs.Worked.{digits, range}
-use Rattle.dm_event_history.specs.Unfaithful.{scanned_as, memory_of_a_label, given_to_another, AreRepliesRun, scan, page, ticket, another_call, stopped_unasked, forgotten_with_a_fault, scanned_though_stopped, failed_without_a_fault, damaged_by_itself, answered_while_down, down_unstopped, failed_before_a_fault, given_though_failed, missing_printer, refused_import, given_to_itself, refused_range, refused_receiver, third_desk, print}
+use Rattle.dm_event_history.specs.Unfaithful.{scanned_as, memory_of_a_label, scanned_with_a_fault, given_to_another, AreRepliesRun, scan, page, ticket, another_call, stopped_unasked, forgotten_with_a_fault, scanned_though_stopped, failed_without_a_fault, damaged_by_itself, answered_while_down, down_unstopped, failed_before_a_fault, given_though_failed, missing_printer, refused_import, given_to_itself, refused_range, refused_receiver, third_desk, print}
 
 pub import_damaged_is : (A : Type 0) → ¬ AreRepliesRun (refused_import A import_fault.Damaged)
 import_damaged_is A r = (r.each 3 (Import 1 0 stops.None) (ImportRefused import_fault.Damaged) refl refl).may
@@ -107,3 +107,18 @@ missing_printer_is A r =
 
 pub third_desk_is : (A : Type 0) → ¬ AreRepliesRun (third_desk A)
 third_desk_is A r = (let below : 2 < 2 = r.there 0 (RestartDesk 2) Restarted refl refl (λ x. cc (x)) in omega arith)
+
+pub page_0_of_two_is : (A : Type 0) → ¬ AreRepliesRun (scanned_as A 0 0 2)
+page_0_of_two_is A r =
+    let first : 1 ≤ 0 = (r.each 0 (Scan 0 0 ((0, 0) ∷ []) stops.None)
+    (Scanned (record { id = 0; m = 0; n = 2; kind = New })) refl refl).may.is_head.first in omega arith
+
+pub one_of_one_is : (A : Type 0) → ¬ AreRepliesRun (scanned_as A 0 1 1)
+one_of_one_is A r =
+    let least : 2 ≤ 1 = (r.each 0 (Scan 0 0 ((0, 0) ∷ []) stops.None)
+    (Scanned (record { id = 0; m = 1; n = 1; kind = New })) refl refl).may.is_head.least in omega arith
+
+pub scanned_with_a_fault_is : (A : Type 0) → ¬ AreRepliesRun (scanned_with_a_fault A)
+scanned_with_a_fault_is A r =
+    let x : stops.SaveFault kept.Old ≡ stops.None = (r.each 0 (Scan 0 0 ((0, 0) ∷ []) (stops.SaveFault kept.Old))
+    (Scanned (page 0 1 New)) refl refl).may.no_stop (λ x. cc) in cc (x)

@@ -20,43 +20,39 @@ use Rattle.dm_assembly_desk.specs.Pages.{Pages, page}
 use Rattle.dm_assembly_desk.specs.Documents.{Documents, with_page, pages_with}
 use Rattle.dm_assembly_desk.specs.Answers.{Answer, answer, answer_at, answer_at_page, NeedsSave}
 use Rattle.dm_assembly_desk.specs.declared.reply.Kind.TheVariants.{New, Again, Complete}
-use Rattle.dm_assembly_desk.specs.declared.fault.AskFault.TheVariants.{NotHeld}
 use Rattle.dm_assembly_desk.specs.declared.fault.ScanFault.{ScanFault}
 use Rattle.dm_assembly_desk.specs.declared.fault.ScanFault.TheVariants as scan_fault
 use Rattle.dm_event_history.specs.declared.event.Event.{Event}
-use Rattle.dm_event_history.specs.declared.event.Event.TheVariants.{Scan, RestartDesk, Ask}
+use Rattle.dm_event_history.specs.declared.event.Event.TheVariants.{Scan}
 use Rattle.dm_event_history.specs.declared.reply.Reply.{Reply}
-use Rattle.dm_event_history.specs.declared.reply.Reply.TheVariants.{Printed, Scanned, ScanRefused, AskRefused, Restarted, Stopped}
+use Rattle.dm_event_history.specs.declared.reply.Reply.TheVariants.{Printed, Scanned, ScanRefused}
 use Rattle.dm_event_history.specs.declared.stop.Stop.TheVariants as stops
 use Rattle.dm_event_history.specs.History.{History, Entry, CutDocument, names_from, prints_as, docs}
 use Rattle.dm_event_history.specs.Frames.{wrong_after}
 use Rattle.dm_event_history.specs.Legal.{IsLegal}
 use Rattle.dm_event_history.specs.Tainted.{AtDesk}
-use Rattle.dm_event_history.specs.Held.{MayBeRead, Holding, both, IsPageOfLabel, DidWhatItCould, CanHold, first_entries}
+use Rattle.dm_event_history.specs.Held.{MayBeRead, Holding, both, IsPageOfLabel, CanHold, first_entries}
 use Rattle.dm_event_history.specs.Headline.{WasFoundHonest}
 use Rattle.dm_event_history.specs.Worked.{digits, two_ranges}
 use Rattle.dm_event_history.specs.Unfaithful as runs
-use Rattle.dm_event_history.specs.Unfaithful.{IsFaithfulRun, IsFaithfulMarked, print, scan, IsFaithfulAlone, lost_by_a_flip, saved_though_shown, saved_though_perfect, saved_though_whole}
+use Rattle.dm_event_history.specs.Unfaithful.{IsFaithfulRun, IsFaithfulMarked, print, scan, IsFaithfulAlone, one_flip, conflict_of_nothing, full_though_perfect, saved_though_shown, saved_though_perfect, saved_though_whole}
 use Rattle.dm_event_history.proofs.Batches.{in_either, name_at}
 use Rattle.dm_event_history.proofs.Deciding.{same_or_other}
 use Rattle.dm_event_history.proofs.Explained.{Hidden, known, history_of, behind_run}
 use Rattle.dm_event_history.proofs.HeldDocuments.{get_same, get_other}
 use Rattle.dm_event_history.proofs.Refuting.{IsBehind, marks}
-use Rattle.dm_event_history.proofs.RefutedHoldings.{no_holding, one_more, IsHeldAfter, nothing, first_is_new, with_page_held, not_held, label_is}
+use Rattle.dm_event_history.proofs.RefutedHoldings.{no_holding, one_more, IsHeldAfter, nothing, first_is_new}
 use Rattle.dm_event_history.proofs.Tainting.{untainted, untainted_by}
 use Rattle.dm_event_history.proofs.SameFrames.{no_more_wrong}
 
--- ---- a stopped scan of which one module is flipped
-
-abbrev pub one_flip : List (ℕ × ℕ)
-one_flip = (0, 0) ∷ []
+-- ---- the finder patterns of a label of which one module is flipped
 
 -- a print of the digits, all of whose labels left
 abbrev pub first_print : {A : Type 0} → Hidden → Entry A
 first_print x = known (print 0 digits stops.None) (Printed 0 0 2) x
 
 -- of 44 modules of finder patterns one is wrong at most
-one_is_few : (size : Size) → size ≡ Side12 → frame_module_count size < 8 * wrong_after one_flip size → ⊥
+pub one_is_few : (size : Size) → size ≡ Side12 → frame_module_count size < 8 * wrong_after one_flip size → ⊥
 unfolding row
 one_is_few size is many =
     let few = no_more_wrong one_flip size in
@@ -74,76 +70,15 @@ printed_small A x id cut is = by_print (prints_as (first_print {A = A} x) id) is
     by_print true same = (let is_own : own ≡ cut = cc (same) in sym (ap (λ (c : CutDocument). c.size) is_own))
     by_print false same = absurd (cc (same))
 
--- a stopped scan of a first page, of which one module is flipped, takes it
-took_flipped : (A : Type 0) (x : Hidden) (new : Holding) →
-    (let h : History A = first_print x ∷ [] in
-    DidWhatItCould 2 h (Scan 0 0 one_flip (stops.InSave kept.New)) (both nothing) new) →
-    (let h : History A = first_print x ∷ [] in
-    (p : PageView) × IsPageOfLabel h 0 p × (new ≡ both (with_page nothing p)))
-took_flipped A x new (inl (content, took, is)) = (took.0, took.1, is ∙ ap both took.4)
-took_flipped A x new (inr ((p, of_label, inl again), is)) = (let first = first_is_new p in absurd (cc (again, first)))
-took_flipped A x new (inr ((p, of_label, inr (inl full)), is)) =
-    (let first = first_is_new p in absurd (cc (full, first)))
-took_flipped A x new (inr ((p, of_label, inr (inr loses)), is)) =
-    absurd (one_is_few loses.1.document.size (printed_small A x loses.1.name.id loses.1.document loses.1.printed)
-    loses.1.is_such.0)
-
-pub lost_by_a_flip_is : (A : Type 0) → ¬ IsFaithfulRun (lost_by_a_flip A)
-lost_by_a_flip_is A =
-    no_holding (lost_by_a_flip A) 4 (omega arith) (untainted (lost_by_a_flip A) 4 (AtDesk 0)) by_hidden
-  where
-    found : History A → Event A → Type 0
-    found = WasFoundHonest (marks (lost_by_a_flip A))
-
-    two : Hidden → Entry A
-    two x = known (Scan 0 0 one_flip (stops.InSave kept.New)) Stopped x
-
-    three : Hidden → Entry A
-    three x = known (RestartDesk 0) Restarted x
-
-    four : Hidden → Entry A
-    four x = known (Ask 0 0) (AskRefused NotHeld) x
-
-    at_first : (a : Hidden) (h : Holding) → CanHold found 2 (first_print a ∷ []) 0 h → h ≡ both nothing
-    at_first a h (inl x) = (let named = x.0 in absurd (cc (named)))
-    at_first a h (inr x) = x.1
-
-    stopped : (a b : Hidden) → 0 ≡ a.0 → (h : Holding) → CanHold found 2 (two b ∷ first_print a ∷ []) 0 h →
-        finite.get h.stored 0 ≡ None → ⊥
-    stopped a b own h (inl x) none =
-        let took = took_flipped A a h
-        (subst (λ (k : Holding). DidWhatItCould 2 (first_print a ∷ []) (Scan 0 0 one_flip (stops.InSave kept.New)) k h)
-        (at_first a x.1 x.2) x.3) in
-        with_page_held nothing took.0 0 (label_is a _ own took.1.has_left)
-        (ap (λ (k : Holding). finite.get k.stored 0) (sym took.2) ∙ none)
-    stopped a b own h (inr x) none = x.0 refl
-
-    restarted : (a b c : Hidden) → 0 ≡ a.0 → (h : Holding) →
-        CanHold found 2 (three c ∷ two b ∷ first_print a ∷ []) 0 h → finite.get h.shown 0 ≡ None → ⊥
-    restarted a b c own h (inl x) none =
-        stopped a b own x.1 x.2 (ap (λ (k : Holding). finite.get k.shown 0) (sym x.3) ∙ none)
-    restarted a b c own h (inr x) none = x.0 refl
-
-    asked : (a b c d : Hidden) → 0 ≡ a.0 → (h : Holding) →
-        CanHold found 2 (four d ∷ three c ∷ two b ∷ first_print a ∷ []) 0 h → ⊥
-    asked a b c d own h (inl x) = restarted a b c own x.1 x.2 (not_held (finite.get x.1.shown 0) x.3.0)
-    asked a b c d own h (inr x) = x.0 refl
-
-    by_hidden : (hidden : List Hidden) → length hidden ≡ 4 → IsBehind (lost_by_a_flip A) hidden → (holding : Holding) →
-        IsHeldAfter (lost_by_a_flip A) 4 hidden holding → ⊥
-    by_hidden (a ∷ b ∷ c ∷ d ∷ []) count legal holding can =
-        asked a b c d legal.1.1.1.0.reply.name_is holding can
-    by_hidden hidden count legal holding can = absurd (omega arith)
-
 -- ---- a page that is shown already
 
 -- the first label of a print of two
-record IsFirstOfTwo (id : ℕ) (p : PageView) : Type 0 where
-  id_is : p.id ≡ id
-  m_is : p.m ≡ 1
-  n_is : p.n ≡ 2
+pub record IsFirstOfTwo (id : ℕ) (p : PageView) : Type 0 where
+  pub id_is : p.id ≡ id
+  pub m_is : p.m ≡ 1
+  pub n_is : p.n ≡ 2
 
-first_of_print : (x : Hidden) (p : PageView) → 2 ≡ length x.1 →
+pub first_of_print : (x : Hidden) (p : PageView) → 2 ≡ length x.1 →
     slice_get (names_from x.0 (length x.1) 1 x.2) 0 ≡ Some (record { id = p.id; number = p.m; count = p.n }) →
     IsFirstOfTwo x.0 p
 first_of_print x p two is =
@@ -154,7 +89,7 @@ first_of_print x p two is =
     }
 
 -- the pages of a document of two, of which the first is held
-pages_are : (p : PageView) → p.m ≡ 1 → p.n ≡ 2 → pages_with nothing p ≡ Some p.bytes ∷ None ∷ []
+pub pages_are : (p : PageView) → p.m ≡ 1 → p.n ≡ 2 → pages_with nothing p ≡ Some p.bytes ∷ None ∷ []
 pages_are p m n =
     ap (λ (o : Option Pages). slice_set (unwrap_or o (replicate p.n None)) (p.m - 1) (Some p.bytes))
     (get-empty nat_cmp p.id) ∙
@@ -191,7 +126,7 @@ shown_already id p q own other needs = held_already held q p.bytes (subst NeedsS
         ap (λ (k : ℕ). answer_at_page held q (page held k)) other.m_is
 
 -- the first label is scanned, and its page told as taken
-abbrev scanned_first : {A : Type 0} → Hidden → Entry A
+abbrev pub scanned_first : {A : Type 0} → Hidden → Entry A
 scanned_first x = known (scan 0) (Scanned (runs.page 0 1 New)) x
 
 -- it is scanned again, with these modules flipped, and is not saved
@@ -289,10 +224,10 @@ refused_save fault (inl x) = cc (x)
 refused_save fault (inr x) = cc (x)
 
 -- the page is told so
-record IsTold (id m : ℕ) (p : PageView) : Type 0 where
-  id_is : p.id ≡ id
-  m_is : p.m ≡ m
-  n_is : p.n ≡ 2
+pub record IsTold (id m : ℕ) (p : PageView) : Type 0 where
+  pub id_is : p.id ≡ id
+  pub m_is : p.m ≡ m
+  pub n_is : p.n ≡ 2
 
 -- where both pages of a document are held, and there is room for no other, no page that a label can have needs a save
 whole_needs_none : (p r q : PageView) → IsTold 0 1 p → IsTold 0 2 r → IsHead (head_of q) →
@@ -412,3 +347,109 @@ saved_though_whole_is A (batches, f) =
         CanHold judged 1 (first_entries 4 (history_of events replies hidden [])) 0 holding → ⊥
     by_hidden (a ∷ b ∷ c ∷ d ∷ []) count holding can = refused a b c d holding can
     by_hidden hidden count holding can = absurd (omega arith)
+
+-- ---- refusals of scans that were not found honest
+
+pub conflict_of_nothing_is : (A : Type 0) → ¬ IsFaithfulMarked (conflict_of_nothing A)
+conflict_of_nothing_is A (batches, f) =
+    let b = behind_run two_ranges 4 batches events replies f.prints.explained in
+    let held = f.held 2 0 2 (omega arith) refl (untainted_by events found replies 2 (AtDesk 0) refl) in
+    by_hidden b.hidden b.count held.0
+    (subst (λ (h : History A). CanHold (WasFoundHonest found) 2 (first_entries 2 h) 0 held.0) (sym b.same) held.1)
+  where
+    events : List (Event A)
+    events = map (λ one. one.0) (conflict_of_nothing A)
+
+    found : List Bool
+    found = map (λ one. one.1) (conflict_of_nothing A)
+
+    replies : List (Reply A)
+    replies = map (λ one. one.2) (conflict_of_nothing A)
+
+    by_hidden : (hidden : List Hidden) → length hidden ≡ 2 → (holding : Holding) →
+        CanHold {A = A} (WasFoundHonest found) 2 (first_entries 2 (history_of events replies hidden [])) 0 holding → ⊥
+    by_hidden (a ∷ b ∷ []) count holding (inl (named, old, inl x, does)) = (let away = x.0 in absurd (cc (away)))
+    by_hidden (a ∷ b ∷ []) count holding (inl (named, old, inr x, does)) =
+        (let conflict = subst (λ (k : Holding). answer 2 k.shown does.0 ≡ Err scan_fault.Conflict) x.1 does.2 in
+        let new = first_is_new does.0 in
+        absurd (cc (conflict, new)))
+    by_hidden (a ∷ b ∷ []) count holding (inr x) = absurd (x.0 refl)
+    by_hidden hidden count holding can = absurd (omega arith)
+
+-- a page that is held is not refused as there is no room
+held_never_full : (pages : Pages) (q : PageView) (bytes : List ℕ) →
+    answer_at_page pages q (Some bytes) ≡ Err scan_fault.Full → ⊥
+held_never_full pages q bytes is = by_bytes (bytes_eq bytes q.bytes) is
+  where
+    by_bytes : (b : Bool) →
+        (let none : Answer = Err scan_fault.Conflict in let full : Answer = Err scan_fault.Full in
+        (if b then Ok Again else none) ≡ full) → ⊥
+    by_bytes true x = cc (x)
+    by_bytes false x = cc (x)
+
+shown_never_full : (id : ℕ) (p q : PageView) → IsFirstOfTwo id p → IsFirstOfTwo id q →
+    answer 1 (with_page nothing p) q ≡ Err scan_fault.Full → ⊥
+shown_never_full id p q own other full = held_never_full held q p.bytes (sym is ∙ full)
+  where
+    held : Pages
+    held = Some p.bytes ∷ None ∷ []
+
+    there : finite.get (with_page nothing p) q.id ≡ Some held
+    there = ap (finite.get (with_page nothing p)) (other.id_is ∙ sym own.id_is) ∙
+        get_same nothing p.id (pages_with nothing p) ∙ ap Some (pages_are p own.m_is own.n_is)
+
+    is : answer 1 (with_page nothing p) q ≡ answer_at_page held q (Some p.bytes)
+    is = ap (λ (o : Option Pages). answer_at 1 (finite.len (with_page nothing p)) q o) there ∙
+        ap (λ (k : ℕ). let none : Answer = Err scan_fault.Conflict in
+        if 2 == k then answer_at_page held q (page held q.m) else none) other.n_is ∙
+        ap (λ (k : ℕ). answer_at_page held q (page held k)) other.m_is
+
+pub full_though_perfect_is : (A : Type 0) → ¬ IsFaithfulAlone (full_though_perfect A)
+full_though_perfect_is A (batches, f) =
+    let b = behind_run two_ranges 1 batches events replies f.prints.explained in
+    let held = f.held 3 0 1 (omega arith) refl (untainted_by events found replies 3 (AtDesk 0) refl) in
+    by_hidden b.hidden b.count b.legal held.0
+    (subst (λ (h : History A). CanHold (WasFoundHonest found) 1 (first_entries 3 h) 0 held.0) (sym b.same) held.1)
+  where
+    events : List (Event A)
+    events = map (λ one. one.0) (full_though_perfect A)
+
+    found : List Bool
+    found = map (λ one. one.1) (full_though_perfect A)
+
+    replies : List (Reply A)
+    replies = map (λ one. one.2) (full_though_perfect A)
+
+    at_first : (a : Hidden) (k : Holding) → CanHold {A = A} (WasFoundHonest found) 1 (first_print a ∷ []) 0 k →
+        k ≡ both nothing
+    at_first a k (inl y) = (let named = y.0 in absurd (cc (named)))
+    at_first a k (inr y) = y.1
+
+    half : (a b : Hidden) → 2 ≡ length a.1 → (h : Holding) →
+        CanHold {A = A} (WasFoundHonest found) 1 (scanned_first b ∷ first_print a ∷ []) 0 h →
+        (p : PageView) × IsFirstOfTwo a.0 p × (h.shown ≡ with_page nothing p)
+    half a b count h (inl x) = (
+      x.3.0,
+      first_of_print a x.3.0 count x.3.1.has_left,
+      ap (λ (k : Holding). k.shown) x.3.4 ∙ ap (λ (k : Holding). with_page k.shown x.3.0) (at_first a x.1 x.2),
+    )
+    half a b count h (inr x) = absurd (x.0 refl)
+
+    refused : (a b c : Hidden) → 2 ≡ length a.1 → b.2 ≡ 0 → (h : Holding) →
+        CanHold {A = A} (WasFoundHonest found) 1
+        (known (scan 0) (ScanRefused scan_fault.Full) c ∷ scanned_first b ∷ first_print a ∷ []) 0 h → ⊥
+    refused a b c count none h (inl x) =
+        let old = half a b count x.1 x.2 in
+        shown_never_full a.0 old.0 x.3.0 old.1 (same_label a b x.3.0 count none (x.3.1.unflipped refl))
+        (subst (λ (d : Documents). answer 1 d x.3.0 ≡ Err scan_fault.Full) old.2 x.3.2)
+    refused a b c count none h (inr x) = x.0 refl
+
+    by_hidden : (hidden : List Hidden) → length hidden ≡ 3 →
+        IsLegal two_ranges 1 (history_of events replies hidden []) → (holding : Holding) →
+        CanHold {A = A} (WasFoundHonest found) 1 (first_entries 3 (history_of events replies hidden [])) 0 holding → ⊥
+    by_hidden (a ∷ b ∷ c ∷ []) count legal holding can =
+        let print = legal.1.1.0 in
+        let told : 2 ≡ a.2 = print.reply.count_is in
+        let all : a.2 ≡ length a.1 = print.lets_out.0 in
+        refused a b c (told ∙ all) legal.1.0.lets_out holding can
+    by_hidden hidden count legal holding can = absurd (omega arith)

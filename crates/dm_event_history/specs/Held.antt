@@ -100,8 +100,8 @@ with_answered kind old new = new
 -- ---- what calls save
 
 -- What is stored once a call saved, at a desk that shows these documents. A scan adds the page of its label, which
--- isn't shown, if there is room and the label isn't refused for its finder patterns; a forget takes away a document that
--- is shown; an import adds pages of its export, of which one isn't shown, if there is room.
+-- isn't shown, if there is room and the label isn't refused for its finder patterns; a forget takes away a document
+-- that is shown; an import adds pages of its export, of which one isn't shown, if there is room.
 abbrev pub WouldSave : {A : Type 0} → ℕ → History A → Event A → Documents → Documents → Type 0
 WouldSave capacity before (Scan desk label flips stop) shown content =
     (page : PageView) × IsPageOfLabel before label page × KeepsFrame before label flips

@@ -18,6 +18,8 @@ use Rattle.dm_store.specs.declared.fuse.Kept.TheVariants as kept
 use Rattle.dm_assembly_desk.specs.declared.fault.ImportFault.{ImportFault}
 use Rattle.dm_assembly_desk.specs.declared.fault.ImportFault.TheVariants as import_fault
 use Rattle.dm_assembly_desk.specs.declared.fault.AskFault.TheVariants.{NotHeld, Incomplete}
+use Rattle.dm_assembly_desk.specs.declared.fault.AskFault.TheVariants as ask_fault
+use Rattle.dm_assembly_desk.specs.declared.fault.ExportFault.TheVariants as export_fault
 use Rattle.dm_assembly_desk.specs.declared.fault.ForgetFault.TheVariants as forget_fault
 use Rattle.dm_assembly_desk.specs.declared.reply.Kind.TheVariants.{New, Again, Complete}
 use Rattle.dm_assembly_desk.specs.declared.reply.Kind.{Kind}
@@ -26,7 +28,7 @@ use Rattle.dm_assembly_desk.specs.declared.reply.Imported as imported_type
 use Rattle.dm_event_history.specs.declared.event.Event.{Event}
 use Rattle.dm_event_history.specs.declared.event.Event.TheVariants.{Print, Scan, RestartPrinter, RestartDesk, Ask, Forget, Give, Take, Export, Import}
 use Rattle.dm_event_history.specs.declared.reply.Reply.{Reply}
-use Rattle.dm_event_history.specs.declared.reply.Reply.TheVariants.{Printed, PrintRefused, Scanned, ScanRefused, Document, AskRefused, Forgotten, ForgetRefused, Given, GiveRefused, Taken, TakeRefused, Exported, Imported, ImportRefused, Restarted, PrinterRefused, Stopped, Down, NoSuch, Memory}
+use Rattle.dm_event_history.specs.declared.reply.Reply.TheVariants.{Printed, PrintRefused, Scanned, ScanRefused, Document, AskRefused, Forgotten, ForgetRefused, Given, GiveRefused, Taken, TakeRefused, Exported, ExportRefused, Imported, ImportRefused, Restarted, PrinterRefused, Stopped, Down, NoSuch, Memory}
 use Rattle.dm_event_history.specs.declared.stop.Stop.{Stop}
 use Rattle.dm_event_history.specs.declared.stop.Stop.TheVariants.{None, BeforeSave, InSave, SaveFault, AfterLabels}
 use Rattle.dm_event_history.specs.History.{LabelName}
@@ -298,32 +300,50 @@ imported_at_last A =
     (Scan 1 1 [] None, Scanned (page 0 2 New)) ∷
     (Import 1 0 None, Imported (record { id = 0; n = 2; added = 1; kind = New })) ∷ []
 
--- `held`: a document is not held of which a perfect label was scanned, by a scan that was stopped after its save
-abbrev pub lost_by_a_stop : (A : Type 0) → Run A
-lost_by_a_stop A =
-    (print 0 digits None, Printed 0 0 2) ∷
-    (Scan 0 0 [] (InSave kept.New), Stopped) ∷ (RestartDesk 0, Restarted) ∷ (Ask 0 0, AskRefused NotHeld) ∷ []
+-- `held`: a desk that holds nothing answers so
+abbrev pub at_once : (A : Type 0) → Event A → Reply A → Run A
+at_once A event reply = (event, reply) ∷ []
 
--- `held`: the same, of a label of whose finder patterns one module is flipped
-abbrev pub lost_by_a_flip : (A : Type 0) → Run A
-lost_by_a_flip A =
+-- `held`: a label was scanned, of which these modules are flipped, by a scan that was stopped after its save; and after
+-- a restart the desk answers so
+abbrev pub after_a_stop : (A : Type 0) → List (ℕ × ℕ) → Event A → Reply A → Run A
+after_a_stop A flips event reply =
     (print 0 digits None, Printed 0 0 2) ∷
-    (Scan 0 0 ((0, 0) ∷ []) (InSave kept.New), Stopped) ∷
-    (RestartDesk 0, Restarted) ∷ (Ask 0 0, AskRefused NotHeld) ∷ []
+    (Scan 0 0 flips (InSave kept.New), Stopped) ∷ (RestartDesk 0, Restarted) ∷ (event, reply) ∷ []
 
--- Modules of the finder patterns of a label of side 12, which have 44: five are no more than an eighth, and six are.
+-- modules of the finder patterns of a label of side 12, which have 44: five are no more than an eighth, and six are
+abbrev pub one_flip : List (ℕ × ℕ)
+one_flip = (0, 0) ∷ []
+
 abbrev pub five_flips : List (ℕ × ℕ)
 five_flips = (0, 0) ∷ (1, 0) ∷ (2, 0) ∷ (3, 0) ∷ (4, 0) ∷ []
 
 abbrev pub six_flips : List (ℕ × ℕ)
 six_flips = (0, 0) ∷ (1, 0) ∷ (2, 0) ∷ (3, 0) ∷ (4, 0) ∷ (5, 0) ∷ []
 
--- `held`: a page is held of a label of which six are flipped, by a scan that was stopped after its save
-abbrev pub taken_without_frame : (A : Type 0) → Run A
-taken_without_frame A =
+-- `held`: a document is not held of which a perfect label was scanned, by a scan whose save failed and left the new
+-- content
+abbrev pub lost_by_a_fault : (A : Type 0) → Run A
+lost_by_a_fault A =
     (print 0 digits None, Printed 0 0 2) ∷
-    (Scan 0 0 six_flips (InSave kept.New), Stopped) ∷
-    (RestartDesk 0, Restarted) ∷ (Ask 0 0, AskRefused (Incomplete 2)) ∷ []
+    (Scan 0 0 [] (SaveFault kept.New), ScanRefused scan_fault.Save) ∷
+    (RestartDesk 0, Restarted) ∷ (Ask 0 0, AskRefused NotHeld) ∷ []
+
+-- `held`: a document is not held of which an export was imported, by an import that was stopped after its save
+abbrev pub lost_by_a_stopped_import : (A : Type 0) → Run A
+lost_by_a_stopped_import A =
+    (print 0 digits None, Printed 0 0 2) ∷
+    (Scan 1 0 [] None, Scanned (page 0 1 New)) ∷
+    (Export 1 0, Exported 0 0 2 1) ∷
+    (Import 0 0 (InSave kept.New), Stopped) ∷ (RestartDesk 0, Restarted) ∷ (Ask 0 0, AskRefused NotHeld) ∷ []
+
+-- `held`: of two pages that a desk must hold, one was told as taken, and the scan of the other was stopped after its
+-- save; just the first is exported
+abbrev pub exported_less_a_stop : (A : Type 0) → Run A
+exported_less_a_stop A =
+    (print 0 digits None, Printed 0 0 2) ∷
+    (scan 0, Scanned (page 0 1 New)) ∷
+    (Scan 0 1 [] (InSave kept.New), Stopped) ∷ (RestartDesk 0, Restarted) ∷ (Export 0 0, Exported 0 0 2 1) ∷ []
 
 -- `held`: a page was told as taken, and an honest scan of its label, of which a module is flipped, fails to save it
 abbrev pub saved_though_shown : (A : Type 0) → Run A
@@ -332,12 +352,12 @@ saved_though_shown A =
     (scan 0, Scanned (page 0 1 New)) ∷
     (Scan 0 0 ((0, 0) ∷ []) (SaveFault kept.Old), ScanRefused scan_fault.Save) ∷ []
 
--- `held`: a page is missing of a document that was forgotten, by a forget that was stopped after its save
-abbrev pub held_though_forgotten : (A : Type 0) → Run A
-held_though_forgotten A =
+-- `held`: a document was let go, by a forget that was stopped after its save; and after a restart the desk answers so
+abbrev pub after_a_stopped_forget : (A : Type 0) → Event A → Reply A → Run A
+after_a_stopped_forget A event reply =
     (print 0 digits None, Printed 0 0 2) ∷
     (scan 0, Scanned (page 0 1 New)) ∷
-    (Forget 0 0 (AfterLabels 0), Stopped) ∷ (RestartDesk 0, Restarted) ∷ (Ask 0 0, AskRefused (Incomplete 2)) ∷ []
+    (Forget 0 0 (AfterLabels 0), Stopped) ∷ (RestartDesk 0, Restarted) ∷ (event, reply) ∷ []
 
 -- `held`: a desk with room for two documents takes pages of three
 abbrev pub beyond_its_room : (A : Type 0) → Run A
@@ -576,10 +596,14 @@ stopped_unasked A = (Ask 0 0, Stopped) ∷ []
 abbrev pub forgotten_with_a_fault : (A : Type 0) → Run A
 forgotten_with_a_fault A = (Forget 0 0 (SaveFault kept.New), Forgotten) ∷ []
 
--- `each` and `explained`: a page that no label can have is told of a scan, the third of two, one of 17, or one of an
--- identification above 64,515
+-- `each` and `explained`: a page that no label can have is told of a scan: page 0 or the third of two, one of one or of
+-- 17, or one of an identification above 64,515
 abbrev pub scanned_as : (A : Type 0) → ℕ → ℕ → ℕ → Run A
 scanned_as A id m n = (Scan 0 0 ((0, 0) ∷ []) None, Scanned (record { id = id; m = m; n = n; kind = New })) ∷ []
+
+-- `each` and `explained`: a page is told as new by a scan whose save is to fail
+abbrev pub scanned_with_a_fault : (A : Type 0) → Run A
+scanned_with_a_fault A = (Scan 0 0 ((0, 0) ∷ []) (SaveFault kept.Old), Scanned (page 0 1 New)) ∷ []
 
 -- `each` and `explained`: a scan is refused for its label, for memory
 abbrev pub memory_of_a_label : (A : Type 0) → Run A
@@ -858,6 +882,20 @@ full_of_nothing A =
     (print 0 digits None, true, Printed 0 0 2) ∷
     (Scan 0 0 ((0, 0) ∷ []) None, false, ScanRefused scan_fault.Full) ∷ []
 
+-- the same, for a conflict
+abbrev pub conflict_of_nothing : (A : Type 0) → MarkedRun A
+conflict_of_nothing A =
+    (print 0 digits None, true, Printed 0 0 2) ∷
+    (Scan 0 0 ((0, 0) ∷ []) None, false, ScanRefused scan_fault.Conflict) ∷ []
+
+-- `held`, of a desk that is not tainted before its last event: it lost the page of a perfect label
+abbrev pub lost_before_it_was_tainted : (A : Type 0) → MarkedRun A
+lost_before_it_was_tainted A =
+    (print 0 digits None, true, Printed 0 0 2) ∷
+    (Scan 0 0 [] (InSave kept.New), true, Stopped) ∷
+    (RestartDesk 0, true, Restarted) ∷
+    (Ask 0 0, true, AskRefused NotHeld) ∷ (Scan 0 0 ((0, 0) ∷ []) None, false, Scanned (page 9 1 New)) ∷ []
+
 -- `held`, of a desk that is not tainted: a page was told as taken, and a scan of its perfect label, though it was not
 -- found honest, fails to save it
 abbrev pub saved_though_perfect : (A : Type 0) → MarkedRun A
@@ -870,6 +908,22 @@ saved_though_perfect A =
 abbrev pub IsFaithfulAlone : {A : Type 0} → MarkedRun A → Type 0
 IsFaithfulAlone run =
     IsFaithful two_ranges (1 ∷ []) (map (λ one. one.0) run) (map (λ one. one.1) run) (map (λ one. one.2) run)
+
+-- `held`, of such a desk: the second page of the one document that it holds is lost, by a scan that was stopped after
+-- its save
+abbrev pub lost_though_full : (A : Type 0) → MarkedRun A
+lost_though_full A =
+    (print 0 digits None, true, Printed 0 0 2) ∷
+    (scan 0, true, Scanned (page 0 1 New)) ∷
+    (Scan 0 1 [] (InSave kept.New), true, Stopped) ∷
+    (RestartDesk 0, true, Restarted) ∷ (Ask 0 0, true, AskRefused (Incomplete 2)) ∷ []
+
+-- `held`, of such a desk that is not tainted: it holds a page, and refuses that page's perfect label as it is full,
+-- though the scan was not found honest
+abbrev pub full_though_perfect : (A : Type 0) → MarkedRun A
+full_though_perfect A =
+    (print 0 digits None, true, Printed 0 0 2) ∷
+    (scan 0, true, Scanned (page 0 1 New)) ∷ (scan 0, false, ScanRefused scan_fault.Full) ∷ []
 
 -- `held`, of such a desk that is not tainted: it holds both pages of a document, and fails to save that of a dishonest
 -- scan, which can be no third of two
@@ -896,16 +950,15 @@ lacking_though_failed A event =
     (Scan 0 0 ((0, 0) ∷ []) (SaveFault kept.Old), false, ScanRefused scan_fault.Save) ∷ (event, true, Memory) ∷ []
 
 -- `held`, of a desk that is not tainted: it refuses a tainted export for a conflict with the page that it holds, and
--- then for want of memory to save a page of it
-abbrev pub refused_two_ways : (A : Type 0) → MarkedRun A
-refused_two_ways A =
+-- then for another reason: as it lacks memory to save a page of it, or fails to, or as it has no room
+abbrev pub refused_two_ways : (A : Type 0) → Stop → ImportFault → MarkedRun A
+refused_two_ways A stop fault =
     (print 0 digits None, true, Printed 0 0 2) ∷
     (Scan 2 0 ((0, 0) ∷ []) None, false, Scanned (page 0 1 New)) ∷
     (Scan 2 0 ((0, 0) ∷ []) None, false, Scanned (page 0 2 Complete)) ∷
     (Export 2 0, true, Exported 0 0 2 3) ∷
     (scan 0, true, Scanned (page 0 1 New)) ∷
-    (Import 0 0 None, true, ImportRefused import_fault.Conflict) ∷
-    (Import 0 0 None, true, ImportRefused import_fault.Memory) ∷ []
+    (Import 0 0 None, true, ImportRefused import_fault.Conflict) ∷ (Import 0 0 stop, true, ImportRefused fault) ∷ []
 
 -- `given`, of a desk that is not tainted: its dishonest scan was refused
 abbrev pub wrong_after_a_refused_scan : (A : Type 0) → MarkedRun A
@@ -1012,15 +1065,33 @@ pub record AreUnfaithful (A : Type 0) : Type 0 where
   pub imported_at_last_is : ¬ IsFaithfulRun (imported_at_last A)
   pub exported_in_part_is : ¬ IsFaithfulRun (exported_in_part A)
   pub added_again_is : ¬ IsFaithfulRun (added_again A)
-  pub lost_by_a_stop_is : ¬ IsFaithfulRun (lost_by_a_stop A)
-  pub lost_by_a_flip_is : ¬ IsFaithfulRun (lost_by_a_flip A)
-  pub taken_without_frame_is : ¬ IsFaithfulRun (taken_without_frame A)
+  pub unsaved_of_nothing_is : ¬ IsFaithfulRun
+      (at_once A (Forget 0 0 (SaveFault kept.Old)) (ForgetRefused forget_fault.Save))
+  pub lacking_of_nothing_is : ¬ IsFaithfulRun (at_once A (Forget 0 0 None) (ForgetRefused forget_fault.Memory))
+  pub asked_in_vain_is : ¬ IsFaithfulRun (at_once A (Ask 0 0) (AskRefused ask_fault.Memory))
+  pub exported_in_vain_is : ¬ IsFaithfulRun (at_once A (Export 0 0) (ExportRefused export_fault.Memory))
+  pub lost_by_a_stop_is : ¬ IsFaithfulRun (after_a_stop A [] (Ask 0 0) (AskRefused NotHeld))
+  pub lost_by_a_flip_is : ¬ IsFaithfulRun (after_a_stop A one_flip (Ask 0 0) (AskRefused NotHeld))
+  pub lost_by_five_flips_is : ¬ IsFaithfulRun (after_a_stop A five_flips (Ask 0 0) (AskRefused NotHeld))
+  pub not_exported_is : ¬ IsFaithfulRun (after_a_stop A [] (Export 0 0) (ExportRefused export_fault.NotHeld))
+  pub not_forgotten_is : ¬ IsFaithfulRun
+      (after_a_stop A [] (Forget 0 0 None) (ForgetRefused forget_fault.NotHeld))
+  pub taken_without_frame_is : ¬ IsFaithfulRun (after_a_stop A six_flips (Ask 0 0) (AskRefused (Incomplete 2)))
+  pub lost_by_a_fault_is : ¬ IsFaithfulRun (lost_by_a_fault A)
+  pub lost_by_a_stopped_import_is : ¬ IsFaithfulRun (lost_by_a_stopped_import A)
+  pub exported_less_a_stop_is : ¬ IsFaithfulRun (exported_less_a_stop A)
+  pub lost_though_full_is : ¬ IsFaithfulAlone (lost_though_full A)
+  pub lost_before_it_was_tainted_is : ¬ IsFaithfulMarked (lost_before_it_was_tainted A)
   pub saved_though_shown_is : ¬ IsFaithfulRun (saved_though_shown A)
   pub saved_though_whole_is : ¬ IsFaithfulAlone (saved_though_whole A)
   pub saved_though_perfect_is : ¬ IsFaithfulMarked (saved_though_perfect A)
-  pub held_though_forgotten_is : ¬ IsFaithfulRun (held_though_forgotten A)
+  pub held_though_forgotten_is : ¬ IsFaithfulRun
+      (after_a_stopped_forget A (Ask 0 0) (AskRefused (Incomplete 2)))
+  pub forgotten_after_a_stop_is : ¬ IsFaithfulRun (after_a_stopped_forget A (Forget 0 0 None) Forgotten)
   pub beyond_its_room_is : ¬ IsFaithfulRun (beyond_its_room A)
   pub full_of_nothing_is : ¬ IsFaithfulMarked (full_of_nothing A)
+  pub conflict_of_nothing_is : ¬ IsFaithfulMarked (conflict_of_nothing A)
+  pub full_though_perfect_is : ¬ IsFaithfulAlone (full_though_perfect A)
   pub refused_label_is : ¬ IsFaithfulRun (refused_label A)
   pub refused_for_nothing_is : ¬ IsFaithfulRun (refused_frame A 0)
   pub refused_frame_is : ¬ IsFaithfulRun (refused_frame A 6)
@@ -1038,7 +1109,10 @@ pub record AreUnfaithful (A : Type 0) : Type 0 where
   pub exported_third_of_two_is : ¬ IsFaithfulMarked (exported_so A 4)
   pub forgotten_without_memory_is : ¬ IsFaithfulMarked (lacking_though_failed A (Forget 0 9 (AfterLabels 0)))
   pub imported_without_memory_is : ¬ IsFaithfulMarked (lacking_though_failed A (Import 0 0 (AfterLabels 0)))
-  pub refused_two_ways_is : ¬ IsFaithfulMarked (refused_two_ways A)
+  pub refused_two_ways_is : ¬ IsFaithfulMarked (refused_two_ways A None import_fault.Memory)
+  pub unsaved_though_conflicting_is : ¬ IsFaithfulMarked
+      (refused_two_ways A (SaveFault kept.Old) import_fault.Save)
+  pub full_though_conflicting_is : ¬ IsFaithfulMarked (refused_two_ways A None import_fault.Full)
   pub wrong_after_a_refused_scan_is : ¬ IsFaithfulMarked (wrong_after_a_refused_scan A)
   pub wrong_after_a_failed_scan_is : ¬ IsFaithfulMarked (wrong_after_a_failed_scan A)
   pub wrong_after_a_failed_import_is : ¬ IsFaithfulMarked (wrong_after_a_failed_import A)
@@ -1047,9 +1121,12 @@ pub record AreUnfaithful (A : Type 0) : Type 0 where
   pub another_call_is : ¬ AreRepliesRun (another_call A)
   pub stopped_unasked_is : ¬ AreRepliesRun (stopped_unasked A)
   pub forgotten_with_a_fault_is : ¬ AreRepliesRun (forgotten_with_a_fault A)
+  pub page_0_of_two_is : ¬ AreRepliesRun (scanned_as A 0 0 2)
   pub third_of_two_is : ¬ AreRepliesRun (scanned_as A 0 3 2)
+  pub one_of_one_is : ¬ AreRepliesRun (scanned_as A 0 1 1)
   pub one_of_17_is : ¬ AreRepliesRun (scanned_as A 0 1 17)
   pub of_no_identification_is : ¬ AreRepliesRun (scanned_as A 64516 1 2)
+  pub scanned_with_a_fault_is : ¬ AreRepliesRun (scanned_with_a_fault A)
   pub memory_of_a_label_is : ¬ AreRepliesRun (memory_of_a_label A)
   pub scanned_though_stopped_is : ¬ AreRepliesRun (scanned_though_stopped A)
   pub failed_without_a_fault_is : ¬ AreRepliesRun (failed_without_a_fault A)
