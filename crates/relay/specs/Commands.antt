@@ -2,8 +2,6 @@
 -- store, the set and the streams: a line for each command. What a command does not need it leaves as it was.
 use Rattle.std.specs.Prelude.{◌≡◌, ℕ}
 use Rattle.std.specs.Option.{option_copied}
-use Rattle.dm_store.specs.Saved.{Saved}
-use Rattle.dm_store.specs.Sets.{SavedSet}
 use Rattle.relay_line.specs.declared.command.Command.{Command}
 use Rattle.relay_line.specs.declared.command.Command.TheVariants.{Words, Draw, Read, Plan, Ticket, Ledger, Print, PrintAuto, Give, Take, Left, Scan, Deliver, Forget, Export, Import, Held, Copy, World}
 use Rattle.relay.specs.Table.{group_of_command}
@@ -22,18 +20,12 @@ use Rattle.relay_printer_commands.specs.Left.{EndsLeft}
 use Rattle.relay_printer_commands.specs.Plan.{EndsPlan}
 use Rattle.relay_printer_commands.specs.Print.{EndsPrint}
 use Rattle.relay_printer_commands.specs.PrintAuto.{EndsPrintAuto}
-use Rattle.relay_printer_commands.specs.Printers.{OnLedger, EndsLedger, EndsGive, EndsTake}
+use Rattle.relay_printer_commands.specs.Printers.{OnLedger, EndsLedger, EndsGive, EndsTake, ledger_at}
 use Rattle.relay_printer_commands.specs.Tickets.{EndsTicket}
 use Rattle.relay_desk_commands.specs.Copy.{EndsCopy}
 use Rattle.relay_desk_commands.specs.Held.{EndsHeld}
 use Rattle.relay_desk_commands.specs.Scan.{EndsScan}
 use Rattle.relay_world_command.specs.World.{EndsWorld}
-
--- the store at the path that a command names and the set beside it, and the streams
-pub record Surroundings : Type 0 where
-  pub saved : Saved
-  pub set : SavedSet
-  pub streams : StreamsView
 
 -- at most this many bytes were read
 abbrev pub ReadsPart : ℕ → StreamsView → StreamsView → Type 0
@@ -81,21 +73,18 @@ DoesOnDesk A (Copy file id page side scheme) old status new =
     EndsCopy (record { id = id; page = page; side = side; scheme = scheme }) old status new
 DoesOnDesk A other old status new = ⊥
 
--- what a command works on, as a printer and as a desk sees it
-abbrev pub on_ledger : Surroundings → OnLedger
-on_ledger at = record { saved = at.saved; streams = at.streams }
-
-abbrev pub on_desk : Surroundings → OnDesk
-on_desk at = record { files = record { joint = at.saved; set = at.set }; streams = at.streams }
+-- what a command sees that works on a ledger: the store at its path is that of the ledger, and not of a joint file
+abbrev pub on_ledger : OnDesk → OnLedger
+on_ledger at = ledger_at at.files.joint at.streams
 
 -- what a command of this group does
-abbrev pub DoesInGroup : Group → Type 0 → Command → Surroundings → ℕ → Surroundings → Type 0
+abbrev pub DoesInGroup : Group → Type 0 → Command → OnDesk → ℕ → OnDesk → Type 0
 DoesInGroup groups.Streams A command old status new =
-    DoesOnStreams A command old.streams status new.streams × (new.saved ≡ old.saved) × (new.set ≡ old.set)
+    DoesOnStreams A command old.streams status new.streams × (new.files ≡ old.files)
 DoesInGroup groups.Ledger A command old status new =
-    DoesOnLedger command (on_ledger old) status (on_ledger new) × (new.set ≡ old.set)
-DoesInGroup groups.Desk A command old status new = DoesOnDesk A command (on_desk old) status (on_desk new)
+    DoesOnLedger command (on_ledger old) status (on_ledger new) × (new.files.set ≡ old.files.set)
+DoesInGroup groups.Desk A command old status new = DoesOnDesk A command old status new
 
--- what a command does; `A` is what it allocates in
-abbrev pub Does : Type 0 → Command → Surroundings → ℕ → Surroundings → Type 0
+-- What a command does over the store at the path that it names and the set beside it; `A` is what it allocates in.
+abbrev pub Does : Type 0 → Command → OnDesk → ℕ → OnDesk → Type 0
 Does A command old status new = DoesInGroup (group_of_command command) A command old status new

@@ -5,7 +5,9 @@ use Rattle.relay_line.specs.declared.command.Command.{Command}
 use Rattle.relay_line.specs.declared.command.Command.TheVariants.{Scan, Import}
 use Rattle.relay.specs.declared.plan.WorkplaceFault.{WorkplaceFault}
 use Rattle.relay.specs.declared.plan.WorkplaceFault.TheVariants as faults
-use Rattle.relay.specs.Table.{work_of_command}
+use Rattle.relay.specs.Table.{group_of_work, row_of_command}
+use Rattle.relay.specs.declared.table.Group.{Group}
+use Rattle.relay.specs.declared.table.Group.TheVariants as groups
 use Rattle.relay.specs.declared.table.Work.{Work}
 use Rattle.relay.specs.declared.table.Work.TheVariants as works
 use Rattle.relay.specs.declared.plan.Found.{Found}
@@ -63,27 +65,17 @@ abbrev pub has_documents : Found → Bool
 has_documents (found.File bytes names) = nat_lt 7 bytes
 has_documents _ = false
 
--- such work is that of a desk
-abbrev pub is_desk_work : Work → Bool
-is_desk_work works.Nothing = false
-is_desk_work works.MakesLedger = false
-is_desk_work works.SavesLedger = false
-is_desk_work works.ReadsLedger = false
-is_desk_work works.Gathers = true
-is_desk_work works.Forgets = true
-is_desk_work works.Reads = true
-is_desk_work works.Looks = true
+-- work of this group is done on the files of a desk
+abbrev pub is_desk : Group → Bool
+is_desk groups.Desk = true
+is_desk _ = false
 
 -- such work needs the folder that its path lies in
 abbrev pub needs_folder_above : Work → Bool
 needs_folder_above works.Nothing = false
-needs_folder_above works.MakesLedger = true
 needs_folder_above works.SavesLedger = false
 needs_folder_above works.ReadsLedger = false
-needs_folder_above works.Gathers = true
-needs_folder_above works.Forgets = true
-needs_folder_above works.Reads = true
-needs_folder_above works.Looks = true
+needs_folder_above _ = true
 
 -- the first reason that there is
 abbrev pub first_reason : List (Bool × WorkplaceFault) → Option WorkplaceFault
@@ -94,10 +86,10 @@ first_reason ((there_is, fault) ∷ reasons) = if there_is then (Some fault) els
 abbrev pub refusal_at : Work → Sight → Option WorkplaceFault
 refusal_at work sight = first_reason (
     (leads_nowhere sight.file, faults.Linked)
-    ∷ (is_desk_work work && leads_nowhere sight.folder, faults.Linked)
+    ∷ (is_desk (group_of_work work) && leads_nowhere sight.folder, faults.Linked)
     ∷ (has_second_name sight.file, faults.Linked)
     ∷ (needs_folder_above work && sight.lacks_folder, faults.Device)
-    ∷ (is_desk_work work && is_no_folder sight.folder, faults.Device)
+    ∷ (is_desk (group_of_work work) && is_no_folder sight.folder, faults.Device)
     ∷ (is_no_plain_file sight.file, faults.Device)
     ∷ [])
 
@@ -109,9 +101,7 @@ is_done_over_nothing works.MakesLedger no_room sight = false
 is_done_over_nothing works.SavesLedger no_room sight = is_absent sight.file
 is_done_over_nothing works.ReadsLedger no_room sight = is_absent sight.file
 is_done_over_nothing works.Gathers no_room sight = no_room && not (has_documents sight.file)
-is_done_over_nothing works.Forgets no_room sight = is_absent sight.file && is_absent sight.folder
-is_done_over_nothing works.Reads no_room sight = is_absent sight.file && is_absent sight.folder
-is_done_over_nothing works.Looks no_room sight = is_absent sight.file && is_absent sight.folder
+is_done_over_nothing _ no_room sight = is_absent sight.file && is_absent sight.folder
 
 -- What is locked for such work: a ledger itself, and of a desk its folder. Work that only reads is locked if it is to
 -- move the documents of a joint file first.
@@ -140,6 +130,6 @@ plan_by None false locked = plans.OverFiles locked
 -- what is done of a command, by what was seen at its paths
 abbrev pub plan_for : Command → Sight → Plan
 plan_for command sight =
-    let work = work_of_command command in
+    let work = (row_of_command command).work in
     plan_by (refusal_at work sight) (is_done_over_nothing work (asks_for_no_room_by_command command) sight)
     (locked_for work (has_documents sight.file))

@@ -50,28 +50,13 @@ row_of_command (Held file id) = plain_row file.now works.Looks
 row_of_command (Copy file id page side scheme) = row_refusing_on_errors file.now works.Reads
 row_of_command World = plain_row [] works.Nothing
 
-abbrev pub file_of_command : Command → List ℕ
-file_of_command command = (row_of_command command).file
-
-abbrev pub work_of_command : Command → Work
-work_of_command command = (row_of_command command).work
-
-abbrev pub refuses_on_errors_by_command : Command → Bool
-refuses_on_errors_by_command command = (row_of_command command).refuses_on_errors
-
-abbrev pub tries_its_save_by_command : Command → Bool
-tries_its_save_by_command command = (row_of_command command).tries_its_save
-
 -- what such work is done on: the streams alone, a ledger, or the files of a desk
 abbrev pub group_of_work : Work → Group
 group_of_work works.Nothing = groups.Streams
 group_of_work works.MakesLedger = groups.Ledger
 group_of_work works.SavesLedger = groups.Ledger
 group_of_work works.ReadsLedger = groups.Ledger
-group_of_work works.Gathers = groups.Desk
-group_of_work works.Forgets = groups.Desk
-group_of_work works.Reads = groups.Desk
-group_of_work works.Looks = groups.Desk
+group_of_work _ = groups.Desk
 
 abbrev pub group_of_command : Command → Group
-group_of_command command = group_of_work (work_of_command command)
+group_of_command command = group_of_work (row_of_command command).work

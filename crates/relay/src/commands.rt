@@ -1,6 +1,8 @@
 //! The call of each command.
 
 ghost use Rattle.std.specs.Prelude.{◌≡◌};
+ghost use Rattle.relay_printer_commands.specs.Printers.{ledger_at};
+ghost use Rattle.relay_desk_commands.specs.Desks.{desk_at};
 ghost use Rattle.relay.specs.Commands.{Does, DoesOnDesk, DoesOnLedger, DoesOnStreams};
 ghost use Rattle.relay.specs.Table.{group_of_command};
 ghost use Rattle.relay.specs.inner.Prints.{IsPrint};
@@ -56,10 +58,8 @@ fn do_print_command<A: Allocator + Copy, S: Store, R: Read, W: Write, E: Write>(
     command: Command,
 ) -> Ended<S>
     requires { IsPrint command }
-    ensures { DoesOnLedger command.entry
-        (record { saved = S.state store; streams = streams.old })
-        result.status
-        (record { saved = S.state result.store; streams = streams.new }) }
+    ensures { DoesOnLedger command.entry (ledger_at (S.state store) streams.old) result.status
+        (ledger_at (S.state result.store) streams.new) }
 {
     match command {
         Command::Print {
@@ -100,10 +100,8 @@ fn do_ledger_command<A: Allocator + Copy, S: Store, R: Read, W: Write, E: Write>
     command: Command,
 ) -> Ended<S>
     requires { group_of_command command ≡ Group.Ledger }
-    ensures { DoesOnLedger command.entry
-        (record { saved = S.state store; streams = streams.old })
-        result.status
-        (record { saved = S.state result.store; streams = streams.new }) }
+    ensures { DoesOnLedger command.entry (ledger_at (S.state store) streams.old) result.status
+        (ledger_at (S.state result.store) streams.new) }
 {
     match command {
         Command::Ledger {
@@ -155,10 +153,8 @@ fn do_desk_command<
     command: Command,
 ) -> EndedDesk<S, T>
     requires { group_of_command command ≡ Group.Desk }
-    ensures { DoesOnDesk A command.entry
-        (record { files = record { joint = S.state store; set = T.state set }; streams = streams.old })
-        result.status
-        (record { files = record { joint = S.state result.store; set = T.state result.set }; streams = streams.new }) }
+    ensures { DoesOnDesk A command.entry (desk_at (S.state store) (T.state set) streams.old) result.status
+        (desk_at (S.state result.store) (T.state result.set) streams.new) }
 {
     match command {
         Command::Scan { capacity, .. } => {
@@ -206,10 +202,8 @@ pub fn do_command<
     notes: &mut N,
     command: Command,
 ) -> EndedDesk<S, T>
-    ensures { Does A command.entry
-        (record { saved = S.state store; set = T.state set; streams = streams.old })
-        result.status
-        (record { saved = S.state result.store; set = T.state result.set; streams = streams.new }) }
+    ensures { Does A command.entry (desk_at (S.state store) (T.state set) streams.old) result.status
+        (desk_at (S.state result.store) (T.state result.set) streams.new) }
 {
     match group_of(work_of(command)) {
         Group::Streams => {

@@ -1,7 +1,7 @@
 //! Which files are at fault where a command was refused: a line on the standard error names each.
 
 use crate::plan::{Plan, plan_of};
-use crate::table::{Work, file_of, work_of};
+use crate::table::{Group, Work, file_of, group_of, work_of};
 use crate::workplace::Workplace;
 use dm_assembly_desk::{Desk, DeskFault, MOST_CAPACITY, MOST_FILE_BYTES, MoveFault, move_pages};
 use dm_print_ledger::{OpenFault, Shown};
@@ -24,9 +24,8 @@ pub(crate) fn name_odd_place<R: AllocGlobal + Eprint + Files>(rt: &R, command: C
     let Ok(folder) = format!(in rt.alloc(); "{file}.pages") else {
         return;
     };
-    match (work_of(command), rt.metadata(folder.as_str())) {
-        (Work::Gathers | Work::Forgets | Work::Reads | Work::Looks, Ok(metadata))
-            if !metadata.is_dir() => {
+    match (group_of(work_of(command)), rt.metadata(folder.as_str())) {
+        (Group::Desk, Ok(metadata)) if !metadata.is_dir() => {
             name_file(rt, folder.as_str(), "Device");
         }
         _ => name_file(rt, file, "Device"),

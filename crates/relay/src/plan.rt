@@ -7,7 +7,6 @@ ghost use Rattle.relay.specs.Places.{
   has_documents,
   has_second_name,
   is_absent,
-  is_desk_work,
   is_done_over_nothing,
   is_no_folder,
   is_no_plain_file,
@@ -18,7 +17,7 @@ ghost use Rattle.relay.specs.Places.{
   refusal_at,
 };
 
-use crate::table::{Work, work_of};
+use crate::table::{Group, Work, group_of, work_of};
 use dm_assembly_desk::MOST_CAPACITY;
 use relay_line::Command;
 use std::alloc::AllocError;
@@ -129,10 +128,7 @@ impl Found {
     fn has_second_name(self) -> bool
         ensures { result ≡ has_second_name self }
     {
-        match self {
-            Found::File { names, .. } => names > 1,
-            _ => false,
-        }
+        matches!(self, Found::File { names, .. } if names > 1)
     }
 
     // Whether a joint file is there that may have documents.
@@ -157,16 +153,6 @@ pub(crate) struct Sight {
     pub(crate) lacks_folder: bool,
 }
 
-// Whether such work is that of a desk.
-fn is_desk_work(work: Work) -> bool
-    ensures { result ≡ is_desk_work work }
-{
-    matches!(
-        work,
-        Work::Gathers | Work::Forgets | Work::Reads | Work::Looks
-    )
-}
-
 // Whether such work needs the folder that its path lies in.
 fn needs_folder_above(work: Work) -> bool
     ensures { result ≡ needs_folder_above work }
@@ -181,7 +167,7 @@ fn needs_folder_above(work: Work) -> bool
 fn refusal_of(work: Work, sight: Sight) -> Option<WorkplaceFault>
     ensures { result ≡ refusal_at work sight }
 {
-    let is_desk = is_desk_work(work);
+    let is_desk = matches!(group_of(work), Group::Desk);
     if sight.file.leads_nowhere()
         || is_desk && sight.folder.leads_nowhere()
         || sight.file.has_second_name()
@@ -229,13 +215,7 @@ fn locked_of(work: Work, has_joint: bool) -> Option<Locked>
         Work::Nothing | Work::ReadsLedger | Work::Looks => None,
         Work::MakesLedger | Work::SavesLedger => Some(Locked::File),
         Work::Gathers | Work::Forgets => Some(Locked::Folder),
-        Work::Reads => {
-            if has_joint {
-                Some(Locked::Folder)
-            } else {
-                None
-            }
-        }
+        Work::Reads => has_joint.then_some(Locked::Folder),
     }
 }
 

@@ -1,7 +1,7 @@
 //! The steps of a command, in their order.
 
-ghost use Rattle.std.specs.Prelude.{◌≡◌, MatchResult, None, is_some, if◌then◌else◌};
-ghost use Rattle.relay.specs.Steps.{HasEnded, begins, refusal_by, Ends, GoesOn, Tries, Ready, Holds, Refuses, Speaks, OverNothing};
+ghost use Rattle.std.specs.Prelude.{◌≡◌, None, is_some, if◌then◌else◌};
+ghost use Rattle.relay.specs.Steps.{EndsOrRefuses, HasEnded, begins, refusal_by, Ends, GoesOn, Tries, Ready, Holds, Refuses, Speaks, OverNothing};
 
 use crate::plan::{Locked, Plan, WorkplaceFault, plan_of};
 use crate::rehearsal::Rehearsal;
@@ -146,9 +146,8 @@ fn run_with<S: Steps>(
     lock: &Option<S::Lock>,
 ) -> Result<u8, WorkplaceFault>
     ensures { S.stage steps.old
-        ≡ (if is_some lock.now then (Holds command.entry) else (Ready command.entry None)) → MatchResult result
-        (λ exit. HasEnded (S.stage steps.new) exit)
-        (λ fault. S.stage steps.new ≡ Refuses (refusal_by command.entry fault)) }
+        ≡ (if is_some lock.now then (Holds command.entry) else (Ready command.entry None))
+        → EndsOrRefuses command.entry result (S.stage steps.new) }
 {
     let status = steps.run(place, lock)?;
     let exit = finish(steps, status);
@@ -165,9 +164,7 @@ fn run_locked<S: Steps>(
     place: &Workplace,
     locked: Option<Locked>,
 ) -> Result<u8, WorkplaceFault>
-    ensures { S.stage steps.old ≡ Ready command.entry locked → MatchResult result
-        (λ exit. HasEnded (S.stage steps.new) exit)
-        (λ fault. S.stage steps.new ≡ Refuses (refusal_by command.entry fault)) }
+    ensures { S.stage steps.old ≡ Ready command.entry locked → EndsOrRefuses command.entry result (S.stage steps.new) }
 {
     let lock = match locked {
         None => None,
@@ -186,9 +183,7 @@ fn run_after_trial<S: Steps>(
     place: &Workplace,
     locked: Option<Locked>,
 ) -> Result<u8, WorkplaceFault>
-    ensures { S.stage steps.old ≡ Tries command.entry locked → MatchResult result
-        (λ exit. HasEnded (S.stage steps.new) exit)
-        (λ fault. S.stage steps.new ≡ Refuses (refusal_by command.entry fault)) }
+    ensures { S.stage steps.old ≡ Tries command.entry locked → EndsOrRefuses command.entry result (S.stage steps.new) }
 {
     let rehearsal = steps.try_up_to_its_save(place)?;
     if rehearsal.goes_on {
@@ -201,9 +196,7 @@ fn run_after_trial<S: Steps>(
 
 // Does a command on files, which are looked at only now.
 fn run_on_files<S: Steps>(steps: &mut S, command: Command) -> Result<u8, WorkplaceFault>
-    ensures { S.stage steps.old ≡ GoesOn command.entry → MatchResult result
-        (λ exit. HasEnded (S.stage steps.new) exit)
-        (λ fault. S.stage steps.new ≡ Refuses (refusal_by command.entry fault)) }
+    ensures { S.stage steps.old ≡ GoesOn command.entry → EndsOrRefuses command.entry result (S.stage steps.new) }
 {
     let place = steps.look()?;
     match plan_of(command, place.sight) {

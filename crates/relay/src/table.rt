@@ -1,17 +1,7 @@
 //! The table of commands: what is fixed of each, whatever its options are.
 
 ghost use Rattle.std.specs.Prelude.{◌≡◌};
-ghost use Rattle.relay.specs.Table.{
-  file_of_command,
-  group_of_work,
-  plain_row,
-  refuses_on_errors_by_command,
-  row_of_command,
-  row_refusing_on_errors,
-  row_tried_first,
-  tries_its_save_by_command,
-  work_of_command,
-};
+ghost use Rattle.relay.specs.Table.{group_of_work, plain_row, row_of_command, row_refusing_on_errors, row_tried_first};
 
 use relay_line::Command;
 use std::marker::Model;
@@ -76,10 +66,8 @@ fn row_refusing_on_errors<'a>(file: &'a str, work: Work) -> Row<'a>
     ensures { result ≡ row_refusing_on_errors file.now work }
 {
     Row {
-        file,
-        work,
         refuses_on_errors: true,
-        tries_its_save: false,
+        ..plain_row(file, work)
     }
 }
 
@@ -89,10 +77,8 @@ fn row_tried_first<'a>(file: &'a str, work: Work) -> Row<'a>
     ensures { result ≡ row_tried_first file.now work }
 {
     Row {
-        file,
-        work,
-        refuses_on_errors: false,
         tries_its_save: true,
+        ..plain_row(file, work)
     }
 }
 
@@ -125,28 +111,28 @@ fn row_of<'a>(command: Command<'a>) -> Row<'a>
 
 /// The path of the file that a command names; a command that names none has the empty path.
 pub fn file_of<'a>(command: Command<'a>) -> &'a str
-    ensures { result.now ≡ file_of_command command.entry }
+    ensures { result.now ≡ (row_of_command command.entry).file }
 {
     row_of(command).file
 }
 
 /// What a command does to the files at its path.
 pub(crate) fn work_of(command: Command) -> Work
-    ensures { result ≡ work_of_command command.entry }
+    ensures { result ≡ (row_of_command command.entry).work }
 {
     row_of(command).work
 }
 
 /// Whether the refusals of a command go to the standard error.
 pub(crate) fn refuses_on_errors(command: Command) -> bool
-    ensures { result ≡ refuses_on_errors_by_command command.entry }
+    ensures { result ≡ (row_of_command command.entry).refuses_on_errors }
 {
     row_of(command).refuses_on_errors
 }
 
 /// Whether a command is tried up to its save before anything is locked.
 pub(crate) fn tries_its_save(command: Command) -> bool
-    ensures { result ≡ tries_its_save_by_command command.entry }
+    ensures { result ≡ (row_of_command command.entry).tries_its_save }
 {
     row_of(command).tries_its_save
 }

@@ -1,25 +1,16 @@
--- The lines of what is held, one number after another: `one_more` adds the line of a number, `cut_before` and `cut_in`
--- are the two ways in which the output fails, and `told_else` takes the answer of a write to a line with the status 1.
-use Rattle.std.proofs.Common.{◌≡◌, ◌≤◌, ◌+◌, ◌++◌, ◌||◌, ℕ, Bool, true, List, Option, Result, Ok, Err, inl, inr}
-use Rattle.std.proofs.Common.{refl, sym, ap, ◌∙◌, append_assoc, arith}
-use Rattle.std.specs.Prelude.{OnOk, OnErr, is_err}
+-- The lines of what is held, one number after another: `one_more` adds the line of a number, and `cut_before` and
+-- `cut_in` are the two ways in which the output fails.
+use Rattle.std.proofs.Common.{◌≡◌, ◌≤◌, ◌+◌, ◌++◌, ◌||◌, ℕ, Bool, true, List, Option, Result}
+use Rattle.std.proofs.Common.{sym, ap, ◌∙◌, append_assoc, arith}
+use Rattle.std.specs.Prelude.{is_err}
 use Rattle.std.specs.Io.KnownBytes.{Appends}
 use Rattle.std.proofs.KnownBytes.{Appends-trans}
 use Rattle.dm_assembly_desk.specs.declared.fault.HeldFault.{HeldFault}
 use Rattle.dm_assembly_desk.specs.declared.reply.Held.{Held}
 use Rattle.relay_streams.specs.Streams.{AppendsPart, OutputView}
-use Rattle.relay_streams.specs.declared.fault.WriteFault.{WriteFault}
-use Rattle.relay_shared.specs.Telling.{Tells}
 use Rattle.relay_desk_commands.specs.Held.{SeenFiles, SeesNumber, documents_in, joint_line, seen_line}
 use Rattle.relay_desk_commands.specs.Held.Lists.{begun, further}
 use Rattle.relay_desk_commands.specs.inner.Listing.{CutsList, WritesList}
-
--- the line was written, or the output has refused it and a part of it is out; the status is 1 either way
-pub told_else : (line : List ℕ) (old new : OutputView) (put : Result (Unit {0}) WriteFault) →
-    OnOk put (Appends old.contents new.contents line) → AppendsPart old.contents new.contents line →
-    OnErr put (new.has_failed ≡ true) → Tells line 1 old new 1
-told_else line old new (Ok x) written part failed = inl (written, refl)
-told_else line old new (Err e) written part failed = inr (failed, part, refl)
 
 module _ (seen : SeenFiles) where
   pub first_line : (unsound : Bool) (old new : OutputView) → unsound ≡ is_err seen.joint →

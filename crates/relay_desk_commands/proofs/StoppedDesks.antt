@@ -1,6 +1,6 @@
 -- Why a stop leaves the files of a desk whose command is done: no save of the desk failed then, so its set holds just
 -- the files of what it holds, and of such a desk it is known what a stop leaves.
-use Rattle.std.proofs.Common.{◌≡◌, ◌⊎◌, inl, inr, ℕ, List, Bool, true, false, Option, Some, None, Result, Ok, Err}
+use Rattle.std.proofs.Common.{◌≡◌, inl, inr, ℕ, List, Bool, true, false, Option, Some, None, Result, Ok, Err}
 use Rattle.std.proofs.Common.{refl, sym, ap, subst, ◌∙◌}
 use Rattle.std.specs.Prelude.{option_map, if◌then◌else◌, ◌||◌, ◌++◌}
 use Rattle.std.specs.Io.KnownBytes.{Appends}
@@ -12,7 +12,7 @@ use Rattle.dm_append_label.specs.declared.opening.Opened.{Opened}
 use Rattle.dm_append_label.specs.declared.fault.LabelFault.{LabelFault}
 use Rattle.dm_pbm_io.specs.Image.{Picture}
 use Rattle.dm_assembly_desk.specs.Accepting.{AcceptsPage, ChangesByPage, Scans}
-use Rattle.dm_assembly_desk.specs.FaultNames.{scan_fault_name}
+use Rattle.dm_assembly_desk.specs.FaultNames.{forget_fault_name, import_fault_name, scan_fault_name}
 use Rattle.dm_assembly_desk.specs.Files.{file}
 use Rattle.dm_assembly_desk.specs.Forgetting.{Forgets}
 use Rattle.dm_assembly_desk.specs.Importing.{ChangesByFile, ImportsBytes, IsReadAs}
@@ -28,13 +28,15 @@ use Rattle.dm_assembly_desk.specs.declared.reply.Imported.{Imported}
 use Rattle.dm_assembly_desk.specs.declared.reply.Kind.{Kind}
 use Rattle.dm_assembly_desk.specs.declared.reply.Kind.TheVariants.{New, Again, Complete}
 use Rattle.relay_streams.specs.Streams.{OutputView}
+pub use Rattle.relay_shared.proofs.Telling.{refused_by as refused}
+use Rattle.relay_shared.specs.DeskLines.{forgotten_line, imported_line}
+use Rattle.relay_shared.specs.Telling.{TellsAnswer}
 use Rattle.relay_shared.specs.EachImage.{AnswersImages, Comes, EndsImages, Progress, Said, SoFar, Step, Taken, TellsImages}
 use Rattle.relay_shared.specs.EachImage.{refusal_of}
 use Rattle.relay_shared.specs.EachImage.AnswersImages.{none as no_images, another}
 use Rattle.relay_shared.specs.EachImage.Comes.{image, unread, too_many}
 use Rattle.relay_shared.specs.EachImage.EndsImages.{no_image, last_line}
 use Rattle.relay_shared.specs.Surroundings.{StreamsView}
-use Rattle.relay_desk_commands.specs.Desks.{TellsForget, TellsImport}
 use Rattle.relay_desk_commands.specs.Lasting.{LeavesFiles, ScanLeaves}
 use Rattle.relay_desk_commands.specs.Lasting.ScanLeaves.{all, save_failed, output_failed}
 use Rattle.relay_desk_commands.specs.Scan.{ScansPicture, scan_images}
@@ -58,17 +60,12 @@ leaves_files desk left kept running durable key bytes is =
 
 -- ---- a command that is done
 
--- a line of a refusal was told, or its output has failed
-pub refused : {P Q R : Type 0} {status : ℕ} → (P × (status ≡ 1)) ⊎ (Q × R × (status ≡ 1)) → status ≡ 1
-refused (inl whole) = whole.1
-refused (inr part) = part.2
-
 pub not_done : {P : Type 0} (status : ℕ) → status ≡ 1 → status ≡ 0 → P
 not_done status is zero = absurd cc
 
 pub forget_done : (id : ℕ) (before : DeskView) (reply : Result (Unit {0}) ForgetFault) (after : DeskView)
     (old : OutputView) (status : ℕ) (new : OutputView) → Forgets id before reply after
-    → TellsForget id reply old status new → status ≡ 0 → after.is_failed ≡ false
+    → TellsAnswer (λ _. forgotten_line id) forget_fault_name reply old status new → status ≡ 0 → after.is_failed ≡ false
 forget_done id before (Ok _) after old status new lets_go tells zero = lets_go.holding.running
 forget_done id before (Err fault) after old status new lets_go tells zero = not_done status (refused tells) zero
 
@@ -89,7 +86,8 @@ imported bytes before reply after running takes =
 
 pub import_done : (bytes : List ℕ) (before : DeskView) (reply : Result Imported ImportFault) (after : DeskView)
     (old : OutputView) (status : ℕ) (new : OutputView) → before.is_failed ≡ false
-    → ImportsBytes bytes before reply after → TellsImport reply old status new → status ≡ 0 → after.is_failed ≡ false
+    → ImportsBytes bytes before reply after → TellsAnswer imported_line import_fault_name reply old status new
+    → status ≡ 0 → after.is_failed ≡ false
 import_done bytes before (Ok reply) after old status new running takes tells zero =
     imported bytes before reply after running takes
 import_done bytes before (Err fault) after old status new running takes tells zero =

@@ -95,12 +95,7 @@ pub data EndsCopy (options : CopyOptions) (old : OnDesk) (status : ℕ) (new : O
 abbrev pub OpensAsHeld : {A : Type 0} → Documents → AskedPage → Result (Opened A) LabelFault → Type 0
 OpensAsHeld held asked (Ok opened) = IsPageHeld held asked opened.page × (opened.corrected ≡ 0) × (opened.wrong ≡ 0)
 OpensAsHeld held asked (Err labels.Memory) = Unit {0}
-OpensAsHeld held asked (Err (labels.Border wrong)) = ⊥
-OpensAsHeld held asked (Err (labels.Block block)) = ⊥
-OpensAsHeld held asked (Err labels.NotAppended) = ⊥
-OpensAsHeld held asked (Err (labels.Sequence word)) = ⊥
-OpensAsHeld held asked (Err labels.FileId) = ⊥
-OpensAsHeld held asked (Err (labels.Content fault)) = ⊥
+OpensAsHeld held asked (Err _) = ⊥
 
 -- if a page was opened, it is the page that is asked for as it is held, and no other
 abbrev pub OpensAsNoOther : {A : Type 0} → Documents → AskedPage → Result (Opened A) LabelFault → Type 0

@@ -25,7 +25,7 @@ use Rattle.dm_assembly_desk.specs.declared.fault.ImportFault.{ImportFault}
 use Rattle.dm_assembly_desk.specs.declared.fault.MoveFault.{MoveFault}
 use Rattle.dm_assembly_desk.specs.declared.reply.Imported.{Imported}
 use Rattle.relay_streams.specs.FaultNames.{input_fault_name, write_fault_name}
-use Rattle.relay_streams.specs.Streams.{AppendsPart, InputView, OutputView, TakesFirst}
+use Rattle.relay_streams.specs.Streams.{AppendsPart, InputView, TakesFirst}
 use Rattle.relay_streams.specs.declared.fault.InputFault.{InputFault}
 use Rattle.relay_streams.specs.declared.fault.WriteFault.TheVariants.{Write}
 use Rattle.relay_desk_commands.specs.declared.giving.Given.{Given}
@@ -36,7 +36,7 @@ use Rattle.relay_shared.specs.Documents.{HasInputFault}
 use Rattle.relay_shared.specs.Refusals.{refusal_name}
 use Rattle.relay_shared.specs.declared.refusal.Refusal.TheVariants as refusals
 use Rattle.relay_shared.specs.Surroundings.{LeavesErrors, OnlyOutput, ReadsNothing, RefusesOnErrors, RefusesOnOutput, StreamsView}
-use Rattle.relay_shared.specs.Telling.{Tells, TellsRefusal}
+use Rattle.relay_shared.specs.Telling.{TellsAnswer, TellsRefusal}
 
 -- ---- a desk's files
 
@@ -49,6 +49,9 @@ pub record DeskFiles : Type 0 where
 pub record OnDesk : Type 0 where
   pub files : DeskFiles
   pub streams : StreamsView
+
+abbrev pub desk_at : Saved → SavedSet → StreamsView → OnDesk
+desk_at joint set streams = record { files = record { joint = joint; set = set }; streams = streams }
 
 -- The documents of the joint file were moved to the set, and nothing that both held was lost. Honesty stays, the plans
 -- of loads stay, and fine plans of saves stay fine.
@@ -133,11 +136,6 @@ EndsExport text old status new = EndsGiving File text old status new
 
 -- ---- what is let go, and what is taken in
 
--- the line of what a desk answers where a document is to be forgotten
-abbrev pub TellsForget : ℕ → Result (Unit {0}) ForgetFault → OutputView → ℕ → OutputView → Type 0
-TellsForget id (Ok _) old status new = Tells (forgotten_line id) 0 old new status
-TellsForget id (Err fault) old status new = TellsRefusal (forget_fault_name fault) old new status
-
 -- how `forget` ends: the desk was opened and has answered; or the text is no identification's, or there is no desk
 pub data EndsForget (text : List ℕ) (old : OnDesk) (status : ℕ) (new : OnDesk) : Type 0 where
   no_id : ¬ HasId text → new.files ≡ old.files
@@ -146,13 +144,9 @@ pub data EndsForget (text : List ℕ) (old : OnDesk) (status : ℕ) (new : OnDes
       → RefusesOnOutput name old.streams status new.streams → EndsForget text old status new
   opened : (id : ℕ) (desk after : DeskView) (reply : Result (Unit {0}) ForgetFault) → HasId text → IsTextOfId text id
       → OpensDesk old.files MOST_CAPACITY new.files.joint desk → Forgets id desk reply after
-      → new.files.set ≡ after.saved → TellsForget id reply old.streams.output status new.streams.output
+      → new.files.set ≡ after.saved
+      → TellsAnswer (λ _. forgotten_line id) forget_fault_name reply old.streams.output status new.streams.output
       → OnlyOutput old.streams new.streams → EndsForget text old status new
-
--- the line of what a desk answers to bytes that it is to take in
-abbrev pub TellsImport : Result Imported ImportFault → OutputView → ℕ → OutputView → Type 0
-TellsImport (Ok reply) old status new = Tells (imported_line reply) 0 old new status
-TellsImport (Err fault) old status new = TellsRefusal (import_fault_name fault) old new status
 
 -- these bytes were read, and no other: one more than the greatest file has, or all where they are fewer
 abbrev pub ReadsFile : InputView → InputView → List ℕ → Type 0
@@ -171,5 +165,5 @@ pub data EndsImport (capacity : ℕ) (old : OnDesk) (status : ℕ) (new : OnDesk
   opened : (bytes : List ℕ) (desk after : DeskView) (reply : Result Imported ImportFault)
       → ReadsFile old.streams.input new.streams.input bytes → OpensDesk old.files capacity new.files.joint desk
       → ImportsBytes bytes desk reply after → new.files.set ≡ after.saved
-      → TellsImport reply old.streams.output status new.streams.output
+      → TellsAnswer imported_line import_fault_name reply old.streams.output status new.streams.output
       → LeavesErrors old.streams new.streams → EndsImport capacity old status new

@@ -43,12 +43,8 @@ documents_in (Err fault) = map.empty
 abbrev pub HasJointUnsound : Saved → MoveFault → Type 0
 HasJointUnsound saved moves.Device = saved.load_plan ≡ LoadsOpen
 HasJointUnsound saved moves.Memory = Unit {0}
-HasJointUnsound saved moves.NotPages =
-    IsTrue saved.is_honest → IsSomeAnd saved.content (λ bytes. HasJointFileFault bytes moves.NotPages)
-HasJointUnsound saved moves.Version =
-    IsTrue saved.is_honest → IsSomeAnd saved.content (λ bytes. HasJointFileFault bytes moves.Version)
-HasJointUnsound saved moves.Damaged =
-    IsTrue saved.is_honest → IsSomeAnd saved.content (λ bytes. HasJointFileFault bytes moves.Damaged)
+HasJointUnsound saved fault =
+    IsTrue saved.is_honest → IsSomeAnd saved.content (λ bytes. HasJointFileFault bytes fault)
 
 -- what was found of the file of an older version is true of it
 abbrev pub SeesJoint : Saved → Result (Option Documents) MoveFault → Type 0
@@ -99,9 +95,7 @@ status_by unsound = if unsound then 1 else 0
 abbrev pub HasNoKeys : SavedSet → HeldFault → Type 0
 HasNoKeys set looks.Device = set.load_plan ≡ LoadsOpen
 HasNoKeys set looks.Memory = Unit {0}
-HasNoKeys set looks.NotPages = ⊥
-HasNoKeys set looks.Version = ⊥
-HasNoKeys set looks.Damaged = ⊥
+HasNoKeys set _ = ⊥
 
 -- What `held` says of all documents: each line was written; or the output has failed, and a part of some first lines is
 -- out; or the keys of the files could not be had.
@@ -129,8 +123,7 @@ asked_line joint number (Err fault) = unsound_line number (held_fault_name fault
 -- the exit status after it: 0 if a page is held
 abbrev pub asked_status : Result (Option Held) HeldFault → ℕ
 asked_status (Ok (Some held)) = 0
-asked_status (Ok None) = 1
-asked_status (Err fault) = 1
+asked_status _ = 1
 
 -- what `held` says of one document
 abbrev pub TellsOne : SeenFiles → ℕ → OutputView → ℕ → OutputView → Type 0

@@ -13,7 +13,7 @@ use Rattle.dm_assembly_desk.specs.Views.{DeskView, IsInOrder}
 use Rattle.dm_assembly_desk.specs.declared.fault.ScanFault.{ScanFault}
 use Rattle.dm_assembly_desk.specs.declared.reply.Accepted.{Accepted}
 use Rattle.relay_shared.specs.DeskLines.{accepted_line}
-use Rattle.relay_shared.specs.EachImage.{ImageCommand, Said, TellsImages, refusal_of}
+use Rattle.relay_shared.specs.EachImage.{ImageCommand, Said, TellsImages, progress_at, refusal_of}
 use Rattle.relay_shared.specs.Surroundings.{LeavesErrors, RefusesOnOutput}
 use Rattle.relay_desk_commands.specs.Desks.{HasNoDesk, OnDesk, OpensDesk}
 
@@ -49,9 +49,7 @@ pub data EndsScan (A : Type 0) (capacity : ℕ) (old : OnDesk) (status : ℕ) (n
   no_desk : (name : List ℕ) → HasNoDesk old.files capacity name new.files
       → RefusesOnOutput name old.streams status new.streams → EndsScan A capacity old status new
   opened : (desk after : DeskView) → OpensDesk old.files capacity new.files.joint desk
-      → TellsImages (scan_images A)
-      (record { state = desk; input = old.streams.input; output = old.streams.output })
-      status
-      (record { state = after; input = new.streams.input; output = new.streams.output })
+      → TellsImages (scan_images A) (progress_at desk old.streams.input old.streams.output) status
+      (progress_at after new.streams.input new.streams.output)
       → KeepsPages desk.held after.held → IsInOrder after → new.files.set ≡ after.saved
       → LeavesErrors old.streams new.streams → EndsScan A capacity old status new

@@ -9,7 +9,7 @@ ghost use Rattle.dm_pbm_io.specs.Shown.{picture};
 ghost use Rattle.dm_pbm_io.specs.SymbolImage.{image_with_quiet_zone};
 ghost use Rattle.dm_pbm_io.specs.Writing.{written};
 ghost use Rattle.relay_desk_commands.specs.Copy.{Copies, EndsCopy, HasCopyFault, IsLabelOf, copy_fault_name};
-ghost use Rattle.relay_desk_commands.specs.Desks.{TellsBytes};
+ghost use Rattle.relay_desk_commands.specs.Desks.{TellsBytes, desk_at};
 ghost use Rattle.relay_desk_commands.specs.declared.copy.CopyFault.TheVariants as copy_faults;
 
 use crate::desk_opening::open_desk;
@@ -220,10 +220,8 @@ pub fn copy_command<A: Allocator + Copy, S: Store, T: StoreSet, R: Read, W: Writ
     streams: &mut Streams<R, W, E>,
     options: CopyOptions,
 ) -> EndedDesk<S, T>
-    ensures { EndsCopy options.entry
-        (record { files = record { joint = S.state store; set = T.state set }; streams = streams.old })
-        result.status
-        (record { files = record { joint = S.state result.store; set = T.state result.set }; streams = streams.new }) }
+    ensures { EndsCopy options.entry (desk_at (S.state store) (T.state set) streams.old) result.status
+        (desk_at (S.state result.store) (T.state result.set) streams.new) }
 {
     let Some(id) = id_of(options.id) else {
         let status = refuse(&mut streams.errors, Refusal::FileId.name());

@@ -1,9 +1,12 @@
 //! `relay forget`: a document let go.
 
 ghost use Rattle.std.specs.Prelude.{◌≡◌, false, Result};
+ghost use Rattle.dm_assembly_desk.specs.FaultNames.{forget_fault_name};
 ghost use Rattle.dm_assembly_desk.specs.Forgetting.{Forgets};
 ghost use Rattle.dm_assembly_desk.specs.declared.fault.ForgetFault.{ForgetFault};
-ghost use Rattle.relay_desk_commands.specs.Desks.{EndsForget, TellsForget};
+ghost use Rattle.relay_shared.specs.DeskLines.{forgotten_line};
+ghost use Rattle.relay_shared.specs.Telling.{TellsAnswer};
+ghost use Rattle.relay_desk_commands.specs.Desks.{EndsForget, desk_at};
 ghost use Rattle.relay_desk_commands.specs.Lasting.{LeavesFiles};
 
 use crate::desk_opening::open_desk;
@@ -24,7 +27,7 @@ fn forget<A: Allocator + Copy, T: StoreSet, W: Write>(
 ) -> u8
     requires { desk.old.is_failed ≡ false }
     ensures { (reply : Result (Unit {0}) ForgetFault) × Forgets id desk.old reply desk.new
-        × TellsForget id reply output.old result output.new }
+        × TellsAnswer (λ _. forgotten_line id) forget_fault_name reply output.old result output.new }
 {
     match desk.forget(id) {
         Ok(()) => status_after(put_forgotten(output, id)),
@@ -41,10 +44,8 @@ pub fn forget_command<A: Allocator + Copy, S: Store, T: StoreSet, R: Read, W: Wr
     streams: &mut Streams<R, W, E>,
     text: &str,
 ) -> EndedDesk<S, T>
-    ensures ends { EndsForget text.now
-        (record { files = record { joint = S.state store; set = T.state set }; streams = streams.old })
-        result.status
-        (record { files = record { joint = S.state result.store; set = T.state result.set }; streams = streams.new }) }
+    ensures ends { EndsForget text.now (desk_at (S.state store) (T.state set) streams.old) result.status
+        (desk_at (S.state result.store) (T.state result.set) streams.new) }
     ensures lasts { result.status ≡ 0 → LeavesFiles (T.state result.set) (T.left result.set) }
 {
     let Some(id) = id_of(text) else {

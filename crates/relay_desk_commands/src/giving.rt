@@ -1,8 +1,8 @@
-//! What is given out of a document at a desk.
+//! `relay deliver`: a document given back; and `relay export`: the pages that are held of it, for another desk.
 
 ghost use Rattle.std.specs.Prelude.{MatchResult};
 ghost use Rattle.std.specs.FinMap as map;
-ghost use Rattle.relay_desk_commands.specs.Desks.{EndsGiving, Gives, TellsBytes, Withholds};
+ghost use Rattle.relay_desk_commands.specs.Desks.{EndsDeliver, EndsExport, EndsGiving, Gives, TellsBytes, Withholds, desk_at};
 
 use crate::desk_opening::open_desk;
 use crate::file_id::id_of;
@@ -54,9 +54,8 @@ fn bytes_of<A: Allocator + Copy, T: StoreSet>(
     }
 }
 
-/// Writes what is given out of the document of an identification, whose two words the text has in hexadecimal, and
-/// nothing else. A refusal is a line on `errors`. The text is looked at before the files.
-pub(crate) fn give_out<A: Allocator + Copy, S: Store, T: StoreSet, R: Read, W: Write, E: Write>(
+// Writes what is given out of the document of an identification, and nothing else.
+fn give_out<A: Allocator + Copy, S: Store, T: StoreSet, R: Read, W: Write, E: Write>(
     alloc: A,
     store: S,
     set: T,
@@ -64,10 +63,8 @@ pub(crate) fn give_out<A: Allocator + Copy, S: Store, T: StoreSet, R: Read, W: W
     text: &str,
     given: Given,
 ) -> EndedDesk<S, T>
-    ensures { EndsGiving given text.now
-        (record { files = record { joint = S.state store; set = T.state set }; streams = streams.old })
-        result.status
-        (record { files = record { joint = S.state result.store; set = T.state result.set }; streams = streams.new }) }
+    ensures { EndsGiving given text.now (desk_at (S.state store) (T.state set) streams.old) result.status
+        (desk_at (S.state result.store) (T.state result.set) streams.new) }
 {
     let Some(id) = id_of(text) else {
         let status = refuse(&mut streams.errors, Refusal::FileId.name());
@@ -82,4 +79,34 @@ pub(crate) fn give_out<A: Allocator + Copy, S: Store, T: StoreSet, R: Read, W: W
         Err(name) => refuse(&mut streams.errors, name),
     };
     opened.end(status)
+}
+
+/// Writes the document of an identification, whose two words the text has in hexadecimal, where each of its pages is
+/// held, and nothing else. A refusal is a line on `errors`. The text is looked at before the files.
+pub fn deliver_command<A: Allocator + Copy, S: Store, T: StoreSet, R: Read, W: Write, E: Write>(
+    alloc: A,
+    store: S,
+    set: T,
+    streams: &mut Streams<R, W, E>,
+    text: &str,
+) -> EndedDesk<S, T>
+    ensures { EndsDeliver text.now (desk_at (S.state store) (T.state set) streams.old) result.status
+        (desk_at (S.state result.store) (T.state result.set) streams.new) }
+{
+    give_out(alloc, store, set, streams, text, Given::Document)
+}
+
+/// Writes the file of the pages that are held of a document, for `import` at another desk. A refusal is a line on
+/// `errors`. The text, as for `deliver`, is looked at before the files.
+pub fn export_command<A: Allocator + Copy, S: Store, T: StoreSet, R: Read, W: Write, E: Write>(
+    alloc: A,
+    store: S,
+    set: T,
+    streams: &mut Streams<R, W, E>,
+    text: &str,
+) -> EndedDesk<S, T>
+    ensures { EndsExport text.now (desk_at (S.state store) (T.state set) streams.old) result.status
+        (desk_at (S.state result.store) (T.state result.set) streams.new) }
+{
+    give_out(alloc, store, set, streams, text, Given::File)
 }

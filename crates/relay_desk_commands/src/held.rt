@@ -1,16 +1,15 @@
 //! `relay held`: what the files of a desk hold, told without a desk.
 
 ghost use Rattle.std.specs.Prelude.{◌≡◌, ◌+◌, ◌<◌, true, false, Option, Some, None, is_err, option_map, take};
-ghost use Rattle.std.specs.Prelude.{IfOk, IfSome, IsTrue, OnErr, OnOk, Result};
+ghost use Rattle.std.specs.Prelude.{IfOk, IfSome, IsTrue, OnErr, Result};
 ghost use Rattle.std.specs.FinMap as map;
-ghost use Rattle.std.specs.Io.KnownBytes.{Appends};
 ghost use Rattle.std.specs.Option.{option_copied};
 ghost use Rattle.dm_store.specs.Saved.{Saved};
 ghost use Rattle.dm_assembly_desk.specs.Documents.{Documents};
 ghost use Rattle.dm_assembly_desk.specs.Looking.{IsFirstFrom};
 ghost use Rattle.dm_assembly_desk.specs.declared.fault.MoveFault.{MoveFault};
-ghost use Rattle.relay_streams.specs.Streams.{AppendsPart};
-ghost use Rattle.relay_shared.specs.Telling.{Tells};
+ghost use Rattle.relay_shared.specs.Telling.{Puts, Tells};
+ghost use Rattle.relay_desk_commands.specs.Desks.{desk_at};
 ghost use Rattle.relay_desk_commands.specs.Held.{
   EndsHeld,
   SeesJoint,
@@ -103,9 +102,7 @@ fn put_seen<W: Write>(
     seen: Result<Option<Held>, HeldFault>,
 ) -> Result<(), WriteFault>
     requires { IfOk seen (λ found. IfSome found HasCount) }
-    ensures written { OnOk result (Appends output.old.contents output.new.contents (seen_line number seen)) }
-    ensures part { AppendsPart output.old.contents output.new.contents (seen_line number seen) }
-    ensures failed { OnErr result (output.new.has_failed ≡ true) }
+    ensures { Puts (seen_line number seen) output.old result output.new }
 {
     match seen {
         Ok(Some(held)) => put_held(output, held),
@@ -133,10 +130,8 @@ fn next_from(joint: &SeenJoint<'_>, first: Option<Held>, number: u32) -> Option<
 
 // Writes the line of the file of an older version, if it is not sound, and says whether it is not.
 fn put_joint<W: Write>(output: &mut Output<W>, joint: &SeenJoint<'_>) -> Result<bool, WriteFault>
-    ensures written { IfOk result (λ unsound. (unsound ≡ is_err joint.now)
-        × Appends output.old.contents output.new.contents (joint_line joint.now)) }
-    ensures part { AppendsPart output.old.contents output.new.contents (joint_line joint.now) }
-    ensures failed { OnErr result (output.new.has_failed ≡ true) }
+    ensures puts { Puts (joint_line joint.now) output.old result output.new }
+    ensures unsound { IfOk result (λ unsound. unsound ≡ is_err joint.now) }
 {
     match joint {
         Ok(_) => Ok(false),
@@ -277,10 +272,8 @@ pub fn held_command<S: Store, T: StoreSet, R: Read, W: Write, E: Write>(
     streams: &mut Streams<R, W, E>,
     text: Option<&str>,
 ) -> EndedDesk<S, T>
-    ensures { EndsHeld (option_copied text.entry)
-        (record { files = record { joint = S.state store; set = T.state set }; streams = streams.old })
-        result.status
-        (record { files = record { joint = S.state result.store; set = T.state result.set }; streams = streams.new }) }
+    ensures { EndsHeld (option_copied text.entry) (desk_at (S.state store) (T.state set) streams.old) result.status
+        (desk_at (S.state result.store) (T.state result.set) streams.new) }
 {
     let mut store = store;
     let mut set = set;

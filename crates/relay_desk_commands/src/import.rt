@@ -1,11 +1,14 @@
 //! `relay import`: pages from another desk.
 
 ghost use Rattle.std.specs.Prelude.{◌≡◌, false, Result};
+ghost use Rattle.dm_assembly_desk.specs.FaultNames.{import_fault_name};
 ghost use Rattle.dm_assembly_desk.specs.Importing.{ImportsBytes};
 ghost use Rattle.dm_assembly_desk.specs.declared.fault.ImportFault.{ImportFault};
 ghost use Rattle.dm_assembly_desk.specs.declared.reply.Imported.{Imported};
 ghost use Rattle.relay_streams.specs.Streams.{TakesPart};
-ghost use Rattle.relay_desk_commands.specs.Desks.{EndsImport, TellsImport};
+ghost use Rattle.relay_shared.specs.DeskLines.{imported_line};
+ghost use Rattle.relay_shared.specs.Telling.{TellsAnswer};
+ghost use Rattle.relay_desk_commands.specs.Desks.{EndsImport, desk_at};
 ghost use Rattle.relay_desk_commands.specs.Lasting.{LeavesFiles};
 
 use crate::desk_opening::open_desk;
@@ -27,7 +30,7 @@ fn import<A: Allocator + Copy, T: StoreSet, W: Write>(
 ) -> u8
     requires { desk.old.is_failed ≡ false }
     ensures { (reply : Result Imported ImportFault) × ImportsBytes bytes.now desk.old reply desk.new
-        × TellsImport reply output.old result output.new }
+        × TellsAnswer imported_line import_fault_name reply output.old result output.new }
 {
     match desk.import(bytes) {
         Ok(imported) => status_after(put_imported(output, imported)),
@@ -47,10 +50,8 @@ pub fn import_command<A: Allocator + Copy, S: Store, T: StoreSet, R: Read, W: Wr
     capacity: u16,
 ) -> EndedDesk<S, T>
     ensures part { TakesPart streams.old.input.remaining streams.new.input.remaining IMPORT_BYTES }
-    ensures ends { EndsImport capacity
-        (record { files = record { joint = S.state store; set = T.state set }; streams = streams.old })
-        result.status
-        (record { files = record { joint = S.state result.store; set = T.state result.set }; streams = streams.new }) }
+    ensures ends { EndsImport capacity (desk_at (S.state store) (T.state set) streams.old) result.status
+        (desk_at (S.state result.store) (T.state result.set) streams.new) }
     ensures lasts { result.status ≡ 0 → LeavesFiles (T.state result.set) (T.left result.set) }
 {
     let bytes = match streams.input.read_up_to(alloc, IMPORT_BYTES) {

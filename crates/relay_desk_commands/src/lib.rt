@@ -9,9 +9,7 @@
 #![tactic(auto)]
 
 mod copy;
-mod deliver;
 mod desk_opening;
-mod export;
 mod file_id;
 mod forget;
 mod giving;
@@ -22,9 +20,8 @@ mod notes;
 mod scan;
 
 pub use copy::{CopyOptions, copy_command};
-pub use deliver::deliver_command;
-pub use export::export_command;
 pub use forget::forget_command;
+pub use giving::{deliver_command, export_command};
 pub use held::held_command;
 pub use import::{IMPORT_BYTES, import_command};
 pub use notes::{NoNotes, Notes};

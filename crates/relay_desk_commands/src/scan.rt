@@ -3,6 +3,7 @@
 ghost use Rattle.std.specs.Prelude.{◌≡◌, false, true};
 ghost use Rattle.dm_assembly_desk.specs.Documents.{KeepsPages};
 ghost use Rattle.dm_assembly_desk.specs.Views.{IsInOrder};
+ghost use Rattle.relay_desk_commands.specs.Desks.{desk_at};
 ghost use Rattle.relay_desk_commands.specs.Lasting.{ScanLeaves};
 ghost use Rattle.relay_desk_commands.specs.Scan.{EndsScan, scan_images};
 
@@ -13,7 +14,9 @@ use dm_assembly_desk::{Desk, ScanFault};
 use dm_finder_frame::Grid;
 use dm_pbm_io::{Image, grid_of};
 use dm_store::{Store, StoreSet};
-use relay_shared::{Answered, EndedDesk, OnImages, Streams, each_image, put_accepted};
+use relay_shared::{
+    Answered, DONE, EndedDesk, OnImages, REFUSED, Streams, each_image, put_accepted,
+};
 use relay_streams::{Output, WriteFault};
 use std::alloc::Allocator;
 use std::io::{Read, Write};
@@ -60,29 +63,20 @@ impl<'a, T: StoreSet, A: Allocator + Copy, N: Notes> OnImages<A> for Scanning<'a
             Err(shape) => {
                 output.put_refusal(shape.name())?;
                 self.notes.note(number, None, shape.name());
-                return Ok(Answered {
-                    refused: true,
-                    last: false,
-                });
+                return Ok(REFUSED);
             }
         };
         match self.desk.accept(&grid) {
             Ok(accepted) => {
                 put_accepted(output, accepted)?;
-                Ok(Answered {
-                    refused: false,
-                    last: false,
-                })
+                Ok(DONE)
             }
             Err(fault) => {
                 output.put_refusal(fault.name())?;
                 self.notes
                     .note(number, id_of_label(alloc, &grid), fault.name());
                 let last = is_save(fault);
-                Ok(Answered {
-                    refused: true,
-                    last,
-                })
+                Ok(Answered { last, ..REFUSED })
             }
         }
     }
@@ -120,10 +114,8 @@ pub fn scan_with_notes<
     notes: &mut N,
     capacity: u16,
 ) -> EndedDesk<S, T>
-    ensures ends { EndsScan A capacity
-        (record { files = record { joint = S.state store; set = T.state set }; streams = streams.old })
-        result.status
-        (record { files = record { joint = S.state result.store; set = T.state result.set }; streams = streams.new }) }
+    ensures ends { EndsScan A capacity (desk_at (S.state store) (T.state set) streams.old) result.status
+        (desk_at (S.state result.store) (T.state result.set) streams.new) }
     ensures lasts { ScanLeaves streams.old result.status streams.new (T.state result.set) (T.left result.set) }
 {
     let opened = match open_desk(alloc, store, set, &mut streams.output, capacity) {
@@ -150,10 +142,8 @@ pub fn scan_command<A: Allocator + Copy, S: Store, T: StoreSet, R: Read, W: Writ
     streams: &mut Streams<R, W, E>,
     capacity: u16,
 ) -> EndedDesk<S, T>
-    ensures ends { EndsScan A capacity
-        (record { files = record { joint = S.state store; set = T.state set }; streams = streams.old })
-        result.status
-        (record { files = record { joint = S.state result.store; set = T.state result.set }; streams = streams.new }) }
+    ensures ends { EndsScan A capacity (desk_at (S.state store) (T.state set) streams.old) result.status
+        (desk_at (S.state result.store) (T.state result.set) streams.new) }
     ensures lasts { ScanLeaves streams.old result.status streams.new (T.state result.set) (T.left result.set) }
 {
     scan_with_notes(alloc, store, set, streams, &mut NoNotes, capacity)

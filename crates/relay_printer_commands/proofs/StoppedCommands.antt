@@ -9,6 +9,7 @@ use Rattle.dm_store.specs.Disk.{Content}
 use Rattle.dm_store.specs.Saved.{Saved, Replaces}
 use Rattle.dm_store.specs.declared.store.ReplaceFault.{ReplaceFault}
 use Rattle.dm_store.specs.Left.{Left, IsDurable, LeavesNoMore}
+use Rattle.dm_print_ledger.specs.FaultNames.{give_fault_name, take_fault_name}
 use Rattle.dm_print_ledger.specs.Ledger.{Spells}
 use Rattle.dm_print_ledger.specs.Lasting.{IsInOrder, SpellsEither}
 use Rattle.dm_print_ledger.specs.Moving.{Gives, GivesAway, Takes}
@@ -24,10 +25,12 @@ use Rattle.dm_print_ledger.specs.declared.fault.TakeFault.{TakeFault}
 use Rattle.dm_print_ledger.specs.declared.fault.TakeFault.TheVariants as taking
 use Rattle.dm_print_ledger.specs.declared.range.Range.{Range}
 use Rattle.relay_streams.specs.Streams.{OutputView}
+pub use Rattle.relay_shared.proofs.Telling.{refused_by}
+use Rattle.relay_shared.specs.PrinterLines.{taken_line, ticket_line}
 use Rattle.relay_shared.specs.Surroundings.{StreamsView}
+use Rattle.relay_shared.specs.Telling.{TellsAnswer}
 use Rattle.relay_printer_commands.specs.Lasting.{HasPrinted, SpellsThisOrNext, StopLeaves, StoredLedger, TakesText, UsesOne}
 use Rattle.relay_printer_commands.specs.Print.{TellsPrint}
-use Rattle.relay_printer_commands.specs.Printers.{TellsGive, TellsTake}
 use Rattle.relay_printer_commands.specs.Tickets.{IsTextOf}
 
 -- ---- what a call makes of a printer
@@ -170,11 +173,6 @@ not_begun Makes IsDone old new not_done kept = record {
 
 -- ---- a command that is done has saved
 
--- a line of a refusal was told, or its output has failed
-pub refused_by : {P Q R : Type 0} {status : ℕ} → (P × (status ≡ 1)) ⊎ (Q × R × (status ≡ 1)) → status ≡ 1
-refused_by (inl whole) = whole.1
-refused_by (inr part) = part.2
-
 pub not_zero : {status : ℕ} → status ≡ 1 → ¬ (status ≡ 0)
 not_zero is zero = cc
 
@@ -183,21 +181,22 @@ pub not_printed : {status : ℕ} {old new : OutputView} → status ≡ 1 → new
 not_printed is same (inl zero) = not_zero is zero
 not_printed is same (inr other) = other same
 
-module _ (before after : PrinterView) (old : StreamsView) (status : ℕ) (new : StreamsView) where
-  pub print_done : (size : Size) (scheme : Scheme) (document : List ℕ) (answer : Result JobView PrintFault) (left : ℕ)
-      → Prints before size scheme document answer after → TellsPrint answer left old status new
-      → HasPrinted status old new → Saves before after.ledger after
-  print_done size scheme document (Ok job) left prints tells is = prints.3.saved
-  print_done size scheme document (Err fault) left prints tells is =
+module _ (before after : PrinterView) (status : ℕ) where
+  pub print_done : (old new : StreamsView) (size : Size) (scheme : Scheme) (document : List ℕ)
+      (answer : Result JobView PrintFault) (left : ℕ) → Prints before size scheme document answer after
+      → TellsPrint answer left old status new → HasPrinted status old new → Saves before after.ledger after
+  print_done old new size scheme document (Ok job) left prints tells is = prints.3.saved
+  print_done old new size scheme document (Err fault) left prints tells is =
       absurd (not_printed (refused_by tells.0) (ap (λ (s : StreamsView). s.output) tells.1) is)
 
-  pub give_done : (to : ℕ) (range : Range) (answer : Result TicketView GiveFault) → Gives before to range answer after
-      → TellsGive answer old status new → status ≡ 0 → Saves before after.ledger after
-  give_done to range (Ok ticket) gives tells is = gives.3
-  give_done to range (Err fault) gives tells is = absurd (not_zero (refused_by tells.0) is)
+  pub give_done : (old new : OutputView) (to : ℕ) (range : Range) (answer : Result TicketView GiveFault)
+      → Gives before to range answer after → TellsAnswer ticket_line give_fault_name answer old status new
+      → status ≡ 0 → Saves before after.ledger after
+  give_done old new to range (Ok ticket) gives tells is = gives.3
+  give_done old new to range (Err fault) gives tells is = absurd (not_zero (refused_by tells) is)
 
-  pub take_done : (ticket : TicketView) (answer : Result (Unit {0}) TakeFault) (left : ℕ)
-      → Takes before ticket answer after → TellsTake answer left old status new → status ≡ 0
-      → Saves before after.ledger after
-  take_done ticket (Ok done) left takes tells is = takes.2
-  take_done ticket (Err fault) left takes tells is = absurd (not_zero (refused_by tells.0) is)
+  pub take_done : (old new : OutputView) (ticket : TicketView) (answer : Result (Unit {0}) TakeFault) (left : ℕ)
+      → Takes before ticket answer after → TellsAnswer (λ _. taken_line left) take_fault_name answer old status new
+      → status ≡ 0 → Saves before after.ledger after
+  take_done old new ticket (Ok done) left takes tells is = takes.2
+  take_done old new ticket (Err fault) left takes tells is = absurd (not_zero (refused_by tells) is)

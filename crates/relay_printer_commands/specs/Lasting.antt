@@ -23,6 +23,9 @@ pub record StoredLedger : Type 1 where
   pub saved : Saved
   pub left : Left
 
+abbrev pub stored : Saved → Left → StoredLedger
+stored saved left = record { saved = saved; left = left }
+
 -- `old` and `new` are the store before and after a command that may make the ledger b of the ledger a if `Makes a b`.
 -- If the store is durable, a stop leaves, once the command `IsDone`, the ledger that the store then holds. Whether it
 -- is done or not, a stop leaves what it might have left before; or the ledger that was held before, or one that the

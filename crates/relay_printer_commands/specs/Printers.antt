@@ -1,5 +1,5 @@
 -- What `ledger`, `give` and `take` do to the store of a ledger and to the streams.
-use Rattle.std.specs.Prelude.{◌≡◌, ℕ, Result, Ok, Err}
+use Rattle.std.specs.Prelude.{◌≡◌, ℕ, Result}
 use Rattle.dm_store.specs.Saved.{Saved}
 use Rattle.dm_print_ledger.specs.Creating.{Creates, HasCreateFault}
 use Rattle.dm_print_ledger.specs.FaultNames.{create_fault_name, open_fault_name, give_fault_name, take_fault_name}
@@ -13,7 +13,8 @@ use Rattle.dm_print_ledger.specs.declared.fault.OpenFault.{OpenFault}
 use Rattle.dm_print_ledger.specs.declared.fault.TakeFault.{TakeFault}
 use Rattle.relay_shared.specs.PrinterLines.{left_line, taken_line, ticket_line}
 use Rattle.relay_shared.specs.Refusals.{refusal_name}
-use Rattle.relay_shared.specs.Surroundings.{RefusesOnOutput, StreamsView, TellsOnOutput}
+use Rattle.relay_shared.specs.Surroundings.{OnlyOutput, RefusesOnOutput, StreamsView, TellsOnOutput}
+use Rattle.relay_shared.specs.Telling.{TellsAnswer}
 use Rattle.relay_shared.specs.declared.refusal.Refusal.TheVariants.{Ticket}
 use Rattle.relay_printer_commands.specs.Tickets.{HasTicket, IsTextOf}
 use Rattle.relay_printer_commands.specs.declared.give.GiveOptions.{GiveOptions}
@@ -24,6 +25,9 @@ use Rattle.relay_printer_commands.specs.declared.take.TakeOptions.{TakeOptions}
 pub record OnLedger : Type 0 where
   pub saved : Saved
   pub streams : StreamsView
+
+abbrev pub ledger_at : Saved → StreamsView → OnLedger
+ledger_at saved streams = record { saved = saved; streams = streams }
 
 -- ---- ledger
 
@@ -39,26 +43,17 @@ pub data EndsLedger (options : LedgerOptions) (old : OnLedger) (status : ℕ) (n
 
 -- ---- give
 
--- the line of a printer's answer to a range that it is to give
-abbrev pub TellsGive : Result TicketView GiveFault → StreamsView → ℕ → StreamsView → Type 0
-TellsGive (Ok ticket) old status new = TellsOnOutput (ticket_line ticket) old status new
-TellsGive (Err fault) old status new = RefusesOnOutput (give_fault_name fault) old status new
-
 -- how `give` ends: the printer was opened and has answered, and the output was told; or why it was not opened
 pub data EndsGive (options : GiveOptions) (old : OnLedger) (status : ℕ) (new : OnLedger) : Type 0 where
   opened : (before after : PrinterView) (answer : Result TicketView GiveFault)
       → Opens old.saved options.number before → Gives before options.to options.range answer after
-      → new.saved ≡ after.saved → TellsGive answer old.streams status new.streams
-      → EndsGive options old status new
+      → new.saved ≡ after.saved
+      → TellsAnswer ticket_line give_fault_name answer old.streams.output status new.streams.output
+      → OnlyOutput old.streams new.streams → EndsGive options old status new
   not_opened : (fault : OpenFault) → HasOpenFault old.saved options.number fault → new.saved ≡ old.saved
       → RefusesOnOutput (open_fault_name fault) old.streams status new.streams → EndsGive options old status new
 
 -- ---- take
-
--- the line of a printer's answer to a ticket that it is to take, if this many identifications are free then
-abbrev pub TellsTake : Result (Unit {0}) TakeFault → ℕ → StreamsView → ℕ → StreamsView → Type 0
-TellsTake (Ok _) left old status new = TellsOnOutput (taken_line left) old status new
-TellsTake (Err fault) left old status new = RefusesOnOutput (take_fault_name fault) old status new
 
 -- how `take` ends: the text is that of no ticket; or the printer was opened and has answered, or it was not opened
 pub data EndsTake (options : TakeOptions) (old : OnLedger) (status : ℕ) (new : OnLedger) : Type 0 where
@@ -67,8 +62,8 @@ pub data EndsTake (options : TakeOptions) (old : OnLedger) (status : ℕ) (new :
   opened : (ticket : TicketView) (before after : PrinterView) (answer : Result (Unit {0}) TakeFault)
       → HasTicket options.text.now → IsTextOf options.text.now ticket → Opens old.saved options.number before
       → Takes before ticket answer after → new.saved ≡ after.saved
-      → TellsTake answer (free_count after.ledger.free) old.streams status new.streams
-      → EndsTake options old status new
+      → TellsAnswer (λ _. taken_line (free_count after.ledger.free)) take_fault_name answer old.streams.output status
+      new.streams.output → OnlyOutput old.streams new.streams → EndsTake options old status new
   not_opened : (fault : OpenFault) → HasTicket options.text.now → HasOpenFault old.saved options.number fault
       → new.saved ≡ old.saved → RefusesOnOutput (open_fault_name fault) old.streams status new.streams
       → EndsTake options old status new

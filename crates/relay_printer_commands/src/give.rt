@@ -1,14 +1,18 @@
 //! `relay give`: identifications for another printer.
 
 ghost use Rattle.std.specs.Prelude.{◌≡◌};
+ghost use Rattle.dm_print_ledger.specs.FaultNames.{give_fault_name};
 ghost use Rattle.dm_print_ledger.specs.Moving.{GivesAway};
-ghost use Rattle.relay_printer_commands.specs.Lasting.{StopLeaves};
-ghost use Rattle.relay_printer_commands.specs.Printers.{EndsGive, TellsGive};
+ghost use Rattle.relay_shared.specs.PrinterLines.{ticket_line};
+ghost use Rattle.relay_shared.specs.Telling.{TellsAnswer};
+ghost use Rattle.relay_printer_commands.specs.Lasting.{StopLeaves, stored};
+ghost use Rattle.relay_printer_commands.specs.Printers.{EndsGive, ledger_at};
 
 use crate::opening::open_printer;
 use dm_print_ledger::{GiveFault, Range, Ticket};
 use dm_store::Store;
 use relay_shared::{Ended, Streams, put_ticket, refuse, status_after};
+use relay_streams::Output;
 use std::alloc::Allocator;
 use std::io::{Read, Write};
 
@@ -24,15 +28,12 @@ pub struct GiveOptions {
 }
 
 // Writes the line of a printer's answer to a range that it was to give.
-fn tell_give<R: Read, W: Write, E: Write>(
-    streams: &mut Streams<R, W, E>,
-    answer: Result<Ticket, GiveFault>,
-) -> u8
-    ensures { TellsGive answer streams.old result streams.new }
+fn tell_give<W: Write>(output: &mut Output<W>, answer: Result<Ticket, GiveFault>) -> u8
+    ensures { TellsAnswer ticket_line give_fault_name answer output.old result output.new }
 {
     match answer {
-        Ok(ticket) => status_after(put_ticket(&mut streams.output, ticket)),
-        Err(fault) => refuse(&mut streams.output, fault.name()),
+        Ok(ticket) => status_after(put_ticket(output, ticket)),
+        Err(fault) => refuse(output, fault.name()),
     }
 }
 
@@ -44,18 +45,17 @@ pub fn give_command<A: Allocator + Copy, S: Store, R: Read, W: Write, E: Write>(
     streams: &mut Streams<R, W, E>,
     options: GiveOptions,
 ) -> Ended<S>
-    ensures ends { EndsGive options (record { saved = S.state store; streams = streams.old }) result.status
-        (record { saved = S.state result.store; streams = streams.new }) }
+    ensures ends { EndsGive options (ledger_at (S.state store) streams.old) result.status
+        (ledger_at (S.state result.store) streams.new) }
     ensures lasts { StopLeaves (λ held next. GivesAway held options.range next) (result.status ≡ 0)
-        (record { saved = S.state store; left = S.left store })
-        (record { saved = S.state result.store; left = S.left result.store }) }
+        (stored (S.state store) (S.left store)) (stored (S.state result.store) (S.left result.store)) }
 {
     let mut printer = match open_printer(alloc, store, &mut streams.output, options.number) {
         Ok(printer) => printer,
         Err(ended) => return ended,
     };
     let answer = printer.give(options.to, options.range);
-    let status = tell_give(streams, answer);
+    let status = tell_give(&mut streams.output, answer);
     let store = printer.close();
     Ended { status, store }
 }

@@ -1,6 +1,6 @@
 //! `relay ledger`: a printer that is new.
 
-ghost use Rattle.relay_printer_commands.specs.Printers.{EndsLedger};
+ghost use Rattle.relay_printer_commands.specs.Printers.{EndsLedger, ledger_at};
 
 use dm_print_ledger::{CreateRefused, Printer, Range};
 use dm_store::Store;
@@ -25,8 +25,8 @@ pub fn ledger_command<A: Allocator + Copy, S: Store, R: Read, W: Write, E: Write
     streams: &mut Streams<R, W, E>,
     options: LedgerOptions,
 ) -> Ended<S>
-    ensures { EndsLedger options (record { saved = S.state store; streams = streams.old }) result.status
-        (record { saved = S.state result.store; streams = streams.new }) }
+    ensures { EndsLedger options (ledger_at (S.state store) streams.old) result.status
+        (ledger_at (S.state result.store) streams.new) }
 {
     match Printer::create(alloc, store, options.number, options.range) {
         Ok(printer) => {

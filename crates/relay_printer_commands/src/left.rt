@@ -1,12 +1,11 @@
 //! `relay left`: what a ledger holds.
 
-ghost use Rattle.std.specs.Prelude.{◌≡◌, true, OnOk, OnErr};
 ghost use Rattle.std.specs.List.{All, flat_map};
-ghost use Rattle.std.specs.Io.KnownBytes.{Appends};
 ghost use Rattle.dm_print_ledger.specs.Ranges.{IsRange};
-ghost use Rattle.relay_streams.specs.Streams.{AppendsPart};
 ghost use Rattle.relay_shared.specs.LedgerLines.{free_line, shown_lines, took_line};
+ghost use Rattle.relay_shared.specs.Telling.{Puts};
 ghost use Rattle.relay_printer_commands.specs.Left.{EndsLeft};
+ghost use Rattle.relay_printer_commands.specs.Printers.{ledger_at};
 
 use dm_print_ledger::{Giver, Range, Shown};
 use dm_store::Store;
@@ -19,9 +18,7 @@ use std::io::{Read, Write};
 // Writes the line of each range.
 fn put_ranges<W: Write>(output: &mut Output<W>, ranges: &[Range]) -> Result<(), WriteFault>
     requires { All IsRange ranges.now }
-    ensures written { OnOk result (Appends output.old.contents output.new.contents (flat_map free_line ranges.now)) }
-    ensures part { AppendsPart output.old.contents output.new.contents (flat_map free_line ranges.now) }
-    ensures failed { OnErr result (output.new.has_failed ≡ true) }
+    ensures { Puts (flat_map free_line ranges.now) output.old result output.new }
 {
     for range in ranges {
         put_free(output, *range)?;
@@ -31,9 +28,7 @@ fn put_ranges<W: Write>(output: &mut Output<W>, ranges: &[Range]) -> Result<(), 
 
 // Writes the line of each giver.
 fn put_givers<W: Write>(output: &mut Output<W>, givers: &[Giver]) -> Result<(), WriteFault>
-    ensures written { OnOk result (Appends output.old.contents output.new.contents (flat_map took_line givers.now)) }
-    ensures part { AppendsPart output.old.contents output.new.contents (flat_map took_line givers.now) }
-    ensures failed { OnErr result (output.new.has_failed ≡ true) }
+    ensures { Puts (flat_map took_line givers.now) output.old result output.new }
 {
     for giver in givers {
         put_took(output, *giver)?;
@@ -43,9 +38,7 @@ fn put_givers<W: Write>(output: &mut Output<W>, givers: &[Giver]) -> Result<(), 
 
 // Writes the lines of a ledger.
 fn put_shown<W: Write>(output: &mut Output<W>, shown: &Shown) -> Result<(), WriteFault>
-    ensures written { OnOk result (Appends output.old.contents output.new.contents (shown_lines shown.now)) }
-    ensures part { AppendsPart output.old.contents output.new.contents (shown_lines shown.now) }
-    ensures failed { OnErr result (output.new.has_failed ≡ true) }
+    ensures { Puts (shown_lines shown.now) output.old result output.new }
 {
     put_number(output, shown.number())?;
     put_left(output, shown.left())?;
@@ -60,8 +53,8 @@ pub fn left_command<S: Store, R: Read, W: Write, E: Write>(
     store: S,
     streams: &mut Streams<R, W, E>,
 ) -> Ended<S>
-    ensures { EndsLeft (record { saved = S.state store; streams = streams.old }) result.status
-        (record { saved = S.state result.store; streams = streams.new }) }
+    ensures { EndsLeft (ledger_at (S.state store) streams.old) result.status
+        (ledger_at (S.state result.store) streams.new) }
 {
     let mut store = store;
     match Shown::load(&mut store) {

@@ -1,10 +1,9 @@
 //! `relay plan`: the sides at which a document can be cut into labels.
 
-ghost use Rattle.std.specs.Prelude.{◌≡◌, true, OnOk, OnErr};
 ghost use Rattle.std.specs.List.{flat_map};
-ghost use Rattle.std.specs.Io.KnownBytes.{Appends};
-ghost use Rattle.relay_streams.specs.Streams.{AppendsPart, TakesPart};
+ghost use Rattle.relay_streams.specs.Streams.{TakesPart};
 ghost use Rattle.relay_shared.specs.PlanLines.{side_line};
+ghost use Rattle.relay_shared.specs.Telling.{Puts};
 ghost use Rattle.relay_printer_commands.specs.Plan.{EndsPlan};
 
 use crate::sides::plan_of;
@@ -19,9 +18,7 @@ use std::io::{Read, Write};
 
 // Writes the line of each side.
 fn put_plan<W: Write>(output: &mut Output<W>, plan: &[PlannedSide]) -> Result<(), WriteFault>
-    ensures written { OnOk result (Appends output.old.contents output.new.contents (flat_map side_line plan.now)) }
-    ensures part { AppendsPart output.old.contents output.new.contents (flat_map side_line plan.now) }
-    ensures failed { OnErr result (output.new.has_failed ≡ true) }
+    ensures { Puts (flat_map side_line plan.now) output.old result output.new }
 {
     for planned in plan {
         put_side(output, *planned)?;

@@ -4,7 +4,7 @@ ghost use Rattle.std.specs.Prelude.{OnOk, IfErr};
 ghost use Rattle.std.specs.Io.KnownBytes.{Appends};
 ghost use Rattle.dm_pbm_io.specs.SymbolImage.{p4};
 ghost use Rattle.relay_streams.specs.Streams.{AppendsPart, TakesPart};
-ghost use Rattle.relay_printer_commands.specs.Lasting.{HasPrinted, StopLeaves, UsesOne};
+ghost use Rattle.relay_printer_commands.specs.Lasting.{HasPrinted, StopLeaves, UsesOne, stored};
 ghost use Rattle.relay_printer_commands.specs.Print.{
   EndsPrint,
   PrintsDocument,
@@ -13,6 +13,7 @@ ghost use Rattle.relay_printer_commands.specs.Print.{
   TellsPrint,
   images_of,
 };
+ghost use Rattle.relay_printer_commands.specs.Printers.{ledger_at};
 ghost use Rattle.relay_printer_commands.specs.inner.Images.{LosesImage, LosesImages};
 ghost use Rattle.relay_shared.specs.PrinterLines.{printed_line};
 ghost use Rattle.relay_shared.specs.Surroundings.{ReadsNothing};
@@ -127,11 +128,10 @@ pub(crate) fn open_and_print<A: Allocator + Copy, S: Store, R: Read, W: Write, E
 ) -> Ended<S>
     ensures input { ReadsNothing streams.old streams.new }
     ensures line_first { PrintsLineFirst streams.old streams.new }
-    ensures ends { PrintsDocument options document.now (record { saved = S.state store; streams = streams.old })
-        result.status (record { saved = S.state result.store; streams = streams.new }) }
+    ensures ends { PrintsDocument options document.now (ledger_at (S.state store) streams.old) result.status
+        (ledger_at (S.state result.store) streams.new) }
     ensures lasts { StopLeaves UsesOne (HasPrinted result.status streams.old streams.new)
-        (record { saved = S.state store; left = S.left store })
-        (record { saved = S.state result.store; left = S.left result.store }) }
+        (stored (S.state store) (S.left store)) (stored (S.state result.store) (S.left result.store)) }
 {
     let mut printer = match open_printer(alloc, store, &mut streams.errors, options.number) {
         Ok(printer) => printer,
@@ -156,11 +156,10 @@ pub fn print_command<A: Allocator + Copy, S: Store, R: Read, W: Write, E: Write>
 ) -> Ended<S>
     ensures part { TakesPart streams.old.input.remaining streams.new.input.remaining DOCUMENT_BYTES }
     ensures line_first { PrintsLineFirst streams.old streams.new }
-    ensures ends { EndsPrint options (record { saved = S.state store; streams = streams.old }) result.status
-        (record { saved = S.state result.store; streams = streams.new }) }
+    ensures ends { EndsPrint options (ledger_at (S.state store) streams.old) result.status
+        (ledger_at (S.state result.store) streams.new) }
     ensures lasts { StopLeaves UsesOne (HasPrinted result.status streams.old streams.new)
-        (record { saved = S.state store; left = S.left store })
-        (record { saved = S.state result.store; left = S.left result.store }) }
+        (stored (S.state store) (S.left store)) (stored (S.state result.store) (S.left result.store)) }
 {
     let Some(size) = Size::of_side(options.side) else {
         let status = refuse(&mut streams.errors, Refusal::Side.name());

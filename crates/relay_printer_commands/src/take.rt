@@ -1,14 +1,18 @@
 //! `relay take`: identifications from another printer.
 
 ghost use Rattle.std.specs.Prelude.{◌≡◌};
-ghost use Rattle.relay_printer_commands.specs.Lasting.{StopLeaves, TakesText};
-ghost use Rattle.relay_printer_commands.specs.Printers.{EndsTake, TellsTake};
+ghost use Rattle.dm_print_ledger.specs.FaultNames.{take_fault_name};
+ghost use Rattle.relay_shared.specs.PrinterLines.{taken_line};
+ghost use Rattle.relay_shared.specs.Telling.{TellsAnswer};
+ghost use Rattle.relay_printer_commands.specs.Lasting.{StopLeaves, TakesText, stored};
+ghost use Rattle.relay_printer_commands.specs.Printers.{EndsTake, ledger_at};
 
 use crate::opening::open_printer;
 use crate::ticket_text::ticket_of;
 use dm_print_ledger::TakeFault;
 use dm_store::Store;
 use relay_shared::{Ended, Refusal, Streams, put_taken, refuse, status_after};
+use relay_streams::Output;
 use std::alloc::Allocator;
 use std::io::{Read, Write};
 
@@ -22,16 +26,12 @@ pub struct TakeOptions<'a> {
 }
 
 // Writes the line of a printer's answer to a ticket that it was to take, if this many identifications are free then.
-fn tell_take<R: Read, W: Write, E: Write>(
-    streams: &mut Streams<R, W, E>,
-    answer: Result<(), TakeFault>,
-    left: u32,
-) -> u8
-    ensures { TellsTake answer left streams.old result streams.new }
+fn tell_take<W: Write>(output: &mut Output<W>, answer: Result<(), TakeFault>, left: u32) -> u8
+    ensures { TellsAnswer (λ _. taken_line left) take_fault_name answer output.old result output.new }
 {
     match answer {
-        Ok(()) => status_after(put_taken(&mut streams.output, left)),
-        Err(fault) => refuse(&mut streams.output, fault.name()),
+        Ok(()) => status_after(put_taken(output, left)),
+        Err(fault) => refuse(output, fault.name()),
     }
 }
 
@@ -43,11 +43,10 @@ pub fn take_command<A: Allocator + Copy, S: Store, R: Read, W: Write, E: Write>(
     streams: &mut Streams<R, W, E>,
     options: TakeOptions<'_>,
 ) -> Ended<S>
-    ensures ends { EndsTake options.entry (record { saved = S.state store; streams = streams.old }) result.status
-        (record { saved = S.state result.store; streams = streams.new }) }
+    ensures ends { EndsTake options.entry (ledger_at (S.state store) streams.old) result.status
+        (ledger_at (S.state result.store) streams.new) }
     ensures lasts { StopLeaves (TakesText options.entry.text.now) (result.status ≡ 0)
-        (record { saved = S.state store; left = S.left store })
-        (record { saved = S.state result.store; left = S.left result.store }) }
+        (stored (S.state store) (S.left store)) (stored (S.state result.store) (S.left result.store)) }
 {
     let Some(ticket) = ticket_of(options.text) else {
         let status = refuse(&mut streams.output, Refusal::Ticket.name());
@@ -58,7 +57,7 @@ pub fn take_command<A: Allocator + Copy, S: Store, R: Read, W: Write, E: Write>(
         Err(ended) => return ended,
     };
     let answer = printer.take(&ticket);
-    let status = tell_take(streams, answer, printer.left());
+    let status = tell_take(&mut streams.output, answer, printer.left());
     let store = printer.close();
     Ended { status, store }
 }

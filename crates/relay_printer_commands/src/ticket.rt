@@ -1,8 +1,6 @@
 //! `relay ticket`: what a ticket says.
 
-ghost use Rattle.std.specs.Prelude.{◌≡◌, true, OnOk, OnErr};
-ghost use Rattle.std.specs.Io.KnownBytes.{Appends};
-ghost use Rattle.relay_streams.specs.Streams.{AppendsPart};
+ghost use Rattle.relay_shared.specs.Telling.{Puts};
 ghost use Rattle.relay_printer_commands.specs.Tickets.{EndsTicket, ticket_lines};
 
 use crate::ticket_text::{checked, ticket_of};
@@ -17,9 +15,7 @@ fn put_lines<W: Write>(
     ticket: Ticket,
     whole: [u8; 12],
 ) -> Result<(), WriteFault>
-    ensures written { OnOk result (Appends output.old.contents output.new.contents (ticket_lines ticket whole)) }
-    ensures part { AppendsPart output.old.contents output.new.contents (ticket_lines ticket whole) }
-    ensures failed { OnErr result (output.new.has_failed ≡ true) }
+    ensures { Puts (ticket_lines ticket whole) output.old result output.new }
 {
     put_from(output, ticket)?;
     put_check(output, whole)

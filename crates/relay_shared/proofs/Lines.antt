@@ -1,31 +1,63 @@
--- A line for each element of a list, one after another: those of the elements before one are out, and then its line is,
--- or a part of it.
-use Rattle.std.proofs.Common.{◌≡◌, ◌<◌, ℕ, suc, List, ◌∷◌, ◌++◌, Option, Result, Ok, Err, OnOk, length, take, drop, get_or, ap, sym, ◌∙◌, subst}
+-- A text after another, and a line for each element of a list: what came before is out, and then the next text is, or a
+-- part of it.
+use Rattle.std.proofs.Common.{◌≡◌, ◌<◌, ℕ, suc, List, ◌∷◌, ◌++◌, Result, Ok, Err, OnOk, true, length, take, drop, get_or, ap, sym, ◌∙◌, subst}
+use Rattle.std.specs.Prelude.{IsErrAnd, OnErr}
+use Rattle.std.proofs.KnownBytes.{Appends-trans}
 use Rattle.std.proofs.Math.Seq.{split_at}
 use Rattle.std.proofs.lemmas.Grind.{flat_map-append}
 use Rattle.std.proofs.lemmas.List.Concat.{flat_map-cons}
 use Rattle.std.specs.List.{flat_map}
 use Rattle.std.specs.Io.KnownBytes.{Appends}
-use Rattle.relay_streams.specs.Streams.{AppendsPart}
 use Rattle.relay_streams.proofs.Parts.{part_after, part_more}
-
--- the lines before an element, its line, and those after it
-lines_at : {X : Type 0} (line : X → List ℕ) (xs : List X) (i : ℕ) (d : X) → i < length xs
-    → flat_map line xs ≡ flat_map line (take i xs) ++ (line (get_or xs i d) ++ flat_map line (drop (suc i) xs))
-lines_at line xs i d there =
-    ap (flat_map line) (split_at xs i d there)
-    ∙ flat_map-append line (take i xs) (get_or xs i d ∷ drop (suc i) xs)
-    ∙ ap (λ l. flat_map line (take i xs) ++ l) (flat_map-cons line (get_or xs i d) (drop (suc i) xs))
-
--- a part of the line of an element is out after those before it
-pub part_of_line : {X : Type 0} (line : X → List ℕ) (xs : List X) (i : ℕ) (d : X) (a b c : Option (List ℕ))
-    → i < length xs → Appends a b (flat_map line (take i xs)) → AppendsPart b c (line (get_or xs i d))
-    → AppendsPart a c (flat_map line xs)
-part_of_line line xs i d a b c there before part =
-    subst (AppendsPart a c) (sym (lines_at line xs i d there))
-    (part_after a b c _ _ before (part_more b c _ _ part))
+use Rattle.relay_streams.specs.Streams.{AppendsPart, OutputView}
+use Rattle.relay_streams.specs.declared.fault.WriteFault.{WriteFault}
+use Rattle.relay_shared.specs.Telling.{Puts}
 
 -- what follows from what holds of an answer
-pub on_ok : {T E : Type 0} {P Q : Type 0} (answer : Result T E) → OnOk answer P → (P → Q) → OnOk answer Q
+on_ok : {T E : Type 0} {P Q : Type 0} (answer : Result T E) → OnOk answer P → (P → Q) → OnOk answer Q
 on_ok (Ok x) p f = f p
 on_ok (Err e) p f = tt
+
+-- a text was to be written, by the clauses of a write
+pub puts : {T : Type 0} (text : List ℕ) (old new : OutputView) (put : Result T WriteFault)
+    → OnOk put (Appends old.contents new.contents text) → AppendsPart old.contents new.contents text
+    → OnErr put (new.has_failed ≡ true) → Puts text old put new
+puts text old new put written part failed = record { written = written; part = part; failed = failed }
+
+-- the output has failed, and a part of the text is out
+pub puts_part : {T : Type 0} (Q : WriteFault → Type 0) {text : List ℕ} {old new : OutputView}
+    (put : Result T WriteFault) → IsErrAnd put Q → AppendsPart old.contents new.contents text
+    → new.has_failed ≡ true → Puts text old put new
+puts_part Q (Ok x) is part failed = absurd is
+puts_part Q (Err e) is part failed = record { written = tt; part = part; failed = failed }
+
+-- the first text was written, and then the next was to be
+pub puts_next : {T : Type 0} (first : List ℕ) {next : List ℕ} {old mid new : OutputView} (put : Result T WriteFault)
+    → Appends old.contents mid.contents first → Puts next mid put new → Puts (first ++ next) old put new
+puts_next first put before last = record {
+  written = on_ok put last.written (λ out. Appends-trans _ _ _ _ _ before out);
+  part = part_after _ _ _ _ _ before last.part;
+  failed = last.failed;
+}
+
+pub puts_both : {T U : Type 0} {first next : List ℕ} {old mid new : OutputView} {done : U} (put : Result T WriteFault)
+    → Puts first old (Ok done) mid → Puts next mid put new → Puts (first ++ next) old put new
+puts_both put before last = puts_next _ put before.written last
+
+-- the first text was not written whole, so nothing of the next is out
+pub puts_first : {T U : Type 0} (Q : WriteFault → Type 0) {first : List ℕ} (next : List ℕ) {old new : OutputView}
+    {fault : WriteFault} (put : Result T WriteFault) → IsErrAnd put Q → Puts {T = U} first old (Err fault) new
+    → Puts (first ++ next) old put new
+puts_first Q next put is before = puts_part Q put is (part_more _ _ _ _ before.part) before.failed
+
+-- the lines before an element were written, and its own was not written whole
+pub puts_before : {X T U : Type 0} (Q : WriteFault → Type 0) (line : X → List ℕ) (xs : List X) (i : ℕ) (d : X)
+    {old mid new : OutputView} {fault : WriteFault} (put : Result T WriteFault) → i < length xs
+    → Appends old.contents mid.contents (flat_map line (take i xs)) → IsErrAnd put Q
+    → Puts {T = U} (line (get_or xs i d)) mid (Err fault) new → Puts (flat_map line xs) old put new
+puts_before Q line xs i d put there before is last =
+    let lines = ap (flat_map line) (split_at xs i d there) ∙
+    flat_map-append line (take i xs) (get_or xs i d ∷ drop (suc i) xs) ∙
+    ap (λ l. flat_map line (take i xs) ++ l) (flat_map-cons line (get_or xs i d) (drop (suc i) xs)) in
+    puts_part Q put is
+    (subst (AppendsPart _ _) (sym lines) (part_after _ _ _ _ _ before (part_more _ _ _ _ last.part))) last.failed

@@ -1,19 +1,28 @@
 -- From the answer of a write to what a command says.
-use Rattle.std.specs.Prelude.{◌≡◌, ℕ, List, true, Option, Result, OnOk, OnErr, MatchResult}
-use Rattle.std.proofs.Common.{Ok, Err, inl, inr}
+use Rattle.std.specs.Prelude.{◌≡◌, ◌⊎◌, ℕ, List, Option, Result, MatchResult}
+use Rattle.std.proofs.Common.{Ok, Err, inl, inr, refl}
 use Rattle.std.specs.Io.KnownBytes.{Appends}
 use Rattle.std.proofs.KnownBytes.{Appends-trans}
 use Rattle.relay_streams.specs.Streams.{AppendsPart, OutputView}
 use Rattle.relay_streams.specs.declared.fault.WriteFault.{WriteFault}
-use Rattle.relay_shared.specs.Telling.{AppendsThenPart, Tells}
+use Rattle.relay_shared.specs.Telling.{AppendsThenPart, Puts, Tells}
 
 -- the line was written and the status is 0, or the output has refused it and a part of it is out
-pub told : (line : List ℕ) (old new : OutputView) (status : ℕ) (put : Result (Unit {0}) WriteFault)
-    → OnOk put (Appends old.contents new.contents line) → AppendsPart old.contents new.contents line
-    → OnErr put (new.has_failed ≡ true) → MatchResult put (λ _. status ≡ 0) (λ _. status ≡ 1) →
-    Tells line 0 old new status
-told line old new status (Ok x) written part failed is = inl (written, is)
-told line old new status (Err e) written part failed is = inr (failed, part, is)
+pub told : {line : List ℕ} {old new : OutputView} {status : ℕ} (put : Result (Unit {0}) WriteFault)
+    → Puts line old put new → MatchResult put (λ _. status ≡ 0) (λ _. status ≡ 1) → Tells line 0 old new status
+told (Ok x) puts is = inl (puts.written, is)
+told (Err e) puts is = inr (puts.failed, puts.part, is)
+
+-- the status is 1 either way
+pub told_else : {line : List ℕ} {old new : OutputView} (put : Result (Unit {0}) WriteFault) → Puts line old put new
+    → Tells line 1 old new 1
+told_else (Ok x) puts = inl (puts.written, refl)
+told_else (Err e) puts = inr (puts.failed, puts.part, refl)
+
+-- a line of a refusal was told, or its output has failed
+pub refused_by : {P Q R : Type 0} {status : ℕ} → (P × (status ≡ 1)) ⊎ (Q × R × (status ≡ 1)) → status ≡ 1
+refused_by (inl whole) = whole.1
+refused_by (inr part) = part.2
 
 -- a part of what comes after a text
 pub then_part : (a b c : Option (List ℕ)) (text next : List ℕ) → Appends a b text → AppendsPart b c next →

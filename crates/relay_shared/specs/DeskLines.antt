@@ -2,11 +2,11 @@
 use Rattle.std.specs.Prelude.{ℕ, List, [], ◌∷◌, ◌++◌, ◌/◌, ◌%◌, codes}
 use Rattle.std.specs.Fmt.{decimal}
 use Rattle.hex.specs.Hex.{encode_lower}
-use Rattle.dm_append_label.specs.Pages.{id_words}
 use Rattle.dm_assembly_desk.specs.declared.reply.Accepted.{Accepted}
 use Rattle.dm_assembly_desk.specs.declared.reply.Imported.{Imported}
 use Rattle.dm_assembly_desk.specs.declared.reply.Kind.{Kind}
 use Rattle.dm_assembly_desk.specs.declared.reply.Kind.TheVariants.{New, Again, Complete}
+use Rattle.relay_shared.specs.PrinterLines.{id_text}
 
 abbrev pub kind_name : Kind → List ℕ
 kind_name New = codes "new"
@@ -16,10 +16,6 @@ kind_name Complete = codes "complete"
 -- a space, what a page or an import was, and the line's end
 abbrev pub kind_end : Kind → List ℕ
 kind_end kind = 32 ∷ (kind_name kind ++ 10 ∷ [])
-
--- the two words of an identification in hexadecimal
-abbrev pub id_text : ℕ → List ℕ
-id_text id = encode_lower (id_words id)
 
 -- the identification, m and n, and what the page was
 abbrev pub accepted_line : Accepted → List ℕ

@@ -48,6 +48,9 @@ pub record Progress (c : ImageCommand) : Type 0 where
   pub input : InputView
   pub output : OutputView
 
+abbrev pub progress_at : {c : ImageCommand} → c.State → InputView → OutputView → Progress c
+progress_at now input output = record { state = now; input = input; output = output }
+
 -- its state and its output, while it answers to one image
 pub record AtImage (c : ImageCommand) : Type 0 where
   pub state : c.State

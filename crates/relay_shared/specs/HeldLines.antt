@@ -5,7 +5,7 @@ use Rattle.std.specs.Fmt.{decimal}
 use Rattle.hex.specs.Hex.{encode_lower}
 use Rattle.dm_assembly_desk.specs.Pages.{names}
 use Rattle.dm_assembly_desk.specs.declared.reply.Held.{Held}
-use Rattle.relay_shared.specs.DeskLines.{id_text}
+use Rattle.relay_shared.specs.PrinterLines.{id_text}
 
 -- a space and the number of page m, if the mask does not name it
 abbrev pub missing_page : ℕ → ℕ → List ℕ

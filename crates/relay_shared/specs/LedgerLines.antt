@@ -2,27 +2,21 @@
 use Rattle.std.specs.Prelude.{ℕ, List, [], ◌∷◌, ◌++◌, codes, Option, Some, None}
 use Rattle.std.specs.Fmt.{decimal}
 use Rattle.std.specs.List.{flat_map}
-use Rattle.hex.specs.Hex.{encode_lower}
-use Rattle.dm_append_label.specs.Pages.{id_words}
 use Rattle.dm_print_ledger.specs.Ranges.{free_count}
 use Rattle.dm_print_ledger.specs.Showing.{ShownView}
 use Rattle.dm_print_ledger.specs.declared.giver.Giver.{Giver}
 use Rattle.dm_print_ledger.specs.declared.range.Range.{Range}
-use Rattle.relay_shared.specs.PrinterLines.{left_line}
+use Rattle.relay_shared.specs.PrinterLines.{id_text, left_line}
 
 -- `printer` and its number, or a hyphen for none
 abbrev pub number_line : Option ℕ → List ℕ
 number_line None = codes "printer -\n"
 number_line (Some number) = codes "printer " ++ (decimal number ++ 10 ∷ [])
 
--- the two words of an identification in hexadecimal, and what comes after them
-abbrev pub id_before : ℕ → List ℕ → List ℕ
-id_before id rest = encode_lower (id_words id) ++ rest
-
 -- `free`, the first and the last number in decimal, and as identifications
 abbrev pub free_line : Range → List ℕ
 free_line range = codes "free " ++ (decimal range.first ++ (32 ∷ (decimal range.last ++
-    (32 ∷ id_before range.first (32 ∷ id_before range.last (10 ∷ []))))))
+    (32 ∷ (id_text range.first ++ (32 ∷ (id_text range.last ++ 10 ∷ [])))))))
 
 -- `given` and how many tickets were given
 abbrev pub given_line : ℕ → List ℕ

@@ -6,14 +6,17 @@ use Rattle.dm_append_label.specs.Pages.{id_words}
 use Rattle.dm_print_ledger.specs.Tickets.{ticket_bytes}
 use Rattle.dm_print_ledger.specs.Views.{TicketView}
 
+-- the two words of an identification in hexadecimal
+abbrev pub id_text : ℕ → List ℕ
+id_text id = encode_lower (id_words id)
+
 -- `left` and how many identifications are free
 abbrev pub left_line : ℕ → List ℕ
 left_line left = codes "left " ++ (decimal left ++ 10 ∷ [])
 
 -- `printed`, the two words of the identification in hexadecimal, the number of labels, and how many are left
 abbrev pub printed_line : ℕ → ℕ → ℕ → List ℕ
-printed_line id count left =
-    codes "printed " ++ (encode_lower (id_words id) ++ (32 ∷ (decimal count ++ (32 ∷ left_line left))))
+printed_line id count left = codes "printed " ++ (id_text id ++ (32 ∷ (decimal count ++ (32 ∷ left_line left))))
 
 -- `ticket` and its ten bytes in hexadecimal
 abbrev pub ticket_line : TicketView → List ℕ

@@ -1,10 +1,9 @@
 //! The lines that the commands of desks write. They take no memory.
 
-ghost use Rattle.std.specs.Prelude.{◌≡◌, ◌∷◌, [], ◌/◌, ◌%◌, true, OnOk, OnErr};
-ghost use Rattle.std.specs.Io.KnownBytes.{Appends};
+ghost use Rattle.std.specs.Prelude.{◌≡◌, ◌∷◌, [], ◌/◌, ◌%◌};
 ghost use Rattle.hex.specs.Hex.{encode_lower};
-ghost use Rattle.relay_streams.specs.Streams.{AppendsPart};
 ghost use Rattle.relay_shared.specs.DeskLines.{accepted_line, forgotten_line, imported_line, kind_name};
+ghost use Rattle.relay_shared.specs.Telling.{Puts};
 
 use crate::printer_lines::id_digits;
 use dm_append_label::FileId;
@@ -41,9 +40,7 @@ pub fn mask_digits(mask: u16) -> [u8; 4]
 /// # Errors
 /// Where the output refuses a write.
 pub fn put_accepted<W: Write>(output: &mut Output<W>, accepted: Accepted) -> Result<(), WriteFault>
-    ensures written { OnOk result (Appends output.old.contents output.new.contents (accepted_line accepted)) }
-    ensures part { AppendsPart output.old.contents output.new.contents (accepted_line accepted) }
-    ensures failed { OnErr result (output.new.has_failed ≡ true) }
+    ensures { Puts (accepted_line accepted) output.old result output.new }
 {
     let id = id_digits(accepted.id);
     let (mut page, mut pages) = (Buffer::new(), Buffer::new());
@@ -58,9 +55,7 @@ pub fn put_accepted<W: Write>(output: &mut Output<W>, accepted: Accepted) -> Res
 /// # Errors
 /// Where the output refuses a write.
 pub fn put_imported<W: Write>(output: &mut Output<W>, imported: Imported) -> Result<(), WriteFault>
-    ensures written { OnOk result (Appends output.old.contents output.new.contents (imported_line imported)) }
-    ensures part { AppendsPart output.old.contents output.new.contents (imported_line imported) }
-    ensures failed { OnErr result (output.new.has_failed ≡ true) }
+    ensures { Puts (imported_line imported) output.old result output.new }
 {
     let id = id_digits(imported.id);
     let mut digits = Buffer::new();
@@ -75,9 +70,7 @@ pub fn put_imported<W: Write>(output: &mut Output<W>, imported: Imported) -> Res
 /// # Errors
 /// Where the output refuses a write.
 pub fn put_forgotten<W: Write>(output: &mut Output<W>, id: FileId) -> Result<(), WriteFault>
-    ensures written { OnOk result (Appends output.old.contents output.new.contents (forgotten_line id)) }
-    ensures part { AppendsPart output.old.contents output.new.contents (forgotten_line id) }
-    ensures failed { OnErr result (output.new.has_failed ≡ true) }
+    ensures { Puts (forgotten_line id) output.old result output.new }
 {
     output.put_all(&[b"forgotten ", &id_digits(id), b"\n"])
 }

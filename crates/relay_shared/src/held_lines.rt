@@ -1,10 +1,8 @@
 //! The lines of what a desk holds. They take no memory.
 
-ghost use Rattle.std.specs.Prelude.{◌≡◌, ◌≤◌, ◌∷◌, ◌++◌, length, true, OnOk, OnErr};
+ghost use Rattle.std.specs.Prelude.{◌≡◌, ◌≤◌, ◌∷◌, ◌++◌, length};
 ghost use Rattle.std.specs.Fmt.{decimal};
-ghost use Rattle.std.specs.Io.KnownBytes.{Appends};
 ghost use Rattle.dm_assembly_desk.specs.Pages.{names};
-ghost use Rattle.relay_streams.specs.Streams.{AppendsPart};
 ghost use Rattle.relay_shared.specs.HeldLines.{
   held_line,
   held_word,
@@ -12,6 +10,7 @@ ghost use Rattle.relay_shared.specs.HeldLines.{
   unsound_joint_line,
   unsound_line,
 };
+ghost use Rattle.relay_shared.specs.Telling.{Puts};
 
 use crate::desk_lines::mask_digits;
 use crate::printer_lines::id_digits;
@@ -93,9 +92,7 @@ fn held_end(held: Held) -> ArrayVec<u8, 64>
 /// Where the output refuses a write.
 pub fn put_held<W: Write>(output: &mut Output<W>, held: Held) -> Result<(), WriteFault>
     requires { held.n ≤ 16 }
-    ensures written { OnOk result (Appends output.old.contents output.new.contents (held_line held)) }
-    ensures part { AppendsPart output.old.contents output.new.contents (held_line held) }
-    ensures failed { OnErr result (output.new.has_failed ≡ true) }
+    ensures { Puts (held_line held) output.old result output.new }
 {
     let id = id_digits(held.id);
     let mut digits = Buffer::new();
@@ -109,9 +106,7 @@ pub fn put_held<W: Write>(output: &mut Output<W>, held: Held) -> Result<(), Writ
 /// # Errors
 /// Where the output refuses a write.
 pub fn put_unsound<W: Write>(output: &mut Output<W>, key: u16, name: &str) -> Result<(), WriteFault>
-    ensures written { OnOk result (Appends output.old.contents output.new.contents (unsound_line key name.now)) }
-    ensures part { AppendsPart output.old.contents output.new.contents (unsound_line key name.now) }
-    ensures failed { OnErr result (output.new.has_failed ≡ true) }
+    ensures { Puts (unsound_line key name.now) output.old result output.new }
 {
     output.put_all(&[b"file ", &mask_digits(key), b" ", name.as_bytes(), b"\n"])
 }
@@ -121,9 +116,7 @@ pub fn put_unsound<W: Write>(output: &mut Output<W>, key: u16, name: &str) -> Re
 /// # Errors
 /// Where the output refuses a write.
 pub fn put_unsound_joint<W: Write>(output: &mut Output<W>, name: &str) -> Result<(), WriteFault>
-    ensures written { OnOk result (Appends output.old.contents output.new.contents (unsound_joint_line name.now)) }
-    ensures part { AppendsPart output.old.contents output.new.contents (unsound_joint_line name.now) }
-    ensures failed { OnErr result (output.new.has_failed ≡ true) }
+    ensures { Puts (unsound_joint_line name.now) output.old result output.new }
 {
     output.put_all(&[b"file joint ", name.as_bytes(), b"\n"])
 }

@@ -1,11 +1,11 @@
 //! A command over images: one loop for all that answer to each image by a line.
 
 ghost use Rattle.std.specs.Prelude.{◌≡◌, ◌<◌, true, false, MatchResult};
-ghost use Rattle.relay_shared.specs.EachImage.{Progress, TellsImages};
+ghost use Rattle.relay_shared.specs.EachImage.{Progress, TellsImages, progress_at};
 ghost use Rattle.relay_shared.specs.declared.images.TheConstants.{MOST_IMAGES};
 ghost use Rattle.relay_shared.specs.inner.Steps.{StopsStep, TakesStep};
 
-use crate::images::{Answered, MOST_IMAGES, is_at_end, status_of};
+use crate::images::{Answered, DONE, MOST_IMAGES, REFUSED, is_at_end, status_of};
 use crate::refusal::Refusal;
 use dm_pbm_io::Image;
 use relay_streams::{Input, Output, WriteFault};
@@ -60,33 +60,24 @@ fn next_image<A: Allocator + Copy, C: OnImages<A>, R: Read, W: Write>(
 ) -> Result<Answered, WriteFault>
     requires running { C.command.has_ended (C.state command.old) ≡ false }
     requires few { count < MOST_IMAGES }
-    ensures step { let old : Progress C.command = record { state = C.state command.old; input = input.old; output = output.old } in
-        let new : Progress C.command = record { state = C.state command.new; input = input.new; output = output.new } in
-        MatchResult result
-        (λ answered. TakesStep C.command count old answered new)
+    ensures step { let old : Progress C.command = progress_at (C.state command.old) input.old output.old in
+        let new : Progress C.command = progress_at (C.state command.new) input.new output.new in
+        MatchResult result (λ answered. TakesStep C.command count old answered new)
         (λ _. StopsStep C.command count old new) }
     ensures kept { C.keeps (C.state command.old) (C.state command.new) }
 {
     match Image::read(alloc, input) {
-        Ok(None) => Ok(Answered {
-            refused: false,
-            last: true,
-        }),
+        Ok(None) => Ok(Answered { last: true, ..DONE }),
         Ok(Some(image)) => {
             let answered = command.answer(alloc, output, count + 1, &image)?;
             let last = image.plain | answered.last;
-            Ok(Answered {
-                refused: answered.refused,
-                last,
-            })
+            Ok(Answered { last, ..answered })
         }
         Err(fault) => {
             output.put_refusal(fault.name())?;
             command.note_unread(count + 1, fault.name());
-            Ok(Answered {
-                refused: true,
-                last: true,
-            })
+            let last = true;
+            Ok(Answered { last, ..REFUSED })
         }
     }
 }
@@ -98,8 +89,8 @@ fn end_at_most<A: Allocator + Copy, C: OnImages<A>, R: Read, W: Write>(
     output: &mut Output<W>,
 ) -> Result<bool, WriteFault>
     ensures { (now : C.command.State) →
-        let old : Progress C.command = record { state = now; input = input.old; output = output.old } in
-        let new : Progress C.command = record { state = now; input = input.new; output = output.new } in
+        let old : Progress C.command = progress_at now input.old output.old in
+        let new : Progress C.command = progress_at now input.new output.new in
         MatchResult result
         (λ refused. TakesStep C.command MOST_IMAGES old (record { refused = refused; last = true }) new)
         (λ _. StopsStep C.command MOST_IMAGES old new) }
@@ -120,10 +111,8 @@ pub fn each_image<A: Allocator + Copy, C: OnImages<A>, R: Read, W: Write>(
     output: &mut Output<W>,
 ) -> u8
     requires { C.command.has_ended (C.state command.old) ≡ false }
-    ensures told { TellsImages C.command
-        (record { state = C.state command.old; input = input.old; output = output.old })
-        result
-        (record { state = C.state command.new; input = input.new; output = output.new }) }
+    ensures told { TellsImages C.command (progress_at (C.state command.old) input.old output.old) result
+        (progress_at (C.state command.new) input.new output.new) }
     ensures kept { C.keeps (C.state command.old) (C.state command.new) }
 {
     let mut refused = false;

@@ -20,6 +20,18 @@ pub struct Answered {
     pub last: bool,
 }
 
+/// The line names no refusal, and the command reads on.
+pub const DONE: Answered = Answered {
+    refused: false,
+    last: false,
+};
+
+/// The line names a refusal, and the command reads on.
+pub const REFUSED: Answered = Answered {
+    refused: true,
+    last: false,
+};
+
 /// Whether the input has ended, or something else comes.
 pub(crate) fn is_at_end<A: Allocator + Copy, R: Read>(alloc: A, input: &mut Input<R>) -> bool
     ensures ended { result ≡ true → HasEnded input.old input.new }

@@ -1,12 +1,10 @@
 //! The lines that say what a ledger holds. They take no memory.
 
-ghost use Rattle.std.specs.Prelude.{◌≡◌, ◌≤◌, true, OnOk, OnErr};
-ghost use Rattle.std.specs.Io.KnownBytes.{Appends};
-ghost use Rattle.hex.specs.Hex.{encode_lower};
-ghost use Rattle.dm_append_label.specs.Pages.{id_words};
+ghost use Rattle.std.specs.Prelude.{◌≡◌, ◌≤◌};
 ghost use Rattle.dm_print_ledger.specs.Ranges.{IsRange};
-ghost use Rattle.relay_streams.specs.Streams.{AppendsPart};
 ghost use Rattle.relay_shared.specs.LedgerLines.{free_line, given_line, number_line, took_line};
+ghost use Rattle.relay_shared.specs.PrinterLines.{id_text};
+ghost use Rattle.relay_shared.specs.Telling.{Puts};
 
 use crate::printer_lines::id_digits;
 use dm_append_label::FileId;
@@ -18,7 +16,7 @@ use std::io::Write;
 // The two words of the identification of a number in hexadecimal.
 fn number_digits(number: u16) -> [u8; 4]
     requires { number ≤ GREATEST }
-    ensures { result ≡ encode_lower (id_words number) }
+    ensures { result ≡ id_text number }
 {
     let Some(id) = FileId::of_number(number) else {
         unreachable!()
@@ -31,9 +29,7 @@ fn number_digits(number: u16) -> [u8; 4]
 /// # Errors
 /// Where the output refuses a write.
 pub fn put_number<W: Write>(output: &mut Output<W>, number: Option<u16>) -> Result<(), WriteFault>
-    ensures written { OnOk result (Appends output.old.contents output.new.contents (number_line number)) }
-    ensures part { AppendsPart output.old.contents output.new.contents (number_line number) }
-    ensures failed { OnErr result (output.new.has_failed ≡ true) }
+    ensures { Puts (number_line number) output.old result output.new }
 {
     match number {
         Some(number) => {
@@ -50,9 +46,7 @@ pub fn put_number<W: Write>(output: &mut Output<W>, number: Option<u16>) -> Resu
 /// Where the output refuses a write.
 pub fn put_free<W: Write>(output: &mut Output<W>, range: Range) -> Result<(), WriteFault>
     requires { IsRange range }
-    ensures written { OnOk result (Appends output.old.contents output.new.contents (free_line range)) }
-    ensures part { AppendsPart output.old.contents output.new.contents (free_line range) }
-    ensures failed { OnErr result (output.new.has_failed ≡ true) }
+    ensures { Puts (free_line range) output.old result output.new }
 {
     let (mut from, mut to) = (Buffer::new(), Buffer::new());
     let first = from.format(range.first).as_bytes();
@@ -69,9 +63,7 @@ pub fn put_free<W: Write>(output: &mut Output<W>, range: Range) -> Result<(), Wr
 /// # Errors
 /// Where the output refuses a write.
 pub fn put_given<W: Write>(output: &mut Output<W>, given: u16) -> Result<(), WriteFault>
-    ensures written { OnOk result (Appends output.old.contents output.new.contents (given_line given)) }
-    ensures part { AppendsPart output.old.contents output.new.contents (given_line given) }
-    ensures failed { OnErr result (output.new.has_failed ≡ true) }
+    ensures { Puts (given_line given) output.old result output.new }
 {
     let mut digits = Buffer::new();
     output.put_all(&[b"given ", digits.format(given).as_bytes(), b"\n"])
@@ -82,9 +74,7 @@ pub fn put_given<W: Write>(output: &mut Output<W>, given: u16) -> Result<(), Wri
 /// # Errors
 /// Where the output refuses a write.
 pub fn put_took<W: Write>(output: &mut Output<W>, giver: Giver) -> Result<(), WriteFault>
-    ensures written { OnOk result (Appends output.old.contents output.new.contents (took_line giver)) }
-    ensures part { AppendsPart output.old.contents output.new.contents (took_line giver) }
-    ensures failed { OnErr result (output.new.has_failed ≡ true) }
+    ensures { Puts (took_line giver) output.old result output.new }
 {
     let (mut numbered, mut counted) = (Buffer::new(), Buffer::new());
     let number = numbered.format(giver.number).as_bytes();

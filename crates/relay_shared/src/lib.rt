@@ -24,7 +24,7 @@ pub use document::{DOCUMENT_BYTES, read_document};
 pub use ended::{Ended, EndedDesk, refuse, status_after};
 pub use held_lines::{put_held, put_unsound, put_unsound_joint};
 pub use image_loop::{OnImages, each_image};
-pub use images::{Answered, MOST_IMAGES};
+pub use images::{Answered, DONE, MOST_IMAGES, REFUSED};
 pub use ledger_lines::{put_free, put_given, put_number, put_took};
 pub use plan_lines::{PlannedSide, put_side};
 pub use printer_lines::{id_digits, put_left, put_printed, put_taken, put_ticket};

@@ -1,9 +1,7 @@
 //! The line that says into how many labels of a side a document is cut. It takes no memory.
 
-ghost use Rattle.std.specs.Prelude.{◌≡◌, true, OnOk, OnErr};
-ghost use Rattle.std.specs.Io.KnownBytes.{Appends};
-ghost use Rattle.relay_streams.specs.Streams.{AppendsPart};
 ghost use Rattle.relay_shared.specs.PlanLines.{side_line};
+ghost use Rattle.relay_shared.specs.Telling.{Puts};
 
 use itoa::Buffer;
 use relay_streams::{Output, WriteFault};
@@ -23,9 +21,7 @@ pub struct PlannedSide {
 /// # Errors
 /// Where the output refuses a write.
 pub fn put_side<W: Write>(output: &mut Output<W>, planned: PlannedSide) -> Result<(), WriteFault>
-    ensures written { OnOk result (Appends output.old.contents output.new.contents (side_line planned)) }
-    ensures part { AppendsPart output.old.contents output.new.contents (side_line planned) }
-    ensures failed { OnErr result (output.new.has_failed ≡ true) }
+    ensures { Puts (side_line planned) output.old result output.new }
 {
     let (mut numbered, mut counted) = (Buffer::new(), Buffer::new());
     let side = numbered.format(planned.side).as_bytes();

@@ -1,16 +1,14 @@
 //! The lines that the commands of printers write. They take no memory.
 
-ghost use Rattle.std.specs.Prelude.{◌≡◌, true, OnOk, OnErr};
-ghost use Rattle.std.specs.Io.KnownBytes.{Appends};
-ghost use Rattle.hex.specs.Hex.{encode_lower};
-ghost use Rattle.dm_append_label.specs.Pages.{id_words};
-ghost use Rattle.relay_streams.specs.Streams.{AppendsPart};
+ghost use Rattle.std.specs.Prelude.{◌≡◌};
 ghost use Rattle.relay_shared.specs.PrinterLines.{
+  id_text,
   left_line,
   printed_line,
   taken_line,
   ticket_line,
 };
+ghost use Rattle.relay_shared.specs.Telling.{Puts};
 
 use dm_append_label::FileId;
 use dm_print_ledger::Ticket;
@@ -20,7 +18,7 @@ use std::io::Write;
 
 /// The two words of an identification in hexadecimal.
 pub fn id_digits(id: FileId) -> [u8; 4]
-    ensures { result ≡ encode_lower (id_words id) }
+    ensures { result ≡ id_text id }
 {
     let (first, second) = id.words();
     let mut digits = [0u8; 4];
@@ -35,9 +33,7 @@ pub fn id_digits(id: FileId) -> [u8; 4]
 /// # Errors
 /// Where the output refuses a write.
 pub fn put_left<W: Write>(output: &mut Output<W>, left: u32) -> Result<(), WriteFault>
-    ensures written { OnOk result (Appends output.old.contents output.new.contents (left_line left)) }
-    ensures part { AppendsPart output.old.contents output.new.contents (left_line left) }
-    ensures failed { OnErr result (output.new.has_failed ≡ true) }
+    ensures { Puts (left_line left) output.old result output.new }
 {
     let mut digits = Buffer::new();
     output.put_all(&[b"left ", digits.format(left).as_bytes(), b"\n"])
@@ -53,9 +49,7 @@ pub fn put_printed<W: Write>(
     count: u8,
     left: u32,
 ) -> Result<(), WriteFault>
-    ensures written { OnOk result (Appends output.old.contents output.new.contents (printed_line id count left)) }
-    ensures part { AppendsPart output.old.contents output.new.contents (printed_line id count left) }
-    ensures failed { OnErr result (output.new.has_failed ≡ true) }
+    ensures { Puts (printed_line id count left) output.old result output.new }
 {
     let id = id_digits(id);
     let (mut counted, mut digits) = (Buffer::new(), Buffer::new());
@@ -69,9 +63,7 @@ pub fn put_printed<W: Write>(
 /// # Errors
 /// Where the output refuses a write.
 pub fn put_ticket<W: Write>(output: &mut Output<W>, ticket: Ticket) -> Result<(), WriteFault>
-    ensures written { OnOk result (Appends output.old.contents output.new.contents (ticket_line ticket)) }
-    ensures part { AppendsPart output.old.contents output.new.contents (ticket_line ticket) }
-    ensures failed { OnErr result (output.new.has_failed ≡ true) }
+    ensures { Puts (ticket_line ticket) output.old result output.new }
 {
     let mut digits = [0u8; 20];
     let Ok(()) = hex::encode_to_slice(ticket.bytes(), &mut digits) else {
@@ -85,9 +77,7 @@ pub fn put_ticket<W: Write>(output: &mut Output<W>, ticket: Ticket) -> Result<()
 /// # Errors
 /// Where the output refuses a write.
 pub fn put_taken<W: Write>(output: &mut Output<W>, left: u32) -> Result<(), WriteFault>
-    ensures written { OnOk result (Appends output.old.contents output.new.contents (taken_line left)) }
-    ensures part { AppendsPart output.old.contents output.new.contents (taken_line left) }
-    ensures failed { OnErr result (output.new.has_failed ≡ true) }
+    ensures { Puts (taken_line left) output.old result output.new }
 {
     let mut digits = Buffer::new();
     output.put_all(&[b"taken left ", digits.format(left).as_bytes(), b"\n"])

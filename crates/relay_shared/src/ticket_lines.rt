@@ -1,9 +1,7 @@
 //! The lines that say what a ticket is. They take no memory.
 
-ghost use Rattle.std.specs.Prelude.{◌≡◌, true, OnOk, OnErr};
-ghost use Rattle.std.specs.Io.KnownBytes.{Appends};
-ghost use Rattle.relay_streams.specs.Streams.{AppendsPart};
 ghost use Rattle.relay_shared.specs.TicketLines.{check_line, from_line};
+ghost use Rattle.relay_shared.specs.Telling.{Puts};
 
 use dm_print_ledger::Ticket;
 use itoa::Buffer;
@@ -15,9 +13,7 @@ use std::io::Write;
 /// # Errors
 /// Where the output refuses a write.
 pub fn put_from<W: Write>(output: &mut Output<W>, ticket: Ticket) -> Result<(), WriteFault>
-    ensures written { OnOk result (Appends output.old.contents output.new.contents (from_line ticket)) }
-    ensures part { AppendsPart output.old.contents output.new.contents (from_line ticket) }
-    ensures failed { OnErr result (output.new.has_failed ≡ true) }
+    ensures { Puts (from_line ticket) output.old result output.new }
 {
     let (mut gave, mut gets, mut counted) = (Buffer::new(), Buffer::new(), Buffer::new());
     let (mut lowest, mut highest) = (Buffer::new(), Buffer::new());
@@ -47,9 +43,7 @@ pub fn put_from<W: Write>(output: &mut Output<W>, ticket: Ticket) -> Result<(), 
 /// # Errors
 /// Where the output refuses a write.
 pub fn put_check<W: Write>(output: &mut Output<W>, bytes: [u8; 12]) -> Result<(), WriteFault>
-    ensures written { OnOk result (Appends output.old.contents output.new.contents (check_line bytes)) }
-    ensures part { AppendsPart output.old.contents output.new.contents (check_line bytes) }
-    ensures failed { OnErr result (output.new.has_failed ≡ true) }
+    ensures { Puts (check_line bytes) output.old result output.new }
 {
     let mut digits = [0u8; 24];
     let Ok(()) = hex::encode_to_slice(bytes, &mut digits) else {

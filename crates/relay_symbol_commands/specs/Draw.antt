@@ -6,7 +6,7 @@ use Rattle.dm_symbol.specs.Symbols.{grid_of_words}
 use Rattle.dm_pbm_io.specs.Image.{Picture}
 use Rattle.dm_pbm_io.specs.SymbolImage.{image_with_quiet_zone}
 use Rattle.dm_pbm_io.specs.Writing.{written}
-use Rattle.relay_streams.specs.Streams.{AppendsPart, OutputView, TakesPart}
+use Rattle.relay_streams.specs.Streams.{AppendsPart, InputView, OutputView, TakesPart}
 use Rattle.relay_streams.specs.FaultNames.{write_fault_name}
 use Rattle.relay_streams.specs.declared.fault.WriteFault.{WriteFault}
 use Rattle.relay_symbol_commands.specs.DocumentSymbol.{CarriesDocument, PrintsRefusal}
@@ -23,19 +23,11 @@ pub record DrawsDocument (form : Form) (plain : Bool) (document : List ℕ) (p :
   pub symbol : CarriesDocument form document size words
   pub drawn : p ≡ image_with_quiet_zone (grid_of_words size words) plain
 
--- that picture was written, and nothing else
-abbrev pub PrintsDrawing : Form → Bool → StreamsView → StreamsView → Type 0
-PrintsDrawing form plain old new =
-    IfSome old.input.remaining (λ bytes.
-    (p : Picture) × DrawsDocument form plain (document_of bytes) p
-    × Appends old.output.contents new.output.contents (written p))
-
--- a part of that picture was written, from its first byte on, and nothing else
-abbrev pub PrintsPartOfDrawing : Form → Bool → StreamsView → StreamsView → Type 0
-PrintsPartOfDrawing form plain old new =
-    IfSome old.input.remaining (λ bytes.
-    (p : Picture) × DrawsDocument form plain (document_of bytes) p
-    × AppendsPart old.output.contents new.output.contents (written p))
+-- that picture, of the document on an input, is out in this way: whole or in part
+abbrev pub PrintsDrawing : Form → Bool → InputView → (List ℕ → Type 0) → Type 0
+PrintsDrawing form plain input IsOut =
+    IfSome input.remaining (λ bytes.
+    (p : Picture) × DrawsDocument form plain (document_of bytes) p × IsOut (written p))
 
 -- the output has refused a write, and the line that says so was written to the other, or a part of it, if that has
 -- failed
@@ -50,9 +42,10 @@ pub record PrintsWriteRefusal (output old new : OutputView) : Type 0 where
 pub record EndsDraw (form : Form) (plain : Bool) (old : StreamsView) (status : ℕ) (new : StreamsView) : Type 0 where
   pub status_is : (status ≡ 0) ⊎ (status ≡ 1)
   pub part : TakesPart old.input.remaining new.input.remaining DOCUMENT_BYTES
-  pub drawn : status ≡ 0 → PrintsDrawing form plain old new
+  pub drawn : status ≡ 0 → PrintsDrawing form plain old.input (Appends old.output.contents new.output.contents)
   pub silent : status ≡ 0 → LeavesErrors old new
   pub refused : status ≡ 1 → PrintsRefusal form old.input new.input old.errors new.errors
       ⊎ PrintsWriteRefusal new.output old.errors new.errors
-  pub nothing_else : status ≡ 1 → ((new.output.has_failed ≡ true) × PrintsPartOfDrawing form plain old new)
+  pub nothing_else : status ≡ 1 → ((new.output.has_failed ≡ true)
+      × PrintsDrawing form plain old.input (AppendsPart old.output.contents new.output.contents))
       ⊎ (new.output ≡ old.output)

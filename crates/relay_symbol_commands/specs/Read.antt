@@ -21,7 +21,7 @@ use Rattle.dm_append_label.specs.declared.fault.PageFault.{PageFault}
 use Rattle.dm_append_label.specs.declared.fault.PageFault.TheVariants as page_faults
 use Rattle.dm_pbm_io.specs.SymbolImage.{HasShape, IsGridInside}
 use Rattle.dm_pbm_io.specs.Image.{Picture}
-use Rattle.relay_shared.specs.EachImage.{ImageCommand, Said, TellsImages, refusal_of}
+use Rattle.relay_shared.specs.EachImage.{ImageCommand, Said, TellsImages, progress_at, refusal_of}
 use Rattle.relay_shared.specs.Surroundings.{LeavesErrors, StreamsView}
 use Rattle.relay_symbol_commands.specs.Refusals.{read_refusal_name}
 use Rattle.relay_symbol_commands.specs.ReadLines.{label_line, symbol_line}
@@ -82,8 +82,5 @@ read_images = record {
 -- output has failed at one of them. Nothing goes to the standard error.
 abbrev pub EndsRead : StreamsView → ℕ → StreamsView → Type 0
 EndsRead old status new =
-    TellsImages read_images
-    (record { state = tt; input = old.input; output = old.output })
-    status
-    (record { state = tt; input = new.input; output = new.output })
+    TellsImages read_images (progress_at tt old.input old.output) status (progress_at tt new.input new.output)
     × LeavesErrors old new

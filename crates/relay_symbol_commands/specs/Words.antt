@@ -4,7 +4,7 @@ use Rattle.std.specs.List.{flat_map}
 use Rattle.std.specs.Fmt.{decimal}
 use Rattle.std.specs.Io.KnownBytes.{Appends}
 use Rattle.dm_check_blocks.specs.declared.size.Size.{Size}
-use Rattle.relay_streams.specs.Streams.{AppendsPart, TakesPart}
+use Rattle.relay_streams.specs.Streams.{AppendsPart, InputView, TakesPart}
 use Rattle.relay_symbol_commands.specs.DocumentSymbol.{CarriesDocument, PrintsRefusal}
 use Rattle.relay_symbol_commands.specs.declared.document_symbol.Form.{Form}
 use Rattle.relay_shared.specs.Documents.{document_of}
@@ -23,19 +23,10 @@ pub record IsLineOf (form : Form) (document line : List ℕ) : Type 0 where
   pub symbol : CarriesDocument form document size words
   pub spelled : line ≡ words_line words
 
--- that line was written, and nothing else
-abbrev pub PrintsWords : Form → StreamsView → StreamsView → Type 0
-PrintsWords form old new =
-    IfSome old.input.remaining (λ bytes.
-    (line : List ℕ) × IsLineOf form (document_of bytes) line
-    × Appends old.output.contents new.output.contents line)
-
--- a part of that line was written, from its first byte on, and nothing else
-abbrev pub PrintsPartOfWords : Form → StreamsView → StreamsView → Type 0
-PrintsPartOfWords form old new =
-    IfSome old.input.remaining (λ bytes.
-    (line : List ℕ) × IsLineOf form (document_of bytes) line
-    × AppendsPart old.output.contents new.output.contents line)
+-- that line, of the document on an input, is out in this way: whole or in part
+abbrev pub PrintsWords : Form → InputView → (List ℕ → Type 0) → Type 0
+PrintsWords form input IsOut =
+    IfSome input.remaining (λ bytes. (line : List ℕ) × IsLineOf form (document_of bytes) line × IsOut line)
 
 -- How `words` ends, from its streams to the exit status and the streams: the words were printed; or the output has
 -- failed and a part of them is out; or there was a reason for a refusal, and its line was written or a part of it.
@@ -43,7 +34,8 @@ PrintsPartOfWords form old new =
 pub record EndsWords (form : Form) (old : StreamsView) (status : ℕ) (new : StreamsView) : Type 0 where
   pub status_is : (status ≡ 0) ⊎ (status ≡ 1)
   pub part : TakesPart old.input.remaining new.input.remaining DOCUMENT_BYTES
-  pub printed : status ≡ 0 → PrintsWords form old new
-  pub refused : status ≡ 1 → ((new.output.has_failed ≡ true) × PrintsPartOfWords form old new)
+  pub printed : status ≡ 0 → PrintsWords form old.input (Appends old.output.contents new.output.contents)
+  pub refused : status ≡ 1 → ((new.output.has_failed ≡ true)
+      × PrintsWords form old.input (AppendsPart old.output.contents new.output.contents))
       ⊎ PrintsRefusal form old.input new.input old.output new.output
   pub silent : LeavesErrors old new

@@ -6,7 +6,7 @@ ghost use Rattle.relay_symbol_commands.specs.Read.{EndsRead, read_images};
 use crate::read_grid::line_of_image;
 use dm_pbm_io::Image;
 use dm_symbol::SymbolReader;
-use relay_shared::{Answered, OnImages, Streams, each_image};
+use relay_shared::{Answered, DONE, OnImages, REFUSED, Streams, each_image};
 use relay_streams::{Output, WriteFault};
 use std::alloc::Allocator;
 use std::io::{Read, Write};
@@ -34,17 +34,11 @@ impl<A: Allocator + Copy> OnImages<A> for Reading<A> {
         match line_of_image(alloc, &mut self.reader, image) {
             Ok(line) => {
                 output.put(line.as_bytes())?;
-                Ok(Answered {
-                    refused: false,
-                    last: false,
-                })
+                Ok(DONE)
             }
             Err(refusal) => {
                 output.put_refusal(refusal.name())?;
-                Ok(Answered {
-                    refused: true,
-                    last: false,
-                })
+                Ok(REFUSED)
             }
         }
     }

@@ -10,7 +10,8 @@ use Rattle.dm_event_history.specs.declared.reply.Reply.TheVariants.{Printed, Pri
 use Rattle.dm_event_world.specs.declared.answers.Answer.{Answer}
 use Rattle.dm_event_world.specs.declared.answers.Answer.TheVariants as answers
 use Rattle.relay_streams.specs.Refusal.{refused_line}
-use Rattle.relay_shared.specs.DeskLines.{id_text, accepted_line, imported_line}
+use Rattle.relay_shared.specs.DeskLines.{accepted_line, imported_line}
+use Rattle.relay_shared.specs.PrinterLines.{id_text}
 use Rattle.relay_shared.specs.Hexadecimal.{hexadecimal}
 
 -- the number of the first label, how many they are, and the line's end

@@ -1,7 +1,6 @@
 -- What `world` writes: the answers to the events of a script.
-use Rattle.std.specs.Prelude.{◌≡◌, ◌⊎◌, ◌+◌, ℕ, List, length, Err, true, if◌then◌else◌}
+use Rattle.std.specs.Prelude.{◌≡◌, ◌+◌, ℕ, List, length, Err, if◌then◌else◌}
 use Rattle.std.specs.List.{flat_map}
-use Rattle.std.specs.Io.KnownBytes.{Appends}
 use Rattle.dm_event_history.specs.Headline.{PrintsOnce}
 use Rattle.dm_event_history.specs.Tickets.{TakesOnce}
 use Rattle.dm_event_history.specs.Imports.{ImportsExports}
@@ -11,7 +10,7 @@ use Rattle.dm_event_world.specs.Watched.{IsFaithfulIfHonest, RunsFromTheStart, g
 use Rattle.dm_event_world.specs.declared.answers.Answer.{Answer}
 use Rattle.dm_event_world.specs.declared.fault.WorldFault.{WorldFault}
 use Rattle.relay_streams.specs.FaultNames.{input_fault_name}
-use Rattle.relay_streams.specs.Streams.{AppendsPart, InputView, OutputView, TakesFirst}
+use Rattle.relay_streams.specs.Streams.{InputView, OutputView, TakesFirst}
 use Rattle.relay_streams.specs.declared.fault.InputFault.{InputFault}
 use Rattle.relay_script.specs.Scripts.{IsScript}
 use Rattle.relay_script.specs.Words.{IsRead, script_fault_name}
@@ -21,7 +20,7 @@ use Rattle.relay_script.specs.declared.script.TheConstants.{SCRIPT_BYTES}
 use Rattle.relay_shared.specs.Documents.{HasInputFault}
 use Rattle.relay_world_command.specs.ReplyLines.{answer_line, has_refusal}
 use Rattle.relay_shared.specs.Surroundings.{StreamsView}
-use Rattle.relay_shared.specs.Telling.{TellsRefusal}
+use Rattle.relay_shared.specs.Telling.{Tells, TellsRefusal}
 
 -- no read failed, and these bytes were read, and no other: one more than a script has at most, or all where they are
 -- fewer
@@ -29,14 +28,10 @@ pub record ReadsScript (input rest : InputView) (bytes : List ℕ) : Type 0 wher
   pub taken : TakesFirst input.remaining rest.remaining (SCRIPT_BYTES + 1) bytes
   pub whole : rest.has_failed ≡ input.has_failed
 
--- The line of each answer was written, and the status is 1 if one is of a refusal. Or the output has refused a write,
--- and a part of these lines is out, from their first byte on.
+-- the line of each answer was written, and the status is 1 if one is of a refusal; or the output has failed
 abbrev pub TellsAnswers : {A : Type 0} → List (Answer A) → OutputView → OutputView → ℕ → Type 0
 TellsAnswers answers old new status =
-    (Appends old.contents new.contents (flat_map answer_line answers)
-    × (status ≡ (if has_refusal answers then 1 else 0)))
-    ⊎ ((new.has_failed ≡ true) × AppendsPart old.contents new.contents (flat_map answer_line answers)
-    × (status ≡ 1))
+    Tells (flat_map answer_line answers) (if has_refusal answers then 1 else 0) old new status
 
 -- How `world` ends, from its streams to the exit status and the streams: the input was read, it was a script, its world
 -- began and answered each event, and the line of each answer was written. No identification was printed twice, no

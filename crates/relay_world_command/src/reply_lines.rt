@@ -1,11 +1,9 @@
 //! The lines of replies. They take no memory.
 
-ghost use Rattle.std.specs.Prelude.{◌≡◌, ◌∷◌, [], true, OnOk, OnErr};
-ghost use Rattle.std.specs.Io.KnownBytes.{Appends};
+ghost use Rattle.std.specs.Prelude.{◌≡◌, ◌∷◌, []};
 ghost use Rattle.hex.specs.Hex.{encode_lower};
 ghost use Rattle.dm_print_ledger.specs.Tickets.{ticket_bytes};
-ghost use Rattle.relay_streams.specs.Refusal.{refused_line};
-ghost use Rattle.relay_streams.specs.Streams.{AppendsPart};
+ghost use Rattle.relay_shared.specs.Telling.{Puts};
 ghost use Rattle.relay_world_command.specs.ReplyLines.{answer_line, document_line, export_line, has_refusal, is_refusal, labels_line, numbered_ticket_line, reply_line};
 
 use dm_append_label::FileId;
@@ -20,9 +18,7 @@ use std::io::Write;
 
 // Writes bytes in hexadecimal.
 fn put_hex<W: Write>(output: &mut Output<W>, bytes: &[u8]) -> Result<(), WriteFault>
-    ensures written { OnOk result (Appends output.old.contents output.new.contents (encode_lower bytes.now)) }
-    ensures part { AppendsPart output.old.contents output.new.contents (encode_lower bytes.now) }
-    ensures failed { OnErr result (output.new.has_failed ≡ true) }
+    ensures { Puts (encode_lower bytes.now) output.old result output.new }
 {
     let mut digits = [0u8; 2];
     for byte in bytes {
@@ -36,9 +32,7 @@ fn put_hex<W: Write>(output: &mut Output<W>, bytes: &[u8]) -> Result<(), WriteFa
 
 // Writes the line of a document.
 fn put_document<W: Write>(output: &mut Output<W>, bytes: &[u8]) -> Result<(), WriteFault>
-    ensures written { OnOk result (Appends output.old.contents output.new.contents (document_line bytes.now)) }
-    ensures part { AppendsPart output.old.contents output.new.contents (document_line bytes.now) }
-    ensures failed { OnErr result (output.new.has_failed ≡ true) }
+    ensures { Puts (document_line bytes.now) output.old result output.new }
 {
     if bytes.is_empty() {
         return output.put(b"document -\n");
@@ -55,9 +49,7 @@ fn put_labels<W: Write>(
     first: usize,
     count: u8,
 ) -> Result<(), WriteFault>
-    ensures written { OnOk result (Appends output.old.contents output.new.contents (labels_line id first count)) }
-    ensures part { AppendsPart output.old.contents output.new.contents (labels_line id first count) }
-    ensures failed { OnErr result (output.new.has_failed ≡ true) }
+    ensures { Puts (labels_line id first count) output.old result output.new }
 {
     let id = id_digits(id);
     let (mut digits, mut counted) = (Buffer::new(), Buffer::new());
@@ -72,11 +64,7 @@ fn put_given<W: Write>(
     index: usize,
     ticket: Ticket,
 ) -> Result<(), WriteFault>
-    ensures written { OnOk result
-        (Appends output.old.contents output.new.contents (numbered_ticket_line index (ticket_bytes ticket))) }
-    ensures part { AppendsPart output.old.contents output.new.contents
-        (numbered_ticket_line index (ticket_bytes ticket)) }
-    ensures failed { OnErr result (output.new.has_failed ≡ true) }
+    ensures { Puts (numbered_ticket_line index (ticket_bytes ticket)) output.old result output.new }
 {
     let mut digits = Buffer::new();
     let mut bytes = [0u8; 20];
@@ -95,9 +83,7 @@ fn put_exported<W: Write>(
     n: u8,
     mask: u16,
 ) -> Result<(), WriteFault>
-    ensures written { OnOk result (Appends output.old.contents output.new.contents (export_line index id n mask)) }
-    ensures part { AppendsPart output.old.contents output.new.contents (export_line index id n mask) }
-    ensures failed { OnErr result (output.new.has_failed ≡ true) }
+    ensures { Puts (export_line index id n mask) output.old result output.new }
 {
     let (id, mask) = (id_digits(id), mask_digits(mask));
     let (mut digits, mut pages) = (Buffer::new(), Buffer::new());
@@ -111,9 +97,7 @@ fn put_reply<A: Allocator, W: Write>(
     output: &mut Output<W>,
     reply: &Reply<A>,
 ) -> Result<(), WriteFault>
-    ensures written { OnOk result (Appends output.old.contents output.new.contents (reply_line reply.now)) }
-    ensures part { AppendsPart output.old.contents output.new.contents (reply_line reply.now) }
-    ensures failed { OnErr result (output.new.has_failed ≡ true) }
+    ensures { Puts (reply_line reply.now) output.old result output.new }
 {
     match reply {
         Reply::Printed { id, first, count } => put_labels(output, *id, *first, *count),
@@ -158,18 +142,7 @@ fn is_refused<A: Allocator>(reply: &Reply<A>) -> bool
         | Reply::PrinterRefused(_)
         | Reply::DeskRefused(_)
         | Reply::Memory => true,
-        Reply::Printed { .. }
-        | Reply::Scanned(_)
-        | Reply::Document(_)
-        | Reply::Forgotten
-        | Reply::Given { .. }
-        | Reply::Taken
-        | Reply::Exported { .. }
-        | Reply::Imported(_)
-        | Reply::Restarted
-        | Reply::Stopped
-        | Reply::Down
-        | Reply::NoSuch => false,
+        _ => false,
     }
 }
 
@@ -178,9 +151,7 @@ pub(crate) fn put_answer<A: Allocator, W: Write>(
     output: &mut Output<W>,
     answer: &Answer<A>,
 ) -> Result<(), WriteFault>
-    ensures written { OnOk result (Appends output.old.contents output.new.contents (answer_line answer.now)) }
-    ensures part { AppendsPart output.old.contents output.new.contents (answer_line answer.now) }
-    ensures failed { OnErr result (output.new.has_failed ≡ true) }
+    ensures { Puts (answer_line answer.now) output.old result output.new }
 {
     let Answer::Given { is_honest, reply } = answer else {
         return output.put_refusal("Memory");

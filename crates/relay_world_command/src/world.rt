@@ -1,10 +1,10 @@
 //! `relay world`: a world of printers and desks, by a script.
 
-ghost use Rattle.std.specs.Prelude.{◌≡◌, true, IfOk, OnOk, OnErr};
+ghost use Rattle.std.specs.Prelude.{◌≡◌, IfOk};
 ghost use Rattle.std.specs.List.{flat_map};
-ghost use Rattle.std.specs.Io.KnownBytes.{Appends};
-ghost use Rattle.relay_streams.specs.Streams.{AppendsPart, TakesPart};
+ghost use Rattle.relay_streams.specs.Streams.{TakesPart};
 ghost use Rattle.relay_shared.specs.Surroundings.{LeavesErrors};
+ghost use Rattle.relay_shared.specs.Telling.{Puts};
 ghost use Rattle.relay_world_command.specs.ReplyLines.{answer_line, has_refusal};
 ghost use Rattle.relay_world_command.specs.World.{EndsWorld, TellsAnswers};
 
@@ -24,10 +24,8 @@ fn put_answers<A: Allocator, W: Write>(
     output: &mut Output<W>,
     answers: &[Answer<A>],
 ) -> Result<bool, WriteFault>
-    ensures written { OnOk result (Appends output.old.contents output.new.contents (flat_map answer_line answers.now)) }
-    ensures part { AppendsPart output.old.contents output.new.contents (flat_map answer_line answers.now) }
+    ensures puts { Puts (flat_map answer_line answers.now) output.old result output.new }
     ensures refused { IfOk result (λ refused. refused ≡ has_refusal answers.now) }
-    ensures failed { OnErr result (output.new.has_failed ≡ true) }
 {
     let mut refused = false;
     for answer in answers {

@@ -2,7 +2,7 @@
 use Rattle.std.specs.Prelude.{◌≡◌, ℕ, true, false, Bool, List}
 use Rattle.std.specs.Io.KnownBytes.{Appends, Consumes}
 use Rattle.relay_streams.specs.Streams.{AppendsPart}
-use Rattle.relay_shared.specs.EachImage.{AnswersImages, Comes, Progress, EndsImages, ImageCommand, SoFar, Step, Taken}
+use Rattle.relay_shared.specs.EachImage.{AnswersImages, Comes, Progress, EndsImages, ImageCommand, Step, Taken}
 use Rattle.relay_shared.specs.declared.images.Answered.{Answered}
 
 -- the bytes that were taken, and what is left of the input afterwards

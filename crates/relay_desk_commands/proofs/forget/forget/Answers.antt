@@ -6,8 +6,7 @@ pub returns-in-Ok : goal.returns-in-Ok
 returns-in-Ok g c = (
   Ok tt,
   c.in-Ok.ensures.forgotten c.requires,
-  told _ c.args.output.now c.put_forgotten.new.output _ c.put_forgotten.result c.put_forgotten.ensures.written
-      c.put_forgotten.ensures.part c.put_forgotten.ensures.failed c.status_after.ensures,
+  told _ c.put_forgotten.ensures c.status_after.ensures,
 )
 
 pub returns-in-Err : goal.returns-in-Err

@@ -6,8 +6,7 @@ pub returns-in-Ok : goal.returns-in-Ok
 returns-in-Ok g c = (
   Ok c.in-Ok.imported,
   c.in-Ok.ensures.imported c.requires,
-  told _ c.args.output.now c.put_imported.new.output _ c.put_imported.result c.put_imported.ensures.written
-      c.put_imported.ensures.part c.put_imported.ensures.failed c.status_after.ensures,
+  told _ c.put_imported.ensures c.status_after.ensures,
 )
 
 pub returns-in-Err : goal.returns-in-Err

@@ -12,7 +12,7 @@ pub returns-clause-ends : goal.returns-clause-ends
 returns-clause-ends g c =
     rw (← c.streams.view_is) (opened c.in-Ok.printer c.give-answer.new.self c.give-answer.result
     c.in-Ok.ensures.opens.0 c.give-answer.ensures.gives c.close-store.ensures.state
-    (rw c.in-Ok.ensures.opens.1 at c.tell_give-status.ensures))
+    (rw c.in-Ok.ensures.opens.1 at c.tell_give-status.ensures) refl)
 
 pub returns-in-Err-clause-lasts : goal.returns-in-Err-clause-lasts
 returns-in-Err-clause-lasts g c =

@@ -5,9 +5,7 @@ use Rattle.relay_printer_commands.proofs.ledger.ledger_command.Goals as goal
 
 pub returns-in-Ok : goal.returns-in-Ok
 returns-in-Ok g c =
-    let left = told _ c.streams.inside.output c.put_left.new.output _ c.put_left.result
-    (rw c.left.ensures.value at c.put_left.ensures.written) (rw c.left.ensures.value at c.put_left.ensures.part)
-    c.put_left.ensures.failed c.status_after-status.ensures in
+    let left = told _ (rw c.left.ensures.value at c.put_left.ensures) c.status_after-status.ensures in
     rw (← c.streams.view_is) (created c.in-Ok.printer c.in-Ok.ensures.ok c.close-store.ensures.state (left, refl))
 
 pub returns-in-Err : goal.returns-in-Err

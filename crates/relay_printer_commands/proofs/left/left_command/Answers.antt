@@ -5,9 +5,8 @@ use Rattle.relay_printer_commands.proofs.left.left_command.Goals as goal
 
 pub returns-in-Ok : goal.returns-in-Ok
 returns-in-Ok g c =
-    let lines = told _ c.streams.inside.output c.put_shown.new.output _ c.put_shown.result c.put_shown.ensures.written
-    c.put_shown.ensures.part c.put_shown.ensures.failed c.status_after-status.ensures in
-    rw (← c.streams.view_is) (shown c.in-Ok.shown c.in-Ok.ensures.ok c.load.ensures.same (lines, refl))
+    rw (← c.streams.view_is) (shown c.in-Ok.shown c.in-Ok.ensures.ok c.load.ensures.same
+    (told _ c.put_shown.ensures c.status_after-status.ensures, refl))
 
 pub returns-in-Err : goal.returns-in-Err
 returns-in-Err g c =

@@ -18,9 +18,7 @@ returns-then-is_empty-clause-ends g c =
 
 pub returns-clause-ends : goal.returns-clause-ends
 returns-clause-ends g c =
-    let lines = told _ c.streams.inside.output c.put_plan.new.output _ c.put_plan.result
-    (rw c.as_slice.ensures.value at c.put_plan.ensures.written) (rw c.as_slice.ensures.value at c.put_plan.ensures.part)
-    c.put_plan.ensures.failed c.status_after.ensures in
+    let lines = told _ (rw c.as_slice.ensures.value at c.put_plan.ensures) c.status_after.ensures in
     rw (← c.streams.view_is) (planned c.in-Ok.document.items c.read_document.new.input c.plan_of-plan.result.items
     c.in-Ok.ensures.taken (rw c.deref.ensures.value at c.plan_of-plan.ensures)
     (some_planned c.plan_of-plan.result.items c.is_empty.result c.is_empty.ensures c.if-is_empty.false) (lines, refl))

@@ -1,8 +1,8 @@
 use Rattle.relay_shared.specs.PlanLines.{side_line}
-use Rattle.relay_shared.proofs.Lines.{part_of_line}
+use Rattle.relay_shared.proofs.Lines.{puts_before}
 use Rattle.relay_printer_commands.proofs.plan.put_plan.Goals as goal
 
-pub returns-in_err-put_side-clause-part : goal.returns-in_err-put_side-clause-part
-returns-in_err-put_side-clause-part g c =
-    part_of_line side_line c.args.plan.now c.loop-planned.planned-index _ _ c.loop-planned.output.contents _
-    c.loop-planned-test.true c.loop-planned.invariant c.put_side.ensures.part
+pub returns-in_err-put_side : goal.returns-in_err-put_side
+returns-in_err-put_side g c =
+    puts_before _ side_line c.args.plan.now c.loop-planned.planned-index _ _ c.loop-planned-test.true c.loop-planned.invariant
+    c.from_residual.ensures.1 c.in_err-put_side.ensures

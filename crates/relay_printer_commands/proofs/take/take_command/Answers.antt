@@ -18,7 +18,7 @@ returns-clause-ends g c =
     rw (← c.streams.view_is) (opened c.in-Some.ticket c.in-Ok.printer c.take-answer.new.self c.take-answer.result
     c.in-Some.ensures.0 c.in-Some.ensures.1 c.in-Ok.ensures.opens.0 c.take-answer.ensures.takes
     c.close-store.ensures.state
-    (rw (c.in-Ok.ensures.opens.1, c.left.ensures.value) at c.tell_take-status.ensures))
+    (rw (c.in-Ok.ensures.opens.1, c.left.ensures.value) at c.tell_take-status.ensures) refl)
 
 pub returns-in_default-clause-lasts : goal.returns-in_default-clause-lasts
 returns-in_default-clause-lasts g c =

@@ -5,10 +5,9 @@ use Rattle.relay_printer_commands.proofs.ticket.ticket_command.Goals as goal
 
 pub returns-in-Some : goal.returns-in-Some
 returns-in-Some g c =
-    let lines = told _ c.streams.inside.output c.put_lines.new.output _ c.put_lines.result c.put_lines.ensures.written
-    c.put_lines.ensures.part c.put_lines.ensures.failed c.status_after.ensures in
     rw (← c.streams.view_is) (shown c.in-Some.ticket c.checked-whole.result c.in-Some.ensures.0 c.in-Some.ensures.1
-    (rw c.bytes.ensures at c.checked-whole.ensures.checked) (lines, refl))
+    (rw c.bytes.ensures at c.checked-whole.ensures.checked)
+    (told _ c.put_lines.ensures c.status_after.ensures, refl))
 
 pub returns-in-None : goal.returns-in-None
 returns-in-None g c =

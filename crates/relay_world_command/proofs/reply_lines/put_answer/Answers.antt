@@ -1,8 +1,8 @@
 use Rattle.std.specs.Prelude.{if◌then◌else◌, codes}
-use Rattle.std.proofs.Common.{◌≡◌, ℕ, Bool, true, false, List, [], ◌++◌, refl, sym, subst}
+use Rattle.std.proofs.Common.{◌≡◌, ℕ, Bool, true, false, List, [], ◌++◌, refl, sym}
 use Rattle.std.proofs.lemmas.Bool.{false≢true}
-use Rattle.relay_streams.specs.Streams.{AppendsPart}
-use Rattle.relay_streams.proofs.Parts.{part_after, part_more}
+use Rattle.relay_streams.proofs.Parts.{part_more}
+use Rattle.relay_shared.proofs.Lines.{puts_next, puts_part}
 use Rattle.relay_world_command.specs.ReplyLines.{reply_line}
 use Rattle.relay_world_command.proofs.reply_lines.put_answer.Goals as goal
 use Rattle.relay_world_command.proofs.reply_lines.put_answer.Goals.{then-not-is_honest+in_ok-put, else-not-is_honest}
@@ -18,21 +18,20 @@ unmarked : (honest : Bool) (line : List ℕ) → honest ≡ true
 unmarked true line is = refl
 unmarked false line is = absurd (false≢true is)
 
-pub returns-in_err-put-clause-part : goal.returns-in_err-put-clause-part
-returns-in_err-put-clause-part g c =
-    rw c.in-Given.is (
-    subst (AppendsPart _ _) (marked c.in-Given.is_honest (reply_line c.in-Given.reply) c.if-not-is_honest.true)
-    (part_more _ _ _ _ c.put.ensures.part)
-    )
+pub returns-in_err-put : goal.returns-in_err-put
+returns-in_err-put g c =
+    let part = part_more _ _ _ (reply_line c.in-Given.reply) c.put.ensures.part in
+    rw (c.in-Given.is, ← marked c.in-Given.is_honest (reply_line c.in-Given.reply) c.if-not-is_honest.true)
+    (puts_part _ _ c.from_residual.ensures.1 part c.in_err-put.ensures.failed)
 
-pub returns-clause-part : goal.returns-clause-part
-returns-clause-part g c =
+pub returns : goal.returns
+returns g c =
     let line = reply_line c.in-Given.reply in
     rw c.in-Given.is (elim c.if-not-is_honest.branch [
       | then-not-is_honest+in_ok-put w ↦
-          subst (AppendsPart _ _) (marked c.in-Given.is_honest line w.if-not-is_honest.true)
-          (part_after _ _ _ _ _ w.in_ok-put.ensures.written (rw w.output-is at c.put_reply.ensures.part))
+          rw (← marked c.in-Given.is_honest line w.if-not-is_honest.true)
+          (puts_next _ _ w.in_ok-put.ensures.written (rw w.output-is at c.put_reply.ensures))
       | else-not-is_honest w ↦
-          subst (AppendsPart _ _) (unmarked c.in-Given.is_honest line w.if-not-is_honest.false)
-          (rw w.output-is at c.put_reply.ensures.part)
+          rw (← unmarked c.in-Given.is_honest line w.if-not-is_honest.false)
+          (rw w.output-is at c.put_reply.ensures)
     ])

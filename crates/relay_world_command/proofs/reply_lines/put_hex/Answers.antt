@@ -1,6 +1,7 @@
 use Rattle.std.proofs.Common.{◌<◌, length, take, arith}
 use Rattle.std.proofs.KnownBytes.{Appends-nil, Appends-trans}
 use Rattle.std.proofs.lemmas.List.{take_more}
+use Rattle.relay_shared.proofs.Lines.{puts_part}
 use Rattle.relay_world_command.proofs.Hexadecimal.{hex_append, hex_none, part_of_hex}
 use Rattle.relay_world_command.proofs.reply_lines.put_hex.Goals as goal
 
@@ -15,7 +16,8 @@ loop-byte-preserved g c =
     (Appends-trans _ _ _ _ _ c.loop-byte.invariant
     (rw c.in-Ok.ensures.written at c.in_ok-put.ensures.written))
 
-pub returns-in_err-put-clause-part : goal.returns-in_err-put-clause-part
-returns-in_err-put-clause-part g c =
-    part_of_hex c.args.bytes.now c.loop-byte.byte-index _ c.loop-byte.output.contents _ c.loop-byte-test.true
-    c.loop-byte.invariant (rw c.in-Ok.ensures.written at c.put.ensures.part)
+pub returns-in_err-put : goal.returns-in_err-put
+returns-in_err-put g c =
+    puts_part _ _ c.from_residual.ensures.1
+    (part_of_hex c.args.bytes.now c.loop-byte.byte-index _ c.loop-byte.output.contents _ c.loop-byte-test.true
+    c.loop-byte.invariant (rw c.in-Ok.ensures.written at c.put.ensures.part)) c.in_err-put.ensures.failed

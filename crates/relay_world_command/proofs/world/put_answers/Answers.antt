@@ -1,9 +1,8 @@
-use Rattle.std.proofs.Common.{◌≡◌, ◌+◌, ◌<◌, ◌++◌, ◌∷◌, [], length, take, refl, ap, sym, subst, ◌∙◌, arith}
+use Rattle.std.proofs.Common.{◌≡◌, ◌+◌, ◌<◌, ◌++◌, ◌∷◌, [], length, take, refl, ap, sym, ◌∙◌, arith}
 use Rattle.std.proofs.KnownBytes.{Appends-nil, Appends-trans}
 use Rattle.std.proofs.lemmas.List.{take_more, flat_map_more}
 use Rattle.relay_world_command.specs.ReplyLines.{answer_line}
-use Rattle.relay_streams.specs.Streams.{AppendsPart}
-use Rattle.relay_shared.proofs.Lines.{part_of_line}
+use Rattle.relay_shared.proofs.Lines.{puts_before}
 use Rattle.relay_world_command.proofs.RefusedLines.{refusal_more}
 use Rattle.relay_world_command.proofs.world.put_answers.Goals as goal
 
@@ -29,11 +28,8 @@ loop-answer-preserved g c =
       ) refl;
     }
 
-pub returns-in_err-put_answer-clause-part : goal.returns-in_err-put_answer-clause-part
-returns-in_err-put_answer-clause-part g c =
-    let answer = c.answer-item.result in
-    let before = c.loop-answer.output.contents in
-    let after = c.put_answer.new.output.contents in
-    part_of_line answer_line c.args.answers.now c.loop-answer.answer-index answer _ before after
-    c.loop-answer-test.true c.loop-answer.invariant.written
-    (subst (λ a. AppendsPart before after (answer_line a)) c.answer-item.is c.put_answer.ensures.part)
+pub returns-in_err-put_answer-clause-puts : goal.returns-in_err-put_answer-clause-puts
+returns-in_err-put_answer-clause-puts g c =
+    puts_before _ answer_line c.args.answers.now c.loop-answer.answer-index c.answer-item.result _
+    c.loop-answer-test.true c.loop-answer.invariant.written c.from_residual.ensures.1
+    (rw c.answer-item.is at c.in_err-put_answer.ensures)
