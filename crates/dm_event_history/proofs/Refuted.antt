@@ -4,13 +4,13 @@ use Rattle.dm_event_history.specs.declared.event.Event.TheVariants.{RestartPrint
 use Rattle.dm_event_history.specs.declared.reply.Reply.TheVariants.{Memory}
 use Rattle.dm_event_history.proofs.RefutedHoldings.{beyond_its_room_is, full_of_nothing_is}
 use Rattle.dm_event_history.proofs.RefutedScans.{conflict_of_nothing_is, full_though_perfect_is, saved_though_shown_is, saved_though_perfect_is, saved_though_whole_is}
-use Rattle.dm_event_history.proofs.RefutedImports.{refused_two_ways_is, unsaved_though_conflicting_is, full_though_conflicting_is, lost_by_a_stopped_import_is}
+use Rattle.dm_event_history.proofs.RefutedImports.{lacking_though_conflicting_is, lost_by_a_failed_import_is, refused_two_ways_is, unsaved_though_conflicting_is, full_though_conflicting_is, lost_by_a_stopped_import_is}
 use Rattle.dm_event_history.proofs.RefutedLedgers.{exhausted_at_first_is, exhausted_by_itself_is, exhausted_by_no_range_is, exhausted_by_a_refused_give_is, exhausted_though_failed_is, too_long_of_few_is, given_of_another_is, given_though_printed_is, given_again_is, printed_above_the_least_is, printed_untaken_is, printed_of_anothers_ticket_is, given_after_taken_is, printed_of_overtaken_is, given_of_overtaken_is, printed_of_old_is, printed_after_exhausted_is, given_after_exhausted_is, given_though_used_is, printed_though_given_is, refused_though_taken_is, given_of_falling_takes_is, serial_skipped_is, refused_though_free_is, refused_though_for_it_is, given_without_memory_is, given_unsaved_is, taken_without_memory_is, taken_unsaved_is, stopped_without_memory_is}
 use Rattle.dm_event_history.specs.Unfaithful.{AreUnfaithful}
 use Rattle.dm_event_history.proofs.RefutedDocuments.{never_printed_is, wrong_document_is, another_document_is, never_scanned_is, begun_unscanned_is, exported_unscanned_is, half_printed_is, never_saved_is, two_documents_is}
 use Rattle.dm_event_history.proofs.RefutedPrints.{printed_twice_is, printed_unseen_is, told_twice_is, wrong_of_two_is, refused_unprinted_is, missing_first_label_is, missing_after_a_refused_give_is, missing_label_is, scanned_outside_is, printed_after_forgotten_is, saved_though_failed_is, printed_of_another_is, left_though_failed_is, never_left_is, printed_beyond_is}
 use Rattle.dm_event_history.proofs.RefutedPages.{import_conflicting_is, full_at_first_is, import_full_at_first_is, full_with_one_is, held_and_missing_is, forgotten_elsewhere_is, forgotten_twice_is, again_at_first_is, new_twice_is, new_at_last_is, complete_at_first_is, missing_though_held_is, given_elsewhere_is, lost_by_a_refused_forget_is, imported_at_last_is, exported_in_part_is, added_again_is, refused_label_is, refused_for_nothing_is, refused_frame_is, conflicting_label_is}
-use Rattle.dm_event_history.proofs.RefutedStops.{unsaved_of_nothing_is, lacking_of_nothing_is, asked_in_vain_is, exported_in_vain_is, lost_by_a_stop_is, lost_by_a_flip_is, lost_by_five_flips_is, not_exported_is, not_forgotten_is, lost_by_a_fault_is, exported_less_a_stop_is, lost_though_full_is, lost_before_it_was_tainted_is, held_though_forgotten_is, forgotten_after_a_stop_is}
+use Rattle.dm_event_history.proofs.RefutedStops.{unsaved_of_nothing_is, lacking_of_nothing_is, asked_in_vain_is, exported_in_vain_is, lost_by_a_stop_is, lost_by_a_flip_is, lost_by_five_flips_is, not_exported_is, not_forgotten_is, lost_by_a_fault_is, exported_less_a_stop_is, lost_though_full_is, lost_before_it_was_tainted_is, held_though_forgotten_is, forgotten_after_a_stop_is, held_though_let_go_is}
 use Rattle.dm_event_history.proofs.RefutedFrames.{refused_by_five_flips_is, counted_short_is, read_without_frame_is, taken_without_frame_is}
 use Rattle.dm_event_history.proofs.RefutedTainted.{forgotten_without_memory_is, imported_without_memory_is, exported_nothing_is, exported_third_of_two_is, wrong_after_a_refused_scan_is, wrong_after_a_failed_scan_is, wrong_after_a_failed_import_is, wrong_untainted}
 use Rattle.dm_event_history.proofs.RefutedReplies.{page_0_of_two_is, one_of_one_is, scanned_with_a_fault_is, third_of_two_is, one_of_17_is, of_no_identification_is, memory_of_a_label_is, import_damaged_is, import_of_a_version_is, import_of_no_pages_is, another_call_is, stopped_unasked_is, forgotten_with_a_fault_is, scanned_though_stopped_is, failed_without_a_fault_is, damaged_by_itself_is, answered_while_down_is, down_unstopped_is, failed_before_a_fault_is, given_though_failed_is, given_to_itself_is, refused_range_is, refused_receiver_is, given_to_another_is, missing_printer_is, third_desk_is}
@@ -130,6 +130,9 @@ are_unfaithful A = record {
   exported_third_of_two_is = exported_third_of_two_is A;
   forgotten_without_memory_is = forgotten_without_memory_is A;
   imported_without_memory_is = imported_without_memory_is A;
+  lacking_though_conflicting_is = lacking_though_conflicting_is A;
+  lost_by_a_failed_import_is = lost_by_a_failed_import_is A;
+  held_though_let_go_is = held_though_let_go_is A;
   refused_two_ways_is = refused_two_ways_is A;
   unsaved_though_conflicting_is = unsaved_though_conflicting_is A;
   full_though_conflicting_is = full_though_conflicting_is A;

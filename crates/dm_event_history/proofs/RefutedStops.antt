@@ -37,7 +37,7 @@ use Rattle.dm_event_history.specs.Tainted.{AtDesk}
 use Rattle.dm_event_history.specs.Held.{Holding, both, IsPageOfLabel, DidWhatItCould, ChangesHolding, CanHold, first_entries}
 use Rattle.dm_event_history.specs.Headline.{WasFoundHonest}
 use Rattle.dm_event_history.specs.Worked.{two_ranges}
-use Rattle.dm_event_history.specs.Unfaithful.{IsFaithfulRun, IsFaithfulMarked, IsFaithfulAlone, at_once, after_a_stop, after_a_stopped_forget, one_flip, five_flips, lost_by_a_fault, exported_less_a_stop, lost_though_full, lost_before_it_was_tainted}
+use Rattle.dm_event_history.specs.Unfaithful.{IsFaithfulRun, IsFaithfulMarked, IsFaithfulAlone, at_once, after_a_stop, after_a_stopped_forget, one_flip, five_flips, lost_by_a_fault, held_though_let_go, exported_less_a_stop, lost_though_full, lost_before_it_was_tainted}
 use Rattle.dm_event_history.proofs.Batches.{in_either, name_at}
 use Rattle.dm_event_history.proofs.Explained.{Hidden, known, history_of, behind_run}
 use Rattle.dm_event_history.proofs.HeldDocuments.{get_same, get_removed}
@@ -318,6 +318,35 @@ pub forgotten_after_a_stop_is : (A : Type 0) →
     ¬ IsFaithfulRun (after_a_stopped_forget A (Forget 0 0 stops.None) Forgotten)
 forgotten_after_a_stop_is A = after_stopped_forget A _ _ refl
     (λ Honest before old new none does. some_of_none (finite.get old.shown 0) none does.0)
+
+-- a forget whose save failed, and left the new content
+pub held_though_let_go_is : (A : Type 0) → ¬ IsFaithfulRun (held_though_let_go A)
+held_though_let_go_is A =
+    no_holding (held_though_let_go A) 5 (omega arith) (untainted (held_though_let_go A) 5 (AtDesk 0)) by_hidden
+  where
+    found : History A → Event A → Type 0
+    found = WasFoundHonest (marks (held_though_let_go A))
+
+    failing : Hidden → Entry A
+    failing x = known (Forget 0 0 (stops.SaveFault kept.New)) (ForgetRefused forget_fault.Save) x
+
+    let_go : (a b c : Hidden) (h : Holding) →
+        CanHold found 2 (failing c ∷ scanned_first b ∷ first_print a ∷ []) 0 h → finite.get h.stored 0 ≡ None
+    let_go a b c h (inl x) =
+        ap (λ (k : Holding). finite.get k.stored 0) x.3.2 ∙ ap (λ (d : Documents). finite.get d 0) x.3.1.1 ∙
+        get_removed x.1.shown 0
+    let_go a b c h (inr x) = absurd (x.0 refl)
+
+    by_hidden : (hidden : List Hidden) → length hidden ≡ 5 → IsBehind (held_though_let_go A) hidden →
+        (holding : Holding) → IsHeldAfter (held_though_let_go A) 5 hidden holding → ⊥
+    by_hidden (a ∷ b ∷ c ∷ d ∷ e ∷ []) count legal holding (inl (named, old, inl x, does)) =
+        let none : finite.get old.shown 0 ≡ None =
+        ap (λ (k : Holding). finite.get k.shown 0) x.3 ∙ let_go a b c x.1 x.2 in
+        let told : ◌≡◌ {A = Result (List ℕ) AskFault} (Err (Incomplete 2)) (Err NotHeld) =
+        subst (λ (o : Option Pages). Asks {X = List ℕ} (λ given. given) o (Err (Incomplete 2))) none does.0 in cc (told)
+    by_hidden (a ∷ b ∷ c ∷ d ∷ e ∷ []) count legal holding (inl (named, old, inr x, does)) = absurd (x.0 refl)
+    by_hidden (a ∷ b ∷ c ∷ d ∷ e ∷ []) count legal holding (inr x) = absurd (x.0 refl)
+    by_hidden hidden count legal holding can = absurd (omega arith)
 
 -- ---- the second page, by a scan that was stopped after its save
 

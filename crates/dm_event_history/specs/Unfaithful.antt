@@ -329,13 +329,14 @@ lost_by_a_fault A =
     (Scan 0 0 [] (SaveFault kept.New), ScanRefused scan_fault.Save) ∷
     (RestartDesk 0, Restarted) ∷ (Ask 0 0, AskRefused NotHeld) ∷ []
 
--- `held`: a document is not held of which an export was imported, by an import that was stopped after its save
-abbrev pub lost_by_a_stopped_import : (A : Type 0) → Run A
-lost_by_a_stopped_import A =
+-- `held`: a document is not held of which an export was imported, by an import that was stopped after its save, or whose
+-- save failed and left the new content
+abbrev pub lost_after_an_import : (A : Type 0) → Stop → Reply A → Run A
+lost_after_an_import A stop reply =
     (print 0 digits None, Printed 0 0 2) ∷
     (Scan 1 0 [] None, Scanned (page 0 1 New)) ∷
     (Export 1 0, Exported 0 0 2 1) ∷
-    (Import 0 0 (InSave kept.New), Stopped) ∷ (RestartDesk 0, Restarted) ∷ (Ask 0 0, AskRefused NotHeld) ∷ []
+    (Import 0 0 stop, reply) ∷ (RestartDesk 0, Restarted) ∷ (Ask 0 0, AskRefused NotHeld) ∷ []
 
 -- `held`: of two pages that a desk must hold, one was told as taken, and the scan of the other was stopped after its
 -- save; just the first is exported
@@ -352,12 +353,20 @@ saved_though_shown A =
     (scan 0, Scanned (page 0 1 New)) ∷
     (Scan 0 0 ((0, 0) ∷ []) (SaveFault kept.Old), ScanRefused scan_fault.Save) ∷ []
 
--- `held`: a document was let go, by a forget that was stopped after its save; and after a restart the desk answers so
+-- `held`: a document was let go, by a forget that was stopped after its save; and after a restart the desk answers so.
+-- Or the save of the forget failed and left the new content, and a page is missing after a restart.
 abbrev pub after_a_stopped_forget : (A : Type 0) → Event A → Reply A → Run A
 after_a_stopped_forget A event reply =
     (print 0 digits None, Printed 0 0 2) ∷
     (scan 0, Scanned (page 0 1 New)) ∷
     (Forget 0 0 (AfterLabels 0), Stopped) ∷ (RestartDesk 0, Restarted) ∷ (event, reply) ∷ []
+
+abbrev pub held_though_let_go : (A : Type 0) → Run A
+held_though_let_go A =
+    (print 0 digits None, Printed 0 0 2) ∷
+    (scan 0, Scanned (page 0 1 New)) ∷
+    (Forget 0 0 (SaveFault kept.New), ForgetRefused forget_fault.Save) ∷
+    (RestartDesk 0, Restarted) ∷ (Ask 0 0, AskRefused (Incomplete 2)) ∷ []
 
 -- `held`: a desk with room for two documents takes pages of three
 abbrev pub beyond_its_room : (A : Type 0) → Run A
@@ -951,14 +960,14 @@ lacking_though_failed A event =
 
 -- `held`, of a desk that is not tainted: it refuses a tainted export for a conflict with the page that it holds, and
 -- then for another reason: as it lacks memory to save a page of it, or fails to, or as it has no room
-abbrev pub refused_two_ways : (A : Type 0) → Stop → ImportFault → MarkedRun A
-refused_two_ways A stop fault =
+abbrev pub refused_two_ways : (A : Type 0) → Stop → Reply A → MarkedRun A
+refused_two_ways A stop reply =
     (print 0 digits None, true, Printed 0 0 2) ∷
     (Scan 2 0 ((0, 0) ∷ []) None, false, Scanned (page 0 1 New)) ∷
     (Scan 2 0 ((0, 0) ∷ []) None, false, Scanned (page 0 2 Complete)) ∷
     (Export 2 0, true, Exported 0 0 2 3) ∷
     (scan 0, true, Scanned (page 0 1 New)) ∷
-    (Import 0 0 None, true, ImportRefused import_fault.Conflict) ∷ (Import 0 0 stop, true, ImportRefused fault) ∷ []
+    (Import 0 0 None, true, ImportRefused import_fault.Conflict) ∷ (Import 0 0 stop, true, reply) ∷ []
 
 -- `given`, of a desk that is not tainted: its dishonest scan was refused
 abbrev pub wrong_after_a_refused_scan : (A : Type 0) → MarkedRun A
@@ -1078,7 +1087,9 @@ pub record AreUnfaithful (A : Type 0) : Type 0 where
       (after_a_stop A [] (Forget 0 0 None) (ForgetRefused forget_fault.NotHeld))
   pub taken_without_frame_is : ¬ IsFaithfulRun (after_a_stop A six_flips (Ask 0 0) (AskRefused (Incomplete 2)))
   pub lost_by_a_fault_is : ¬ IsFaithfulRun (lost_by_a_fault A)
-  pub lost_by_a_stopped_import_is : ¬ IsFaithfulRun (lost_by_a_stopped_import A)
+  pub lost_by_a_stopped_import_is : ¬ IsFaithfulRun (lost_after_an_import A (InSave kept.New) Stopped)
+  pub lost_by_a_failed_import_is : ¬ IsFaithfulRun
+      (lost_after_an_import A (SaveFault kept.New) (ImportRefused import_fault.Save))
   pub exported_less_a_stop_is : ¬ IsFaithfulRun (exported_less_a_stop A)
   pub lost_though_full_is : ¬ IsFaithfulAlone (lost_though_full A)
   pub lost_before_it_was_tainted_is : ¬ IsFaithfulMarked (lost_before_it_was_tainted A)
@@ -1087,6 +1098,7 @@ pub record AreUnfaithful (A : Type 0) : Type 0 where
   pub saved_though_perfect_is : ¬ IsFaithfulMarked (saved_though_perfect A)
   pub held_though_forgotten_is : ¬ IsFaithfulRun
       (after_a_stopped_forget A (Ask 0 0) (AskRefused (Incomplete 2)))
+  pub held_though_let_go_is : ¬ IsFaithfulRun (held_though_let_go A)
   pub forgotten_after_a_stop_is : ¬ IsFaithfulRun (after_a_stopped_forget A (Forget 0 0 None) Forgotten)
   pub beyond_its_room_is : ¬ IsFaithfulRun (beyond_its_room A)
   pub full_of_nothing_is : ¬ IsFaithfulMarked (full_of_nothing A)
@@ -1109,10 +1121,11 @@ pub record AreUnfaithful (A : Type 0) : Type 0 where
   pub exported_third_of_two_is : ¬ IsFaithfulMarked (exported_so A 4)
   pub forgotten_without_memory_is : ¬ IsFaithfulMarked (lacking_though_failed A (Forget 0 9 (AfterLabels 0)))
   pub imported_without_memory_is : ¬ IsFaithfulMarked (lacking_though_failed A (Import 0 0 (AfterLabels 0)))
-  pub refused_two_ways_is : ¬ IsFaithfulMarked (refused_two_ways A None import_fault.Memory)
+  pub refused_two_ways_is : ¬ IsFaithfulMarked (refused_two_ways A None (ImportRefused import_fault.Memory))
+  pub lacking_though_conflicting_is : ¬ IsFaithfulMarked (refused_two_ways A (AfterLabels 0) Memory)
   pub unsaved_though_conflicting_is : ¬ IsFaithfulMarked
-      (refused_two_ways A (SaveFault kept.Old) import_fault.Save)
-  pub full_though_conflicting_is : ¬ IsFaithfulMarked (refused_two_ways A None import_fault.Full)
+      (refused_two_ways A (SaveFault kept.Old) (ImportRefused import_fault.Save))
+  pub full_though_conflicting_is : ¬ IsFaithfulMarked (refused_two_ways A None (ImportRefused import_fault.Full))
   pub wrong_after_a_refused_scan_is : ¬ IsFaithfulMarked (wrong_after_a_refused_scan A)
   pub wrong_after_a_failed_scan_is : ¬ IsFaithfulMarked (wrong_after_a_failed_scan A)
   pub wrong_after_a_failed_import_is : ¬ IsFaithfulMarked (wrong_after_a_failed_import A)
