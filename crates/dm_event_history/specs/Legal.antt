@@ -305,13 +305,14 @@ MayMove ranges before id other = ⊥
 -- ---- legal
 
 -- The entry may come after this history, where there is a printer for each range, and that many desks. `kept` follows
--- from the last field, and so does `moves` of a print, a give and a take; of a desk's call `moves` says that its flag is
--- false. `left_saved` follows from `lets_out` and `told`. What is proved of identifications rests on these.
+-- from the last field, and so does `moves` of a print, a give and a take; of a desk's call `moves` says that its flag
+-- is false. `left_saved` follows from `lets_out` and `told`. What is proved of identifications rests on these.
 pub record Fits {A : Type 0} (ranges : List Range) (desks : ℕ) (before : History A) (entry : Entry A) : Type 0 where
   pub reply : IsReply ranges before entry.id entry.left entry.event entry.reply
   pub lets_out : LetsOut entry.event entry.reply entry.saved entry.parts entry.left
   pub parts : AreItsParts entry.event entry.parts entry.left
-  -- `NoSuch` exactly if something named isn't there; else `Down` exactly if the one named is down, and this is no restart
+  -- `NoSuch` exactly if something named isn't there; else `Down` exactly if the one named is down, and this is no
+  -- restart
   pub no_such : entry.reply ≡ NoSuch → ¬ IsThere (length ranges) desks before entry.event
   pub there : entry.reply ≢ NoSuch → IsThere (length ranges) desks before entry.event
   pub down : (entry.reply ≡ Down) ↔

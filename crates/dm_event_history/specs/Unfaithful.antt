@@ -329,8 +329,8 @@ lost_by_a_fault A =
     (Scan 0 0 [] (SaveFault kept.New), ScanRefused scan_fault.Save) ∷
     (RestartDesk 0, Restarted) ∷ (Ask 0 0, AskRefused NotHeld) ∷ []
 
--- `held`: a document is not held of which an export was imported, by an import that was stopped after its save, or whose
--- save failed and left the new content
+-- `held`: a document is not held of which an export was imported, by an import that was stopped after its save, or
+-- whose save failed and left the new content
 abbrev pub lost_after_an_import : (A : Type 0) → Stop → Reply A → Run A
 lost_after_an_import A stop reply =
     (print 0 digits None, Printed 0 0 2) ∷
@@ -537,8 +537,8 @@ printed_of_overtaken A = after_overtaken A (print 1 digits None, Printed 0 0 2)
 abbrev pub given_of_overtaken : (A : Type 0) → Run A
 given_of_overtaken A = after_overtaken A (Give 1 0 (range 0 4) None, Given 2 (ticket_back 0 (range 0 4)))
 
--- `explained`: a printer prints under a number that it had given back, after it was stopped as it took the ticket which had
--- brought it, and which it had refused as old
+-- `explained`: a printer prints under a number that it had given back, after it was stopped as it took the ticket which
+-- had brought it, and which it had refused as old
 abbrev pub printed_of_old : (A : Type 0) → Run A
 printed_of_old A =
     (Give 0 1 (range 5 9) None, Given 0 (ticket 0 (range 5 9))) ∷
@@ -572,8 +572,8 @@ refused_though_taken A =
     (Take 1 0 (AfterLabels 0), Stopped) ∷
     (RestartPrinter 1, Restarted) ∷ (Give 1 0 (range 0 4) None, GiveRefused give_fault.NotFree) ∷ []
 
--- `explained`: of two takes that were stopped after their saves the second was of the earlier ticket, so that it brought
--- nothing; but its numbers are given
+-- `explained`: of two takes that were stopped after their saves the second was of the earlier ticket, so that it
+-- brought nothing; but its numbers are given
 abbrev pub given_of_falling_takes : (A : Type 0) → Run A
 given_of_falling_takes A =
     (Give 0 1 (range 0 2) None, Given 0 (ticket 0 (range 0 2))) ∷
