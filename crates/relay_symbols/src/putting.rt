@@ -1,7 +1,6 @@
 //! Bytes that go out to the caller.
 
 ghost use Rattle.std.specs.Prelude.{◌≡◌, ◌≤◌, ◌++◌, length, drop, MatchOption};
-ghost use Rattle.relay_shared.specs.Telling.{Puts};
 
 /// Puts the bytes at the front of the caller's, or leaves those as they are where there is no room. Answers how many
 /// were put.

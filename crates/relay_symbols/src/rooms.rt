@@ -1,7 +1,6 @@
 //! Bytes that go out to rooms of the caller's.
 
 ghost use Rattle.std.specs.Prelude.{◌≡◌, ◌<◌, ◌≤◌, ◌+◌, IfNone, IfSome, length};
-ghost use Rattle.relay_shared.specs.Telling.{Puts};
 ghost use Rattle.relay_symbols.specs.inner.Putting.{HasPut};
 
 /// Puts the bytes at the front of a room, which begins at `start` and ends before `end`, or leaves all as it is if they
