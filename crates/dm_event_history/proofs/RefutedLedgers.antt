@@ -755,7 +755,7 @@ second_lets_out A batches f =
         )
     by_hidden hidden count legal are = absurd (omega arith)
 
--- ---- refusals for want of memory, or for a save
+-- ---- refusals for lack of memory, or for a save
 
 -- numbers that another printer began with can't be given
 not_given_away : {A : Type 0} (stop : Stop) (fault : GiveFault) →

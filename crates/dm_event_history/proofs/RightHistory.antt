@@ -1,4 +1,4 @@
--- The history behind the right document: two prints that saved and were stopped, two scans and an ask. It is legal.
+-- The history of the right document: two prints that saved and were stopped, two scans and an ask. It is legal.
 use Rattle.std.proofs.Common.{◌≡◌, ◌≤◌, ◌||◌, ℕ, zero, suc, Bool, true, false, None, [], ◌∷◌, take, refl, sym, ◌∙◌, arith, inl, Option, slice_get, ap, subst, Ok, Some, inr, ◌≢◌}
 use Rattle.std.proofs.lemmas.Bool.Decides.{nat_tests}
 use Rattle.dm_check_blocks.specs.declared.size.Size.TheVariants.{Side12}

@@ -107,7 +107,7 @@ pub record LeftBefore (batches : List (Option Batch)) (i id : ℕ) (batch : Batc
   pub there : slice_get batches j ≡ Some (Some batch)
   pub id_is : batch.id ≡ id
 
--- ---- the history behind the replies
+-- ---- the history that explains the replies
 
 -- the batch that left, if an event prints this document
 abbrev pub batch_in : ℕ → ℕ → Option CutDocument → Option Batch
@@ -266,7 +266,7 @@ known_before batches events replies i = record {
   sent = λ export name. slice_get (exports_in (take i replies)) export ≡ Some name;
 }
 
--- the fault is told as one of the finder patterns, of which one module or more are wrong, and no more than were flipped
+-- the fault is one of the finder patterns, of which one module or more are wrong, and no more than were flipped
 abbrev pub IsOfFrame : List (ℕ × ℕ) → LabelFault → Type 0
 IsOfFrame flips (Border wrong) = (1 ≤ wrong) × (wrong ≤ length flips)
 IsOfFrame flips fault = ⊥

@@ -98,8 +98,7 @@ IsHonestlyNotImported grids capacities before desk export import_fault.Full =
     IsClean grids before (AtDesk desk) → IsFullForExport capacities (known_of before) desk export
 IsHonestlyNotImported grids capacities before desk export other = Unit {0}
 
--- what is so of the reply to an event that brings nothing but what is clean: a fair scan is told as the page of its
--- label
+-- what is so of the reply to an event that brings nothing but what is clean: a fair scan shows the page of its label
 abbrev pub IsHonestReply : {A : Type 0} → List GridView → List ℕ → History A → Event A → Reply A → Type 0
 IsHonestReply grids capacities before (Scan desk label flips stop) (Scanned accepted) =
     IsFramed grids label flips × IsPageOf (known_of before) label accepted

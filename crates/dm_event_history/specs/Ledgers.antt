@@ -61,7 +61,7 @@ CannotDo view tickets (Take printer ticket stop) =
 CannotDo view tickets other = ⊥
 
 -- A refusal tells the reason. One for memory, or for the save, is given only if all that the call asks is so. A take is
--- answered `Memory` only then too; a print or a give may be answered so at any time, for want of memory for what leaves.
+-- answered `Memory` only then too; a print or a give may be answered so at any time, for lack of memory for what leaves.
 abbrev pub IsReason : {A : Type 0} → PrinterView → List TicketView → Event A → Reply A → Type 0
 IsReason view tickets (Print printer document size scheme stop) (PrintRefused print_fault.Memory) =
     CanPrint view size scheme document

@@ -168,8 +168,8 @@ IsTakeRefused before printer ticket stop take_fault.Overlap = ⊥
 IsTakeRefused before printer ticket stop take_fault.Save = IsSaveFault stop
 IsTakeRefused before printer ticket stop other = Unit {0}
 
--- The page that is told of a scan, whether the desk is clean or not, is one that a label can have: m of n, of 2 to 16.
--- `New` and `Complete` are told only if nothing was to happen to the call.
+-- The page that a scan shows, whether the desk is clean or not, is one that a label can have: m of n, of 2 to 16.
+-- `New` and `Complete` are answered only if nothing was to happen to the call.
 pub record IsAccepted (stop : Stop) (accepted : Accepted) : Type 0 where
   pub no_stop : accepted.kind ≢ Again → stop ≡ stops.None
   pub is_head : IsHead (record { m = accepted.m; n = accepted.n; id = accepted.id })
@@ -200,7 +200,7 @@ pub record IsExported {A : Type 0} (before : History A) (id index told : ℕ) : 
   pub index_is : index ≡ length (exports before)
   pub id_is : told ≡ id
 
--- what is told of an export is of a document of 2 to 16 pages, and names some of them
+-- an export is of a document of 2 to 16 pages, and names some of them
 pub record AreSomePages (n mask : ℕ) : Type 0 where
   pub least : 2 ≤ n
   pub most : n ≤ 16

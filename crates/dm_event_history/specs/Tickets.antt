@@ -20,7 +20,8 @@ abbrev pub tickets_in : {A : Type 0} → List (Reply A) → List TicketView
 tickets_in [] = []
 tickets_in (reply ∷ replies) = given reply ++ tickets_in replies
 
--- a take with this stop that is answered so was saved: it is told, or its save met a fault that left the new content
+-- a take with this stop that is answered so was saved: so the answer says, or its save met a fault that left the new
+-- content
 abbrev pub IsTaken : {A : Type 0} → Stop → Reply A → Type 0
 IsTaken stop Taken = Unit {0}
 IsTaken (SaveFault New) (TakeRefused Save) = Unit {0}

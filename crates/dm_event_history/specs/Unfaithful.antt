@@ -237,8 +237,8 @@ forgotten_twice A =
     (print 0 digits None, Printed 0 0 2) ∷
     (scan 0, Scanned (page 0 1 New)) ∷ (Forget 0 0 None, Forgotten) ∷ (Forget 0 0 None, Forgotten) ∷ []
 
--- `agrees`: a page is told as held that was not scanned before, one as new that was, one so that completes its
--- document, and one as completing a document of which no other was scanned
+-- `agrees`: `Again` of a page that was not scanned before, `New` of one that was and of one that completes its
+-- document, and `Complete` of one of a document of which no other was scanned
 abbrev pub again_at_first : (A : Type 0) → Run A
 again_at_first A = (print 0 digits None, Printed 0 0 2) ∷ (scan 0, Scanned (page 0 1 Again)) ∷ []
 
@@ -291,7 +291,7 @@ added_again A =
     (Export 0 0, Exported 0 0 2 1) ∷
     (Import 0 0 None, Imported (record { id = 0; n = 2; added = 1; kind = New })) ∷ []
 
--- `agrees`: an import is told as new that completes its document
+-- `agrees`: the reply `New` to an import that completes its document
 abbrev pub imported_at_last : (A : Type 0) → Run A
 imported_at_last A =
     (print 0 digits None, Printed 0 0 2) ∷
@@ -398,7 +398,7 @@ counted_short A =
     (print 0 digits None, Printed 0 0 2) ∷
     (Scan 0 0 six_flips None, ScanRefused (scan_fault.Label (Border 5))) ∷ []
 
--- `explained`: the page of a label is told, of whose finder patterns more than an eighth of the modules are wrong
+-- `explained`: a scan shows the page of a label of whose finder patterns more than an eighth of the modules are wrong
 abbrev pub read_without_frame : (A : Type 0) → Run A
 read_without_frame A =
     (print 0 digits None, Printed 0 0 2) ∷ (Scan 0 0 six_flips None, Scanned (page 0 1 New)) ∷ []
@@ -465,7 +465,7 @@ told_twice A = (print 0 digits None, Printed 0 0 2) ∷ (print 0 other_digits No
 abbrev pub printed_beyond : (A : Type 0) → Run A
 printed_beyond A = (print 0 digits None, Printed 20 0 2) ∷ []
 
--- `explained`: a label is told under an identification that another printer began with
+-- `explained`: a scan shows a label under an identification that another printer began with
 abbrev pub printed_of_another : (A : Type 0) → Run A
 printed_of_another A = (print 0 digits (AfterLabels 1), Stopped) ∷ (scan 0, Scanned (page 15 1 New)) ∷ []
 
@@ -583,13 +583,13 @@ given_of_falling_takes A =
     (Take 1 0 (AfterLabels 0), Stopped) ∷
     (RestartPrinter 1, Restarted) ∷ (Give 1 0 (range 0 2) None, Given 2 (ticket_back 0 (range 0 2))) ∷ []
 
--- `unfailed`: a label is told that left by a printer whose last save failed
+-- `unfailed`: a scan shows a label that left by a printer whose last save failed
 abbrev pub left_though_failed : (A : Type 0) → Run A
 left_though_failed A =
     (print 0 digits (SaveFault kept.Old), PrintRefused print_fault.Save) ∷
     (print 0 digits (AfterLabels 2), Stopped) ∷ (scan 0, Scanned (page 0 1 New)) ∷ []
 
--- `scanned`, and `agrees`: the second label is told, which never left, although the first was scanned
+-- `scanned`, and `agrees`: a scan of the first label shows the second, which never left
 abbrev pub never_left : (A : Type 0) → Run A
 never_left A = (print 0 digits (AfterLabels 1), Stopped) ∷ (scan 0, Scanned (page 0 2 New)) ∷ []
 
@@ -605,12 +605,12 @@ stopped_unasked A = (Ask 0 0, Stopped) ∷ []
 abbrev pub forgotten_with_a_fault : (A : Type 0) → Run A
 forgotten_with_a_fault A = (Forget 0 0 (SaveFault kept.New), Forgotten) ∷ []
 
--- `each` and `explained`: a page that no label can have is told of a scan: page 0 or the third of two, one of one or of
+-- `each` and `explained`: a scan shows a page that no label can have: page 0 or the third of two, one of one or of
 -- 17, or one of an identification above 64,515
 abbrev pub scanned_as : (A : Type 0) → ℕ → ℕ → ℕ → Run A
 scanned_as A id m n = (Scan 0 0 ((0, 0) ∷ []) None, Scanned (record { id = id; m = m; n = n; kind = New })) ∷ []
 
--- `each` and `explained`: a page is told as new by a scan whose save is to fail
+-- `each` and `explained`: a scan whose save is to fail shows a page as new
 abbrev pub scanned_with_a_fault : (A : Type 0) → Run A
 scanned_with_a_fault A = (Scan 0 0 ((0, 0) ∷ []) (SaveFault kept.Old), Scanned (page 0 1 New)) ∷ []
 
@@ -644,7 +644,7 @@ given_though_failed A =
     (print 0 digits (SaveFault kept.New), PrintRefused print_fault.Save) ∷
     (Give 0 1 (range 0 0) None, Given 0 (ticket 0 (range 0 0))) ∷ []
 
--- `each`: a ticket is told for another printer than the one for which it was asked
+-- `each`: a ticket is given for another printer than the one for which it was asked
 abbrev pub given_to_another : (A : Type 0) → Run A
 given_to_another A =
     (Give 0 1 (range 0 4) None, Given 0 (record { giver = 0; serial = 0; receiver = 7; range = range 0 4 })) ∷ []
@@ -830,7 +830,7 @@ imported_another_document A = (Export 0 0, Exported 0 0 2 1) ∷ import 1 1 ∷ 
 abbrev pub imported_another_page : (A : Type 0) → Run A
 imported_another_page A = (Export 0 0, Exported 0 0 2 1) ∷ import 0 2 ∷ []
 
--- `exported`: nothing is added, and another document is told than was exported
+-- `exported`: an import adds nothing, and is of another document than was exported
 abbrev pub imported_none_of_another : (A : Type 0) → Run A
 imported_none_of_another A =
     (Export 0 0, Exported 0 0 2 1) ∷

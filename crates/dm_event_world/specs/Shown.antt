@@ -17,7 +17,7 @@ use Rattle.dm_event_world.specs.Watched.{IsFaithfulIfHonest}
 -- ---- after a dishonest scan
 
 -- A scan that was honest shows that a label of the first print left under identification 0. After one that was not,
--- and told of another page, the second is told to be printed under 0 too, by the same printer.
+-- and showed another page, the second print is answered as printed under 0 too, by the same printer.
 abbrev pub shown_events : (A : Type 0) → List (Event A)
 shown_events A =
     print 0 digits (AfterLabels 1) ∷

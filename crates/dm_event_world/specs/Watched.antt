@@ -41,7 +41,7 @@ abbrev pub HasFlips : {A : Type 0} → Event A → Type 0
 HasFlips (Scan desk label flips stop) = 0 < length flips
 HasFlips event = ⊥
 
--- No identification was printed twice, and what is told by a desk that no dishonest scan has tainted is faithful:
+-- No identification was printed twice, and the replies of a desk that no dishonest scan has tainted are faithful:
 -- whatever document it gives for an identification is the one document printed under it.
 pub record IsFaithfulIfHonestBy {A : Type 0} (ranges : List Range) (capacities : List ℕ)
     (batches : List (Option Batch)) (events : List (Event A)) (answers : List (Answer A)) : Type 0 where

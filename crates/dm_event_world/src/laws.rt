@@ -7,7 +7,7 @@ ghost use Rattle.dm_event_world.specs.Shown.{AreAnsweredWrongly, IsShownForGood}
 use std::alloc::Allocator;
 
 /// What honest scans showed of stopped prints holds after a scan that is not honest too: a run in which a later
-/// print is told under the identification of a label that an honest scan showed is refused.
+/// print uses the identification of a label that an honest scan showed is refused.
 pub fn shown_for_good<A: Allocator>()
     ensures { IsShownForGood A }
 {}
