@@ -61,8 +61,8 @@ fn refusals_of(rt: &impl Abort, alloc: Global, call: Call) -> u64 {
     refusals
 }
 
-// The commands of a ledger but `print`, `ticket` and `held` take no memory of their own. The growths of a world are
-// refused in a test of another crate.
+// `ledger`, `give`, `take`, `left`, `ticket` and `held` take no memory of their own. The growths of a world are refused
+// in a test of another crate.
 #[test]
 fn commands_are_refused_by_name(rt: HostRuntime) {
     for call in CALLS {
