@@ -14,6 +14,7 @@ use Rattle.std.proofs.Common.{eq-eqb}
 use Rattle.dm_assembly_desk.specs.declared.reply.Kind.{Kind}
 use Rattle.dm_assembly_desk.specs.declared.reply.Kind.TheVariants.{New, Again, Complete}
 use Rattle.dm_assembly_desk.specs.declared.fault.ImportFault.TheVariants as imports
+use Rattle.std.proofs.lemmas.Bool.{and_parts}
 
 and_none : (b : Bool) → (b && false) ≡ false
 and_none true = refl
@@ -40,11 +41,6 @@ page_merged [] pages (suc m) = refl
 page_merged (p ∷ ps) [] (suc m) = else_none (page (p ∷ ps) (suc m))
 page_merged (p ∷ ps) (q ∷ qs) (suc zero) = refl
 page_merged (p ∷ ps) (q ∷ qs) (suc (suc m)) = page_merged ps qs (suc m)
-
-both : (b c : Bool) → (b && c) ≡ true → (b ≡ true) × (c ≡ true)
-both true true e = (refl, refl)
-both true false e = cc
-both false c e = cc
 
 -- what the kind of an answer says of the pages held and those of the file
 abbrev pub KindSays : Kind → Pages → Pages → Type 0
@@ -75,13 +71,13 @@ picked : (own pages : Pages) (t z : Bool) (kind : Kind) → (length own == lengt
     (agree own pages ≡ true) × KindSays kind own pages
 picked own pages true true kind x y is =
     (let k : Again ≡ kind = cc in (
-      (both (length own == length pages) (agree own pages) x).1,
+      (and_parts (length own == length pages) (agree own pages) x).1,
       subst (λ (c : Kind). KindSays c own pages) k
           (grind (arith, nat_tests, y)),
     ))
 picked own pages true false kind x y is =
     (let k : kind_of (union_of own pages) ≡ kind = cc in (
-      (both (length own == length pages) (agree own pages) x).1,
+      (and_parts (length own == length pages) (agree own pages) x).1,
       subst (λ (c : Kind). KindSays c own pages) k
           (kind_says own pages (not_zero (added_mask own pages) y)),
     ))

@@ -1,11 +1,11 @@
 -- What a desk and its set hold after an import, and what the answer to one says of the pages.
-use Rattle.std.proofs.Common.{◌≡◌, ◌↔◌, ℕ, ◌+◌, ◌*◌, ◌<◌, ◌≤◌, true, false, cond, eqb, ltb, List, [], ◌∷◌, length, Option, Some, None, Result, Ok, Err, inl, inr, refl, sym, ap, subst, ◌∙◌, arith, Bool, ◌&&◌}
+use Rattle.std.proofs.Common.{◌≡◌, ◌↔◌, ℕ, ◌+◌, ◌*◌, ◌<◌, ◌≤◌, true, false, cond, eqb, ltb, List, [], ◌∷◌, length, Option, Some, None, Result, Ok, Err, inl, inr, refl, sym, ap, subst, ◌∙◌, arith, ◌&&◌}
 use Rattle.std.specs.Prelude.{is_some, IfSome, unwrap_or}
 use Rattle.std.specs.List.{AllByRecursion}
 use Rattle.std.specs.Cmp.{nat_cmp_total}
 use Rattle.std.specs.Ordering.{nat_cmp, eq_by_cmp}
 use Rattle.std.specs.FinMap.{get, insert, len, get-insert, len-insert}
-use Rattle.std.proofs.lemmas.Bool.{eqb-true}
+use Rattle.std.proofs.lemmas.Bool.{eqb-true, and_parts}
 use borrow.Author.Tests.{ltb-true}
 use Rattle.dm_store.specs.Sets.{SavedSet, SavesKey}
 use Rattle.dm_store.specs.declared.store.ReplaceFault.TheVariants as replacing
@@ -36,10 +36,6 @@ pub record IsTaken (capacity count : ℕ) (given : Pages) (held : Option Pages) 
   pub room : held ≡ None → count < capacity
   pub same : IfSome held (λ pages. length pages ≡ length given)
 
-both_true : (a b : Bool) → (a && b) ≡ true → (a ≡ true) × (b ≡ true)
-both_true true b e = (refl, e)
-both_true false b e = absurd cc
-
 full : ImportAnswer
 full = Err imports.Full
 
@@ -62,7 +58,7 @@ taken_at capacity count given (Some held) kind is =
     conflict ≡ Ok kind → IsTaken capacity count given (Some held)) [
       | true ↦ λ e x. record {
         room = λ n. absurd cc;
-        same = eqb-true _ _ (both_true (eqb (length held) (length given)) (agree held given) e).0;
+        same = eqb-true _ _ (and_parts (eqb (length held) (length given)) (agree held given) e).0;
       }
       | false ↦ λ e x. absurd cc
     ] refl is

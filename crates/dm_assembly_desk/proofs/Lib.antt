@@ -1,4 +1,3 @@
-pub mod MapEntries
 pub mod Masks
 pub mod EntryLaws
 pub mod ReadPages

@@ -1,5 +1,5 @@
 -- A turn of a loop over the words, and its end.
-use Rattle.std.proofs.Common.{◌≡◌, ℕ, ◌+◌, ◌<◌, ◌≤◌, List, [], ◌∷◌, ◌++◌, length, get_or, drop, Result, Ok, Err, refl, sym, ap, ◌∙◌, arith}
+use Rattle.std.proofs.Common.{◌≡◌, ℕ, ◌+◌, ◌<◌, ◌≤◌, List, ◌∷◌, ◌++◌, length, get_or, drop, Result, Ok, Err, sym, ap, ◌∙◌, arith}
 use Rattle.std.proofs.lemmas.List.{append-nil, drop_more, drop_all}
 use Rattle.dm_encodation.specs.declared.mode.Mode.{Mode}
 use Rattle.dm_encodation.specs.declared.mode.Mode.TheVariants.{Padded}
@@ -59,11 +59,6 @@ fails_so (Unsupported p w) total e = e
 fails_so (Reserved p w) total e = e
 fails_so (Cut p) total e = e
 fails_so Memory total e = tt
-
--- at first no byte was read
-pub start : (r : Result (List ℕ) DecodeFault) → prepend [] r ≡ r
-start (Ok x) = refl
-start (Err f) = refl
 
 -- pads end what is read
 pub padded_so : (p : ℕ) (words front : List ℕ) (total : Result (List ℕ) DecodeFault)

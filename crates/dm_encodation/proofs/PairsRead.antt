@@ -4,7 +4,8 @@ use Rattle.std.proofs.lemmas.Bool.Decides.{nat_tests}
 use Rattle.dm_encodation.specs.declared.mode.Mode.TheVariants.{Ascii}
 use Rattle.dm_encodation.specs.inner.Pairs.{ArePairs, digits_of, digits_from}
 use Rattle.dm_encodation.specs.inner.Reading.{prepend, reading, step, ascii_step}
-use Rattle.dm_encodation.proofs.DecodeLoopSteps.{goes_on, start}
+use Rattle.dm_encodation.proofs.DecodeLoopSteps.{goes_on}
+use Rattle.dm_encodation.proofs.ReadsToReading.{prepend-nil}
 
 -- one such word
 pair_step : (p w : ℕ) → (130 ≤ w) × (w ≤ 229) → Ok (Ascii, digits_of w) ≡ step Ascii p w
@@ -22,7 +23,7 @@ pub pairs_read : (words : List ℕ) (from count : ℕ) → from + count ≤ leng
     ≡ reading Ascii (from + 1) (drop from words)
 pairs_read words from zero fits pairs =
     let here : from + 0 ≡ from = omega arith in
-    start _ ∙ ap (λ k. reading Ascii (k + 1) (drop k words)) here
+    prepend-nil _ ∙ ap (λ k. reading Ascii (k + 1) (drop k words)) here
 pairs_read words from (suc count) fits pairs =
     let next : from + count + 1 ≡ from + suc count = omega arith in
     let front = digits_from words from count in

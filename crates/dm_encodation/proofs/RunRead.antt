@@ -13,6 +13,7 @@ use Rattle.dm_encodation.specs.Grammar.{latch, EndsOpen, Segment, Reads}
 use Rattle.dm_encodation.specs.Written.{ascii, run_length, is_whole_run, pairs, words_after_run, run_and_rest, words_after_text}
 use Rattle.dm_encodation.proofs.Reread.{ascii_read, pads_read}
 use Rattle.dm_encodation.proofs.RunWords.{run_within, run_passes}
+use Rattle.dm_encodation.proofs.StuckToReading.{append_below}
 
 all_below : (t : Letters) → agree_below (λ b. list_all (λ v. ltb v 40) (values_of t b)) (λ _. true) 256 ≡ true
 unfolding values_of values_below_128
@@ -22,11 +23,6 @@ all_below Small = refl
 below_40 : (vs : List ℕ) → list_all (λ v. ltb v 40) vs ≡ true → AllByRecursion (λ v. v < 40) vs
 below_40 [] e = tt
 below_40 (v ∷ vs) e = let both = and_parts _ _ e in (ltb-true _ _ both.0, below_40 vs both.1)
-
-append_below : (xs ys : List ℕ) → AllByRecursion (λ v. v < 40) xs → AllByRecursion (λ v. v < 40) ys →
-    AllByRecursion (λ v. v < 40) (xs ++ ys)
-append_below [] ys f g = g
-append_below (x ∷ xs) ys f g = (f.0, append_below xs ys f.1 g)
 
 values_fit : (t : Letters) (bytes : List ℕ) → AllByRecursion (λ b. b < 256) bytes →
     AllByRecursion (λ v. v < 40) (flat_map (values_of t) bytes)

@@ -10,7 +10,7 @@ use Rattle.dm_event_history.specs.Saving.{may_save}
 use Rattle.dm_event_history.specs.Numbers.{free_at, last_serial}
 use Rattle.dm_event_history.specs.Legal.{Fits, IsLegal, MayBeTaken}
 use Rattle.dm_event_history.specs.Headline.{Batch, batch_of, batches_of, HasHistory}
-use Rattle.dm_event_history.proofs.Batches.{events_count}
+use Rattle.dm_event_history.proofs.Batches.{events_count, replies_count}
 use Rattle.dm_event_history.proofs.Deciding.{true_false}
 use Rattle.dm_event_history.proofs.FreeNumbers.{not_saved, free_stays}
 use Rattle.dm_event_history.proofs.Gotten.{get_more}
@@ -41,10 +41,6 @@ hidden_of (e ∷ h) = hidden_of h ++ hidden_in e ∷ []
 hidden_count : {A : Type 0} (h : History A) → length (hidden_of h) ≡ length h
 hidden_count [] = refl
 hidden_count (e ∷ h) = (let t = hidden_count h in let u = length-append (hidden_of h) (hidden_in e ∷ []) in omega arith)
-
-replies_count : {A : Type 0} (h : History A) → length (replies_of h) ≡ length h
-replies_count [] = refl
-replies_count (e ∷ h) = (let t = replies_count h in let u = length-append (replies_of h) (e.reply ∷ []) in omega arith)
 
 one_more : {A : Type 0} (events : List (Event A)) (replies : List (Reply A)) (hidden : List Hidden) (event : Event A)
     (reply : Reply A) (x : Hidden) (before : History A) → length replies ≡ length events →

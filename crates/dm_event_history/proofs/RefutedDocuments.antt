@@ -110,11 +110,12 @@ exported_unscanned_is A (batches, f) =
     (map (λ one. one.1) (exported_unscanned A)) 0 1 2 digits refl
     (f.exported 1 0 0 0 0 2 1 refl refl (untainted (exported_unscanned A) 1 (AtDesk 0)) 1 refl)
 
--- a document is cut into two parts at least
-parts_count : (document : List ℕ) (from : ℕ) (ends : List ℕ) → length (parts_from document from ends) ≡ length ends
+-- a document has as many parts as ends
+pub parts_count : (document : List ℕ) (from : ℕ) (ends : List ℕ) → length (parts_from document from ends) ≡ length ends
 parts_count document from [] = refl
 parts_count document from (end ∷ ends) = (let t = parts_count document end ends in omega arith)
 
+-- a batch is of a document that is cut into two parts at least
 two_parts : {A : Type 0} (events : List (Event A)) (replies : List (Reply A)) (i : ℕ) (batch : Batch) →
     LeftBy events replies i batch → 2 ≤ count_of batch
 two_parts events replies i batch left =

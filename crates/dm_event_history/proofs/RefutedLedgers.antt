@@ -5,7 +5,7 @@ use Rattle.std.specs.Prelude.{nat_lt, nat_le, IsSomeAnd}
 use Rattle.std.proofs.lemmas.Bool.Decides.{nat_tests}
 use Rattle.dm_check_blocks.specs.declared.size.Size.TheVariants.{Side12}
 use Rattle.dm_encodation.specs.declared.scheme.Scheme.TheVariants.{Ascii}
-use Rattle.dm_append_label.specs.Parts.{AreParts, parts_from}
+use Rattle.dm_append_label.specs.Parts.{AreParts}
 use Rattle.dm_append_label.proofs.CutParts.{each_cut_is}
 use Rattle.dm_print_ledger.specs.declared.range.Range.{Range}
 use Rattle.dm_print_ledger.specs.declared.fault.PrintFault.{PrintFault}
@@ -42,6 +42,7 @@ use Rattle.dm_print_ledger.specs.Givers.{last_taken}
 use Rattle.dm_print_ledger.specs.declared.fault.TakeFault.{TakeFault}
 use Rattle.dm_print_ledger.specs.declared.fault.TakeFault.TheVariants as take_fault
 use Rattle.dm_event_history.specs.Running.{is_failed}
+use Rattle.dm_event_history.proofs.RefutedDocuments.{parts_count}
 
 -- there is none, so the run is not faithful
 pub no_history : {A : Type 0} (run : Run A) →
@@ -153,10 +154,6 @@ can_print view document parts number are up free print_fault.Exhausted why =
     true_false (is_free view.ledger.free number) free (none_counted view.ledger.free number why.2)
 can_print view document parts number are up free print_fault.Memory why = why
 can_print view document parts number are up free print_fault.Save why = why
-
-parts_count : (document : List ℕ) (from : ℕ) (ends : List ℕ) → length (parts_from document from ends) ≡ length ends
-parts_count document from [] = refl
-parts_count document from (end ∷ ends) = (let t = parts_count document end ends in omega arith)
 
 -- a document is cut into two parts at least
 two_at_least : (document : List ℕ) (parts : List (List ℕ)) → AreParts Side12 Ascii document parts → 2 ≤ length parts

@@ -1,10 +1,10 @@
 -- Runs in which an identification is printed twice, or labels are told that can't have left: the batch at the place of
 -- each print says what left.
-use Rattle.std.proofs.Common.{◌≡◌, ◌<◌, ◌≤◌, inl, inr, ℕ, zero, suc, true, false, All, Option, Some, None, List, [], ◌∷◌, ◌++◌, map, take, slice_get, refl, ap, sym, ◌∙◌, subst, arith}
+use Rattle.std.proofs.Common.{◌≡◌, ◌<◌, ◌≤◌, inl, inr, ℕ, zero, suc, true, false, Option, Some, None, List, [], ◌∷◌, ◌++◌, map, take, slice_get, refl, ap, sym, ◌∙◌, subst, arith}
 use Rattle.std.specs.Prelude.{IsSomeAnd, replicate}
 use Rattle.dm_check_blocks.specs.declared.size.Size.{Size}
 use Rattle.dm_check_blocks.specs.declared.size.Size.TheVariants.{Side12}
-use Rattle.dm_check_blocks.specs.Sizes.{row, side}
+use Rattle.dm_check_blocks.specs.Sizes.{row}
 use Rattle.dm_assembly_desk.specs.declared.reply.Kind.TheVariants.{New}
 use Rattle.dm_assembly_desk.specs.declared.fault.ScanFault.TheVariants as scan_fault
 use Rattle.dm_store.specs.declared.fuse.Kept.TheVariants as kept
@@ -28,6 +28,7 @@ use Rattle.dm_event_history.specs.Saving.{may_save}
 use Rattle.dm_event_history.specs.Worked.{digits, range, two_ranges}
 use Rattle.dm_event_history.specs.Unfaithful.{IsFaithfulRun, missing_first_label, missing_after_a_refused_give, printed_of_another, saved_though_failed, PrintsOnceRun, other_digits, scanned_outside, two_desks, wrong_of_two, refused_unprinted, missing_label, printed_after_forgotten, printed_unseen, unseen_labels, print, printed_twice, told_twice, printed_beyond, left_though_failed, never_left}
 use Rattle.dm_event_history.proofs.Refuting.{marks, document_is, digits_differ}
+use Rattle.dm_event_history.proofs.ScannedLabels.{AreWithin}
 
 -- a batch of one label or more begins with its label 1
 pub first_label : (batch : Batch) (batches : List (Option Batch)) (name : LabelName) → 1 ≤ batch.left →
@@ -156,9 +157,6 @@ first_sized : (IsSo : Size → Type 0) (left : ℕ) (size : Size) (rest : List S
     IsSomeAnd (slice_get (replicate left size ++ rest) 0) IsSo
 first_sized IsSo zero size rest some so = absurd (omega arith)
 first_sized IsSo (suc left) size rest some so = so
-
-abbrev AreWithin : List (ℕ × ℕ) → Size → Type 0
-AreWithin modules size = All (λ at. (at.0 < side size) × (at.1 < side size)) modules
 
 none_within : (size : Size) → AreWithin [] size
 none_within size k at below = absurd (omega arith)

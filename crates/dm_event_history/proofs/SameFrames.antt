@@ -16,6 +16,7 @@ use Rattle.dm_finder_frame.proofs.FramedGrids.{grid_at, grid_is_whole, row_below
 use Rattle.dm_event_history.specs.Frames.{blank, wrong_after, IsFewAfter, IsManyAfter}
 use Rattle.dm_event_history.proofs.Deciding.{same_or_other}
 use Rattle.dm_event_history.proofs.WrongModules.{passes, one_if, counted, same_elsewhere, all_flips}
+use Rattle.dm_finder_frame.proofs.Flips.{flips_keep_the_size}
 
 -- ---- one module
 
@@ -153,23 +154,18 @@ wrong_is size m flips within =
     same_after size (grid_modules size m) (grid_modules size (light_square (mapping size))) flips within
     (all_alike size m (light_square (mapping size)))
 
--- a grid keeps its size
-size_stays : (g : GridView) (flips : List (ℕ × ℕ)) → (flipped g flips).size ≡ g.size
-size_stays g [] = refl
-size_stays g (flip ∷ flips) = size_stays (grid_with_flipped g flip.0 flip.1) flips
-
 -- so whether it is refused for its finder patterns is known by these
 pub few_are : (size : Size) (m : Square) (flips : List (ℕ × ℕ)) → All (IsWithin size) flips →
     HasGoodFrame (flipped (grid_of_matrix size m) flips) → IsFewAfter flips size
 few_are size m flips within good =
     let same = wrong_is size m flips within in
-    let count = ap frame_module_count (size_stays (grid_of_matrix size m) flips) in omega (arith, good, same, count)
+    let count = ap frame_module_count (flips_keep_the_size (grid_of_matrix size m) flips) in omega (arith, good, same, count)
 
 pub many_are : (size : Size) (m : Square) (flips : List (ℕ × ℕ)) (wrong : ℕ) → All (IsWithin size) flips →
     HasBadFrame (flipped (grid_of_matrix size m) flips) wrong → IsManyAfter flips wrong size
 many_are size m flips wrong within bad =
     let same = wrong_is size m flips within in
-    let count = ap frame_module_count (size_stays (grid_of_matrix size m) flips) in
+    let count = ap frame_module_count (flips_keep_the_size (grid_of_matrix size m) flips) in
     let many = bad.0 in (omega (arith, many, same, count), bad.1 ∙ same)
 
 -- ---- few flips

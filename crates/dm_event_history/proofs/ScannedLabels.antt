@@ -117,7 +117,7 @@ size_is ranges desks h label name document legal once left printed =
     own.4 ∙ ap (λ (batch : Batch). Some batch.document.size) same ∙
     ap (λ (cut : CutDocument). Some cut.size) p.document_is
 
-abbrev AreWithin : List (ℕ × ℕ) → Size → Type 0
+abbrev pub AreWithin : List (ℕ × ℕ) → Size → Type 0
 AreWithin modules size = All (λ at. (at.0 < side size) × (at.1 < side size)) modules
 
 has_modules : {A : Type 0} (ranges : List Range) (desks : ℕ) (h : History A) (label : ℕ) (modules : List (ℕ × ℕ)) →

@@ -18,13 +18,7 @@ use Rattle.dm_assembly_desk.specs.Documents.{Documents, page_at, pages_with, wit
 use Rattle.dm_event_history.proofs.HeldDocuments.{get_same, get_other}
 use Rattle.dm_event_steps.specs.Gathered.{counted}
 use Rattle.dm_assembly_desk.specs.Answers.{answer, answer_at, answer_at_page}
-
-same_or_other : (m n : ℕ) → (m ≡ n) ⊎ (m ≢ n)
-same_or_other m n = decided (m == n) refl
-  where
-    decided : (b : Bool) → (m == n) ≡ b → (m ≡ n) ⊎ (m ≢ n)
-    decided true e = inl (grind (arith, nat_tests, e))
-    decided false e = inr (λ s. let t : (m == n) ≡ true = eq-eqb m n s in cc (t, e))
+use Rattle.dm_event_history.proofs.Deciding.{same_or_other}
 
 -- no place of no pages has one
 page_none : (m : ℕ) → page [] m ≡ None

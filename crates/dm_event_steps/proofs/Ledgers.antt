@@ -16,7 +16,7 @@ use Rattle.dm_event_history.specs.declared.stop.Stop.{Stop}
 use Rattle.dm_event_history.specs.History.{Entry, History, tickets}
 use Rattle.dm_event_history.specs.Numbers.{is_on, saved_at, free_at, is_give, gives, taken_by, serial_after, last_serial}
 use Rattle.dm_event_history.specs.Ledgers.{IsLedgerOf}
-use Rattle.dm_event_history.proofs.Deciding.{if_not, if_so, both, decided, same_number}
+use Rattle.dm_event_history.proofs.Deciding.{if_not, if_so, both, decided, same_number, and_so}
 use Rattle.dm_event_history.proofs.FreeNumbers.{saved_there, free_stays, free_goes, none_counted}
 
 -- a printer that counts no number has none free
@@ -36,11 +36,6 @@ and_no true false x = refl
 and_no false false x = refl
 and_no b true x = cc
 
-and_yes : (b c : Bool) → b ≡ true → c ≡ true → (b && c) ≡ true
-and_yes true true x y = refl
-and_yes true false x y = cc
-and_yes false c x y = cc
-
 gives_stay : {A : Type 0} (e : Entry A) (h : History A) (p : ℕ) → (saved_at e p && is_give e.event) ≡ false →
     gives (e ∷ h) p ≡ gives h p
 gives_stay e h p none = ap (λ (n : ℕ). n + gives h p)
@@ -51,7 +46,7 @@ gives_more : {A : Type 0} (e : Entry A) (h : History A) (p : ℕ) → saved_at e
     gives (e ∷ h) p ≡ 1 + gives h p
 gives_more e h p at give =
     ap (λ (n : ℕ). n + gives h p) (if_so (saved_at e p && is_give e.event) 1 0
-    (and_yes (saved_at e p) (is_give e.event) at give))
+    (and_so (saved_at e p) (is_give e.event) at give))
 
 last_stays : {A : Type 0} (e : Entry A) (h : History A) (p giver : ℕ) → saved_at e p ≡ false →
     last_serial (e ∷ h) p giver ≡ last_serial h p giver

@@ -6,23 +6,19 @@ use Rattle.std.specs.Str.{bytes_eq}
 use Rattle.std.proofs.lemmas.Slice.Eq.{bytes_eq-Decides}
 use Rattle.dm_assembly_desk.specs.Pages.{Pages, page}
 use Rattle.dm_assembly_desk.specs.Merging.{agrees_at, agree}
-
-both : (b c : Bool) → (b && c) ≡ true → (b ≡ true) × (c ≡ true)
-both true true e = (refl, refl)
-both true false e = cc
-both false c e = cc
+use Rattle.std.proofs.lemmas.Bool.{and_parts}
 
 -- where each page is there, any of them is
 pub all_held : (ps : Pages) → list_all is_some ps ≡ true → (m : ℕ) → 1 ≤ m → m ≤ length ps → IsSome (page ps m)
 all_held ps is zero least most = absurd (omega arith)
 all_held [] is (suc m) least most = absurd (omega arith)
-all_held (p ∷ ps) is (suc zero) least most = at p (both (is_some p) (list_all is_some ps) is).0
+all_held (p ∷ ps) is (suc zero) least most = at p (and_parts (is_some p) (list_all is_some ps) is).0
   where
     at : (p : Option (List ℕ)) → is_some p ≡ true → IsSome p
     at None e = cc
     at (Some x) e = refl
 all_held (p ∷ ps) is (suc (suc m)) least most =
-    all_held ps (both (is_some p) (list_all is_some ps) is).1 (suc m) (omega arith) (omega arith)
+    all_held ps (and_parts (is_some p) (list_all is_some ps) is).1 (suc m) (omega arith) (omega arith)
 
 -- where not each page is there, one of them is missing
 pub one_lacks : (ps : Pages) → list_all is_some ps ≡ false → (m : ℕ) × (1 ≤ m) × (m ≤ length ps) × (page ps m ≡ None)

@@ -67,7 +67,7 @@ use Rattle.dm_event_steps.specs.Goes.{quiet, DeskGoes}
 use Rattle.dm_event_history.proofs.WrongModules.{few_wrong}
 use Rattle.dm_event_history.proofs.SameFrames.{IsWithin, few_are, many_are}
 use Rattle.dm_event_steps.proofs.PrinterGoing.{IsFine, not_both}
-use Rattle.dm_event_steps.proofs.Asks.{not_surely}
+use Rattle.dm_event_steps.proofs.Asks.{not_surely, some_none}
 use Rattle.dm_event_steps.proofs.DeskFacts.{HoldsPage, is_free, holds_also, holds_all_others, lacks_another, Disagrees, holds_again, disagrees, is_full, some_page}
 use Rattle.dm_event_steps.proofs.NearItself.{near_itself}
 use Rattle.dm_event_steps.proofs.OpenedHeads.{opened_head, accepted_head}
@@ -180,10 +180,6 @@ framed : (grids : List GridView) (number : ℕ) (flips : List (ℕ × ℕ)) (gri
 framed grids number flips grid left frame = record { grid = grid; has_left = left; frame = frame }
 
 -- ---- what a reply says of a page
-
-some_none : (o : Option (List ℕ)) → IsSome o → o ≡ None → ⊥
-some_none None x y = cc
-some_none (Some b) x y = cc
 
 kind_safe : {A : Type 0} (h : History A) (d capacity : ℕ) (held : Documents) (p : PageView) (kind : Kind) →
     IsHead (head_of p) →

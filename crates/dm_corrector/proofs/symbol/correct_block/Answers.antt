@@ -4,7 +4,8 @@ use Rattle.std.proofs.lemmas.List.Elements.{All-from_get_or}
 use Rattle.dm_check_blocks.specs.Sizes.{blocks, block_data}
 use Rattle.dm_check_blocks.specs.Blocks.{block_of}
 use Rattle.dm_corrector.proofs.Corrected.{itself}
-use Rattle.dm_corrector.proofs.SymbolBlocks.{block_of-at, length-block_of}
+use Rattle.dm_check_blocks.proofs.Interleaving.{length-block_of}
+use Rattle.dm_corrector.proofs.SymbolBlocks.{block_of-at}
 use Rattle.dm_check_blocks.specs.Sizes.{block_checks}
 use Rattle.dm_corrector.proofs.symbol.correct_block.Goals as goal
 

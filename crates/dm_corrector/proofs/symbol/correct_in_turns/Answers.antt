@@ -9,7 +9,8 @@ use Rattle.dm_corrector.specs.Corrections.{Corrects}
 use Rattle.dm_corrector.proofs.Corrected.{one_correction}
 use Rattle.dm_corrector.proofs.Differences.{differ_le}
 use Rattle.dm_corrector.proofs.WordsByPlace.{all_bytes}
-use Rattle.dm_corrector.proofs.SymbolBlocks.{same_symbol, length-block_of}
+use Rattle.dm_check_blocks.proofs.Interleaving.{length-block_of}
+use Rattle.dm_corrector.proofs.SymbolBlocks.{same_symbol}
 use Rattle.dm_corrector.proofs.symbol.correct_in_turns.Goals as goal
 
 pub returns-in-Err-clause-first : goal.returns-in-Err-clause-first

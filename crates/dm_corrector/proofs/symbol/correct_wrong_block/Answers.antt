@@ -3,7 +3,8 @@ use Rattle.std.proofs.lemmas.Nat.{mod-mul-add}
 use Rattle.dm_gf256.specs.Polynomial.{differ}
 use Rattle.dm_check_blocks.specs.Sizes.{blocks, block_checks, block_length, all_words}
 use Rattle.dm_check_blocks.specs.Blocks.{block_of}
-use Rattle.dm_corrector.proofs.SymbolBlocks.{carried, is_block, in_symbol, block_of-at, length-block_of}
+use Rattle.dm_check_blocks.proofs.Interleaving.{length-block_of}
+use Rattle.dm_corrector.proofs.SymbolBlocks.{carried, is_block, in_symbol, block_of-at}
 use Rattle.dm_corrector.proofs.symbol.correct_wrong_block.Goals as goal
 
 on_any_err : {T E P : Type 0} (r : Result T E) → P → OnErr r P
