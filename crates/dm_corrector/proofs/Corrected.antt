@@ -16,7 +16,9 @@ use Rattle.dm_corrector.proofs.Annihilation.{annihilates}
 use Rattle.dm_corrector.proofs.Entries.{entry-past, entry-weigh, entry-zeros, entry_byte}
 use Rattle.dm_corrector.proofs.LowValues.{at_low_byte}
 use Rattle.dm_corrector.proofs.WordsByPlace.{sum_word-twice}
+use Rattle.std.specs.Prelude.{Ok}
 use Rattle.dm_corrector.specs.Corrections.{Corrects}
+use Rattle.dm_corrector.specs.inner.Endings.{EndsCorrection}
 use Rattle.dm_corrector.specs.inner.Syndromes.{AreSyndromes}
 use Rattle.dm_corrector.specs.Locators.{IsLocator}
 use Rattle.dm_corrector.specs.inner.Polynomials.{at_low, entry}
@@ -95,3 +97,14 @@ one_correction checks r v w l a b =
 -- a block word corrects itself
 pub itself : (checks : ℕ) (r : List ℕ) → All (λ x. x < 256) r → IsBlockWord checks r → Corrects checks r r
 itself checks r b w = record { bytes = b; size = refl; block_word = w; near = omega (arith, differ-self r) }
+
+-- so a block word is corrected by leaving it as it is
+pub as_it_is : (checks : ℕ) (r : List ℕ) → length r ≤ 255 → All (λ x. x < 256) r → IsBlockWord checks r
+    → EndsCorrection checks r (Ok 0) r
+as_it_is checks r few b w = record {
+  near = itself checks r b w;
+  changed = sym (differ-self r);
+  only = λ v. one_correction checks r r v few (itself checks r b w);
+  none = tt;
+  unchanged = tt;
+}

@@ -4,6 +4,7 @@ ghost use Rattle.std.specs.Prelude.{◌≡◌, ◌<◌, ◌≤◌, ℕ, List, le
 ghost use Rattle.std.specs.List.{All};
 ghost use Rattle.dm_gf256.specs.Polynomial.{differ, IsBlockWord};
 ghost use Rattle.dm_corrector.specs.Corrections.{Corrects};
+ghost use Rattle.dm_corrector.specs.inner.Endings.{EndsCorrection};
 
 use crate::elements::is_zero;
 use crate::error_values::take_out;
@@ -117,12 +118,7 @@ pub(crate) fn correct_wrong(
     requires most { multiples.now.checks ≤ MOST_CHECKS }
     requires longer { multiples.now.checks < length block.old }
     requires fits { length block.old ≤ MOST_WORDS }
-    ensures near { OnOk result (Corrects multiples.now.checks block.old block.new) }
-    ensures changed { IfOk result (λ k. k ≡ differ block.old block.new) }
-    ensures only { OnOk result ((w : List ℕ) → Corrects multiples.now.checks block.old w → w ≡ block.new) }
-
-    ensures none { OnErr result ((w : List ℕ) → Corrects multiples.now.checks block.old w → ⊥) }
-    ensures unchanged { OnErr result (block.new ≡ block.old) }
+    ensures { EndsCorrection multiples.now.checks block.old result block.new }
 {
     match correct_by_guess(multiples, block, remainder) {
         Some(changed) => Ok(changed),
@@ -136,12 +132,7 @@ fn correct_by_remainder(multiples: &Multiples, block: &mut [u8]) -> Result<u8, U
     requires most { multiples.now.checks ≤ MOST_CHECKS }
     requires longer { multiples.now.checks < length block.old }
     requires fits { length block.old ≤ MOST_WORDS }
-    ensures near { OnOk result (Corrects multiples.now.checks block.old block.new) }
-    ensures changed { IfOk result (λ k. k ≡ differ block.old block.new) }
-    ensures only { OnOk result ((w : List ℕ) → Corrects multiples.now.checks block.old w → w ≡ block.new) }
-
-    ensures none { OnErr result ((w : List ℕ) → Corrects multiples.now.checks block.old w → ⊥) }
-    ensures unchanged { OnErr result (block.new ≡ block.old) }
+    ensures { EndsCorrection multiples.now.checks block.old result block.new }
 {
     let window = divided(multiples, block);
     let remainder = &window[block.len() - multiples.checks..block.len()];
@@ -160,12 +151,7 @@ fn correct_long(block: &mut [u8], checks: usize) -> Result<u8, Uncorrectable>
     requires most { checks ≤ MOST_CHECKS }
     requires longer { checks < length block.old }
     requires fits { length block.old ≤ MOST_WORDS }
-    ensures near { OnOk result (Corrects checks block.old block.new) }
-    ensures changed { IfOk result (λ k. k ≡ differ block.old block.new) }
-    ensures only { OnOk result ((w : List ℕ) → Corrects checks block.old w → w ≡ block.new) }
-
-    ensures none { OnErr result ((w : List ℕ) → Corrects checks block.old w → ⊥) }
-    ensures unchanged { OnErr result (block.new ≡ block.old) }
+    ensures { EndsCorrection checks block.old result block.new }
 {
     correct_by_remainder(&Multiples::of_generator(checks), block)
 }
@@ -197,12 +183,7 @@ fn correct_short(block: &mut [u8], checks: usize) -> Result<u8, Uncorrectable>
     requires most { checks ≤ MOST_CHECKS }
     requires longer { checks < length block.old }
     requires fits { length block.old ≤ MOST_WORDS }
-    ensures near { OnOk result (Corrects checks block.old block.new) }
-    ensures changed { IfOk result (λ k. k ≡ differ block.old block.new) }
-    ensures only { OnOk result ((w : List ℕ) → Corrects checks block.old w → w ≡ block.new) }
-
-    ensures none { OnErr result ((w : List ℕ) → Corrects checks block.old w → ⊥) }
-    ensures unchanged { OnErr result (block.new ≡ block.old) }
+    ensures { EndsCorrection checks block.old result block.new }
 {
     if has_its_checks(block, checks) {
         Ok(0)
