@@ -11,7 +11,7 @@ use Rattle.dm_store.specs.declared.mem_store.NextSave.{NextSave}
 use Rattle.dm_store.specs.declared.mem_store.NextSave.TheVariants as next_save
 use Rattle.dm_print_ledger.specs.declared.range.Range.{Range}
 use Rattle.dm_assembly_desk.specs.Documents.{Documents, page_at, HoldsFiles}
-use Rattle.dm_assembly_desk.specs.Views.{DeskView, IsCapacity}
+use Rattle.dm_assembly_desk.specs.Views.{DeskView, IsCapacity, IsInOrder}
 use Rattle.dm_assembly_desk.specs.Holding.{Holds, FailsToHold}
 use Rattle.dm_event_history.specs.declared.event.Event.{Event}
 use Rattle.dm_event_history.specs.declared.reply.Reply.{Reply}
@@ -145,6 +145,15 @@ pub fine_desk : (view : DeskView) (next : NextSave) → IsReadySet view.saved �
     desk_planned (desk_planned view next) next_save.Fine ≡ view
 fine_desk view next ready =
     ap (λ (p : SavePlan). record view { saved = record view.saved { save_plan = p } }) (sym ready.saves_fine)
+
+-- a desk is in order whatever its next save is to meet
+pub planned_in_order : (view : DeskView) (next : NextSave) → IsInOrder (desk_planned view next) → IsInOrder view
+planned_in_order view next order = record {
+  room = order.room;
+  few = order.few;
+  entries = order.entries;
+  saved = order.saved;
+}
 
 -- a set is ready after a save, however it ended
 pub ready_set : (view mid : DeskView) (plan : NextSave) (content : Contents) (outcome : Outcome) →

@@ -5,7 +5,6 @@ use Rattle.std.specs.FinMap as finite
 use Rattle.dm_finder_frame.specs.Grids.{GridView}
 use Rattle.dm_store.specs.declared.fuse.Kept.{Kept}
 use Rattle.dm_store.specs.declared.fuse.Kept.TheVariants as kept
-use Rattle.dm_store.specs.declared.mem_store.NextSave.{NextSave}
 use Rattle.dm_store.specs.declared.mem_store.NextSave.TheVariants as next_save
 use Rattle.dm_print_ledger.specs.declared.range.Range.{Range}
 use Rattle.dm_assembly_desk.specs.declared.fault.ForgetFault.{ForgetFault}
@@ -44,7 +43,7 @@ use Rattle.dm_event_steps.specs.Goes.{quiet, DeskGoes}
 use Rattle.dm_event_steps.proofs.DeskFacts.{some_page}
 use Rattle.dm_event_steps.proofs.Asks.{not_surely, page_is}
 use Rattle.dm_event_steps.proofs.Gathering.{HoldsWithout, gathered_keeps, gathered_without}
-use Rattle.dm_event_steps.proofs.DeskGoing.{none_leaves, not_failed, memory_goes, lacks_same, set_keeps, fine_desk, done_with_none, faulted_with, desk_kept, set_saved, desk_saves, kept_held, desk_fails, desk_stopped, call_told, stop_told, saved_when, unsaved_when, can_still}
+use Rattle.dm_event_steps.proofs.DeskGoing.{none_leaves, not_failed, memory_goes, lacks_same, set_keeps, fine_desk, done_with_none, faulted_with, desk_kept, set_saved, desk_saves, kept_held, desk_fails, desk_stopped, call_told, stop_told, saved_when, unsaved_when, can_still, planned_in_order}
 
 -- ---- what is held without a document
 
@@ -214,15 +213,6 @@ running_goes {A} ranges capacities grids h d id capacity stop view mid
 running_goes ranges capacities grids h d id capacity stop view mid
     (Err forget_fault.Failed) there room s called order was acts = absurd acts
 
-order_of : (id : ℕ) (view mid : DeskView) (plan : NextSave) (given : Result (Unit {0}) ForgetFault) →
-    ForgetsOne id (desk_planned view plan) given mid → IsInOrder view
-order_of id view mid plan given f = record {
-  room = f.before.room;
-  few = f.before.few;
-  entries = f.before.entries;
-  saved = f.before.saved;
-}
-
 called_goes : {A : Type 0} (ranges : List Range) (capacities : List ℕ) (grids : List GridView) (h : History A)
     (d id capacity : ℕ) (stop : Stop)
     (view mid : DeskView) (given : Result (Unit {0}) ForgetFault) → d < length capacities → IsCapacity capacity →
@@ -246,8 +236,8 @@ called_goes {A} ranges capacities grids h d id capacity stop view mid given ther
         (sym s.failed ∙ was) refl (λ honest. tt)))
     by_failed false was =
         running_goes ranges capacities grids h d id capacity stop view mid given there room s called
-        (order_of id view mid (next_save_of stop) given f) was
-        (f.forgotten was)
+        (planned_in_order view (next_save_of stop) f.before) was
+        (f.done was)
 
 -- ---- a forget that is stopped
 
@@ -307,7 +297,7 @@ stored_stopped {A} grids h d id capacity stop view mid given s may had f = by_fa
     by_failed : (b : Bool) → view.is_failed ≡ b →
         IsStored grids h d id capacity stop view mid s
     by_failed true was = same (f.failed was).1 (unsaved_when h d stop _ _ (sym s.failed ∙ was) refl)
-    by_failed false was = by_given given was had (f.forgotten was)
+    by_failed false was = by_given given was had (f.done was)
 
 stopped_goes : {A : Type 0} (ranges : List Range) (capacities : List ℕ) (grids : List GridView) (h : History A)
     (d id capacity : ℕ) (stop : Stop)
@@ -363,7 +353,7 @@ none_forgotten id old new f = by_failed old.is_failed refl
     by_failed : (b : Bool) → old.is_failed ≡ b →
         (new ≡ old) × (old.is_failed ≡ false) × IsSome (finite.get old.held id)
     by_failed true was = absurd (let x = (f.failed was).0 in cc (x))
-    by_failed false was = (let x = f.forgotten was in (x.1, was, x.0))
+    by_failed false was = (let x = f.done was in (x.1, was, x.0))
 
 pub forget_goes : {A : Type 0} (ranges : List Range) (capacities : List ℕ) (grids : List GridView) (h : History A)
     (d id capacity : ℕ) (stop : Stop)

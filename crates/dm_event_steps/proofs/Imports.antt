@@ -60,7 +60,7 @@ use Rattle.dm_event_steps.proofs.Asks.{not_surely, counted_is, page_is, some_non
 use Rattle.dm_event_steps.proofs.Scans.{other_held}
 use Rattle.dm_event_steps.proofs.Exports.{sent_part, named_there, there_named}
 use Rattle.dm_event_steps.proofs.Gathering.{HoldsFileToo, gathered_keeps, gathered_with_file}
-use Rattle.dm_event_steps.proofs.DeskGoing.{none_leaves, not_failed, memory_goes, lacks_same, set_keeps, fine_desk, done_with_none, faulted_with, desk_kept, set_saved, desk_saves, kept_held, desk_fails, desk_stopped, call_told, stop_told, saved_when, unsaved_when, can_still, with_other}
+use Rattle.dm_event_steps.proofs.DeskGoing.{none_leaves, not_failed, memory_goes, lacks_same, set_keeps, fine_desk, done_with_none, faulted_with, desk_kept, set_saved, desk_saves, kept_held, desk_fails, desk_stopped, call_told, stop_told, saved_when, unsaved_when, can_still, with_other, planned_in_order}
 
 -- an export that left is imported at a desk that runs
 pub record IsBrought {A : Type 0} (capacities : List ℕ) (grids : List GridView) (h : History A) (d number capacity : ℕ)
@@ -588,7 +588,7 @@ called_goes {A} ranges capacities grids h d number capacity stop view mid export
     by_failed view.is_failed refl
   where
     order : IsInOrder view
-    order = record { room = f.before.room; few = f.before.few; entries = f.before.entries; saved = f.before.saved }
+    order = planned_in_order view (next_save_of stop) f.before
 
     by_failed : (b : Bool) → view.is_failed ≡ b →
         DeskGoes ranges capacities grids h (Import d number stop) (import_reply given) d capacity
@@ -603,7 +603,7 @@ called_goes {A} ranges capacities grids h d number capacity stop view mid export
         (sym s.runs.failed ∙ was) refl (λ clean. tt)))
     by_failed false was =
         file_goes ranges capacities grids h d number capacity stop view mid export given s called order was
-        ((f.imported was).spelled export.id s.shows.pages s.shows.spells)
+        ((f.done was).spelled export.id s.shows.pages s.shows.spells)
 
 -- ---- an import that is stopped
 
@@ -724,7 +724,7 @@ stored_stopped {A} capacities grids h d number capacity stop view mid export giv
         IsStored capacities grids h d number capacity stop view mid export s
     by_failed true was = same (f.failed was).1
         (λ honest. unsaved_when h d stop _ _ (sym s.runs.failed ∙ was) refl)
-    by_failed false was = by_given given was had ((f.imported was).spelled export.id s.shows.pages s.shows.spells)
+    by_failed false was = by_given given was had ((f.done was).spelled export.id s.shows.pages s.shows.spells)
 
 stopped_goes : {A : Type 0} (ranges : List Range) (capacities : List ℕ) (grids : List GridView) (h : History A)
     (d number capacity : ℕ) (stop : Stop)
@@ -784,7 +784,7 @@ none_imported capacities grids h d number capacity view old new export s f = by_
         (new ≡ old) × (old.is_failed ≡ false) × NeedsSave (import_answer old.capacity old.held export.id s.shows.pages)
     by_failed true was = absurd (let x = (f.failed was).0 in cc (x))
     by_failed false was =
-        (let x = (f.imported was).spelled export.id s.shows.pages s.shows.spells in (x.1, was, x.0))
+        (let x = (f.done was).spelled export.id s.shows.pages s.shows.spells in (x.1, was, x.0))
 
 pub import_goes : {A : Type 0} (ranges : List Range) (capacities : List ℕ) (grids : List GridView) (h : History A)
     (d number capacity : ℕ) (stop : Stop)

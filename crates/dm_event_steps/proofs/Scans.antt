@@ -72,7 +72,7 @@ use Rattle.dm_event_steps.proofs.DeskFacts.{HoldsPage, is_free, holds_also, hold
 use Rattle.dm_event_steps.proofs.NearItself.{near_itself}
 use Rattle.dm_event_steps.proofs.OpenedHeads.{opened_head, accepted_head}
 use Rattle.dm_event_steps.proofs.Gathering.{gathered_keeps, gathered_with}
-use Rattle.dm_event_steps.proofs.DeskGoing.{none_leaves, not_failed, memory_goes, lacks_same, IsTold, set_keeps, fine_desk, done_with_none, faulted_with, desk_kept, set_saved, desk_saves, kept_held, desk_fails, desk_stopped, saved_when, unsaved_when, can_still, with_other}
+use Rattle.dm_event_steps.proofs.DeskGoing.{none_leaves, not_failed, memory_goes, lacks_same, IsTold, set_keeps, fine_desk, done_with_none, faulted_with, desk_kept, set_saved, desk_saves, kept_held, desk_fails, desk_stopped, saved_when, unsaved_when, can_still, with_other, planned_in_order}
 use Rattle.dm_assembly_desk.specs.FaultOrigin as origin
 
 -- a label that left is scanned at a desk that runs
@@ -826,12 +826,7 @@ called_goes {A} ranges capacities grids h d number capacity flips stop view mid 
     by_failed view.is_failed refl
   where
     order : IsInOrder view
-    order = record {
-      room = accepts.before.room;
-      few = accepts.before.few;
-      entries = accepts.before.entries;
-      saved = accepts.before.saved;
-    }
+    order = planned_in_order view (next_save_of stop) accepts.before
 
     by_failed : (b : Bool) → view.is_failed ≡ b →
         DeskGoes ranges capacities grids h (Scan d number flips stop) (scan_reply given) d capacity
@@ -845,7 +840,7 @@ called_goes {A} ranges capacities grids h d number capacity flips stop view mid 
         f.1 (λ b. refl) (λ _ _. inl tt)
         (sym s.runs.failed ∙ was, tt) refl (λ fair. tt)))
     by_failed false was =
-        (let x = accepts.scanned was in
+        (let x = accepts.done was in
         opened_goes ranges capacities grids h d number capacity flips stop view mid label x.opened given s called
         x.label order was x.scans)
 
@@ -882,12 +877,7 @@ stored_stopped {A} capacities grids h d number capacity flips stop view mid labe
     its_page = record { id = label.id; m = label.number; n = label.count; bytes = s.shows.bytes }
 
     order : IsInOrder view
-    order = record {
-      room = accepts.before.room;
-      few = accepts.before.few;
-      entries = accepts.before.entries;
-      saved = accepts.before.saved;
-    }
+    order = planned_in_order view next_save.Fine accepts.before
 
     same : mid ≡ desk_planned view next_save.Fine →
         (let reply : Reply A = Stopped in IsClean grids (quiet event reply ∷ h) (AtDesk d) →
@@ -1040,7 +1030,7 @@ stored_stopped {A} capacities grids h d number capacity flips stop view mid labe
         IsStored capacities grids h d number capacity flips stop view mid label s
     by_failed true was = same (accepts.failed was).1
         (λ honest. unsaved_when h d stop _ _ (sym s.runs.failed ∙ was) refl)
-    by_failed false was = (let x = accepts.scanned was in by_opened x.opened x.label was x.scans)
+    by_failed false was = (let x = accepts.done was in by_opened x.opened x.label was x.scans)
 
 -- a scan that is stopped
 stopped_goes : {A : Type 0} (ranges : List Range) (capacities : List ℕ) (grids : List GridView) (h : History A)
@@ -1113,7 +1103,7 @@ none_scanned {A} grid old new accepts = by_failed old.is_failed refl
 
     by_failed : (b : Bool) → old.is_failed ≡ b → new ≡ old
     by_failed true was = (accepts.failed was).1
-    by_failed false was = (let x = accepts.scanned was in by_opened x.opened x.scans)
+    by_failed false was = (let x = accepts.done was in by_opened x.opened x.scans)
 
 -- ---- any scan of a label that left, at a running desk
 

@@ -43,22 +43,21 @@ use Rattle.dm_event_steps.specs.Acts.{IsCalled, next_save_of}
 
 -- ---- the calls, by their contracts
 
-pub record Accepts (A : Type 0) (grid : GridView) (old : DeskView) (answer : Result Accepted ScanFault) (new : DeskView)
-    : Type 0 where
-  pub failed : old.is_failed ≡ true → (answer ≡ Err scan_fault.Failed) × (new ≡ old)
-  pub scanned : old.is_failed ≡ false → AcceptsGrid A grid old answer new
+-- A desk that has failed answers so, and stays as it is. Any other does what the call does, `Call`.
+pub record MakesCall {X : Type 0} (failed_answer : X) (Call : DeskView → X → DeskView → Type 0)
+    (old : DeskView) (answer : X) (new : DeskView) : Type 0 where
+  pub failed : old.is_failed ≡ true → (answer ≡ failed_answer) × (new ≡ old)
+  pub done : old.is_failed ≡ false → Call old answer new
   pub before : IsInOrder old
 
-pub record ForgetsOne (id : ℕ) (old : DeskView) (answer : Result (Unit {0}) ForgetFault) (new : DeskView) : Type 0 where
-  pub failed : old.is_failed ≡ true → (answer ≡ Err forget_fault.Failed) × (new ≡ old)
-  pub forgotten : old.is_failed ≡ false → Forgets id old answer new
-  pub before : IsInOrder old
+abbrev pub Accepts : Type 0 → GridView → DeskView → Result Accepted ScanFault → DeskView → Type 0
+Accepts A grid = MakesCall (Err scan_fault.Failed) (AcceptsGrid A grid)
 
-pub record ImportsIn (bytes : List ℕ) (old : DeskView) (answer : Result imported_type.Imported ImportFault)
-    (new : DeskView) : Type 0 where
-  pub failed : old.is_failed ≡ true → (answer ≡ Err import_fault.Failed) × (new ≡ old)
-  pub imported : old.is_failed ≡ false → ImportsBytes bytes old answer new
-  pub before : IsInOrder old
+abbrev pub ForgetsOne : ℕ → DeskView → Result (Unit {0}) ForgetFault → DeskView → Type 0
+ForgetsOne id = MakesCall (Err forget_fault.Failed) (Forgets id)
+
+abbrev pub ImportsIn : List ℕ → DeskView → Result imported_type.Imported ImportFault → DeskView → Type 0
+ImportsIn bytes = MakesCall (Err import_fault.Failed) (ImportsBytes bytes)
 
 -- ---- stops
 

@@ -26,7 +26,7 @@ use Rattle.dm_assembly_desk.specs.Importing.{ChangesByFile, ImportsFile, Imports
 use Rattle.dm_event_history.specs.declared.stop.Stop.{Stop}
 use Rattle.dm_event_steps.specs.Acts.{next_save_of}
 use Rattle.dm_event_steps.specs.DeskStands.{IsReadySet}
-use Rattle.dm_event_steps.specs.DeskActs.{Accepts, ForgetsOne, ImportsIn, desk_planned}
+use Rattle.dm_event_steps.specs.DeskActs.{Accepts, ForgetsOne, ImportsIn, desk_planned, MakesCall}
 use Rattle.dm_event_world.specs.inner.DeskEvents.{IsMadeUnder}
 
 pub record KeepsSetting (old new : DeskView) : Type 0 where
@@ -59,6 +59,18 @@ saved : (old new : DeskView) (content : Contents) (outcome : Outcome) →
     Saves old.saved content outcome new.saved → KeepsSetting old new
 saved old new content outcome saves = record { honest = saves.same_honesty; loads = saves.same_load_plan }
 
+-- ---- calls
+
+-- a call keeps the setting of its desk if it does at one that has not failed
+call_keeps : {X : Type 0} (failed_answer : X) (Call : DeskView → X → DeskView → Type 0) (old : DeskView) (answer : X)
+    (new : DeskView) → MakesCall failed_answer Call old answer new → (Call old answer new → KeepsSetting old new)
+    → KeepsSetting old new
+call_keeps failed_answer Call old answer new makes keeps = by_state old.is_failed refl
+  where
+    by_state : (failed : Bool) → old.is_failed ≡ failed → KeepsSetting old new
+    by_state true is = same_desk old new (makes.failed is).1
+    by_state false is = keeps (makes.done is)
+
 -- ---- scans
 
 page_kept : (kind : Kind) (p : PageView) (old new : DeskView) → ChangesByPage kind p old new → KeepsSetting old new
@@ -83,11 +95,8 @@ scanned (Err fault) old answer new s = same_desk old new s.1
 
 pub accepts_keeps : {A : Type 0} (grid : GridView) (old : DeskView) (answer : Result Accepted ScanFault)
     (new : DeskView) → Accepts A grid old answer new → KeepsSetting old new
-accepts_keeps {A} grid old answer new a = by_state old.is_failed refl
-  where
-    by_state : (failed : Bool) → old.is_failed ≡ failed → KeepsSetting old new
-    by_state true is = same_desk old new (a.failed is).1
-    by_state false is = scanned (a.scanned is).opened old answer new (a.scanned is).scans
+accepts_keeps {A} grid old answer new a =
+    call_keeps _ _ old answer new a (λ call. scanned call.opened old answer new call.scans)
 
 -- ---- forgets
 
@@ -109,11 +118,7 @@ forgotten id old (Err forgets.Failed) new f = absurd f
 
 pub forgets_keeps : (id : ℕ) (old : DeskView) (answer : Result (Unit {0}) ForgetFault) (new : DeskView) →
     ForgetsOne id old answer new → KeepsSetting old new
-forgets_keeps id old answer new f = by_state old.is_failed refl
-  where
-    by_state : (failed : Bool) → old.is_failed ≡ failed → KeepsSetting old new
-    by_state true is = same_desk old new (f.failed is).1
-    by_state false is = forgotten id old answer new (f.forgotten is)
+forgets_keeps id old answer new f = call_keeps _ _ old answer new f (forgotten id old answer new)
 
 -- ---- imports
 
@@ -145,8 +150,4 @@ bytes_imported bytes old answer new i =
 
 pub imports_keeps : (bytes : List ℕ) (old : DeskView) (answer : Result Imported ImportFault) (new : DeskView) →
     ImportsIn bytes old answer new → KeepsSetting old new
-imports_keeps bytes old answer new i = by_state old.is_failed refl
-  where
-    by_state : (failed : Bool) → old.is_failed ≡ failed → KeepsSetting old new
-    by_state true is = same_desk old new (i.failed is).1
-    by_state false is = bytes_imported bytes old answer new (i.imported is)
+imports_keeps bytes old answer new i = call_keeps _ _ old answer new i (bytes_imported bytes old answer new)

@@ -8,7 +8,7 @@ returns-clause-made g c =
     c.accept-answer.new.self c.set_next-2.new.self c.next_save.ensures c.set_next.ensures
     (record {
       failed = c.accept-answer.ensures.failed;
-      scanned = c.accept-answer.ensures.scanned;
+      done = c.accept-answer.ensures.scanned;
       before = c.accept-answer.ensures.before;
     })
     c.set_next-2.ensures

@@ -8,7 +8,7 @@ returns-clause-made g c =
     c.forget-answer.new.self c.set_next-2.new.self c.next_save.ensures c.set_next.ensures
     (record {
       failed = c.forget-answer.ensures.failed;
-      forgotten = c.forget-answer.ensures.forgotten;
+      done = c.forget-answer.ensures.forgotten;
       before = c.forget-answer.ensures.before;
     })
     c.set_next-2.ensures

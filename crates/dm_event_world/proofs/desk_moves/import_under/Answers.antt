@@ -8,7 +8,7 @@ returns-clause-made g c =
     c.import-answer.new.self c.set_next-2.new.self c.next_save.ensures c.set_next.ensures
     (record {
       failed = c.import-answer.ensures.failed;
-      imported = c.import-answer.ensures.imported;
+      done = c.import-answer.ensures.imported;
       before = c.import-answer.ensures.before;
     })
     c.set_next-2.ensures
