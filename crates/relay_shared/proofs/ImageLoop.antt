@@ -1,14 +1,19 @@
 -- From the steps over images to all of them: what a step took and said is added to what was taken and said before it.
-use Rattle.std.specs.Prelude.{◌≡◌, ℕ, ◌+◌, ◌<◌, Bool, true, false, ◌||◌, if◌then◌else◌, [], ◌++◌}
+use Rattle.std.specs.Prelude.{◌≡◌, ℕ, ◌+◌, ◌<◌, ◌≤◌, Bool, true, false, ◌||◌, if◌then◌else◌, List, [], ◌++◌}
+use Rattle.std.specs.Io.KnownBytes.{Appends, Consumes, IsAtEnd, Keeps}
 use Rattle.std.proofs.Common.{inl, inr, refl, sym, ap, ◌∙◌}
-use Rattle.std.proofs.KnownBytes.{Consumes-nil, Consumes-trans, Appends-nil, Appends-trans}
+use Rattle.std.proofs.KnownBytes.{Consumes-kept, Consumes-nil, Consumes-trans, Appends-nil, Appends-trans}
+use Rattle.std.proofs.lemmas.Bool.{or_parts, or_right}
 use Rattle.dm_pbm_io.specs.Image.{Picture, Spells}
-use Rattle.relay_shared.specs.EachImage.{Comes, ImageCommand, Progress, Said, Step, Taken, TellsImages}
+use Rattle.relay_streams.specs.Streams.{AppendsPart, InputView, OutputView}
+use Rattle.relay_shared.specs.EachImage.{Comes, ImageCommand, Progress, Said, Step, Taken, TellsImages, last_step, progress_at, refusal_of}
 use Rattle.relay_shared.specs.EachImage.AnswersImages.{none, another}
 use Rattle.relay_shared.specs.EachImage.Comes.{image, unread, too_many}
+use Rattle.relay_shared.specs.EachImage.EndsImages.{no_image, last_line}
+use Rattle.relay_shared.specs.Telling.{TellsRefusal}
 use Rattle.relay_shared.specs.declared.images.TheConstants.{MOST_IMAGES}
 use Rattle.relay_shared.specs.declared.images.Answered.{Answered}
-use Rattle.relay_shared.specs.inner.Steps.{StopsStep, TakesStep, WritesImages}
+use Rattle.relay_shared.specs.inner.Steps.{StopsStep, TakesStep, WritesImages, step_to, taken_to}
 use Rattle.relay_shared.proofs.Telling.{then_part}
 
 -- an image has come, and the command has answered to it
@@ -20,15 +25,55 @@ pub came : (c : ImageCommand) {count : ℕ} {now after : c.State} {taken : Taken
 came c p answer few spelled answers same ends is =
     rw same (image p few spelled answers (sym is ∙ ap (λ (b : Bool). p.plain || b) ends))
 
-neither : (a b : Bool) → false ≡ (a || b) → b ≡ false
-neither true b same = cc
-neither false b same = sym same
+-- what has come was answered, and its line was written
+pub takes : (c : ImageCommand) (count : ℕ) (old : Progress c) (answer : Answered) (new : Progress c)
+    {bytes line : List ℕ} → Consumes old.input.remaining new.input.remaining bytes
+    → Comes c count old.state (taken_to bytes new) (step_to line answer new)
+    → Appends old.output.contents new.output.contents line → TakesStep c count old answer new
+takes c count old answer new consumed comes appended = record {
+  bytes = _;
+  line = _;
+  consumed = consumed;
+  appended = appended;
+  goes_on = λ _. comes;
+  ends = λ last. last_line comes last;
+}
+
+-- what has come was answered, and the output has failed
+pub stops : (c : ImageCommand) (count : ℕ) (old : Progress c) (answer : Answered) (new : Progress c)
+    {bytes line : List ℕ} → Consumes old.input.remaining new.input.remaining bytes
+    → Comes c count old.state (taken_to bytes new) (step_to line answer new)
+    → AppendsPart old.output.contents new.output.contents line → new.output.has_failed ≡ true
+    → StopsStep c count old new
+stops c count old answer new consumed comes part failed = record {
+  bytes = _;
+  line = _;
+  answered = answer;
+  consumed = consumed;
+  comes = comes;
+  part = part;
+  failed = failed;
+}
+
+-- the input has ended, and nothing was taken or written
+pub at_end : (c : ImageCommand) (count : ℕ) (now : c.State) (output : OutputView) {input rest : InputView}
+    → count ≤ MOST_IMAGES → Keeps input.remaining rest.remaining × IsAtEnd rest.remaining
+    → TakesStep c count (progress_at now input output) (record { refused = false; last = true })
+    (progress_at now rest output)
+at_end c count now output few ended = record {
+  bytes = [];
+  line = [];
+  consumed = Consumes-kept _ _ _ _ (Consumes-nil _) ended.0;
+  appended = Appends-nil _;
+  goes_on = λ same. cc;
+  ends = λ same. no_image few (refl {a = []}) ended.1;
+}
 
 -- after an image that another may follow the command reads on
 pub reads_on : (c : ImageCommand) {count : ℕ} {now : c.State} {taken : Taken} {step : Step c}
     → Comes c count now taken step → step.last ≡ false → c.has_ended step.state ≡ false
 reads_on c {step = step} (image p few spelled answers is) goes_on =
-    neither p.plain (c.has_ended step.state) (sym goes_on ∙ is)
+    (or_parts p.plain (c.has_ended step.state) (sym is ∙ goes_on)).1
 reads_on c (unread fault few is) goes_on = cc
 reads_on c (too_many most is) goes_on = cc
 
@@ -84,3 +129,15 @@ stopped c count start now after refused so_far step = inr record {
   failed = step.failed;
   status_is = refl;
 }
+
+-- what has come is refused, and nothing is read after it
+pub refused_last : (c : ImageCommand) (count : ℕ) (start now after : Progress c) (refused : Bool) (name : List ℕ)
+    {bytes : List ℕ} {status : ℕ} → WritesImages c count start refused now → Consumes now.input.remaining after.input.remaining bytes
+    → Comes c count now.state (taken_to bytes after) (last_step c after.state (refusal_of name))
+    → TellsRefusal name now.output after.output status → TellsImages c start status after
+refused_last c count start now after refused name so_far consumed comes (inl told) =
+    ended c count start now after refused (record { refused = true; last = true }) _ so_far
+    (takes c count now _ after consumed comes told.0) refl (rw (or_right refused true refl) told.1)
+refused_last c count start now after refused name so_far consumed comes (inr failed) =
+    rw failed.2 (stopped c count start now after refused so_far
+    (stops c count now (record { refused = true; last = true }) after consumed comes failed.1 failed.0))

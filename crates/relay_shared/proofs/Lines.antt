@@ -6,17 +6,13 @@ use Rattle.std.proofs.KnownBytes.{Appends-trans}
 use Rattle.std.proofs.Math.Seq.{split_at}
 use Rattle.std.proofs.lemmas.Grind.{flat_map-append}
 use Rattle.std.proofs.lemmas.List.Concat.{flat_map-cons}
+use Rattle.std.proofs.lemmas.Result.{on_ok_weaker}
 use Rattle.std.specs.List.{flat_map}
 use Rattle.std.specs.Io.KnownBytes.{Appends}
 use Rattle.relay_streams.proofs.Parts.{part_after, part_more}
 use Rattle.relay_streams.specs.Streams.{AppendsPart, OutputView}
 use Rattle.relay_streams.specs.declared.fault.WriteFault.{WriteFault}
 use Rattle.relay_shared.specs.Telling.{Puts}
-
--- what follows from what holds of an answer
-on_ok : {T E : Type 0} {P Q : Type 0} (answer : Result T E) → OnOk answer P → (P → Q) → OnOk answer Q
-on_ok (Ok x) p f = f p
-on_ok (Err e) p f = tt
 
 -- a text was to be written, by the clauses of a write
 pub puts : {T : Type 0} (text : List ℕ) (old new : OutputView) (put : Result T WriteFault)
@@ -35,7 +31,7 @@ puts_part Q (Err e) is part failed = record { written = tt; part = part; failed 
 pub puts_next : {T : Type 0} (first : List ℕ) {next : List ℕ} {old mid new : OutputView} (put : Result T WriteFault)
     → Appends old.contents mid.contents first → Puts next mid put new → Puts (first ++ next) old put new
 puts_next first put before last = record {
-  written = on_ok put last.written (λ out. Appends-trans _ _ _ _ _ before out);
+  written = on_ok_weaker put (Appends-trans _ _ _ _ _ before) last.written;
   part = part_after _ _ _ _ _ before last.part;
   failed = last.failed;
 }

@@ -1,6 +1,5 @@
 -- Where the images on an input end: at its end, at bytes that spell no image, or after the greatest number of images.
 use Rattle.std.specs.Prelude.{◌≡◌, ℕ, ◌⊎◌, true, List}
-use Rattle.std.specs.Io.KnownBytes.{Consumes, IsAtEnd, Keeps}
 use Rattle.dm_pbm_io.specs.Image.{Picture, Spells, Refuses}
 use Rattle.dm_pbm_io.specs.declared.fault.PbmFault.{PbmFault}
 use Rattle.dm_pbm_io.specs.declared.fault.PbmFault.TheVariants as image_faults
@@ -14,13 +13,3 @@ pub record IsUnread (fault : PbmFault) (taken : List ℕ) (rest : InputView) : T
 -- what was taken is an image, or spells none
 abbrev pub IsAnother : List ℕ → InputView → Type 0
 IsAnother taken rest = ((p : Picture) × Spells taken p) ⊎ ((fault : PbmFault) × IsUnread fault taken rest)
-
--- the input has ended, and nothing was taken; or something else came
-pub record HasEnded (input rest : InputView) : Type 0 where
-  pub kept : Keeps input.remaining rest.remaining
-  pub at_end : IsAtEnd rest.remaining
-
-pub record GoesOn (input rest : InputView) : Type 0 where
-  pub taken : List ℕ
-  pub consumed : Consumes input.remaining rest.remaining taken
-  pub another : IsAnother taken rest

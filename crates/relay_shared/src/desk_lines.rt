@@ -27,9 +27,8 @@ fn name_of(kind: Kind) -> &'static str
 pub fn mask_digits(mask: u16) -> [u8; 4]
     ensures { result ≡ encode_lower (mask / 256 ∷ mask % 256 ∷ []) }
 {
-    let bytes = [(mask / 256) as u8, (mask % 256) as u8];
     let mut digits = [0u8; 4];
-    let Ok(()) = hex::encode_to_slice(bytes, &mut digits) else {
+    let Ok(()) = hex::encode_to_slice(mask.to_be_bytes(), &mut digits) else {
         unreachable!()
     };
     digits

@@ -1,11 +1,10 @@
 //! The lines of what a desk holds. They take no memory.
 
-ghost use Rattle.std.specs.Prelude.{◌≡◌, ◌≤◌, ◌∷◌, ◌++◌, length};
-ghost use Rattle.std.specs.Fmt.{decimal};
-ghost use Rattle.dm_assembly_desk.specs.Pages.{names};
+ghost use Rattle.std.specs.Prelude.{◌≡◌, ◌<◌, ◌≤◌, ◌+◌, ◌++◌, length};
 ghost use Rattle.relay_shared.specs.HeldLines.{
   held_line,
   held_word,
+  missing_page,
   missing_pages,
   unsound_joint_line,
   unsound_line,
@@ -14,47 +13,11 @@ ghost use Rattle.relay_shared.specs.Telling.{Puts};
 
 use crate::desk_lines::mask_digits;
 use crate::printer_lines::id_digits;
-use arrayvec::ArrayVec;
+use arrayvec::ArrayString;
 use dm_assembly_desk::Held;
 use itoa::Buffer;
 use relay_streams::{Output, WriteFault};
 use std::io::Write;
-
-// A space and the number of page m.
-fn page_number(m: u8) -> &'static str
-    requires first { 1 ≤ m }
-    requires last { m ≤ 16 }
-    ensures text { result.now ≡ 32 ∷ decimal m }
-    ensures short { length result.now ≤ 3 }
-{
-    match m {
-        1 => " 1",
-        2 => " 2",
-        3 => " 3",
-        4 => " 4",
-        5 => " 5",
-        6 => " 6",
-        7 => " 7",
-        8 => " 8",
-        9 => " 9",
-        10 => " 10",
-        11 => " 11",
-        12 => " 12",
-        13 => " 13",
-        14 => " 14",
-        15 => " 15",
-        _ => " 16",
-    }
-}
-
-// Whether a mask names page m.
-fn is_named(mask: u16, m: u8) -> bool
-    requires first { 1 ≤ m }
-    requires last { m ≤ 16 }
-    ensures { result ≡ names mask m }
-{
-    (mask >> (m - 1)) % 2 == 1
-}
 
 // Whether the document is complete, in a word after a space.
 fn held_word(held: Held) -> &'static str
@@ -69,18 +32,30 @@ fn held_word(held: Held) -> &'static str
     }
 }
 
-// Whether the document is complete, and the numbers of the pages that are missing, each after a space.
-fn held_end(held: Held) -> ArrayVec<u8, 64>
+// Appends a space and the number of the page after the first m, if the mask does not name it.
+fn push_missing(text: &mut ArrayString<73>, mask: u16, m: u8)
+    requires few { m < 16 }
+    requires room { length text.old.bytes + 4 ≤ 73 }
+    ensures page { text.new.bytes ≡ text.old.bytes ++ missing_page mask (m + 1) }
+    ensures short { length text.new.bytes ≤ length text.old.bytes + 4 }
+{
+    if (mask >> m) % 2 == 0 {
+        text.push(' ');
+        text.push_str(Buffer::new().format(m + 1));
+    }
+}
+
+// Whether the document is complete, and the numbers of the pages that are missing, each after a space: a word of at most
+// nine bytes, and at most four bytes for each of sixteen pages.
+fn held_end(held: Held) -> ArrayString<73>
     requires { held.n ≤ 16 }
-    ensures { result.items ≡ held_word held ++ missing_pages held.mask held.n }
+    ensures { result.bytes ≡ held_word held ++ missing_pages held.mask held.n }
 {
     let Held { id: _, n, mask } = held;
-    let mut text = ArrayVec::new();
-    let _fits = text.try_extend_from_slice(held_word(held).as_bytes());
+    let mut text = ArrayString::new();
+    text.push_str(held_word(held));
     for m in 0..n {
-        if !is_named(mask, m + 1) {
-            let _fits = text.try_extend_from_slice(page_number(m + 1).as_bytes());
-        }
+        push_missing(&mut text, mask, m);
     }
     text
 }
@@ -98,7 +73,7 @@ pub fn put_held<W: Write>(output: &mut Output<W>, held: Held) -> Result<(), Writ
     let mut digits = Buffer::new();
     let n = digits.format(held.n).as_bytes();
     let end = held_end(held);
-    output.put_all(&[&id, b" ", n, end.as_slice(), b"\n"])
+    output.put_all(&[&id, b" ", n, end.as_bytes(), b"\n"])
 }
 
 /// Writes that the file of a key is not sound, and why.

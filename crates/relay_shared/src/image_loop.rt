@@ -5,7 +5,8 @@ ghost use Rattle.relay_shared.specs.EachImage.{Progress, TellsImages, progress_a
 ghost use Rattle.relay_shared.specs.declared.images.TheConstants.{MOST_IMAGES};
 ghost use Rattle.relay_shared.specs.inner.Steps.{StopsStep, TakesStep};
 
-use crate::images::{Answered, DONE, MOST_IMAGES, REFUSED, is_at_end, status_of};
+use crate::ended::refuse;
+use crate::images::{Answered, DONE, MOST_IMAGES, REFUSED, is_at_end};
 use crate::refusal::Refusal;
 use dm_pbm_io::Image;
 use relay_streams::{Input, Output, WriteFault};
@@ -82,26 +83,6 @@ fn next_image<A: Allocator + Copy, C: OnImages<A>, R: Read, W: Write>(
     }
 }
 
-// After the greatest number of images, refuses another.
-fn end_at_most<A: Allocator + Copy, C: OnImages<A>, R: Read, W: Write>(
-    alloc: A,
-    input: &mut Input<R>,
-    output: &mut Output<W>,
-) -> Result<bool, WriteFault>
-    ensures { (now : C.command.State) →
-        let old : Progress C.command = progress_at now input.old output.old in
-        let new : Progress C.command = progress_at now input.new output.new in
-        MatchResult result
-        (λ refused. TakesStep C.command MOST_IMAGES old (record { refused = refused; last = true }) new)
-        (λ _. StopsStep C.command MOST_IMAGES old new) }
-{
-    if is_at_end(alloc, input) {
-        return Ok(false);
-    }
-    output.put_refusal(Refusal::TooMany.name())?;
-    Ok(true)
-}
-
 /// Reads images, one after another, and writes the line that the command answers to each. At most 65,536 images are
 /// read. The exit status is 0 where no line names a refusal, and else 1.
 pub fn each_image<A: Allocator + Copy, C: OnImages<A>, R: Read, W: Write>(
@@ -121,14 +102,14 @@ pub fn each_image<A: Allocator + Copy, C: OnImages<A>, R: Read, W: Write>(
             Ok(answered) => {
                 refused |= answered.refused;
                 if answered.last {
-                    return status_of(refused);
+                    return u8::from(refused);
                 }
             }
             Err(WriteFault::Write) => return 1,
         }
     }
-    match end_at_most::<A, C, R, W>(alloc, input, output) {
-        Ok(also) => status_of(refused | also),
-        Err(WriteFault::Write) => 1,
+    if is_at_end(alloc, input) {
+        return u8::from(refused);
     }
+    refuse(output, Refusal::TooMany.name())
 }

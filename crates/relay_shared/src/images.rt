@@ -1,7 +1,8 @@
 //! Images that follow one another on the input of a command.
 
-ghost use Rattle.std.specs.Prelude.{◌≡◌, if◌then◌else◌, true, false};
-ghost use Rattle.relay_shared.specs.Images.{GoesOn, HasEnded};
+ghost use Rattle.std.specs.Prelude.{◌≡◌, ℕ, List, true, false};
+ghost use Rattle.std.specs.Io.KnownBytes.{Consumes, IsAtEnd, Keeps};
+ghost use Rattle.relay_shared.specs.Images.{IsAnother};
 
 use dm_pbm_io::Image;
 use relay_streams::Input;
@@ -34,19 +35,9 @@ pub const REFUSED: Answered = Answered {
 
 /// Whether the input has ended, or something else comes.
 pub(crate) fn is_at_end<A: Allocator + Copy, R: Read>(alloc: A, input: &mut Input<R>) -> bool
-    ensures ended { result ≡ true → HasEnded input.old input.new }
-    ensures another { result ≡ false → GoesOn input.old input.new }
+    ensures ended { result ≡ true → Keeps input.old.remaining input.new.remaining × IsAtEnd input.new.remaining }
+    ensures another { result ≡ false → (taken : List ℕ) × Consumes input.old.remaining input.new.remaining taken
+        × IsAnother taken input.new }
 {
-    match Image::read(alloc, input) {
-        Ok(None) => true,
-        Ok(Some(_)) => false,
-        Err(_) => false,
-    }
-}
-
-/// The exit status of a command over images: 1 where a line names a refusal.
-pub(crate) fn status_of(refused: bool) -> u8
-    ensures { result ≡ (if refused then 1 else 0) }
-{
-    u8::from(refused)
+    matches!(Image::read(alloc, input), Ok(None))
 }

@@ -15,24 +15,17 @@ use std::io::Write;
 pub fn put_from<W: Write>(output: &mut Output<W>, ticket: Ticket) -> Result<(), WriteFault>
     ensures { Puts (from_line ticket) output.old result output.new }
 {
-    let (mut gave, mut gets, mut counted) = (Buffer::new(), Buffer::new(), Buffer::new());
-    let (mut lowest, mut highest) = (Buffer::new(), Buffer::new());
-    let from = gave.format(ticket.giver).as_bytes();
-    let to = gets.format(ticket.receiver).as_bytes();
-    let serial = counted.format(ticket.serial).as_bytes();
-    let first = lowest.format(ticket.range.first).as_bytes();
-    let last = highest.format(ticket.range.last).as_bytes();
     output.put_all(&[
         b"from ",
-        from,
+        Buffer::new().format(ticket.giver).as_bytes(),
         b" to ",
-        to,
+        Buffer::new().format(ticket.receiver).as_bytes(),
         b" serial ",
-        serial,
+        Buffer::new().format(ticket.serial).as_bytes(),
         b" first ",
-        first,
+        Buffer::new().format(ticket.range.first).as_bytes(),
         b" last ",
-        last,
+        Buffer::new().format(ticket.range.last).as_bytes(),
         b"\n",
     ])
 }
@@ -61,7 +54,7 @@ pub fn put_check<W: Write>(output: &mut Output<W>, bytes: [u8; 12]) -> Result<()
         b"-",
         &digits[16..20],
         b"-",
-        &digits[20..24],
+        &digits[20..],
         b"\n",
     ])
 }

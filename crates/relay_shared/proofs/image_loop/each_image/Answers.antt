@@ -1,5 +1,9 @@
-use Rattle.std.proofs.Common.{◌≡◌, true, arith, refl}
-use Rattle.relay_shared.proofs.ImageLoop.{begun, ended, one_more, reads_on, stopped}
+use Rattle.std.proofs.Common.{◌≡◌, true, false, arith, refl}
+use Rattle.std.proofs.Math.Bool.{or-false}
+use Rattle.relay_shared.specs.EachImage.Comes.{too_many}
+use Rattle.relay_shared.specs.Refusals.{refusal_name}
+use Rattle.relay_shared.specs.declared.refusal.Refusal.TheVariants.{TooMany}
+use Rattle.relay_shared.proofs.ImageLoop.{at_end, begun, ended, one_more, reads_on, refused_last, stopped}
 use Rattle.relay_shared.proofs.image_loop.each_image.Goals as goal
 
 pub loop-count-init : goal.loop-count-init
@@ -22,21 +26,22 @@ loop-count-preserved g c =
 pub returns-then-answered-clause-told : goal.returns-then-answered-clause-told
 returns-then-answered-clause-told g c =
     ended _ _ _ _ _ _ c.in-Ok.answered _ c.loop-count.invariant.written c.in-Ok.ensures.step c.if-answered.true
-    c.status_of.ensures
+    (grind (arith, c.from.ensures))
 
 pub returns-in-Err-Write-clause-told : goal.returns-in-Err-Write-clause-told
 returns-in-Err-Write-clause-told g c =
     stopped _ _ _ _ _ _ c.loop-count.invariant.written c.in-Err-Write.ensures.step
 
-pub returns-in-Ok-end_at_most-clause-told : goal.returns-in-Ok-end_at_most-clause-told
-returns-in-Ok-end_at_most-clause-told g c =
+pub returns-then-is_at_end-clause-told : goal.returns-then-is_at_end-clause-told
+returns-then-is_at_end-clause-told g c =
     let all : c.loop-count.count ≡ 65536 = omega arith in
-    let written = rw all at c.loop-count.invariant.written in
-    ended _ _ _ _ _ _ (record { refused = c.in-Ok-end_at_most.also; last = true }) _ written
-    (c.in-Ok-end_at_most.ensures _) refl c.status_of-in-Ok-end_at_most.ensures
+    ended _ _ _ _ _ _ (record { refused = false; last = true }) _ (rw all at c.loop-count.invariant.written)
+    (at_end _ _ _ _ (omega arith) (c.is_at_end.ensures.ended c.if-is_at_end.true)) refl
+    (rw or-false (grind (arith, c.from-then-is_at_end.ensures)))
 
-pub returns-in-Err-Write-end_at_most-clause-told : goal.returns-in-Err-Write-end_at_most-clause-told
-returns-in-Err-Write-end_at_most-clause-told g c =
+pub returns-clause-told : goal.returns-clause-told
+returns-clause-told g c =
     let all : c.loop-count.count ≡ 65536 = omega arith in
-    let written = rw all at c.loop-count.invariant.written in
-    stopped _ _ _ _ _ _ written (c.in-Err-Write-end_at_most.ensures _)
+    let more = c.is_at_end.ensures.another c.if-is_at_end.false in
+    refused_last _ _ _ _ _ _ (refusal_name TooMany) (rw all at c.loop-count.invariant.written) more.1
+    (too_many refl more.2) (rw c.name.ensures at c.refuse.ensures)
