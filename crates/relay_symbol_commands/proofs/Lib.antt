@@ -1,2 +1,0 @@
-pub mod GridLines
-pub mod ReadLines

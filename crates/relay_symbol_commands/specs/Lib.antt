@@ -4,4 +4,3 @@ pub mod Read
 pub mod ReadLines
 pub mod Refusals
 pub mod Words
-pub mod inner

@@ -47,14 +47,8 @@ fn image_of_document<A: Allocator + Copy, R: Read>(
     ensures refused { IfErr result (RefusesSymbol form input.old input.new) }
     ensures part { TakesPart input.old.remaining input.new.remaining DOCUMENT_BYTES }
 {
-    let symbol = match read_symbol(alloc, input, form) {
-        Ok(symbol) => symbol,
-        Err(refusal) => return Err(refusal),
-    };
-    match image_of_symbol(alloc, &symbol, plain) {
-        Ok(image) => Ok(image),
-        Err(_) => Err(SymbolRefusal::Memory),
-    }
+    let symbol = read_symbol(alloc, input, form)?;
+    Ok(image_of_symbol(alloc, &symbol, plain)?)
 }
 
 /// Reads a document and draws its symbol as one PBM image, packed (`P4`) or plain (`P1`), inside a quiet zone one

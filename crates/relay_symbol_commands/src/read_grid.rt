@@ -1,11 +1,12 @@
 //! What the grid of a symbol is read as.
 
-ghost use Rattle.std.specs.Prelude.{◌≡◌, ◌≢◌, true, false, string_bytes, IfOk, IfErr};
+ghost use Rattle.std.specs.Prelude.{◌≡◌, ◌≢◌, true, false, string_bytes, MatchResult};
 ghost use Rattle.dm_append_label.specs.declared.fault.HeadFault.TheVariants as head_faults;
 ghost use Rattle.dm_append_label.specs.declared.fault.PageFault.TheVariants as page_faults;
+ghost use Rattle.dm_finder_frame.specs.Grids.{GridView};
 ghost use Rattle.dm_pbm_io.specs.Shown.{picture};
-ghost use Rattle.relay_symbol_commands.specs.Read.{HasLine, PrintsPicture, RefusesGrid, RefusesPicture};
-ghost use Rattle.relay_symbol_commands.specs.inner.SymbolLines.{HasSymbolLine, ReadsAsSymbol, RefusesSymbolLine, RefusesText, symbol_data};
+ghost use Rattle.dm_symbol.specs.Correction.{IsCorrectedAs};
+ghost use Rattle.relay_symbol_commands.specs.Read.{HasLine, HasNoHead, PrintsPicture, RefusesGrid, RefusesPicture};
 
 use crate::read_lines::{line_of_label, line_of_symbol};
 use crate::refusal::ReadRefusal;
@@ -21,17 +22,14 @@ fn line_of_no_label<A: Allocator + Copy>(
     alloc: A,
     symbol: &Corrected<A>,
 ) -> Result<String<A>, ReadRefusal>
-    ensures line { IfOk result (λ line. ReadsAsSymbol symbol.now (string_bytes line)) }
-    ensures refused { IfErr result (RefusesText (symbol_data symbol.now)) }
+    ensures { (grid : GridView) → IsCorrectedAs grid symbol.now → HasNoHead grid symbol.now.words
+        → MatchResult result (λ line. HasLine grid (string_bytes line)) (RefusesGrid grid) }
 {
     let bytes = match decode(alloc, symbol.data(), 0) {
         Ok(bytes) => bytes,
         Err(fault) => return Err(ReadRefusal::Text(fault)),
     };
-    match line_of_symbol(alloc, symbol, &bytes) {
-        Ok(line) => Ok(line),
-        Err(_) => Err(ReadRefusal::Memory),
-    }
+    Ok(line_of_symbol(alloc, symbol, &bytes)?)
 }
 
 // Whether the symbol is no label.
@@ -42,35 +40,21 @@ fn is_no_label(fault: PageFault) -> bool
     matches!(fault, PageFault::Head(HeadFault::NotAppended))
 }
 
-// The line of a symbol: that of a label first.
-fn line_of_corrected<A: Allocator + Copy>(
-    alloc: A,
-    symbol: &Corrected<A>,
-) -> Result<String<A>, ReadRefusal>
-    ensures line { IfOk result (λ line. HasSymbolLine symbol.now (string_bytes line)) }
-    ensures refused { IfErr result (RefusesSymbolLine symbol.now) }
-{
-    match page_of(alloc, symbol) {
-        Ok(page) => match line_of_label(alloc, &page, symbol) {
-            Ok(line) => Ok(line),
-            Err(_) => Err(ReadRefusal::Memory),
-        },
-        Err(fault) if is_no_label(fault) => line_of_no_label(alloc, symbol),
-        Err(fault) => Err(ReadRefusal::Label(LabelFault::from(fault))),
-    }
-}
-
-// The line of a grid.
+// The line of a grid: that of a label first.
 fn line_of_grid<A: Allocator + Copy>(
     alloc: A,
     reader: &mut SymbolReader<A>,
     grid: &Grid<A>,
 ) -> Result<String<A>, ReadRefusal>
-    ensures line { IfOk result (λ line. HasLine grid.now (string_bytes line)) }
-    ensures refused { IfErr result (RefusesGrid grid.now) }
+    ensures { MatchResult result (λ line. HasLine grid.now (string_bytes line)) (RefusesGrid grid.now) }
 {
-    match reader.read(alloc, grid) {
-        Ok(symbol) => line_of_corrected(alloc, &symbol),
+    let symbol = match reader.read(alloc, grid) {
+        Ok(symbol) => symbol,
+        Err(fault) => return Err(ReadRefusal::Label(LabelFault::from(fault))),
+    };
+    match page_of(alloc, &symbol) {
+        Ok(page) => Ok(line_of_label(alloc, &page, &symbol)?),
+        Err(fault) if is_no_label(fault) => line_of_no_label(alloc, &symbol),
         Err(fault) => Err(ReadRefusal::Label(LabelFault::from(fault))),
     }
 }
@@ -81,9 +65,9 @@ pub(crate) fn line_of_image<A: Allocator + Copy>(
     reader: &mut SymbolReader<A>,
     image: &Image<A>,
 ) -> Result<String<A>, ReadRefusal>
-    ensures line { IfOk result (λ line.
-        PrintsPicture (picture image.now) (record { line = string_bytes line; refused = false })) }
-    ensures refused { IfErr result (RefusesPicture (picture image.now)) }
+    ensures { MatchResult result
+        (λ line. PrintsPicture (picture image.now) (record { line = string_bytes line; refused = false }))
+        (RefusesPicture (picture image.now)) }
 {
     match grid_of(alloc, image) {
         Ok(grid) => line_of_grid(alloc, reader, &grid),

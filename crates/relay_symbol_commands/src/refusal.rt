@@ -2,6 +2,7 @@
 
 ghost use Rattle.std.specs.Prelude.{◌≡◌};
 ghost use Rattle.relay_symbol_commands.specs.Refusals.{read_refusal_name, symbol_refusal_name};
+ghost use Rattle.relay_symbol_commands.specs.declared.refusal.ReadRefusal.TheVariants as read_refusals;
 ghost use Rattle.relay_symbol_commands.specs.declared.refusal.SymbolRefusal.TheVariants as symbol_refusals;
 
 use dm_append_label::LabelFault;
@@ -79,5 +80,13 @@ impl ReadRefusal {
             ReadRefusal::Text(fault) => fault.name(),
             ReadRefusal::Memory => Refusal::Memory.name(),
         }
+    }
+}
+
+impl From<AllocError> for ReadRefusal {
+    ghost from_gives = { λ _ refusal. refusal ≡ read_refusals.Memory };
+
+    fn from(_: AllocError) -> Self {
+        ReadRefusal::Memory
     }
 }

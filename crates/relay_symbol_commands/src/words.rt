@@ -51,14 +51,8 @@ fn line_of_document<A: Allocator + Copy, R: Read>(
     ensures refused { IfErr result (RefusesSymbol form input.old input.new) }
     ensures part { TakesPart input.old.remaining input.new.remaining DOCUMENT_BYTES }
 {
-    let symbol = match read_symbol(alloc, input, form) {
-        Ok(symbol) => symbol,
-        Err(refusal) => return Err(refusal),
-    };
-    match line_of_words(alloc, &symbol.words) {
-        Ok(line) => Ok(line),
-        Err(_) => Err(SymbolRefusal::Memory),
-    }
+    let symbol = read_symbol(alloc, input, form)?;
+    Ok(line_of_words(alloc, &symbol.words)?)
 }
 
 /// Reads a document and prints the words of its symbol in decimal, with one space between each two and a line end, or
