@@ -1,6 +1,7 @@
 -- The lines that `world` prints of replies: what they show is this project's own rule.
-use Rattle.std.specs.Prelude.{ℕ, Bool, true, false, List, [], ◌∷◌, ◌++◌, ◌||◌, ◌/◌, ◌%◌, if◌then◌else◌, codes}
+use Rattle.std.specs.Prelude.{ℕ, Bool, true, false, List, [], ◌∷◌, ◌++◌, ◌/◌, ◌%◌, if◌then◌else◌, codes}
 use Rattle.std.specs.Fmt.{decimal}
+use Rattle.std.specs.List.{list_any}
 use Rattle.hex.specs.Hex.{encode_lower}
 use Rattle.dm_print_ledger.specs.FaultNames.{print_fault_name, give_fault_name, take_fault_name, open_fault_name}
 use Rattle.dm_print_ledger.specs.Tickets.{ticket_bytes}
@@ -85,8 +86,11 @@ abbrev pub answer_line : {A : Type 0} → Answer A → List ℕ
 answer_line (answers.Given is_honest reply) = (if is_honest then [] else codes "! ") ++ reply_line reply
 answer_line answers.NotGiven = refused_line (codes "Memory")
 
+-- it is one of a refusal
+abbrev pub is_refused : {A : Type 0} → Answer A → Bool
+is_refused (answers.Given is_honest reply) = is_refusal reply
+is_refused answers.NotGiven = true
+
 -- some line is one of a refusal
 abbrev pub has_refusal : {A : Type 0} → List (Answer A) → Bool
-has_refusal [] = false
-has_refusal (answers.Given is_honest reply ∷ more) = is_refusal reply || has_refusal more
-has_refusal (answers.NotGiven ∷ more) = true
+has_refusal given = list_any is_refused given

@@ -1,10 +1,10 @@
 //! The lines of replies. They take no memory.
 
-ghost use Rattle.std.specs.Prelude.{◌≡◌, ◌∷◌, []};
+ghost use Rattle.std.specs.Prelude.{◌≡◌, ◌∷◌, [], codes, if◌then◌else◌};
 ghost use Rattle.hex.specs.Hex.{encode_lower};
 ghost use Rattle.dm_print_ledger.specs.Tickets.{ticket_bytes};
 ghost use Rattle.relay_shared.specs.Telling.{Puts};
-ghost use Rattle.relay_world_command.specs.ReplyLines.{answer_line, document_line, export_line, has_refusal, is_refusal, labels_line, numbered_ticket_line, reply_line};
+ghost use Rattle.relay_world_command.specs.ReplyLines.{answer_line, document_line, export_line, is_refusal, is_refused, labels_line, numbered_ticket_line, reply_line};
 
 use dm_append_label::FileId;
 use dm_event_history::Reply;
@@ -146,6 +146,13 @@ fn is_refused<A: Allocator>(reply: &Reply<A>) -> bool
     }
 }
 
+// What the line of an event begins with: `! ` where it was not found honest.
+fn mark_of(is_honest: bool) -> &'static [u8]
+    ensures { result.now ≡ (if is_honest then [] else codes "! ") }
+{
+    if is_honest { b"" } else { b"! " }
+}
+
 /// Writes the line of an answer. It begins with `! ` where the event was not found honest.
 pub(crate) fn put_answer<A: Allocator, W: Write>(
     output: &mut Output<W>,
@@ -156,15 +163,13 @@ pub(crate) fn put_answer<A: Allocator, W: Write>(
     let Answer::Given { is_honest, reply } = answer else {
         return output.put_refusal("Memory");
     };
-    if !*is_honest {
-        output.put(b"! ")?;
-    }
+    output.put(mark_of(*is_honest))?;
     put_reply(output, reply)
 }
 
 /// Whether the line of an answer is one of a refusal.
 pub(crate) fn is_refused_answer<A: Allocator>(answer: &Answer<A>) -> bool
-    ensures { result ≡ has_refusal (answer.now ∷ []) }
+    ensures { result ≡ is_refused answer.now }
 {
     match answer {
         Answer::Given {

@@ -1,9 +1,9 @@
-use Rattle.std.proofs.Common.{◌≡◌, ◌+◌, ◌<◌, ◌++◌, ◌∷◌, [], length, take, refl, ap, sym, ◌∙◌, arith}
+use Rattle.std.proofs.Common.{◌<◌, [], length, take, refl, arith}
 use Rattle.std.proofs.KnownBytes.{Appends-nil, Appends-trans}
 use Rattle.std.proofs.lemmas.List.{take_more, flat_map_more}
-use Rattle.relay_world_command.specs.ReplyLines.{answer_line}
+use Rattle.std.proofs.lemmas.List.Folds.{list_any_more}
+use Rattle.relay_world_command.specs.ReplyLines.{answer_line, is_refused}
 use Rattle.relay_shared.proofs.Lines.{puts_before}
-use Rattle.relay_world_command.proofs.RefusedLines.{refusal_more}
 use Rattle.relay_world_command.proofs.world.put_answers.Goals as goal
 
 pub loop-answer-init : goal.loop-answer-init
@@ -14,15 +14,13 @@ loop-answer-preserved g c =
     let i = c.loop-answer.answer-index in
     let answer = c.answer-item.result in
     let there : i < length c.args.answers.now = omega arith in
-    let more : take (i + 1) c.args.answers.now ≡ take i c.args.answers.now ++ answer ∷ [] =
-    take_more c.args.answers.now i answer there ∙
-    ap (λ x. take i c.args.answers.now ++ x ∷ []) (sym c.answer-item.is) in
     record {
-      written = rw more (rw (flat_map_more answer_line [] (take i c.args.answers.now) answer) at
+      written = rw (take_more c.args.answers.now i answer there, ← c.answer-item.is)
+          (rw (flat_map_more answer_line [] (take i c.args.answers.now) answer) at
           (Appends-trans _ _ _ _ _ c.loop-answer.invariant.written c.in_ok-put_answer.ensures.written));
       refused = rw (
-        more,
-        refusal_more (take i c.args.answers.now) answer,
+        list_any_more is_refused c.args.answers.now i answer there,
+        ← c.answer-item.is,
         ← c.loop-answer.invariant.refused,
         ← c.is_refused_answer-refused.ensures,
       ) refl;
