@@ -1,12 +1,12 @@
 -- The lines of what is held, one number after another: `one_more` adds the line of a number, and `cut_before` and
 -- `cut_in` are the two ways in which the output fails.
-use Rattle.std.proofs.Common.{◌≡◌, ◌≤◌, ◌+◌, ◌++◌, ◌||◌, ℕ, Bool, true, List, Option, Result}
-use Rattle.std.proofs.Common.{sym, ap, ◌∙◌, append_assoc, arith}
+use Rattle.std.proofs.Common.{◌≡◌, ◌≤◌, ◌+◌, ◌++◌, ◌||◌, ℕ, Bool, true, Option, Result, arith}
 use Rattle.std.specs.Prelude.{is_err}
 use Rattle.std.specs.Io.KnownBytes.{Appends}
 use Rattle.std.proofs.KnownBytes.{Appends-trans}
 use Rattle.dm_assembly_desk.specs.declared.fault.HeldFault.{HeldFault}
 use Rattle.dm_assembly_desk.specs.declared.reply.Held.{Held}
+use Rattle.relay_streams.proofs.Parts.{part_after}
 use Rattle.relay_streams.specs.Streams.{AppendsPart, OutputView}
 use Rattle.relay_desk_commands.specs.Held.{SeenFiles, SeesNumber, documents_in, joint_line, seen_line}
 use Rattle.relay_desk_commands.specs.Held.Lists.{begun, further}
@@ -46,9 +46,5 @@ module _ (seen : SeenFiles) where
     further found written.1 sees,
     few,
     failed,
-    (
-      written.0 ++ part.0,
-      (part.1.0, ap (λ (t : List ℕ). written.0 ++ t) part.1.1 ∙ sym (append_assoc written.0 part.0 part.1.0)),
-      Appends-trans old.contents now.contents new.contents written.0 part.0 written.2 part.2,
-    ),
+    part_after _ _ _ written.0 (seen_line number found) written.2 part,
   )

@@ -108,16 +108,12 @@ pub data TellsAll (seen : SeenFiles) (old : OutputView) (status : ℕ) (new : Ou
   no_keys : (why : HeldFault) → HasNoKeys seen.set why → TellsRefusal (held_fault_name why) old new status
       → TellsAll seen old status new
 
--- The line of what was found of one document. If nothing is held of it, that is refused, unless the file of an older
--- version is not sound, which may have held it.
-abbrev pub found_line : Result (Option Documents) MoveFault → Option Held → List ℕ
-found_line joint (Some held) = held_line held
-found_line (Ok _) None = refused_line (ask_fault_name asks.NotHeld)
-found_line (Err fault) None = unsound_joint_line (move_fault_name fault)
-
--- the line of one document that is asked for, by what was seen of its number
+-- The line of one document that is asked for, by what was seen of its number. If nothing is held of it, that is
+-- refused, unless the file of an older version is not sound, which may have held it.
 abbrev pub asked_line : Result (Option Documents) MoveFault → ℕ → Result (Option Held) HeldFault → List ℕ
-asked_line joint number (Ok found) = found_line joint found
+asked_line joint number (Ok (Some held)) = held_line held
+asked_line (Ok _) number (Ok None) = refused_line (ask_fault_name asks.NotHeld)
+asked_line (Err fault) number (Ok None) = unsound_joint_line (move_fault_name fault)
 asked_line joint number (Err fault) = unsound_line number (held_fault_name fault)
 
 -- the exit status after it: 0 if a page is held

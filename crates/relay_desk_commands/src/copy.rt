@@ -8,7 +8,7 @@ ghost use Rattle.dm_finder_frame.specs.Grids.{GridView};
 ghost use Rattle.dm_pbm_io.specs.Shown.{picture};
 ghost use Rattle.dm_pbm_io.specs.SymbolImage.{image_with_quiet_zone};
 ghost use Rattle.dm_pbm_io.specs.Writing.{written};
-ghost use Rattle.relay_desk_commands.specs.Copy.{Copies, EndsCopy, HasCopyFault, IsLabelOf, copy_fault_name};
+ghost use Rattle.relay_desk_commands.specs.Copy.{Copies, EndsCopy, HasCopyFault, copy_fault_name};
 ghost use Rattle.relay_desk_commands.specs.Desks.{TellsBytes, desk_at};
 ghost use Rattle.relay_desk_commands.specs.declared.copy.CopyFault.TheVariants as copy_faults;
 
@@ -117,40 +117,6 @@ fn held_page<'a, A: Allocator>(pages: &Pages<'a, A>, m: u16) -> Option<&'a [u8]>
     pages.get(m as u8)
 }
 
-// Page m of the n pages of a document.
-#[derive(Clone, Copy)]
-struct PageNumber {
-    id: FileId,
-    m: u8,
-    n: u8,
-}
-
-// The label of a page, which has room for it.
-fn label_of<A: Allocator + Copy>(
-    alloc: A,
-    bytes: &[u8],
-    number: PageNumber,
-    form: LabelForm,
-) -> Result<Grid<A>, AllocError>
-    requires fits { Fits form.size form.scheme bytes.now }
-    requires least { 2 ≤ number.n }
-    requires most { number.n ≤ 16 }
-    requires first { 1 ≤ number.m }
-    requires last { number.m ≤ number.n }
-    ensures { IfOk result (IsLabelOf form
-        (record { id = number.id; m = number.m; n = number.n; bytes = bytes.now })) }
-{
-    let bytes = bytes.to_vec(alloc)?;
-    let Some(page) = Page::new(number.id, number.m, number.n, bytes) else {
-        unreachable!()
-    };
-    match seal(alloc, &page, form.size, form.scheme) {
-        Ok(grid) => Ok(grid),
-        Err(SealFault::TooLong) => unreachable!(),
-        Err(SealFault::Memory) => Err(AllocError),
-    }
-}
-
 // The label of the page that is asked for, as the desk holds it.
 fn copy_of<A: Allocator + Copy, T: StoreSet>(
     alloc: A,
@@ -171,12 +137,14 @@ fn copy_of<A: Allocator + Copy, T: StoreSet>(
     if !has_room(form.size, form.scheme, bytes) {
         return Err(CopyFault::TooLong);
     }
-    let number = PageNumber {
-        id: asked.id,
-        m: asked.m as u8,
-        n: pages.n(),
+    let Some(page) = Page::new(asked.id, asked.m as u8, pages.n(), bytes.to_vec(alloc)?) else {
+        unreachable!()
     };
-    Ok(label_of(alloc, bytes, number, form)?)
+    match seal(alloc, &page, form.size, form.scheme) {
+        Ok(grid) => Ok(grid),
+        Err(SealFault::TooLong) => unreachable!(),
+        Err(SealFault::Memory) => Err(CopyFault::Memory),
+    }
 }
 
 // The packed image of that label.

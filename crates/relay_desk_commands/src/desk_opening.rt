@@ -6,7 +6,7 @@ ghost use Rattle.dm_assembly_desk.specs.Views.{IsInOrder};
 ghost use Rattle.relay_shared.specs.Telling.{TellsRefusal};
 ghost use Rattle.relay_desk_commands.specs.Desks.{HasNoDesk, OpensDesk};
 
-use dm_assembly_desk::{Desk, DeskRefused, move_pages};
+use dm_assembly_desk::{Desk, move_pages};
 use dm_store::{Store, StoreSet};
 use relay_shared::{EndedDesk, refuse};
 use relay_streams::Output;
@@ -28,11 +28,10 @@ impl<S: Store, T: StoreSet, A: Allocator + Copy> OpenDesk<S, T, A> {
         ensures set { T.state result.set ≡ self.desk.saved }
         ensures kept { IsKept self.desk (T.left result.set) }
     {
-        let OpenDesk { store, desk } = self;
         EndedDesk {
             status,
-            store,
-            set: desk.close(),
+            store: self.store,
+            set: self.desk.close(),
         }
     }
 }
@@ -66,10 +65,7 @@ pub(crate) fn open_desk<A: Allocator + Copy, S: Store, T: StoreSet, W: Write>(
         Ok(desk) => Ok(OpenDesk { store, desk }),
         Err(refused) => {
             let status = refuse(output, refused.fault.name());
-            let DeskRefused {
-                fault: _,
-                store: set,
-            } = refused;
+            let set = refused.store;
             Err(EndedDesk { status, store, set })
         }
     }

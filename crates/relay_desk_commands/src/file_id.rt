@@ -10,8 +10,6 @@ pub(crate) fn id_of(text: &str) -> Option<FileId>
     ensures { MatchOption result (¬ HasId text.now) (λ id. HasId text.now × IsTextOfId text.now id) }
 {
     let mut words = [0u8; 2];
-    match hex::decode_to_slice(text, &mut words) {
-        Ok(()) => FileId::of_words(words[0], words[1]),
-        Err(_) => None,
-    }
+    hex::decode_to_slice(text, &mut words).ok()?;
+    FileId::of_words(words[0], words[1])
 }

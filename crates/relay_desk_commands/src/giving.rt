@@ -7,7 +7,7 @@ ghost use Rattle.relay_desk_commands.specs.Desks.{EndsDeliver, EndsExport, EndsG
 use crate::desk_opening::open_desk;
 use crate::file_id::id_of;
 use dm_append_label::FileId;
-use dm_assembly_desk::{Desk, MOST_CAPACITY};
+use dm_assembly_desk::{AskFault, Desk, ExportFault, MOST_CAPACITY};
 use dm_store::{Store, StoreSet};
 use relay_shared::{EndedDesk, Refusal, Streams, refuse};
 use std::alloc::Allocator;
@@ -43,14 +43,8 @@ fn bytes_of<A: Allocator + Copy, T: StoreSet>(
         (λ name. Withholds given id (map.get desk.now.held id) name.now) }
 {
     match given {
-        Given::Document => match desk.document(id) {
-            Ok(document) => Ok(document),
-            Err(fault) => Err(fault.name()),
-        },
-        Given::File => match desk.export(id) {
-            Ok(file) => Ok(file),
-            Err(fault) => Err(fault.name()),
-        },
+        Given::Document => desk.document(id).map_err(AskFault::name),
+        Given::File => desk.export(id).map_err(ExportFault::name),
     }
 }
 

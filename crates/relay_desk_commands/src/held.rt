@@ -1,14 +1,13 @@
 //! `relay held`: what the files of a desk hold, told without a desk.
 
-ghost use Rattle.std.specs.Prelude.{◌≡◌, ◌+◌, ◌<◌, true, false, Option, Some, None, is_err, option_map, take};
-ghost use Rattle.std.specs.Prelude.{IfOk, IfSome, IsTrue, OnErr, Result};
+ghost use Rattle.std.specs.Prelude.{◌≡◌, ◌+◌, ◌<◌, false, Option, None, Result, IfOk, IfSome, IsTrue, OnErr, take};
 ghost use Rattle.std.specs.FinMap as map;
 ghost use Rattle.std.specs.Option.{option_copied};
-ghost use Rattle.dm_store.specs.Saved.{Saved};
+ghost use Rattle.dm_store.specs.Saved.{Loads, Saved};
 ghost use Rattle.dm_assembly_desk.specs.Documents.{Documents};
 ghost use Rattle.dm_assembly_desk.specs.Looking.{IsFirstFrom};
 ghost use Rattle.dm_assembly_desk.specs.declared.fault.MoveFault.{MoveFault};
-ghost use Rattle.relay_shared.specs.Telling.{Puts, Tells};
+ghost use Rattle.relay_shared.specs.Telling.{Puts};
 ghost use Rattle.relay_desk_commands.specs.Desks.{desk_at};
 ghost use Rattle.relay_desk_commands.specs.Held.{
   EndsHeld,
@@ -17,9 +16,7 @@ ghost use Rattle.relay_desk_commands.specs.Held.{
   TellsAll,
   TellsHeld,
   TellsOne,
-  asked_status,
   documents_in,
-  found_line,
   joint_line,
   seen_line,
 };
@@ -35,20 +32,25 @@ use relay_shared::{
     EndedDesk, Refusal, Streams, put_held, put_unsound, put_unsound_joint, refuse, status_after,
 };
 use relay_streams::{Output, WriteFault};
+use std::alloc::Allocator;
 use std::io::{Read, Write};
 
 // What was read of the file of an older version: its documents, if there is one, or why it is not sound.
 type SeenJoint<'a> = Result<Option<JointFile<'a>>, MoveFault>;
 
-// The documents that the bytes are the file of. They may be its first bytes, one more than the greatest has.
-fn read_joint(bytes: &[u8]) -> SeenJoint<'_>
-    ensures { (saved : Saved)
-        → (IsTrue saved.is_honest → Some bytes.entry.now ≡ option_map (take (MOST_JOINT_FILE_BYTES + 1)) saved.content)
+// What the file of an older version is, by what was loaded of it: its bytes, or its first, one more than the greatest
+// has.
+fn joint_in<A: Allocator>(loaded: &Result<Option<Vec<u8, A>>, LoadFault>) -> SeenJoint<'_>
+    ensures { (saved after : Saved) → Loads (λ bytes. bytes.items) saved MOST_JOINT_FILE_BYTES loaded.entry.now after
         → SeesJoint saved result }
 {
-    match JointFile::read(bytes) {
-        Ok(documents) => Ok(Some(documents)),
-        Err(fault) => Err(fault),
+    match loaded {
+        Ok(found) => match found {
+            Some(bytes) => Ok(Some(JointFile::read(bytes)?)),
+            None => Ok(None),
+        },
+        Err(LoadFault::Device) => Err(MoveFault::Device),
+        Err(LoadFault::Memory) => Err(MoveFault::Memory),
     }
 }
 
@@ -82,17 +84,10 @@ fn seen_at<T: StoreSet>(
         → SeesNumber (T.state set.old) joint number result }
     ensures count { IfOk result (λ seen. IfSome seen HasCount) }
 {
-    if is_there {
-        match held_at(set, number) {
-            Ok(None) => {}
-            Ok(Some(held)) => return Ok(Some(held)),
-            Err(fault) => return Err(fault),
-        }
+    if is_there && let Some(held) = held_at(set, number)? {
+        return Ok(Some(held));
     }
-    match first {
-        Some(held) if held.id.number() == number => Ok(Some(held)),
-        _ => Ok(None),
-    }
+    Ok(first.filter(|held| held.id.number() == number))
 }
 
 // Writes the line of what was seen of a number, if there is one.
@@ -128,17 +123,13 @@ fn next_from(joint: &SeenJoint<'_>, first: Option<Held>, number: u32) -> Option<
     Some(held)
 }
 
-// Writes the line of the file of an older version, if it is not sound, and says whether it is not.
-fn put_joint<W: Write>(output: &mut Output<W>, joint: &SeenJoint<'_>) -> Result<bool, WriteFault>
-    ensures puts { Puts (joint_line joint.now) output.old result output.new }
-    ensures unsound { IfOk result (λ unsound. unsound ≡ is_err joint.now) }
+// Writes the line of the file of an older version, if it is not sound.
+fn put_joint<W: Write>(output: &mut Output<W>, joint: &SeenJoint<'_>) -> Result<(), WriteFault>
+    ensures { Puts (joint_line joint.now) output.old result output.new }
 {
     match joint {
-        Ok(_) => Ok(false),
-        Err(fault) => {
-            put_unsound_joint(output, fault.name())?;
-            Ok(true)
-        }
+        Ok(_) => Ok(()),
+        Err(fault) => put_unsound_joint(output, fault.name()),
     }
 }
 
@@ -157,7 +148,8 @@ fn put_list<T: StoreSet, W: Write>(
     ensures cut { OnErr result
         (CutsList (record { set = T.state set.old; joint = joint.now }) output.old output.new) }
 {
-    let mut unsound = put_joint(output, joint)?;
+    put_joint(output, joint)?;
+    let mut unsound = joint.is_err();
     let mut first = first_from(joint, 0);
     for number in 0..65_536u32 {
         let key = number as u16;
@@ -185,23 +177,6 @@ fn tell_all<T: StoreSet, W: Write>(set: &mut T, output: &mut Output<W>, joint: &
     }
 }
 
-// Tells what was found of a document.
-fn tell_found<W: Write>(output: &mut Output<W>, joint: &SeenJoint<'_>, found: Option<Held>) -> u8
-    requires { IfSome found HasCount }
-    ensures { Tells (found_line joint.now found) (asked_status (Ok found)) output.old output.new result }
-{
-    match found {
-        Some(held) => status_after(put_held(output, held)),
-        None => match joint {
-            Ok(_) => refuse(output, AskFault::NotHeld.name()),
-            Err(fault) => {
-                let _ = put_unsound_joint(output, fault.name());
-                1
-            }
-        },
-    }
-}
-
 // Tells what is held of one document.
 fn tell_one<T: StoreSet, W: Write>(
     set: &mut T,
@@ -215,27 +190,18 @@ fn tell_one<T: StoreSet, W: Write>(
     let number = id.number();
     let first = first_from(joint, number as u32);
     match seen_at(set, true, first, number) {
-        Ok(found) => tell_found(output, joint, found),
+        Ok(Some(held)) => status_after(put_held(output, held)),
+        Ok(None) => match joint {
+            Ok(_) => refuse(output, AskFault::NotHeld.name()),
+            Err(fault) => {
+                let _ = put_unsound_joint(output, fault.name());
+                1
+            }
+        },
         Err(fault) => {
             let _ = put_unsound(output, number, fault.name());
             1
         }
-    }
-}
-
-// Tells what is held of one document, or of all.
-fn tell<T: StoreSet, W: Write>(
-    set: &mut T,
-    output: &mut Output<W>,
-    joint: SeenJoint<'_>,
-    id: Option<FileId>,
-) -> u8
-    ensures same { T.state set.new ≡ T.state set.old }
-    ensures tells { TellsHeld (record { set = T.state set.old; joint = joint.entry }) id output.old result output.new }
-{
-    match id {
-        None => tell_all(set, output, &joint),
-        Some(id) => tell_one(set, output, &joint, id),
     }
 }
 
@@ -251,11 +217,11 @@ fn load_and_tell<S: Store, T: StoreSet, W: Write>(
     ensures tells { (joint : Result (Option Documents) MoveFault) × SeesJoint (S.state store.old) joint
         × TellsHeld (record { set = T.state set.old; joint = joint }) id output.old result output.new }
 {
-    match store.load(MOST_JOINT_FILE_BYTES) {
-        Ok(Some(bytes)) => tell(set, output, read_joint(&bytes), id),
-        Ok(None) => tell(set, output, Ok(None), id),
-        Err(LoadFault::Device) => tell(set, output, Err(MoveFault::Device), id),
-        Err(LoadFault::Memory) => tell(set, output, Err(MoveFault::Memory), id),
+    let loaded = store.load(MOST_JOINT_FILE_BYTES);
+    let joint = joint_in(&loaded);
+    match id {
+        None => tell_all(set, output, &joint),
+        Some(id) => tell_one(set, output, &joint, id),
     }
 }
 

@@ -1,6 +1,6 @@
 //! `relay scan`: labels gathered at a desk.
 
-ghost use Rattle.std.specs.Prelude.{◌≡◌, false, true};
+ghost use Rattle.std.specs.Prelude.{◌≡◌, false};
 ghost use Rattle.dm_assembly_desk.specs.Documents.{KeepsPages};
 ghost use Rattle.dm_assembly_desk.specs.Views.{IsInOrder};
 ghost use Rattle.relay_desk_commands.specs.Desks.{desk_at};
@@ -20,14 +20,6 @@ use relay_shared::{
 use relay_streams::{Output, WriteFault};
 use std::alloc::Allocator;
 use std::io::{Read, Write};
-
-// Whether the fault is that of a save, after which the desk answers no more.
-fn is_save(fault: ScanFault) -> bool
-    ensures yes { result ≡ true → fault ≡ ScanFault.Save }
-    ensures no { result ≡ false → fault ≡ ScanFault.Save → ⊥ }
-{
-    matches!(fault, ScanFault::Save)
-}
 
 // The identification of a label, if the grid opens as one.
 fn id_of_label<A: Allocator + Copy>(alloc: A, grid: &Grid<A>) -> Option<FileId> {
@@ -75,7 +67,7 @@ impl<'a, T: StoreSet, A: Allocator + Copy, N: Notes> OnImages<A> for Scanning<'a
                 output.put_refusal(fault.name())?;
                 self.notes
                     .note(number, id_of_label(alloc, &grid), fault.name());
-                let last = is_save(fault);
+                let last = matches!(fault, ScanFault::Save);
                 Ok(Answered { last, ..REFUSED })
             }
         }

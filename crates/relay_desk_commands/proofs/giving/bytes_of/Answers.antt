@@ -1,27 +1,19 @@
 use Rattle.std.specs.FinMap as map
-use Rattle.relay_desk_commands.proofs.Asked.{asked, exported, not_asked, not_exported}
+use Rattle.dm_assembly_desk.specs.Asking.{Asks}
+use Rattle.dm_assembly_desk.specs.Exporting.{Exports}
+use Rattle.relay_desk_commands.proofs.Asked.{asked, exported, named}
 use Rattle.relay_desk_commands.proofs.giving.bytes_of.Goals as goal
 
-pub returns-in-Ok : goal.returns-in-Ok
-returns-in-Ok g c =
+pub returns-in-Document : goal.returns-in-Document
+returns-in-Document g c =
     let found = map.get c.args.desk.now.held c.args.id in
-    rw c.in-Document.is (asked _ found c.in-Ok.document c.in-Ok.ensures.asks)
+    rw c.in-Document.is
+    (named _ _ (λ answer. Asks (λ bytes. bytes) found answer) _ _ c.map_err.ensures.cases
+    (asked _ found _ c.document.ensures.asks))
 
-pub returns-in-Err : goal.returns-in-Err
-returns-in-Err g c =
+pub returns-in-File : goal.returns-in-File
+returns-in-File g c =
     let found = map.get c.args.desk.now.held c.args.id in
-    rw c.in-Document.is (c.in-Err.fault, not_asked _ found c.in-Err.fault c.in-Err.ensures.asks, c.name.ensures)
-
-pub returns-in-Ok-export : goal.returns-in-Ok-export
-returns-in-Ok-export g c =
-    let found = map.get c.args.desk.now.held c.args.id in
-    rw c.in-File.is (exported _ c.args.id found c.in-Ok-export.file c.in-Ok-export.ensures.exports)
-
-pub returns-in-Err-export : goal.returns-in-Err-export
-returns-in-Err-export g c =
-    let found = map.get c.args.desk.now.held c.args.id in
-    rw c.in-File.is (
-      c.in-Err-export.fault,
-      not_exported _ c.args.id found c.in-Err-export.fault c.in-Err-export.ensures.exports,
-      c.name-in-Err-export.ensures,
-    )
+    rw c.in-File.is
+    (named _ _ (λ answer. Exports (λ bytes. bytes) c.args.id found answer) _ _ c.map_err-in-File.ensures.cases
+    (exported _ c.args.id found _ c.export.ensures.exports))

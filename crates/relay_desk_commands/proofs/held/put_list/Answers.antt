@@ -11,8 +11,8 @@ use Rattle.relay_desk_commands.proofs.held.put_list.Goals as goal
 pub loop-number-init : goal.loop-number-init
 loop-number-init g c = record {
   written = first_line (record { set = g.T.StoreSet.state c.args.set.now; joint = c.args.joint.now })
-      c.in_ok-unsound.unsound c.args.output.now c.put_joint.new.output c.in_ok-unsound.ensures.unsound
-      c.in_ok-unsound.ensures.puts.written;
+      c.is_err-unsound.result c.args.output.now c.put_joint.new.output c.is_err-unsound.ensures.value
+      c.in_ok-put_joint.ensures.written;
   same = refl;
   first = c.first_from-first.ensures.first;
   count = c.first_from-first.ensures.count;
@@ -44,11 +44,11 @@ loop-number-preserved g c =
       count = c.next_from-first.ensures.count;
     }
 
-pub returns-in_err-unsound-clause-cut : goal.returns-in_err-unsound-clause-cut
-returns-in_err-unsound-clause-cut g c =
+pub returns-in_err-put_joint-clause-cut : goal.returns-in_err-put_joint-clause-cut
+returns-in_err-put_joint-clause-cut g c =
     let last = err_from_is_err_and c.from_residual.result c.from_residual.ensures.1 in
     rw last.1 (cut_before (record { set = g.T.StoreSet.state c.args.set.now; joint = c.args.joint.now })
-    c.args.output.now c.put_joint.new.output c.in_err-unsound.ensures.puts.failed c.in_err-unsound.ensures.puts.part)
+    c.args.output.now c.put_joint.new.output c.in_err-put_joint.ensures.failed c.in_err-put_joint.ensures.part)
 
 pub returns-in_err-put_seen-clause-cut : goal.returns-in_err-put_seen-clause-cut
 returns-in_err-put_seen-clause-cut g c =

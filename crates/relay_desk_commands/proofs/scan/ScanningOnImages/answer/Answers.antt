@@ -1,7 +1,8 @@
-use Rattle.std.proofs.Common.{Err, ap, refl, sym}
+use Rattle.std.proofs.Common.{Ok, Err, ap, refl, sym, ◌∙◌}
 use Rattle.std.proofs.lemmas.Result.{err_from_is_err_and}
 use Rattle.relay_desk_commands.specs.Scan.ScansPicture.{accepted, refused}
-use Rattle.relay_desk_commands.proofs.ScanLaws.{no_grid, runs_after, saved_or_failed}
+use Rattle.relay_desk_commands.proofs.ScanLaws.{after_scan, no_grid, no_save}
+use Rattle.relay_desk_commands.proofs.scan.ScanningOnImages.answer.Goals.{in-Save, in_default}
 use Rattle.relay_desk_commands.proofs.scan.ScanningOnImages.answer.Goals as goal
 
 pub returns-in-Err-clause-answer : goal.returns-in-Err-clause-answer
@@ -25,7 +26,7 @@ pub returns-in-Ok-accept-clause-answer : goal.returns-in-Ok-accept-clause-answer
 returns-in-Ok-accept-clause-answer g c =
     let accepts = c.in-Ok-accept.ensures.scanned c.requires.running in
     let inside = c.in-Ok.ensures.grid in
-    let runs = runs_after accepts.opened c.in-Ok-accept.accepted _ c.accept.new.self c.requires.running accepts.scans in
+    let runs = after_scan accepts.opened _ (Ok c.in-Ok-accept.accepted) c.accept.new.self c.requires.running accepts.scans in
     record {
       said = _;
       answers = accepted c.in-Ok.grid c.in-Ok-accept.accepted inside.0 inside.1 accepts;
@@ -46,15 +47,18 @@ returns-in_err-put_accepted-in-Ok-accept-clause-answer g c =
 
 pub returns-clause-answer : goal.returns-clause-answer
 returns-clause-answer g c =
+    let fault = c.in-Err-accept.fault in
     let accepts = c.in-Err-accept.ensures.scanned c.requires.running in
     let inside = c.in-Ok.ensures.grid in
-    let put = c.in_ok-put_refusal-in-Err-accept.ensures.written in
-    let ends = saved_or_failed accepts.opened c.in-Err-accept.fault _ c.accept.new.self c.is_save-last.result
-    c.requires.running c.is_save-last.ensures.yes c.is_save-last.ensures.no accepts.scans in
+    let line = rw c.name-in-Err-accept.ensures at c.in_ok-put_refusal-in-Err-accept.ensures.written in
+    let ends = after_scan accepts.opened _ (Err fault) c.accept.new.self c.requires.running accepts.scans in
     record {
       said = _;
-      answers = refused c.in-Ok.grid c.in-Err-accept.fault inside.0 inside.1 accepts;
-      told = (rw c.name-in-Err-accept.ensures at put, refl, ends);
+      answers = refused c.in-Ok.grid fault inside.0 inside.1 accepts;
+      told = elim c.match-matches.branch [
+        | in-Save w ↦ rw w.result-is (line, refl, rw w.in-Save.is at (sym ends))
+        | in_default w ↦ rw w.result-is (line, refl, sym (ends ∙ no_save fault w.in_default.not-Save))
+      ];
     }
 
 pub returns-in_err-put_refusal-in-Err-accept-clause-answer : goal.returns-in_err-put_refusal-in-Err-accept-clause-answer
