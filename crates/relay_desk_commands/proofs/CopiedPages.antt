@@ -15,15 +15,9 @@ use Rattle.dm_append_label.specs.declared.fault.LabelFault.{LabelFault}
 use Rattle.dm_append_label.specs.declared.fault.LabelFault.TheVariants as labels
 use Rattle.dm_append_label.specs.declared.opening.Opened.{Opened}
 use Rattle.dm_assembly_desk.specs.Documents.{Documents}
-use Rattle.relay_desk_commands.specs.Copy.{Copies, HasCopyFault, OpensAsHeld, OpensAsNoOther}
+use Rattle.relay_desk_commands.specs.Copy.{Copies, OpensAsHeld, OpensAsNoOther}
 use Rattle.relay_desk_commands.specs.declared.copy.AskedPage.{AskedPage}
-use Rattle.relay_desk_commands.specs.declared.copy.CopyFault.TheVariants.{Memory}
 use Rattle.relay_desk_commands.specs.declared.copy.LabelForm.{LabelForm}
-
--- a label that was made has room for its page, so that nothing but memory can keep its image back
-pub fits_there : (held : Documents) (asked : AskedPage) (form : LabelForm) (grid : GridView)
-    → Copies held asked form grid → HasCopyFault held asked form Memory
-fits_there held asked form grid c = rw c.is_held.bytes_are c.label.fits
 
 near_itself : (grid : GridView) → IsNear grid grid
 near_itself grid = record {

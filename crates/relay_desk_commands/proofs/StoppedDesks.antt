@@ -1,6 +1,6 @@
 -- Why a stop leaves the files of a desk whose command is done: no save of the desk failed then, so its set holds just
 -- the files of what it holds, and of such a desk it is known what a stop leaves.
-use Rattle.std.proofs.Common.{◌≡◌, inl, inr, ℕ, List, Bool, true, false, Option, Some, None, Result, Ok, Err}
+use Rattle.std.proofs.Common.{◌≡◌, inl, inr, ℕ, List, true, false, Option, Some, None, Ok, Err}
 use Rattle.std.proofs.Common.{refl, sym, ap, ◌∙◌}
 use Rattle.std.specs.Prelude.{option_map}
 use Rattle.std.proofs.lemmas.Bool.{or_parts}
@@ -9,24 +9,14 @@ use Rattle.std.specs.FinMap.{get}
 use Rattle.dm_store.specs.Disk.{Content}
 use Rattle.dm_store.specs.Left.{SetLeft}
 use Rattle.dm_pbm_io.specs.Image.{Picture}
-use Rattle.dm_assembly_desk.specs.FaultNames.{forget_fault_name, import_fault_name, scan_fault_name}
+use Rattle.dm_assembly_desk.specs.FaultNames.{scan_fault_name}
 use Rattle.dm_assembly_desk.specs.Files.{file}
-use Rattle.dm_assembly_desk.specs.Forgetting.{Forgets}
-use Rattle.dm_assembly_desk.specs.Importing.{ChangesByFile, ImportsBytes, IsReadAs}
 use Rattle.dm_assembly_desk.specs.Lasting.{IsKept}
 use Rattle.dm_assembly_desk.specs.Pages.{Pages}
 use Rattle.dm_assembly_desk.specs.Views.{DeskView}
-use Rattle.dm_assembly_desk.specs.declared.fault.ForgetFault.{ForgetFault}
-use Rattle.dm_assembly_desk.specs.declared.fault.ImportFault.{ImportFault}
 use Rattle.dm_assembly_desk.specs.declared.fault.ScanFault.{ScanFault}
 use Rattle.dm_assembly_desk.specs.declared.fault.ScanFault.TheVariants as faults
-use Rattle.dm_assembly_desk.specs.declared.reply.Imported.{Imported}
-use Rattle.dm_assembly_desk.specs.declared.reply.Kind.{Kind}
-use Rattle.dm_assembly_desk.specs.declared.reply.Kind.TheVariants.{New, Again, Complete}
-use Rattle.relay_streams.specs.Streams.{OutputView}
 pub use Rattle.relay_shared.proofs.Telling.{refused_by as refused}
-use Rattle.relay_shared.specs.DeskLines.{forgotten_line, imported_line}
-use Rattle.relay_shared.specs.Telling.{TellsAnswer}
 use Rattle.relay_shared.specs.EachImage.{AnswersImages, EndsImages, Said, SoFar, Step, Taken, TellsImages}
 use Rattle.relay_shared.specs.EachImage.{progress_at, refusal_of}
 use Rattle.relay_shared.specs.EachImage.AnswersImages.{none as no_images, another}
@@ -54,41 +44,6 @@ pub leaves_files : (desk : DeskView) (left : SetLeft) → IsKept desk left → d
 leaves_files desk left kept running durable key bytes is =
     file_left left key bytes (get desk.held key) (sym is ∙ (kept.order.saved running durable.0).files key)
     (λ pages held content leaves. kept.lasts.running running durable key pages held content leaves)
-
--- ---- a command that is done
-
-pub not_done : {P : Type 0} (status : ℕ) → status ≡ 1 → status ≡ 0 → P
-not_done status is zero = absurd cc
-
-pub forget_done : (id : ℕ) (before : DeskView) (reply : Result (Unit {0}) ForgetFault) (after : DeskView)
-    (old : OutputView) (status : ℕ) (new : OutputView) → Forgets id before reply after
-    → TellsAnswer (λ _. forgotten_line id) forget_fault_name reply old status new → status ≡ 0 → after.is_failed ≡ false
-forget_done id before (Ok _) after old status new lets_go tells zero = lets_go.holding.running
-forget_done id before (Err fault) after old status new lets_go tells zero = not_done status (refused tells) zero
-
-changed_file : (kind : Kind) (id : ℕ) (pages : Pages) (before after : DeskView) → before.is_failed ≡ false
-    → ChangesByFile kind id pages before after → after.is_failed ≡ false
-changed_file Again id pages before after running same = cc
-changed_file New id pages before after running keeps = keeps.holding.running
-changed_file Complete id pages before after running keeps = keeps.holding.running
-
-imported : (bytes : List ℕ) (before : DeskView) (reply : Imported) (after : DeskView) → before.is_failed ≡ false
-    → ImportsBytes bytes before (Ok reply) after → after.is_failed ≡ false
-imported bytes before reply after running takes =
-    elim takes.read as (λ read. IsReadAs bytes read → after.is_failed ≡ false) [
-      | Ok found ↦ λ is.
-          changed_file reply.kind found.0 found.1 before after running (takes.spelled found.0 found.1 is).2
-      | Err fault ↦ λ is. absurd (let not = (takes.faulty fault is).0 in cc)
-    ] takes.is_read
-
-pub import_done : (bytes : List ℕ) (before : DeskView) (reply : Result Imported ImportFault) (after : DeskView)
-    (old : OutputView) (status : ℕ) (new : OutputView) → before.is_failed ≡ false
-    → ImportsBytes bytes before reply after → TellsAnswer imported_line import_fault_name reply old status new
-    → status ≡ 0 → after.is_failed ≡ false
-import_done bytes before (Ok reply) after old status new running takes tells zero =
-    imported bytes before reply after running takes
-import_done bytes before (Err fault) after old status new running takes tells zero =
-    not_done status (refused tells) zero
 
 -- ---- a scan
 

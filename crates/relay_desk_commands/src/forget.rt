@@ -20,6 +20,7 @@ use std::alloc::Allocator;
 use std::io::{Read, Write};
 
 // Forgets a document, and writes the line of it.
+#[tactic(auto, using(relay_shared::proofs::Telling::told))]
 fn forget<A: Allocator + Copy, T: StoreSet, W: Write>(
     desk: &mut Desk<T, A>,
     output: &mut Output<W>,

@@ -23,6 +23,7 @@ use std::io::{Read, Write};
 pub const IMPORT_BYTES: usize = 41_643;
 
 // Imports a file, and writes the line of it.
+#[tactic(auto, using(relay_shared::proofs::Telling::told))]
 fn import<A: Allocator + Copy, T: StoreSet, W: Write>(
     desk: &mut Desk<T, A>,
     output: &mut Output<W>,

@@ -1,6 +1,5 @@
 use Rattle.std.proofs.Common.{refl}
 use Rattle.relay_desk_commands.specs.Desks.EndsForget.{no_id, no_desk, opened}
-use Rattle.relay_desk_commands.proofs.StoppedDesks as stopped
 use Rattle.relay_desk_commands.proofs.forget.forget_command.Goals as goal
 
 pub returns-in_default-clause-ends : goal.returns-in_default-clause-ends
@@ -18,15 +17,3 @@ returns-clause-ends g c =
     rw (c.end.ensures.status, c.end.ensures.store, c.end.ensures.set, ← c.streams.view_is)
     (opened c.in-Some.id c.in-Ok.opened.desk c.forget-status.new.desk told.0 c.in-Some.ensures.0 c.in-Some.ensures.1
     c.in-Ok.ensures.0 told.1 refl (rw c.in-Ok.ensures.1 at told.2) refl)
-
-pub returns-in_default-clause-lasts : goal.returns-in_default-clause-lasts
-returns-in_default-clause-lasts g c = stopped.not_done _ (stopped.refused c.refuse-status.ensures)
-
-pub returns-in-Err-clause-lasts : goal.returns-in-Err-clause-lasts
-returns-in-Err-clause-lasts g c = stopped.not_done _ (stopped.refused c.in-Err.ensures.2)
-
-pub returns-clause-lasts : goal.returns-clause-lasts
-returns-clause-lasts g c =
-    let told = c.forget-status.ensures in
-    rw (c.end.ensures.status, c.end.ensures.set) (λ zero. stopped.leaves_files _ _ c.end.ensures.kept
-    (stopped.forget_done _ _ told.0 _ _ _ _ told.1 told.2 zero))

@@ -1,7 +1,7 @@
 -- Each turn adds the line of one number; the set stays as it was, so what is seen is seen of the set at first.
 use Rattle.std.proofs.Common.{◌≡◌, ◌∙◌, refl, subst, arith}
 use Rattle.std.proofs.lemmas.Result.{err_from_is_err_and}
-use Rattle.std.specs.Prelude.{IsTrue, is_err}
+use Rattle.std.specs.Prelude.{is_err}
 use Rattle.dm_store.specs.Sets.{SavedSet}
 use Rattle.relay_desk_commands.specs.Held.{SeenFiles, SeesNumber, documents_in}
 use Rattle.relay_desk_commands.proofs.HeldLists.{first_line, one_more, cut_before, cut_in}
@@ -17,12 +17,6 @@ loop-number-init g c = record {
   first = c.first_from-first.ensures.first;
   count = c.first_from-first.ensures.count;
 }
-
-pub seen_at-seen-requires-clause-absent : goal.seen_at-seen-requires-clause-absent
-seen_at-seen-requires-clause-absent g c = λ absent honest.
-    let same = c.loop-number.invariant.same in
-    rw same (c.is_listed.ensures (g.T.StoreSet.state c.args.set.now).content
-    (c.requires (subst (λ (s : SavedSet). IsTrue s.is_honest) same honest)) absent)
 
 pub loop-number-preserved : goal.loop-number-preserved
 loop-number-preserved g c =

@@ -1,6 +1,5 @@
 use Rattle.std.proofs.Common.{Err, ap, refl}
 use Rattle.relay_desk_commands.specs.Desks.EndsImport.{not_read, no_desk, opened}
-use Rattle.relay_desk_commands.proofs.StoppedDesks as stopped
 use Rattle.relay_desk_commands.proofs.import.import_command.Goals as goal
 
 pub returns-in-Err-clause-ends : goal.returns-in-Err-clause-ends
@@ -20,15 +19,3 @@ returns-clause-ends g c =
     (opened c.in-Ok.bytes.items c.in-Ok-open_desk.opened.desk c.import-status.new.desk told.0 c.in-Ok.ensures.taken
     c.in-Ok-open_desk.ensures.0 (rw c.deref.ensures.value at told.1) refl
     (rw c.in-Ok-open_desk.ensures.1 at told.2) refl)
-
-pub returns-in-Err-clause-lasts : goal.returns-in-Err-clause-lasts
-returns-in-Err-clause-lasts g c = stopped.not_done _ (stopped.refused c.refuse-status.ensures)
-
-pub returns-in-Err-open_desk-clause-lasts : goal.returns-in-Err-open_desk-clause-lasts
-returns-in-Err-open_desk-clause-lasts g c = stopped.not_done _ (stopped.refused c.in-Err-open_desk.ensures.2)
-
-pub returns-clause-lasts : goal.returns-clause-lasts
-returns-clause-lasts g c =
-    let told = c.import-status.ensures in
-    rw (c.end.ensures.status, c.end.ensures.set) (λ zero. stopped.leaves_files _ _ c.end.ensures.kept
-    (stopped.import_done _ _ told.0 _ _ _ _ c.in-Ok-open_desk.ensures.0.opens.running told.1 told.2 zero))

@@ -1,5 +1,4 @@
 use Rattle.std.proofs.Common.{refl}
-use Rattle.relay_desk_commands.specs.Lasting.ScanLeaves.{nothing_read}
 use Rattle.relay_desk_commands.specs.Scan.EndsScan.{no_desk, opened}
 use Rattle.relay_desk_commands.proofs.StoppedDesks as stopped
 use Rattle.relay_desk_commands.proofs.scan.scan_with_notes.Goals as goal
@@ -15,10 +14,6 @@ returns-clause-ends g c =
     let kept = c.each_image-status.ensures.kept in
     rw (← c.streams.view_is) (opened c.in-Ok.opened.desk c.each_image-status.new.command.desk c.in-Ok.ensures.0 told
     kept.0 (kept.1 c.in-Ok.ensures.2) c.close-set.ensures.state refl)
-
-pub returns-in-Err-clause-lasts : goal.returns-in-Err-clause-lasts
-returns-in-Err-clause-lasts g c =
-    rw (← c.streams.view_is) (nothing_read (stopped.refused c.in-Err.ensures.2) refl)
 
 pub returns-clause-lasts : goal.returns-clause-lasts
 returns-clause-lasts g c =
