@@ -73,9 +73,13 @@ is_desk _ = false
 -- such work needs the folder that its path lies in
 abbrev pub needs_folder_above : Work → Bool
 needs_folder_above works.Nothing = false
+needs_folder_above works.MakesLedger = true
 needs_folder_above works.SavesLedger = false
 needs_folder_above works.ReadsLedger = false
-needs_folder_above _ = true
+needs_folder_above works.Gathers = true
+needs_folder_above works.Forgets = true
+needs_folder_above works.Reads = true
+needs_folder_above works.Looks = true
 
 -- the first reason that there is
 abbrev pub first_reason : List (Bool × WorkplaceFault) → Option WorkplaceFault
@@ -101,7 +105,9 @@ is_done_over_nothing works.MakesLedger no_room sight = false
 is_done_over_nothing works.SavesLedger no_room sight = is_absent sight.file
 is_done_over_nothing works.ReadsLedger no_room sight = is_absent sight.file
 is_done_over_nothing works.Gathers no_room sight = no_room && not (has_documents sight.file)
-is_done_over_nothing _ no_room sight = is_absent sight.file && is_absent sight.folder
+is_done_over_nothing works.Forgets no_room sight = is_absent sight.file && is_absent sight.folder
+is_done_over_nothing works.Reads no_room sight = is_absent sight.file && is_absent sight.folder
+is_done_over_nothing works.Looks no_room sight = is_absent sight.file && is_absent sight.folder
 
 -- What is locked for such work: a ledger itself, and of a desk its folder. Work that only reads is locked if it is to
 -- move the documents of a joint file first.

@@ -56,7 +56,10 @@ group_of_work works.Nothing = groups.Streams
 group_of_work works.MakesLedger = groups.Ledger
 group_of_work works.SavesLedger = groups.Ledger
 group_of_work works.ReadsLedger = groups.Ledger
-group_of_work _ = groups.Desk
+group_of_work works.Gathers = groups.Desk
+group_of_work works.Forgets = groups.Desk
+group_of_work works.Reads = groups.Desk
+group_of_work works.Looks = groups.Desk
 
 abbrev pub group_of_command : Command → Group
 group_of_command command = group_of_work (row_of_command command).work

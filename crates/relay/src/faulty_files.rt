@@ -34,10 +34,9 @@ pub(crate) fn name_odd_place<R: AllocGlobal + Eprint + Files>(rt: &R, command: C
 
 /// Says on the standard error which file of a command can't be locked.
 pub(crate) fn name_lock<R: AllocGlobal + Eprint + Files>(rt: &R, command: Command) {
-    let Ok(place) = Workplace::of(rt, command) else {
-        return;
-    };
-    if let Plan::OverFiles(Some(locked)) = plan_of(command, place.sight) {
+    if let Ok(place) = Workplace::of(rt, command)
+        && let Plan::OverFiles(Some(locked)) = plan_of(command, place.sight)
+    {
         let path = place.path_of(locked);
         let _ = eprint!(rt; "relay: {path}.lock: Lock\n");
     }
@@ -77,14 +76,10 @@ fn name_joint_file<R: AllocGlobal + Eprint + Files>(rt: &R, file: &str) -> Resul
         Kept::Old,
     );
     let mut set = FuseSet::new(MemSet::new(alloc), 0, Kept::Old);
-    let answer = move_pages(alloc, &mut old, &mut set);
-    match answer {
+    match move_pages(alloc, &mut old, &mut set) {
         Ok(_) | Err(MoveFault::Memory) => {}
-        Err(fault) => {
-            if !old.spent() && !set.spent() {
-                name_file(rt, file, fault.name());
-            }
-        }
+        Err(_) if old.spent() || set.spent() => {}
+        Err(fault) => name_file(rt, file, fault.name()),
     }
     Ok(())
 }
@@ -92,9 +87,7 @@ fn name_joint_file<R: AllocGlobal + Eprint + Files>(rt: &R, file: &str) -> Resul
 // Why the bytes are no file of pages under this key, if they are none.
 fn fault_of(alloc: Global, key: u16, bytes: &[u8]) -> Option<DeskFault> {
     let mut set = MemSet::new(alloc);
-    if set.replace(key, bytes).is_err() {
-        return None;
-    }
+    set.replace(key, bytes).ok()?;
     match Desk::open(alloc, set, MOST_CAPACITY) {
         Ok(_) => None,
         Err(refused) => Some(refused.fault),
@@ -131,8 +124,12 @@ fn name_pages<R: AllocGlobal + Eprint + Files + Clone + Drop>(
     Ok(())
 }
 
-// Names the files at fault.
-fn name_files<R: AllocGlobal + Eprint + Files + Clone + Drop>(
+/// Names on the standard error each file that a refused command could not use, as `relay: FILE: NAME`. It saves
+/// nothing.
+///
+/// # Errors
+/// Memory was refused; nothing more is said then.
+pub(crate) fn name_faulty_files<R: AllocGlobal + Eprint + Files + Clone + Drop>(
     rt: &R,
     place: &Workplace,
     command: Command,
@@ -145,14 +142,4 @@ fn name_files<R: AllocGlobal + Eprint + Files + Clone + Drop>(
             name_pages(rt, place.folder.as_str())
         }
     }
-}
-
-/// Names on the standard error each file that a refused command could not use, as `relay: FILE: NAME`. It saves
-/// nothing, and says nothing more where memory is refused.
-pub(crate) fn name_faulty_files<R: AllocGlobal + Eprint + Files + Clone + Drop>(
-    rt: &R,
-    place: &Workplace,
-    command: Command,
-) {
-    let _ = name_files(rt, place, command);
 }

@@ -3,7 +3,7 @@
 ghost use Rattle.std.specs.Prelude.{◌≡◌, ◌++◌, IfOk, codes, string_bytes};
 
 use crate::plan::WorkplaceFault;
-use std::alloc::{AllocError, Global};
+use std::alloc::Global;
 use std::fs;
 use std::fs::{File, Metadata, OpenOptions, TryLockError};
 use std::io::ErrorKind;
@@ -21,15 +21,6 @@ pub(crate) struct Lock {
 // Whether both are of one file.
 fn is_same(one: &Metadata, other: &Metadata) -> bool {
     (one.dev(), one.ino()) == (other.dev(), other.ino())
-}
-
-// A path with an ending.
-fn with_ending(alloc: Global, path: &str, ending: &str) -> Result<String, AllocError>
-    ensures { IfOk result (λ text. string_bytes text ≡ path.now ++ ending.now) }
-{
-    let mut text = String::from_str(alloc, path)?;
-    text.push_str(ending)?;
-    Ok(text)
 }
 
 // Opens the plain file at `path`, if it may be opened.
@@ -58,10 +49,7 @@ fn open_lock<R: Files>(rt: &R, path: &str) -> Result<R::File, WorkplaceFault> {
             _ => {}
         },
     }
-    match open_plain(rt, path) {
-        Some(file) => Ok(file),
-        None => Err(WorkplaceFault::Lock),
-    }
+    open_plain(rt, path).ok_or(WorkplaceFault::Lock)
 }
 
 impl Lock {
@@ -78,7 +66,7 @@ impl Lock {
     ) -> Result<Lock, WorkplaceFault>
         ensures { IfOk result (λ lock. string_bytes lock.path ≡ path.now ++ codes ".lock") }
     {
-        let path = with_ending(alloc, path, ".lock")?;
+        let path = format!(in alloc; "{path}.lock")?;
         let file = open_lock(rt, path.as_str())?;
         match file.try_lock() {
             Ok(()) => {}

@@ -135,10 +135,7 @@ impl Found {
     fn has_documents(self) -> bool
         ensures { result ≡ has_documents self }
     {
-        match self {
-            Found::File { bytes, .. } => bytes > EMPTY_JOINT_FILE_BYTES,
-            _ => false,
-        }
+        matches!(self, Found::File { bytes, .. } if bytes > EMPTY_JOINT_FILE_BYTES)
     }
 }
 
@@ -157,10 +154,10 @@ pub(crate) struct Sight {
 fn needs_folder_above(work: Work) -> bool
     ensures { result ≡ needs_folder_above work }
 {
-    matches!(
-        work,
-        Work::MakesLedger | Work::Gathers | Work::Forgets | Work::Reads | Work::Looks
-    )
+    match work {
+        Work::Nothing | Work::SavesLedger | Work::ReadsLedger => false,
+        Work::MakesLedger | Work::Gathers | Work::Forgets | Work::Reads | Work::Looks => true,
+    }
 }
 
 // Why such work is refused by what was seen, if it is.

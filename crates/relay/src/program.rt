@@ -81,25 +81,18 @@ fn own_words<R: AllocGlobal + Env>(rt: &R) -> io::Result<Vec<String>> {
 
 // Says why the program's own words can't be had, and answers the exit status.
 fn show_word_fault<R: Print + Eprint>(rt: &R, error: &io::Error) -> u8 {
-    match error.kind() {
-        ErrorKind::OutOfMemory => refuse_on_errors(rt, "Memory"),
-        ErrorKind::InvalidData => {
-            let _ = eprint!(rt; "relay: a word of the command line is not UTF-8\n");
-            2
-        }
-        _ => {
-            let _ = eprint!(rt; "relay: the words of the command line can't be read\n");
-            2
-        }
-    }
+    let why = match error.kind() {
+        ErrorKind::OutOfMemory => return refuse_on_errors(rt, "Memory"),
+        ErrorKind::InvalidData => "a word of the command line is not UTF-8",
+        _ => "the words of the command line can't be read",
+    };
+    let _ = eprint!(rt; "relay: {why}\n");
+    2
 }
 
 // Whether a command is to name a file, and its path is empty.
 fn has_empty_path(command: Command) -> bool {
-    match work_of(command) {
-        Work::Nothing => false,
-        _ => file_of(command).is_empty(),
-    }
+    !matches!(work_of(command), Work::Nothing) && file_of(command).is_empty()
 }
 
 /// Does what the program's own words say over its own streams, and answers the exit status: that of the command, or 2

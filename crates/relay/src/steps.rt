@@ -168,8 +168,7 @@ fn run_locked<S: Steps>(
 {
     let lock = match locked {
         None => None,
-        Some(Locked::File) => Some(steps.lock(place, Locked::File)?),
-        Some(Locked::Folder) => Some(steps.lock(place, Locked::Folder)?),
+        Some(locked) => Some(steps.lock(place, locked)?),
     };
     let answer = run_with(steps, command, place, &lock);
     steps.unlock(lock);

@@ -4,7 +4,7 @@ ghost use Rattle.std.specs.Prelude.{◌≡◌};
 
 use crate::commands::do_command;
 use crate::faulty_files::{name_faulty_files, name_lock, name_missing_desk, name_odd_place};
-use crate::guard::{Guard, GuardedLines, GuardedSet, GuardedStore};
+use crate::guard::{Guard, Guarded};
 use crate::lock::Lock;
 use crate::plan::{Locked, WorkplaceFault};
 use crate::refused_images::RefusedImages;
@@ -90,26 +90,19 @@ impl<R: AllocGlobal + Print + Eprint + Files<File = File> + Clone, I: Read, W: W
 
     fn run(&mut self, place: &Workplace, lock: &Option<Lock>) -> Result<u8, WorkplaceFault> {
         let rt = self.rt;
+        let alloc = rt.alloc();
         let guard = Guard::new(rt, lock);
-        let ledger = FileStore::of_synced(
-            rt.alloc(),
-            RealDisk::new(rt.alloc(), rt),
-            place.file.clone()?,
-        );
-        let pages = FileSet::of_synced(
-            rt.alloc(),
-            RealDisk::new(rt.alloc(), rt),
-            place.folder.clone()?,
-        );
+        let ledger = FileStore::of_synced(alloc, RealDisk::new(alloc, rt), place.file.clone()?);
+        let pages = FileSet::of_synced(alloc, RealDisk::new(alloc, rt), place.folder.clone()?);
         let mut streams = Streams::new(
             &mut self.input,
-            GuardedLines::new(&guard, &mut self.writer),
-            GuardedLines::new(&guard, ErrorWriter::new(rt)),
+            Guarded::new(&guard, &mut self.writer),
+            Guarded::new(&guard, ErrorWriter::new(rt)),
         );
         let ended = do_command(
-            rt.alloc(),
-            GuardedStore::new(&guard, ledger),
-            GuardedSet::new(&guard, pages),
+            alloc,
+            Guarded::new(&guard, ledger),
+            Guarded::new(&guard, pages),
             &mut streams,
             &mut RefusedImages::new(rt, &guard),
             self.command,
@@ -158,7 +151,7 @@ impl<R: AllocGlobal + Print + Eprint + Files<File = File> + Clone, I: Read, W: W
     }
 
     fn name_faulty_files(&mut self, place: &Workplace) {
-        name_faulty_files(self.rt, place, self.command);
+        let _ = name_faulty_files(self.rt, place, self.command);
     }
 
     fn name_place(&mut self, fault: WorkplaceFault) {

@@ -49,10 +49,7 @@ fn followed<R: AllocGlobal + Files>(rt: &R, path: &str) -> Result<(String, Found
 // Whether no file can be made at the path: it ends in no name, or the folder that it lies in surely isn't there, or is
 // no folder.
 fn has_no_folder<R: Files>(rt: &R, path: &str) -> bool {
-    let name = match path.rsplit_once('/') {
-        Some((_, name)) => name,
-        None => path,
-    };
+    let name = path.rsplit_once('/').map_or(path, |(_, name)| name);
     if matches!(name, "" | "." | "..") {
         return true;
     }

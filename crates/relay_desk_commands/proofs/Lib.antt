@@ -3,5 +3,4 @@ pub mod ScanLaws
 pub mod LoadedJoint
 pub mod HeldLists
 pub mod CopiedPages
-pub mod WriteFaults
 pub mod StoppedDesks

@@ -1,5 +1,5 @@
--- Why a stop leaves the files of a desk whose command is done: no save of the desk failed then, so its set holds just
--- the files of what it holds, and of such a desk it is known what a stop leaves.
+-- Why a stop leaves the files of a desk after a scan whose answers name no save that failed: no save of the desk failed
+-- then, so its set holds just the files of what it holds, and of such a desk it is known what a stop leaves.
 use Rattle.std.proofs.Common.{◌≡◌, inl, inr, ℕ, List, true, false, Option, Some, None, Ok, Err}
 use Rattle.std.proofs.Common.{refl, sym, ap, ◌∙◌}
 use Rattle.std.specs.Prelude.{option_map}
@@ -16,7 +16,6 @@ use Rattle.dm_assembly_desk.specs.Pages.{Pages}
 use Rattle.dm_assembly_desk.specs.Views.{DeskView}
 use Rattle.dm_assembly_desk.specs.declared.fault.ScanFault.{ScanFault}
 use Rattle.dm_assembly_desk.specs.declared.fault.ScanFault.TheVariants as faults
-pub use Rattle.relay_shared.proofs.Telling.{refused_by as refused}
 use Rattle.relay_shared.specs.EachImage.{AnswersImages, EndsImages, Said, SoFar, Step, Taken, TellsImages}
 use Rattle.relay_shared.specs.EachImage.{progress_at, refusal_of}
 use Rattle.relay_shared.specs.EachImage.AnswersImages.{none as no_images, another}
@@ -30,8 +29,6 @@ use Rattle.relay_desk_commands.specs.Scan.{ScansPicture, scan_images}
 use Rattle.relay_desk_commands.specs.Scan.ScansPicture.{accepted as scan_accepted, refused as scan_refused}
 use Rattle.relay_desk_commands.specs.Scan.ScansPicture.{shape as scan_shape, memory as scan_memory}
 
--- ---- a desk that has not failed
-
 file_left : (left : SetLeft) (key : ℕ) (bytes : List ℕ) (found : Option Pages)
     → Some bytes ≡ option_map (file key) found
     → ((pages : Pages) → found ≡ Some pages → (content : Content) → left key content → content ≡ Some (file key pages))
@@ -39,13 +36,12 @@ file_left : (left : SetLeft) (key : ℕ) (bytes : List ℕ) (found : Option Page
 file_left left key bytes None is lasts content leaves = absurd cc
 file_left left key bytes (Some pages) is lasts content leaves = lasts pages refl content leaves ∙ sym is
 
-pub leaves_files : (desk : DeskView) (left : SetLeft) → IsKept desk left → desk.is_failed ≡ false →
+-- a stop leaves the files of a desk that has not failed
+leaves_files : (desk : DeskView) (left : SetLeft) → IsKept desk left → desk.is_failed ≡ false →
     LeavesFiles desk.saved left
 leaves_files desk left kept running durable key bytes is =
     file_left left key bytes (get desk.held key) (sym is ∙ (kept.order.saved running durable.0).files key)
     (λ pages held content leaves. kept.lasts.running running durable key pages held content leaves)
-
--- ---- a scan
 
 only_save : (fault : ScanFault) → is_save (Err fault) ≡ true → fault ≡ faults.Save
 only_save faults.Save is = refl

@@ -22,6 +22,7 @@ use dm_finder_frame::Grid;
 use dm_pbm_io::{Image, image_of};
 use dm_store::{Store, StoreSet};
 use relay_shared::{EndedDesk, Refusal, Streams, refuse};
+use relay_streams::WriteFault;
 use std::alloc::{AllocError, Allocator};
 use std::io::{Read, Write};
 
@@ -174,7 +175,7 @@ fn put_image<A: Allocator, R: Read, W: Write, E: Write>(
 {
     match image.write(&mut streams.output) {
         Ok(()) => 0,
-        Err(fault) => refuse(&mut streams.errors, fault.name()),
+        Err(WriteFault::Write) => refuse(&mut streams.errors, WriteFault::Write.name()),
     }
 }
 

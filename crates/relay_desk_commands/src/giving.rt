@@ -10,6 +10,7 @@ use dm_append_label::FileId;
 use dm_assembly_desk::{AskFault, Desk, ExportFault, MOST_CAPACITY};
 use dm_store::{Store, StoreSet};
 use relay_shared::{EndedDesk, Refusal, Streams, refuse};
+use relay_streams::WriteFault;
 use std::alloc::Allocator;
 use std::io::{Read, Write};
 
@@ -28,7 +29,7 @@ fn put_bytes<R: Read, W: Write, E: Write>(streams: &mut Streams<R, W, E>, bytes:
 {
     match streams.output.put(bytes) {
         Ok(()) => 0,
-        Err(fault) => refuse(&mut streams.errors, fault.name()),
+        Err(WriteFault::Write) => refuse(&mut streams.errors, WriteFault::Write.name()),
     }
 }
 
