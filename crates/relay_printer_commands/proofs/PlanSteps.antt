@@ -1,8 +1,8 @@
--- The sides of the first sizes of which a document has labels, one size after another.
-use Rattle.std.proofs.Common.{◌≡◌, ◌≢◌, ◌==◌, ℕ, ◌+◌, ◌<◌, ◌≤◌, Bool, false, List, [], ◌∷◌, ◌++◌, length, refl, sym, ap, subst, ◌∙◌, arith, below_more, length-append}
+-- The sides of which a document has labels, one after another.
+use Rattle.std.proofs.Common.{◌≡◌, ◌≢◌, ◌==◌, ℕ, ◌+◌, ◌<◌, ◌≤◌, Bool, false, List, [], ◌∷◌, ◌++◌, length, refl, sym, subst, ◌∙◌, arith, below_more, length-append}
 use Rattle.std.specs.List.{All, AllPairs, Contains}
 use Rattle.std.proofs.lemmas.Bool.{false≢true}
-use Rattle.std.proofs.lemmas.List.Elements.{All-nil, All-push, Contains-append_left, Contains-push}
+use Rattle.std.proofs.lemmas.List.Elements.{All-push, Contains-append_left, Contains-push}
 use Rattle.std.proofs.lemmas.List.Quantifiers.{all_pairs_push}
 use Rattle.dm_check_blocks.specs.declared.size.Size.{Size}
 use Rattle.dm_check_blocks.specs.Sizes.{side}
@@ -10,75 +10,61 @@ use Rattle.dm_encodation.specs.declared.scheme.Scheme.{Scheme}
 use Rattle.dm_print_ledger.specs.Planning.{HasLabels, HasNoLabels}
 use Rattle.relay_shared.specs.declared.plan_lines.PlannedSide.{PlannedSide}
 use Rattle.relay_printer_commands.specs.Plan.{IsPlan, IsPlanned}
-use Rattle.relay_printer_commands.proofs.Sizes.{place_of, side_rises, size_at}
+use Rattle.relay_printer_commands.proofs.Sizes.{greatest_side}
 
--- the side at a place, with a number of labels
+-- a number of labels of a side
 abbrev pub planned_at : ℕ → ℕ → PlannedSide
-planned_at i count = record { side = side (size_at i); count = count }
-
--- the plan has the sides of the first sizes, and no other
-pub record PlanSoFar (scheme : Scheme) (document : List ℕ) (i : ℕ) (plan : List PlannedSide) : Type 0 where
-  pub all : (j : ℕ) → j < i → (count : ℕ) → HasLabels (size_at j) scheme document count
-      → Contains plan (planned_at j count)
-  pub only : All (IsPlanned scheme document) plan
-  pub rising : AllPairs (λ before after. before.side < after.side) plan
-  pub below : (j : ℕ) → i ≤ j → j < 23 → All (λ planned. planned.side < side (size_at j)) plan
-  pub few : length plan ≤ i
+planned_at side count = record { side = side; count = count }
 
 module _ (scheme : Scheme) (document : List ℕ) where
-  pub none_planned : PlanSoFar scheme document 0 []
-  none_planned = record {
-    all = λ j before count labels. absurd (omega (arith, before));
-    only = All-nil (IsPlanned scheme document);
-    rising = λ i j d before there. absurd (omega (arith, there));
-    below = λ j from there. All-nil (λ (planned : PlannedSide). planned.side < side (size_at j));
-    few = omega arith;
-  }
+  -- the plan has the sides below this number, and no other
+  pub record PlanBelow (n : ℕ) (plan : List PlannedSide) : Type 0 where
+    pub all : (m : ℕ) → m < n → (count : ℕ) → IsPlanned scheme document (planned_at m count)
+        → Contains plan (planned_at m count)
+    pub only : All (IsPlanned scheme document) plan
+    pub rising : AllPairs (λ before after. before.side < after.side) plan
+    pub below : All (λ planned. planned.side < n) plan
+    pub few : length plan ≤ n
 
-  -- a size of which the document has no labels
-  pub passed_over : (i : ℕ) (plan : List PlannedSide) → PlanSoFar scheme document i plan
-      → HasNoLabels (size_at i) scheme document → PlanSoFar scheme document (i + 1) plan
-  passed_over i plan so_far none = record {
-    all = below_more (λ (j : ℕ). (count : ℕ) → HasLabels (size_at j) scheme document count
-        → Contains plan (planned_at j count)) i so_far.all (λ count labels. absurd (none count labels));
+  -- a side of which the document has no labels
+  pub passed_over : (n : ℕ) (plan : List PlannedSide) → PlanBelow n plan
+      → ((count : ℕ) → ¬ IsPlanned scheme document (planned_at n count)) → PlanBelow (n + 1) plan
+  passed_over n plan so_far none = record {
+    all = below_more (λ (m : ℕ). (count : ℕ) → IsPlanned scheme document (planned_at m count)
+        → Contains plan (planned_at m count)) n so_far.all (λ count is. absurd (none count is));
     only = so_far.only;
     rising = so_far.rising;
-    below = λ j from there. so_far.below j (omega (arith, from)) there;
+    below = λ k d there. omega (arith, so_far.below k d there);
     few = let few = so_far.few in omega arith;
   }
 
-  -- a size of which it has labels
-  pub one_more : (i count : ℕ) (plan : List PlannedSide) → i < 23 → PlanSoFar scheme document i plan
-      → HasLabels (size_at i) scheme document count
-      → ((other : ℕ) → HasLabels (size_at i) scheme document other → count ≡ other)
-      → PlanSoFar scheme document (i + 1) (plan ++ planned_at i count ∷ [])
-  one_more i count plan there so_far labels one =
-      let new : PlannedSide = planned_at i count in
+  -- a side of which it has labels
+  pub one_more : (n count : ℕ) (plan : List PlannedSide) → PlanBelow n plan
+      → IsPlanned scheme document (planned_at n count)
+      → ((other : ℕ) → IsPlanned scheme document (planned_at n other) → count ≡ other)
+      → PlanBelow (n + 1) (plan ++ planned_at n count ∷ [])
+  one_more n count plan so_far is one =
+      let new : PlannedSide = planned_at n count in
       let longer : List PlannedSide = plan ++ new ∷ [] in
       record {
-        all = below_more (λ (j : ℕ). (other : ℕ) → HasLabels (size_at j) scheme document other
-            → Contains longer (planned_at j other)) i
-            (λ j before other found. Contains-append_left plan (new ∷ []) (planned_at j other)
-            (so_far.all j before other found))
-            (λ other found. subst (λ (n : ℕ). Contains longer (planned_at i n)) (one other found)
+        all = below_more (λ (m : ℕ). (other : ℕ) → IsPlanned scheme document (planned_at m other)
+            → Contains longer (planned_at m other)) n
+            (λ m before other found. Contains-append_left plan (new ∷ []) (planned_at m other)
+            (so_far.all m before other found))
+            (λ other found. subst (λ (k : ℕ). Contains longer (planned_at n k)) (one other found)
             (Contains-push plan new));
-        only = All-push (IsPlanned scheme document) plan new so_far.only (size_at i, refl, labels);
+        only = All-push (IsPlanned scheme document) plan new so_far.only is;
         rising = all_pairs_push (λ (before after : PlannedSide). before.side < after.side) plan new so_far.rising
-            (so_far.below i (omega arith) there);
-        below = λ j from within. All-push (λ (planned : PlannedSide). planned.side < side (size_at j)) plan new
-            (so_far.below j (omega (arith, from)) within) (side_rises i j (omega (arith, from)) within);
+            so_far.below;
+        below = All-push (λ (planned : PlannedSide). planned.side < n + 1) plan new
+            (λ k d there. omega (arith, so_far.below k d there)) (omega arith);
         few = let few = so_far.few in omega (arith, length-append plan (new ∷ []));
       }
 
-  -- all sizes
-  pub all_planned : (plan : List PlannedSide) → PlanSoFar scheme document 23 plan → IsPlan scheme document plan
-  all_planned plan so_far = record {
-    all = λ planned is.
-        let place = place_of is.0 in
-        let found = so_far.all place.0 place.1 planned.count
-        (subst (λ (size : Size). HasLabels size scheme document planned.count) (sym place.2) is.2) in
-        let same : side (size_at place.0) ≡ planned.side = ap side place.2 ∙ is.1 in
-        subst (λ (n : ℕ). Contains plan (record { side = n; count = planned.count })) same found;
+  -- all sides
+  pub all_planned : (n : ℕ) (plan : List PlannedSide) → 133 ≤ n → PlanBelow n plan → IsPlan scheme document plan
+  all_planned n plan all so_far = record {
+    all = λ planned is. so_far.all planned.side (omega (arith, all, is.1, greatest_side is.0)) planned.count is;
     only = so_far.only;
     rising = so_far.rising;
   }
@@ -87,7 +73,7 @@ module _ (scheme : Scheme) (document : List ℕ) where
   pub no_plan : (plan : List PlannedSide) → IsPlan scheme document plan → length plan ≡ 0
       → (size : Size) → HasNoLabels size scheme document
   no_plan plan is empty size count labels =
-      let there = is.all (record { side = side size; count = count }) (size, refl, labels) in
+      let there = is.all (planned_at (side size) count) (size, refl, labels) in
       omega (arith, empty, there.1)
 
 -- a plan that is not empty
