@@ -3,9 +3,8 @@ use borrow.Rule.Slice.PartMut.{put_mid}
 use Rattle.std.proofs.Common.{◌≡◌, ◌∙◌, ◌<◌, ◌≤◌, ℕ, List, [], ◌∷◌, ◌++◌, inl, inr, length, take, drop, get_or, refl, ap, sym, subst, arith}
 use Rattle.std.specs.List.{All}
 use Rattle.std.proofs.lemmas.Bool.{cases_lt}
-use Rattle.std.proofs.lemmas.List.{append-nil, take-append-drop, length-append, length-drop, drop_all, take_at, get_or_past}
+use Rattle.std.proofs.lemmas.List.{append-nil, take-append-drop, length-append, length-drop, take_at, drop_at, get_or_past}
 use Rattle.std.proofs.lemmas.List.Elements.{All-get_or, All-drop, recursion_from_All}
-use Rattle.std.proofs.lemmas.Slice.{take-put_mid, drop-put_mid}
 use Rattle.dm_gf256.specs.Polynomial.{differ, IsBlockWord}
 use Rattle.dm_gf256.proofs.OneBlockWord.{one_block_word}
 use Rattle.hex.specs.Hex.{encode_lower, IsBytes}
@@ -21,19 +20,16 @@ same_checked bytes whole other_bytes other c d near =
     one_block_word 2 whole other (c.count ∙ sym d.count) (omega (arith, c.count))
     (recursion_from_All _ whole c.words) (recursion_from_All _ other d.words) c.block_word d.block_word near
 
--- ten bytes with check words are these bytes and the two that follow
-pub checked_parts : (bytes whole : List ℕ) → IsChecked bytes whole → bytes ++ drop 10 whole ≡ whole
-checked_parts bytes whole c =
-    ap (λ (t : List ℕ). t ++ drop 10 whole) (sym c.begins) ∙ take-append-drop 10 whole
-
--- what follows: two bytes, with which the ten are a block word
-pub checked_rest : (bytes whole : List ℕ) → IsChecked bytes whole
-    → (length (drop 10 whole) ≡ 2) × All (λ word. word < 256) (drop 10 whole) × IsBlockWord 2 (bytes ++ drop 10 whole)
-checked_rest bytes whole c = (
-  omega (arith, length-drop 10 whole, c.count),
-  All-drop (λ word. word < 256) 10 whole c.words,
-  subst (λ (t : List ℕ). IsBlockWord 2 t) (sym (checked_parts bytes whole c)) c.block_word,
-)
+-- ten bytes with check words are these bytes and the two check words, of which there is one pair
+pub only_checked : (bytes checks : List ℕ) → ((others : List ℕ) → length others ≡ 2 → All (λ word. word < 256) others
+    → IsBlockWord 2 (bytes ++ others) → others ≡ checks) → (whole : List ℕ) → IsChecked bytes whole
+    → whole ≡ bytes ++ checks
+only_checked bytes checks only whole c =
+    let rest = drop 10 whole in
+    let parts : bytes ++ rest ≡ whole = ap (λ t. t ++ rest) (sym c.begins) ∙ take-append-drop 10 whole in
+    let same = only rest (omega (arith, length-drop 10 whole, c.count)) (All-drop (λ word. word < 256) 10 whole c.words)
+    (subst (λ (t : List ℕ). IsBlockWord 2 t) (sym parts) c.block_word) in
+    sym parts ∙ ap (λ t. bytes ++ t) same
 
 -- ten bytes and two that make a block word
 pub are_checked : (bytes checks : List ℕ) → length bytes ≡ 10 → length checks ≡ 2
@@ -46,18 +42,10 @@ are_checked bytes checks ten two words block = record {
 }
 
 -- two bytes are written after ten
-pub put_at_end : (bytes checks : List ℕ) → length bytes ≡ 10 → length checks ≡ 2
-    → put_mid 10 2 (bytes ++ 0 ∷ 0 ∷ []) checks ≡ bytes ++ checks
-put_at_end bytes checks ten two =
-    let old = bytes ++ 0 ∷ 0 ∷ [] in
-    let new = put_mid 10 2 old checks in
-    let size : length old ≡ 12 = omega (arith, length-append bytes (0 ∷ 0 ∷ [])) in
-    sym (take-append-drop 12 new)
-    ∙ ap (λ (t : List ℕ). t ++ drop 12 new) (take-put_mid 10 2 old checks 12 (omega arith) (omega arith))
-    ∙ ap (λ (t : List ℕ). (take 10 old ++ checks) ++ t)
-    (drop-put_mid 10 2 old checks 12 (omega arith) (omega arith) two ∙ drop_all 12 old (omega arith))
-    ∙ append-nil (take 10 old ++ checks)
-    ∙ ap (λ (t : List ℕ). t ++ checks) (take_at bytes (0 ∷ 0 ∷ []) 10 ten)
+pub put_at_end : (bytes checks : List ℕ) → length bytes ≡ 10 → put_mid 10 2 (bytes ++ 0 ∷ 0 ∷ []) checks ≡ bytes ++ checks
+put_at_end bytes checks ten =
+    rw (take_at bytes (0 ∷ 0 ∷ []) 10 ten, drop_at bytes (0 ∷ 0 ∷ []) 10 ten)
+    (ap (λ t. bytes ++ t) (append-nil checks))
 
 -- a text in groups is the check form of the ten bytes with which its twelve begin alone
 pub begins_with : (text whole bytes : List ℕ) → IsGroupedText text whole → IsCheckText text bytes

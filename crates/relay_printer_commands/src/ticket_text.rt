@@ -31,6 +31,7 @@ ghost use Rattle.relay_printer_commands.specs.Tickets.{
 
 use dm_check_blocks::checks_of;
 use dm_print_ledger::Ticket;
+use hex::FromHex;
 
 // Ten bytes and then two, all of which are bytes.
 fn joined(bytes: &[u8], checks: &[u8]) -> [u8; 12]
@@ -60,12 +61,7 @@ fn has_hyphens(text: &[u8]) -> bool
     requires { length text.now ≡ 29 }
     ensures { IsTrue result ↔ ((j : ℕ) → j < 5 → slice_index text.now (5 * j + 4) ≡ 45) }
 {
-    for group in 0..5 {
-        if text[5 * group + 4] != b'-' {
-            return false;
-        }
-    }
-    true
+    (0..5usize).all(|group| text[5 * group + 4] == b'-')
 }
 
 // What stands between the hyphens.
@@ -86,10 +82,7 @@ fn ungrouped(text: &[u8]) -> Option<[u8; 24]>
     ensures { MatchOption result ((digits : List ℕ) → length digits ≡ 24 → text.now ≢ grouped 5 digits)
         (λ digits. text.now ≡ grouped 5 digits) }
 {
-    if text.len() != 29 {
-        return None;
-    }
-    if !has_hyphens(text) {
+    if text.len() != 29 || !has_hyphens(text) {
         return None;
     }
     Some(beside_hyphens(text))
@@ -100,14 +93,7 @@ fn bytes_in_groups(text: &[u8]) -> Option<[u8; 12]>
     ensures { MatchOption result ((whole : List ℕ) → ¬ IsGroupedText text.now whole)
         (λ whole. IsGroupedText text.now whole) }
 {
-    let Some(digits) = ungrouped(text) else {
-        return None;
-    };
-    let mut bytes = [0u8; 12];
-    match hex::decode_to_slice(digits, &mut bytes) {
-        Ok(()) => Some(bytes),
-        Err(_) => None,
-    }
+    <[u8; 12]>::from_hex(ungrouped(text)?).ok()
 }
 
 // The ticket of a text in the check form.
@@ -115,12 +101,8 @@ fn of_check_form(text: &[u8]) -> Option<Ticket>
     ensures { MatchOption result ((bytes : List ℕ) → AreOfTicket bytes → ¬ IsCheckText text.now bytes)
         (λ ticket. AreOfTicket (ticket_bytes ticket) × IsCheckText text.now (ticket_bytes ticket)) }
 {
-    let Some(whole) = bytes_in_groups(text) else {
-        return None;
-    };
-    let Some(ticket) = Ticket::of_bytes(&whole[..10]) else {
-        return None;
-    };
+    let whole = bytes_in_groups(text)?;
+    let ticket = Ticket::of_bytes(&whole[..10])?;
     if checked(ticket.bytes()) == whole {
         Some(ticket)
     } else {
@@ -133,11 +115,7 @@ fn of_digits(text: &str) -> Option<Ticket>
     ensures { MatchOption result ((bytes : List ℕ) → AreOfTicket bytes → ¬ IsBareText text.now bytes)
         (λ ticket. AreOfTicket (ticket_bytes ticket) × IsBareText text.now (ticket_bytes ticket)) }
 {
-    let mut bytes = [0u8; 10];
-    match hex::decode_to_slice(text, &mut bytes) {
-        Ok(()) => Ticket::of_bytes(&bytes),
-        Err(_) => None,
-    }
+    Ticket::of_bytes(&<[u8; 10]>::from_hex(text).ok()?)
 }
 
 /// The ticket of a text, in either form.

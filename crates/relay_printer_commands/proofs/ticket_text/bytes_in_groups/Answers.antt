@@ -1,9 +1,9 @@
-use Rattle.std.proofs.Common.{◌≡◌, Err, length, refl, rules}
-use Rattle.relay_printer_commands.proofs.CheckForm.{not_read}
+use Rattle.std.proofs.Common.{◌≡◌, length, rules}
+use Rattle.relay_printer_commands.proofs.CheckForm.{read_whole}
 use Rattle.relay_printer_commands.proofs.ticket_text.bytes_in_groups.Goals as goal
 
-pub returns-in-Err : goal.returns-in-Err
-returns-in-Err c = λ whole g.
-    let long : length c.in-Some.digits ≡ 24 = search rules in
-    not_read c.args.text.now whole c.in-Some.digits (Err c.in-Err.field-0) c.decode_to_slice.new.out c.in-Err.field-0
-    long c.in-Some.ensures c.in-Err.ensures.value refl g
+pub returns : goal.returns
+returns c =
+    let long : length c.in_ok-ungrouped.field-0 ≡ 24 = search rules in
+    read_whole c.args.text.now c.in_ok-ungrouped.field-0 long c.in_ok-ungrouped.ensures c.from_hex.result
+    c.from_hex.ensures c.ok.result c.ok.ensures.value

@@ -5,11 +5,8 @@ use Rattle.relay_printer_commands.proofs.ticket_text.joined.Goals as goal
 
 pub returns-clause-joined : goal.returns-clause-joined
 returns-clause-joined c =
-    put_at_end c.copy_from_slice.new.self c.copy_from_slice-2.new.self
-    (ap length c.copy_from_slice.ensures.after ∙ c.requires.ten)
-    (ap length c.copy_from_slice-2.ensures.after ∙ c.requires.two)
-    ∙ ap (λ (t : List ℕ). t ++ c.copy_from_slice-2.new.self) c.copy_from_slice.ensures.after
-    ∙ ap (λ (t : List ℕ). c.args.bytes.now ++ t) c.copy_from_slice-2.ensures.after
+    rw (c.copy_from_slice.ensures.after, c.copy_from_slice-2.ensures.after)
+    (put_at_end c.args.bytes.now c.args.checks.now c.requires.ten)
 
 pub returns-clause-words : goal.returns-clause-words
 returns-clause-words c =
