@@ -21,7 +21,6 @@ returns-in-Err-clause-lasts g c =
 
 pub returns-clause-lasts : goal.returns-clause-lasts
 returns-clause-lasts g c =
-    let gives = c.give-answer.ensures.gives in
-    rw c.close-store.ensures.state (stopped.closed _ _ _ c.in-Ok.printer c.in-Ok.ensures.opens.0 _ _
-    c.give-answer.new.self _ (stopped.given_on _ _ _ _ _ gives)
-    (stopped.give_done _ _ _ _ _ _ _ _ gives c.tell_give-status.ensures) c.close-store.ensures.order)
+    rw c.close-store.ensures.state (stopped.closed _ _ _ _ c.in-Ok.printer c.give-answer.new.self _
+    c.in-Ok.ensures.opens.0 (stopped.given_on _ _ _ _ _ _ _ _ c.give-answer.ensures.gives c.tell_give-status.ensures)
+    c.close-store.ensures.order _)

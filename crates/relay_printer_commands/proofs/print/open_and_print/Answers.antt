@@ -30,7 +30,6 @@ returns-in-Err-clause-lasts g c =
 
 pub returns-clause-lasts : goal.returns-clause-lasts
 returns-clause-lasts g c =
-    let prints = c.print-answer.ensures.prints in
-    rw (← c.streams.view_is, c.close-store.ensures.state) (stopped.closed _ _ _ c.in-Ok.printer
-    c.in-Ok.ensures.opens.0 _ _ c.print-answer.new.self _ (stopped.printed_on _ _ _ _ _ _ prints)
-    (stopped.print_done _ _ _ _ _ _ _ _ _ _ prints c.tell_print-status.ensures) c.close-store.ensures.order)
+    rw (← c.streams.view_is, c.close-store.ensures.state) (stopped.closed _ _ _ _ c.in-Ok.printer
+    c.print-answer.new.self _ c.in-Ok.ensures.opens.0 (stopped.printed_on _ _ _ _ _ _ _ _ _ _
+    c.print-answer.ensures.prints c.tell_print-status.ensures) c.close-store.ensures.order _)

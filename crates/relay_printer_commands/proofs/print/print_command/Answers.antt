@@ -24,10 +24,8 @@ returns-clause-ends g c =
 
 pub returns-in_default-clause-lasts : goal.returns-in_default-clause-lasts
 returns-in_default-clause-lasts g c =
-    rw (← c.streams.view_is) (stopped.not_begun _ _ _ _
-    (stopped.not_printed (stopped.refused_by c.refuse-status.ensures) refl) (λ durable content leaves. leaves))
+    rw (← c.streams.view_is) (stopped.unprinted _ _ c.refuse-status.ensures)
 
 pub returns-in-Err-clause-lasts : goal.returns-in-Err-clause-lasts
 returns-in-Err-clause-lasts g c =
-    rw (← c.streams.view_is) (stopped.not_begun _ _ _ _
-    (stopped.not_printed (stopped.refused_by c.refuse-status-in-Err.ensures) refl) (λ durable content leaves. leaves))
+    rw (← c.streams.view_is) (stopped.unprinted _ _ c.refuse-status-in-Err.ensures)

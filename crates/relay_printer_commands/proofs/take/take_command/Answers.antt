@@ -32,7 +32,6 @@ returns-in-Err-clause-lasts g c =
 
 pub returns-clause-lasts : goal.returns-clause-lasts
 returns-clause-lasts g c =
-    let takes = c.take-answer.ensures.takes in
-    rw c.close-store.ensures.state (stopped.closed _ _ _ c.in-Ok.printer c.in-Ok.ensures.opens.0 _ _
-    c.take-answer.new.self _ (stopped.taken_on _ _ _ _ _ c.in-Some.ensures.1 takes)
-    (stopped.take_done _ _ _ _ _ _ _ _ takes c.tell_take-status.ensures) c.close-store.ensures.order)
+    rw c.close-store.ensures.state (stopped.closed _ _ _ _ c.in-Ok.printer c.take-answer.new.self _
+    c.in-Ok.ensures.opens.0 (stopped.taken_on _ _ _ _ _ _ _ _ _ c.in-Some.ensures.1 c.take-answer.ensures.takes
+    c.tell_take-status.ensures) c.close-store.ensures.order _)
