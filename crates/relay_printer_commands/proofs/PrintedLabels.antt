@@ -20,8 +20,7 @@ use Rattle.relay_shared.specs.Surroundings.{ReadsNothing, StreamsView}
 use Rattle.relay_shared.specs.Telling.{TellsRefusal}
 use Rattle.relay_shared.specs.declared.refusal.Refusal.{Refusal}
 use Rattle.relay_shared.specs.declared.refusal.Refusal.TheVariants.{Memory}
-use Rattle.relay_printer_commands.specs.inner.Images.{LosesImage, LosesImages}
-use Rattle.relay_printer_commands.specs.inner.Images.LosesImage.{memory as not_made, write as not_out}
+use Rattle.relay_printer_commands.specs.inner.Images.{LosesImages}
 use Rattle.relay_printer_commands.specs.inner.Images.LosesImages.{memory, write}
 
 -- the line of a refusal after another line
@@ -30,13 +29,6 @@ refused_after : (line name : List ℕ) (old mid new : OutputView) (status : ℕ)
 refused_after line name old mid new status first (inl told) = (inl (Appends-trans _ _ _ _ _ first told.0), told.1)
 refused_after line name old mid new status first (inr (failed, part, is)) =
     (inr (failed, then_part _ _ _ _ _ first part), is)
-
--- the images of some labels are out, and that of the next is lost
-pub one_is_lost : (labels done rest : List GridView) (next : GridView) (old mid new : OutputView) (refusal : Refusal)
-    → labels ≡ done ++ next ∷ rest → Appends old.contents mid.contents (images_of done) → LosesImage mid new refusal
-    → LosesImages labels old new refusal
-one_is_lost labels done rest next old mid new _ is out (not_made same) = memory done next rest is (rw same out)
-one_is_lost labels done rest next old mid new _ is out (not_out fault failed) = write fault failed
 
 -- the line of a job was written, some of its labels were not, and the refusal says why
 pub some_are_lost : (labels : List GridView) (line : List ℕ) (old : StreamsView) (mid : OutputView) (status : ℕ)
@@ -51,24 +43,21 @@ some_are_lost labels line old mid status new _ (write Write failed) part first t
     let after = refused_after line (write_fault_name Write) old.errors mid new.errors status first told in
     not_written failed part after.0 after.1
 
--- what comes after the line of a job, if its labels are lost
-after_line : (line name : List ℕ) (old new : OutputView) → PrintsButRefuses line name old new
-    → (after : List ℕ) × Appends old.contents new.contents (line ++ after)
-after_line line name old new (inl whole) = (refused_line name, whole)
-after_line line name old new (inr (failed, part)) = (part.0, part.2)
+-- the labels of a job go out after its line, also if some are lost
+refused_line_after : (id count left : ℕ) (name : List ℕ) (old new : StreamsView)
+    → PrintsButRefuses (printed_line id count left) name old.errors new.errors → PrintsLineFirst old new
+refused_line_after id count left name old new (inl whole) = inr (id, count, left, refused_line name, whole)
+refused_line_after id count left name old new (inr (failed, part)) = inr (id, count, left, part.0, part.2)
 
--- the labels of a job go out after its line
 labels_after : (id count left : ℕ) (labels : List GridView) (old : StreamsView) (status : ℕ) (new : StreamsView)
     → PrintsLabels labels (printed_line id count left) old status new → PrintsLineFirst old new
 labels_after id count left labels old status new (all line images is) =
     inr (id, count, left, [], subst (Appends old.errors.contents new.errors.contents) (sym (append-nil _)) line)
 labels_after id count left labels old status new (no_line failed part same is) = inl same
 labels_after id count left labels old status new (no_memory done next rest parts images refuses is) =
-    let after = after_line (printed_line id count left) (refusal_name Memory) old.errors new.errors refuses in
-    inr (id, count, left, after.0, after.1)
+    refused_line_after id count left (refusal_name Memory) old new refuses
 labels_after id count left labels old status new (not_written failed part refuses is) =
-    let after = after_line (printed_line id count left) (write_fault_name Write) old.errors new.errors refuses in
-    inr (id, count, left, after.0, after.1)
+    refused_line_after id count left (write_fault_name Write) old new refuses
 
 module _ (left : ℕ) (old : StreamsView) (status : ℕ) (new : StreamsView) where
   -- what a printer answers to a document goes out after the line of it

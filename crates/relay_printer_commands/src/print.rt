@@ -2,7 +2,6 @@
 
 ghost use Rattle.std.specs.Prelude.{OnOk, IfErr};
 ghost use Rattle.std.specs.Io.KnownBytes.{Appends};
-ghost use Rattle.dm_pbm_io.specs.SymbolImage.{p4};
 ghost use Rattle.relay_streams.specs.Streams.{AppendsPart, TakesPart};
 ghost use Rattle.relay_printer_commands.specs.Lasting.{HasPrinted, StopLeaves, UsesOne, stored};
 ghost use Rattle.relay_printer_commands.specs.Print.{
@@ -14,14 +13,13 @@ ghost use Rattle.relay_printer_commands.specs.Print.{
   images_of,
 };
 ghost use Rattle.relay_printer_commands.specs.Printers.{ledger_at};
-ghost use Rattle.relay_printer_commands.specs.inner.Images.{LosesImage, LosesImages};
+ghost use Rattle.relay_printer_commands.specs.inner.Images.{LosesImages};
 ghost use Rattle.relay_shared.specs.PrinterLines.{printed_line};
 ghost use Rattle.relay_shared.specs.Surroundings.{ReadsNothing};
 
 use crate::opening::open_printer;
 use dm_check_blocks::Size;
 use dm_encodation::Scheme;
-use dm_finder_frame::Grid;
 use dm_pbm_io::image_of;
 use dm_print_ledger::{Job, PrintFault};
 use dm_store::Store;
@@ -52,20 +50,6 @@ pub(crate) struct SizedOptions {
     pub scheme: Scheme,
 }
 
-// Writes the image of one label.
-fn put_image<A: Allocator + Copy, W: Write>(
-    alloc: A,
-    output: &mut Output<W>,
-    grid: &Grid<A>,
-) -> Result<(), Refusal>
-    ensures written { OnOk result (Appends output.old.contents output.new.contents (p4 grid.now)) }
-    ensures part { AppendsPart output.old.contents output.new.contents (p4 grid.now) }
-    ensures lost { IfErr result (LosesImage output.old output.new) }
-{
-    image_of(alloc, grid, false)?.write(output)?;
-    Ok(())
-}
-
 // Writes the images of the labels of a job, in order.
 fn put_images<A: Allocator + Copy, W: Write>(
     alloc: A,
@@ -78,7 +62,7 @@ fn put_images<A: Allocator + Copy, W: Write>(
 {
     let mut job = job;
     while let Some(grid) = job.next_label() {
-        put_image(alloc, output, &grid)?;
+        image_of(alloc, &grid, false)?.write(output)?;
     }
     Ok(())
 }

@@ -8,11 +8,6 @@ use Rattle.relay_shared.specs.declared.refusal.Refusal.{Refusal}
 use Rattle.relay_shared.specs.declared.refusal.Refusal.TheVariants.{Memory, Output}
 use Rattle.relay_printer_commands.specs.Print.{images_of}
 
--- an image was not made, or not written whole
-pub data LosesImage (old new : OutputView) : Refusal → Type 0 where
-  memory : new ≡ old → LosesImage old new Memory
-  write : (fault : WriteFault) → new.has_failed ≡ true → LosesImage old new (Output fault)
-
 -- the images of the first of these labels are out, and the next was not made; or one was not written whole
 pub data LosesImages (labels : List GridView) (old new : OutputView) : Refusal → Type 0 where
   memory : (done : List GridView) (next : GridView) (rest : List GridView) → labels ≡ done ++ next ∷ rest

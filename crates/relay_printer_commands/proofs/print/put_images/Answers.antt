@@ -1,16 +1,30 @@
-use Rattle.std.proofs.Common.{◌≡◌, List, [], ◌∷◌, ◌++◌, refl, arith, ap, sym, ◌∙◌, subst, append_assoc, append-nil}
+use Rattle.std.proofs.Common.{◌≡◌, ◌∙◌, List, [], ◌∷◌, ◌++◌, refl, arith, ap, sym, subst, append_assoc, append-nil}
 use Rattle.std.proofs.KnownBytes.{Appends-nil, Appends-trans}
 use Rattle.std.proofs.lemmas.Grind.{flat_map-append}
 use Rattle.std.proofs.lemmas.List.{flat_map_more}
 use Rattle.std.proofs.lemmas.List.Concat.{flat_map-cons}
 use Rattle.std.proofs.lemmas.Result.{err_from_is_err_and}
 use Rattle.dm_finder_frame.specs.Grids.{GridView}
+use Rattle.std.specs.Io.KnownBytes.{Appends}
 use Rattle.dm_pbm_io.specs.SymbolImage.{p4}
+use Rattle.dm_pbm_io.specs.Writing.{written}
+use Rattle.dm_print_ledger.specs.Views.{JobView}
 use Rattle.relay_streams.specs.Streams.{AppendsPart}
-use Rattle.relay_streams.proofs.Parts.{part_after, part_more}
+use Rattle.relay_streams.proofs.Parts.{part_after, part_more, part_whole}
 use Rattle.relay_printer_commands.specs.Print.{images_of}
-use Rattle.relay_printer_commands.proofs.PrintedLabels.{one_is_lost}
+use Rattle.relay_printer_commands.specs.inner.Images.LosesImages.{memory, write}
 use Rattle.relay_printer_commands.proofs.print.put_images.Goals as goal
+
+-- the labels that were taken, the next one, and the others
+taken : (labels done : List GridView) (job rest : JobView) (grid : GridView) → labels ≡ done ++ job.labels
+    → job ≡ record rest { labels = grid ∷ rest.labels } → labels ≡ done ++ grid ∷ rest.labels
+taken labels done job rest grid is next = is ∙ ap (λ (j : JobView). done ++ j.labels) next
+
+-- their images
+images_at : (labels done rest : List GridView) (grid : GridView) → labels ≡ done ++ grid ∷ rest
+    → images_of labels ≡ images_of done ++ (p4 grid ++ images_of rest)
+images_at labels done rest grid is =
+    ap images_of is ∙ flat_map-append p4 done (grid ∷ rest) ∙ ap (λ l. images_of done ++ l) (flat_map-cons p4 grid rest)
 
 pub loop-grid-init : goal.loop-grid-init
 loop-grid-init g c = ([], refl, Appends-nil _)
@@ -23,14 +37,13 @@ loop-grid-smaller g c =
 
 pub loop-grid-preserved : goal.loop-grid-preserved
 loop-grid-preserved g c =
-    let left : c.loop-grid.job.labels ≡ c.in-Some.grid ∷ c.next_label.new.self.labels =
-    ap (λ j. j.labels) c.in-Some.ensures in
     let done = c.loop-grid.invariant.0 in (
       done ++ c.in-Some.grid ∷ [],
-      c.loop-grid.invariant.1 ∙ ap (λ l. done ++ l) left ∙
-          sym (append_assoc done (c.in-Some.grid ∷ []) c.next_label.new.self.labels),
-      rw (flat_map_more p4 [] done c.in-Some.grid) at
-          (Appends-trans _ _ _ _ _ c.loop-grid.invariant.2 c.in_ok-put_image.ensures.written),
+      taken _ done _ c.next_label.new.self c.in-Some.grid c.loop-grid.invariant.1 c.in-Some.ensures
+          ∙ sym (append_assoc done (c.in-Some.grid ∷ []) c.next_label.new.self.labels),
+      rw (flat_map_more p4 [] done c.in-Some.grid) at (Appends-trans _ _ _ _ _ c.loop-grid.invariant.2
+          (subst (Appends c.loop-grid.output.contents c.write.new.output.contents)
+          (ap written c.in_ok-image_of.ensures.image) c.in_ok-write.ensures.written)),
     )
 
 pub returns-clause-written : goal.returns-clause-written
@@ -40,26 +53,28 @@ returns-clause-written g c =
     let all : c.args.job.labels ≡ done = c.loop-grid.invariant.1 ∙ ap (λ l. done ++ l) none ∙ append-nil done in
     rw all c.loop-grid.invariant.2
 
--- the images of some labels, that of the next, and those of the others
-images_at : (labels done rest : List GridView) (grid : GridView) → labels ≡ done ++ grid ∷ rest
-    → images_of labels ≡ images_of done ++ (p4 grid ++ images_of rest)
-images_at labels done rest grid is =
-    ap images_of is ∙ flat_map-append p4 done (grid ∷ rest) ∙ ap (λ l. images_of done ++ l) (flat_map-cons p4 grid rest)
+pub returns-in_err-image_of-clause-part : goal.returns-in_err-image_of-clause-part
+returns-in_err-image_of-clause-part g c =
+    let is = taken _ _ _ c.next_label.new.self c.in-Some.grid c.loop-grid.invariant.1 c.in-Some.ensures in
+    subst (AppendsPart _ _) (sym (images_at _ _ _ _ is))
+    (part_more _ _ _ _ (part_whole _ _ _ c.loop-grid.invariant.2))
 
-pub returns-in_err-put_image-clause-part : goal.returns-in_err-put_image-clause-part
-returns-in_err-put_image-clause-part g c =
-    let left : c.loop-grid.job.labels ≡ c.in-Some.grid ∷ c.next_label.new.self.labels =
-    ap (λ j. j.labels) c.in-Some.ensures in
-    let done = c.loop-grid.invariant.0 in
-    let all = images_at _ done _ c.in-Some.grid (c.loop-grid.invariant.1 ∙ ap (λ l. done ++ l) left) in
-    subst (AppendsPart _ _) (sym all)
-    (part_after _ _ _ _ _ c.loop-grid.invariant.2 (part_more _ _ _ _ c.put_image.ensures.part))
-
-pub returns-in_err-put_image-clause-lost : goal.returns-in_err-put_image-clause-lost
-returns-in_err-put_image-clause-lost g c =
+pub returns-in_err-image_of-clause-lost : goal.returns-in_err-image_of-clause-lost
+returns-in_err-image_of-clause-lost g c =
     let p = err_from_is_err_and c.from_residual.result c.from_residual.ensures.1 in
-    let left : c.loop-grid.job.labels ≡ c.in-Some.grid ∷ c.next_label.new.self.labels =
-    ap (λ j. j.labels) c.in-Some.ensures in
-    let done = c.loop-grid.invariant.0 in
-    rw (p.1, p.2) (one_is_lost _ done _ c.in-Some.grid _ _ _ _ (c.loop-grid.invariant.1 ∙ ap (λ l. done ++ l) left)
-    c.loop-grid.invariant.2 c.in_err-put_image.ensures.lost)
+    let is = taken _ _ _ c.next_label.new.self c.in-Some.grid c.loop-grid.invariant.1 c.in-Some.ensures in
+    rw (p.1, p.2) (memory _ c.in-Some.grid _ is c.loop-grid.invariant.2)
+
+pub returns-in_err-write-clause-part : goal.returns-in_err-write-clause-part
+returns-in_err-write-clause-part g c =
+    let is = taken _ _ _ c.next_label.new.self c.in-Some.grid c.loop-grid.invariant.1 c.in-Some.ensures in
+    subst (AppendsPart _ _) (sym (images_at _ _ _ _ is)) (part_after _ _ _ _ _ c.loop-grid.invariant.2
+    (part_more _ _ _ _
+    (subst (AppendsPart c.loop-grid.output.contents c.write.new.output.contents)
+    (ap written c.in_ok-image_of.ensures.image) c.in_err-write.ensures.part)))
+
+pub returns-in_err-write-clause-lost : goal.returns-in_err-write-clause-lost
+returns-in_err-write-clause-lost g c =
+    let last = c.from_residual-in_err-write in
+    let p = err_from_is_err_and last.result last.ensures.1 in
+    rw (p.1, p.2) (write _ c.in_err-write.ensures.failed)
