@@ -49,10 +49,6 @@ pub not_printed : {status : ℕ} {old new : OutputView} → status ≡ 1 → new
 not_printed is same (inl zero) = not_zero is zero
 not_printed is same (inr other) = other same
 
--- what `give` makes of a ledger
-abbrev pub GivesOne : Range → LedgerView → LedgerView → Type 0
-GivesOne range old new = GivesAway old range new
-
 module _ (before after : PrinterView) (status : ℕ) where
   pub printed_on : (old new : StreamsView) (size : Size) (scheme : Scheme) (document : List ℕ)
       (answer : Result JobView PrintFault) (left : ℕ) → Prints before size scheme document answer after
@@ -66,7 +62,7 @@ module _ (before after : PrinterView) (status : ℕ) where
 
   pub given_on : (old new : OutputView) (to : ℕ) (range : Range) (answer : Result TicketView GiveFault)
       → Gives before to range answer after → TellsAnswer ticket_line give_fault_name answer old status new
-      → GoesOn (GivesOne range) (status ≡ 0) before after
+      → GoesOn (λ held next. GivesAway held range next) (status ≡ 0) before after
   given_on old new to range (Ok ticket) p tells = saves p.2 p.3
   given_on old new to range (Err giving.Save) p tells = fails (not_zero (refused_by tells)) p.1 p.2 p.3
   given_on old new to range (Err _) p tells = stays (not_zero (refused_by tells)) p.1
@@ -92,13 +88,6 @@ either_left P ledger (Some next) (Some bytes) held other (inr spells) = other ne
 either_left P ledger None (Some bytes) held other (inr none) = absurd none
 either_left P ledger unsaved None held other is = is
 
--- of a running printer no save has failed
-none_unsaved : (printer : PrinterView) (left : Left) → IsInOrder printer left → printer.is_failed ≡ false
-    → (next : LedgerView) → ¬ (printer.unsaved ≡ Some next)
-none_unsaved printer left order running next is =
-    let wrong : true ≡ false = sym (ap is_some is) ∙ sym order.failed ∙ running in
-    cc
-
 module _ (Makes : LedgerView → LedgerView → Type 0) (IsDone : Type 0) (saved : Saved) (number : ℕ)
     (before after : PrinterView) (left : Left) (opens : Opens saved number before)
     (goes : GoesOn Makes IsDone before after) (order : IsInOrder after left)
@@ -107,6 +96,15 @@ module _ (Makes : LedgerView → LedgerView → Type 0) (IsDone : Type 0) (saved
         → Replaces before.saved bytes answer after.saved → IsDurable saved → IsDurable after.saved
     durable_after replaced durable = let was = subst IsDurable (sym opens.same) durable in
         (replaced.same_honesty ∙ was.0, replaced.same_durability ∙ was.1)
+
+    -- of a running printer no save has failed, so a stop leaves its ledger
+    running_leaves : (P : List ℕ → Type 0) → after.is_failed ≡ false → IsDurable after.saved
+        → ((bytes : List ℕ) → Spells bytes after.ledger → P bytes) → (content : Content) → left content
+        → IsSomeAnd content P
+    running_leaves P running durable holds content leaves =
+        either_left P after.ledger after.unsaved content holds
+        (λ next is. let wrong : true ≡ false = sym (ap is_some is) ∙ sym order.failed ∙ running in absurd cc)
+        (order.lasts durable content leaves)
 
     -- the command is done, so the printer has saved
     when_done : GoesOn Makes IsDone before after → IsDone → IsDurable saved
@@ -117,25 +115,19 @@ module _ (Makes : LedgerView → LedgerView → Type 0) (IsDone : Type 0) (saved
         let durable_now = durable_after now.replaced durable in (
           after.ledger,
           order.holds now.running durable_now.0,
-          λ content leaves. either_left _ after.ledger after.unsaved content (λ bytes spells. spells)
-              (λ next is bytes spells. absurd (none_unsaved after left order now.running next is))
-              (order.lasts durable_now content leaves),
+          running_leaves _ now.running durable_now (λ bytes spells. spells),
         )
 
     -- however it ended
     however_ended : GoesOn Makes IsDone before after → IsDurable saved → (content : Content) → left content
         → IsSomeAnd content (SpellsThisOrNext Makes before.ledger)
     however_ended (stays not_done same) durable content leaves =
-        let running = ap (λ (p : PrinterView). p.is_failed) same ∙ opens.running in
-        let durable_now = subst IsDurable (sym (ap (λ (p : PrinterView). p.saved) same ∙ opens.same)) durable in
-        either_left _ after.ledger after.unsaved content
-        (λ bytes spells. inl (subst (Spells bytes) (ap (λ (p : PrinterView). p.ledger) same) spells))
-        (λ next is bytes spells. absurd (none_unsaved after left order running next is))
-        (order.lasts durable_now content leaves)
+        running_leaves _ (ap (λ (p : PrinterView). p.is_failed) same ∙ opens.running)
+        (subst IsDurable (sym (ap (λ (p : PrinterView). p.saved) same ∙ opens.same)) durable)
+        (λ bytes spells. inl (subst (Spells bytes) (ap (λ (p : PrinterView). p.ledger) same) spells)) content leaves
     however_ended (saves makes now) durable content leaves =
-        either_left _ after.ledger after.unsaved content (λ bytes spells. inr (after.ledger, makes, spells))
-        (λ next is bytes spells. absurd (none_unsaved after left order now.running next is))
-        (order.lasts (durable_after now.replaced durable) content leaves)
+        running_leaves _ now.running (durable_after now.replaced durable)
+        (λ bytes spells. inr (after.ledger, makes, spells)) content leaves
     however_ended (fails not_done next makes failed) durable content leaves =
         either_left _ after.ledger after.unsaved content
         (λ bytes spells. inl (subst (Spells bytes) failed.ledger spells))

@@ -28,6 +28,7 @@ pub struct GiveOptions {
 }
 
 // Writes the line of a printer's answer to a range that it was to give.
+#[tactic(auto, using(relay_shared::proofs::Telling::told))]
 fn tell_give<W: Write>(output: &mut Output<W>, answer: Result<Ticket, GiveFault>) -> u8
     ensures { TellsAnswer ticket_line give_fault_name answer output.old result output.new }
 {

@@ -24,7 +24,7 @@ use dm_pbm_io::image_of;
 use dm_print_ledger::{Job, PrintFault};
 use dm_store::Store;
 use relay_shared::{DOCUMENT_BYTES, Ended, Refusal, Streams, put_printed, read_document, refuse};
-use relay_streams::{Output, WriteFault};
+use relay_streams::Output;
 use std::alloc::Allocator;
 use std::io::{Read, Write};
 
@@ -77,10 +77,9 @@ fn put_job<A: Allocator + Copy, R: Read, W: Write, E: Write>(
     ensures labels { PrintsLabels job.labels (printed_line job.id job.count left) streams.old result streams.new }
     ensures input { ReadsNothing streams.old streams.new }
 {
-    match put_printed(&mut streams.errors, job.id(), job.count(), left) {
-        Ok(()) => {}
-        Err(WriteFault::Write) => return 1,
-    }
+    let Ok(()) = put_printed(&mut streams.errors, job.id(), job.count(), left) else {
+        return 1;
+    };
     match put_images(alloc, &mut streams.output, job) {
         Ok(()) => 0,
         Err(refusal) => refuse(&mut streams.errors, refusal.name()),

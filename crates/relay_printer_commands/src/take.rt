@@ -26,6 +26,7 @@ pub struct TakeOptions<'a> {
 }
 
 // Writes the line of a printer's answer to a ticket that it was to take, if this many identifications are free then.
+#[tactic(auto, using(relay_shared::proofs::Telling::told))]
 fn tell_take<W: Write>(output: &mut Output<W>, answer: Result<(), TakeFault>, left: u32) -> u8
     ensures { TellsAnswer (λ _. taken_line left) take_fault_name answer output.old result output.new }
 {

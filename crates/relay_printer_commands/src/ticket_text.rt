@@ -56,12 +56,12 @@ pub(crate) fn checked(bytes: [u8; 10]) -> [u8; 12]
     joined(&bytes, &checks)
 }
 
-// Whether a hyphen stands after each group of four digits but the last.
+// Whether a text is as long as six groups of four digits, and a hyphen stands after each of them but the last.
 fn has_hyphens(text: &[u8]) -> bool
-    requires { length text.now ≡ 29 }
-    ensures { IsTrue result ↔ ((j : ℕ) → j < 5 → slice_index text.now (5 * j + 4) ≡ 45) }
+    ensures { IsTrue result
+        ↔ ((length text.now ≡ 29) × ((j : ℕ) → j < 5 → slice_index text.now (5 * j + 4) ≡ 45)) }
 {
-    (0..5usize).all(|group| text[5 * group + 4] == b'-')
+    text.len() == 29 && (0..5usize).all(|group| text[5 * group + 4] == b'-')
 }
 
 // What stands between the hyphens.
@@ -82,7 +82,7 @@ fn ungrouped(text: &[u8]) -> Option<[u8; 24]>
     ensures { MatchOption result ((digits : List ℕ) → length digits ≡ 24 → text.now ≢ grouped 5 digits)
         (λ digits. text.now ≡ grouped 5 digits) }
 {
-    if text.len() != 29 || !has_hyphens(text) {
+    if !has_hyphens(text) {
         return None;
     }
     Some(beside_hyphens(text))
@@ -91,7 +91,7 @@ fn ungrouped(text: &[u8]) -> Option<[u8; 24]>
 // The twelve bytes of a text in groups.
 fn bytes_in_groups(text: &[u8]) -> Option<[u8; 12]>
     ensures { MatchOption result ((whole : List ℕ) → ¬ IsGroupedText text.now whole)
-        (λ whole. IsGroupedText text.now whole) }
+        (IsGroupedText text.now) }
 {
     <[u8; 12]>::from_hex(ungrouped(text)?).ok()
 }
@@ -122,8 +122,5 @@ fn of_digits(text: &str) -> Option<Ticket>
 pub(crate) fn ticket_of(text: &str) -> Option<Ticket>
     ensures { MatchOption result (¬ HasTicket text.now) (λ ticket. HasTicket text.now × IsTextOf text.now ticket) }
 {
-    match of_digits(text) {
-        Some(ticket) => Some(ticket),
-        None => of_check_form(text.as_bytes()),
-    }
+    of_digits(text).or_else(|| of_check_form(text.as_bytes()))
 }

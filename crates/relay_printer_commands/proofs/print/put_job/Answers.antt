@@ -1,18 +1,6 @@
-use Rattle.std.proofs.Common.{refl}
 use Rattle.relay_shared.specs.PrinterLines.{printed_line}
-use Rattle.relay_printer_commands.specs.Print.PrintsLabels.{all, no_line}
 use Rattle.relay_printer_commands.proofs.PrintedLabels.{some_are_lost}
 use Rattle.relay_printer_commands.proofs.print.put_job.Goals as goal
-
-pub returns-in-Err-Write-clause-labels : goal.returns-in-Err-Write-clause-labels
-returns-in-Err-Write-clause-labels g c =
-    rw (← c.streams.view_is) (no_line c.in-Err-Write.ensures.failed
-    (rw (c.id.ensures, c.count.ensures) at c.in-Err-Write.ensures.part) refl refl)
-
-pub returns-in-Ok-put_images-clause-labels : goal.returns-in-Ok-put_images-clause-labels
-returns-in-Ok-put_images-clause-labels g c =
-    rw (← c.streams.view_is) (all (rw (c.id.ensures, c.count.ensures) at c.in-Ok.ensures.written)
-    c.in-Ok-put_images.ensures.written refl)
 
 pub returns-in-Err-clause-labels : goal.returns-in-Err-clause-labels
 returns-in-Err-clause-labels g c =
