@@ -65,9 +65,3 @@ module _ (left : ℕ) (old : StreamsView) (status : ℕ) (new : StreamsView) whe
       → PrintsLineFirst old new
   line_first (Ok job) tells = labels_after job.id job.count left job.labels old status new tells.0
   line_first (Err fault) tells = inl (ap (λ (s : StreamsView). s.output) tells.1)
-
-  -- nothing is read meanwhile
-  pub reads_nothing : (answer : Result JobView PrintFault) → TellsPrint answer left old status new
-      → ReadsNothing old new
-  reads_nothing (Ok job) tells = tells.1
-  reads_nothing (Err fault) tells = ap (λ (s : StreamsView). s.input) tells.1

@@ -8,7 +8,7 @@ use Rattle.dm_encodation.specs.declared.scheme.Scheme.{Scheme}
 use Rattle.dm_store.specs.Disk.{Content}
 use Rattle.dm_store.specs.Saved.{Saved, Replaces}
 use Rattle.dm_store.specs.declared.store.ReplaceFault.{ReplaceFault}
-use Rattle.dm_store.specs.Left.{Left, IsDurable, LeavesNoMore}
+use Rattle.dm_store.specs.Left.{Left, IsDurable}
 use Rattle.dm_print_ledger.specs.FaultNames.{give_fault_name, take_fault_name}
 use Rattle.dm_print_ledger.specs.Ledger.{Spells}
 use Rattle.dm_print_ledger.specs.Lasting.{IsInOrder, LeavesLedger, SpellsEither}
@@ -25,11 +25,11 @@ use Rattle.dm_print_ledger.specs.declared.fault.TakeFault.{TakeFault}
 use Rattle.dm_print_ledger.specs.declared.fault.TakeFault.TheVariants as taking
 use Rattle.dm_print_ledger.specs.declared.range.Range.{Range}
 use Rattle.relay_streams.specs.Streams.{OutputView}
-pub use Rattle.relay_shared.proofs.Telling.{refused_by}
+use Rattle.relay_shared.proofs.Telling.{refused_by}
 use Rattle.relay_shared.specs.PrinterLines.{taken_line, ticket_line}
 use Rattle.relay_shared.specs.Surroundings.{StreamsView}
 use Rattle.relay_shared.specs.Telling.{TellsAnswer}
-use Rattle.relay_printer_commands.specs.Lasting.{HasPrinted, SpellsThisOrNext, StopLeaves, StoredLedger, TakesText, UsesOne}
+use Rattle.relay_printer_commands.specs.Lasting.{HasPrinted, SpellsThisOrNext, StopLeaves, TakesText, UsesOne}
 use Rattle.relay_printer_commands.specs.Print.{TellsPrint}
 use Rattle.relay_printer_commands.specs.Tickets.{IsTextOf}
 
@@ -41,11 +41,11 @@ pub data GoesOn (Makes : LedgerView → LedgerView → Type 0) (IsDone : Type 0)
   fails : ¬ IsDone → (next : LedgerView) → Makes before.ledger next → FailsToSave before next after
       → GoesOn Makes IsDone before after
 
-pub not_zero : {status : ℕ} → status ≡ 1 → ¬ (status ≡ 0)
+not_zero : {status : ℕ} → status ≡ 1 → ¬ (status ≡ 0)
 not_zero is zero = cc
 
 -- `print` is not done, and nothing went to the output
-pub not_printed : {status : ℕ} {old new : OutputView} → status ≡ 1 → new ≡ old → ¬ ((status ≡ 0) ⊎ (new ≢ old))
+not_printed : {status : ℕ} {old new : OutputView} → status ≡ 1 → new ≡ old → ¬ ((status ≡ 0) ⊎ (new ≢ old))
 not_printed is same (inl zero) = not_zero is zero
 not_printed is same (inr other) = other same
 
@@ -144,17 +144,3 @@ module _ (Makes : LedgerView → LedgerView → Type 0) (IsDone : Type 0) (saved
       either = λ durable content leaves.
           inr (before.ledger, opens.found durable.0, however_ended goes durable content leaves);
     }
-
--- nothing was done, and a stop leaves no more
-pub not_begun : (Makes : LedgerView → LedgerView → Type 0) (IsDone : Type 0) (old new : StoredLedger) → ¬ IsDone
-    → (IsDurable old.saved → LeavesNoMore old.left new.left) → StopLeaves Makes IsDone old new
-not_begun Makes IsDone old new not_done kept = record {
-  done = λ done. absurd (not_done done);
-  either = λ durable content leaves. inl (kept durable content leaves);
-}
-
--- `print` was refused before its printer was opened
-pub unprinted : {P Q R : Type 0} {status : ℕ} (output : OutputView) (store : StoredLedger)
-    → (P × (status ≡ 1)) ⊎ (Q × R × (status ≡ 1)) → StopLeaves UsesOne ((status ≡ 0) ⊎ (output ≢ output)) store store
-unprinted output store refused =
-    not_begun UsesOne _ store store (not_printed (refused_by refused) refl) (λ durable content leaves. leaves)

@@ -14,11 +14,6 @@ returns-clause-ends g c =
     c.in-Ok.ensures.opens.0 c.give-answer.ensures.gives c.close-store.ensures.state
     (rw c.in-Ok.ensures.opens.1 at c.tell_give-status.ensures) refl)
 
-pub returns-in-Err-clause-lasts : goal.returns-in-Err-clause-lasts
-returns-in-Err-clause-lasts g c =
-    stopped.not_begun _ _ _ _ (stopped.not_zero (stopped.refused_by c.in-Err.ensures.opens.told))
-    c.in-Err.ensures.leaves
-
 pub returns-clause-lasts : goal.returns-clause-lasts
 returns-clause-lasts g c =
     rw c.close-store.ensures.state (stopped.closed _ _ _ _ c.in-Ok.printer c.give-answer.new.self _

@@ -1,10 +1,6 @@
 use Rattle.relay_shared.proofs.Lines.{puts_both, puts_first}
 use Rattle.relay_printer_commands.proofs.left.put_shown.Goals as goal
 
-pub returns-in_err-put_number : goal.returns-in_err-put_number
-returns-in_err-put_number g c =
-    puts_first _ _ _ c.from_residual.ensures.1 (rw c.number.ensures at c.in_err-put_number.ensures)
-
 pub returns-in_err-put_left : goal.returns-in_err-put_left
 returns-in_err-put_left g c =
     puts_both _ (rw c.number.ensures at c.in_ok-put_number.ensures)

@@ -1,12 +1,8 @@
 use Rattle.std.proofs.Common.{refl}
 use Rattle.relay_printer_commands.specs.Print.PrintsDocument.{not_opened, opened}
-use Rattle.relay_printer_commands.proofs.PrintedLabels.{line_first, reads_nothing}
+use Rattle.relay_printer_commands.proofs.PrintedLabels.{line_first}
 use Rattle.relay_printer_commands.proofs.StoppedCommands as stopped
 use Rattle.relay_printer_commands.proofs.print.open_and_print.Goals as goal
-
-pub returns-clause-input : goal.returns-clause-input
-returns-clause-input g c =
-    rw (← c.streams.view_is) (reads_nothing _ _ _ _ _ c.tell_print-status.ensures)
 
 pub returns-clause-line_first : goal.returns-clause-line_first
 returns-clause-line_first g c =
@@ -22,11 +18,6 @@ returns-clause-ends g c =
     rw (← c.streams.view_is) (opened c.in-Ok.printer c.print-answer.new.self c.print-answer.result
     c.in-Ok.ensures.opens.0 c.print-answer.ensures.prints c.close-store.ensures.state
     (rw (c.in-Ok.ensures.opens.1, c.left.ensures.value) at c.tell_print-status.ensures))
-
-pub returns-in-Err-clause-lasts : goal.returns-in-Err-clause-lasts
-returns-in-Err-clause-lasts g c =
-    rw (← c.streams.view_is) (stopped.not_begun _ _ _ _
-    (stopped.not_printed (stopped.refused_by c.in-Err.ensures.opens.told) refl) c.in-Err.ensures.leaves)
 
 pub returns-clause-lasts : goal.returns-clause-lasts
 returns-clause-lasts g c =

@@ -26,15 +26,6 @@ images_at : (labels done rest : List GridView) (grid : GridView) → labels ≡ 
 images_at labels done rest grid is =
     ap images_of is ∙ flat_map-append p4 done (grid ∷ rest) ∙ ap (λ l. images_of done ++ l) (flat_map-cons p4 grid rest)
 
-pub loop-grid-init : goal.loop-grid-init
-loop-grid-init g c = ([], refl, Appends-nil _)
-
-pub loop-grid-smaller : goal.loop-grid-smaller
-loop-grid-smaller g c =
-    let left : c.loop-grid.job.labels ≡ c.in-Some.grid ∷ c.next_label.new.self.labels =
-    ap (λ j. j.labels) c.in-Some.ensures in
-    rw left (omega arith)
-
 pub loop-grid-preserved : goal.loop-grid-preserved
 loop-grid-preserved g c =
     let done = c.loop-grid.invariant.0 in (
@@ -45,13 +36,6 @@ loop-grid-preserved g c =
           (subst (Appends c.loop-grid.output.contents c.write.new.output.contents)
           (ap written c.in_ok-image_of.ensures.image) c.in_ok-write.ensures.written)),
     )
-
-pub returns-clause-written : goal.returns-clause-written
-returns-clause-written g c =
-    let none : c.loop-grid.job.labels ≡ [] = c.in_default.ensures.0 in
-    let done = c.loop-grid.invariant.0 in
-    let all : c.args.job.labels ≡ done = c.loop-grid.invariant.1 ∙ ap (λ l. done ++ l) none ∙ append-nil done in
-    rw all c.loop-grid.invariant.2
 
 pub returns-in_err-image_of-clause-part : goal.returns-in_err-image_of-clause-part
 returns-in_err-image_of-clause-part g c =

@@ -3,6 +3,3 @@ use Rattle.relay_printer_commands.proofs.print.tell_print.Goals as goal
 
 pub returns-in-Ok : goal.returns-in-Ok
 returns-in-Ok g c = rw c.in-Ok.is (c.put_job.ensures.labels, c.put_job.ensures.input)
-
-pub returns-in-Err : goal.returns-in-Err
-returns-in-Err g c = rw (c.in-Err.is, ← c.streams.view_is) (rw c.name.ensures at c.refuse.ensures, refl)

@@ -22,11 +22,3 @@ returns-clause-ends g c =
     rw (← c.streams.view_is) (read c.in-Some.size c.in-Ok.document.items c.read_document.new.input
     c.in-Ok.ensures.taken (rw c.deref.ensures.value at c.in-Some.ensures)
     (rw c.deref-2.ensures.value at c.open_and_print.ensures.ends))
-
-pub returns-in-Err-clause-lasts : goal.returns-in-Err-clause-lasts
-returns-in-Err-clause-lasts g c =
-    rw (← c.streams.view_is) (stopped.unprinted _ _ c.refuse-status.ensures)
-
-pub returns-in_default-clause-lasts : goal.returns-in_default-clause-lasts
-returns-in_default-clause-lasts g c =
-    rw (← c.streams.view_is) (stopped.unprinted _ _ c.refuse-status-in_default.ensures)

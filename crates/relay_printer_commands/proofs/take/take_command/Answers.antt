@@ -20,16 +20,6 @@ returns-clause-ends g c =
     c.close-store.ensures.state
     (rw (c.in-Ok.ensures.opens.1, c.left.ensures.value) at c.tell_take-status.ensures) refl)
 
-pub returns-in_default-clause-lasts : goal.returns-in_default-clause-lasts
-returns-in_default-clause-lasts g c =
-    stopped.not_begun _ _ _ _ (stopped.not_zero (stopped.refused_by c.refuse-status.ensures))
-    (λ durable content leaves. leaves)
-
-pub returns-in-Err-clause-lasts : goal.returns-in-Err-clause-lasts
-returns-in-Err-clause-lasts g c =
-    stopped.not_begun _ _ _ _ (stopped.not_zero (stopped.refused_by c.in-Err.ensures.opens.told))
-    c.in-Err.ensures.leaves
-
 pub returns-clause-lasts : goal.returns-clause-lasts
 returns-clause-lasts g c =
     rw c.close-store.ensures.state (stopped.closed _ _ _ _ c.in-Ok.printer c.take-answer.new.self _
