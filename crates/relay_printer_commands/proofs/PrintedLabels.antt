@@ -1,6 +1,6 @@
 -- How the labels of a job have gone out: what a command has told if it loses an image, and that no image is out before
 -- its line.
-use Rattle.std.specs.Prelude.{◌≡◌, ℕ, List, [], ◌∷◌, ◌++◌, Result, Ok, Err}
+use Rattle.std.specs.Prelude.{◌≡◌, ℕ, List, [], Result, Ok, Err}
 use Rattle.std.proofs.Common.{inl, inr, sym, ap, subst, append-nil}
 use Rattle.std.specs.Io.KnownBytes.{Appends}
 use Rattle.std.proofs.KnownBytes.{Appends-trans}
@@ -16,7 +16,7 @@ use Rattle.relay_streams.specs.declared.fault.WriteFault.TheVariants.{Write}
 use Rattle.relay_shared.proofs.Telling.{then_part}
 use Rattle.relay_shared.specs.PrinterLines.{printed_line}
 use Rattle.relay_shared.specs.Refusals.{refusal_name}
-use Rattle.relay_shared.specs.Surroundings.{ReadsNothing, StreamsView}
+use Rattle.relay_shared.specs.Surroundings.{StreamsView}
 use Rattle.relay_shared.specs.Telling.{TellsRefusal}
 use Rattle.relay_shared.specs.declared.refusal.Refusal.{Refusal}
 use Rattle.relay_shared.specs.declared.refusal.Refusal.TheVariants.{Memory}

@@ -33,10 +33,10 @@ module _ (most : ℕ) (scheme : Scheme) (document : List ℕ) (n : ℕ) (none : 
       → MatchOption found ((size : Size) → ¬ HasAtMost most size scheme document) (IsSmallestSide most scheme document)
   is_smallest count planned few (Some size) at no_size = record {
     few = (
-        count,
-        subst (λ (s : Size). HasLabels s scheme document count) (same_size planned.0 size (planned.1 ∙ sym at)) planned.2,
-        few,
-      );
+      count,
+      subst (λ (s : Size). HasLabels s scheme document count) (same_size planned.0 size (planned.1 ∙ sym at)) planned.2,
+      few,
+    );
     smallest = λ smaller less. none smaller (omega (arith, less, at));
   }
   is_smallest count planned few None at no_size = absurd (no_size refl planned.0 planned.1)

@@ -1,6 +1,5 @@
 use Rattle.std.proofs.Common.{Err, ap, refl}
 use Rattle.relay_printer_commands.specs.Print.EndsPrint.{no_side, not_read, read}
-use Rattle.relay_printer_commands.proofs.StoppedCommands as stopped
 use Rattle.relay_printer_commands.proofs.print.print_command.Goals as goal
 
 pub returns-in_default-clause-ends : goal.returns-in_default-clause-ends

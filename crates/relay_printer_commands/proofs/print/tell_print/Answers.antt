@@ -1,4 +1,3 @@
-use Rattle.std.proofs.Common.{refl}
 use Rattle.relay_printer_commands.proofs.print.tell_print.Goals as goal
 
 pub returns-in-Ok : goal.returns-in-Ok

@@ -1,6 +1,5 @@
 use Rattle.std.proofs.Common.{Err, ap, refl}
 use Rattle.relay_printer_commands.specs.PrintAuto.EndsPrintAuto.{not_read, too_long, read}
-use Rattle.relay_printer_commands.proofs.StoppedCommands as stopped
 use Rattle.relay_printer_commands.proofs.print_auto.print_auto_command.Goals as goal
 
 pub returns-in-Err-clause-ends : goal.returns-in-Err-clause-ends

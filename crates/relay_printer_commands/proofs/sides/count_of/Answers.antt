@@ -1,5 +1,4 @@
 use Rattle.std.proofs.Common.{◌≡◌, ◌∙◌, sym, subst}
-use Rattle.dm_check_blocks.specs.Sizes.{side}
 use Rattle.dm_check_blocks.specs.declared.size.Size.{Size}
 use Rattle.dm_print_ledger.specs.Planning.{HasLabels}
 use Rattle.relay_printer_commands.proofs.Sizes.{same_size}

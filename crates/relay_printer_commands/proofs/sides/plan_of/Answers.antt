@@ -1,4 +1,4 @@
-use Rattle.std.proofs.Common.{◌≡◌, ◌∙◌, sym, arith}
+use Rattle.std.proofs.Common.{◌∙◌, sym, arith}
 use Rattle.relay_printer_commands.proofs.PlanSteps.{all_planned, one_more, passed_over}
 use Rattle.relay_printer_commands.proofs.sides.plan_of.Goals.{in-Some, in_default}
 use Rattle.relay_printer_commands.proofs.sides.plan_of.Goals as goal

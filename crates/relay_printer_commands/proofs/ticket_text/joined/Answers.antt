@@ -1,4 +1,4 @@
-use Rattle.std.proofs.Common.{◌<◌, ◌∙◌, ◌++◌, ℕ, List, length, ap}
+use Rattle.std.proofs.Common.{◌<◌, ℕ}
 use Rattle.std.proofs.lemmas.List.Elements.{All-append, All-from_get_or}
 use Rattle.relay_printer_commands.proofs.CheckWords.{put_at_end}
 use Rattle.relay_printer_commands.proofs.ticket_text.joined.Goals as goal
