@@ -10,7 +10,7 @@ use Rattle.dm_gf256.proofs.OneBlockWord.{one_block_word}
 use Rattle.hex.specs.Hex.{encode_lower, IsBytes}
 use Rattle.hex.proofs.HexLemmas.{decode_sized-ok, decode_sized-encode_lower}
 use Rattle.relay_shared.specs.TicketLines.{check_text}
-use Rattle.relay_printer_commands.specs.Tickets.{HasTicket, IsBareText, IsCheckText, IsChecked, IsGroupedText}
+use Rattle.relay_printer_commands.specs.Tickets.{HasTicket, IsCheckText, IsChecked, IsGroupedText}
 use Rattle.relay_printer_commands.proofs.CheckForm.{length-text, same_whole}
 
 -- twelve bytes that differ in at most two places, and have their check words, are the same
@@ -56,20 +56,15 @@ begins_with text whole bytes g form =
       subst (λ (t : List ℕ). IsChecked bytes t) same form.checked,
     )
 
--- a text in groups is no text of twenty digits
-not_bare : (text whole bytes : List ℕ) → IsGroupedText text whole → IsBareText text bytes → ⊥
-not_bare text whole bytes g bare =
-    omega (arith, length-text text whole g, decode_sized-ok text 10 bytes bare)
-
--- a text in groups, whose bytes differ in one or two places from those of a text in the check form, is no ticket's
+-- A text in groups, whose bytes differ in one or two places from those of a text in the check form, is no ticket's: it
+-- is too long for twenty digits, and has not the check words of its ten bytes.
 pub changed_is_refused : (text bytes other changed : List ℕ) (check : IsCheckText text bytes)
     → IsGroupedText other changed → differ check.whole changed ≤ 2 → (check.whole ≡ changed → ⊥)
     → HasTicket other → ⊥
-changed_is_refused text bytes other changed check g near apart (ten, inl bare, is) = not_bare other changed ten g bare
+changed_is_refused text bytes other changed check g near apart (ten, inl bare, is) =
+    omega (arith, length-text other changed g, decode_sized-ok other 10 ten bare)
 changed_is_refused text bytes other changed check g near apart (ten, inr form, is) =
-    let same : form.whole ≡ changed = same_whole other form.whole changed form.in_groups g in
-    let checked : IsChecked ten changed = subst (λ (t : List ℕ). IsChecked ten t) same form.checked in
-    apart (same_checked bytes check.whole ten changed check.checked checked near)
+    apart (same_checked bytes check.whole ten changed check.checked (begins_with other changed ten g form).1 near)
 
 -- the places of bytes hold bytes
 are_bytes : (xs : List ℕ) → All (λ word. word < 256) xs → IsBytes xs

@@ -59,9 +59,8 @@ labels_after id count left labels old status new (no_memory done next rest parts
 labels_after id count left labels old status new (not_written failed part refuses is) =
     refused_line_after id count left (write_fault_name Write) old new refuses
 
-module _ (left : ℕ) (old : StreamsView) (status : ℕ) (new : StreamsView) where
-  -- what a printer answers to a document goes out after the line of it
-  pub line_first : (answer : Result JobView PrintFault) → TellsPrint answer left old status new
-      → PrintsLineFirst old new
-  line_first (Ok job) tells = labels_after job.id job.count left job.labels old status new tells.0
-  line_first (Err fault) tells = inl (ap (λ (s : StreamsView). s.output) tells.1)
+-- what a printer answers to a document goes out after the line of it
+pub line_first : (left : ℕ) (old : StreamsView) (status : ℕ) (new : StreamsView) (answer : Result JobView PrintFault)
+    → TellsPrint answer left old status new → PrintsLineFirst old new
+line_first left old status new (Ok job) tells = labels_after job.id job.count left job.labels old status new tells.0
+line_first left old status new (Err fault) tells = inl (ap (λ (s : StreamsView). s.output) tells.1)
