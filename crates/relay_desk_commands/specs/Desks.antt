@@ -95,7 +95,7 @@ abbrev pub TellsBytes : List ℕ → StreamsView → ℕ → StreamsView → Typ
 TellsBytes bytes old status new =
     (Appends old.output.contents new.output.contents bytes × OnlyOutput old new × (status ≡ 0))
     ⊎ ((new.output.has_failed ≡ true) × AppendsPart old.output.contents new.output.contents bytes
-    × ReadsNothing old new × TellsRefusal (write_fault_name Write) old.errors new.errors status)
+    × ReadsNothing old new × TellsRefusal (write_fault_name Write) old.errors status new.errors)
 
 -- these bytes are what the desk gives out by what is held of the document
 abbrev pub Gives : Given → ℕ → Option Pages → List ℕ → Type 0
@@ -156,11 +156,11 @@ ReadsFile old new bytes = TakesFirst old.remaining new.remaining IMPORT_BYTES by
 -- or it was read, and there is no desk. Nothing was written to the standard error.
 pub data EndsImport (capacity : ℕ) (old : OnDesk) (status : ℕ) (new : OnDesk) : Type 0 where
   not_read : (fault : InputFault) → HasInputFault new.streams.input fault → new.files ≡ old.files
-      → TellsRefusal (input_fault_name fault) old.streams.output new.streams.output status
+      → TellsRefusal (input_fault_name fault) old.streams.output status new.streams.output
       → LeavesErrors old.streams new.streams → EndsImport capacity old status new
   no_desk : (bytes name : List ℕ) → ReadsFile old.streams.input new.streams.input bytes
       → HasNoDesk old.files capacity name new.files
-      → TellsRefusal name old.streams.output new.streams.output status
+      → TellsRefusal name old.streams.output status new.streams.output
       → LeavesErrors old.streams new.streams → EndsImport capacity old status new
   opened : (bytes : List ℕ) (desk after : DeskView) (reply : Result Imported ImportFault)
       → ReadsFile old.streams.input new.streams.input bytes → OpensDesk old.files capacity new.files.joint desk

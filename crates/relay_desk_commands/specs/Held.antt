@@ -101,11 +101,11 @@ HasNoKeys set _ = ⊥
 -- out; or the keys of the files could not be had.
 pub data TellsAll (seen : SeenFiles) (old : OutputView) (status : ℕ) (new : OutputView) : Type 0 where
   listed : (text : List ℕ) (unsound : Bool) → Lists seen 65536 text unsound
-      → Tells text (status_by unsound) old new status → TellsAll seen old status new
+      → Tells text (status_by unsound) old status new → TellsAll seen old status new
   cut_off : (number : ℕ) (text : List ℕ) (unsound : Bool) → Lists seen number text unsound → number ≤ 65536
       → new.has_failed ≡ true → AppendsPart old.contents new.contents text → status ≡ 1
       → TellsAll seen old status new
-  no_keys : (why : HeldFault) → HasNoKeys seen.set why → TellsRefusal (held_fault_name why) old new status
+  no_keys : (why : HeldFault) → HasNoKeys seen.set why → TellsRefusal (held_fault_name why) old status new
       → TellsAll seen old status new
 
 -- The line of one document that is asked for, by what was seen of its number. If nothing is held of it, that is
@@ -125,7 +125,7 @@ asked_status _ = 1
 abbrev pub TellsOne : SeenFiles → ℕ → OutputView → ℕ → OutputView → Type 0
 TellsOne seen id old status new = (found : Result (Option Held) HeldFault)
     × SeesNumber seen.set (documents_in seen.joint) id found
-    × Tells (asked_line seen.joint id found) (asked_status found) old new status
+    × Tells (asked_line seen.joint id found) (asked_status found) old status new
 
 -- what `held` says of one document, or of all
 abbrev pub TellsHeld : SeenFiles → Option ℕ → OutputView → ℕ → OutputView → Type 0

@@ -50,7 +50,7 @@ pub(crate) fn open_desk<A: Allocator + Copy, S: Store, T: StoreSet, W: Write>(
         opened.desk × (output.new ≡ output.old) × IsInOrder opened.desk)
         (λ ended. (name : List ℕ) × HasNoDesk (record { joint = S.state store; set = T.state set }) capacity name
         (record { joint = S.state ended.store; set = T.state ended.set })
-        × TellsRefusal name output.old output.new ended.status) }
+        × TellsRefusal name output.old ended.status output.new) }
 {
     let mut store = store;
     let mut set = set;

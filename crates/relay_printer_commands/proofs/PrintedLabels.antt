@@ -25,7 +25,7 @@ use Rattle.relay_printer_commands.specs.inner.Images.LosesImages.{memory, write}
 
 -- the line of a refusal after another line
 refused_after : (line name : List ℕ) (old mid new : OutputView) (status : ℕ) → Appends old.contents mid.contents line
-    → TellsRefusal name mid new status → PrintsButRefuses line name old new × (status ≡ 1)
+    → TellsRefusal name mid status new → PrintsButRefuses line name old new × (status ≡ 1)
 refused_after line name old mid new status first (inl told) = (inl (Appends-trans _ _ _ _ _ first told.0), told.1)
 refused_after line name old mid new status first (inr (failed, part, is)) =
     (inr (failed, then_part _ _ _ _ _ first part), is)
@@ -35,7 +35,7 @@ pub some_are_lost : (labels : List GridView) (line : List ℕ) (old : StreamsVie
     (new : StreamsView) (refusal : Refusal) → LosesImages labels old.output new.output refusal
     → AppendsPart old.output.contents new.output.contents (images_of labels)
     → Appends old.errors.contents mid.contents line
-    → TellsRefusal (refusal_name refusal) mid new.errors status → PrintsLabels labels line old status new
+    → TellsRefusal (refusal_name refusal) mid status new.errors → PrintsLabels labels line old status new
 some_are_lost labels line old mid status new _ (memory done next rest is images) part first told =
     let after = refused_after line (refusal_name Memory) old.errors mid new.errors status first told in
     no_memory done next rest is images after.0 after.1

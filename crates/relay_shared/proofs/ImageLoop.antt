@@ -134,7 +134,7 @@ stopped c count start now after refused so_far step = inr record {
 pub refused_last : (c : ImageCommand) (count : ℕ) (start now after : Progress c) (refused : Bool) (name : List ℕ)
     {bytes : List ℕ} {status : ℕ} → WritesImages c count start refused now → Consumes now.input.remaining after.input.remaining bytes
     → Comes c count now.state (taken_to bytes after) (last_step c after.state (refusal_of name))
-    → TellsRefusal name now.output after.output status → TellsImages c start status after
+    → TellsRefusal name now.output status after.output → TellsImages c start status after
 refused_last c count start now after refused name so_far consumed comes (inl told) =
     ended c count start now after refused (record { refused = true; last = true }) _ so_far
     (takes c count now _ after consumed comes told.0) refl (rw (or_right refused true refl) told.1)

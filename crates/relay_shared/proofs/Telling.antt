@@ -9,13 +9,13 @@ use Rattle.relay_shared.specs.Telling.{AppendsThenPart, Puts, Tells}
 
 -- the line was written and the status is 0, or the output has refused it and a part of it is out
 pub told : {line : List ℕ} {old new : OutputView} {status : ℕ} (put : Result (Unit {0}) WriteFault)
-    → Puts line old put new → MatchResult put (λ _. status ≡ 0) (λ _. status ≡ 1) → Tells line 0 old new status
+    → Puts line old put new → MatchResult put (λ _. status ≡ 0) (λ _. status ≡ 1) → Tells line 0 old status new
 told (Ok x) puts is = inl (puts.written, is)
 told (Err e) puts is = inr (puts.failed, puts.part, is)
 
 -- the status is 1 either way
 pub told_else : {line : List ℕ} {old new : OutputView} (put : Result (Unit {0}) WriteFault) → Puts line old put new
-    → Tells line 1 old new 1
+    → Tells line 1 old 1 new
 told_else (Ok x) puts = inl (puts.written, refl)
 told_else (Err e) puts = inr (puts.failed, puts.part, refl)
 

@@ -28,13 +28,13 @@ LeavesErrors old new = new.errors ≡ old.errors
 -- The line was written on the output, and the exit status is 0; or the output has failed, with a part of the line, and
 -- the exit status is 1. Nothing happened to the other streams.
 abbrev pub TellsOnOutput : List ℕ → StreamsView → ℕ → StreamsView → Type 0
-TellsOnOutput line old status new = Tells line 0 old.output new.output status × OnlyOutput old new
+TellsOnOutput line old status new = Tells line 0 old.output status new.output × OnlyOutput old new
 
 -- The line of a refusal was written on the output, or the output has failed, with a part of the line; the exit status is
 -- 1. Nothing happened to the other streams.
 abbrev pub RefusesOnOutput : List ℕ → StreamsView → ℕ → StreamsView → Type 0
-RefusesOnOutput name old status new = TellsRefusal name old.output new.output status × OnlyOutput old new
+RefusesOnOutput name old status new = TellsRefusal name old.output status new.output × OnlyOutput old new
 
 -- the same, on the standard error in place of the output
 abbrev pub RefusesOnErrors : List ℕ → StreamsView → ℕ → StreamsView → Type 0
-RefusesOnErrors name old status new = TellsRefusal name old.errors new.errors status × OnlyErrors old new
+RefusesOnErrors name old status new = TellsRefusal name old.errors status new.errors × OnlyErrors old new

@@ -15,19 +15,19 @@ pub record Puts {T : Type 0} (text : List ℕ) (old : OutputView) (result : Resu
 
 -- the line was written and the exit status is this one; or the output has failed, a part of the line is out from its
 -- first byte on, and the exit status is 1
-abbrev pub Tells : List ℕ → ℕ → OutputView → OutputView → ℕ → Type 0
-Tells line wanted old new status =
+abbrev pub Tells : List ℕ → ℕ → OutputView → ℕ → OutputView → Type 0
+Tells line wanted old status new =
     (Appends old.contents new.contents line × (status ≡ wanted))
     ⊎ ((new.has_failed ≡ true) × AppendsPart old.contents new.contents line × (status ≡ 1))
 
 -- the line of a refusal with this name was written, with the status 1, or a part of it, and the output has failed
-abbrev pub TellsRefusal : List ℕ → OutputView → OutputView → ℕ → Type 0
-TellsRefusal name old new status = Tells (refused_line name) 1 old new status
+abbrev pub TellsRefusal : List ℕ → OutputView → ℕ → OutputView → Type 0
+TellsRefusal name old status new = Tells (refused_line name) 1 old status new
 
 -- of an answer this line was told, and the status is 0; or of a refusal the line with its name
 abbrev pub TellsAnswer : {X F : Type 0} → (X → List ℕ) → (F → List ℕ) → Result X F → OutputView → ℕ → OutputView → Type 0
-TellsAnswer line name (Ok answer) old status new = Tells (line answer) 0 old new status
-TellsAnswer line name (Err fault) old status new = TellsRefusal (name fault) old new status
+TellsAnswer line name (Ok answer) old status new = Tells (line answer) 0 old status new
+TellsAnswer line name (Err fault) old status new = TellsRefusal (name fault) old status new
 
 -- a text was appended whole, after it a part of the next one, its first bytes, and nothing else
 abbrev pub AppendsThenPart : Option (List ℕ) → Option (List ℕ) → List ℕ → List ℕ → Type 0

@@ -36,7 +36,7 @@ pub fn status_after(put: Result<(), WriteFault>) -> u8
 
 /// Writes the line of a refusal, and gives the exit status.
 pub fn refuse<W: Write>(output: &mut Output<W>, name: &str) -> u8
-    ensures { TellsRefusal name.now output.old output.new result }
+    ensures { TellsRefusal name.now output.old result output.new }
 {
     let _ = output.put_refusal(name);
     1

@@ -33,4 +33,4 @@ RefusesSymbol form old new Memory = IsSide form.side
 pub record PrintsRefusal (form : Form) (input rest : InputView) (old new : OutputView) : Type 0 where
   pub refusal : SymbolRefusal
   pub reason : RefusesSymbol form input rest refusal
-  pub told : TellsRefusal (symbol_refusal_name refusal) old new 1
+  pub told : TellsRefusal (symbol_refusal_name refusal) old 1 new

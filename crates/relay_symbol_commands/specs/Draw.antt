@@ -34,7 +34,7 @@ PrintsDrawing form plain input IsOut =
 pub record PrintsWriteRefusal (output old new : OutputView) : Type 0 where
   pub failed : output.has_failed ≡ true
   pub fault : WriteFault
-  pub told : TellsRefusal (write_fault_name fault) old new 1
+  pub told : TellsRefusal (write_fault_name fault) old 1 new
 
 -- How `draw` ends, from its streams to the exit status and the streams: the image was written; or the line of a refusal
 -- for which there was a reason was written to the standard error, or a part of it, if that has failed. Of an image that

@@ -29,9 +29,9 @@ pub record ReadsScript (input rest : InputView) (bytes : List ℕ) : Type 0 wher
   pub whole : rest.has_failed ≡ input.has_failed
 
 -- the line of each answer was written, and the status is 1 if one is of a refusal; or the output has failed
-abbrev pub TellsAnswers : {A : Type 0} → List (Answer A) → OutputView → OutputView → ℕ → Type 0
-TellsAnswers answers old new status =
-    Tells (flat_map answer_line answers) (if has_refusal answers then 1 else 0) old new status
+abbrev pub TellsAnswers : {A : Type 0} → List (Answer A) → OutputView → ℕ → OutputView → Type 0
+TellsAnswers answers old status new =
+    Tells (flat_map answer_line answers) (if has_refusal answers then 1 else 0) old status new
 
 -- How `world` ends, from its streams to the exit status and the streams: the input was read, it was a script, its world
 -- began and answered each event, and the line of each answer was written. No identification was printed twice, no
@@ -39,14 +39,14 @@ TellsAnswers answers old new status =
 -- faithful. Or the first of these was not done, for a reason that stands; memory may be refused at any time.
 pub data EndsWorld (A : Type 0) (old : StreamsView) (status : ℕ) (new : StreamsView) : Type 0 where
   not_read : (fault : InputFault) → HasInputFault new.input fault
-      → TellsRefusal (input_fault_name fault) old.output new.output status → EndsWorld A old status new
+      → TellsRefusal (input_fault_name fault) old.output status new.output → EndsWorld A old status new
   no_script : (bytes : List ℕ) (fault : ScriptFault) → ReadsScript old.input new.input bytes
       → IsRead {A = Script A} (Err fault) (IsScript bytes)
-      → TellsRefusal (script_fault_name fault) old.output new.output status → EndsWorld A old status new
+      → TellsRefusal (script_fault_name fault) old.output status new.output → EndsWorld A old status new
   no_world : (bytes : List ℕ) (script : Script A) (fault : WorldFault)
       → ReadsScript old.input new.input bytes → IsScript bytes script
       → HasWorldFault script.ranges.items script.capacities.items fault
-      → TellsRefusal (world_fault_name fault) old.output new.output status → EndsWorld A old status new
+      → TellsRefusal (world_fault_name fault) old.output status new.output → EndsWorld A old status new
   answered : (bytes : List ℕ) (script : Script A) (answers : List (Answer A))
       → ReadsScript old.input new.input bytes → IsScript bytes script
       → RunsFromTheStart script.ranges.items script.capacities.items script.events.items answers
@@ -55,4 +55,4 @@ pub data EndsWorld (A : Type 0) (old : StreamsView) (status : ℕ) (new : Stream
       → TakesOnce (length script.ranges.items) (given script.events.items answers) (replies answers)
       → ImportsExports (length script.capacities.items) (given script.events.items answers) (replies answers)
       → IsFaithfulIfHonest script.ranges.items script.capacities.items script.events.items answers
-      → TellsAnswers answers old.output new.output status → EndsWorld A old status new
+      → TellsAnswers answers old.output status new.output → EndsWorld A old status new

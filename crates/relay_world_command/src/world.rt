@@ -37,7 +37,7 @@ fn put_answers<A: Allocator, W: Write>(
 
 // Writes the lines of answers, and gives the exit status.
 fn tell<A: Allocator, W: Write>(output: &mut Output<W>, answers: &[Answer<A>]) -> u8
-    ensures { TellsAnswers answers.now output.old output.new result }
+    ensures { TellsAnswers answers.now output.old result output.new }
 {
     match put_answers(output, answers) {
         Ok(refused) => u8::from(refused),

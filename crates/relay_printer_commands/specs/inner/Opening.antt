@@ -11,4 +11,4 @@ use Rattle.relay_shared.specs.Telling.{TellsRefusal}
 pub record TellsNotOpened (saved : Saved) (number : ℕ) (old : OutputView) (status : ℕ) (new : OutputView) : Type 0 where
   pub fault : OpenFault
   pub has_fault : HasOpenFault saved number fault
-  pub told : TellsRefusal (open_fault_name fault) old new status
+  pub told : TellsRefusal (open_fault_name fault) old status new
