@@ -3,20 +3,20 @@ use Rattle.std.specs.Prelude.{ℕ, Bool, true, false, not, ◌&&◌, ◌||◌, �
 use Rattle.dm_assembly_desk.specs.declared.limits.TheConstants.{MOST_CAPACITY}
 use Rattle.relay_line.specs.declared.command.Command.{Command}
 use Rattle.relay_line.specs.declared.command.Command.TheVariants.{Scan, Import}
-use Rattle.relay.specs.declared.plan.WorkplaceFault.{WorkplaceFault}
-use Rattle.relay.specs.declared.plan.WorkplaceFault.TheVariants as faults
+use Rattle.relay.specs.declared.course.WorkplaceFault.{WorkplaceFault}
+use Rattle.relay.specs.declared.course.WorkplaceFault.TheVariants as faults
 use Rattle.relay.specs.Table.{group_of_work, row_of_command}
 use Rattle.relay.specs.declared.table.Group.{Group}
 use Rattle.relay.specs.declared.table.Group.TheVariants as groups
 use Rattle.relay.specs.declared.table.Work.{Work}
 use Rattle.relay.specs.declared.table.Work.TheVariants as works
-use Rattle.relay.specs.declared.plan.Found.{Found}
-use Rattle.relay.specs.declared.plan.Found.TheVariants as found
-use Rattle.relay.specs.declared.plan.Sight.{Sight}
-use Rattle.relay.specs.declared.plan.Locked.{Locked}
-use Rattle.relay.specs.declared.plan.Locked.TheVariants as locked
-use Rattle.relay.specs.declared.plan.Plan.{Plan}
-use Rattle.relay.specs.declared.plan.Plan.TheVariants as plans
+use Rattle.relay.specs.declared.course.Found.{Found}
+use Rattle.relay.specs.declared.course.Found.TheVariants as found
+use Rattle.relay.specs.declared.course.Sight.{Sight}
+use Rattle.relay.specs.declared.course.Locked.{Locked}
+use Rattle.relay.specs.declared.course.Locked.TheVariants as locked
+use Rattle.relay.specs.declared.course.Course.{Course}
+use Rattle.relay.specs.declared.course.Course.TheVariants as courses
 use Rattle.relay.specs.declared.workplace.Workplace.{Workplace}
 
 -- the name of a fault
@@ -128,14 +128,14 @@ path_of place locked.File = string_bytes place.file
 path_of place locked.Folder = string_bytes place.folder
 
 -- by the reason to refuse it, if there is one, and whether it is done over nothing
-abbrev pub plan_by : Option WorkplaceFault → (over_nothing : Bool) → Option Locked → Plan
-plan_by (Some fault) over_nothing locked = plans.Refuses fault
-plan_by None true locked = plans.OverNothing
-plan_by None false locked = plans.OverFiles locked
+abbrev pub course_by : Option WorkplaceFault → (over_nothing : Bool) → Option Locked → Course
+course_by (Some fault) over_nothing locked = courses.Refuses fault
+course_by None true locked = courses.OverNothing
+course_by None false locked = courses.OverFiles locked
 
 -- what is done of a command, by what was seen at its paths
-abbrev pub plan_for : Command → Sight → Plan
-plan_for command sight =
+abbrev pub course_for : Command → Sight → Course
+course_for command sight =
     let work = (row_of_command command).work in
-    plan_by (refusal_at work sight) (is_done_over_nothing work (asks_for_no_room_by_command command) sight)
+    course_by (refusal_at work sight) (is_done_over_nothing work (asks_for_no_room_by_command command) sight)
     (locked_for work (has_documents sight.file))

@@ -1,18 +1,18 @@
 -- In which order a command's steps are taken, and how it ends. A command that names no file is done over nothing. Any
 -- other is tried without a file first, and what it says then is how it ends, unless it goes on to a file. Only then its
--- paths are looked at, and what is to be done is planned. A move of a ledger is tried up to its save. What has to be
+-- paths are looked at, and what is to be done is decided. A move of a ledger is tried up to its save. What has to be
 -- locked is locked, and stays so while the command is done. At last what was written is let out.
 use Rattle.std.specs.Prelude.{◌≡◌, ℕ, Bool, true, false, ◌==◌, List, Option, Some, None, Result, MatchResult, if◌then◌else◌, codes}
 use Rattle.relay_line.specs.declared.command.Command.{Command}
-use Rattle.relay.specs.declared.plan.WorkplaceFault.{WorkplaceFault}
+use Rattle.relay.specs.declared.course.WorkplaceFault.{WorkplaceFault}
 use Rattle.relay.specs.declared.table.Work.{Work}
 use Rattle.relay.specs.declared.table.Work.TheVariants as works
-use Rattle.relay.specs.declared.plan.Sight.{Sight}
-use Rattle.relay.specs.declared.plan.Locked.{Locked}
-use Rattle.relay.specs.declared.plan.Locked.TheVariants as locked
-use Rattle.relay.specs.declared.plan.Plan.{Plan}
-use Rattle.relay.specs.declared.plan.Plan.TheVariants as plans
-use Rattle.relay.specs.Places.{fault_name, plan_for}
+use Rattle.relay.specs.declared.course.Sight.{Sight}
+use Rattle.relay.specs.declared.course.Locked.{Locked}
+use Rattle.relay.specs.declared.course.Locked.TheVariants as locked
+use Rattle.relay.specs.declared.course.Course.{Course}
+use Rattle.relay.specs.declared.course.Course.TheVariants as courses
+use Rattle.relay.specs.Places.{fault_name, course_for}
 use Rattle.relay.specs.Table.{row_of_command}
 
 -- a refusal: whether it goes to the standard error, and its name
@@ -73,14 +73,14 @@ abbrev pub refusal_by : Command → WorkplaceFault → Refusal
 refusal_by command fault = record { on_errors = (row_of_command command).refuses_on_errors; name = fault_name fault }
 
 -- its paths were looked at
-abbrev pub planned : Command → Plan → Stage
-planned command (plans.Refuses fault) = Refuses (refusal_by command fault)
-planned command plans.OverNothing = OverNothing
-planned command (plans.OverFiles locked) =
+abbrev pub on_course : Command → Course → Stage
+on_course command (courses.Refuses fault) = Refuses (refusal_by command fault)
+on_course command courses.OverNothing = OverNothing
+on_course command (courses.OverFiles locked) =
     if (row_of_command command).tries_its_save then (Tries command locked) else (Ready command locked)
 
 abbrev pub after_look : Stage → Sight → Stage
-after_look (GoesOn command) sight = planned command (plan_for command sight)
+after_look (GoesOn command) sight = on_course command (course_for command sight)
 after_look stage _ = out_of_turn stage
 
 -- it was tried up to its save

@@ -1,6 +1,6 @@
 //! Which files are at fault where a command was refused: a line on the standard error names each.
 
-use crate::plan::{Plan, plan_of};
+use crate::course::{Course, course_of};
 use crate::table::{Group, Work, file_of, group_of, work_of};
 use crate::workplace::Workplace;
 use dm_assembly_desk::{Desk, DeskFault, MOST_CAPACITY, MOST_FILE_BYTES, MoveFault, move_pages};
@@ -35,7 +35,7 @@ pub(crate) fn name_odd_place<R: AllocGlobal + Eprint + Files>(rt: &R, command: C
 /// Says on the standard error which file of a command can't be locked.
 pub(crate) fn name_lock<R: AllocGlobal + Eprint + Files>(rt: &R, command: Command) {
     if let Ok(place) = Workplace::of(rt, command)
-        && let Plan::OverFiles(Some(locked)) = plan_of(command, place.sight)
+        && let Course::OverFiles(Some(locked)) = course_of(command, place.sight)
     {
         let path = place.path_of(locked);
         let _ = eprint!(rt; "relay: {path}.lock: Lock\n");

@@ -14,10 +14,10 @@
 #![tactic(auto)]
 
 mod commands;
+mod course;
 mod faulty_files;
 mod guard;
 mod lock;
-mod plan;
 mod program;
 mod refused_images;
 mod rehearsal;

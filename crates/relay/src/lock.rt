@@ -2,7 +2,7 @@
 
 ghost use Rattle.std.specs.Prelude.{◌≡◌, ◌++◌, IfOk, codes, string_bytes};
 
-use crate::plan::WorkplaceFault;
+use crate::course::WorkplaceFault;
 use std::alloc::Global;
 use std::fs;
 use std::fs::{File, Metadata, OpenOptions, TryLockError};

@@ -3,7 +3,7 @@
 ghost use Rattle.std.specs.Prelude.{◌≡◌, None, is_some, if◌then◌else◌};
 ghost use Rattle.relay.specs.Steps.{EndsOrRefuses, HasEnded, begins, refusal_by, Ends, GoesOn, Tries, Ready, Holds, Refuses, Speaks, OverNothing};
 
-use crate::plan::{Locked, Plan, WorkplaceFault, plan_of};
+use crate::course::{Course, Locked, WorkplaceFault, course_of};
 use crate::rehearsal::Rehearsal;
 use crate::table::{Work, refuses_on_errors, tries_its_save, work_of};
 use crate::workplace::Workplace;
@@ -198,10 +198,10 @@ fn run_on_files<S: Steps>(steps: &mut S, command: Command) -> Result<u8, Workpla
     ensures { S.stage steps.old ≡ GoesOn command.entry → EndsOrRefuses command.entry result (S.stage steps.new) }
 {
     let place = steps.look()?;
-    match plan_of(command, place.sight) {
-        Plan::Refuses(fault) => Err(fault),
-        Plan::OverNothing => Ok(run_over_nothing(steps)),
-        Plan::OverFiles(locked) => {
+    match course_of(command, place.sight) {
+        Course::Refuses(fault) => Err(fault),
+        Course::OverNothing => Ok(run_over_nothing(steps)),
+        Course::OverFiles(locked) => {
             if tries_its_save(command) {
                 run_after_trial(steps, command, &place, locked)
             } else {

@@ -6,7 +6,7 @@ use crate::commands::do_command;
 use crate::faulty_files::{name_faulty_files, name_lock, name_missing_desk, name_odd_place};
 use crate::guard::{Guard, Guarded};
 use crate::lock::Lock;
-use crate::plan::{Locked, WorkplaceFault};
+use crate::course::{Locked, WorkplaceFault};
 use crate::refused_images::RefusedImages;
 use crate::rehearsal::{Rehearsal, before_a_save, before_files};
 use crate::replay::Replay;

@@ -4,7 +4,7 @@ ghost use Rattle.std.specs.Prelude.{◌≡◌, ◌++◌, IfOk, codes, string_byt
 ghost use Rattle.relay.specs.Places.{path_of};
 
 use crate::lock::Lock;
-use crate::plan::{Found, Locked, Sight, WorkplaceFault};
+use crate::course::{Found, Locked, Sight, WorkplaceFault};
 use crate::table::file_of;
 use relay_line::Command;
 use std::fs::File;

@@ -13,7 +13,7 @@ ghost use Rattle.relay.specs.Places.{
   leads_nowhere,
   locked_for,
   needs_folder_above,
-  plan_for,
+  course_for,
   refusal_at,
 };
 
@@ -57,7 +57,7 @@ impl WorkplaceFault {
 }
 
 impl From<AllocError> for WorkplaceFault {
-    ghost use Rattle.relay.specs.declared.plan.WorkplaceFault.TheVariants as faults;
+    ghost use Rattle.relay.specs.declared.course.WorkplaceFault.TheVariants as faults;
 
     ghost from_gives = { λ _ fault. fault ≡ faults.Memory };
 
@@ -218,7 +218,7 @@ fn locked_of(work: Work, has_joint: bool) -> Option<Locked>
 
 /// What is done of a command.
 #[derive(Clone, Copy)]
-pub(crate) enum Plan {
+pub(crate) enum Course {
     /// It is refused.
     Refuses(WorkplaceFault),
     /// It is done over nothing: it finds nothing at its paths, and makes nothing, or it asks for a desk that can't be.
@@ -228,15 +228,15 @@ pub(crate) enum Plan {
 }
 
 /// What is done of a command, by what was seen at its paths.
-pub(crate) fn plan_of(command: Command, sight: Sight) -> Plan
-    ensures { result ≡ plan_for command.entry sight }
+pub(crate) fn course_of(command: Command, sight: Sight) -> Course
+    ensures { result ≡ course_for command.entry sight }
 {
     let work = work_of(command);
     if let Some(fault) = refusal_of(work, sight) {
-        return Plan::Refuses(fault);
+        return Course::Refuses(fault);
     }
     if needs_nothing(work, asks_for_no_room(command), sight) {
-        return Plan::OverNothing;
+        return Course::OverNothing;
     }
-    Plan::OverFiles(locked_of(work, sight.file.has_documents()))
+    Course::OverFiles(locked_of(work, sight.file.has_documents()))
 }
