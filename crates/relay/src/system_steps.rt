@@ -3,10 +3,10 @@
 ghost use Rattle.std.specs.Prelude.{◌≡◌};
 
 use crate::commands::do_command;
+use crate::course::{Locked, WorkplaceFault};
 use crate::faulty_files::{name_faulty_files, name_lock, name_missing_desk, name_odd_place};
 use crate::guard::{Guard, Guarded};
 use crate::lock::Lock;
-use crate::course::{Locked, WorkplaceFault};
 use crate::refused_images::RefusedImages;
 use crate::rehearsal::{Rehearsal, before_a_save, before_files};
 use crate::replay::Replay;

@@ -3,8 +3,8 @@
 ghost use Rattle.std.specs.Prelude.{◌≡◌, ◌++◌, IfOk, codes, string_bytes};
 ghost use Rattle.relay.specs.Places.{path_of};
 
-use crate::lock::Lock;
 use crate::course::{Found, Locked, Sight, WorkplaceFault};
+use crate::lock::Lock;
 use crate::table::file_of;
 use relay_line::Command;
 use std::fs::File;
