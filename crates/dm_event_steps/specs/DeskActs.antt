@@ -43,7 +43,8 @@ use Rattle.dm_event_steps.specs.Acts.{IsCalled, next_save_of}
 
 -- ---- the calls, by their contracts
 
--- A desk that has failed answers so, and stays as it is. Any other does what the call does, `Call`.
+-- A call of a desk in order: one that has failed answers so, and stays as it is; any other does what the call does,
+-- `Call`.
 pub record MakesCall {X : Type 0} (failed_answer : X) (Call : DeskView → X → DeskView → Type 0)
     (old : DeskView) (answer : X) (new : DeskView) : Type 0 where
   pub failed : old.is_failed ≡ true → (answer ≡ failed_answer) × (new ≡ old)

@@ -12,7 +12,7 @@ use Rattle.relay.specs.declared.course.Locked.{Locked}
 use Rattle.relay.specs.declared.course.Locked.TheVariants as locked
 use Rattle.relay.specs.declared.course.Course.{Course}
 use Rattle.relay.specs.declared.course.Course.TheVariants as courses
-use Rattle.relay.specs.Places.{fault_name, course_for}
+use Rattle.relay.specs.Places.{course_for, fault_name}
 use Rattle.relay.specs.Table.{row_of_command}
 
 -- a refusal: whether it goes to the standard error, and its name

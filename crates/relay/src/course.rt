@@ -3,6 +3,7 @@
 ghost use Rattle.std.specs.Prelude.{◌≡◌};
 ghost use Rattle.relay.specs.Places.{
   asks_for_no_room_by_command,
+  course_for,
   fault_name,
   has_documents,
   has_second_name,
@@ -13,7 +14,6 @@ ghost use Rattle.relay.specs.Places.{
   leads_nowhere,
   locked_for,
   needs_folder_above,
-  course_for,
   refusal_at,
 };
 

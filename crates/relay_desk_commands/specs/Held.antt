@@ -2,7 +2,7 @@
 use Rattle.std.specs.Prelude.{◌≡◌, ◌≤◌, ◌⊎◌, ◌||◌, ◌++◌, ◌+◌, ℕ, Bool, true, List, [], if◌then◌else◌}
 use Rattle.std.specs.Prelude.{Option, Some, None, Result, Ok, Err, is_err, IsTrue, IsSomeAnd}
 use Rattle.std.specs.FinMap as map
-use Rattle.dm_store.specs.Saved.{Saved, LoadsOpen}
+use Rattle.dm_store.specs.Saved.{Saved, LoadsOpen, MemoryOpen}
 use Rattle.dm_store.specs.Sets.{SavedSet}
 use Rattle.dm_assembly_desk.specs.Documents.{Documents}
 use Rattle.dm_assembly_desk.specs.FaultNames.{ask_fault_name, held_fault_name, move_fault_name}
@@ -42,7 +42,7 @@ documents_in (Err fault) = map.empty
 -- why nobody can say what the file of an older version holds
 abbrev pub HasJointUnsound : Saved → MoveFault → Type 0
 HasJointUnsound saved moves.Device = saved.load_plan ≡ LoadsOpen
-HasJointUnsound saved moves.Memory = Unit {0}
+HasJointUnsound saved moves.Memory = saved.memory_plan ≡ MemoryOpen
 HasJointUnsound saved fault =
     IsTrue saved.is_honest → IsSomeAnd saved.content (λ bytes. HasJointFileFault bytes fault)
 
@@ -94,7 +94,7 @@ status_by unsound = if unsound then 1 else 0
 -- why the keys of a set could not be had
 abbrev pub HasNoKeys : SavedSet → HeldFault → Type 0
 HasNoKeys set looks.Device = set.load_plan ≡ LoadsOpen
-HasNoKeys set looks.Memory = Unit {0}
+HasNoKeys set looks.Memory = set.memory_plan ≡ MemoryOpen
 HasNoKeys set _ = ⊥
 
 -- What `held` says of all documents: each line was written; or the output has failed, and a part of some first lines is

@@ -38,8 +38,8 @@ use std::io::{Read, Write};
 // What was read of the file of an older version: its documents, if there is one, or why it is not sound.
 type SeenJoint<'a> = Result<Option<JointFile<'a>>, MoveFault>;
 
-// What the file of an older version is, by what was loaded of it: its bytes, or its first, one more than the greatest
-// has.
+// What the file of an older version is, by what was loaded of it: its bytes, or of a file that is too long the first of
+// them, one more than the greatest has.
 fn joint_in<A: Allocator>(loaded: &Result<Option<Vec<u8, A>>, LoadFault>) -> SeenJoint<'_>
     ensures { (saved after : Saved) → Loads (λ bytes. bytes.items) saved MOST_JOINT_FILE_BYTES loaded.entry.now after
         → SeesJoint saved result }

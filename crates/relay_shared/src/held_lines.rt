@@ -45,8 +45,8 @@ fn push_missing(text: &mut ArrayString<73>, mask: u16, m: u8)
     }
 }
 
-// Whether the document is complete, and the numbers of the pages that are missing, each after a space: a word of at most
-// nine bytes, and at most four bytes for each of sixteen pages.
+// Whether the document is complete, and the numbers of the pages that are missing, each after a space. There is room for
+// a word of nine bytes, and for a space and three digits for each of sixteen pages.
 fn held_end(held: Held) -> ArrayString<73>
     requires { held.n ≤ 16 }
     ensures { result.bytes ≡ held_word held ++ missing_pages held.mask held.n }

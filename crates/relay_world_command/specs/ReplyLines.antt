@@ -87,10 +87,10 @@ answer_line (answers.Given is_honest reply) = (if is_honest then [] else codes "
 answer_line answers.NotGiven = refused_line (codes "Memory")
 
 -- it is one of a refusal
-abbrev pub is_refused : {A : Type 0} → Answer A → Bool
-is_refused (answers.Given is_honest reply) = is_refusal reply
-is_refused answers.NotGiven = true
+abbrev pub is_refused_answer : {A : Type 0} → Answer A → Bool
+is_refused_answer (answers.Given is_honest reply) = is_refusal reply
+is_refused_answer answers.NotGiven = true
 
 -- some line is one of a refusal
 abbrev pub has_refusal : {A : Type 0} → List (Answer A) → Bool
-has_refusal given = list_any is_refused given
+has_refusal given = list_any is_refused_answer given

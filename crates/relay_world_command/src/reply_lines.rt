@@ -4,7 +4,7 @@ ghost use Rattle.std.specs.Prelude.{◌≡◌, ◌∷◌, [], codes, if◌then�
 ghost use Rattle.hex.specs.Hex.{encode_lower};
 ghost use Rattle.dm_print_ledger.specs.Tickets.{ticket_bytes};
 ghost use Rattle.relay_shared.specs.Telling.{Puts};
-ghost use Rattle.relay_world_command.specs.ReplyLines.{answer_line, document_line, export_line, is_refusal, is_refused, labels_line, numbered_ticket_line, reply_line};
+ghost use Rattle.relay_world_command.specs.ReplyLines.{answer_line, document_line, export_line, is_refusal, is_refused_answer, labels_line, numbered_ticket_line, reply_line};
 
 use dm_append_label::FileId;
 use dm_event_history::Reply;
@@ -169,7 +169,7 @@ pub(crate) fn put_answer<A: Allocator, W: Write>(
 
 /// Whether the line of an answer is one of a refusal.
 pub(crate) fn is_refused_answer<A: Allocator>(answer: &Answer<A>) -> bool
-    ensures { result ≡ is_refused answer.now }
+    ensures { result ≡ is_refused_answer answer.now }
 {
     match answer {
         Answer::Given {

@@ -11,7 +11,8 @@ returns-in-Err-Device-clause-tells g c =
 
 pub returns-in-Err-Memory-clause-tells : goal.returns-in-Err-Memory-clause-tells
 returns-in-Err-Memory-clause-tells g c =
-    no_keys Memory tt (rw c.name-in-Err-Memory.ensures at c.refuse-in-Err-Memory.ensures)
+    no_keys Memory (c.in-Err-Memory.ensures.lists.memory (ap (λ fault. Err fault) c.in-Err-Memory.field-0-is))
+    (rw c.name-in-Err-Memory.ensures at c.refuse-in-Err-Memory.ensures)
 
 pub returns-in-Ok-put_list-clause-tells : goal.returns-in-Ok-put_list-clause-tells
 returns-in-Ok-put_list-clause-tells g c =

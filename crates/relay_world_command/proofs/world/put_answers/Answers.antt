@@ -2,7 +2,7 @@ use Rattle.std.proofs.Common.{◌<◌, [], length, take, refl, arith}
 use Rattle.std.proofs.KnownBytes.{Appends-nil, Appends-trans}
 use Rattle.std.proofs.lemmas.List.{take_more, flat_map_more}
 use Rattle.std.proofs.lemmas.List.Folds.{list_any_more}
-use Rattle.relay_world_command.specs.ReplyLines.{answer_line, is_refused}
+use Rattle.relay_world_command.specs.ReplyLines.{answer_line, is_refused_answer}
 use Rattle.relay_shared.proofs.Lines.{puts_before}
 use Rattle.relay_world_command.proofs.world.put_answers.Goals as goal
 
@@ -19,7 +19,7 @@ loop-answer-preserved g c =
           (rw (flat_map_more answer_line [] (take i c.args.answers.now) answer) at
           (Appends-trans _ _ _ _ _ c.loop-answer.invariant.written c.in_ok-put_answer.ensures.written));
       refused = rw (
-        list_any_more is_refused c.args.answers.now i answer there,
+        list_any_more is_refused_answer c.args.answers.now i answer there,
         ← c.answer-item.is,
         ← c.loop-answer.invariant.refused,
         ← c.is_refused_answer-refused.ensures,
