@@ -22,7 +22,7 @@ use Rattle.dm_event_history.specs.Legal.{IsSaveFault, IsStopped, NeedsRunning, M
 
 -- ---- one event
 
--- The reply is one to the event. A save is told of only if nothing was to happen to the call, and `Save` is answered
+-- The reply is one to the event. It tells of a save only if nothing was to happen to the call, and `Save` is answered
 -- only if the save was to meet a fault. The page that a scan is answered with is one that a label can have, and memory
 -- that was refused for the label was refused for the scan. A restart is refused for memory alone. A range is given only
 -- if it is one, and to another printer, and is refused as `Range` or `Receiver` only if not. No import is refused for

@@ -49,7 +49,7 @@ is_failed (entry ∷ before) actor =
     then failed_after entry.reply (is_failed before actor)
     else is_failed before actor
 
--- ---- what is told of a call
+-- ---- what a reply tells of a call
 
 -- the reply tells nothing of what the call would have answered
 abbrev pub IsNoAnswer : {A : Type 0} → Reply A → Type 0

@@ -381,7 +381,7 @@ beyond_its_room A =
 abbrev pub refused_label : (A : Type 0) → Run A
 refused_label A = (print 0 digits None, Printed 0 0 2) ∷ (scan 0, ScanRefused (scan_fault.Label (Block 0))) ∷ []
 
--- `framed`: a perfect label is refused for its finder patterns, of which so many modules are told as wrong
+-- `framed`: a perfect label is refused for its finder patterns, with this number of their modules as wrong ones
 abbrev pub refused_frame : (A : Type 0) → ℕ → Run A
 refused_frame A wrong =
     (print 0 digits None, Printed 0 0 2) ∷ (scan 0, ScanRefused (scan_fault.Label (Border wrong))) ∷ []
