@@ -9,18 +9,13 @@ mod symbol;
 
 use measure::{Spread, greatest_heap, repeats, spread_of};
 use others::{Maker, Reader};
-use softcairn::{Batch, Buffer};
+use softcairn::Buffer;
 use std::fmt;
 use std::hint::black_box;
 use std::process::ExitCode;
 use symbol::{HEAD_WORDS, SIZES, Size};
 
 const OURS: &str = "softcairn";
-
-const OUR_BATCH: &str = "softcairn, batch";
-
-/// How many symbols a batch has.
-const BATCH: usize = 128;
 
 #[derive(Clone, Copy, PartialEq)]
 enum Kind {
@@ -59,8 +54,6 @@ struct Contender {
     library: &'static str,
     /// Pixels along a module that it reads.
     scale: usize,
-    /// Symbols of a call.
-    symbols: usize,
     call: Box<dyn FnMut()>,
 }
 
@@ -72,12 +65,7 @@ struct Contest {
 
 impl Contest {
     fn add(&mut self, work: Work, library: &'static str, scale: usize, call: impl FnMut() + 'static) {
-        self.contenders.push(Contender { work, library, scale, symbols: 1, call: Box::new(call) });
-    }
-
-    fn add_batch(&mut self, work: Work, call: impl FnMut() + 'static) {
-        let call = Box::new(call);
-        self.contenders.push(Contender { work, library: OUR_BATCH, scale: 1, symbols: BATCH, call });
+        self.contenders.push(Contender { work, library, scale, call: Box::new(call) });
     }
 
     fn add_making(&mut self, size: Size) {
@@ -88,13 +76,6 @@ impl Contest {
         let ours = text.clone();
         self.add(work, OURS, 1, move || {
             black_box(buffer.symbol_from_text(size.side, black_box(&ours)));
-        });
-        let image = drawn(size, &text);
-        let mut batch = Batch::new(size.side, &text, &image, BATCH);
-        batch.clear_images();
-        assert!(batch.draw() && batch.holds(&text, &image));
-        self.add_batch(work, move || {
-            black_box(black_box(&mut batch).draw());
         });
         for maker in others::makers() {
             self.add_maker(work, size, &text, &modules, maker);
@@ -126,12 +107,6 @@ impl Contest {
         let ours = image.clone();
         self.add(work, OURS, 1, move || {
             black_box(buffer.text_from_image(black_box(&ours)));
-        });
-        let mut batch = Batch::new(size.side, &text, &image, BATCH);
-        batch.clear_texts();
-        assert!(batch.read() && batch.holds(&text, &image));
-        self.add_batch(work, move || {
-            black_box(black_box(&mut batch).read());
         });
         for reader in others::readers() {
             self.add_reader(work, size, &text, &image, reader);
@@ -219,21 +194,17 @@ fn print_aim(what: &str, ours: Option<&[f64]>, others: Option<&[f64]>, aim: f64)
 /// one, and, to read one with wrong words, of ZXing's to read a clean one.
 type Aims = [(u16, [f64; 3]); 3];
 
-/// Of single calls.
-const AIMS: Aims = [(10, [0.85, 0.17, 0.28]), (52, [0.20, 0.06, 0.17]), (132, [0.09, 0.03, 0.13])];
+const AIMS: Aims = [(10, [0.85, 0.17, 0.30]), (52, [0.20, 0.07, 0.22]), (132, [0.10, 0.05, 0.20])];
 
-/// Of batches.
-const BATCH_AIMS: Aims = [(10, [0.50, 0.11, 0.22]), (52, [0.14, 0.045, 0.16]), (132, [0.06, 0.02, 0.12])];
-
-fn print_aims(times: &[Times], library: &str, aims: &Aims) {
+fn print_aims(times: &[Times]) {
     for size in SIZES {
-        let Some((_, [make_aim, clean_aim, damaged_aim])) = aims.iter().find(|(side, _)| *side == size.side) else {
+        let Some((_, [make_aim, clean_aim, damaged_aim])) = AIMS.iter().find(|(side, _)| *side == size.side) else {
             continue;
         };
         let make = Work { kind: Kind::Make, side: size.side, wrong: 0 };
         let clean = Work { kind: Kind::Read, side: size.side, wrong: 0 };
         let damaged = Work { kind: Kind::Read, side: size.side, wrong: size.limit() };
-        let ours = |work| times_of(times, work, library);
+        let ours = |work| times_of(times, work, OURS);
         let zxing = times_of(times, clean, "ZXing, pure");
         print_aim(&format!("{make}, to libiec16022"), ours(make), times_of(times, make, "libiec16022"), *make_aim);
         print_aim(&format!("{clean}, to ZXing, pure"), ours(clean), zxing, *clean_aim);
@@ -274,22 +245,19 @@ fn measure_all() {
     let times: Vec<Times> = contenders
         .iter()
         .zip(repeats)
-        .map(|(Contender { work, library, scale, symbols, .. }, microseconds)| Times {
+        .map(|(Contender { work, library, scale, .. }, microseconds)| Times {
             work: *work,
             library,
             scale: *scale,
-            microseconds: microseconds.iter().map(|time| time / *symbols as f64).collect(),
+            microseconds,
         })
         .collect();
     print_times(&times);
     println!();
-    println!("Single calls:\n");
-    print_aims(&times, OURS, &AIMS);
+    print_aims(&times);
     for size in SIZES {
         print_heap(size);
     }
-    println!("\nBatches of {BATCH}, what they keep made anew for each:\n");
-    print_aims(&times, OUR_BATCH, &BATCH_AIMS);
     println!();
     for remark in &remarks {
         println!("- {remark}");

@@ -1,18 +1,24 @@
 /* Draws the symbol of side 18 of its first argument to standard output, and reads it back to standard error; then draws
- * and reads several symbols of one side at once. */
+ * and reads the two labels of a document. */
 #include <relay_symbols.h>
 #include <stdio.h>
 #include <string.h>
 
-/* Draws a few numbers by one call, and reads them back by another. Answers how many were read. */
-static size_t numbers_read(void) {
-    static uint8_t texts[3][8] = {"100", "2000", "30000"}, images[3][RELAY_IMAGE_LENGTH(12)];
-    size_t lengths[3] = {3, 4, 5};
-    size_t drawn = relay_symbols_from_texts(12, texts[0], sizeof texts, lengths, 3, images[0], sizeof images);
-    if (drawn != 3) {
-        return 0;
+/* Draws the labels of two pages, opens them, and answers how many bytes these have together, or 0. */
+static size_t label_bytes(void) {
+    static const char *const pages[2] = {"100", "2000"};
+    static uint8_t image[RELAY_IMAGE_LENGTH(14)], bytes[2600];
+    size_t sum = 0;
+    for (uint8_t page = 0; page < 2; page++) {
+        const uint8_t *text = (const uint8_t *)pages[page];
+        size_t drawn = relay_label_from_text(14, 7, page + 1, 2, text, strlen(pages[page]), image, sizeof image);
+        size_t opened = relay_page_from_image(image, drawn, bytes, sizeof bytes);
+        if (drawn != sizeof image || opened == RELAY_REFUSED || memcmp(bytes, text, opened) != 0) {
+            return 0;
+        }
+        sum += opened;
     }
-    return relay_texts_from_images(12, images[0], sizeof images, texts[0], sizeof texts, lengths, 3);
+    return sum;
 }
 
 int main(int count, char **words) {
@@ -29,8 +35,8 @@ int main(int count, char **words) {
         return 1;
     }
     fprintf(stderr, "%.*s\n", (int)read, (const char *)text);
-    if (numbers_read() != 3) {
-        fputs("numbers not read\n", stderr);
+    if (label_bytes() != 7) {
+        fputs("labels not read\n", stderr);
         return 1;
     }
     return fwrite(image, 1, drawn, stdout) == drawn ? 0 : 1;

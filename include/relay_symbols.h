@@ -32,10 +32,10 @@ size_t relay_symbol_from_text(uint16_t side, const uint8_t *text, size_t text_le
 size_t relay_image_from_words(uint16_t side, const uint8_t *words, size_t words_length, uint8_t *image,
                               size_t image_length);
 
-/* Draws the label of page 1 of 2, under the file identification 0, that has this text. Answers as
- * relay_symbol_from_text does. */
-size_t relay_label_from_text(uint16_t side, const uint8_t *text, size_t text_length, uint8_t *image,
-                             size_t image_length);
+/* Draws the label of page m of n that has this text, under the file identification of this number. Answers as
+ * relay_symbol_from_text does, and 0 where the number is above 64,515 or there is no such page: n is 2 to 16, m 1 to n. */
+size_t relay_label_from_text(uint16_t side, uint16_t id, uint8_t m, uint8_t n, const uint8_t *text,
+                             size_t text_length, uint8_t *image, size_t image_length);
 
 /* Reads the symbol of an image and corrects it. Answers the length of its text, or RELAY_REFUSED where this is no image
  * of a symbol, too many words, or too many modules of the finder patterns, are wrong, the words are no text, the text
@@ -49,30 +49,6 @@ size_t relay_page_from_image(const uint8_t *image, size_t image_length, uint8_t 
 
 /* The length of each image of a symbol of this side, also of a label: a header, and rows of whole bytes. */
 #define RELAY_IMAGE_LENGTH(side) (((side) + 2 < 100 ? 9 : 11) + ((side) + 2) * (((side) + 9) / 8))
-
-/* Many symbols of one side. What depends on the side alone is made once for all of them, so that many cost less than as
- * many calls. What is drawn or read of one symbol depends on no other, nor on what a call was asked before.
- *
- * `count` texts and `count` images stand in arrays of `count` rooms of equal length, as
- *
- *     uint8_t texts[COUNT][64], images[COUNT][RELAY_IMAGE_LENGTH(52)];
- *     size_t lengths[COUNT];
- *
- * do, each at the front of its room. The lengths of whole arrays are passed, `sizeof texts` and `sizeof images`: a room
- * is that length divided by `count`, and bytes after the last room are left alone. What is after a text or an image in
- * its room stays as it was. */
-
-/* Draws the symbol of each text, until one is refused, and answers how many are drawn: `count`, or the number of the
- * first text, from 0, that is longer than its room or does not fit a symbol of this side, whose image has no room, or for
- * which memory is refused; 0 if no symbol has this side. The rooms of images from that one on are as they were. */
-size_t relay_symbols_from_texts(uint16_t side, const uint8_t *texts, size_t texts_length, const size_t *lengths,
-                                size_t count, uint8_t *images, size_t images_length);
-
-/* Reads the symbol of each image and corrects it, and answers how many are read. lengths[k] is then the length of the
- * k-th text, from 0, or RELAY_REFUSED, with its room as it was, if relay_text_from_image would refuse the k-th image
- * and room. Images of another side are read too, at more cost; if no symbol has this side, all are refused. */
-size_t relay_texts_from_images(uint16_t side, const uint8_t *images, size_t images_length, uint8_t *texts,
-                               size_t texts_length, size_t *lengths, size_t count);
 
 #ifdef __cplusplus
 }

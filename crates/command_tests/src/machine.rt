@@ -106,4 +106,11 @@ impl Folders for MachineDisk<'_> {
             Err(_) => Err(LoadFault::Device),
         }
     }
+
+    fn settle_folder(&mut self, folder: &str) -> Result<(), DiskFault> {
+        match self.disk.try_borrow_mut() {
+            Ok(mut disk) => disk.settle_folder(folder),
+            Err(_) => Err(DiskFault::Device),
+        }
+    }
 }

@@ -1,5 +1,5 @@
 //! The move of an old file, stopped twice. A file that the first stop left is there for a reader, but a second stop may
-//! take it back until a load has given it; the documents of the old file are found whatever is left.
+//! take it back until the set has listed its keys; the documents of the old file are found whatever is left.
 
 use crate::left_files::{Files, LeftFiles};
 use crate::machine::Machine;

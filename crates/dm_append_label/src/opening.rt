@@ -9,7 +9,7 @@ use crate::head::{HEAD_WORDS, read_head};
 use crate::page::Page;
 use dm_encodation::{DecodeFault, decode};
 use dm_finder_frame::Grid;
-use dm_symbol::{Corrected, correct_grid};
+use dm_symbol::{Corrected, SymbolReader};
 use std::alloc::{Allocator, Global};
 
 /// The most bytes of a page: 1,300 pairs of digits in the greatest symbol.
@@ -58,7 +58,22 @@ pub fn page_of<A: Allocator + Copy>(alloc: A, symbol: &Corrected<A>) -> Result<P
 pub fn open_label<A: Allocator + Copy>(alloc: A, grid: &Grid<A>) -> Result<Opened<A>, LabelFault>
     ensures { LabelOpens grid.now result }
 {
-    let symbol = correct_grid(alloc, grid)?;
+    open_label_with(alloc, &mut SymbolReader::new(), grid)
+}
+
+/// `open_label`, by a reader for many labels: it keeps the layout of the size that it has read last. What it has read
+/// before makes no difference to the label.
+///
+/// # Errors
+/// As `open_label`.
+pub fn open_label_with<A: Allocator + Copy>(
+    alloc: A,
+    reader: &mut SymbolReader<A>,
+    grid: &Grid<A>,
+) -> Result<Opened<A>, LabelFault>
+    ensures { LabelOpens grid.now result }
+{
+    let symbol = reader.read(alloc, grid)?;
     let page = page_of(alloc, &symbol)?;
     Ok(Opened {
         page,

@@ -12,7 +12,7 @@ use dm_check_blocks::Size;
 use dm_encodation::{EncodeFault, Scheme, encode};
 use dm_finder_frame::Grid;
 use dm_placement::Layout;
-use dm_symbol::{draw_symbol, draw_symbol_with};
+use dm_symbol::draw_symbol;
 use std::alloc::Allocator;
 
 // The data words of a page's label.
@@ -56,7 +56,8 @@ pub fn seal<A: Allocator + Copy>(
     ensures too_long { IsErrOf result TooLong ↔ IsTooLong size scheme page.now.bytes }
 {
     let data = data_words(alloc, page, size, scheme)?;
-    Ok(draw_symbol(alloc, size, &data)?)
+    let layout = Layout::of_size(alloc, size)?;
+    Ok(draw_symbol(alloc, &layout, &data)?)
 }
 
 /// `seal`, by a layout made before: that of the size, for many labels of one size.
@@ -74,5 +75,5 @@ pub fn seal_with<A: Allocator + Copy>(
     ensures too_long { IsErrOf result TooLong ↔ IsTooLong layout.now scheme page.now.bytes }
 {
     let data = data_words(alloc, page, layout.size(), scheme)?;
-    Ok(draw_symbol_with(alloc, layout, &data)?)
+    Ok(draw_symbol(alloc, layout, &data)?)
 }

@@ -17,7 +17,7 @@ use crate::fault::ScanFault;
 use crate::file::write_file;
 use crate::page_bytes::PageBytes;
 use crate::reply::{Accepted, Kind};
-use dm_append_label::{Page, open_label};
+use dm_append_label::{Page, open_label_with};
 use dm_finder_frame::Grid;
 use dm_store::{ReplaceFault, StoreSet};
 use std::alloc::Allocator;
@@ -42,7 +42,7 @@ impl<S: StoreSet, A: Allocator + Copy> Desk<S, A> {
         if self.is_failed {
             return Err(ScanFault::Failed);
         }
-        match open_label(self.alloc, grid) {
+        match open_label_with(self.alloc, &mut self.reader, grid) {
             Ok(opened) => self.accept_page(opened.page),
             Err(fault) => Err(ScanFault::from(fault)),
         }

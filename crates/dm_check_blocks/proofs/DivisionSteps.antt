@@ -1,10 +1,10 @@
 -- The multiples of a generator polynomial and a step of the division by them. A factor is the sum of its low and its
 -- high four bits, so the two rows of a step add up to the factor's multiple. A root of the generator polynomial is a
 -- root of each multiple: what a step adds has no value there, beside the word that it takes off.
-use Rattle.std.proofs.Common.{◌≡◌, ℕ, zero, suc, ◌+◌, ◌-◌, ◌*◌, ◌/◌, ◌%◌, ◌<◌, ◌≤◌, ◌↔◌, true, eqb, eqb-true, add-one, refl, sym, ◌∙◌, ap, subst, arith, List, [], ◌∷◌, ◌++◌, length, length-append, length-take, length-drop, get_or, take, drop, replicate, ⊎_elim}
+use Rattle.std.proofs.Common.{◌≡◌, ℕ, zero, suc, ◌+◌, ◌-◌, ◌*◌, ◌/◌, ◌%◌, ◌<◌, ◌≤◌, true, eqb, eqb-true, add-one, refl, sym, ◌∙◌, ap, subst, arith, List, [], ◌∷◌, ◌++◌, length, length-append, length-take, length-drop, get_or, take, drop, replicate, ⊎_elim}
 use Rattle.std.proofs.lemmas.Bool.{cases_lt}
 use Rattle.std.proofs.lemmas.List.{get_or-append_right, get_or-drop, get_or-take, length-replicate, get_or-replicate, take_all}
-use Rattle.std.proofs.lemmas.List.Elements.{All-get_or, All-from_get_or, All-append, All-take, All-drop, recursion_from_All}
+use Rattle.std.proofs.lemmas.List.Elements.{All-get_or, All-from_get_or, All-append, All-take, All-drop}
 use Rattle.std.proofs.Math.ListN.{get_or-append}
 use Rattle.std.proofs.Math.Seq.{take-add, drop-append_seam, drop-cons}
 use borrow.Rule.Slice.PartMut.{put_mid}
@@ -18,10 +18,8 @@ use Rattle.dm_gf256.proofs.Linear.{product-xor_l}
 use Rattle.dm_gf256.proofs.LoopSteps.{double_low}
 use Rattle.dm_gf256.proofs.Ring.{all_below-at, product_assoc, product_byte, product-zero_r, one-product, power_byte, power-add}
 use Rattle.dm_gf256.proofs.Divide.{value-add_scaled, value-append, xor_solve, add_scaled-by_places}
-use Rattle.dm_gf256.proofs.OneBlockWord.{one_block_word}
-use Rattle.dm_check_blocks.specs.Division.{row_at, IsDivided}
+use Rattle.dm_check_blocks.specs.inner.Division.{row_at, IsDivided}
 use Rattle.dm_check_blocks.proofs.Remainders.{zeros_value, whole}
-use Rattle.dm_check_blocks.proofs.OneCompletion.{differ_most}
 
 -- an even multiple is twice that by the half
 pub even_multiple : (f c : ℕ) → f < 16 → f % 2 ≡ 0 → product 2 (product (f / 2) c) ≡ product f c
@@ -183,25 +181,6 @@ written_bytes old ys a n p q =
     All-append (λ word. word < 256) (take a old) (ys ++ drop n (drop a old)) (All-take (λ word. word < 256) a old p)
     (All-append (λ word. word < 256) ys (drop n (drop a old)) q
     (All-drop (λ word. word < 256) n (drop a old) (All-drop (λ word. word < 256) a old p)))
-
--- a remainder with the values of a block at the generator polynomial's roots is zero exactly for a block word
-pub zero_remainder : (c : ℕ) (rest block : List ℕ) → c ≤ 255 → length rest ≡ c → All (λ word. word < 256) rest →
-    ((k : ℕ) → 1 ≤ k → k ≤ c → value rest (power 2 k) ≡ value block (power 2 k)) →
-    All (λ word. word ≡ 0) rest ↔ IsBlockWord c block
-zero_remainder c rest block most long bytes same =
-    let zs : List ℕ = replicate c 0 in
-    let lz : length zs ≡ c = length-replicate c 0 in
-    let zero_bytes : All (λ word. word < 256) zs =
-    All-from_get_or (λ word. word < 256) zs 0 (λ i h. rw (zeros_at c i) (omega arith)) in (
-      (λ z k p q. sym (same k p q) ∙
-          zeros_value rest (power 2 k) (λ i h. All-get_or (λ word. word ≡ 0) rest i 0 h z)),
-      (λ b.
-          let is : rest ≡ zs = one_block_word c rest zs (long ∙ sym lz) (omega arith) (recursion_from_All _ rest bytes)
-          (recursion_from_All _ zs zero_bytes) (λ k p q. same k p q ∙ b k p q)
-          (λ k p q. zeros_value zs (power 2 k) (λ i h. zeros_at c i))
-          (let d = differ_most rest zs in omega arith) in
-          All-from_get_or (λ word. word ≡ 0) rest 0 (λ i h. ap (λ t. get_or t i 0) is ∙ zeros_at c i)),
-    )
 
 -- words and as many zeros as there are check words have the value of the words, shifted
 zeros_follow : (w : List ℕ) (d c x : ℕ) → x < 256 → d + c ≤ length w → ((i : ℕ) → d ≤ i → get_or w i 0 ≡ 0) →

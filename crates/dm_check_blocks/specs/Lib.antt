@@ -1,4 +1,3 @@
 pub mod Blocks
-pub mod Division
 pub mod Sizes
 pub mod inner

@@ -9,7 +9,7 @@ ghost use Rattle.std.specs.Int.Bits.{bit_xor};
 ghost use Rattle.dm_gf256.specs.Field.{product};
 ghost use Rattle.dm_check_blocks.specs.declared.generator.TheConstants.{MOST_CHECKS};
 ghost use Rattle.dm_check_blocks.specs.declared.multiples.TheConstants.{ROW_WORDS};
-ghost use Rattle.dm_check_blocks.specs.Division.{row_at, IsDivided};
+ghost use Rattle.dm_check_blocks.specs.inner.Division.{row_at, IsDivided};
 ghost use Rattle.dm_check_blocks.specs.inner.Remainders.{IsGenerator, IsStep, AreMultiples};
 
 use crate::generator::{MOST_CHECKS, coefficients_of};
@@ -22,10 +22,10 @@ const ROW_WORDS: usize = 80;
 type Row = [u8; ROW_WORDS];
 
 /// The words of a [`Window`]: a block has at most 255, and a row reaches at most 81 words past one of them.
-pub const WINDOW_WORDS: usize = 336;
+pub(crate) const WINDOW_WORDS: usize = 336;
 
 /// A block that is divided in place, and room after it.
-pub type Window = [u8; WINDOW_WORDS];
+pub(crate) type Window = [u8; WINDOW_WORDS];
 
 // Twice a row.
 fn doubled(row: &Row) -> Row
@@ -105,9 +105,9 @@ pub(crate) fn generator_row(checks: usize) -> Row
 
 /// The multiples of a generator polynomial, by which blocks are divided.
 #[derive(Drop)]
-pub struct Multiples {
+pub(crate) struct Multiples {
     /// The number of check words, the generator polynomial's degree.
-    pub checks: usize,
+    checks: usize,
     low: [Row; 16],
     high: [Row; 16],
     ghost most: { checks ≤ MOST_CHECKS },
@@ -121,7 +121,7 @@ pub struct Multiples {
 
 impl Multiples {
     /// The multiples of the generator polynomial for that many check words.
-    pub fn of_generator(checks: usize) -> Multiples
+    pub(crate) fn of_generator(checks: usize) -> Multiples
         requires { checks ≤ MOST_CHECKS }
         ensures { result.checks ≡ checks }
     {
@@ -156,7 +156,7 @@ impl Multiples {
     /// polynomial. The remainder stands where the check words stood; the words before it are used up.
     ///
     /// The windows take turns step by step, since each step reads what the one before it wrote beside.
-    pub fn divide(&self, windows: &mut [Window], count: usize)
+    pub(crate) fn divide(&self, windows: &mut [Window], count: usize)
         requires some { 1 ≤ count }
         requires fits { count + self.now.checks ≤ 255 }
         ensures { (w : ℕ) → w < length windows.old

@@ -5,7 +5,7 @@ ghost use Rattle.std.specs.List.{All};
 ghost use Rattle.dm_gf256.specs.Polynomial.{IsBlockWord};
 ghost use Rattle.dm_check_blocks.specs.Sizes.{data_words, all_words, blocks, block_data, block_checks, block_length};
 ghost use Rattle.dm_check_blocks.specs.Blocks.{position, block_of, Completes};
-ghost use Rattle.dm_check_blocks.specs.Division.{row_at};
+ghost use Rattle.dm_check_blocks.specs.inner.Division.{row_at};
 ghost use Rattle.dm_check_blocks.specs.inner.Completing.{KeepsOtherWords, HoldsData, HoldsChecks};
 
 use crate::checks::fill;
@@ -94,8 +94,9 @@ fn complete_in_turns(size: Size, words: &mut [u8])
     write_blocks(size, words, windows);
 }
 
-// Completes every block of the words, which begin with the message.
-fn complete_blocks(size: Size, message: &[u8], words: &mut [u8])
+/// Completes every block of the words of a symbol, which begin with the message: each gets the check words of its data
+/// words, in place (ISO/IEC 16022:2006, 5.7 and Annexes A and E).
+pub fn complete_blocks(size: Size, message: &[u8], words: &mut [u8])
     requires count { length words.old ≡ all_words size }
     requires data { length message.now ≡ data_words size }
     requires begins { take (data_words size) words.old ≡ message.now }

@@ -2,8 +2,8 @@ pub mod Annihilation
 pub mod Combinations
 pub mod Corrected
 pub mod Differences
+pub mod Dividing
 pub mod Entries
-pub mod ErrorValueSteps
 pub mod ErrorValues
 pub mod Evaluation
 pub mod LowValues
@@ -11,6 +11,7 @@ pub mod RootBound
 pub mod RootSearch
 pub mod RowsReduced
 pub mod SymbolBlocks
-pub mod SyndromeWords
+pub mod NonzeroLists
 pub mod TakingOutSteps
 pub mod WordsByPlace
+pub mod BlockRemainders

@@ -1,20 +1,20 @@
 //! Correction of one block.
 
-ghost use Rattle.std.specs.Prelude.{◌≡◌, ◌<◌, ◌≤◌, ℕ, List, length, IsTrue, IfOk, OnOk, OnErr, IfSome, IfNone, OnSome};
+ghost use Rattle.std.specs.Prelude.{◌≡◌, ◌<◌, ◌≤◌, ◌-◌, ◌↔◌, ℕ, List, length, take, IfOk, IsTrue, OnOk, OnErr};
 ghost use Rattle.std.specs.List.{All};
 ghost use Rattle.dm_gf256.specs.Polynomial.{differ, IsBlockWord};
 ghost use Rattle.dm_corrector.specs.Corrections.{Corrects};
 ghost use Rattle.dm_corrector.specs.inner.Endings.{EndsCorrection};
+ghost use Rattle.dm_corrector.specs.inner.Remainders.{IsRemainder};
 
 use crate::elements::is_zero;
 use crate::error_values::take_out;
-use crate::guess::guess;
 use crate::locate::Locate;
 use crate::massey::Massey;
-use crate::remainder::{divided, has_no_remainder};
 use crate::roots::roots_of;
-use crate::syndromes::{MOST_WORDS, all_zero, is_block_word, syndromes_of};
-use dm_check_blocks::{MOST_CHECKS, Multiples, checks_of};
+use crate::syndromes::{MOST_WORDS, syndromes_of};
+use dm_check_blocks::{MOST_CHECKS, checks_of};
+use dm_gf256::add_multiple;
 use thiserror::Error;
 
 /// No block word is within the limit of wrong words.
@@ -35,6 +35,100 @@ fn differing(left: &[u8], right: &[u8]) -> usize
         }
     }
     places
+}
+
+// Whether a block is a block word: whether its check words are those of its data words.
+fn is_block_word(block: &[u8], checks: usize) -> bool
+    requires some { 1 ≤ checks }
+    requires most { checks ≤ MOST_CHECKS }
+    requires longer { checks < length block.now }
+    requires fits { length block.now ≤ MOST_WORDS }
+    ensures { IsTrue result ↔ IsBlockWord checks block.now }
+{
+    let (message, last) = block.split_at(block.len() - checks);
+    let mut room = [0; MOST_CHECKS];
+    let wanted = &mut room[..checks];
+    checks_of(message, wanted);
+    &*wanted == last
+}
+
+// Corrects one block that has this remainder, by the error locator polynomial that `locate` finds.
+fn correct_wrong<L: Locate>(
+    locate: &L,
+    block: &mut [u8],
+    checks: usize,
+    remainder: &[u8],
+) -> Result<u8, Uncorrectable>
+    requires remainder { IsRemainder checks block.old remainder.now }
+    requires bytes { All (λ word. word < 256) block.old }
+    requires short { length remainder.now ≤ MOST_CHECKS }
+    requires some { 1 ≤ checks }
+    requires most { checks ≤ MOST_CHECKS }
+    requires longer { checks < length block.old }
+    requires fits { length block.old ≤ MOST_WORDS }
+    ensures { EndsCorrection checks block.old result block.new }
+{
+    let syndromes = syndromes_of(remainder, checks / 2 * 2);
+    let used = syndromes.as_slice();
+    let locator = locate.locate(used);
+    let roots = roots_of(locator.as_slice(), block.len());
+    let mut copy = [0; MOST_WORDS];
+    let corrected = &mut copy[..block.len()];
+    corrected.copy_from_slice(block);
+    take_out(corrected, used, roots.as_slice());
+    if is_block_word(corrected, checks) {
+        let changed = differing(block, corrected);
+        block.copy_from_slice(corrected);
+        Ok(changed as u8)
+    } else {
+        Err(Uncorrectable)
+    }
+}
+
+// Writes the remainder of a block by the generator polynomial, given the block word that its data words have: the sum of
+// the check words of both.
+fn write_remainder(block: &[u8], word: &[u8], remainder: &mut [u8])
+    requires most { length remainder.old ≤ MOST_CHECKS }
+    requires longer { length remainder.old < length block.now }
+    requires size { length word.now ≡ length block.now }
+    requires data { take (length block.now - length remainder.old) word.now
+        ≡ take (length block.now - length remainder.old) block.now }
+    requires completed { IsBlockWord (length remainder.old) word.now }
+    ensures remainder { IsRemainder (length remainder.old) block.now remainder.new }
+    ensures bytes { All (λ word. word < 256) block.now }
+{
+    let data = block.len() - remainder.len();
+    let (_, last) = block.split_at(data);
+    let (_, wanted) = word.split_at(data);
+    remainder.copy_from_slice(last);
+    add_multiple(remainder, wanted, 1);
+}
+
+/// Corrects one block, given the block word that its data words have, by the error locator polynomial that `locate`
+/// finds.
+pub(crate) fn correct_completed<L: Locate>(
+    locate: &L,
+    block: &mut [u8],
+    word: &[u8],
+    checks: usize,
+) -> Result<u8, Uncorrectable>
+    requires some { 1 ≤ checks }
+    requires most { checks ≤ MOST_CHECKS }
+    requires longer { checks < length block.old }
+    requires fits { length block.old ≤ MOST_WORDS }
+    requires size { length word.now ≡ length block.old }
+    requires data { take (length block.old - checks) word.now ≡ take (length block.old - checks) block.old }
+    requires completed { IsBlockWord checks word.now }
+    ensures { EndsCorrection checks block.old result block.new }
+{
+    let mut room = [0; MOST_CHECKS];
+    let remainder = &mut room[..checks];
+    write_remainder(block, word, remainder);
+    if is_zero(remainder) {
+        Ok(0)
+    } else {
+        correct_wrong(locate, block, checks, remainder)
+    }
 }
 
 /// Corrects one block of 2 to 255 words, the last `checks` of which are check words, by the error locator polynomial
@@ -59,144 +153,16 @@ pub fn correct_with<L: Locate>(
     ensures none { OnErr result ((w : List ℕ) → Corrects checks block.old w → ⊥) }
     ensures unchanged { OnErr result (block.new ≡ block.old) }
 {
-    let syndromes = syndromes_of(block, checks);
-    if all_zero(syndromes.as_slice()) {
-        return Ok(0);
-    }
-    let used = &syndromes.as_slice()[..checks / 2 * 2];
-    let locator = locate.locate(used);
-    let roots = roots_of(locator.as_slice(), block.len());
-    let mut copy = [0; MOST_WORDS];
-    let corrected = &mut copy[..block.len()];
-    corrected.copy_from_slice(block);
-    take_out(corrected, used, roots.as_slice());
-    if is_block_word(corrected, checks) {
-        let changed = differing(block, corrected);
-        block.copy_from_slice(corrected);
-        Ok(changed as u8)
-    } else {
-        Err(Uncorrectable)
-    }
-}
-
-// Guesses at the correction of a block, given its remainder, and makes it if it is one: if its own remainder is zero
-// and it differs from the block in at most half as many places as the block has check words.
-pub(crate) fn correct_by_guess(
-    multiples: &Multiples,
-    block: &mut [u8],
-    remainder: &[u8],
-) -> Option<u8>
-    requires remainder { length remainder.now ≤ MOST_CHECKS }
-    requires longer { multiples.now.checks < length block.old }
-    requires fits { length block.old ≤ MOST_WORDS }
-    ensures near { OnSome result (Corrects multiples.now.checks block.old block.new) }
-    ensures changed { IfSome result (λ k. k ≡ differ block.old block.new) }
-    ensures unchanged { IfNone result (block.new ≡ block.old) }
-{
-    let mut copy = [0; MOST_WORDS];
-    let guessed = &mut copy[..block.len()];
-    guessed.copy_from_slice(block);
-    if guess(remainder, guessed) && has_no_remainder(multiples, guessed) {
-        let changed = differing(block, guessed);
-        if changed <= multiples.checks / 2 {
-            block.copy_from_slice(guessed);
-            return Some(changed as u8);
-        }
-    }
-    None
-}
-
-/// Corrects one block, given its remainder: by a guess, which its own remainder checks, and if that is no correction,
-/// by Berlekamp and Massey's method.
-pub(crate) fn correct_wrong(
-    multiples: &Multiples,
-    block: &mut [u8],
-    remainder: &[u8],
-) -> Result<u8, Uncorrectable>
-    requires remainder { length remainder.now ≤ MOST_CHECKS }
-    requires some { 1 ≤ multiples.now.checks }
-    requires most { multiples.now.checks ≤ MOST_CHECKS }
-    requires longer { multiples.now.checks < length block.old }
-    requires fits { length block.old ≤ MOST_WORDS }
-    ensures { EndsCorrection multiples.now.checks block.old result block.new }
-{
-    match correct_by_guess(multiples, block, remainder) {
-        Some(changed) => Ok(changed),
-        None => correct_with(&Massey, block, multiples.checks),
-    }
-}
-
-// Corrects one block by its remainder, which shows whether it is a block word.
-fn correct_by_remainder(multiples: &Multiples, block: &mut [u8]) -> Result<u8, Uncorrectable>
-    requires some { 1 ≤ multiples.now.checks }
-    requires most { multiples.now.checks ≤ MOST_CHECKS }
-    requires longer { multiples.now.checks < length block.old }
-    requires fits { length block.old ≤ MOST_WORDS }
-    ensures { EndsCorrection multiples.now.checks block.old result block.new }
-{
-    let window = divided(multiples, block);
-    let remainder = &window[block.len() - multiples.checks..block.len()];
-    if is_zero(remainder) {
-        Ok(0)
-    } else {
-        correct_wrong(multiples, block, remainder)
-    }
-}
-
-// Corrects one long block. It is kept apart from `correct`, which would clear memory for the multiples of the generator
-// polynomial for short blocks too.
-#[inline(never)]
-fn correct_long(block: &mut [u8], checks: usize) -> Result<u8, Uncorrectable>
-    requires some { 1 ≤ checks }
-    requires most { checks ≤ MOST_CHECKS }
-    requires longer { checks < length block.old }
-    requires fits { length block.old ≤ MOST_WORDS }
-    ensures { EndsCorrection checks block.old result block.new }
-{
-    correct_by_remainder(&Multiples::of_generator(checks), block)
-}
-
-// Whether a block's check words are those of its data words, so that it is a block word.
-fn has_its_checks(block: &[u8], checks: usize) -> bool
-    requires some { 1 ≤ checks }
-    requires most { checks ≤ MOST_CHECKS }
-    requires longer { checks < length block.now }
-    requires fits { length block.now ≤ MOST_WORDS }
-    ensures block_word { IsTrue result → IsBlockWord checks block.now }
-    ensures bytes { All (λ word. word < 256) block.now }
-{
     let data = block.len() - checks;
-    let mut room = [0; MOST_CHECKS];
-    let wanted = &mut room[..checks];
-    checks_of(&block[..data], wanted);
-    for k in 0..checks {
-        if block[data + k] != wanted[k] {
-            return false;
-        }
-    }
-    true
+    let mut room = [0; MOST_WORDS];
+    let word = &mut room[..block.len()];
+    word.copy_from_slice(block);
+    checks_of(&block[..data], &mut word[data..]);
+    correct_completed(locate, block, word, checks)
 }
 
-// Corrects one short block, for which the multiples of the generator polynomial are not worth their making.
-fn correct_short(block: &mut [u8], checks: usize) -> Result<u8, Uncorrectable>
-    requires some { 1 ≤ checks }
-    requires most { checks ≤ MOST_CHECKS }
-    requires longer { checks < length block.old }
-    requires fits { length block.old ≤ MOST_WORDS }
-    ensures { EndsCorrection checks block.old result block.new }
-{
-    if has_its_checks(block, checks) {
-        Ok(0)
-    } else {
-        correct_with(&Massey, block, checks)
-    }
-}
-
-// The fewest data words of a block for which the multiples of the generator polynomial are worth their making.
-const FEWEST_BY_REMAINDER: usize = 19;
-
-/// Corrects one block of 2 to 255 words, the last `checks` of which are check words: as `correct_with` does, and
-/// faster. Ok gives the number of words that were put right, at most `checks / 2`.
+/// Corrects one block of 2 to 255 words, the last `checks` of which are check words, by Berlekamp and Massey's method:
+/// as `correct_with` does. Ok gives the number of words that were put right, at most `checks / 2`.
 ///
 /// # Errors
 /// Where no block word differs from the block in at most `checks / 2` places; the block is then unchanged.
@@ -212,9 +178,5 @@ pub fn correct(block: &mut [u8], checks: usize) -> Result<u8, Uncorrectable>
     ensures none { OnErr result ((w : List ℕ) → Corrects checks block.old w → ⊥) }
     ensures unchanged { OnErr result (block.new ≡ block.old) }
 {
-    if block.len() - checks < FEWEST_BY_REMAINDER {
-        correct_short(block, checks)
-    } else {
-        correct_long(block, checks)
-    }
+    correct_with(&Massey, block, checks)
 }

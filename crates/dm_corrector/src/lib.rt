@@ -6,23 +6,20 @@
 //! polynomial. Otherwise nothing changes. The same holds of a whole symbol, and for a symbol that cannot be
 //! corrected the first faulty block is named. No call takes memory.
 //!
-//! The way of a block: a division gives its `remainder`, which is zero exactly if the block is a block word. For
-//! another block there is a `guess`, of which nothing is proved: it counts only if its own remainder is zero and it
-//! changes few enough words. If it doesn't count, the proved way decides, which short blocks take at once: the
-//! `syndromes`, then a locator polynomial by `massey` or `elimination`, its `roots`, the `error_values` at them, and in
-//! `block` the decision. `symbol` divides the blocks in turns and corrects one after another. Syndromes and roots both
-//! come from `values` of polynomials at successive powers of 2.
+//! The way of a block: its data words are completed anew, and by how much its check words differ from the new ones is
+//! its remainder by the generator polynomial. That is zero exactly if the block is a block word, and it has the block's
+//! `syndromes`. For another block these give a locator polynomial, by `massey` or `elimination`, then its `roots` and the
+//! `error_values` at them, and `block` corrects a copy, which counts only if it is a block word. `symbol` completes all
+//! blocks and corrects one after another. Syndromes and roots both come from `values` of polynomials at successive powers
+//! of 2.
 #![tactic(auto)]
 
 mod block;
 mod elements;
 mod elimination;
 mod error_values;
-mod guess;
 mod locate;
 mod massey;
-mod power_rows;
-mod remainder;
 mod roots;
 mod symbol;
 mod syndromes;

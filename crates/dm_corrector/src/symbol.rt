@@ -1,26 +1,21 @@
 //! Correction of a whole symbol, block by block.
 
-ghost use Rattle.std.specs.Prelude.{◌≡◌, ◌≢◌, ◌<◌, ◌≤◌, ◌+◌, ◌*◌, ◌%◌, ℕ, List, length, slice_index, slice_range, IfOk, IfErr, OnOk, OnErr};
-ghost use Rattle.dm_gf256.specs.Polynomial.{differ};
-ghost use Rattle.dm_check_blocks.specs.Sizes.{all_words, blocks, block_checks, block_length};
+ghost use Rattle.std.specs.Prelude.{◌≡◌, ◌≢◌, ◌<◌, ◌+◌, ◌*◌, ◌%◌, ℕ, List, length, slice_index, take, IfOk, IfErr, OnOk, OnErr};
+ghost use Rattle.dm_gf256.specs.Polynomial.{differ, IsBlockWord};
+ghost use Rattle.dm_check_blocks.specs.Sizes.{all_words, blocks, block_checks, block_data};
 ghost use Rattle.dm_check_blocks.specs.Blocks.{block_of, IsSymbol};
-ghost use Rattle.dm_check_blocks.specs.Division.{row_at};
-ghost use Rattle.dm_corrector.specs.inner.Remainders.{ShowsBlockWord};
 ghost use Rattle.dm_corrector.specs.Corrections.{Corrects};
 ghost use Rattle.dm_corrector.specs.Symbols.{CorrectsSymbol, IsFirstFaulty};
 ghost use Rattle.dm_corrector.specs.inner.Scattering.{AddsDifferences};
 
-use crate::block::{Uncorrectable, correct, correct_wrong};
-use crate::elements::is_zero;
+use crate::block::{Uncorrectable, correct_completed};
+use crate::massey::Massey;
 use crate::syndromes::MOST_WORDS;
-use dm_check_blocks::{MOST_CHECKS, Multiples, Size, WINDOW_WORDS, Window};
+use dm_check_blocks::{Size, complete_blocks};
 use thiserror::Error;
 
 // The most words of a symbol: those of side 132.
 const MOST_SYMBOL_WORDS: usize = 1800;
-
-// The most blocks of a symbol: those of side 132.
-const MOST_BLOCKS: usize = 8;
 
 /// The first block of a symbol that cannot be corrected.
 #[derive(Clone, Copy, Debug, PartialEq, Eq, Error)]
@@ -67,19 +62,20 @@ fn scatter(words: &mut [u8], start: usize, stride: usize, block: &[u8])
     }
 }
 
-// Corrects one block of a symbol, given its remainder. The words of the blocks are interleaved: word k of block b is
-// word k * blocks + b of the symbol.
-fn correct_wrong_block(
+// Corrects one block of a symbol, given the same words with all blocks completed. The words of the blocks are
+// interleaved: word k of block b is word k * blocks + b of the symbol.
+fn correct_block(
     size: Size,
-    multiples: &Multiples,
     words: &mut [u8],
+    completed: &[u8],
     number: usize,
-    remainder: &[u8],
 ) -> Result<u8, Uncorrectable>
-    requires checks { multiples.now.checks ≡ block_checks size }
-    requires remainder { length remainder.now ≤ MOST_CHECKS }
     requires count { length words.old ≡ all_words size }
+    requires completed_count { length completed.now ≡ all_words size }
     requires block { number < blocks size }
+    requires data { take (block_data size) (block_of size number completed.now)
+        ≡ take (block_data size) (block_of size number words.old) }
+    requires completed { IsBlockWord (block_checks size) (block_of size number completed.now) }
     ensures near { OnOk result
         (Corrects (block_checks size) (block_of size number words.old) (block_of size number words.new)) }
     ensures none { OnErr result
@@ -97,131 +93,11 @@ fn correct_wrong_block(
     let mut copy = [0; MOST_WORDS];
     let block = &mut copy[..size.block_length()];
     gather(words, number, blocks, block);
-    let changed = correct_wrong(multiples, block, remainder)?;
+    let mut room = [0; MOST_WORDS];
+    let word = &mut room[..size.block_length()];
+    gather(completed, number, blocks, word);
+    let changed = correct_completed(&Massey, block, word, size.block_checks())?;
     scatter(words, number, blocks, block);
-    Ok(changed)
-}
-
-// Corrects one block of a symbol, given the window in which it was divided.
-fn correct_block(
-    size: Size,
-    multiples: &Multiples,
-    window: &Window,
-    words: &mut [u8],
-    number: usize,
-) -> Result<u8, Uncorrectable>
-    requires checks { multiples.now.checks ≡ block_checks size }
-    requires divided { ShowsBlockWord size number words.old window.now }
-    requires count { length words.old ≡ all_words size }
-    requires block { number < blocks size }
-    ensures near { OnOk result
-        (Corrects (block_checks size) (block_of size number words.old) (block_of size number words.new)) }
-    ensures none { OnErr result
-        ((w : List ℕ) → Corrects (block_checks size) (block_of size number words.old) w → ⊥) }
-    ensures others { (b : ℕ) → b < blocks size → b ≢ number
-        → block_of size b words.new ≡ block_of size b words.old }
-
-    // Counting: if this block still equals that of `before`, to correct it adds exactly k to the number of words that
-    // differ from `before`.
-    ensures changed { IfOk result (λ k. (before : List ℕ) → length before ≡ length words.old
-        → block_of size number before ≡ block_of size number words.old
-        → differ before words.new ≡ differ before words.old + k) }
-{
-    let remainder = &window[size.block_data()..size.block_length()];
-    if is_zero(remainder) {
-        Ok(0)
-    } else {
-        correct_wrong_block(size, multiples, words, number, remainder)
-    }
-}
-
-// A block of a symbol, and zeros after it.
-fn window_of_block(size: Size, words: &[u8], number: usize) -> Window
-    requires count { length words.now ≡ all_words size }
-    requires block { number < blocks size }
-    ensures size { length result ≡ WINDOW_WORDS }
-    ensures block { slice_range result 0 (block_length size) ≡ block_of size number words.now }
-{
-    let mut window = [0; WINDOW_WORDS];
-    gather(
-        words,
-        number,
-        size.blocks(),
-        &mut window[..size.block_length()],
-    );
-    window
-}
-
-// Reads each block into its window.
-fn read_windows(size: Size, words: &[u8], windows: &mut [Window])
-    requires count { length words.now ≡ all_words size }
-    requires windows { length windows.old ≡ blocks size }
-    ensures { (b : ℕ) → b < blocks size
-        → slice_range (row_at windows.new b) 0 (block_length size) ≡ block_of size b words.now }
-{
-    for block in 0..windows.len() {
-        windows[block] = window_of_block(size, words, block);
-    }
-}
-
-// Divides the blocks of a symbol in turns.
-fn divide_blocks(size: Size, multiples: &Multiples, words: &[u8], windows: &mut [Window])
-    requires checks { multiples.now.checks ≡ block_checks size }
-    requires count { length words.now ≡ all_words size }
-    requires windows { length windows.old ≡ blocks size }
-    ensures { (b : ℕ) → b < blocks size → ShowsBlockWord size b words.now (row_at windows.new b) }
-{
-    read_windows(size, words, windows);
-    multiples.divide(windows, size.block_data());
-}
-
-// Corrects a symbol of one block.
-fn correct_single(size: Size, words: &mut [u8]) -> Result<u16, BlockFault>
-    requires count { length words.old ≡ all_words size }
-    requires single { blocks size ≡ 1 }
-    ensures near { OnOk result (CorrectsSymbol size words.old words.new) }
-    ensures block_words { OnOk result (IsSymbol size words.new) }
-    ensures changed { IfOk result (λ k. k ≡ differ words.old words.new) }
-    ensures only { OnOk result ((w : List ℕ) → CorrectsSymbol size words.old w → w ≡ words.new) }
-
-    ensures first { IfErr result (λ fault. IsFirstFaulty size words.old fault.block) }
-    ensures none { OnErr result ((w : List ℕ) → CorrectsSymbol size words.old w → ⊥) }
-    ensures unchanged { OnErr result (words.new ≡ words.old) }
-{
-    match correct(words, size.block_checks()) {
-        Ok(changed) => Ok(changed as u16),
-        Err(Uncorrectable) => Err(BlockFault { block: 0 }),
-    }
-}
-
-// Corrects a symbol of any number of blocks, which are divided in turns.
-fn correct_in_turns(size: Size, words: &mut [u8]) -> Result<u16, BlockFault>
-    requires { length words.old ≡ all_words size }
-    ensures near { OnOk result (CorrectsSymbol size words.old words.new) }
-    ensures block_words { OnOk result (IsSymbol size words.new) }
-    ensures changed { IfOk result (λ k. k ≡ differ words.old words.new) }
-    ensures only { OnOk result ((w : List ℕ) → CorrectsSymbol size words.old w → w ≡ words.new) }
-
-    ensures first { IfErr result (λ fault. IsFirstFaulty size words.old fault.block) }
-    ensures none { OnErr result ((w : List ℕ) → CorrectsSymbol size words.old w → ⊥) }
-    ensures unchanged { OnErr result (words.new ≡ words.old) }
-{
-    let blocks = size.blocks();
-    let mut copy = [0; MOST_SYMBOL_WORDS];
-    let corrected = &mut copy[..words.len()];
-    corrected.copy_from_slice(words);
-    let multiples = Multiples::of_generator(size.block_checks());
-    let mut windows = [[0; WINDOW_WORDS]; MOST_BLOCKS];
-    let windows = &mut windows[..blocks];
-    divide_blocks(size, &multiples, words, windows);
-    let mut changed = 0;
-    for block in 0..blocks {
-        match correct_block(size, &multiples, &windows[block], corrected, block) {
-            Ok(words_changed) => changed += words_changed as u16,
-            Err(Uncorrectable) => return Err(BlockFault { block }),
-        }
-    }
-    words.copy_from_slice(corrected);
     Ok(changed)
 }
 
@@ -242,9 +118,21 @@ pub fn correct_symbol(size: Size, words: &mut [u8]) -> Result<u16, BlockFault>
     ensures none { OnErr result ((w : List ℕ) → CorrectsSymbol size words.old w → ⊥) }
     ensures unchanged { OnErr result (words.new ≡ words.old) }
 {
-    if size.blocks() == 1 {
-        correct_single(size, words)
-    } else {
-        correct_in_turns(size, words)
+    let blocks = size.blocks();
+    let mut copy = [0; MOST_SYMBOL_WORDS];
+    let corrected = &mut copy[..words.len()];
+    corrected.copy_from_slice(words);
+    let mut room = [0; MOST_SYMBOL_WORDS];
+    let completed = &mut room[..words.len()];
+    completed.copy_from_slice(words);
+    complete_blocks(size, &words[..size.data_words()], completed);
+    let mut changed = 0;
+    for block in 0..blocks {
+        match correct_block(size, corrected, completed, block) {
+            Ok(words_changed) => changed += words_changed as u16,
+            Err(Uncorrectable) => return Err(BlockFault { block }),
+        }
     }
+    words.copy_from_slice(corrected);
+    Ok(changed)
 }

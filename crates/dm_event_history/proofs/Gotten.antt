@@ -1,5 +1,5 @@
 -- What stands at a place of a longer list.
-use Rattle.std.proofs.Common.{◌≡◌, ◌<◌, ℕ, zero, suc, Some, List, [], ◌∷◌, ◌++◌, length, refl, ap, arith, slice_get, ◌⊎◌, inl, inr}
+use Rattle.std.proofs.Common.{◌≡◌, ◌<◌, ◌+◌, ℕ, zero, suc, Some, List, [], ◌∷◌, ◌++◌, length, refl, ap, arith, slice_get, ◌⊎◌, inl, inr}
 
 -- a ticket that was given is there among more
 pub get_more : {X : Type 0} (xs ys : List X) (i : ℕ) (x : X) → slice_get xs i ≡ Some x → slice_get (xs ++ ys) i ≡ Some x
@@ -33,3 +33,13 @@ other_has [] (b ∷ bs) i y e h = absurd (omega arith)
 other_has (a ∷ rest) [] i y e h = cc
 other_has (a ∷ rest) (b ∷ bs) zero y e h = (a, refl)
 other_has (a ∷ rest) (b ∷ bs) (suc i) y e h = other_has rest bs i y (omega arith) h
+
+-- what stands in two lists joined stands in the first, or in the second
+pub in_either : {X : Type 0} (xs ys : List X) (i : ℕ) (x : X) → slice_get (xs ++ ys) i ≡ Some x →
+    (slice_get xs i ≡ Some x) ⊎ ((j : ℕ) × (i ≡ length xs + j) × (slice_get ys j ≡ Some x))
+in_either [] ys i x is = inr (i, omega arith, is)
+in_either (z ∷ zs) ys zero x is = inl is
+in_either (z ∷ zs) ys (suc i) x is = elim (in_either zs ys i x is) [
+  | inl first ↦ inl first
+  | inr second ↦ inr (second.0, (let t = second.1 in omega arith), second.2)
+]

@@ -1,90 +1,159 @@
--- What one more entry changes of what was printed, and what it leaves.
-use Rattle.std.proofs.Common.{◌≡◌, ◌<◌, ◌==◌, ℕ, Bool, true, false, Option, Some, None, IfSome, inl, inr, List, [], ◌∷◌, if◌then◌else◌, nat_lt, refl, sym, ◌∙◌, subst, arith}
-use Rattle.std.proofs.lemmas.Bool.Decides.{nat_tests}
-use Rattle.dm_event_history.specs.declared.event.Event.{Event}
-use Rattle.dm_event_history.specs.declared.event.Event.TheVariants.{Print}
-use Rattle.dm_event_history.specs.declared.reply.Reply.{Reply}
+-- Each label that leaves is as it was printed.
+use Rattle.std.proofs.Common.{◌≡◌, ◌+◌, inl, inr, ℕ, zero, suc, Some, List, [], ◌∷◌, ◌++◌, length, slice_get, take, sym, ap, subst, ◌∙◌, arith}
+use Rattle.dm_check_blocks.specs.declared.size.Size.{Size}
+use Rattle.dm_encodation.specs.declared.scheme.Scheme.{Scheme}
+use Rattle.dm_finder_frame.specs.Grids.{flipped}
+use Rattle.dm_append_label.specs.Labels.{Carries}
+use Rattle.dm_append_label.specs.Pages.{PageView}
 use Rattle.dm_append_label.specs.Parts.{AreParts}
+use Rattle.dm_assembly_desk.specs.Documents.{Documents}
 use Rattle.dm_print_ledger.specs.declared.range.Range.{Range}
-use Rattle.dm_event_history.specs.History.{Entry, History, CutDocument, printed_by, prints_as, docs}
-use Rattle.dm_event_history.specs.Legal.{IsUnused, IsLegal}
-use Rattle.dm_event_history.specs.Legal.{LetsOut}
-use Rattle.dm_event_history.proofs.Deciding.{if_not, if_so, both, decided, true_false}
+use Rattle.dm_print_ledger.specs.Views.{LedgerView, TicketView}
+use Rattle.dm_event_history.specs.declared.event.Event.{Event}
+use Rattle.dm_event_history.specs.declared.event.Event.TheVariants.{Print, Scan, RestartPrinter, RestartDesk, Ask, Forget, Give, Take, Export, Import}
+use Rattle.dm_event_history.specs.declared.reply.Reply.{Reply}
+use Rattle.dm_event_history.specs.Relay.{CutDocument}
+use Rattle.dm_event_history.proofs.Gotten.{in_either}
+use Rattle.dm_event_history.specs.Actors.{Actor}
+use Rattle.dm_event_history.specs.Relay.{Goods, Label, Relay}
+use Rattle.dm_event_history.specs.Calls.{Answers, Course, Ending, LacksMemory, Saves}
+use Rattle.dm_event_history.specs.PrinterCalls.{AreLabelsFor, GiveComes, PrintComes, TakeComes, cut_of}
+use Rattle.dm_event_history.specs.Steps.{Acts, DeskGoes, PrinterGoes, Step}
+use Rattle.dm_event_history.specs.Clean.{ArePrinted, EachStepPrints, IsPrinted}
+use Rattle.dm_event_history.proofs.LeavingGoods.{IsClosed, Leaves, OfCourse, calls_leave, known_goods, may_lack_leaves, restarts_leave}
+use Rattle.dm_event_history.proofs.QuietDesks.{IsQuiet, ask_quiet, export_is_quiet, forget_is_quiet, import_is_quiet, restart_quiet, scan_quiet}
 
--- what the test says
-pub prints_as_means : {A : Type 0} (e : Entry A) (id : ℕ) → prints_as e id ≡ true → (0 < e.left) × (e.id ≡ id)
-prints_as_means e id so =
-    let t : (nat_lt 0 e.left ≡ true) × ((e.id == id) ≡ true) = both (nat_lt 0 e.left) (e.id == id) so in
-    (grind (arith, nat_tests, t.0), grind (arith, nat_tests, t.1))
+-- ---- lists of labels
 
-pub prints_as_so : {A : Type 0} (e : Entry A) (id : ℕ) → 0 < e.left → e.id ≡ id → prints_as e id ≡ true
-prints_as_so e id some same = grind (arith, nat_tests, some, same)
+none_printed : ArePrinted []
+none_printed i label is = cc
 
-pub is_had : {A : Type 0} (e : Entry A) (h : History A) (id : ℕ) (cut : CutDocument) →
-    (0 < e.left → docs h e.id ≡ None) → docs h id ≡ Some cut → ¬ (prints_as e id ≡ true)
-is_had e h id cut fresh had so =
-    let t : (0 < e.left) × (e.id ≡ id) = prints_as_means e id so in
-    let none : docs h id ≡ None = subst (λ (i : ℕ). docs h i ≡ None) t.1 (fresh t.0) in
-    cc (none, had)
-
--- a longer history has the same document under each identification that it had
-pub docs_keep : {A : Type 0} (e : Entry A) (h : History A) (id : ℕ) (cut : CutDocument) →
-    (0 < e.left → docs h e.id ≡ None) → docs h id ≡ Some cut → docs (e ∷ h) id ≡ Some cut
-docs_keep e h id cut fresh had =
-    if_not (prints_as e id) (printed_by e.event e.parts) (docs h id) (λ so. is_had e h id cut fresh had so) ∙ had
-
--- the document under the identification of an entry of which labels left
-pub docs_own : {A : Type 0} (e : Entry A) (h : History A) (cut : CutDocument) → 0 < e.left →
-    printed_by e.event e.parts ≡ Some cut →
-    docs (e ∷ h) e.id ≡ Some cut
-docs_own e h cut some is =
-    if_so (prints_as e e.id) (printed_by e.event e.parts) (docs h e.id) (prints_as_so e e.id some refl) ∙ is
-
--- only what a print prints leaves
-pub is_cut : {A : Type 0} (event : Event A) (reply : Reply A) (saved : Bool) (parts : List (List ℕ)) (left : ℕ) →
-    LetsOut event reply saved parts left → 0 < left →
-    (cut : CutDocument) × (printed_by event parts ≡ Some cut)
-is_cut (Print p document size scheme stop) reply saved parts left is some =
-    (record { bytes = document; size = size; scheme = scheme; parts = parts }, refl)
-is_cut event reply saved parts left is some = absurd (omega arith)
-
--- an identification under which nothing was printed left with no label
-pub is_unused : {A : Type 0} (ranges : List Range) (desks : ℕ) (h : History A) (id : ℕ) → IsLegal ranges desks h →
-    docs h id ≡ None → IsUnused id h
-is_unused ranges desks [] id legal none = tt
-is_unused {A} ranges desks (e ∷ h) id legal none = (
-  (λ some same. twice some (prints_as_so e id some same)),
-  is_unused ranges desks h id legal.1
-      (before (prints_as e id) refl),
-)
-  where
-    twice : 0 < e.left → prints_as e id ≡ true → ⊥
-    twice some is =
-        let t : (cut : CutDocument) × (printed_by e.event e.parts ≡ Some cut) =
-        is_cut e.event e.reply e.saved e.parts e.left legal.0.lets_out some in
-        let taken : (if prints_as e id then printed_by e.event e.parts else docs h id) ≡ printed_by e.event e.parts =
-        if_so (prints_as e id) (printed_by e.event e.parts) (docs h id) is in
-        let gone : printed_by e.event e.parts ≡ None = sym taken ∙ none in
-        let same : printed_by e.event e.parts ≡ Some t.0 = t.1 in
-        cc (gone, same)
-
-    before : (b : Bool) → prints_as e id ≡ b → docs h id ≡ None
-    before true is = absurd (twice (prints_as_means e id is).0 is)
-    before false is = sym (if_not (prints_as e id) (printed_by e.event e.parts) (docs h id) (λ so. cc (so, is))) ∙ none
-
--- what was printed was cut into its parts
-pub printed_cut : {A : Type 0} (ranges : List Range) (desks : ℕ) (h : History A) (id : ℕ) (cut : CutDocument) →
-    IsLegal ranges desks h →
-    docs h id ≡ Some cut → AreParts cut.size cut.scheme cut.bytes cut.parts
-printed_cut ranges desks [] id cut legal had = cc
-printed_cut {A} ranges desks (e ∷ h) id cut legal had = elim (decided (prints_as e id)) [
-  | inl is ↦
-      (let own : printed_by e.event e.parts ≡ Some cut =
-      sym (if_so (prints_as e id) (printed_by e.event e.parts) (docs h id) is) ∙ had in
-      subst (λ (o : Option CutDocument). IfSome o (λ c. AreParts c.size c.scheme c.bytes c.parts)) own
-      (legal.0.parts (prints_as_means e id is).0))
-  | inr not_so ↦
-      printed_cut ranges desks h id cut legal.1
-      (sym (if_not (prints_as e id) (printed_by e.event e.parts) (docs h id)
-      (λ so. true_false (prints_as e id) so not_so)) ∙ had)
+pub both_printed : (xs ys : List Label) → ArePrinted xs → ArePrinted ys → ArePrinted (xs ++ ys)
+both_printed xs ys p q i label is = elim (in_either xs ys i label is) [
+  | inl first ↦ p i label first
+  | inr later ↦ q later.0 label later.2
 ]
+
+pub get_taken : {X : Type 0} (k : ℕ) (xs : List X) (i : ℕ) (x : X) → slice_get (take k xs) i ≡ Some x →
+    slice_get xs i ≡ Some x
+get_taken zero [] i x is = is
+get_taken zero (y ∷ ys) i x is = cc
+get_taken (suc k) [] i x is = is
+get_taken (suc k) (y ∷ ys) zero x is = is
+get_taken (suc k) (y ∷ ys) (suc i) x is = get_taken k ys i x is
+
+some_printed : (k : ℕ) (xs : List Label) → ArePrinted xs → ArePrinted (take k xs)
+some_printed k xs p i label is = p i label (get_taken k xs i label is)
+
+-- the labels of a document's parts, from a place on
+each_printed : (cut : CutDocument) (id k : ℕ) (parts : List (List ℕ)) (labels : List Label) →
+    AreParts cut.size cut.scheme cut.bytes cut.parts →
+    ((i : ℕ) → slice_get parts i ≡ slice_get cut.parts (k + i)) → AreLabelsFor cut id (k + 1) parts labels →
+    ArePrinted labels
+each_printed cut id k [] [] are within made i label is = cc
+each_printed cut id k [] (x ∷ xs) are within made i label is = absurd made
+each_printed cut id k (part ∷ parts) [] are within made i label is = absurd made
+each_printed cut id k (part ∷ parts) (x ∷ xs) are within made zero label is =
+    let same : x ≡ label = cc (is) in
+    let place : k + 0 ≡ k = omega arith in
+    let at : slice_get cut.parts k ≡ Some part =
+    sym (ap (λ (j : ℕ). slice_get cut.parts j) place) ∙ sym (within 0) in
+    let carries : Carries x.page x.grid =
+    subst (λ (q : PageView). Carries q x.grid) (sym made.0.page_is) made.0.grid_is.carries in
+    subst (λ (l : Label). IsPrinted l) same (record {
+      are_parts = subst (λ (c : CutDocument). AreParts c.size c.scheme c.bytes c.parts) (sym made.0.cut_is) are;
+      place = k;
+      m_is = ap (λ (q : PageView). q.m) made.0.page_is;
+      n_is = ap (λ (q : PageView). q.n) made.0.page_is ∙
+          ap (λ (c : CutDocument). length c.parts) (sym made.0.cut_is);
+      part = ap (λ (c : CutDocument). slice_get c.parts k) made.0.cut_is ∙ at ∙
+          ap (λ (q : PageView). Some q.bytes) (sym made.0.page_is);
+      carries = carries;
+    })
+each_printed cut id k (part ∷ parts) (x ∷ xs) are within made (suc i) label is =
+    each_printed cut id (k + 1) parts xs are
+    (λ j. within (suc j) ∙ ap (λ (n : ℕ). slice_get cut.parts n) (let z : k + suc j ≡ (k + 1) + j = omega arith in z))
+    made.1 i label is
+
+-- what is so of goods whose labels are as they were printed
+abbrev PrintedGoods : Goods → Type 0
+PrintedGoods goods = ArePrinted goods.labels
+
+closed : IsClosed PrintedGoods
+closed = record { none = none_printed; cut = λ most goods p. some_printed most goods.labels p }
+
+quiet_printed : (goods : Goods) → IsQuiet goods → ArePrinted goods.labels
+quiet_printed goods q = subst ArePrinted (sym q.labels) none_printed
+
+-- ---- call by call
+
+print_prints : {A : Type 0} (before : ℕ) (document : List ℕ) (size : Size) (scheme : Scheme) (held : LedgerView)
+    (course : Course A LedgerView) → PrintComes before document size scheme held course → OfCourse PrintedGoods course
+print_prints before document size scheme held (Saves next goods reply) comes =
+    known_goods PrintedGoods goods _ comes.goods_are (each_printed (cut_of document size scheme comes.parts) comes.id 0 comes.parts
+    comes.labels comes.are_parts
+    (λ j. ap (λ (n : ℕ). slice_get comes.parts n) (let z : j ≡ 0 + j = omega arith in z)) comes.are_labels)
+print_prints before document size scheme held (Answers reply) comes = tt
+print_prints before document size scheme held LacksMemory comes = tt
+
+give_prints : {A : Type 0} (before receiver : ℕ) (range : Range) (held : LedgerView) (course : Course A LedgerView) →
+    GiveComes before receiver range held course → OfCourse PrintedGoods course
+give_prints before receiver range held (Saves next goods reply) comes = known_goods PrintedGoods goods _ comes.goods_are none_printed
+give_prints before receiver range held (Answers reply) comes = tt
+give_prints before receiver range held LacksMemory comes = tt
+
+take_prints : {A : Type 0} (number : ℕ) (ticket : TicketView) (held : LedgerView) (course : Course A LedgerView) →
+    TakeComes number ticket held course → OfCourse PrintedGoods course
+take_prints number ticket held (Saves next goods reply) comes = known_goods PrintedGoods goods _ comes.goods_are none_printed
+take_prints number ticket held (Answers reply) comes = tt
+take_prints number ticket held LacksMemory comes = tt
+
+-- ---- steps
+
+printer_prints : {A : Type 0} (old new : Relay) (printer : ℕ) (Acts : Actor LedgerView → Ending A LedgerView → Type 0)
+    (reply : Reply A) → ArePrinted old.labels → Leaves PrintedGoods Acts → PrinterGoes old printer Acts reply new →
+    ArePrinted new.labels
+printer_prints old new printer Acts reply p each g =
+    subst (λ (r : Relay). ArePrinted r.labels) (sym g.new_is)
+    (both_printed old.labels g.end.goods.labels p (each g.actor g.end g.acts))
+
+desk_prints : {A : Type 0} (old new : Relay) (number : ℕ) (Acts : ℕ → Actor Documents → Ending A Documents → Type 0)
+    (reply : Reply A) → ArePrinted old.labels → ((room : ℕ) → Leaves IsQuiet (Acts room)) →
+    DeskGoes old number Acts reply new → ArePrinted new.labels
+desk_prints old new number Acts reply p each g =
+    subst (λ (r : Relay). ArePrinted r.labels) (sym g.new_is)
+    (both_printed old.labels g.end.goods.labels p
+    (quiet_printed g.end.goods (each g.desk.room g.desk.actor g.end g.acts)))
+
+acts_print : {A : Type 0} (old new : Relay) (event : Event A) (reply : Reply A) → ArePrinted old.labels →
+    Acts old event reply new → ArePrinted new.labels
+acts_print old new (Print printer document size scheme stop) reply p acts =
+    printer_prints old new printer _ reply p
+    (may_lack_leaves PrintedGoods closed _ (calls_leave PrintedGoods closed _ stop _
+    (print_prints (length old.labels) document size scheme))) acts
+acts_print old new (Give printer receiver range stop) reply p acts =
+    printer_prints old new printer _ reply p
+    (may_lack_leaves PrintedGoods closed _ (calls_leave PrintedGoods closed _ stop _
+    (give_prints (length old.tickets) receiver range))) acts
+acts_print old new (Take printer number stop) reply p acts =
+    printer_prints old new printer _ reply p
+    (calls_leave PrintedGoods closed _ stop _ (take_prints number acts.0)) acts.2
+acts_print old new (RestartPrinter printer) reply p acts =
+    printer_prints old new printer _ reply p (restarts_leave PrintedGoods closed _) acts
+acts_print old new (Scan desk number flips stop) reply p acts =
+    desk_prints old new desk _ reply p (λ room. scan_quiet _ stop room (flipped acts.0.grid flips)) acts.2
+acts_print old new (Forget desk id stop) reply p acts =
+    desk_prints old new desk _ reply p (λ room. forget_is_quiet _ stop id) acts
+acts_print old new (Import desk number stop) reply p acts =
+    desk_prints old new desk _ reply p (λ room. import_is_quiet _ stop room acts.0) acts.2
+acts_print old new (Ask desk id) reply p acts = desk_prints old new desk _ reply p (λ room. ask_quiet id) acts
+acts_print old new (Export desk id) reply p acts =
+    desk_prints old new desk _ reply p (λ room. export_is_quiet (length old.exports) id) acts
+acts_print old new (RestartDesk desk) reply p acts = desk_prints old new desk _ reply p (λ room. restart_quiet _) acts
+
+pub each_step_prints : (A : Type 0) → EachStepPrints A
+each_step_prints A old new event reply p step = by_case step
+  where
+    by_case : Step old event reply new → ArePrinted new.labels
+    by_case (inl acts) = acts_print old new event reply p acts.1
+    by_case (inr none) = subst (λ (r : Relay). ArePrinted r.labels) (sym none.2) p

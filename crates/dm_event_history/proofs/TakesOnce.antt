@@ -1,339 +1,276 @@
--- In a legal history no ticket is taken twice: said of its events and replies alone.
-use Rattle.std.proofs.Common.{◌≡◌, ◌<◌, ◌≤◌, ◌+◌, ◌&&◌, inl, inr, nat_lt, ℕ, zero, suc, true, Some, List, [], ◌∷◌, ◌++◌, length, slice_get, refl, ap, sym, ◌∙◌, subst, arith, if◌then◌else◌}
-use Rattle.std.proofs.lemmas.List.{length-append}
-use Rattle.std.proofs.lemmas.Bool.Decides.{nat_tests}
+-- No ticket is taken twice, and none is refused since a number of it is free at its receiver.
+use Rattle.std.proofs.Common.{◌≡◌, ◌≢◌, ◌+◌, ◌≤◌, ◌==◌, ◌||◌, inl, inr, ℕ, zero, suc, Bool, true, false, Some, List, [], ◌∷◌, ◌++◌, length, slice_get, refl, sym, ap, subst, ◌∙◌, arith, eq-eqb}
+use Rattle.std.specs.Prelude.{IsSomeAnd}
+use Rattle.dm_finder_frame.specs.Grids.{flipped}
 use Rattle.dm_print_ledger.specs.declared.range.Range.{Range}
-use Rattle.dm_print_ledger.specs.declared.fault.TakeFault.TheVariants.{Old, Overlap}
-use Rattle.dm_print_ledger.specs.Views.{TicketView}
-use Rattle.dm_store.specs.declared.fuse.Kept.TheVariants as kept
-use Rattle.dm_event_history.specs.declared.stop.Stop.{Stop}
-use Rattle.dm_event_history.specs.declared.stop.Stop.TheVariants as stops
+use Rattle.dm_print_ledger.specs.Givers.{last_taken}
+use Rattle.dm_print_ledger.specs.Moving.{CannotTake}
+use Rattle.dm_print_ledger.specs.Ranges.{is_in}
+use Rattle.dm_print_ledger.specs.Views.{LedgerView, TicketView}
+use Rattle.dm_print_ledger.specs.declared.fault.TakeFault.{TakeFault}
+use Rattle.dm_print_ledger.specs.declared.fault.TakeFault.TheVariants as take_fault
+use Rattle.dm_assembly_desk.specs.Documents.{Documents}
 use Rattle.dm_event_history.specs.declared.event.Event.{Event}
-use Rattle.dm_event_history.specs.declared.event.Event.TheVariants.{Give, Take}
+use Rattle.dm_event_history.specs.declared.event.Event.TheVariants.{Print, Scan, RestartPrinter, RestartDesk, Ask, Forget, Give, Take, Export, Import}
 use Rattle.dm_event_history.specs.declared.reply.Reply.{Reply}
-use Rattle.dm_event_history.specs.declared.reply.Reply.TheVariants.{Given, TakeRefused}
-use Rattle.dm_event_history.specs.History.{Entry, History, events_of, replies_of, tickets, given}
-use Rattle.dm_event_history.specs.Numbers as numbers
-use Rattle.dm_event_history.specs.Places.{is_taken}
-use Rattle.dm_event_history.specs.Legal.{IsLegal, Fits, IsReply, MayBeTaken}
-use Rattle.dm_event_history.specs.Saving.{tells_of_save}
-use Rattle.dm_event_history.specs.Tickets.{IsTaken, TakesTicket, WasGiven, TakesOnce, tickets_in}
-use Rattle.dm_event_history.specs.Actors.{PrinterAt, actor_of}
-use Rattle.dm_event_history.proofs.Deciding.{and_so, decided, if_so, same_or_other, true_false}
-use Rattle.dm_event_history.proofs.WhoActs.{same_so}
-use Rattle.dm_event_history.proofs.Gotten.{get_more, get_beyond}
-use Rattle.dm_event_history.proofs.TakenTickets.{not_taken}
-use Rattle.dm_event_history.proofs.NumberedTickets.{tickets_are, next_ticket, ticket_numbered, ticket_there, ticket_not_there}
-use Rattle.dm_event_history.proofs.RisingTickets.{taken_either, last_takes, was_taken, serials_rise, was_reached}
-use Rattle.dm_event_history.proofs.Batches.{events_count, replies_count, at_last, before_or_last, in_either}
+use Rattle.dm_event_history.specs.declared.reply.Reply.TheVariants.{TakeRefused}
+use Rattle.dm_event_history.specs.declared.stop.Stop.{Stop}
+use Rattle.dm_event_history.specs.Actors.{Actor, Running}
+use Rattle.dm_event_history.specs.Relay.{Lost, Move, Relay, Took, Used, start}
+use Rattle.dm_event_history.specs.Calls.{Answers, Calls, Course, Ending, LacksMemory, Saves}
+use Rattle.dm_event_history.specs.PrinterCalls.{TakeComes, running, take_faults}
+use Rattle.dm_event_history.specs.Steps.{Acts, DeskGoes, PrinterGoes, Step}
+use Rattle.dm_event_history.specs.Runs.{IsRun, Moment}
+use Rattle.dm_event_history.specs.Places.{AreDisjoint, IsInOrder, IsSound, is_taken, one_if}
+use Rattle.dm_event_history.specs.Told.{EachRunTakesOnce}
+use Rattle.dm_event_history.proofs.Deciding.{decided, same_or_other, other_number}
+use Rattle.dm_event_history.proofs.Numbers.{free_some, on_taken}
+use Rattle.dm_event_history.proofs.OneLedger.{old_or_new}
+use Rattle.dm_event_history.proofs.Balance.{Balances, calls_balance, give_balanced, may_lack_balances, print_balanced, restarts_balance}
+use Rattle.dm_event_history.proofs.LeavingGoods.{Leaves}
+use Rattle.dm_event_history.proofs.QuietDesks.{IsQuiet, ask_quiet, export_is_quiet, forget_is_quiet, import_is_quiet, restart_quiet, scan_quiet}
+use Rattle.dm_event_history.proofs.Taking.{take_ends, untaken}
+use Rattle.dm_event_history.proofs.Answered.{Ended, IsOwn, is_answered}
+use Rattle.dm_event_history.proofs.Headline.{each_run_is_sound}
 
-given_more : {A : Type 0} (events : List (Event A)) (replies : List (Reply A)) (event : Event A) (reply : Reply A)
-    (i later printer ticket : ℕ) →
-    i < suc later → WasGiven events replies i printer ticket →
-    WasGiven (events ++ event ∷ []) (replies ++ reply ∷ []) later printer ticket
-given_more events replies event reply i later printer ticket after w =
-    let before : w.j < i = w.before in record {
-      j = w.j;
-      before = omega arith;
-      giver = w.giver;
-      serial = w.serial;
-      range = w.range;
-      stop = w.stop;
-      event = get_more events (event ∷ []) w.j (Give w.giver printer w.range w.stop) w.event;
-      reply = get_more replies (reply ∷ []) w.j
-          (Given ticket (record { giver = w.giver; serial = w.serial; receiver = printer; range = w.range })) w.reply;
-    }
+-- ---- how often a ticket was taken
 
--- each ticket was given, to its receiver
-given_at : {A : Type 0} (ranges : List Range) (desks : ℕ) (h : History A) (k : ℕ) (ticket : TicketView) →
-    IsLegal ranges desks h →
-    slice_get (tickets h) k ≡ Some ticket → WasGiven (events_of h) (replies_of h) (length h) ticket.receiver k
-given_at ranges desks [] k ticket legal there = cc
-given_at {A} ranges desks (e ∷ h) k ticket legal there = elim (in_either (tickets h) (given e.reply) k ticket there) [
-  | inl before ↦ given_more (events_of h) (replies_of h) e.event e.reply (length h) (suc (length h)) ticket.receiver k
-      (omega arith)
-      (given_at ranges desks h k ticket legal.1 before)
-  | inr last ↦ gives e.event e.reply legal.0.reply last.0 last.1 last.2
-]
+taken : List Move → ℕ → ℕ
+taken [] ticket = 0
+taken (Used id ∷ moves) ticket = taken moves ticket
+taken (Took other ∷ moves) ticket = one_if (other == ticket) + taken moves ticket
+taken (Lost range ∷ moves) ticket = taken moves ticket
+
+taken_more : (xs ys : List Move) (k : ℕ) → taken (xs ++ ys) k ≡ taken xs k + taken ys k
+unfolding taken
+taken_more [] ys k = omega arith
+taken_more (Used id ∷ xs) ys k = taken_more xs ys k
+taken_more (Took other ∷ xs) ys k = (let more = taken_more xs ys k in omega arith)
+taken_more (Lost range ∷ xs) ys k = taken_more xs ys k
+
+or_false : (b c : Bool) → (b || c) ≡ false → (b ≡ false) × (c ≡ false)
+or_false true c none = cc (none)
+or_false false c none = (refl, none)
+
+taken_none : (xs : List Move) (k : ℕ) → is_taken xs k ≡ false → taken xs k ≡ 0
+unfolding taken
+taken_none [] k none = refl
+taken_none (Used id ∷ xs) k none = taken_none xs k none
+taken_none (Took other ∷ xs) k none =
+    let apart = or_false (other == k) (is_taken xs k) none in
+    let rest = taken_none xs k apart.1 in let e : one_if (other == k) ≡ 0 = ap one_if apart.0 in omega arith
+taken_none (Lost range ∷ xs) k none = taken_none xs k none
+
+at_least_one : (moves : List Move) (i k : ℕ) → slice_get moves i ≡ Some (Took k) → 1 ≤ taken moves k
+unfolding taken
+at_least_one [] i k is = cc (is)
+at_least_one (Took own ∷ moves) zero k is =
+    (let same : own ≡ k = took_is is in let e : one_if (own == k) ≡ 1 = ap one_if (eq-eqb own k same) in omega arith)
   where
-    only : (x y : TicketView) (i : ℕ) → slice_get (x ∷ []) i ≡ Some y → (i ≡ 0) × (x ≡ y)
-    only x y zero is = (refl, (let a : Some x ≡ Some y = is in cc))
-    only x y (suc i) is = absurd (cc (is))
+    took_is : Some (Took own) ≡ Some (Took k) → own ≡ k
+    took_is e = cc (e)
+at_least_one (Used id ∷ moves) zero k is = cc (is)
+at_least_one (Lost range ∷ moves) zero k is = cc (is)
+at_least_one (Took own ∷ moves) (suc i) k is = (let more = at_least_one moves i k is in omega arith)
+at_least_one (Used id ∷ moves) (suc i) k is = at_least_one moves i k is
+at_least_one (Lost range ∷ moves) (suc i) k is = at_least_one moves i k is
 
-    gives : (event : Event A) (reply : Reply A) → IsReply ranges h e.id e.left event reply → (i : ℕ) →
-        k ≡ length (tickets h) + i →
-        slice_get (given reply) i ≡ Some ticket →
-        WasGiven (events_of h ++ event ∷ []) (replies_of h ++ reply ∷ []) (suc (length h)) ticket.receiver k
-    gives (Give giver receiver range stop) (Given index view) fine i place is =
-        let t = only view ticket i is in
-        let first : i ≡ 0 = t.0 in
-        let index_is : index ≡ length (tickets h) = fine.index_is in
-        let at : index ≡ k = omega arith in
-        let to : receiver ≡ ticket.receiver = ap (λ (v : TicketView). v.receiver) (sym fine.ticket_is ∙ t.1) in
-        subst (λ (r : ℕ). WasGiven (events_of h ++ Give giver receiver range stop ∷ []) (replies_of h ++
-        Given index view ∷ []) (suc (length h)) r k) to
-        (subst (λ (n : ℕ). WasGiven (events_of h ++ Give giver receiver range stop ∷ []) (replies_of h ++
-        Given index view ∷ []) (suc (length h)) receiver n) at
-        (record {
-          j = length h;
-          before = omega arith;
-          giver = giver;
-          serial = numbers.gives h giver;
-          range = range;
-          stop = stop;
-          event = at_last (events_of h) (Give giver receiver range stop) (length h) (events_count h);
-          reply = at_last (replies_of h) (Given index view) (length h) (replies_count h) ∙
-              ap (λ (v : TicketView). Some (Given index v)) fine.ticket_is;
-        }))
-    gives event (Given index view) fine i place is = absurd fine
-    gives event reply fine i place is = absurd (cc (is))
-
--- ---- numbers of tickets
-
-number_within : {A : Type 0} (ranges : List Range) (desks : ℕ) (h : History A) (i k : ℕ) (ticket : TicketView) →
-    IsLegal ranges desks h →
-    slice_get (replies_of h) i ≡ Some (Given k ticket) → k < length (tickets h)
-number_within ranges desks [] i k ticket legal is = absurd (cc (is))
-number_within {A} ranges desks (e ∷ h) i k ticket legal is =
-    let more = length-append (tickets h) (given e.reply) in
-    elim (before_or_last (replies_of h) e.reply (Given k ticket) (length h) i (replies_count h) is) [
-      | inl before ↦ (let t = number_within ranges desks h i k ticket legal.1 before in omega arith)
-      | inr last ↦
-          (let place : k ≡ length (tickets h) = next_ticket ranges h e k ticket legal.0.reply last.1 in
-          let own : length (given e.reply) ≡ 1 = ap (λ (r : Reply A). length (given r)) last.1 in omega arith)
-    ]
-
--- what is refused as old is not taken
-old_not_taken : (A : Type 0) (stop : Stop) → (let reply : Reply A = TakeRefused Old in ¬ IsTaken stop reply)
-old_not_taken A stops.None taken = taken
-old_not_taken A stops.BeforeSave taken = taken
-old_not_taken A (stops.InSave how) taken = taken
-old_not_taken A (stops.SaveFault kept.Old) taken = taken
-old_not_taken A (stops.SaveFault kept.New) taken = taken
-old_not_taken A (stops.AfterLabels count) taken = taken
-
--- ---- serials of tickets
-
--- a ticket that is given has its giver's next serial, and the give saved
-next_serial : {A : Type 0} (ranges : List Range) (desks : ℕ) (h : History A) (e : Entry A) (k : ℕ)
-    (ticket : TicketView) → Fits ranges desks h e →
-    e.reply ≡ Given k ticket → (ticket.serial ≡ numbers.gives h ticket.giver) ×
-    (numbers.gives (e ∷ h) ticket.giver ≡ 1 + numbers.gives h ticket.giver)
-next_serial {A} ranges desks h e k ticket fits is =
-    by_event e.event refl (subst (λ (r : Reply A). IsReply ranges h e.id e.left e.event r) is fits.reply)
+just_one : (moves : List Move) (i j k : ℕ) → taken moves k ≤ 1 → slice_get moves i ≡ Some (Took k) →
+    slice_get moves j ≡ Some (Took k) → i ≡ j
+unfolding taken
+just_one [] i j k most is there = cc (is)
+just_one (move ∷ moves) zero zero k most is there = refl
+just_one (Took own ∷ moves) zero (suc j) k most is there =
+    (let same : own ≡ k = took_is is in let e : one_if (own == k) ≡ 1 = ap one_if (eq-eqb own k same) in
+    let more = at_least_one moves j k there in absurd (omega arith))
   where
-    saved : e.saved ≡ true
-    saved = fits.told (ap (λ (r : Reply A). tells_of_save r) is)
+    took_is : Some (Took own) ≡ Some (Took k) → own ≡ k
+    took_is e = cc (e)
+just_one (Used id ∷ moves) zero (suc j) k most is there = cc (is)
+just_one (Lost range ∷ moves) zero (suc j) k most is there = cc (is)
+just_one (Took own ∷ moves) (suc i) zero k most is there =
+    (let same : own ≡ k = took_is there in let e : one_if (own == k) ≡ 1 = ap one_if (eq-eqb own k same) in
+    let more = at_least_one moves i k is in absurd (omega arith))
+  where
+    took_is : Some (Took own) ≡ Some (Took k) → own ≡ k
+    took_is e = cc (e)
+just_one (Used id ∷ moves) (suc i) zero k most is there = cc (there)
+just_one (Lost range ∷ moves) (suc i) zero k most is there = cc (there)
+just_one (Took own ∷ moves) (suc i) (suc j) k most is there = ap suc (just_one moves i j k (omega arith) is there)
+just_one (Used id ∷ moves) (suc i) (suc j) k most is there = ap suc (just_one moves i j k most is there)
+just_one (Lost range ∷ moves) (suc i) (suc j) k most is there = ap suc (just_one moves i j k most is there)
 
-    by_event : (event : Event A) → e.event ≡ event → IsReply ranges h e.id e.left event (Given k ticket) →
-        (ticket.serial ≡ numbers.gives h ticket.giver) ×
-        (numbers.gives (e ∷ h) ticket.giver ≡ 1 + numbers.gives h ticket.giver)
-    by_event (Give p receiver range stop) event_is fine =
-        let at : (numbers.saved_at e p && numbers.is_give e.event) ≡ true =
-        and_so (numbers.saved_at e p) (numbers.is_give e.event)
-        (and_so e.saved (numbers.is_of e p) saved (same_so (actor_of e.event) (PrinterAt p) (ap actor_of event_is)))
-        (ap numbers.is_give event_is) in
-        let more : numbers.gives (e ∷ h) p ≡ 1 + numbers.gives h p =
-        ap (λ (n : ℕ). n + numbers.gives h p) (if_so (numbers.saved_at e p && numbers.is_give e.event) 1 0 at) in
-        let own : ticket.serial ≡ numbers.gives h p = ap (λ (t : TicketView). t.serial) fine.ticket_is in
-        subst (λ (g : ℕ). (ticket.serial ≡ numbers.gives h g) × (numbers.gives (e ∷ h) g ≡ 1 + numbers.gives h g))
-        (sym (ap (λ (t : TicketView). t.giver) fine.ticket_is)) (own, more)
-    by_event event event_is fine = absurd fine
+-- ---- steps
 
--- the serial of a ticket that was given is below its giver's next
-serial_below : {A : Type 0} (ranges : List Range) (desks : ℕ) (h : History A) (i k : ℕ) (ticket : TicketView) →
-    IsLegal ranges desks h →
-    slice_get (replies_of h) i ≡ Some (Given k ticket) → ticket.serial < numbers.gives h ticket.giver
-serial_below ranges desks [] i k ticket legal is = absurd (cc (is))
-serial_below {A} ranges desks (e ∷ h) i k ticket legal is =
-    elim (before_or_last (replies_of h) e.reply (Given k ticket) (length h) i (replies_count h) is) [
-      | inl before ↦
-          (let t = serial_below ranges desks h i k ticket legal.1 before in
-          let more : numbers.gives (e ∷ h) ticket.giver ≡
-          (if numbers.saved_at e ticket.giver && numbers.is_give e.event then 1 else 0) + numbers.gives h ticket.giver =
-          refl in omega arith)
-      | inr last ↦ (let t = next_serial ranges desks h e k ticket legal.0 last.1 in let a = t.0 in let b = t.1 in
-          omega arith)
-    ]
+abbrev AreTakenOnce : Relay → Type 0
+AreTakenOnce relay = (ticket : ℕ) → taken relay.moves ticket ≤ 1
 
--- ---- histories
+quiet_once : (old : Relay) (moves : List Move) → AreTakenOnce old → ((k : ℕ) → is_taken moves k ≡ false) → (k : ℕ) →
+    taken (old.moves ++ moves) k ≤ 1
+quiet_once old moves once none k =
+    (let m = taken_more old.moves moves k in let z = taken_none moves k (none k) in let o = once k in omega arith)
 
-takes_first : {A : Type 0} (printers : ℕ) →
-    (let none : History A = [] in TakesOnce printers (events_of none) (replies_of none))
-takes_first {A} printers = record {
-  numbered = λ i j ticket one other a b. absurd (cc (a));
-  given_rising = λ i j ticket number one other a b giver order. absurd (cc (a));
-  serials = λ i j ticket number one other a b giver serial. absurd (cc (a));
-  old = λ i j printer number ticket stop one other a b t one_is other_is from low. absurd (cc (a));
-  once = λ i j printer other ticket a b. absurd (let x = a.answered in cc (x));
-  given = λ i printer ticket a. absurd (let x = a.answered in cc (x));
-  no_overlap = λ i is. cc (is);
-  next = λ i index ticket a. absurd (cc (a));
-  rising = λ i j printer number later one other a b one_is other_is from order. absurd (let x = a.answered in cc (x));
-  reached = λ i printer number stop ticket a b is. absurd (cc (a));
-  there = λ i printer ticket stop reply a b is_such. absurd (cc (a));
-  not_there = λ i printer ticket stop a b printer_there. absurd (cc (a));
+taken_once : (old : Relay) (moves : List Move) (n : ℕ) → AreTakenOnce old → is_taken old.moves n ≡ false →
+    moves ≡ Took n ∷ [] → (k : ℕ) → taken (old.moves ++ moves) k ≤ 1
+unfolding taken
+taken_once old moves n once free is k =
+    let m = taken_more old.moves (Took n ∷ []) k in
+    subst (λ (ms : List Move). taken (old.moves ++ ms) k ≤ 1) (sym is)
+    (elim (same_or_other n k) [
+      | inl same ↦
+          let e : one_if (n == k) ≡ 1 = ap one_if (eq-eqb n k same) in
+          let z : taken old.moves k ≡ 0 = taken_none old.moves k
+          (subst (λ (j : ℕ). is_taken old.moves j ≡ false) same free) in omega arith
+      | inr away ↦
+          let e : one_if (n == k) ≡ 0 = ap one_if (other_number n k away) in let o = once k in omega arith
+    ])
+
+printer_once : {A : Type 0} (old new : Relay) (printer : ℕ) (Acts : Actor LedgerView → Ending A LedgerView → Type 0)
+    (reply : Reply A) → AreTakenOnce old → Balances Acts → PrinterGoes old printer Acts reply new → AreTakenOnce new
+printer_once old new printer Acts reply once each g =
+    subst (λ (r : Relay). AreTakenOnce r) (sym g.new_is)
+    (quiet_once old g.end.goods.moves once (each g.actor g.end g.acts).none_taken)
+
+desk_once : {A : Type 0} (old new : Relay) (number : ℕ) (Acts : ℕ → Actor Documents → Ending A Documents → Type 0)
+    (reply : Reply A) → AreTakenOnce old → ((room : ℕ) → Leaves IsQuiet (Acts room)) → DeskGoes old number Acts reply new →
+    AreTakenOnce new
+desk_once old new number Acts reply once each g =
+    subst (λ (r : Relay). AreTakenOnce r) (sym g.new_is)
+    (quiet_once old g.end.goods.moves once (λ k. ap (λ (ms : List Move). is_taken ms k)
+    (each g.desk.room g.desk.actor g.end g.acts).moves))
+
+taker_once : {A : Type 0} (old new : Relay) (printer number : ℕ) (ticket : TicketView) (stop : Stop) (reply : Reply A) →
+    AreTakenOnce old → IsInOrder old → slice_get old.tickets number ≡ Some ticket →
+    PrinterGoes old printer (Calls take_faults stop (TakeComes number ticket)) reply new → AreTakenOnce new
+taker_once old new printer number ticket stop reply once order there g =
+    subst (λ (r : Relay). AreTakenOnce r) (sym g.new_is)
+    (elim (take_ends stop number ticket g.actor g.end g.acts) [
+      | inl b ↦ quiet_once old g.end.goods.moves once b.none_taken
+      | inr t ↦ taken_once old g.end.goods.moves number once
+          (untaken old printer number ticket g.actor g.end.actor g.end.goods order g.was there t) t.moves_are
+    ])
+
+acts_once : {A : Type 0} (old new : Relay) (event : Event A) (reply : Reply A) → IsInOrder old → AreTakenOnce old →
+    Acts old event reply new → AreTakenOnce new
+acts_once old new (Print printer document size scheme stop) reply order once acts =
+    printer_once old new printer _ reply once
+    (may_lack_balances _ (calls_balance _ stop _ (print_balanced (length old.labels) document size scheme))) acts
+acts_once old new (Give printer receiver range stop) reply order once acts =
+    printer_once old new printer _ reply once
+    (may_lack_balances _ (calls_balance _ stop _ (give_balanced (length old.tickets) receiver range))) acts
+acts_once old new (Take printer number stop) reply order once acts =
+    taker_once old new printer number acts.0 stop reply once order acts.1 acts.2
+acts_once old new (RestartPrinter printer) reply order once acts =
+    printer_once old new printer _ reply once (restarts_balance _) acts
+acts_once old new (Scan desk number flips stop) reply order once acts =
+    desk_once old new desk _ reply once (λ room. scan_quiet _ stop room (flipped acts.0.grid flips)) acts.2
+acts_once old new (Forget desk id stop) reply order once acts =
+    desk_once old new desk _ reply once (λ room. forget_is_quiet _ stop id) acts
+acts_once old new (Import desk number stop) reply order once acts =
+    desk_once old new desk _ reply once (λ room. import_is_quiet _ stop room acts.0) acts.2
+acts_once old new (Ask desk id) reply order once acts =
+    desk_once old new desk _ reply once (λ room. ask_quiet id) acts
+acts_once old new (Export desk id) reply order once acts =
+    desk_once old new desk _ reply once (λ room. export_is_quiet (length old.exports) id) acts
+acts_once old new (RestartDesk desk) reply order once acts =
+    desk_once old new desk _ reply once (λ room. restart_quiet _) acts
+
+-- ---- a take is never refused for an overlap
+
+own_overlap : {A : Type 0} → IsOwn {A = A} take_faults (TakeRefused take_fault.Overlap)
+own_overlap = record {
+  stopped = λ e. cc (e);
+  down = λ e. cc (e);
+  lacks = λ e. cc (e);
+  failed = λ e. cc (e);
+  save = λ e. cc (e);
+  memory = λ e. cc (e);
 }
 
-takes_next : {A : Type 0} (ranges : List Range) (desks : ℕ) (h : History A) (e : Entry A) → Fits ranges desks h e →
-    IsLegal ranges desks h →
-    TakesOnce (length ranges) (events_of h) (replies_of h) →
-    TakesOnce (length ranges) (events_of (e ∷ h)) (replies_of (e ∷ h))
-takes_next {A} ranges desks h e fits legal f = record {
-  numbered = number;
-  given_rising = λ i j ticket number one other a b giver order.
-      (let gives : numbers.gives h one.giver ≡ numbers.gives h other.giver = ap (numbers.gives h) giver in
-      elim (before_or_last (replies_of h) e.reply (Given ticket one) (length h) i (replies_count h) a) [
-        | inl first ↦ elim (before_or_last (replies_of h) e.reply (Given number other) (length h) j
-            (replies_count h) b) [
-              | inl second ↦ f.given_rising i j ticket number one other first second giver order
-              | inr last ↦ (let below = serial_below ranges desks h i ticket one legal first in
-                  let next = (next_serial ranges desks h e number other fits last.1).0 in omega arith)
-            ]
-        | inr here ↦ absurd (elim (before_or_last (replies_of h) e.reply (Given number other) (length h) j
-            (replies_count h) b) [
-              | inl second ↦ (let below = get_beyond (replies_of h) j (Given number other) second in
-                  let all = replies_count h in let at = here.0 in omega arith)
-              | inr last ↦ (let at = here.0 in let same = last.0 in omega arith)
-            ])
-      ]);
-  serials = serial;
-  once = one;
-  old = old;
-  next = λ i index ticket answered. ticket_numbered ranges desks (e ∷ h) i index ticket both answered;
-  rising = λ i j printer number later one other a b one_is other_is from order.
-      serials_rise ranges desks (e ∷ h) i j printer number later one other both
-      (record { stop = a.stop; event = a.event; reply = a.reply; answered = a.answered; done = inl a.taken }) b
-      (is_there number one one_is) (is_there later other other_is) from order;
-  reached = λ i printer number stop ticket asked answered is.
-      was_reached ranges desks (e ∷ h) i printer number stop ticket both asked answered is;
-  there = λ i printer ticket stop reply asked answered is_such.
-      ticket_there ranges desks (e ∷ h) i printer ticket stop reply both asked answered is_such;
-  not_there = λ i printer ticket stop asked answered printer_there.
-      ticket_not_there ranges desks (e ∷ h) i printer ticket stop both printer_there asked answered;
-  given = λ i printer ticket t. elim (taken_either h e i printer ticket t) [
-    | inl before ↦
-        (let below = get_beyond (events_of h) i (Take printer ticket before.stop) before.event in
-        given_more (events_of h) (replies_of h) e.event e.reply i i printer ticket (omega arith)
-        (f.given i printer ticket before))
-    | inr last ↦
-        (let m : MayBeTaken h printer ticket =
-        (last_takes ranges desks h e printer ticket last.1 fits last.2 last.3).1 in
-        subst (λ (k : ℕ). WasGiven (events_of (e ∷ h)) (replies_of (e ∷ h)) k printer ticket) (sym last.0)
-        (subst (λ (r : ℕ). WasGiven (events_of (e ∷ h)) (replies_of (e ∷ h)) (length h) r ticket) m.receiver
-        (given_more (events_of h) (replies_of h) e.event e.reply (length h) (length h) m.ticket.receiver ticket
-        (omega arith)
-        (given_at ranges desks h ticket m.ticket legal m.there))))
-  ];
-  no_overlap = λ i is. elim (before_or_last (replies_of h) e.reply (TakeRefused Overlap) (length h) i
-      (replies_count h) is) [
-        | inl before ↦ f.no_overlap i before
-        | inr last ↦ refused e.event (subst (λ (r : Reply A). IsReply ranges h e.id e.left e.event r) last.1 fits.reply)
-      ];
-}
+no_overlap : {A : Type 0} (old new : Relay) (printer number : ℕ) (ticket : TicketView) (stop : Stop) → IsSound old →
+    slice_get old.tickets number ≡ Some ticket →
+    PrinterGoes {A = A} old printer (Calls take_faults stop (TakeComes number ticket)) (TakeRefused take_fault.Overlap) new →
+    ⊥
+no_overlap {A} old new printer number ticket stop sound there g =
+    let ans = is_answered take_faults stop (TakeComes number ticket) g.actor g.end (TakeRefused take_fault.Overlap)
+    own_overlap g.acts (sym g.reply_is) in
+    clash ans.held (g.was ∙ ap (λ (a : Actor LedgerView). Some a) ans.was)
+    (by_course ans.held ans.course ans.comes ans.ended)
   where
-    both : IsLegal ranges desks (e ∷ h)
-    both = (fits, legal)
+    fault_is : {f : TakeFault} → ◌≡◌ {A = Reply A} (TakeRefused f) (TakeRefused take_fault.Overlap) →
+        f ≡ take_fault.Overlap
+    fault_is e = cc (e)
 
-    is_there : (number : ℕ) (ticket : TicketView) →
-        slice_get (tickets_in (replies_of (e ∷ h))) number ≡ Some ticket →
-        slice_get (tickets (e ∷ h)) number ≡ Some ticket
-    is_there number ticket is = ap (λ (l : List TicketView). slice_get l number) (sym (tickets_are (e ∷ h))) ∙ is
+    by_course : (held : LedgerView) (course : Course A LedgerView) → TakeComes number ticket held course →
+        Ended course held (TakeRefused take_fault.Overlap) g.end.actor →
+        CannotTake (running held) ticket take_fault.Overlap
+    by_course held (Saves next goods reply) comes ended = (let e = sym comes.reply_is ∙ ended.0 in cc (e))
+    by_course held (Answers reply) comes ended =
+        subst (λ (f : TakeFault). CannotTake (running held) ticket f) (fault_is (sym comes.2 ∙ ended.0)) comes.1
+    by_course held LacksMemory comes ended = absurd ended
 
-    refused : (event : Event A) → IsReply ranges h e.id e.left event (TakeRefused Overlap) → ⊥
-    refused (Take printer ticket stop) fine = fine
-    refused event fine = absurd fine
-
-    number : (i j ticket : ℕ) (one other : TicketView) → slice_get (replies_of (e ∷ h)) i ≡ Some (Given ticket one) →
-        slice_get (replies_of (e ∷ h)) j ≡ Some (Given ticket other) → i ≡ j
-    number i j ticket one other a b =
-        elim (before_or_last (replies_of h) e.reply (Given ticket one) (length h) i (replies_count h) a) [
-          | inl first ↦ elim (before_or_last (replies_of h) e.reply (Given ticket other)
-              (length h) j (replies_count h) b) [
-                | inl second ↦ f.numbered i j ticket one other first second
-                | inr last ↦ absurd (let t = number_within ranges desks h i ticket one legal first in
-                    let n = next_ticket ranges h e ticket other fits.reply last.1 in omega arith)
-              ]
-          | inr here ↦ elim (before_or_last (replies_of h) e.reply (Given ticket other)
-              (length h) j (replies_count h) b) [
-                | inl second ↦ absurd (let t = number_within ranges desks h j ticket other legal second in
-                    let n = next_ticket ranges h e ticket one fits.reply here.1 in omega arith)
-                | inr last ↦ here.0 ∙ sym last.0
-              ]
+    clash : (held : LedgerView) → slice_get old.printers printer ≡ Some (Running held) →
+        CannotTake (running held) ticket take_fault.Overlap → ⊥
+    clash held was cannot =
+        let own : ticket.receiver ≡ printer = cannot.1.0 ∙ sound.order.numbers printer (Running held) was in
+        let m : ℕ = cannot.3.0 in
+        let free = free_some old.printers printer m (Running held) was cannot.3.2 in
+        let one : one_if (is_in ticket.range m) ≡ 1 = ap one_if cannot.3.1 in
+        let on = on_taken old.moves 0 number old.tickets ticket number m there (omega arith) (untaken_so own) in
+        let most = sound.apart m in
+        absurd (omega arith)
+      where
+        untaken_so : ticket.receiver ≡ printer → is_taken old.moves number ≡ false
+        untaken_so own = elim (decided (is_taken old.moves number)) [
+          | inl so ↦
+              let noted = sound.order.noted number so in
+              let same_some : Some noted.ticket ≡ Some ticket = sym noted.there ∙ there in
+              let same : noted.ticket ≡ ticket = cc (same_some) in
+              let at : slice_get old.printers noted.ticket.receiver ≡ Some (Running held) =
+              subst (λ (p : ℕ). slice_get old.printers p ≡ Some (Running held))
+              (sym (ap (λ (x : TicketView). x.receiver) same ∙ own)) was in
+              let last = subst (λ (x : TicketView). IsSomeAnd (last_taken held.givers x.giver)
+              (λ last. x.serial ≤ last)) same (noted.noted (Running held) at) in
+              absurd (old_or_new (last_taken held.givers ticket.giver) ticket.serial last cannot.2)
+          | inr none ↦ none
         ]
 
-    serial : (i j ticket number : ℕ) (one other : TicketView) →
-        slice_get (replies_of (e ∷ h)) i ≡ Some (Given ticket one) →
-        slice_get (replies_of (e ∷ h)) j ≡ Some (Given number other) → one.giver ≡ other.giver →
-        one.serial ≡ other.serial → i ≡ j
-    serial i j ticket number one other a b giver same =
-        let gives : numbers.gives h one.giver ≡ numbers.gives h other.giver = ap (numbers.gives h) giver in
-        elim (before_or_last (replies_of h) e.reply (Given ticket one) (length h) i (replies_count h) a) [
-          | inl first ↦ elim (before_or_last (replies_of h) e.reply (Given number other) (length h) j
-              (replies_count h) b) [
-                | inl second ↦ f.serials i j ticket number one other first second giver same
-                | inr last ↦ absurd (let below = serial_below ranges desks h i ticket one legal first in
-                    let next = (next_serial ranges desks h e number other fits last.1).0 in omega arith)
-              ]
-          | inr here ↦ elim (before_or_last (replies_of h) e.reply (Given number other) (length h) j
-              (replies_count h) b) [
-                | inl second ↦ absurd (let below = serial_below ranges desks h j number other legal second in
-                    let next = (next_serial ranges desks h e ticket one fits here.1).0 in omega arith)
-                | inr last ↦ here.0 ∙ sym last.0
-              ]
-        ]
+-- ---- runs
 
-    old : (i j printer number ticket : ℕ) (stop : Stop) (one other : TicketView) →
-        slice_get (events_of (e ∷ h)) i ≡ Some (Take printer number stop) →
-        slice_get (replies_of (e ∷ h)) i ≡ Some (TakeRefused Old) →
-        TakesTicket (events_of (e ∷ h)) (replies_of (e ∷ h)) j printer ticket →
-        slice_get (tickets_in (replies_of (e ∷ h))) number ≡ Some one →
-        slice_get (tickets_in (replies_of (e ∷ h))) ticket ≡ Some other → one.giver ≡ other.giver →
-        other.serial ≤ one.serial → j < i
-    old i j printer number ticket stop one other asked answered t one_is other_is from low =
-        elim (decided (nat_lt j i)) [
-          | inl before ↦ grind (arith, nat_tests, before)
-          | inr not_before ↦ elim (same_or_other i j) [
-            | inl same ↦
-                (let at : slice_get (replies_of (e ∷ h)) i ≡ Some t.reply =
-                subst (λ (k : ℕ). slice_get (replies_of (e ∷ h)) k ≡ Some t.reply) (sym same) t.answered in
-                let reply_is : t.reply ≡ TakeRefused Old = cc (at, answered) in
-                absurd (old_not_taken A t.stop (subst (λ (r : Reply A). IsTaken t.stop r) reply_is t.taken)))
-            | inr apart ↦
-                (let order : i < j = grind (arith, nat_tests, not_before, apart) in
-                let rise : one.serial < other.serial =
-                serials_rise ranges desks (e ∷ h) i j printer number ticket one other both
-                (record {
-                  stop = stop;
-                  event = asked;
-                  reply = TakeRefused Old;
-                  answered = answered;
-                  done = inr refl;
-                }) t (is_there number one one_is) (is_there ticket other other_is) from order in omega arith)
-          ]
-        ]
+run_once : (A : Type 0) (ranges : List Range) (rooms : List ℕ) (h : List (Moment A)) (end : Relay) →
+    AreDisjoint ranges → IsRun (start ranges rooms) h end → AreTakenOnce end
+unfolding taken
+run_once A ranges rooms [] end apart run =
+    subst (λ (r : Relay). AreTakenOnce r) (sym run) (λ k. omega arith)
+run_once A ranges rooms (moment ∷ earlier) end apart run =
+    by_step (run_once A ranges rooms earlier moment.before apart run.0)
+    (each_run_is_sound A ranges rooms earlier moment.before apart run.0).0.order run.1
+  where
+    by_step : AreTakenOnce moment.before → IsInOrder moment.before → Step moment.before moment.event moment.reply end →
+        AreTakenOnce end
+    by_step once order (inl acts) = acts_once moment.before end moment.event moment.reply order once acts.1
+    by_step once order (inr none) = subst (λ (r : Relay). AreTakenOnce r) (sym none.2) once
 
-    again : (i printer other ticket : ℕ) (stop : Stop) → TakesTicket (events_of h) (replies_of h) i printer ticket →
-        e.event ≡ Take other ticket stop → IsTaken stop e.reply → ⊥
-    again i printer other ticket stop before event_is taken =
-        true_false (is_taken h ticket) (was_taken ranges desks h i printer ticket legal before)
-        (not_taken ranges desks h other ticket legal
-        (last_takes ranges desks h e other ticket stop fits event_is taken).1)
+run_never : (A : Type 0) (ranges : List Range) (rooms : List ℕ) (h : List (Moment A)) (end : Relay) →
+    AreDisjoint ranges → IsRun (start ranges rooms) h end → (i printer ticket : ℕ) (stop : Stop) (moment : Moment A) →
+    slice_get h i ≡ Some moment → moment.event ≡ Take printer ticket stop →
+    moment.reply ≢ TakeRefused take_fault.Overlap
+run_never A ranges rooms [] end apart run i printer ticket stop moment is asked told = cc (is)
+run_never A ranges rooms (own ∷ earlier) end apart run zero printer ticket stop moment is asked told =
+    let same : own ≡ moment = cc (is) in
+    by_step (each_run_is_sound A ranges rooms earlier own.before apart run.0).0
+    (subst (λ (e : Event A). Step own.before e (TakeRefused take_fault.Overlap) end)
+    (ap (λ (m : Moment A). m.event) same ∙ asked)
+    (subst (λ (r : Reply A). Step own.before own.event r end) (ap (λ (m : Moment A). m.reply) same ∙ told) run.1))
+  where
+    by_step : IsSound own.before → Step {A = A} own.before (Take printer ticket stop) (TakeRefused take_fault.Overlap) end → ⊥
+    by_step sound (inl acts) = no_overlap own.before end printer ticket acts.1.0 stop sound acts.1.1 acts.1.2
+    by_step sound (inr none) = (let e = none.1 in cc (e))
+run_never A ranges rooms (own ∷ earlier) end apart run (suc i) printer ticket stop moment is asked told =
+    run_never A ranges rooms earlier own.before apart run.0 i printer ticket stop moment is asked told
 
-    one : (i j printer other ticket : ℕ) → TakesTicket (events_of (e ∷ h)) (replies_of (e ∷ h)) i printer ticket →
-        TakesTicket (events_of (e ∷ h)) (replies_of (e ∷ h)) j other ticket → i ≡ j
-    one i j printer other ticket a b = elim (taken_either h e i printer ticket a) [
-      | inl first ↦ elim (taken_either h e j other ticket b) [
-        | inl second ↦ f.once i j printer other ticket first second
-        | inr last ↦ absurd (again i printer other ticket last.1 first last.2 last.3)
-      ]
-      | inr here ↦ elim (taken_either h e j other ticket b) [
-        | inl second ↦ absurd (again j other printer ticket here.1 second here.2 here.3)
-        | inr last ↦ here.0 ∙ sym last.0
-      ]
-    ]
-
-pub takes_once : {A : Type 0} (ranges : List Range) (desks : ℕ) (h : History A) → IsLegal ranges desks h →
-    TakesOnce (length ranges) (events_of h) (replies_of h)
-takes_once ranges desks [] legal = takes_first (length ranges)
-takes_once ranges desks (e ∷ h) legal = takes_next ranges desks h e legal.0 legal.1 (takes_once ranges desks h legal.1)
+pub each_run_takes_once : (A : Type 0) → EachRunTakesOnce A
+each_run_takes_once A ranges rooms h end apart run = record {
+  once = λ i j k is there. just_one end.moves i j k (run_once A ranges rooms h end apart run k) is there;
+  never = run_never A ranges rooms h end apart run;
+}

@@ -1,84 +1,105 @@
--- Where each identification is: free at a printer, on a ticket, used, or lost.
-use Rattle.std.specs.Prelude.{◌≡◌, ℕ, Bool, true, false, ◌&&◌, ◌||◌, not, ◌==◌, Some, List, [], ◌∷◌, slice_get}
+-- Where numbers are: free at a printer, on a ticket that was not taken, used, or lost.
+use Rattle.std.specs.Prelude.{◌≡◌, ◌⊎◌, ◌<◌, ◌+◌, ◌≤◌, ℕ, AllPairs, Bool, true, false, ◌==◌, ◌||◌, if◌then◌else◌, Some, IsSomeAnd, List, [], ◌∷◌, slice_get}
 use Rattle.dm_print_ledger.specs.declared.range.Range.{Range}
-use Rattle.dm_print_ledger.specs.Ranges.{is_in}
+use Rattle.dm_print_ledger.specs.Ranges.{is_free, is_in}
+use Rattle.dm_print_ledger.specs.Givers.{last_taken}
+use Rattle.dm_print_ledger.specs.Views.{LedgerView, TicketView}
 use Rattle.dm_event_history.specs.declared.event.Event.{Event}
-use Rattle.dm_event_history.specs.declared.event.Event.TheVariants.{Print, Give, Take}
 use Rattle.dm_event_history.specs.declared.reply.Reply.{Reply}
-use Rattle.dm_event_history.specs.declared.reply.Reply.TheVariants.{Given}
-use Rattle.dm_event_history.specs.History.{History, LabelName, tickets}
-use Rattle.dm_event_history.specs.Numbers.{free_at, is_in_some, is_on}
+use Rattle.dm_event_history.specs.Actors.{Actor, stored_of}
+use Rattle.dm_event_history.specs.Relay.{Label, Move, Relay, Used, Took, Lost}
+use Rattle.dm_event_history.specs.Steps.{Step}
+use Rattle.dm_event_history.specs.Clean.{AreOfOneDocument}
 
--- the event takes the ticket of this number
-abbrev pub takes_ticket : {A : Type 0} → Event A → ℕ → Bool
-takes_ticket (Take printer ticket stop) k = ticket == k
-takes_ticket event k = false
+-- one ends before the other begins
+abbrev pub IsApart : Range → Range → Type 0
+IsApart range other = (range.last < other.first) ⊎ (other.last < range.first)
 
--- a ticket was taken, and that was saved
-abbrev pub is_taken : {A : Type 0} → History A → ℕ → Bool
-is_taken [] k = false
-is_taken (entry ∷ before) k = (entry.saved && takes_ticket entry.event k) || is_taken before k
+-- no number is in two of the opening ranges
+abbrev pub AreDisjoint : List Range → Type 0
+AreDisjoint ranges = AllPairs IsApart ranges
 
--- a number is on a ticket that was given and not yet taken
-abbrev pub is_waiting : {A : Type 0} → History A → ℕ → ℕ → Bool
-is_waiting h k number = is_on (slice_get (tickets h) k) number && not (is_taken h k)
+abbrev pub one_if : Bool → ℕ
+one_if true = 1
+one_if false = 0
 
--- the event is a print under this number
-abbrev pub uses : {A : Type 0} → Event A → ℕ → ℕ → Bool
-uses (Print printer document size scheme stop) id number = id == number
-uses event id number = false
+-- at how many printers the number is free, by what they store
+abbrev pub free_at : List (Actor LedgerView) → ℕ → ℕ
+free_at [] number = 0
+free_at (actor ∷ actors) number = one_if (is_free (stored_of actor).free number) + free_at actors number
 
--- a number is that of a print that saved
-abbrev pub is_used : {A : Type 0} → History A → ℕ → Bool
-is_used [] number = false
-is_used (entry ∷ before) number = (entry.saved && uses entry.event entry.id number) || is_used before number
+-- the ticket of this number was taken
+abbrev pub is_taken : List Move → ℕ → Bool
+is_taken [] ticket = false
+is_taken (Used id ∷ moves) ticket = is_taken moves ticket
+is_taken (Took other ∷ moves) ticket = (other == ticket) || is_taken moves ticket
+is_taken (Lost range ∷ moves) ticket = is_taken moves ticket
 
--- the event is a give of this number whose ticket did not leave
-abbrev pub loses : {A : Type 0} → Event A → Reply A → ℕ → Bool
-loses (Give printer receiver range stop) (Given index ticket) number = false
-loses (Give printer receiver range stop) other number = is_in range number
-loses event other number = false
+-- on how many tickets, numbered on from there, that were not taken it is
+abbrev pub on_tickets : List Move → ℕ → List TicketView → ℕ → ℕ
+on_tickets moves from [] number = 0
+on_tickets moves from (ticket ∷ tickets) number =
+    (if is_taken moves from then 0 else one_if (is_in ticket.range number))
+    + on_tickets moves (from + 1) tickets number
 
--- a number is of a give that saved, whose ticket did not leave
-abbrev pub is_lost : {A : Type 0} → History A → ℕ → Bool
-is_lost [] number = false
-is_lost (entry ∷ before) number = (entry.saved && loses entry.event entry.reply number) || is_lost before number
+-- how often it was used or lost
+abbrev pub gone : List Move → ℕ → ℕ
+gone [] number = 0
+gone (Used id ∷ moves) number = one_if (id == number) + gone moves number
+gone (Took ticket ∷ moves) number = gone moves number
+gone (Lost range ∷ moves) number = one_if (is_in range number) + gone moves number
 
--- where a number may be
-pub data Place : Type 0 where
-  FreeAt : ℕ → Place
-  OnTicket : ℕ → Place
-  Used : Place
-  Lost : Place
+-- in how many places it is
+abbrev pub places : Relay → ℕ → ℕ
+places relay number =
+    free_at relay.printers number + on_tickets relay.moves 0 relay.tickets number + gone relay.moves number
 
--- whether a number is there, where printers began with these ranges
-abbrev pub is_at : {A : Type 0} → List Range → History A → ℕ → Place → Bool
-is_at ranges h number (FreeAt printer) = free_at ranges h printer number
-is_at ranges h number (OnTicket k) = is_waiting h k number
-is_at ranges h number Used = is_used h number
-is_at ranges h number Lost = is_lost h number
+-- how many of the opening ranges it is in
+abbrev pub opened : List Range → ℕ → ℕ
+opened [] number = 0
+opened (range ∷ ranges) number = one_if (is_in range number) + opened ranges number
 
--- a printer began with this number
-abbrev pub IsOpened : List Range → ℕ → Type 0
-IsOpened ranges number = (printer : ℕ) × (is_in_some (slice_get ranges printer) number ≡ true)
+-- a ticket that was taken left, and the printer that it is for has noted its serial, or a greater one
+pub record IsNoted (relay : Relay) (number : ℕ) : Type 0 where
+  pub ticket : TicketView
+  pub there : slice_get relay.tickets number ≡ Some ticket
+  pub noted : (actor : Actor LedgerView) → slice_get relay.printers ticket.receiver ≡ Some actor →
+      IsSomeAnd (last_taken (stored_of actor).givers ticket.giver) (λ last. ticket.serial ≤ last)
 
--- each label has an identification that a printer began with
-abbrev pub AreOpened : List Range → List LabelName → Type 0
-AreOpened ranges names = (i : ℕ) (name : LabelName) → slice_get names i ≡ Some name → IsOpened ranges name.id
+-- each printer has its number, and each ticket that was taken is noted
+pub record IsInOrder (relay : Relay) : Type 0 where
+  pub numbers : (printer : ℕ) (actor : Actor LedgerView) → slice_get relay.printers printer ≡ Some actor →
+      (stored_of actor).number ≡ printer
+  pub noted : (number : ℕ) → is_taken relay.moves number ≡ true → IsNoted relay number
 
--- a number that a printer began with is in just one place, and any other in none
-pub record IsPlaced {A : Type 0} (ranges : List Range) (h : History A) (number : ℕ) : Type 0 where
-  pub somewhere : IsOpened ranges number → (place : Place) × (is_at ranges h number place ≡ true)
-  pub nowhere_else : (one other : Place) →
-      is_at ranges h number one ≡ true → is_at ranges h number other ≡ true → one ≡ other
-  pub opened : (place : Place) → is_at ranges h number place ≡ true → IsOpened ranges number
+-- ---- laws
 
-abbrev pub ArePlaced : {A : Type 0} → List Range → History A → Type 0
-ArePlaced ranges h = (number : ℕ) → IsPlaced ranges h number
+-- a step moves numbers, and makes or ends none
+abbrev pub EachStepKeepsNumbers : Type 0 → Type 0
+EachStepKeepsNumbers A = (old new : Relay) (event : Event A) (reply : Reply A) → IsInOrder old →
+    Step old event reply new → IsInOrder new × ((number : ℕ) → places new number ≡ places old number)
 
--- no ticket was taken that had been taken before it, each time with a save
-abbrev pub IsNoTicketTakenTwice : {A : Type 0} → History A → Type 0
-IsNoTicketTakenTwice [] = Unit {0}
-IsNoTicketTakenTwice (entry ∷ before) =
-    ((k : ℕ) → (entry.saved && takes_ticket entry.event k) ≡ true → is_taken before k ≡ false)
-    × IsNoTicketTakenTwice before
+-- each label that left has a number that was used
+abbrev pub AreUsed : Relay → Type 0
+AreUsed relay = (i : ℕ) (label : Label) → slice_get relay.labels i ≡ Some label → 1 ≤ gone relay.moves label.page.id
+
+-- no two labels that left have one identification and one number
+abbrev pub AreOnce : List Label → Type 0
+AreOnce labels = (i j : ℕ) (one other : Label) → slice_get labels i ≡ Some one → slice_get labels j ≡ Some other →
+    one.page.id ≡ other.page.id → one.page.m ≡ other.page.m → i ≡ j
+
+-- each number is in one place at most
+abbrev pub AreApart : Relay → Type 0
+AreApart relay = (number : ℕ) → places relay number ≤ 1
+
+-- what holds of each relay that a run from disjoint ranges reaches
+pub record IsSound (relay : Relay) : Type 0 where
+  pub order : IsInOrder relay
+  pub apart : AreApart relay
+  pub used : AreUsed relay
+  pub one_document : AreOfOneDocument relay.labels
+  pub once : AreOnce relay.labels
+
+abbrev pub EachStepIsSound : Type 0 → Type 0
+EachStepIsSound A = (old new : Relay) (event : Event A) (reply : Reply A) → IsSound old → Step old event reply new →
+    IsSound new

@@ -1,24 +1,196 @@
--- Which histories are safe: what clean desks answer agrees with what was printed, and with what was scanned and
--- imported.
-use Rattle.std.specs.Prelude.{◌≡◌, ℕ, List, [], ◌∷◌}
-use Rattle.dm_finder_frame.specs.Grids.{GridView}
+-- What is so of the replies of desks as long as each scan is fair: they agree with what was printed, and with what was
+-- scanned, imported and forgotten there.
+use Rattle.std.specs.Prelude.{◌≡◌, ◌≢◌, ◌≤◌, ◌↔◌, ℕ, true, ◌==◌, if◌then◌else◌, Option, Some, None, List, [], ◌∷◌, length, slice_get, IsSome}
+use Rattle.std.specs.Ordering.{nat_cmp}
+use Rattle.std.specs.List.Sorted.{IsStrictlySortedBy}
+use Rattle.dm_print_ledger.specs.declared.range.Range.{Range}
+use Rattle.dm_assembly_desk.specs.Pages.{page, names}
+use Rattle.dm_assembly_desk.specs.declared.reply.Kind.{Kind}
+use Rattle.dm_assembly_desk.specs.declared.reply.Kind.TheVariants.{New, Again, Complete}
+use Rattle.dm_assembly_desk.specs.declared.reply.Accepted.{Accepted}
+use Rattle.dm_assembly_desk.specs.declared.reply.Imported as imported_type
+use Rattle.dm_assembly_desk.specs.declared.fault.AskFault.{AskFault}
+use Rattle.dm_assembly_desk.specs.declared.fault.AskFault.TheVariants as ask_fault
+use Rattle.dm_assembly_desk.specs.declared.fault.ForgetFault.{ForgetFault}
+use Rattle.dm_assembly_desk.specs.declared.fault.ForgetFault.TheVariants as forget_fault
+use Rattle.dm_assembly_desk.specs.declared.fault.ExportFault.{ExportFault}
+use Rattle.dm_assembly_desk.specs.declared.fault.ExportFault.TheVariants as export_fault
+use Rattle.dm_assembly_desk.specs.declared.fault.ScanFault.{ScanFault}
+use Rattle.dm_assembly_desk.specs.declared.fault.ScanFault.TheVariants as scan_fault
+use Rattle.dm_assembly_desk.specs.declared.fault.ImportFault.{ImportFault}
+use Rattle.dm_assembly_desk.specs.declared.fault.ImportFault.TheVariants as import_fault
 use Rattle.dm_event_history.specs.declared.event.Event.{Event}
+use Rattle.dm_event_history.specs.declared.event.Event.TheVariants.{Scan, Ask, Forget, Export, Import}
 use Rattle.dm_event_history.specs.declared.reply.Reply.{Reply}
-use Rattle.dm_event_history.specs.Actors.{DeskAt, actor_of}
-use Rattle.dm_event_history.specs.History.{History}
-use Rattle.dm_event_history.specs.Holding.{known_of}
-use Rattle.dm_event_history.specs.Tainted.{AtDesk}
-use Rattle.dm_event_history.specs.Honest.{IsClean}
-use Rattle.dm_event_history.specs.Telling.{IsReplyTrue}
+use Rattle.dm_event_history.specs.declared.reply.Reply.TheVariants.{Scanned, ScanRefused, Document, AskRefused, Forgotten, ForgetRefused, Exported, ExportRefused, Imported, ImportRefused}
+use Rattle.dm_event_history.specs.Relay as relays
+use Rattle.dm_event_history.specs.Relay.{CutDocument, Desk, Label, Relay, start}
+use Rattle.dm_event_history.specs.Runs.{Moment, IsRun}
+use Rattle.dm_event_history.specs.Places.{AreDisjoint}
+use Rattle.dm_event_history.specs.Headline.{AreFairMoments}
+use Rattle.dm_event_history.specs.Held.{IsPossiblyHeld, IsSurelyHeld}
 
--- the reply is safe after this history
-abbrev pub IsReplySafe : {A : Type 0} → History A → Event A → Reply A → Type 0
-IsReplySafe before event reply = IsReplyTrue (known_of before) event reply
+-- what was printed under an identification, by the labels that left
+abbrev pub docs : List Label → ℕ → Option CutDocument
+docs [] id = None
+docs (label ∷ labels) id = if label.page.id == id then Some label.cut else docs labels id
 
--- so it is of each reply of a desk that is clean
-abbrev pub IsSafe : {A : Type 0} → List GridView → History A → Type 0
-IsSafe grids [] = Unit {0}
-IsSafe grids (entry ∷ before) =
-    ((desk : ℕ) → actor_of entry.event ≡ DeskAt desk → IsClean grids (entry ∷ before) (AtDesk desk) →
-    IsReplySafe before entry.event entry.reply)
-    × IsSafe grids before
+-- what is known before an event
+pub record Known : Type 1 where
+  -- page m of a document may be held at a desk
+  pub may_hold : (desk id m : ℕ) → Type 0
+  -- page m of a document is surely held at a desk
+  pub holds : (desk id m : ℕ) → Type 0
+  -- the labels that left
+  pub labels : List Label
+
+abbrev pub known_of : {A : Type 0} → Relay → List (Moment A) → Known
+known_of before earlier = record {
+  may_hold = IsPossiblyHeld earlier;
+  holds = IsSurelyHeld earlier;
+  labels = before.labels;
+}
+
+-- no page of a document is surely held
+abbrev pub IsNotSurelyHeld : Known → ℕ → ℕ → Type 0
+IsNotSurelyHeld known desk id = (m : ℕ) → ¬ known.holds desk id m
+
+-- ---- asks and forgets
+
+-- the document was printed under this identification, and each of its pages is possibly held
+pub record IsTrueDocument (known : Known) (desk id : ℕ) (bytes : List ℕ) : Type 0 where
+  pub document : CutDocument
+  pub printed : docs known.labels id ≡ Some document
+  pub same : bytes ≡ document.bytes
+  pub possibly : (m : ℕ) → 1 ≤ m → m ≤ length document.parts → known.may_hold desk id m
+
+-- some but not all pages of the document are named, none of them surely held, and each other possibly held
+pub record IsTrulyMissing (known : Known) (desk id missing : ℕ) : Type 0 where
+  pub document : CutDocument
+  pub printed : docs known.labels id ≡ Some document
+  pub some_named : (m : ℕ) × (names missing m ≡ true)
+  pub not_all : (m : ℕ) × (1 ≤ m) × (m ≤ length document.parts) × (¬ (names missing m ≡ true))
+  pub nothing_else : (m : ℕ) → names missing m ≡ true → (1 ≤ m) × (m ≤ length document.parts)
+  pub not_surely : (m : ℕ) → names missing m ≡ true → ¬ known.holds desk id m
+  pub possibly : (m : ℕ) → 1 ≤ m → m ≤ length document.parts → ¬ (names missing m ≡ true) → known.may_hold desk id m
+
+-- why a document is not given, and why it is not forgotten
+abbrev pub IsAskSafe : Known → ℕ → ℕ → AskFault → Type 0
+IsAskSafe known desk id ask_fault.NotHeld = IsNotSurelyHeld known desk id
+IsAskSafe known desk id (ask_fault.Incomplete missing) = IsTrulyMissing known desk id missing
+IsAskSafe known desk id ask_fault.Memory = Unit {0}
+
+abbrev pub IsForgetSafe : Known → ℕ → ℕ → ForgetFault → Type 0
+IsForgetSafe known desk id forget_fault.NotHeld = IsNotSurelyHeld known desk id
+IsForgetSafe known desk id other = Unit {0}
+
+-- ---- scans
+
+-- by the kind of the answer to a scan of page m of n: whether it and the document's other pages are held
+abbrev pub IsKindSafe : Known → ℕ → ℕ → ℕ → ℕ → Kind → Type 0
+IsKindSafe known desk id m n Again = known.may_hold desk id m
+IsKindSafe known desk id m n New =
+    (¬ known.holds desk id m) × (other : ℕ) × (1 ≤ other) × (other ≤ n) × (other ≢ m) × (¬ known.holds desk id other)
+IsKindSafe known desk id m n Complete =
+    (¬ known.holds desk id m) × ((other : ℕ) → 1 ≤ other → other ≤ n → other ≢ m → known.may_hold desk id other)
+
+-- the page that was told is that of the scanned label, and of this kind
+pub record IsAcceptedSafe (known : Known) (desk number : ℕ) (accepted : Accepted) : Type 0 where
+  pub label : Label
+  pub has_left : slice_get known.labels number ≡ Some label
+  pub id_is : accepted.id ≡ label.page.id
+  pub m_is : accepted.m ≡ label.page.m
+  pub n_is : accepted.n ≡ label.page.n
+  pub kind : IsKindSafe known desk label.page.id label.page.m label.page.n accepted.kind
+
+-- ---- exports and imports
+
+-- what is exported, of a document of n pages that was printed, is possibly held, and all that is surely held is
+-- exported
+pub record IsExportSafe (known : Known) (desk id n mask : ℕ) : Type 0 where
+  pub document : CutDocument
+  pub printed : docs known.labels id ≡ Some document
+  pub n_is : n ≡ length document.parts
+  pub possibly : (m : ℕ) → names mask m ≡ true → known.may_hold desk id m
+  pub surely : (m : ℕ) → known.holds desk id m → names mask m ≡ true
+
+abbrev pub IsExportRefusedSafe : Known → ℕ → ℕ → ExportFault → Type 0
+IsExportRefusedSafe known desk id export_fault.NotHeld = IsNotSurelyHeld known desk id
+IsExportRefusedSafe known desk id export_fault.Memory = Unit {0}
+
+-- by the kind of the answer to an import of this export, of which these pages were added
+abbrev pub IsImportKindSafe : Known → ℕ → relays.Export → ℕ → Kind → Type 0
+IsImportKindSafe known desk export added Again = Unit {0}
+IsImportKindSafe known desk export added New =
+    (m : ℕ) × (1 ≤ m) × (m ≤ length export.pages) × (page export.pages m ≡ None) × (¬ known.holds desk export.id m)
+IsImportKindSafe known desk export added Complete =
+    (m : ℕ) → 1 ≤ m → m ≤ length export.pages → ¬ (names added m ≡ true) → known.may_hold desk export.id m
+
+-- what was told is of the export; the pages that were added were not held, and those of it that were not added were
+pub record IsImportedSafe (known : Known) (desk : ℕ) (export : relays.Export) (imported : imported_type.Imported)
+    : Type 0 where
+  pub id_is : imported.id ≡ export.id
+  pub n_is : imported.n ≡ length export.pages
+  pub added : (m : ℕ) → names imported.added m ≡ true → IsSome (page export.pages m)
+  pub not_surely : (m : ℕ) → names imported.added m ≡ true → ¬ known.holds desk export.id m
+  pub possibly : (m : ℕ) → IsSome (page export.pages m) → ¬ (names imported.added m ≡ true) →
+      known.may_hold desk export.id m
+  pub again : (imported.kind ≡ Again) ↔ (imported.added ≡ 0)
+  pub kind : IsImportKindSafe known desk export imported.added imported.kind
+
+-- ---- desks that are full
+
+-- that many other documents have a page that may be held at the desk: these, by rising identification
+pub record MayHoldOthers (known : Known) (desk id count : ℕ) : Type 0 where
+  pub others : List ℕ
+  pub enough : count ≤ length others
+  pub rising : IsStrictlySortedBy nat_cmp others
+  pub each : (i other : ℕ) → slice_get others i ≡ Some other → (other ≢ id) × (m : ℕ) × known.may_hold desk other m
+
+-- a desk that is full holds no page of this document, and pages of as many others as it has room for
+abbrev pub IsFullFor : Relay → Known → ℕ → ℕ → Type 0
+IsFullFor before known number id =
+    IsNotSurelyHeld known number id
+    × ((desk : Desk) → slice_get before.desks number ≡ Some desk → MayHoldOthers known number id desk.room)
+
+-- a scan, or an import, is never refused for a conflict, nor an import for the bytes of its export
+abbrev pub IsScanRefusedSafe : Relay → Known → ℕ → ℕ → ScanFault → Type 0
+IsScanRefusedSafe before known desk number scan_fault.Conflict = ⊥
+IsScanRefusedSafe before known desk number scan_fault.Full =
+    (label : Label) × (slice_get before.labels number ≡ Some label) × IsFullFor before known desk label.page.id
+IsScanRefusedSafe before known desk number other = Unit {0}
+
+abbrev pub IsImportRefusedSafe : Relay → Known → ℕ → ℕ → ImportFault → Type 0
+IsImportRefusedSafe before known desk number import_fault.NotPages = ⊥
+IsImportRefusedSafe before known desk number import_fault.Version = ⊥
+IsImportRefusedSafe before known desk number import_fault.Damaged = ⊥
+IsImportRefusedSafe before known desk number import_fault.Conflict = ⊥
+IsImportRefusedSafe before known desk number import_fault.Full =
+    (export : relays.Export) × (slice_get before.exports number ≡ Some export) × IsFullFor before known desk export.id
+IsImportRefusedSafe before known desk number other = Unit {0}
+
+-- ---- any reply
+
+-- what is so of the reply
+abbrev pub IsSafe : {A : Type 0} → Relay → Known → Event A → Reply A → Type 0
+IsSafe before known (Scan desk number flips stop) (Scanned accepted) = IsAcceptedSafe known desk number accepted
+IsSafe before known (Scan desk number flips stop) (ScanRefused fault) =
+    IsScanRefusedSafe before known desk number fault
+IsSafe before known (Ask desk id) (Document bytes) = IsTrueDocument known desk id bytes
+IsSafe before known (Ask desk id) (AskRefused fault) = IsAskSafe known desk id fault
+IsSafe before known (Forget desk id stop) Forgotten = (m : ℕ) × known.may_hold desk id m
+IsSafe before known (Forget desk id stop) (ForgetRefused fault) = IsForgetSafe known desk id fault
+IsSafe before known (Export desk id) (Exported index told n mask) = IsExportSafe known desk id n mask
+IsSafe before known (Export desk id) (ExportRefused fault) = IsExportRefusedSafe known desk id fault
+IsSafe before known (Import desk number stop) (Imported imported) =
+    (export : relays.Export) × (slice_get before.exports number ≡ Some export)
+    × IsImportedSafe known desk export imported
+IsSafe before known (Import desk number stop) (ImportRefused fault) =
+    IsImportRefusedSafe before known desk number fault
+IsSafe before known event reply = Unit {0}
+
+-- In a run in which each scan is fair each reply is safe.
+abbrev pub EachFairReplyIsSafe : Type 0 → Type 0
+EachFairReplyIsSafe A = (ranges : List Range) (rooms : List ℕ) (moment : Moment A) (earlier : List (Moment A))
+    (end : Relay) → AreDisjoint ranges → IsRun (start ranges rooms) (moment ∷ earlier) end →
+    AreFairMoments (moment ∷ earlier) → IsSafe moment.before (known_of moment.before earlier) moment.event moment.reply

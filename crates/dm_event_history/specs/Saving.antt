@@ -1,4 +1,4 @@
--- Which events may have saved, and which replies tell so.
+-- Which events may have saved, and which are to end before their replies.
 use Rattle.std.specs.Prelude.{Bool, true, false, Option, Some, None}
 use Rattle.dm_store.specs.declared.fuse.Kept.TheVariants.{New}
 use Rattle.dm_print_ledger.specs.declared.fault.PrintFault.TheVariants as print_fault
@@ -12,7 +12,8 @@ use Rattle.dm_event_history.specs.declared.event.Event.TheVariants.{Print, Scan,
 use Rattle.dm_event_history.specs.declared.reply.Reply.{Reply}
 use Rattle.dm_event_history.specs.declared.reply.Reply.TheVariants.{Printed, PrintRefused, Scanned, ScanRefused, Forgotten, ForgetRefused, Given, GiveRefused, Taken, TakeRefused, Imported, ImportRefused, Stopped}
 use Rattle.dm_event_history.specs.declared.stop.Stop.{Stop}
-use Rattle.dm_event_history.specs.declared.stop.Stop.TheVariants.{InSave, SaveFault, AfterLabels}
+use Rattle.dm_event_history.specs.declared.stop.Stop.TheVariants.{BeforeSave, InSave, SaveFault, AfterLabels}
+use Rattle.dm_event_history.specs.declared.stop.Stop.TheVariants as stops
 
 -- what is to happen to the call of an event; a restart, an ask and an export have no such thing
 abbrev pub stop_of : {A : Type 0} → Event A → Option Stop
@@ -55,9 +56,18 @@ may_save event (ImportRefused import_fault.Save) = leaves_new (stop_of event)
 may_save event Stopped = stops_after_save (stop_of event)
 may_save event other = false
 
--- the reply tells that a printer saved
-abbrev pub tells_of_save : {A : Type 0} → Reply A → Bool
-tells_of_save (Printed id first count) = true
-tells_of_save (Given index ticket) = true
-tells_of_save Taken = true
-tells_of_save other = false
+-- the call is to end before its reply
+abbrev pub IsStopping : Stop → Type 0
+IsStopping BeforeSave = Unit {0}
+IsStopping (InSave kept) = Unit {0}
+IsStopping (AfterLabels count) = Unit {0}
+IsStopping stops.None = ⊥
+IsStopping (SaveFault kept) = ⊥
+
+-- a save under this stop leaves the new content
+abbrev pub Stores : Stop → Type 0
+Stores stops.None = Unit {0}
+Stores (SaveFault New) = Unit {0}
+Stores (InSave New) = Unit {0}
+Stores (AfterLabels count) = Unit {0}
+Stores stop = ⊥

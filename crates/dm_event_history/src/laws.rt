@@ -1,78 +1,78 @@
-//! Laws of histories: each function's contract is the law. They speak of definitions alone, so the functions do
-//! nothing.
+//! Laws of the machine: each function's contract is the law. They speak of definitions alone, so the functions do
+//! nothing, or call a law below.
 
-ghost use Rattle.dm_event_history.specs.Laws.{EachNumberHasAPlace, FreeIsFresh, LegalImportsExports, LegalPrintsOnce, LegalTakesOnce, NothingTwice};
-ghost use Rattle.dm_event_history.specs.Laws.{LabelsAreOpened, NoLabelTwice, TicketsAreElsewhere, SurelyIsPossibly, LegalAndSafeIsFaithful};
-ghost use Rattle.dm_event_history.specs.Unfaithful.{AreUnfaithful, IsOneFaithful, IsTaintedSo};
-ghost use Rattle.dm_event_history.specs.Worked.{MovedIs, NotSo, StoppedIs, TravelledIs};
+ghost use Rattle.dm_event_history.specs.Clean.{EachCleanDeskGives, EachStepKeepsClean, EachStepPrints};
+ghost use Rattle.dm_event_history.specs.Headline.{EachRunIsSound, EachRunIsTrue, EachRunKeepsNumbers};
+ghost use Rattle.dm_event_history.specs.Laws.{NothingIsOpenButMemory};
+ghost use Rattle.dm_event_history.specs.Legal.{EachStepIsLegal};
+ghost use Rattle.dm_event_history.specs.Places.{EachStepIsSound, EachStepKeepsNumbers};
+ghost use Rattle.dm_event_history.specs.Safe.{EachFairReplyIsSafe};
+ghost use Rattle.dm_event_history.specs.Told.{EachExhaustedIsSo, EachFailedFailed, EachRunIsAsTold, EachRunTakesOnce, EachStepIsRefusedSo};
+ghost use Rattle.dm_event_history.specs.Worked.{AreNone, AreRuns};
 
+use dm_check_blocks::Size;
+use dm_symbol::laws::grid_carries_its_words;
 use std::alloc::Allocator;
 
-/// In a legal history of printers that begin with disjoint ranges each number that a printer began with is in just one
-/// place: free at one printer, on a ticket that was not taken, used, or lost. A number that is free was not printed.
-pub fn each_number_has_a_place<A: Allocator>()
-    ensures places { EachNumberHasAPlace A }
-    ensures fresh { FreeIsFresh A }
+/// Nothing is open but memory: two steps from one relay by one event end alike, or one of them was refused memory.
+pub fn only_memory<A: Allocator>()
+    ensures { NothingIsOpenButMemory A }
 {}
 
-/// In such a history no identification is printed twice, and no ticket is taken twice.
-pub fn nothing_twice<A: Allocator>()
-    ensures { NothingTwice A }
-{}
-
-/// In such a history no label leaves twice: no two that left have one identification and one number. And each has an
-/// identification that a printer began with.
-pub fn no_label_twice<A: Allocator>()
-    ensures once { NoLabelTwice A }
-    ensures opened { LabelsAreOpened A }
-{}
-
-/// In such a history no number of a ticket that a printer may take is free at any printer.
-pub fn tickets_are_elsewhere<A: Allocator>()
-    ensures { TicketsAreElsewhere A }
-{}
-
-/// In a legal and safe history what a clean desk surely holds it possibly holds.
-pub fn surely_is_possibly<A: Allocator>()
-    ensures { SurelyIsPossibly A }
-{}
-
-/// In such a history no identification is printed twice, whatever desks do: said of the events and replies alone.
-pub fn legal_prints_once<A: Allocator>()
-    ensures { LegalPrintsOnce A }
-{}
-
-/// In such a history each ticket that is taken was given to that printer, none is taken twice or refused for an
-/// overlap, and the serials of a giver's tickets rise: said of the events and replies alone.
-pub fn legal_takes_once<A: Allocator>()
-    ensures { LegalTakesOnce A }
-{}
-
-/// In such a history what a desk tells of an import was exported before: said of the events and replies alone.
-pub fn legal_imports_exports<A: Allocator>()
-    ensures { LegalImportsExports A }
-{}
-
-/// The headline: in a legal and safe history of printers that begin with disjoint ranges, in which clean desks refuse
-/// what is fair for these reasons alone, whatever document a desk that is not tainted gives for an identification is
-/// the one document printed under it, and no identification is ever printed twice.
-pub fn legal_and_safe_is_faithful<A: Allocator>()
-    ensures { LegalAndSafeIsFaithful A }
-{}
-
-/// Worked histories, of ranges that move, of pages that travel, and of prints that are stopped: what the definitions
-/// say of them is computed.
-pub fn worked_histories<A: Allocator>()
-    ensures moved { MovedIs A }
-    ensures travelled { TravelledIs A }
-    ensures stopped { StoppedIs A }
-    ensures not_so { NotSo A }
-{}
-
-/// Runs of events and replies: one that is faithful, those that are not, or whose tickets are not taken once, each of
-/// which is refuted, and what a dishonest scan taints.
+/// Worked runs of the machine; and runs that would be answered otherwise, and are none.
 pub fn worked_runs<A: Allocator>()
-    ensures faithful { IsOneFaithful A }
-    ensures unfaithful { AreUnfaithful A }
-    ensures tainted { IsTaintedSo A }
+    ensures runs { AreRuns A }
+    ensures none { AreNone A }
+{
+    grid_carries_its_words(Size::Side12);
+}
+
+/// A desk stays clean; what a clean desk gives is what was printed.
+pub fn clean_desks<A: Allocator>()
+    ensures printed { EachStepPrints A }
+    ensures stays { EachStepKeepsClean A }
+    ensures gives { EachCleanDeskGives A }
+{}
+
+/// A step moves numbers, and makes or ends none; and no label leaves twice. So each number that a printer began with is
+/// in just one place, and any other in none.
+pub fn numbers_and_labels<A: Allocator>()
+    ensures placed { EachStepKeepsNumbers A }
+    ensures sound { EachStepIsSound A }
+    ensures places { EachRunKeepsNumbers A }
+{}
+
+/// The headline: in every run of a relay whose printers begin with disjoint ranges no identification is printed twice,
+/// and whatever document a clean desk gives for an identification is the one document that was printed under it. And as
+/// long as each scan that may have saved its page is fair, all desks are clean.
+pub fn headline<A: Allocator>()
+    ensures sound { EachRunIsSound A }
+    ensures moments { EachRunIsTrue A }
+{}
+
+/// In a run in which each scan is fair each reply agrees with what was printed, and with what was scanned, imported and
+/// forgotten at its desk.
+pub fn safe_replies<A: Allocator>()
+    ensures { EachFairReplyIsSafe A }
+{}
+
+/// The replies of a run tell which of its printers and desks are down, and which have failed. `Failed` is told only by
+/// one that answered `Save` since it was last restarted. And each reply is given only where it may be.
+pub fn as_told<A: Allocator>()
+    ensures told { EachRunIsAsTold A }
+    ensures failed { EachFailedFailed A }
+    ensures legal { EachStepIsLegal A }
+{}
+
+/// Why events are refused: a fair scan as its label for its finder patterns alone, `Save` for a fault of the save alone,
+/// `TooLong` for a document without parts, and `Exhausted` only if the printer may have used and given away all numbers
+/// that it began with and took.
+pub fn reasons<A: Allocator>()
+    ensures refused { EachStepIsRefusedSo A }
+    ensures exhausted { EachExhaustedIsSo A }
+{}
+
+/// No ticket is taken twice, and no take is refused since a number of its ticket is free at its receiver.
+pub fn tickets<A: Allocator>()
+    ensures { EachRunTakesOnce A }
 {}

@@ -1,109 +1,92 @@
--- A world that begins stands for the empty history.
-use Rattle.std.proofs.Common.{◌≡◌, ◌||◌, ℕ, Bool, true, false, Option, Some, List, [], slice_get, refl, ap, sym, ◌∙◌, subst, arith}
+-- A world that begins shows a relay that does.
+use Rattle.std.proofs.Common.{◌≡◌, ◌+◌, ℕ, zero, suc, Some, List, [], ◌∷◌, length, slice_get, refl, sym, ap, subst, ◌∙◌, arith}
+use Rattle.std.proofs.lemmas.List.{length-map}
 use Rattle.std.specs.FinMap as finite
 use Rattle.std.specs.FinMap.{len-empty}
 use Rattle.std.specs.Ordering.{nat_cmp}
 use Rattle.dm_print_ledger.specs.declared.range.Range.{Range}
 use Rattle.dm_print_ledger.specs.Creating.{opening}
-use Rattle.dm_print_ledger.specs.Ranges.{is_in}
-use Rattle.dm_assembly_desk.specs.Documents.{Documents}
+use Rattle.dm_print_ledger.specs.Views.{LedgerView}
 use Rattle.dm_assembly_desk.specs.Pages.{Pages}
-use Rattle.dm_assembly_desk.specs.Views.{IsCapacity}
-use Rattle.dm_event_history.specs.History.{History}
-use Rattle.dm_event_history.specs.Legal.{AreDisjoint}
-use Rattle.dm_event_history.specs.Numbers.{is_in_some}
 use Rattle.dm_event_steps.specs.declared.actor.PrinterActor.{PrinterActor}
 use Rattle.dm_event_steps.specs.declared.actor.PrinterActor.TheVariants as printer_actors
 use Rattle.dm_event_steps.specs.declared.actor.DeskState.{DeskState}
 use Rattle.dm_event_steps.specs.declared.actor.DeskState.TheVariants as desk_states
+use Rattle.dm_event_steps.specs.Beginning.{IsEmptyDesk, IsFresh}
+use Rattle.dm_event_steps.proofs.Mapped.{get_map_from}
+use Rattle.dm_event_history.specs.Actors.{Actor, Running}
+use Rattle.dm_event_history.specs.Relay.{Desk, empty_desk, fresh_from}
+use Rattle.dm_event_steps.specs.Shows.{ShowsDesk, ShowsPrinter}
+use Rattle.dm_event_history.specs.Relay.{start}
 use Rattle.dm_event_steps.specs.declared.actor.DeskActor.{DeskActor}
-use Rattle.dm_event_steps.specs.Gathered.{IsGathered}
-use Rattle.dm_event_history.specs.Ledgers.{IsLedgerOf}
-use Rattle.dm_event_steps.specs.Stands.{PrinterStands}
-use Rattle.dm_event_steps.specs.DeskStands.{DeskStands}
-use Rattle.dm_event_steps.specs.StandsFor.{StandsFor}
-use Rattle.dm_event_steps.specs.Beginning.{IsFresh, IsEmptyDesk, AreFresh, AreEmpty}
-use Rattle.dm_event_steps.proofs.Gathering.{gathered_none}
-use Rattle.dm_event_history.proofs.Gotten.{other_has}
-use Rattle.dm_event_history.specs.Held.{Holding}
+use Rattle.dm_event_steps.specs.Beginning.{AreEmpty, AreFresh}
+use Rattle.dm_event_steps.specs.Shows.{Shows}
+use Rattle.dm_event_steps.specs.StandsFor.{EachBeginningStands}
 
--- what is shown and what is stored
-abbrev as_holding : Documents → Documents → Holding
-as_holding shown stored = record { shown = shown; stored = stored }
+fresh_count : (from : ℕ) (ranges : List Range) → length (fresh_from from ranges) ≡ length ranges
+fresh_count from [] = refl
+fresh_count from (range ∷ ranges) = ap suc (fresh_count (from + 1) ranges)
 
-or_none : (b : Bool) → (b || false) ≡ b
-or_none true = refl
-or_none false = refl
+-- the printer of each range
+fresh_at : (from : ℕ) (ranges : List Range) (p : ℕ) (shown : Actor LedgerView) →
+    slice_get (fresh_from from ranges) p ≡ Some shown →
+    (range : Range) × (slice_get ranges p ≡ Some range) × (shown ≡ Running (opening (from + p) range))
+fresh_at from [] p shown is = cc (is)
+fresh_at from (range ∷ ranges) zero shown is =
+    (let same : Running (opening from range) ≡ shown = cc (is) in
+    let n : from ≡ from + 0 = omega arith in
+    (range, refl, sym same ∙ ap (λ (k : ℕ). Running (opening k range)) n))
+fresh_at from (range ∷ ranges) (suc p) shown is =
+    (let r = fresh_at (from + 1) ranges p shown is in
+    let n : from + 1 + p ≡ from + suc p = omega arith in
+    (r.0, r.1, r.2 ∙ ap (λ (k : ℕ). Running (opening k r.0)) n))
 
-first_ledger : {A : Type 0} (ranges : List Range) (p : ℕ) (range : Range) → slice_get ranges p ≡ Some range →
-    (let none : History A = [] in IsLedgerOf ranges none p (opening p range))
-first_ledger {A} ranges p range at = record {
-  number = refl;
-  free = λ n. or_none (is_in range n) ∙ ap (λ (o : Option Range). is_in_some o n) (sym at);
-  next_serial = refl;
-  givers = λ giver. refl;
-}
+shows_fresh : {A : Type 0} (number : ℕ) (range : Range) (actor : PrinterActor A) → IsFresh number range actor →
+    ShowsPrinter actor (Running (opening number range))
+shows_fresh number range (printer_actors.Running view) f = (record { ready = f.0; holds = f.3 }, f.1, f.2)
+shows_fresh number range (printer_actors.Down saved) f = absurd f
 
-first_printer : {A : Type 0} (ranges : List Range) (p : ℕ) (range : Range) (actor : PrinterActor A) →
-    slice_get ranges p ≡ Some range →
-    IsFresh p range actor → (let none : History A = [] in PrinterStands ranges none p actor)
-first_printer ranges p range (printer_actors.Running view) at f = record {
-  up = refl;
+shows_empty : {A : Type 0} (room : ℕ) (state : DeskState A) → IsEmptyDesk room state →
+    ShowsDesk room state (Running finite.empty)
+shows_empty room (desk_states.Running view) f = record {
+  store = record {
+    ready = f.0;
+    holds = f.4;
+    few = (let l = len-empty nat_cmp Pages in omega arith);
+  };
+  capacity = f.2;
   failed = f.1;
-  stored = opening p range;
-  store = record { ready = f.0; holds = f.3; is = first_ledger ranges p range at };
-  shows = λ _. f.2;
+  held_is = f.3;
 }
-first_printer ranges p range (printer_actors.Down saved) at f = absurd f
+shows_empty room (desk_states.Down saved) f = absurd f
 
-first_desk : {A : Type 0} (d capacity : ℕ) (state : DeskState A) → IsCapacity capacity → IsEmptyDesk capacity state →
-    (let none : History A = [] in DeskStands [] none d capacity state)
-first_desk {A} d capacity (desk_states.Running view) room f = (
-  room,
-  record {
-    up = refl;
-    failed = f.1;
-    capacity_is = f.2;
-    stored = finite.empty;
-    store = record {
-      ready = f.0;
-      holds = f.4;
-      few = (let l = len-empty nat_cmp Pages in omega arith);
-      gathered = λ honest. gathered_none d;
-    };
-    shows = λ _. f.3;
-    gathered = λ honest. subst (λ (x : Documents). IsGathered {A = A} [] d x) (sym f.3) (gathered_none {A = A} d);
-    can = λ honest. ap (λ (x : Documents). as_holding x finite.empty) f.3;
-  },
-)
-first_desk d capacity (desk_states.Down saved) room f = absurd f
+begins_shown : {A : Type 0} (ranges : List Range) (rooms : List ℕ) (printers : List (PrinterActor A))
+    (desks : List (DeskActor A)) → AreFresh ranges printers → AreEmpty rooms desks →
+    Shows (record { printers = printers; desks = desks; labels = []; tickets = []; exports = [] }) (start ranges rooms)
+begins_shown {A} ranges rooms printers desks fresh empty = record {
+  printer_count = fresh.count ∙ sym (fresh_count 0 ranges);
+  printers = λ p actor shown there here.
+      let r = fresh_at 0 ranges p shown here in
+      let zero_more : p ≡ 0 + p = omega arith in
+      subst (λ (x : Actor LedgerView). ShowsPrinter actor x)
+      (ap (λ (k : ℕ). Running (opening k r.0)) zero_more ∙ sym r.2)
+      (shows_fresh p r.0 actor (fresh.each p r.0 actor r.1 there));
+  desk_count = empty.count ∙ sym (length-map rooms empty_desk);
+  desks = λ d actor desk there here.
+      let r = get_map_from empty_desk rooms d desk here in
+      let e = empty.each d r.0 actor r.1 there in
+      subst (λ (x : Desk). (actor.capacity ≡ x.room) × ShowsDesk x.room actor.state x.actor) r.2
+      (e.1, shows_empty r.0 actor.state e.2);
+  labels = refl;
+  tickets = refl;
+  exports = refl;
+  entries = λ n export is. absurd (cc (is));
+}
 
-pub begins : {A : Type 0} (ranges : List Range) (capacities : List ℕ) (printers : List (PrinterActor A))
-    (desks : List (DeskActor A)) →
-    AreDisjoint ranges → AreFresh ranges printers → AreEmpty capacities desks →
-    StandsFor ranges capacities (record {
-      printers = printers;
-      desks = desks;
-      labels = [];
-      tickets = [];
-      exports = [];
-    }) []
-begins {A} ranges capacities printers desks apart fresh empty = record {
-  disjoint = apart;
-  legal = tt;
-  safe = tt;
-  answers = tt;
-  held = tt;
-  left = record { names = refl; tickets_are = refl };
-  labels = λ i label here. cc;
-  export_names = refl;
-  exports = λ i export here. cc;
-  count = fresh.count;
-  printers = λ p actor there.
-      let range = other_has ranges printers p actor fresh.count there in
-      first_printer ranges p range.0 actor range.1 (fresh.each p range.0 actor range.1 there);
-  desk_count = empty.count;
-  desks = λ d capacity actor here there.
-      let e = empty.each d capacity actor here there in
-      (e.1, first_desk d capacity actor.state e.0 e.2);
+pub beginning_stands : {A : Type 0} → EachBeginningStands A
+beginning_stands ranges rooms printers desks disjoint fresh empty = record {
+  disjoint = disjoint;
+  relay = start ranges rooms;
+  run = refl;
+  shows = begins_shown ranges rooms printers desks fresh empty;
 }

@@ -1,20 +1,17 @@
 -- Worlds that begin: each printer was just created, and each desk holds nothing.
-use Rattle.std.specs.Prelude.{◌≡◌, ℕ, false, Some, List, [], length, slice_get}
+use Rattle.std.specs.Prelude.{◌≡◌, ℕ, false, Some, List, length, slice_get}
 use Rattle.std.specs.FinMap as finite
 use Rattle.dm_print_ledger.specs.declared.range.Range.{Range}
 use Rattle.dm_print_ledger.specs.Creating.{opening}
 use Rattle.dm_print_ledger.specs.Saving.{HoldsLedger}
 use Rattle.dm_assembly_desk.specs.Documents.{HoldsFiles}
 use Rattle.dm_assembly_desk.specs.Views.{IsCapacity}
-use Rattle.dm_event_history.specs.Legal.{AreDisjoint}
 use Rattle.dm_event_steps.specs.declared.actor.PrinterActor.{PrinterActor}
 use Rattle.dm_event_steps.specs.declared.actor.PrinterActor.TheVariants as printers
 use Rattle.dm_event_steps.specs.declared.actor.DeskState.{DeskState}
 use Rattle.dm_event_steps.specs.declared.actor.DeskState.TheVariants as desks
 use Rattle.dm_event_steps.specs.declared.actor.DeskActor.{DeskActor}
-use Rattle.dm_event_steps.specs.Stands.{IsReady}
-use Rattle.dm_event_steps.specs.DeskStands.{IsReadySet}
-use Rattle.dm_event_steps.specs.StandsFor.{StandsFor}
+use Rattle.dm_event_steps.specs.Ready.{IsReady, IsReadySet}
 
 -- a running printer of this number, with the ledger of a range of which nothing was used, over a store that holds it
 abbrev pub IsFresh : {A : Type 0} → ℕ → Range → PrinterActor A → Type 0
@@ -42,11 +39,3 @@ pub record AreEmpty {A : Type 0} (capacities : List ℕ) (desks : List (DeskActo
   pub each : (desk capacity : ℕ) (actor : DeskActor A) →
       slice_get capacities desk ≡ Some capacity → slice_get desks desk ≡ Some actor →
       IsCapacity capacity × (actor.capacity ≡ capacity) × IsEmptyDesk capacity actor.state
-
--- the law: a world that begins stands for the empty history
-abbrev pub EachBeginningStands : Type 0 → Type 0
-EachBeginningStands A = (ranges : List Range) (capacities : List ℕ)
-    (printers : List (PrinterActor A)) (desks : List (DeskActor A)) →
-    AreDisjoint ranges → AreFresh ranges printers → AreEmpty capacities desks →
-    StandsFor ranges capacities
-    (record { printers = printers; desks = desks; labels = []; tickets = []; exports = [] }) []

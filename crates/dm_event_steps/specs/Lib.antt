@@ -1,11 +1,9 @@
-pub mod Labels
-pub mod Stands
 pub mod Acts
-pub mod Gathered
-pub mod DeskStands
 pub mod DeskActs
-pub mod Exports
-pub mod Goes
 pub mod Worlds
-pub mod StandsFor
 pub mod Beginning
+pub mod Labels
+pub mod Ready
+pub mod Shows
+pub mod Simulating
+pub mod StandsFor

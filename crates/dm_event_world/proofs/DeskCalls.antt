@@ -9,7 +9,7 @@ use Rattle.dm_event_history.specs.declared.reply.Reply.TheVariants.{Stopped, Mem
 use Rattle.dm_event_history.specs.declared.stop.Stop.{Stop}
 use Rattle.dm_event_history.specs.declared.stop.Stop.TheVariants.{BeforeSave, InSave, SaveFault, AfterLabels}
 use Rattle.dm_event_history.specs.declared.stop.Stop.TheVariants as stops
-use Rattle.dm_event_history.specs.Legal.{IsStopping}
+use Rattle.dm_event_history.specs.Saving.{IsStopping}
 use Rattle.dm_event_steps.specs.declared.actor.DeskState.{DeskState}
 use Rattle.dm_event_steps.specs.declared.actor.DeskState.TheVariants as desks
 use Rattle.dm_event_steps.specs.Acts.{IsCalled, next_save_of}

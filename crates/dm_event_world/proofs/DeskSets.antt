@@ -25,7 +25,7 @@ use Rattle.dm_assembly_desk.specs.Forgetting.{Forgets}
 use Rattle.dm_assembly_desk.specs.Importing.{ChangesByFile, ImportsFile, ImportsBytes, IsReadAs}
 use Rattle.dm_event_history.specs.declared.stop.Stop.{Stop}
 use Rattle.dm_event_steps.specs.Acts.{next_save_of}
-use Rattle.dm_event_steps.specs.DeskStands.{IsReadySet}
+use Rattle.dm_event_steps.specs.Ready.{IsReadySet}
 use Rattle.dm_event_steps.specs.DeskActs.{Accepts, ForgetsOne, ImportsIn, desk_planned, MakesCall}
 use Rattle.dm_event_world.specs.inner.DeskEvents.{IsMadeUnder}
 

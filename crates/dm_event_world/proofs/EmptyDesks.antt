@@ -17,7 +17,7 @@ use Rattle.dm_event_steps.specs.declared.actor.DeskActor.{DeskActor}
 use Rattle.dm_event_steps.specs.declared.actor.DeskState.{DeskState}
 use Rattle.dm_event_steps.specs.declared.actor.DeskState.TheVariants.{Running, Down}
 use Rattle.dm_event_steps.specs.Beginning.{AreEmpty, IsEmptyDesk}
-use Rattle.dm_event_steps.specs.DeskStands.{IsReadySet}
+use Rattle.dm_event_steps.specs.Ready.{IsReadySet}
 use Rattle.dm_event_steps.specs.DeskActs.{desk_saved}
 use Rattle.dm_event_world.specs.inner.Ready.{AreDesksReady}
 

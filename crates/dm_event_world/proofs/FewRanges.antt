@@ -7,7 +7,7 @@ use Rattle.std.proofs.lemmas.Map.Steps.{length-le_from_distinct_below}
 use Rattle.std.proofs.lemmas.Bool.Decides.{nat_tests}
 use Rattle.dm_print_ledger.specs.declared.range.Range.{Range}
 use Rattle.dm_print_ledger.specs.Ranges.{IsRange}
-use Rattle.dm_event_history.specs.Legal.{IsApart, AreDisjoint}
+use Rattle.dm_event_history.specs.Places.{IsApart, AreDisjoint}
 
 abbrev firsts : List Range → List ℕ
 firsts ranges = map (λ range. range.first) ranges

@@ -9,7 +9,7 @@ use Rattle.dm_event_steps.specs.declared.actor.PrinterActor.{PrinterActor}
 use Rattle.dm_event_steps.specs.declared.actor.PrinterActor.TheVariants as actors
 use Rattle.dm_event_steps.specs.Acts.{saved_of}
 use Rattle.dm_event_steps.specs.Beginning.{IsFresh, AreFresh}
-use Rattle.dm_event_steps.specs.Stands.{IsReady}
+use Rattle.dm_event_steps.specs.Ready.{IsReady}
 use Rattle.dm_event_world.specs.inner.Ready.{ArePrintersReady}
 
 -- an element of a list with one more was there, or is that one

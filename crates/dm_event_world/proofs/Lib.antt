@@ -11,5 +11,3 @@ pub mod Ready
 pub mod OneStep
 pub mod ScannedLabels
 pub mod Runs
-pub mod Shown
-pub mod MachineStops

@@ -4,7 +4,7 @@ use Rattle.dm_print_ledger.specs.Views.{TicketView}
 use Rattle.dm_event_history.specs.declared.event.Event.{Event}
 use Rattle.dm_event_history.specs.declared.reply.Reply.{Reply}
 use Rattle.dm_event_history.specs.declared.reply.Reply.TheVariants.{NoSuch}
-use Rattle.dm_event_history.specs.Actors.{PrinterAt, DeskAt, actor_of}
+use Rattle.dm_event_history.specs.WhoActs.{PrinterAt, DeskAt, actor_of}
 use Rattle.dm_event_steps.specs.declared.actor.PrinterActor.{PrinterActor}
 use Rattle.dm_event_steps.specs.declared.actor.DeskActor.{DeskActor}
 use Rattle.dm_event_steps.specs.declared.actor.DeskState.{DeskState}

@@ -7,7 +7,7 @@ use Rattle.dm_print_ledger.specs.Views.{PrinterView}
 use Rattle.dm_event_history.specs.declared.stop.Stop.{Stop}
 use Rattle.dm_event_history.specs.declared.stop.Stop.TheVariants.{BeforeSave, InSave, SaveFault, AfterLabels}
 use Rattle.dm_event_history.specs.declared.stop.Stop.TheVariants as stops
-use Rattle.dm_event_history.specs.Legal.{IsStopping}
+use Rattle.dm_event_history.specs.Saving.{IsStopping}
 use Rattle.dm_event_steps.specs.declared.actor.PrinterActor.{PrinterActor}
 use Rattle.dm_event_steps.specs.declared.actor.PrinterActor.TheVariants as actors
 use Rattle.dm_event_steps.specs.declared.actor.LeftLabel.{LeftLabel}

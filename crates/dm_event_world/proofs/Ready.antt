@@ -7,8 +7,8 @@ use Rattle.dm_event_steps.specs.declared.actor.DeskActor.{DeskActor}
 use Rattle.dm_event_steps.specs.declared.actor.DeskState.{DeskState}
 use Rattle.dm_event_steps.specs.Acts.{saved_of}
 use Rattle.dm_event_steps.specs.DeskActs.{desk_saved}
-use Rattle.dm_event_steps.specs.Stands.{IsReady}
-use Rattle.dm_event_steps.specs.DeskStands.{IsReadySet}
+use Rattle.dm_event_steps.specs.Ready.{IsReady}
+use Rattle.dm_event_steps.specs.Ready.{IsReadySet}
 use Rattle.dm_event_world.specs.inner.Ready.{ArePrintersReady, AreDesksReady}
 
 -- an element that is read is there

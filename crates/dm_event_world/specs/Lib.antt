@@ -3,6 +3,4 @@ pub mod Left
 pub mod Openings
 pub mod Runs
 pub mod Watched
-pub mod MachineStops
-pub mod Shown
 pub mod inner

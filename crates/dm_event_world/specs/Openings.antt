@@ -3,7 +3,7 @@ use Rattle.std.specs.Prelude.{◌≡◌, ℕ, List, [], All}
 use Rattle.dm_print_ledger.specs.declared.range.Range.{Range}
 use Rattle.dm_print_ledger.specs.Ranges.{IsRange}
 use Rattle.dm_assembly_desk.specs.Views.{IsCapacity}
-use Rattle.dm_event_history.specs.Legal.{AreDisjoint}
+use Rattle.dm_event_history.specs.Places.{AreDisjoint}
 use Rattle.dm_event_steps.specs.Beginning.{AreFresh, AreEmpty}
 use Rattle.dm_event_steps.specs.Worlds.{WorldView}
 use Rattle.dm_event_world.specs.declared.fault.WorldFault.{WorldFault}

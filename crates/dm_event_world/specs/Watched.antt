@@ -1,71 +1,64 @@
 -- Runs in which each event is looked at first, and what is so of their answers: the headline.
-use Rattle.std.specs.Prelude.{◌≡◌, ◌≢◌, ◌↔◌, ◌<◌, ℕ, Bool, true, false, Option, Some, List, [], ◌∷◌, length, slice_get}
+use Rattle.std.specs.Prelude.{◌≡◌, ◌↔◌, ℕ, true, List, [], ◌∷◌, All}
 use Rattle.dm_print_ledger.specs.declared.range.Range.{Range}
+use Rattle.dm_print_ledger.specs.Ranges.{IsRange}
+use Rattle.dm_assembly_desk.specs.Views.{IsCapacity}
 use Rattle.dm_event_history.specs.declared.event.Event.{Event}
 use Rattle.dm_event_history.specs.declared.event.Event.TheVariants.{Scan}
-use Rattle.dm_event_history.specs.declared.reply.Reply.{Reply}
-use Rattle.dm_event_history.specs.declared.reply.Reply.TheVariants.{NoSuch}
-use Rattle.dm_event_history.specs.Headline.{Batch, IsFaithfulBy}
-use Rattle.dm_event_steps.specs.Worlds.{WorldView, IsNamed, IsFairIn, Steps, AreItsBatches, AreItsLabels}
-use Rattle.dm_event_world.specs.Openings.{Begins}
+use Rattle.dm_event_history.specs.Relay.{Relay, start}
+use Rattle.dm_event_history.specs.Steps as relays
+use Rattle.dm_event_history.specs.Runs.{IsRun, Moment, onto}
+use Rattle.dm_event_history.specs.Places.{AreDisjoint}
+use Rattle.dm_event_history.specs.Headline.{AreTrueMoments, IsFairEvent, PrintsOnce}
+use Rattle.dm_event_steps.specs.Worlds.{WorldView, IsNamed, IsFairIn, Steps}
 use Rattle.dm_event_world.specs.declared.answers.Answer.{Answer}
 use Rattle.dm_event_world.specs.declared.answers.Answer.TheVariants.{Given, NotGiven}
 
 -- ---- the headline
 
--- the events that were given to the world
-abbrev pub given : {A : Type 0} → List (Event A) → List (Answer A) → List (Event A)
-given (event ∷ events) (Given is_honest reply ∷ answers) = event ∷ given events answers
-given (event ∷ events) (NotGiven ∷ answers) = given events answers
-given events answers = []
-
--- its replies to them
-abbrev pub replies : {A : Type 0} → List (Answer A) → List (Reply A)
-replies [] = []
-replies (Given is_honest reply ∷ answers) = reply ∷ replies answers
-replies (NotGiven ∷ answers) = replies answers
-
--- whether each of them was found honest before it was given
-abbrev pub marks : {A : Type 0} → List (Answer A) → List Bool
-marks [] = []
-marks (Given is_honest reply ∷ answers) = is_honest ∷ marks answers
-marks (NotGiven ∷ answers) = marks answers
-
--- the event is a scan
-abbrev pub IsScan : {A : Type 0} → Event A → Type 0
-IsScan (Scan desk label flips stop) = Unit {0}
-IsScan event = ⊥
-
--- the event is a scan in which modules are flipped
-abbrev pub HasFlips : {A : Type 0} → Event A → Type 0
-HasFlips (Scan desk label flips stop) = 0 < length flips
-HasFlips event = ⊥
-
--- No identification was printed twice, and the replies of a desk that no dishonest scan has tainted are faithful:
--- whatever document it gives for an identification is the one document printed under it.
-pub record IsFaithfulIfHonestBy {A : Type 0} (ranges : List Range) (capacities : List ℕ)
-    (batches : List (Option Batch)) (events : List (Event A)) (answers : List (Answer A)) : Type 0 where
-  -- each event has an answer
-  pub each_answer : length answers ≡ length events
-  -- only a scan is not given to the world
-  pub not_given : (i : ℕ) (event : Event A) → slice_get events i ≡ Some event → slice_get answers i ≡ Some NotGiven →
-      IsScan event
-  -- only a scan with flips, of what is there, is found dishonest
-  pub dishonest : (i : ℕ) (event : Event A) (reply : Reply A) → slice_get events i ≡ Some event →
-      slice_get answers i ≡ Some (Given false reply) → HasFlips event × (reply ≢ NoSuch)
-  -- the headline, of those that were given
-  pub faithful : IsFaithfulBy ranges capacities batches (given events answers) (marks answers) (replies answers)
-
--- the headline, of printers that begin with these ranges, and of a desk for each capacity
-abbrev pub IsFaithfulIfHonest : {A : Type 0} → List Range → List ℕ → List (Event A) → List (Answer A) → Type 0
-IsFaithfulIfHonest ranges capacities events answers =
-    (batches : List (Option Batch)) × IsFaithfulIfHonestBy ranges capacities batches events answers
-
--- ---- what the answers are
-
 -- a scan of what is there: no other event is looked at
+abbrev pub MayBeLookedAt : {A : Type 0} → Relay → Event A → Type 0
+MayBeLookedAt {A} relay (Scan desk number flips stop) = relays.IsNamed {A = A} relay (Scan desk number flips stop)
+MayBeLookedAt relay event = ⊥
+
+-- the relay before the first of these moments
+abbrev pub first_of : {A : Type 0} → List (Moment A) → Relay → Relay
+first_of [] end = end
+first_of (moment ∷ later) end = moment.before
+
+-- The answers to these events are those of the moments of a run, the first of them first. An event that was given is a
+-- moment, and was found honest exactly if it is fair. Only a scan of what is there can go without being given, if memory
+-- for the look is refused.
+abbrev pub AreAnswers : {A : Type 0} → List (Event A) → List (Answer A) → List (Moment A) → Relay → Type 0
+AreAnswers [] [] [] end = Unit {0}
+AreAnswers (event ∷ events) (Given is_honest reply ∷ answers) (moment ∷ later) end =
+    (moment.event ≡ event) × (moment.reply ≡ reply) × ((is_honest ≡ true) ↔ IsFairEvent moment.before event)
+    × AreAnswers events answers later end
+AreAnswers (event ∷ events) (NotGiven ∷ answers) later end =
+    MayBeLookedAt (first_of later end) event × AreAnswers events answers later end
+AreAnswers events answers moments end = ⊥
+
+-- The headline. The events had these answers in a run of a relay whose printers began with these ranges, and whose desks
+-- have room for that many documents. No identification was printed twice; whatever document a clean desk gave for an
+-- identification is the one document printed under it; and all desks were clean as long as each scan that may have
+-- saved its page was fair.
+pub record IsWatched {A : Type 0} (ranges : List Range) (rooms : List ℕ) (events : List (Event A))
+    (answers : List (Answer A)) : Type 0 where
+  pub are_ranges : All IsRange ranges
+  pub disjoint : AreDisjoint ranges
+  pub are_capacities : All IsCapacity rooms
+  pub moments : List (Moment A)
+  pub end : Relay
+  pub run : IsRun (start ranges rooms) (onto moments []) end
+  pub answered : AreAnswers events answers moments end
+  pub once : PrintsOnce end
+  pub true_moments : AreTrueMoments end.labels (onto moments [])
+
+-- ---- one event of a world
+
+-- the world has what a scan names
 abbrev pub IsLookedAt : {A : Type 0} → WorldView A → Event A → Type 0
-IsLookedAt world (Scan desk label flips stop) = IsNamed world (Scan desk label flips stop)
+IsLookedAt {A} world (Scan desk number flips stop) = IsNamed world (Scan desk number flips stop)
 IsLookedAt world event = ⊥
 
 -- An event that is given to the world is one step of it, and found honest exactly where it is fair, or names what is
@@ -82,16 +75,3 @@ AnswersAll {A} old (event ∷ events) (answer ∷ answers) new =
     (mid : WorldView A) × Answers old event answer mid × AnswersAll mid events answers new
 AnswersAll old [] (answer ∷ answers) new = ⊥
 AnswersAll old (event ∷ events) [] new = ⊥
-
--- A world began with these ranges and capacities, and answered the events so. The headline holds by batches of just the
--- labels that left the world, each of which carries a part of the document of its batch. No label left the world twice.
-pub record RunsFromTheStart {A : Type 0} (ranges : List Range) (capacities : List ℕ) (events : List (Event A))
-    (answers : List (Answer A)) : Type 0 where
-  pub old : WorldView A
-  pub new : WorldView A
-  pub begins : Begins ranges capacities old
-  pub answered : AnswersAll old events answers new
-  pub batches : List (Option Batch)
-  pub its : AreItsBatches new batches
-  pub faithful : IsFaithfulIfHonestBy ranges capacities batches events answers
-  pub labels : AreItsLabels ranges new

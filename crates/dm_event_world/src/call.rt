@@ -1,7 +1,7 @@
 //! Calls under a stop: what their next save is to do, and whether they end before their reply.
 
 ghost use Rattle.std.specs.Prelude.{◌≡◌, ◌↔◌, false, IsTrue};
-ghost use Rattle.dm_event_history.specs.Legal.{IsStopping};
+ghost use Rattle.dm_event_history.specs.Saving.{IsStopping};
 ghost use Rattle.dm_event_steps.specs.Acts.{IsCalled, next_save_of};
 
 use dm_event_history::{Kept, Stop};

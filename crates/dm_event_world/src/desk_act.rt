@@ -6,7 +6,7 @@
 ghost use Rattle.std.specs.Prelude.{◌≡◌, ◌↔◌, Err, IsTrue, All};
 ghost use Rattle.dm_finder_frame.specs.Grids.{IsInGrid};
 ghost use Rattle.dm_assembly_desk.specs.Views.{IsCapacity};
-ghost use Rattle.dm_event_steps.specs.DeskStands.{IsReadySet};
+ghost use Rattle.dm_event_steps.specs.Ready.{IsReadySet};
 ghost use Rattle.dm_event_steps.specs.DeskActs.{Accepts, ForgetsOne, desk_saved, forget_reply, scan_reply};
 ghost use Rattle.dm_event_world.specs.inner.Stopping.{stops_before};
 ghost use Rattle.dm_event_world.specs.inner.DeskEvents.{IsMadeUnder, ScansLabel, AsksFor, ForgetsDocument, Restarts};

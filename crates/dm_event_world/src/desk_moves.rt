@@ -1,7 +1,7 @@
 //! Pages that travel: exports from one desk, and imports at another.
 
 ghost use Rattle.std.specs.Prelude.{◌≡◌, ◌↔◌, Err, IsTrue};
-ghost use Rattle.dm_event_steps.specs.DeskStands.{IsReadySet};
+ghost use Rattle.dm_event_steps.specs.Ready.{IsReadySet};
 ghost use Rattle.dm_event_steps.specs.DeskActs.{ImportsIn, desk_saved, import_reply};
 ghost use Rattle.dm_event_world.specs.inner.DeskEvents.{IsMadeUnder, ExportsDocument, ImportsExport};
 

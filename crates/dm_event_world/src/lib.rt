@@ -7,10 +7,10 @@
 //! ([`is_honest`]) unless it is a scan in which more words of a block are wrong than can be corrected.
 //!
 //! Proved: a world that begins stands for the empty history, and one that stands for a history stands, after an event,
-//! for it with one entry more ([`World::new`], [`World::step`], [`run`]). So of each run that is watched from its
-//! beginning the headline stands ([`watch`]): whatever document a desk gave for an identification is the one document
-//! printed under it, unless a scan that was not found honest may have saved a page at that desk, or at one from which
-//! it imported pages; and no identification was printed twice.
+//! for it with one moment more ([`World::new`], [`World::step`], [`run`]). So of each run that is watched from its
+//! beginning the headline stands ([`watch`]): whatever document a clean desk gave for an identification is the one
+//! document printed under it, all desks were clean as long as each scan that may have saved its page was fair, and no
+//! identification was printed twice.
 #![tactic(auto)]
 
 mod answers;
@@ -19,7 +19,6 @@ mod desk_act;
 mod desk_moves;
 mod desk_opening;
 mod fault;
-pub mod laws;
 mod printer_act;
 mod printer_opening;
 mod running;
@@ -28,6 +27,7 @@ mod steps;
 mod world;
 
 pub use answers::Answer;
+pub use dm_event_history::{Bytes, Event, Flips, Kept, Reply, Stop};
 pub use fault::WorldFault;
 pub use running::{run, watch};
 pub use steps::is_honest;

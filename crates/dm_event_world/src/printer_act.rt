@@ -11,11 +11,11 @@ ghost use Rattle.dm_print_ledger.specs.Moving.{Gives, Takes};
 ghost use Rattle.dm_print_ledger.specs.Printing.{Prints};
 ghost use Rattle.dm_print_ledger.specs.Views.{JobView, TicketView};
 ghost use Rattle.dm_event_history.specs.declared.event.Event.TheVariants.{Print, Give, Take, RestartPrinter};
-ghost use Rattle.dm_event_history.specs.Legal.{IsStopping};
+ghost use Rattle.dm_event_history.specs.Saving.{IsStopping};
 ghost use Rattle.dm_event_steps.specs.Acts.{PrinterActs, StopsPrinter, LacksMemory, PrintsAt, GivesAt, TakesAt};
 ghost use Rattle.dm_event_steps.specs.Acts.{planned, saved_of, stopped_labels};
 ghost use Rattle.dm_event_steps.specs.Labels.{left_labels};
-ghost use Rattle.dm_event_steps.specs.Stands.{IsReady};
+ghost use Rattle.dm_event_steps.specs.Ready.{IsReady};
 ghost use Rattle.dm_event_world.specs.inner.PrinterCalls.{IsCalledUnder, labels_before};
 
 use crate::call::{is_stopping, next_save};

@@ -2,7 +2,7 @@
 
 ghost use Rattle.std.specs.Prelude.{◌↔◌, ◌≤◌, IsTrue, IfOk, All, length};
 ghost use Rattle.dm_print_ledger.specs.Ranges.{IsRange};
-ghost use Rattle.dm_event_history.specs.Legal.{IsApart, AreDisjoint};
+ghost use Rattle.dm_event_history.specs.Places.{IsApart, AreDisjoint};
 ghost use Rattle.dm_event_steps.specs.Beginning.{AreFresh};
 ghost use Rattle.dm_event_world.specs.inner.Ready.{ArePrintersReady};
 

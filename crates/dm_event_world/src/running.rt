@@ -1,23 +1,18 @@
 //! Events of a world, one after another.
 
-ghost use Rattle.std.specs.Prelude.{◌≡◌, length, IfOk, IfErr, OnErr};
-ghost use Rattle.dm_event_history.specs.Headline.{PrintsOnce};
-ghost use Rattle.dm_event_history.specs.Tickets.{TakesOnce};
-ghost use Rattle.dm_event_history.specs.Imports.{ImportsExports};
+ghost use Rattle.std.specs.Prelude.{◌≡◌, IfOk, IfErr, OnErr};
 ghost use Rattle.dm_event_steps.specs.Worlds.{Runs};
 ghost use Rattle.dm_event_world.specs.Openings.{HasWorldFault};
 ghost use Rattle.dm_event_world.specs.Runs.{GoesOnByAll};
-ghost use Rattle.dm_event_world.specs.Watched.{Answers, AnswersAll, IsFaithfulIfHonest, RunsFromTheStart};
-ghost use Rattle.dm_event_world.specs.Watched.{given, replies};
+ghost use Rattle.dm_event_world.specs.Watched.{Answers, AnswersAll, IsWatched};
 
 use crate::answers::Answer;
 use crate::fault::WorldFault;
 use crate::steps::is_honest;
 use crate::world::World;
+use dm_event_history::laws::headline;
 use dm_event_history::{Event, Reply};
-use dm_event_steps::laws::{
-    each_fair_run_is_faithful, each_run_imports_exports, each_run_prints_once, each_run_takes_once,
-};
+use dm_event_steps::laws::{each_run_stands, each_step_stands};
 use dm_print_ledger::Range;
 use std::alloc::{AllocError, Allocator};
 
@@ -31,9 +26,10 @@ pub fn run<A: Allocator + Copy>(
     events: &[Event<A>],
 ) -> Result<Vec<Reply<A>, A>, AllocError>
     ensures runs { IfOk result (λ replies. Runs world.old events.now replies.items world.new) }
-    ensures goes_on { IfOk result (λ replies. GoesOnByAll world.old events.now replies.items world.new) }
+    ensures stands { IfOk result (λ replies. GoesOnByAll world.old events.now replies.items world.new) }
     ensures refused { OnErr result (world.new ≡ world.old) }
 {
+    each_run_stands::<A>();
     let mut replies = Vec::with_capacity(alloc, events.len())?;
     for event in events {
         replies.push_reserved(world.step(event));
@@ -78,29 +74,17 @@ pub fn watch<A: Allocator + Copy>(
     capacities: &[u16],
     events: &[Event<A>],
 ) -> Result<Vec<Answer<A>, A>, WorldFault>
-    // Whatever document a desk that is not tainted gave is the one that was printed under its identification.
-    ensures headline { IfOk result (λ answers.
-        IsFaithfulIfHonest ranges.now capacities.now events.now answers.items) }
-    // No identification was printed twice, whatever the events were.
-    ensures once { IfOk result (λ answers.
-        PrintsOnce ranges.now (length capacities.now) (given events.now answers.items) (replies answers.items)) }
-    // Nor was a ticket taken twice.
-    ensures tickets { IfOk result (λ answers.
-        TakesOnce (length ranges.now) (given events.now answers.items) (replies answers.items)) }
-    // And what a desk told of an import was exported before.
-    ensures exports { IfOk result (λ answers.
-        ImportsExports (length capacities.now) (given events.now answers.items) (replies answers.items)) }
-    ensures answers { IfOk result (λ answers. RunsFromTheStart ranges.now capacities.now events.now answers.items) }
+    // Whatever document a clean desk gave for an identification is the one document that was printed under it, and no
+    // identification was printed twice.
+    ensures headline { IfOk result (λ answers. IsWatched ranges.now capacities.now events.now answers.items) }
     ensures refused { IfErr result (HasWorldFault ranges.now capacities.now) }
 {
     let mut world = match World::new(alloc, ranges, capacities) {
         Ok(world) => world,
         Err(fault) => return Err(fault),
     };
-    each_run_prints_once::<A>();
-    each_run_takes_once::<A>();
-    each_run_imports_exports::<A>();
-    each_fair_run_is_faithful::<A>();
+    each_step_stands::<A>();
+    headline::<A>();
     match answer_all(alloc, &mut world, events) {
         Ok(answers) => Ok(answers),
         Err(AllocError) => Err(WorldFault::Memory),

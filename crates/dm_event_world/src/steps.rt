@@ -22,7 +22,7 @@ impl<A: Allocator + Copy> World<A> {
     /// One event. What it names that is not there is answered `NoSuch`, and then nothing changes.
     pub fn step(&mut self, event: &Event<A>) -> Reply<A>
         ensures steps { Steps self.old event.now result self.new }
-        ensures goes_on { GoesOn self.old event.now result self.new }
+        ensures stands { GoesOn self.old event.now result self.new }
     {
         each_step_stands::<A>();
         match event {

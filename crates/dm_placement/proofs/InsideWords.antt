@@ -1,22 +1,19 @@
--- Words that stand two rows and two columns or more inside of the matrix: none of their cells wraps, and their anchor
--- is none of the cells that are left out.
+-- Words that stand two rows and two columns or more inside of the matrix: their anchor is none of the cells that are left
+-- out.
 use Rattle.std.specs.Prelude.{not}
 use Rattle.std.specs.Option.{option_map}
 use Rattle.std.proofs.Common.{◌≡◌, ℕ, zero, suc, ◌+◌, ◌-◌, ◌%◌, ◌<◌, ◌≤◌, ◌++◌, Option, None, Some, refl, List, [], ◌∷◌, Bool, true, false, cond, eqb, ltb, leb, ◌&&◌, ◌||◌, ap, ◌∙◌, arith}
 use Rattle.std.proofs.lemmas.Bool.Decides.{nat_tests}
-use Rattle.dm_placement.specs.declared.shape.Cell.{Cell}
 use Rattle.dm_placement.specs.declared.shape.Shape.{Shape}
 use Rattle.dm_placement.specs.declared.shape.Shape.TheVariants.{Plain}
-use Rattle.dm_placement.specs.Cells.{cell_at, cell_from_anchor, is_left_out, shape_cells}
-use Rattle.dm_placement.specs.declared.stepping.Sweep.{Sweep}
-use Rattle.dm_placement.specs.declared.stepping.Sweep.TheVariants.{Start, Up, Down}
-use Rattle.dm_placement.specs.inner.WalkAhead.{IsAhead, StandInside, rises, Steps, shapes_ahead, word_here}
-use Rattle.dm_placement.specs.inner.WalkSteps.{word_at}
-use Rattle.dm_placement.proofs.CellLists.{same_cell}
+use Rattle.dm_placement.specs.Cells.{cell_at, is_left_out}
+use Rattle.dm_placement.specs.declared.walk.Sweep.{Sweep}
+use Rattle.dm_placement.specs.declared.walk.Sweep.TheVariants.{Start, Up, Down}
+use Rattle.dm_placement.specs.inner.Walk.{IsAhead, StandInside, Steps, shapes_ahead, word_at}
 
 -- at such a position of the walk there is a word
 word_inside : (n r c : ℕ) → 4 ≤ r → r < n + 2 → 4 ≤ c → c < n + 2
-    → word_here n r c ≡ Plain (cell_at (r - 2) (c - 2)) ∷ []
+    → word_at n r c ≡ Plain (cell_at (r - 2) (c - 2)) ∷ []
 unfolding word_at is_left_out
 word_inside n r c a b d e =
     let f : leb 2 r ≡ true = grind (arith, nat_tests) in
@@ -64,20 +61,20 @@ ahead_down (suc steps) n r c ss a b d e h =
     (m.0, m.1, record { steps = steps; walked = m.2 })
 
 -- the walk goes past such a word upward
-pub steps_up : (n : ℕ) (sweep : Sweep) (r c : ℕ) → true ≡ rises sweep → n ≤ 120 → StandInside n sweep r c 1 →
+pub steps_up : (n : ℕ) (sweep : Sweep) (r c : ℕ) → sweep ≡ Up → n ≤ 120 → StandInside n sweep r c 1 →
     Steps record { side = n; sweep = sweep; row = r; column = c }
     record { side = n; sweep = sweep; row = r - 2; column = c + 2 } (Some (Plain (cell_at (r - 2) (c - 2))))
-steps_up n Start r c e small h = absurd (cc)
+steps_up n Start r c e small h = absurd h
+steps_up n Down r c e small h = absurd (cc)
 steps_up n Up r c e small (a, b, d, f) = record {
   same_side = refl;
   stays = record { small = small; nearby = (omega arith, omega arith) };
   nearer = omega arith;
   ahead = λ ss i. ahead_up i.steps n r c ss (omega arith) b a (omega arith) i.walked;
 }
-steps_up n Down r c e small h = absurd (cc)
 
 -- the walk goes past such a word downward
-pub steps_down : (n : ℕ) (sweep : Sweep) (r c : ℕ) → false ≡ rises sweep → n ≤ 120 → StandInside n sweep r c 1 →
+pub steps_down : (n : ℕ) (sweep : Sweep) (r c : ℕ) → sweep ≡ Down → n ≤ 120 → StandInside n sweep r c 1 →
     Steps record { side = n; sweep = sweep; row = r; column = c }
     record { side = n; sweep = sweep; row = r + 2; column = c - 2 } (Some (Plain (cell_at (r - 2) (c - 2))))
 steps_down n Start r c e small h = absurd h
@@ -89,33 +86,9 @@ steps_down n Down r c e small (a, b, d, f) = record {
   ahead = λ ss i. ahead_down i.steps n r c ss a (omega arith) (omega arith) b i.walked;
 }
 
--- nothing wraps
-unwrapped : (n r c up left : ℕ) (p : Cell) → 2 ≤ r → r < n → 2 ≤ c → c < n → up ≤ 2 → left ≤ 2
-    → p.row ≡ r - up → p.column ≡ c - left → cell_from_anchor n (cell_at r c) up left ≡ p
-unfolding cell_from_anchor
-unwrapped n r c up left p hr hrn hc hcn hu hl er ec =
-    let a : ltb (r + n - up) n ≡ false = grind (arith, nat_tests) in
-    let b : ltb (c + n - left) n ≡ false = grind (arith, nat_tests) in
-    rw a (rw b (same_cell _ p (omega arith) (omega arith)))
-
--- the cells of such a word
-abbrev pub cells_at : ℕ → ℕ → List Cell
-cells_at r c =
-    cell_at (r - 2) (c - 2) ∷ cell_at (r - 2) (c - 1) ∷ cell_at (r - 1) (c - 2) ∷ cell_at (r - 1) (c - 1) ∷
-    cell_at (r - 1) c ∷ cell_at r (c - 2) ∷ cell_at r (c - 1) ∷ cell_at r c ∷ []
-
--- they are those of its shape
-pub plain_cells : (n r c : ℕ) → 2 ≤ r → r < n → 2 ≤ c → c < n → shape_cells n (Plain (cell_at r c)) ≡ cells_at r c
-unfolding shape_cells
-plain_cells n r c hr hrn hc hcn =
-    let at = λ (up left : ℕ) (p : Cell) (hu : up ≤ 2) (hl : left ≤ 2) (er : p.row ≡ r - up) (ec : p.column ≡ c - left).
-    unwrapped n r c up left p hr hrn hc hcn hu hl er ec in
-    let a = at 2 2 (cell_at (r - 2) (c - 2)) (omega arith) (omega arith) (omega arith) (omega arith) in
-    let b = at 2 1 (cell_at (r - 2) (c - 1)) (omega arith) (omega arith) (omega arith) (omega arith) in
-    let d = at 1 2 (cell_at (r - 1) (c - 2)) (omega arith) (omega arith) (omega arith) (omega arith) in
-    let e = at 1 1 (cell_at (r - 1) (c - 1)) (omega arith) (omega arith) (omega arith) (omega arith) in
-    let f = at 1 0 (cell_at (r - 1) c) (omega arith) (omega arith) (omega arith) (omega arith) in
-    let g = at 0 2 (cell_at r (c - 2)) (omega arith) (omega arith) (omega arith) (omega arith) in
-    let h = at 0 1 (cell_at r (c - 1)) (omega arith) (omega arith) (omega arith) (omega arith) in
-    let i = at 0 0 (cell_at r c) (omega arith) (omega arith) (omega arith) (omega arith) in
-    cc
+-- where some words stand inside, the first one does
+pub some_inside : (n : ℕ) (sweep : Sweep) (r c count : ℕ) → 0 < count → StandInside n sweep r c count
+    → StandInside n sweep r c 1
+some_inside n Start r c count some h = absurd h
+some_inside n Up r c count some (a, b, d, f) = (a, b, omega arith, omega arith)
+some_inside n Down r c count some (a, b, d, f) = (a, b, omega arith, omega arith)

@@ -1,5 +1,4 @@
 -- Private: only contracts inside this crate cite what stands in this folder.
-pub mod WalkSteps
-pub mod WalkAhead
-pub mod DrawnBits
-pub mod WordsSoFar
+pub mod Places
+pub mod Shapes
+pub mod Walk

@@ -1,22 +1,25 @@
 //! The cells of all bits of a size, kept for several symbols.
 
-ghost use Rattle.std.specs.Prelude.{◌≡◌, ◌<◌, IfOk};
+ghost use Rattle.std.specs.Prelude.{◌≡◌, ◌<◌, ◌≤◌, IfOk, OnOk, false, map};
 ghost use Rattle.dm_check_blocks.specs.declared.size.Size.{Size};
 ghost use Rattle.dm_check_blocks.specs.Sizes.{mapping};
 ghost use Rattle.dm_placement.specs.Cells.{bit_cells};
 ghost use Rattle.dm_placement.specs.Placement.{cell, IsBit};
+ghost use Rattle.dm_placement.specs.Square.{place_of};
+ghost use Rattle.dm_placement.specs.inner.Walk.{HasWalked, is_over, steps_left};
 
-use crate::shape::Cell;
-use crate::walk::walk_cells;
+use crate::shape::{places_inside, places_of};
+use crate::walk::Walk;
 use dm_check_blocks::Size;
 use std::alloc::{AllocError, Allocator, Global};
 use std::marker::Model;
 
-/// The cell of every bit of every word of a size, as Annex F of ISO/IEC 16022:2006 places them.
+/// The cell of every bit of every word of a size, as Annex F of ISO/IEC 16022:2006 places them. Each is kept as the place
+/// of its module, row by row.
 #[derive(Drop)]
 pub struct Layout<A: Allocator = Global> {
     size: Size,
-    cells: Vec<Cell, A>,
+    places: Vec<u16, A>,
 }
 
 impl<A: Allocator> Model for Layout<A> {
@@ -24,10 +27,50 @@ impl<A: Allocator> Model for Layout<A> {
 
     ghost view = { λ l. l.size };
 
-    ghost invariant = { λ l. l.cells.items ≡ bit_cells (mapping l.size) };
+    ghost invariant = { λ l. l.places.items ≡ map (place_of (mapping l.size)) (bit_cells (mapping l.size)) };
 }
 
-impl<A: Allocator + Copy> Layout<A> {
+// Goes one step on, and adds the places of the word that comes there, if any.
+fn add_step<A: Allocator>(
+    size: Size,
+    places: &mut Vec<u16, A>,
+    walk: &mut Walk,
+) -> Result<(), AllocError>
+    requires walked { HasWalked size walk.old places.old.items }
+    requires goes_on { is_over walk.old ≡ false }
+    ensures walked { OnOk result (HasWalked size walk.new places.new.items) }
+    ensures nearer { OnOk result (steps_left walk.new < steps_left walk.old) }
+{
+    match walk.step() {
+        Some(shape) => {
+            places.extend_from_slice(&places_of(size.mapping(), shape))?;
+            Ok(())
+        }
+        None => Ok(()),
+    }
+}
+
+// Adds the places of the words that come next and stand inside of the matrix.
+#[inline(always)]
+fn add_inside<A: Allocator>(
+    size: Size,
+    places: &mut Vec<u16, A>,
+    walk: &mut Walk,
+) -> Result<(), AllocError>
+    requires walked { HasWalked size walk.old places.old.items }
+    ensures walked { OnOk result (HasWalked size walk.new places.new.items) }
+    ensures nearer { OnOk result (steps_left walk.new ≤ steps_left walk.old) }
+{
+    let side = size.mapping();
+    let mut left = walk.inside();
+    while left > 0 {
+        places.extend_from_slice(&places_inside(side, walk.pass()))?;
+        left -= 1;
+    }
+    Ok(())
+}
+
+impl<A: Allocator> Layout<A> {
     /// The layout of a size.
     ///
     /// # Errors
@@ -35,12 +78,15 @@ impl<A: Allocator + Copy> Layout<A> {
     pub fn of_size(alloc: A, size: Size) -> Result<Layout<A>, AllocError>
         ensures { IfOk result (λ l. l ≡ size) }
     {
-        let cells = walk_cells(alloc, size.mapping())?;
-        Ok(Layout { size, cells })
+        let mut places = Vec::with_capacity(alloc, 8 * size.all_words())?;
+        let mut walk = Walk::of_size(size);
+        while !walk.is_over() {
+            add_step(size, &mut places, &mut walk)?;
+            add_inside(size, &mut places, &mut walk)?;
+        }
+        Ok(Layout { size, places })
     }
-}
 
-impl<A: Allocator> Layout<A> {
     /// The size whose layout it is.
     pub fn size(&self) -> Size
         ensures { result ≡ self.now }
@@ -57,14 +103,15 @@ impl<A: Allocator> Layout<A> {
         ensures in_rows { result.0 < mapping self.now }
         ensures in_columns { result.1 < mapping self.now }
     {
-        let p = self.cells[8 * word + bit as usize - 1];
-        (p.row, p.column)
+        let place = self.places[8 * word + bit as usize - 1];
+        let side = self.size.mapping();
+        (place / side, place % side)
     }
 
-    /// The cells of all bits, in order.
-    pub(crate) fn cells(&self) -> &[Cell]
-        ensures { result.now ≡ bit_cells (mapping self.now) }
+    /// The places of all bits' modules, in order.
+    pub(crate) fn places(&self) -> &[u16]
+        ensures { result.now ≡ map (place_of (mapping self.now)) (bit_cells (mapping self.now)) }
     {
-        self.cells.as_slice()
+        self.places.as_slice()
     }
 }

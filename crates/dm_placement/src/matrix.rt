@@ -1,6 +1,6 @@
 //! Squares of modules.
 
-ghost use Rattle.std.specs.Prelude.{◌≡◌, ◌<◌, ◌≤◌, ◌+◌, ◌*◌, IfOk, length, slice_range};
+ghost use Rattle.std.specs.Prelude.{◌≡◌, ◌<◌, ◌≤◌, ◌+◌, ◌*◌, IfOk, false, get_or, length, set, slice_range};
 ghost use Rattle.dm_check_blocks.specs.Sizes.{mapping};
 ghost use Rattle.dm_placement.specs.Square.{Square, IsWhole, module_at, light_square, with_module};
 
@@ -49,17 +49,7 @@ impl<A: Allocator> Matrix<A> {
         requires column_in { column < self.now.side }
         ensures { result ≡ module_at self.now row column }
     {
-        self.is_dark(row as usize, column as usize)
-    }
-
-    /// `module`, for loops: an index from numbers of its own width costs them less.
-    #[inline(always)]
-    pub(crate) fn is_dark(&self, row: usize, column: usize) -> bool
-        requires row_in { row < self.now.side }
-        requires column_in { column < self.now.side }
-        ensures { result ≡ module_at self.now row column }
-    {
-        self.modules[self.index(row, column)]
+        self.is_dark(self.index(row, column))
     }
 
     /// The matrix of a size and its modules, row by row from the top left; `true` is a dark module. It keeps the
@@ -88,13 +78,31 @@ impl<A: Allocator> Matrix<A> {
 
     // Where the module of a row and a column stands, row by row.
     #[inline(always)]
-    fn index(&self, row: usize, column: usize) -> usize
+    fn index(&self, row: u16, column: u16) -> usize
         requires row_in { row < self.now.side }
         requires column_in { column < self.now.side }
         ensures value { result ≡ row * self.now.side + column }
         ensures within { result < self.now.side * self.now.side }
     {
-        row * self.side as usize + column
+        row as usize * self.side as usize + column as usize
+    }
+
+    /// Whether the module at a place, row by row, is dark.
+    #[inline(always)]
+    pub(crate) fn is_dark(&self, place: usize) -> bool
+        requires { place < self.now.side * self.now.side }
+        ensures { result ≡ get_or self.now.modules place false }
+    {
+        self.modules[place]
+    }
+
+    /// Makes the module at a place, row by row, dark or light.
+    #[inline(always)]
+    pub(crate) fn make(&mut self, place: usize, dark: bool)
+        requires { place < self.old.side * self.old.side }
+        ensures { self.new ≡ record { side = self.old.side; modules = set self.old.modules place dark } }
+    {
+        self.modules[place] = dark;
     }
 
     /// Makes the module of a row and a column, both from 0, dark or light.
@@ -103,18 +111,7 @@ impl<A: Allocator> Matrix<A> {
         requires column_in { column < self.old.side }
         ensures { self.new ≡ with_module self.old row column dark }
     {
-        self.make(row as usize, column as usize, dark);
-    }
-
-    /// `set`, for loops.
-    #[inline(always)]
-    pub(crate) fn make(&mut self, row: usize, column: usize, dark: bool)
-        requires row_in { row < self.old.side }
-        requires column_in { column < self.old.side }
-        ensures { self.new ≡ with_module self.old row column dark }
-    {
-        let at = self.index(row, column);
-        self.modules[at] = dark;
+        self.make(self.index(row, column), dark);
     }
 }
 

@@ -1,8 +1,9 @@
 //! The shapes in which the eight bits of a word stand on the mapping matrix.
 
-ghost use Rattle.std.specs.Prelude.{◌≡◌, ◌<◌, ◌≤◌};
+ghost use Rattle.std.specs.Prelude.{◌≡◌, ◌<◌, ◌≤◌, ◌+◌, ◌*◌, map};
 ghost use Rattle.dm_placement.specs.Cells.{cell_from_anchor, shape_cells};
-ghost use Rattle.dm_placement.specs.inner.WalkSteps.{MayBeAnchor, IsPlaceable, AllIn, IsSideSound};
+ghost use Rattle.dm_placement.specs.Square.{place_of};
+ghost use Rattle.dm_placement.specs.inner.Shapes.{MayBeAnchor, IsPlaceable, IsSideSound};
 
 /// A module of the mapping matrix, by its row and its column, both from 0.
 #[derive(Clone, Copy, Debug, PartialEq, Eq)]
@@ -20,11 +21,16 @@ pub enum Shape {
     CornerTwo,
 }
 
-fn cell_at(row: u16, column: u16) -> Cell
-    ensures row { result.row ≡ row }
-    ensures column { result.column ≡ column }
+// Where the module of a row and a column stands, row by row.
+#[inline(always)]
+#[tactic(auto, using(crate::proofs::Places::place_fits))]
+fn place_at(side: u16, row: u16, column: u16) -> u16
+    requires side { IsSideSound side }
+    requires in_rows { row < side }
+    requires in_columns { column < side }
+    ensures { result ≡ row * side + column }
 {
-    Cell { row, column }
+    row * side + column
 }
 
 // The cell that stands `up` rows above and `left` columns left of an anchor. What leaves the matrix at the top comes in
@@ -57,45 +63,78 @@ fn cell_from_anchor(side: u16, anchor: Cell, up: u16, left: u16) -> Cell
     }
 }
 
-/// The cells of bits 1 to 8 of a word.
+// Where the module that stands `up` rows above and `left` columns left of an anchor stands, row by row.
 #[inline(always)]
+fn place_from_anchor(side: u16, anchor: Cell, up: u16, left: u16) -> u16
+    requires side { IsSideSound side }
+    requires anchor { MayBeAnchor side anchor }
+    requires up_two { up ≤ 2 }
+    requires left_two { left ≤ 2 }
+    ensures { result ≡ place_of side (cell_from_anchor side anchor up left) }
+{
+    let cell = cell_from_anchor(side, anchor, up, left);
+    place_at(side, cell.row, cell.column)
+}
+
+/// Where the bits of a word of the plain shape stand whose anchor is two rows and two columns or more inside of the
+/// matrix, so that none of them wraps.
+#[inline(always)]
+pub(crate) fn places_inside(side: u16, anchor: Cell) -> [u16; 8]
+    requires side { IsSideSound side }
+    requires rows { (2 ≤ anchor.row) × (anchor.row < side) }
+    requires columns { (2 ≤ anchor.column) × (anchor.column < side) }
+    ensures { result ≡ map (place_of side) (shape_cells side (Shape.Plain anchor)) }
+{
+    let at = place_at(side, anchor.row, anchor.column);
+    [
+        at - 2 * side - 2,
+        at - 2 * side - 1,
+        at - side - 2,
+        at - side - 1,
+        at - side,
+        at - 2,
+        at - 1,
+        at,
+    ]
+}
+
+/// Where bits 1 to 8 of a word stand, row by row.
 #[tactic(auto, unfolding(crate::specs::Cells::shape_cells))]
-pub(crate) fn cells_of(side: u16, shape: Shape) -> [Cell; 8]
+pub(crate) fn places_of(side: u16, shape: Shape) -> [u16; 8]
     requires side { IsSideSound side }
     requires fits { IsPlaceable side shape }
-    ensures cells { result ≡ shape_cells side shape }
-    ensures in_matrix { AllIn side result }
+    ensures { result ≡ map (place_of side) (shape_cells side shape) }
 {
     match shape {
         Shape::Plain(p) => [
-            cell_from_anchor(side, p, 2, 2),
-            cell_from_anchor(side, p, 2, 1),
-            cell_from_anchor(side, p, 1, 2),
-            cell_from_anchor(side, p, 1, 1),
-            cell_from_anchor(side, p, 1, 0),
-            cell_from_anchor(side, p, 0, 2),
-            cell_from_anchor(side, p, 0, 1),
-            cell_from_anchor(side, p, 0, 0),
+            place_from_anchor(side, p, 2, 2),
+            place_from_anchor(side, p, 2, 1),
+            place_from_anchor(side, p, 1, 2),
+            place_from_anchor(side, p, 1, 1),
+            place_from_anchor(side, p, 1, 0),
+            place_from_anchor(side, p, 0, 2),
+            place_from_anchor(side, p, 0, 1),
+            place_from_anchor(side, p, 0, 0),
         ],
         Shape::CornerOne => [
-            cell_at(side - 1, 0),
-            cell_at(side - 1, 1),
-            cell_at(side - 1, 2),
-            cell_at(0, side - 2),
-            cell_at(0, side - 1),
-            cell_at(1, side - 1),
-            cell_at(2, side - 1),
-            cell_at(3, side - 1),
+            place_at(side, side - 1, 0),
+            place_at(side, side - 1, 1),
+            place_at(side, side - 1, 2),
+            place_at(side, 0, side - 2),
+            place_at(side, 0, side - 1),
+            place_at(side, 1, side - 1),
+            place_at(side, 2, side - 1),
+            place_at(side, 3, side - 1),
         ],
         Shape::CornerTwo => [
-            cell_at(side - 3, 0),
-            cell_at(side - 2, 0),
-            cell_at(side - 1, 0),
-            cell_at(0, side - 4),
-            cell_at(0, side - 3),
-            cell_at(0, side - 2),
-            cell_at(0, side - 1),
-            cell_at(1, side - 1),
+            place_at(side, side - 3, 0),
+            place_at(side, side - 2, 0),
+            place_at(side, side - 1, 0),
+            place_at(side, 0, side - 4),
+            place_at(side, 0, side - 3),
+            place_at(side, 0, side - 2),
+            place_at(side, 0, side - 1),
+            place_at(side, 1, side - 1),
         ],
     }
 }

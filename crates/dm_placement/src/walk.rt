@@ -1,76 +1,54 @@
-//! The walk over the mapping matrix that places word after word, with a table of taken cells
-//! (ISO/IEC 16022:2006, Annex F).
+//! The walk over the mapping matrix, one step at a time (ISO/IEC 16022:2006, Annex F). It needs no table of taken cells:
+//! the only cells that are taken before it comes to them are the two that are left out for the second corner shape.
 
-ghost use Rattle.std.specs.Prelude.{◌≡◌, ◌++◌, IfOk, OnOk};
+ghost use Rattle.std.specs.Prelude.{◌≡◌, ◌<◌, ◌≤◌, ◌+◌, ℕ, false, Some};
 ghost use Rattle.std.specs.Option.{option_to_list};
-ghost use Rattle.dm_placement.specs.Cells.{shape_cells, bit_cells};
-ghost use Rattle.dm_placement.specs.Square.{with_dark};
-ghost use Rattle.dm_placement.specs.inner.WalkSteps.{IsSideSound, IsMappingSide, IsPlaceable, AllPlaceable, cells_of_all, next_word, corner_at};
+ghost use Rattle.dm_check_blocks.specs.Sizes.{mapping};
+ghost use Rattle.dm_placement.specs.Cells.{is_left_out, shapes};
+ghost use Rattle.dm_placement.specs.inner.Shapes.{IsSideSound};
+ghost use Rattle.dm_placement.specs.inner.Walk.{IsAhead, IsInside, IsNearby, Steps, corner_at, is_over, word_at};
 
-use crate::matrix::{Matrix, light_of_side};
-use crate::shape::{Cell, Shape, cells_of};
-use std::alloc::{AllocError, Allocator};
+use crate::shape::{Cell, Shape};
+use dm_check_blocks::Size;
 
-/// The walk counts rows and columns from this many above and left of the matrix: it never goes further out on those
-/// sides.
-pub(crate) const MARGIN: u16 = 2;
+// Rows and columns of the walk count from this many above and left of the matrix: it never goes further out on those
+// sides.
+const MARGIN: usize = 2;
 
-// Places a word: its cells are the next ones, and they are taken.
-fn put<A: Allocator>(
-    cells: &mut Vec<Cell, A>,
-    taken: &mut Matrix<A>,
-    side: u16,
-    shape: Shape,
-) -> Result<(), AllocError>
-    requires side { IsSideSound side }
-    requires fits { IsPlaceable side shape }
-    requires same_side { taken.old.side ≡ side }
-    ensures placed { OnOk result (cells.new.items ≡ cells.old.items ++ shape_cells side shape) }
-    ensures marked { OnOk result (taken.new ≡ with_dark taken.old (shape_cells side shape)) }
-{
-    for p in cells_of(side, shape) {
-        cells.push(p)?;
-        taken.set(p.row, p.column, true);
-    }
-    Ok(())
+/// What the walk does next: it begins an upward sweep, or goes on with one up or one down.
+#[derive(Clone, Copy)]
+pub(crate) enum Sweep {
+    Start,
+    Up,
+    Down,
 }
 
-// Places the next word at a position of the walk, where that is a cell of the matrix that is not taken.
-#[tactic(auto, unfolding(crate::specs::inner::WalkSteps::word_at))]
-fn visit<A: Allocator>(
-    cells: &mut Vec<Cell, A>,
-    taken: &mut Matrix<A>,
-    side: u16,
-    row: u16,
-    column: u16,
-) -> Result<(), AllocError>
-    requires side { IsSideSound side }
-    requires fits { AllPlaceable side (next_word side taken.old row column) }
-    requires same_side { taken.old.side ≡ side }
-    ensures placed { OnOk result (cells.new.items
-        ≡ cells.old.items ++ cells_of_all side (next_word side taken.old row column)) }
-    ensures marked { OnOk result (taken.new
-        ≡ with_dark taken.old (cells_of_all side (next_word side taken.old row column))) }
-{
-    if row < MARGIN || row >= side + MARGIN || column < MARGIN || column >= side + MARGIN {
-        return Ok(());
-    }
-    if taken.module(row - MARGIN, column - MARGIN) {
-        return Ok(());
-    }
-    let anchor = Cell {
-        row: row - MARGIN,
-        column: column - MARGIN,
-    };
-    put(cells, taken, side, Shape::Plain(anchor))
+/// A position of the walk over a mapping matrix of this side.
+#[derive(Clone, Copy)]
+pub(crate) struct Walk {
+    side: usize,
+    sweep: Sweep,
+    row: usize,
+    column: usize,
 }
 
-/// The corner shape that an upward sweep from this position begins with, if any.
-#[tactic(auto, unfolding(crate::specs::inner::WalkSteps::corner_at))]
-pub(crate) fn corner_at(side: u16, row: u16, column: u16) -> Option<Shape>
+// Whether a cell is one of the two that no word has as its anchor, since the second corner shape stands there.
+#[inline(always)]
+#[tactic(auto, unfolding(crate::specs::Cells::is_left_out))]
+fn is_left_out(side: u16, cell: Cell) -> bool
     requires { IsSideSound side }
-    ensures shape { option_to_list result ≡ corner_at side row column }
-    ensures fits { AllPlaceable side (option_to_list result) }
+    ensures { result ≡ is_left_out side cell }
+{
+    side % 8 == 6
+        && (cell.row == side - 2 && cell.column == 0 || cell.row == 0 && cell.column == side - 2)
+}
+
+// The corner shape that an upward sweep from a position begins with, if any.
+#[inline(always)]
+#[tactic(auto, unfolding(crate::specs::inner::Walk::corner_at))]
+fn corner_at(side: usize, row: usize, column: usize) -> Option<Shape>
+    requires { IsSideSound side }
+    ensures { option_to_list result ≡ corner_at side row column }
 {
     if row == side + MARGIN && column == MARGIN {
         Some(Shape::CornerOne)
@@ -81,58 +59,137 @@ pub(crate) fn corner_at(side: u16, row: u16, column: u16) -> Option<Shape>
     }
 }
 
-// Places the corner shape that an upward sweep from this position begins with, if any.
-fn place_corner<A: Allocator>(
-    cells: &mut Vec<Cell, A>,
-    taken: &mut Matrix<A>,
-    side: u16,
-    row: u16,
-    column: u16,
-) -> Result<(), AllocError>
-    requires side { IsSideSound side }
-    requires same_side { taken.old.side ≡ side }
-    ensures placed { OnOk result (cells.new.items
-        ≡ cells.old.items ++ cells_of_all side (corner_at side row column)) }
-    ensures marked { OnOk result (taken.new ≡ with_dark taken.old (cells_of_all side (corner_at side row column))) }
+// The word at a position of the walk, if any.
+#[inline(always)]
+#[tactic(auto, unfolding(crate::specs::inner::Walk::word_at))]
+fn word_at(side: usize, row: usize, column: usize) -> Option<Shape>
+    requires { IsSideSound side }
+    ensures { option_to_list result ≡ word_at side row column }
 {
-    match corner_at(side, row, column) {
-        Some(shape) => put(cells, taken, side, shape),
-        None => Ok(()),
+    if row < MARGIN || row >= side + MARGIN || column < MARGIN || column >= side + MARGIN {
+        return None;
     }
+    let anchor = Cell {
+        row: (row - MARGIN) as u16,
+        column: (column - MARGIN) as u16,
+    };
+    if is_left_out(side as u16, anchor) {
+        return None;
+    }
+    Some(Shape::Plain(anchor))
 }
 
-/// The cells of all bits of all words in order, by the walk of the mapping matrix.
-pub(crate) fn walk_cells<A: Allocator + Copy>(
-    alloc: A,
-    side: u16,
-) -> Result<Vec<Cell, A>, AllocError>
-    requires side { IsSideSound side }
-    requires mapping { IsMappingSide side }
-    ensures { IfOk result (λ cells. cells.items ≡ bit_cells side) }
-{
-    let mut cells = Vec::with_capacity(alloc, side as usize * side as usize)?;
-    let mut taken = light_of_side(alloc, side)?;
-    // the standard starts in row 4 and column 0
-    let mut row = 4 + MARGIN;
-    let mut column = MARGIN;
-    'sweeps: while row < side + MARGIN || column < side + MARGIN {
-        place_corner(&mut cells, &mut taken, side, row, column)?;
-        // up and to the right
-        'up: while row >= MARGIN && column < side + MARGIN {
-            visit(&mut cells, &mut taken, side, row, column)?;
-            row -= 2;
-            column += 2;
+impl Walk {
+    /// The walk over the mapping matrix of a size, at its start: row 4 and column 0 of the matrix.
+    pub(crate) fn of_size(size: Size) -> Walk
+        ensures same_side { result.side ≡ mapping size }
+        ensures nearby { IsNearby result }
+        ensures ahead { IsAhead result (shapes (mapping size)) }
+    {
+        Walk {
+            side: size.mapping() as usize,
+            sweep: Sweep::Start,
+            row: 4 + MARGIN,
+            column: MARGIN,
         }
-        row += 1;
-        column += 3;
-        // down and to the left
-        'down: while row < side + MARGIN && column >= MARGIN {
-            visit(&mut cells, &mut taken, side, row, column)?;
-            row += 2;
-            column -= 2;
-        }
-        row += 3;
-        column += 1;
     }
-    Ok(cells)
+
+    /// Whether the walk has ended.
+    #[inline(always)]
+    pub(crate) fn is_over(&self) -> bool
+        requires { IsSideSound self.now.side }
+        ensures { result ≡ is_over self.now }
+    {
+        match self.sweep {
+            Sweep::Start => self.row >= self.side + MARGIN && self.column >= self.side + MARGIN,
+            Sweep::Up | Sweep::Down => false,
+        }
+    }
+
+    /// How many words come next that stand two rows and two columns or more inside of the matrix, so that none of them
+    /// wraps.
+    #[inline(always)]
+    pub(crate) fn inside(&self) -> usize
+        requires { IsNearby self.now }
+        ensures { IsInside self.now result }
+    {
+        let least = 2 + MARGIN;
+        let end = self.side + MARGIN;
+        if self.row < least || self.column < least || self.row >= end || self.column >= end {
+            return 0;
+        }
+        match self.sweep {
+            Sweep::Start => 0,
+            Sweep::Up => (self.row / 2 - 1).min((end + 1 - self.column) / 2),
+            Sweep::Down => (self.column / 2 - 1).min((end + 1 - self.row) / 2),
+        }
+    }
+
+    /// Goes past a word that stands inside, and gives its anchor.
+    #[inline(always)]
+    pub(crate) fn pass(&mut self) -> Cell
+        requires nearby { IsNearby self.old }
+        requires inside { IsInside self.old 1 }
+        ensures rows { (2 ≤ result.row) × (result.row < self.old.side) }
+        ensures columns { (2 ≤ result.column) × (result.column < self.old.side) }
+        ensures steps { Steps self.old self.new (Some (Shape.Plain result)) }
+        ensures inside { (count : ℕ) → IsInside self.old (count + 1) → IsInside self.new count }
+    {
+        let anchor = Cell {
+            row: (self.row - MARGIN) as u16,
+            column: (self.column - MARGIN) as u16,
+        };
+        match self.sweep {
+            Sweep::Up => {
+                self.row -= 2;
+                self.column += 2;
+            }
+            Sweep::Down => {
+                self.row += 2;
+                self.column -= 2;
+            }
+            Sweep::Start => unreachable!(),
+        }
+        anchor
+    }
+
+    /// Goes one step on, and gives the shape of the word that it places, if any.
+    #[inline(always)]
+    pub(crate) fn step(&mut self) -> Option<Shape>
+        requires side { IsSideSound self.old.side }
+        requires nearby { IsNearby self.old }
+        requires goes_on { is_over self.old ≡ false }
+        ensures { Steps self.old self.new result }
+    {
+        match self.sweep {
+            Sweep::Start => {
+                self.sweep = Sweep::Up;
+                corner_at(self.side, self.row, self.column)
+            }
+            Sweep::Up if self.row >= MARGIN && self.column < self.side + MARGIN => {
+                let word = word_at(self.side, self.row, self.column);
+                self.row -= 2;
+                self.column += 2;
+                word
+            }
+            Sweep::Up => {
+                self.sweep = Sweep::Down;
+                self.row += 1;
+                self.column += 3;
+                None
+            }
+            Sweep::Down if self.row < self.side + MARGIN && self.column >= MARGIN => {
+                let word = word_at(self.side, self.row, self.column);
+                self.row += 2;
+                self.column -= 2;
+                word
+            }
+            Sweep::Down => {
+                self.sweep = Sweep::Start;
+                self.row += 3;
+                self.column += 1;
+                None
+            }
+        }
+    }
 }

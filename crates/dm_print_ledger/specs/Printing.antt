@@ -61,11 +61,15 @@ pub record PrintsJob (old : PrinterView) (size : Size) (scheme : Scheme) (parts 
   pub job_is : IsJobOf size scheme job.id parts job
   pub saved : Saves old new.ledger new
 
--- the save of the least free identification as used met a device fault
-pub record FailsToPrint (old new : PrinterView) : Type 0 where
-  pub id : ℕ
+-- the labels of these parts were made under the least free identification, and its save as used met a device fault
+pub record FailsToPrint (old : PrinterView) (size : Size) (scheme : Scheme) (document : List ℕ) (new : PrinterView)
+    : Type 0 where
+  pub parts : List (List ℕ)
+  pub are_parts : AreParts size scheme document parts
+  pub job : JobView
+  pub job_is : IsJobOf size scheme job.id parts job
   pub unsaved : LedgerView
-  pub used : Uses old.ledger id unsaved
+  pub used : Uses old.ledger job.id unsaved
   pub failed : FailsToSave old unsaved new
 
 -- the document has parts, which end somewhere
@@ -96,7 +100,7 @@ Prints old size scheme document (Ok job) new =
     CanPrint old size scheme document
     × (parts : List (List ℕ)) × AreParts size scheme document parts × PrintsJob old size scheme parts job new
 Prints old size scheme document (Err printing.Memory) new = CanPrint old size scheme document × (new ≡ old)
-Prints old size scheme document (Err printing.Save) new = CanPrint old size scheme document × FailsToPrint old new
+Prints old size scheme document (Err printing.Save) new = CanPrint old size scheme document × FailsToPrint old size scheme document new
 Prints old size scheme document (Err printing.Failed) new = RefusesToPrint old size scheme document printing.Failed new
 Prints old size scheme document (Err printing.TooLong) new =
     RefusesToPrint old size scheme document printing.TooLong new

@@ -19,21 +19,25 @@ use std::marker::Model;
 pub struct Job<A: Allocator = Global> {
     id: FileId,
     count: u8,
+    /// The last page's first, so that a label is taken without moving the others.
     labels: Vec<Grid<A>, A>,
 }
 
 impl<A: Allocator> Model for Job<A> {
+    ghost use Rattle.std.specs.Prelude.{reverse};
     ghost use Rattle.dm_print_ledger.specs.Views.{JobView};
 
     ghost Value = { JobView };
 
-    ghost view = { λ j. record { id = j.id; count = j.count; labels = j.labels.items } };
+    ghost view = { λ j. record { id = j.id; count = j.count; labels = reverse j.labels.items } };
 }
 
 impl<A: Allocator> Job<A> {
-    pub(crate) fn new(id: FileId, count: u8, labels: Vec<Grid<A>, A>) -> Job<A>
+    // A job of these labels, the first page's first.
+    pub(crate) fn new(id: FileId, count: u8, mut labels: Vec<Grid<A>, A>) -> Job<A>
         ensures { result ≡ record { id = id; count = count; labels = labels.items } }
     {
+        labels.reverse();
         Job { id, count, labels }
     }
 
@@ -56,11 +60,7 @@ impl<A: Allocator> Job<A> {
         ensures { MatchOption result ((self.old.labels ≡ []) × (self.new ≡ self.old))
             (λ grid. self.old ≡ record self.new { labels = grid ∷ self.new.labels }) }
     {
-        if self.labels.is_empty() {
-            None
-        } else {
-            Some(self.labels.remove(0))
-        }
+        self.labels.pop()
     }
 }
 

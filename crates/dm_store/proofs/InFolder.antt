@@ -1,6 +1,6 @@
 -- What a call on one key's file does to the set in the folder.
 use Rattle.std.proofs.Common.{◌≡◌, ◌≢◌, ◌<◌, ◌^◌, ◌∙◌, inl, inr, ⊎_elim, ℕ, List, Bool, true, false, Option, Some, None, Result, Ok, Err, refl, sym, ap}
-use Rattle.std.specs.Prelude.{IsTrue, IsErrOf, IfOk, take, if◌then◌else◌, ◌+◌}
+use Rattle.std.specs.Prelude.{IsTrue, IsErr, IsErrOf, IfOk, take, if◌then◌else◌, ◌+◌}
 use Rattle.std.specs.FinMap.{insert, remove}
 use Rattle.std.specs.FinMap as map
 use Rattle.std.proofs.lemmas.Bool.{cases_eq}
@@ -136,11 +136,11 @@ module _ (old new : DiskState) (folder : List ℕ) (honesty : new.is_honest ≡ 
         record { saves = saves_replaced key bytes answer lt refused saves; memory = λ _. refl }
 
     saves_removed : (key : ℕ) (answer : Result (Unit {0}) RemoveFault) → key < 2 ^ 16
-        → (IsErrOf answer removing.Memory → KeepsAll old new)
+        → (IsErr answer → answer ≡ Err removing.Device)
         → (IsTrue old.is_honest → RemovesFile old (key_path folder key) answer new) →
         Saves (set_in is_synced old folder) (remove (contents_in old folder) key) (outcome_of_remove answer)
         (set_in is_synced new folder)
-    saves_removed key (Ok done) lt refused removes = record {
+    saves_removed key (Ok done) lt device removes = record {
       same_honesty = honesty;
       same_durability = refl;
       same_memory_plan = refl;
@@ -151,7 +151,7 @@ module _ (old new : DiskState) (folder : List ℕ) (honesty : new.is_honest ≡ 
       refused = λ is. cc;
       faulted = λ is. cc;
     }
-    saves_removed key (Err removing.Device) lt refused removes = record {
+    saves_removed key (Err removing.Device) lt device removes = record {
       same_honesty = honesty;
       same_durability = refl;
       same_memory_plan = refl;
@@ -163,16 +163,7 @@ module _ (old new : DiskState) (folder : List ℕ) (honesty : new.is_honest ≡ 
           ⊎_elim (λ before. inl (unchanged key before others))
           (λ after. inr (removed key lt honest after others)) ((removes honest).removes.failed refl);
     }
-    saves_removed key (Err removing.Memory) lt refused removes = record {
-      same_honesty = honesty;
-      same_durability = refl;
-      same_memory_plan = refl;
-      same_load_plan = refl;
-      follows = refl;
-      done = λ is. cc;
-      refused = λ _. set_kept (refused refl);
-      faulted = λ is. cc;
-    }
+    saves_removed key (Err removing.Memory) lt device removes = absurd (let is = device refl in cc)
 
     none_kept : (key : ℕ) (answer : Result (Unit {0}) RemoveFault)
         → RemovesFile old (key_path folder key) answer new → old.seen (key_path folder key) ≡ None
@@ -191,15 +182,15 @@ module _ (old new : DiskState) (folder : List ℕ) (honesty : new.is_honest ≡ 
         (cases_eq k key)
 
     pub set_removes : (key : ℕ) (answer : Result (Unit {0}) RemoveFault) → key < 2 ^ 16
-        → (IsErrOf answer removing.Memory → KeepsAll old new)
+        → (IsErr answer → answer ≡ Err removing.Device)
         → (IsTrue old.is_honest → RemovesFile old (key_path folder key) answer new)
         → RemovesKey (set_in is_synced old folder) key answer (set_in is_synced new folder)
-    set_removes key answer lt refused removes = record {
-      there = λ _. saves_removed key answer lt refused removes;
+    set_removes key answer lt device removes = record {
+      there = λ _. saves_removed key answer lt device removes;
       absent = λ none. let before = sym (held_at (found_in old folder) (2 ^ 16) key lt) ∙ none in
           alike (held_same (found_in old folder) (found_in new folder) (2 ^ 16) (λ k k_lt. found_same k (λ honest.
           kept_if_none key answer lt (removes honest) (sym (found_is old folder key honest) ∙ before) k k_lt)));
-      absent_done = λ _ _. refl;
+      absent_done = λ _ err. (device err, refl);
       memory = λ _. refl;
     }
 

@@ -1,16 +1,16 @@
 -- What a stop may leave of a set, after a call on one key. In a folder it follows from what it may leave of the key's
 -- file, since no other key's file is touched; in memory a stop leaves what is held.
-use Rattle.std.proofs.Common.{◌≡◌, ◌≢◌, ◌⊎◌, ◌<◌, ◌^◌, ◌∙◌, inl, inr, ⊎_elim, ℕ, List, Bool, Option, Some, None, Result, Ok, Err, refl, sym, ap}
-use Rattle.std.specs.Prelude.{IsTrue, IsErrOf, IsOk, IfOk, IsSome}
+use Rattle.std.proofs.Common.{◌≡◌, ◌≢◌, ◌<◌, ◌^◌, ◌∙◌, inl, inr, ⊎_elim, ℕ, List, Bool, Option, Some, None, Result, Ok, Err, refl, sym}
+use Rattle.std.specs.Prelude.{IsTrue, IsErr, IsErrOf, IsOk, IfOk, IsSome}
 use Rattle.std.proofs.lemmas.Bool.{cases_eq}
 use Rattle.dm_store.specs.declared.store.LoadFault.{LoadFault}
 use Rattle.dm_store.specs.declared.store.ReplaceFault.{ReplaceFault}
 use Rattle.dm_store.specs.declared.store.ReplaceFault.TheVariants as replacing
 use Rattle.dm_store.specs.declared.set.RemoveFault.{RemoveFault}
 use Rattle.dm_store.specs.declared.set.RemoveFault.TheVariants as removing
-use Rattle.dm_store.specs.Saved.{Outcome, Done, Refused, outcome_of}
+use Rattle.dm_store.specs.Saved.{Done, Refused, outcome_of}
 use Rattle.dm_store.specs.Sets.{outcome_of_remove}
-use Rattle.dm_store.specs.Disk.{DiskState, Content, Keeps, KeepsAll, SavesFile, RemovesFile, IsSettled, draft_of}
+use Rattle.dm_store.specs.Disk.{DiskState, Keeps, KeepsAll, SavesFile, RemovesFile, IsSettled, draft_of}
 use Rattle.dm_store.specs.Folder.{key_path, found_in, set_in}
 use Rattle.dm_store.specs.Left.{LoadKeyLeaves, SaveKeyLeaves, AreOnDisk, left_in}
 use Rattle.dm_store.specs.HeldIsLeft.{held_at, found_is}
@@ -31,11 +31,11 @@ done_replace (Ok done) is = refl
 done_replace (Err replacing.Device) is = cc
 done_replace (Err replacing.Memory) is = cc
 
-refused_remove : (answer : Result (Unit {0}) RemoveFault) → outcome_of_remove answer ≡ Refused
-    → IsErrOf answer removing.Memory
-refused_remove (Ok done) is = cc
-refused_remove (Err removing.Device) is = cc
-refused_remove (Err removing.Memory) is = refl
+never_refused : (answer : Result (Unit {0}) RemoveFault) → (IsErr answer → answer ≡ Err removing.Device)
+    → outcome_of_remove answer ≡ Refused → ⊥
+never_refused (Ok done) device is = cc
+never_refused (Err removing.Device) device is = cc
+never_refused (Err removing.Memory) device is = let other = device refl in cc
 
 done_remove : (answer : Result (Unit {0}) RemoveFault) → outcome_of_remove answer ≡ Done → IsOk answer
 done_remove (Ok done) is = refl
@@ -77,18 +77,17 @@ module _ (old new : DiskState) (folder : List ℕ) (honesty : new.is_honest ≡ 
   }
 
   pub remove_leaves : (key : ℕ) (answer : Result (Unit {0}) RemoveFault) → key < 2 ^ 16
-      → (IsErrOf answer removing.Memory → KeepsAll old new)
+      → (IsErr answer → answer ≡ Err removing.Device)
       → (IsTrue old.is_honest → RemovesFile old (key_path folder key) answer new) →
       SaveKeyLeaves (set_in is_synced old folder) (left_in old folder) key None (outcome_of_remove answer)
       (left_in new folder)
-  remove_leaves key answer lt refused removes = record {
+  remove_leaves key answer lt device removes = record {
     others = λ durable other apart content leaves. (
       leaves.0,
       (remove_keeps old new folder honesty is_synced key answer lt removes durable.0 other leaves.0 apart).left
           content leaves.1,
     );
-    kept = λ is durable content leaves.
-        (leaves.0, (refused (refused_remove answer is) (key_path folder key)).left content leaves.1);
+    kept = λ is. absurd (never_refused answer device is);
     either = λ durable content leaves. ⊎_elim (λ before. inl (leaves.0, before)) (λ after. inr after)
         ((removes durable.0).removes.left content leaves.1);
     lasting = λ is durable content leaves. (removes durable.0).lasting (done_remove answer is) content leaves.1;

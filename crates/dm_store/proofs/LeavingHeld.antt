@@ -1,6 +1,6 @@
 -- What a stop may leave of a set in memory, after a save of one key: what the set holds is the old content or the new,
 -- by what the save does.
-use Rattle.std.proofs.Common.{◌≡◌, ◌≢◌, ◌⊎◌, ◌∙◌, inl, inr, ⊎_elim, ℕ, List, Option, Some, None, Result, Ok, Err, refl, sym, ap}
+use Rattle.std.proofs.Common.{◌≡◌, ◌≢◌, ◌⊎◌, ◌∙◌, inl, inr, ⊎_elim, ℕ, List, Some, None, Result, refl, ap}
 use Rattle.std.specs.Prelude.{IsTrue}
 use Rattle.std.specs.FinMap as map
 use Rattle.dm_store.specs.Saved.{Outcome, Done, Faulted, Refused, SavePlan, SavesFine, FaultOld, FaultNew, SavesOpen, HeldAfterFault, outcome_of}

@@ -7,7 +7,7 @@ use Rattle.std.specs.String.{string_bytes}
 use Rattle.std.proofs.lemmas.List.{take_all}
 use Rattle.std.proofs.lemmas.Slice.Eq.{bytes_eq-Decides}
 use Rattle.dm_store.specs.declared.mem_disk.DiskCall.{DiskCall}
-use Rattle.dm_store.specs.declared.mem_disk.DiskCall.TheVariants.{Wrote, Synced, Renamed, Removed, SyncedEntry}
+use Rattle.dm_store.specs.declared.mem_disk.DiskCall.TheVariants.{Wrote, Synced, Renamed, Removed, SyncedEntry, SyncedFolder}
 use Rattle.dm_store.specs.Disk.{Content}
 use Rattle.dm_store.specs.DiskCalls.{seen_after}
 use Rattle.dm_store.specs.inner.Made.{is_path, is_made}
@@ -49,6 +49,7 @@ none_or_made (Renamed from to ∷ before) path = found_after (bytes_eq (string_b
 none_or_made (Removed removed ∷ before) path =
     gone_after (bytes_eq (string_bytes removed) path) _ _ (none_or_made before path)
 none_or_made (SyncedEntry synced ∷ before) path = none_or_made before path
+none_or_made (SyncedFolder start ∷ before) path = none_or_made before path
 
 -- a list is its first and its rest
 pub first_and_rest : {X : Type 0} (list : List X) (first : X) → 1 ≤ length list → first ≡ get_or list 0 first

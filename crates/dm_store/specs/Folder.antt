@@ -1,10 +1,11 @@
 -- The files of a set in a folder of a disk: the name of each key's file, and what the set holds.
-use Rattle.std.specs.Prelude.{◌/◌, ◌%◌, ◌^◌, ◌++◌, ℕ, zero, suc, Bool, false, List, [], ◌∷◌, codes, None, Some, if◌then◌else◌}
+use Rattle.std.specs.Prelude.{◌≡◌, ◌<◌, ◌/◌, ◌%◌, ◌^◌, ◌++◌, ℕ, zero, suc, Bool, false, List, [], ◌∷◌, codes, None, Some, if◌then◌else◌, Result, IsOk}
 use Rattle.std.specs.Fmt.{digit_glyph}
 use Rattle.std.specs.FinMap as map
 use Rattle.dm_store.specs.Saved.{MemoryOpen, LoadsOpen, SavesOpen}
 use Rattle.dm_store.specs.Sets.{Contents, SavedSet}
 use Rattle.dm_store.specs.Disk.{DiskState, Content}
+use Rattle.dm_store.specs.declared.disk.DiskFault.{DiskFault}
 
 -- the path of a name in a folder
 abbrev pub path_in : List ℕ → List ℕ → List ℕ
@@ -19,6 +20,12 @@ key_name key =
 -- the path of a key's file
 abbrev pub key_path : List ℕ → ℕ → List ℕ
 key_path folder key = path_in folder (key_name key)
+
+-- The entries of a folder are brought to the disk. If the bytes of a key's file are there too, a stop then leaves just
+-- what a reader finds.
+abbrev pub SettlesFolder : DiskState → List ℕ → Result (Unit {0}) DiskFault → DiskState → Type 0
+SettlesFolder old folder answer new = IsOk answer → (key : ℕ) → key < 2 ^ 16 → old.is_synced (key_path folder key)
+    → (content : Content) → new.may_leave (key_path folder key) content → content ≡ old.seen (key_path folder key)
 
 -- the map with what is found at a key
 abbrev pub with_found : Contents → ℕ → Content → Contents

@@ -1,6 +1,6 @@
 -- Of a set in a folder a stop may leave what the set holds: the proof that its `impl` owes the contract of sets.
 -- Nothing here says what a set does.
-use Rattle.std.specs.Prelude.{◌≡◌, ◌≢◌, ◌<◌, ◌≤◌, ◌⊎◌, ◌^◌, refl, ℕ, zero, suc, cond, Bool, true, false, List, Some, None, IsTrue, if◌then◌else◌}
+use Rattle.std.specs.Prelude.{◌≡◌, ◌≢◌, ◌<◌, ◌≤◌, ◌^◌, refl, ℕ, zero, suc, cond, Bool, true, false, List, Some, None, IsTrue, if◌then◌else◌}
 use Rattle.std.proofs.Common.{◌∙◌, sym, ap, subst, arith, ⊎_elim}
 use Rattle.std.specs.Ordering.{nat_cmp, eq_by_cmp}
 use Rattle.std.specs.Cmp.{nat_cmp_total}

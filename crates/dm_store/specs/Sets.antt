@@ -69,10 +69,11 @@ outcome_of_remove (Err removing.Device) = Faulted
 outcome_of_remove (Err removing.Memory) = Refused
 
 -- The set before and after a remove of one key, and its answer. If the key isn't there nothing changes, nor do the
--- plans, and only an open plan of saves allows a fault.
+-- plans, and only an open plan of saves allows a fault, that of the device.
 pub record RemovesKey
     (old : SavedSet) (key : ℕ) (answer : Result (Unit {0}) RemoveFault) (new : SavedSet) : Type 0 where
   pub there : IsSome (map.get old.content key) → Saves old (map.remove old.content key) (outcome_of_remove answer) new
   pub absent : map.get old.content key ≡ None → new ≡ old
-  pub absent_done : map.get old.content key ≡ None → IsErr answer → old.save_plan ≡ SavesOpen
+  pub absent_done : map.get old.content key ≡ None → IsErr answer
+      → (answer ≡ Err removing.Device) × (old.save_plan ≡ SavesOpen)
   pub memory : IsErrOf answer removing.Memory → old.memory_plan ≡ MemoryOpen

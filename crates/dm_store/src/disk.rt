@@ -77,6 +77,16 @@ pub trait Disk: Drop {
         ensures syncs { IsTrue (state self.old).is_honest
             → SyncsEntry (state self.old) name.now result (state self.new) };
 
+    /// The same for what a reader found, which a file system that can't sync folders keeps as it can: that is no fault.
+    fn settle_entry(&mut self, name: &str) -> Result<(), DiskFault>
+        ensures honesty { (state self.new).is_honest ≡ (state self.old).is_honest }
+        ensures kept { KeepsAll (state self.old) (state self.new) }
+        ensures syncs { IsTrue (state self.old).is_honest
+            → SyncsEntry (state self.old) name.now result (state self.new) }
+    {
+        self.sync_entry(name)
+    }
+
     /// A stop may leave what a reader finds.
     ghost leaves_seen: { (disk : Self) (name : List ℕ) → IsTrue (state disk).is_honest
         → (state disk).may_leave name ((state disk).seen name) };
@@ -87,7 +97,7 @@ pub trait Folders: Disk {
     ghost use Rattle.std.specs.Prelude.{◌+◌, IfOk, take};
     ghost use Rattle.std.specs.FinMap as map;
     ghost use Rattle.dm_store.specs.Disk.{KeepsAll};
-    ghost use Rattle.dm_store.specs.Folder.{contents_in};
+    ghost use Rattle.dm_store.specs.Folder.{contents_in, SettlesFolder};
 
     /// Makes the folder, if it isn't there, and brings its entry in the folder above it to the disk in either case.
     /// What is said of the files in it rests on that.
@@ -102,4 +112,12 @@ pub trait Folders: Disk {
         ensures kept { KeepsAll (Self.state self.old) (Self.state self.new) }
         ensures lists { IsTrue (Self.state self.old).is_honest → IfOk result (λ keys.
             keys.items ≡ take (limit + 1) (map.keys (contents_in (Self.state self.old) folder.now))) };
+
+    /// Settles the entries of the files of all keys in the folder, as [`Disk::settle_entry`] does with one. A folder that
+    /// isn't there has none.
+    fn settle_folder(&mut self, folder: &str) -> Result<(), DiskFault>
+        ensures honesty { (Self.state self.new).is_honest ≡ (Self.state self.old).is_honest }
+        ensures kept { KeepsAll (Self.state self.old) (Self.state self.new) }
+        ensures settles { IsTrue (Self.state self.old).is_honest
+            → SettlesFolder (Self.state self.old) folder.now result (Self.state self.new) };
 }

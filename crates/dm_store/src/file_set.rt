@@ -1,6 +1,6 @@
 //! A set of stores in a folder of a disk, with a file for each key.
 
-ghost use Rattle.std.specs.Prelude.{◌≡◌, ◌<◌, ◌≢◌, ◌^◌, ℕ, IfOk, IsErrOf, IsSome, IsTrue, true, false};
+ghost use Rattle.std.specs.Prelude.{◌≡◌, ◌<◌, ◌≢◌, ◌^◌, ◌+◌, take, ℕ, Err, IsErr, IfOk, IsOk, IsErrOf, IsSome, IsTrue, true, false};
 ghost use Rattle.std.specs.String.{string_bytes};
 ghost use Rattle.dm_store.specs.Disk.{
   Keeps,
@@ -11,9 +11,10 @@ ghost use Rattle.dm_store.specs.Disk.{
   IsSettled,
   draft_of,
 };
-ghost use Rattle.dm_store.specs.Folder.{key_path};
+ghost use Rattle.std.specs.FinMap as map;
+ghost use Rattle.dm_store.specs.Folder.{contents_in, key_path};
 
-use crate::disk::{Disk, Folders};
+use crate::disk::{Disk, DiskFault, Folders};
 use crate::file_store::{load_settled, remove_file, replace_file};
 use crate::files::new_path_of;
 use crate::key_files::path_of;
@@ -27,8 +28,9 @@ use std::marker::Model;
 /// The file of a key has the key as its name, in four lower-case hexadecimal digits, and is replaced as that of a
 /// [`FileStore`](crate::FileStore). Files of other names are not looked at. A folder that isn't there has no keys, and
 /// the first `replace` makes it (but not the folders that it lies in). Each `replace` brings the folder's own entry to
-/// the disk first, and each `remove` that of the key, also if no file has it. A set that was made by
-/// [`FileSet::of_synced`] is durable, and one that was made by [`FileSet::new`] isn't.
+/// the disk first, and each `remove` that of the key, also if no file has it; `keys` brings those of all keys there. A
+/// `remove` that lacks memory for the path of the key's file is a device fault, since it can't say whether that file is
+/// there. A set that was made by [`FileSet::of_synced`] is durable, and one that was made by [`FileSet::new`] isn't.
 #[derive(Drop)]
 pub struct FileSet<D: Folders, A: Allocator + Copy = Global> {
     alloc: A,
@@ -85,6 +87,28 @@ impl<D: Folders, A: Allocator + Copy> FileSet<D, A> {
     }
 }
 
+// The keys that have a file in a folder, whose entries are on the disk then.
+fn settled_keys<D: Folders>(
+    disk: &mut D,
+    folder: &str,
+    limit: usize,
+) -> Result<Vec<u16, D::Memory>, LoadFault>
+    ensures honesty { (D.state disk.new).is_honest ≡ (D.state disk.old).is_honest }
+    ensures kept { KeepsAll (D.state disk.old) (D.state disk.new) }
+    ensures lists { IsTrue (D.state disk.old).is_honest → IfOk result (λ keys.
+        keys.items ≡ take (limit + 1) (map.keys (contents_in (D.state disk.old) folder.now))) }
+    ensures settles { IsTrue (D.state disk.old).is_honest → IsOk result → (key : ℕ) → key < 2 ^ 16
+        → (D.state disk.old).is_synced (key_path folder.now key)
+        → IsSettled (D.state disk.new) (key_path folder.now key) }
+{
+    let keys = disk.keys(folder, limit)?;
+    match disk.settle_folder(folder) {
+        Ok(()) => Ok(keys),
+        Err(DiskFault::Device) => Err(LoadFault::Device),
+        Err(DiskFault::Memory) => Err(LoadFault::Memory),
+    }
+}
+
 // Puts the bytes into the file of a key, in a folder that is there then.
 fn replace_key<D: Folders, A: Allocator + Copy>(
     alloc: A,
@@ -119,12 +143,12 @@ fn remove_key<D: Disk, A: Allocator + Copy>(
     key: u16,
 ) -> Result<(), RemoveFault>
     ensures honesty { (D.state disk.new).is_honest ≡ (D.state disk.old).is_honest }
-    ensures refused { IsErrOf result RemoveFault.Memory → KeepsAll (D.state disk.old) (D.state disk.new) }
+    ensures device { IsErr result → result ≡ Err RemoveFault.Device }
     ensures removes { IsTrue (D.state disk.old).is_honest
         → RemovesFile (D.state disk.old) (key_path folder.now key) result (D.state disk.new) }
 {
     let Ok(path) = path_of(alloc, folder, key) else {
-        return Err(RemoveFault::Memory);
+        return Err(RemoveFault::Device);
     };
     match remove_file(disk, path.as_str()) {
         Ok(()) => Ok(()),
@@ -188,8 +212,12 @@ impl<D: Folders, A: Allocator + Copy> StoreSet for FileSet<D, A> {
         ensures folder { self.new.path ≡ self.old.path }
         ensures synced { self.new.is_synced ≡ self.old.is_synced }
         ensures kept { KeepsAll (D.state self.old.disk) (D.state self.new.disk) }
+        // No stop takes back a file of the folder, if its bytes are on the disk, as those of a save are.
+        ensures settles { IsTrue (D.state self.old.disk).is_honest → IsOk result → (key : ℕ) → key < 2 ^ 16
+            → (D.state self.old.disk).is_synced (key_path self.old.path key)
+            → IsSettled (D.state self.new.disk) (key_path self.new.path key) }
     {
-        self.disk.keys(self.folder.as_str(), limit)
+        settled_keys(&mut self.disk, self.folder.as_str(), limit)
     }
 
     fn load(&mut self, key: u16, limit: usize) -> Result<Option<Vec<u8, D::Memory>>, LoadFault>
@@ -239,8 +267,8 @@ impl<D: Folders, A: Allocator + Copy> StoreSet for FileSet<D, A> {
             (left_in (D.state self.new.disk) self.new.path) }
         ensures folder { self.new.path ≡ self.old.path }
         ensures synced { self.new.is_synced ≡ self.old.is_synced }
-        ensures refused { IsErrOf result RemoveFault.Memory
-            → KeepsAll (D.state self.old.disk) (D.state self.new.disk) }
+        // It is never refused for lack of memory.
+        ensures device { IsErr result → result ≡ Err RemoveFault.Device }
         // Whenever the machine stops, in this remove or after it, the old content of the key is left or none, and none
         // once it is done. No file but the key's is touched.
         ensures file { IsTrue (D.state self.old.disk).is_honest

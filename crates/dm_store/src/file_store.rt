@@ -146,7 +146,7 @@ pub(crate) fn load_settled<D: Disk>(
 {
     match disk.read(path, limit)? {
         None => Ok(None),
-        Some(bytes) => match disk.sync_entry(path) {
+        Some(bytes) => match disk.settle_entry(path) {
             Ok(()) => Ok(Some(bytes)),
             Err(DiskFault::Device) => Err(LoadFault::Device),
             Err(DiskFault::Memory) => Err(LoadFault::Memory),

@@ -81,16 +81,20 @@ fn folder_of(path: &str) -> &str {
     }
 }
 
+// Syncs a folder.
+pub(crate) fn sync_folder<R: Files>(runtime: &R, folder: &str) -> io::Result<()> {
+    fs::open(runtime, folder)?.sync_all()
+}
+
 // Syncs the folder that has the entry `path`, so that what was renamed, made or removed there stays so. If that folder
 // isn't there, the one above it is synced, which hasn't the folder's entry.
 pub(crate) fn sync_folder_of<R: Files>(runtime: &R, path: &str) -> io::Result<()> {
     let folder = folder_of(path);
-    match fs::open(runtime, folder) {
-        Ok(opened) => opened.sync_all(),
+    match sync_folder(runtime, folder) {
         Err(error) if error.kind() == ErrorKind::NotFound => {
-            fs::open(runtime, folder_of(folder))?.sync_all()
+            sync_folder(runtime, folder_of(folder))
         }
-        Err(error) => Err(error),
+        ended => ended,
     }
 }
 

@@ -130,4 +130,15 @@ impl<D: Folders> Folders for FuseDisk<D> {
             Turn::Made | Turn::Stopped => Err(LoadFault::Device),
         }
     }
+
+    fn settle_folder(&mut self, folder: &str) -> Result<(), DiskFault> {
+        match self.fuse.take_save() {
+            Turn::Passes => self.inner.settle_folder(folder),
+            Turn::Made => {
+                let _made = self.inner.settle_folder(folder);
+                Err(DiskFault::Device)
+            }
+            Turn::Stopped => Err(DiskFault::Device),
+        }
+    }
 }

@@ -2,7 +2,7 @@
 
 ghost use Rattle.std.specs.Prelude.{◌≡◌, ◌∷◌, [], option_map, IfOk, OnOk, OnErr, IsErrOf};
 ghost use Rattle.std.specs.String.{string_bytes};
-ghost use Rattle.dm_store.specs.DiskCalls.{seen_after, synced_after, content_eq, leaves_after};
+ghost use Rattle.dm_store.specs.DiskCalls.{seen_after, synced_after, begins_with, content_eq, leaves_after};
 
 use crate::disk::{Disk, DiskFault};
 use crate::mem_store::copy_of;
@@ -22,6 +22,8 @@ pub enum DiskCall<A: Allocator = Global> {
     Removed(String<A>),
     /// A name's entry was brought to the disk.
     SyncedEntry(String<A>),
+    /// So were the entries of all names that begin so.
+    SyncedFolder(String<A>),
 }
 
 /// A disk in memory, which is empty at first. It keeps the calls that were done, the newest first. A stop may leave
@@ -64,7 +66,9 @@ pub(crate) fn seen_in<'a, A: Allocator>(calls: &'a [DiskCall<A>], name: &str) ->
                 seen_in(before, name)
             }
         }
-        DiskCall::Synced(_) | DiskCall::SyncedEntry(_) => seen_in(before, name),
+        DiskCall::Synced(_) | DiskCall::SyncedEntry(_) | DiskCall::SyncedFolder(_) => {
+            seen_in(before, name)
+        }
     }
 }
 
@@ -87,7 +91,7 @@ fn is_synced_in<A: Allocator>(calls: &[DiskCall<A>], name: &str) -> bool
                 is_synced_in(before, name)
             }
         }
-        DiskCall::SyncedEntry(_) => is_synced_in(before, name),
+        DiskCall::SyncedEntry(_) | DiskCall::SyncedFolder(_) => is_synced_in(before, name),
     }
 }
 
@@ -100,6 +104,12 @@ fn is_same(content: Option<&[u8]>, other: Option<&[u8]>) -> bool
         (Some(bytes), Some(others)) => bytes == others,
         _ => false,
     }
+}
+
+fn begins(name: &[u8], start: &[u8]) -> bool
+    ensures { result ≡ begins_with name.now start.now }
+{
+    name.starts_with(start)
 }
 
 // Whether a stop may leave this content under the name.
@@ -136,11 +146,21 @@ fn may_leave_in<A: Allocator>(calls: &[DiskCall<A>], name: &str, content: Option
                 may_leave_in(before, name, content)
             }
         }
+        DiskCall::SyncedFolder(start) => {
+            if begins(name.as_bytes(), start.as_bytes()) && is_synced_in(before, name) {
+                is_same(content, seen_in(before, name))
+            } else {
+                may_leave_in(before, name, content)
+            }
+        }
     }
 }
 
 // Keeps a call that is done.
-fn note<A: Allocator>(calls: &mut Vec<DiskCall<A>, A>, call: DiskCall<A>) -> Result<(), DiskFault>
+pub(crate) fn note<A: Allocator>(
+    calls: &mut Vec<DiskCall<A>, A>,
+    call: DiskCall<A>,
+) -> Result<(), DiskFault>
     ensures ok { OnOk result (calls.new.items ≡ call ∷ calls.old.items) }
     ensures err { OnErr result (calls.new.items ≡ calls.old.items) }
 {

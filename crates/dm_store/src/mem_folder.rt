@@ -30,7 +30,7 @@ ghost use Rattle.dm_store.specs.inner.Made.{made_by, is_path, is_made};
 use crate::disk::{DiskFault, Folders};
 use crate::key_files::key_of;
 use crate::key_map::KeyMap;
-use crate::mem_disk::{DiskCall, MemDisk, seen_in};
+use crate::mem_disk::{DiskCall, MemDisk, note, seen_in};
 use crate::store::LoadFault;
 use std::alloc::{AllocError, Allocator};
 use std::marker::Model;
@@ -224,5 +224,12 @@ impl<A: Allocator + Copy> Folders for MemDisk<A> {
             return Err(LoadFault::Memory);
         };
         keys_up_to(self.alloc, &self.calls, start.as_bytes(), limit)
+    }
+
+    fn settle_folder(&mut self, folder: &str) -> Result<(), DiskFault> {
+        let Ok(start) = start_of(self.alloc, folder) else {
+            return Err(DiskFault::Memory);
+        };
+        note(&mut self.calls, DiskCall::SyncedFolder(start))
     }
 }

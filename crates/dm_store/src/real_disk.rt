@@ -2,7 +2,7 @@
 //! [`Disk`] says is trusted, and this page is to be read.
 
 use crate::disk::{Disk, DiskFault, Folders};
-use crate::files::{create_anew, load_fault_of, load_file, sync_folder_of};
+use crate::files::{create_anew, load_fault_of, load_file, sync_folder, sync_folder_of};
 use crate::key_files::key_of;
 use crate::store::LoadFault;
 use std::alloc::{AllocError, Allocator, Global};
@@ -102,6 +102,17 @@ fn keys_of<R: Files + Alloc + Clone + Drop, A: Allocator>(
     Ok(keys)
 }
 
+// A sync of a folder that was only read. Of a folder that isn't there nothing is left to be done, nor of one whose file
+// system syncs no folders (`EINVAL`).
+fn settled(ended: io::Result<()>) -> io::Result<()> {
+    match ended {
+        Err(error) if matches!(error.kind(), ErrorKind::NotFound | ErrorKind::InvalidInput) => {
+            Ok(())
+        }
+        ended => ended,
+    }
+}
+
 // What is answered to an error of the system.
 fn done(ended: io::Result<()>) -> Result<(), DiskFault> {
     match ended {
@@ -160,6 +171,11 @@ impl<R: Files, A: Allocator + Copy> Disk for RealDisk<'_, R, A> {
         self.written = None;
         done(sync_folder_of(self.runtime, name))
     }
+
+    fn settle_entry(&mut self, name: &str) -> Result<(), DiskFault> {
+        self.written = None;
+        done(settled(sync_folder_of(self.runtime, name)))
+    }
 }
 
 impl<R: Files + Alloc + Clone + Drop, A: Allocator + Copy> Folders for RealDisk<'_, R, A> {
@@ -177,5 +193,10 @@ impl<R: Files + Alloc + Clone + Drop, A: Allocator + Copy> Folders for RealDisk<
         keys.sort_unstable();
         keys.truncate(limit.saturating_add(1));
         Ok(keys)
+    }
+
+    fn settle_folder(&mut self, folder: &str) -> Result<(), DiskFault> {
+        self.written = None;
+        done(settled(sync_folder(self.runtime, folder)))
     }
 }

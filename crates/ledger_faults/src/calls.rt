@@ -4,7 +4,7 @@
 // printer is opened again, and goes on: no identification is given twice.
 use dm_check_blocks::Size;
 use dm_encodation::Scheme;
-use dm_print_ledger::{Printer, Range, Ticket};
+use dm_print_ledger::{CreateFault, Printer, Range, Ticket};
 use dm_store::{FuseStore, Kept, MemStore};
 use std::alloc::Global;
 use std::process::Abort;
@@ -123,8 +123,8 @@ fn opened<'a>(
     .expect(rt, "it is opened")
 }
 
-// The printer is created, again where it was refused; where the first ledger was saved although that failed, it is
-// opened.
+// The printer is created, again where it was refused; where the first ledger was saved although that failed, another is
+// refused, and it is opened.
 fn created<'a>(
     rt: &impl Abort,
     memory: &'a Memory,
@@ -136,7 +136,12 @@ fn created<'a>(
         Err(refused) => refused,
     };
     if is_saved {
-        return opened(rt, memory, refused.store, CREATED);
+        assert!(rt; refused.fault == CreateFault::Device);
+        let store = FuseStore::new(refused.store.into_inner(), MANY, Kept::Old);
+        let again = Printer::create(memory, store, 0, RANGE).err();
+        let again = again.expect(rt, "something is saved");
+        assert!(rt; again.fault == CreateFault::Exists);
+        return opened(rt, memory, again.store, CREATED);
     }
     let store = refused.store.into_inner();
     assert!(rt; store.content().is_none());

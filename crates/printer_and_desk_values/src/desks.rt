@@ -5,7 +5,7 @@ use dm_assembly_desk::{Accepted, Desk, ForgetFault, Held, ImportFault, Imported,
 use dm_check_blocks::Size;
 use dm_encodation::Scheme;
 use dm_finder_frame::Grid;
-use dm_store::{MemSet, StoreSet};
+use dm_store::{MemSet, NextSave, StoreSet};
 use std::alloc::Global;
 use std::process::Abort;
 use std::test::Fail;
@@ -25,11 +25,11 @@ pub(crate) fn id_of(rt: &impl Abort, number: u16) -> FileId {
 // A page, by its document, its number, the number of pages and its bytes.
 type Scan = (u16, u8, u8, &'static [u8]);
 
-// The label of a page, of side 14 in ASCII.
+// The label of a page, of side 12 in ASCII.
 fn label(alloc: Global, (number, m, n, bytes): Scan) -> Option<Grid> {
     let id = FileId::of_number(number)?;
     let page = Page::new(id, m, n, bytes.to_vec(alloc).ok()?)?;
-    seal(alloc, &page, Size::Side14, Scheme::Ascii).ok()
+    seal(alloc, &page, Size::Side12, Scheme::Ascii).ok()
 }
 
 // Whether the desk answers so to the label of a page.
@@ -109,6 +109,29 @@ fn documents_are_scanned(rt: HostRuntime) -> Result<(), Fail> {
     ];
     assert!(rt; desk.held()?.as_slice() == both.as_slice());
     Ok(())
+}
+
+// A save that fails, and the answer to its label once the desk is opened again.
+const FAILED_SAVES: [(NextSave, Kind); 2] = [
+    (NextSave::FaultNew, Kind::Again),
+    (NextSave::FaultOld, Kind::New),
+];
+
+#[test]
+fn saves_fail(rt: HostRuntime) {
+    let (id, scan) = (id_of(&rt, 0), (0, 2, 2, b"34".as_slice()));
+    for (next, kind) in FAILED_SAVES {
+        let mut desk = opened(&rt, rt.alloc(), MemSet::new(rt.alloc()), 4);
+        desk.set_next(next);
+        assert!(rt; answers(rt.alloc(), &mut desk, scan, Err(ScanFault::Save)));
+        assert!(rt; desk.pages(id).is_none());
+        assert!(rt; answers(rt.alloc(), &mut desk, scan, Err(ScanFault::Failed)));
+        let mut desk = opened(&rt, rt.alloc(), desk.close(), 4);
+        assert!(rt; answers(rt.alloc(), &mut desk, scan, Ok(kind)));
+        let pages = desk.pages(id).expect(&rt, "a page is held");
+        assert!(rt; (pages.n(), pages.missing()) == (2, 1));
+        assert!(rt; pages.get(1).is_none() && pages.get(2) == Some(b"34".as_slice()));
+    }
 }
 
 // The imports of files of the document 0, one after another, to a desk with room for one: how many pages are new, or

@@ -3,8 +3,10 @@
 use dm_append_label::open_label;
 use dm_check_blocks::Size;
 use dm_encodation::Scheme;
-use dm_print_ledger::{GiveFault, Job, PrintFault, Printer, Range, TakeFault, Ticket};
-use dm_store::MemStore;
+use dm_print_ledger::{
+    CreateFault, GiveFault, Job, OpenFault, PrintFault, Printer, Range, TakeFault, Ticket,
+};
+use dm_store::{MemStore, NextSave};
 use std::alloc::Global;
 use std::process::Abort;
 use std::test::Fail;
@@ -16,6 +18,12 @@ fn created(rt: &impl Abort, alloc: Global, number: u16, first: u16, last: u16) -
     let range = Range { first, last };
     let created = Printer::create(alloc, MemStore::new(alloc), number, range);
     created.ok().expect(rt, "it is created")
+}
+
+// The printer of a number over what its store holds.
+fn opened(rt: &impl Abort, alloc: Global, number: u16, store: MemStore) -> MemPrinter {
+    let opened = Printer::open(alloc, store, number);
+    opened.ok().expect(rt, "it is opened")
 }
 
 // As `Printer::print`, of labels of side 12 in ASCII. These calls have no contract, so that a test which makes many of
@@ -68,10 +76,41 @@ fn documents_are_printed(rt: HostRuntime) -> Result<(), Fail> {
     let store = printer.close();
     let saved = b"DMLG\x02\x00\x07\x00\x00\x01\xfc\x03\xfc\x03\x00\xff\xfe";
     assert!(rt; store.content() == Some(saved.as_slice()));
-    let opened = Printer::open(rt.alloc(), store, 7);
-    let mut printer = opened.ok().expect(&rt, "it is opened");
+    let mut printer = opened(&rt, rt.alloc(), 7, store);
     assert!(rt; print(&mut printer, b"")?.id().number() == 64_515);
     assert!(rt; print(&mut printer, b"").err() == Some(PrintFault::Exhausted));
+    Ok(())
+}
+
+// A save that fails, how many numbers are free once the printer is opened again, and the next of them.
+const FAILED_SAVES: [(NextSave, u32, u16); 2] = [
+    (NextSave::FaultOld, 10, 0),
+    (NextSave::FaultNew, 9, 1),
+];
+
+#[test]
+fn stores_fail(rt: HostRuntime) -> Result<(), Fail> {
+    for (next, left, number) in FAILED_SAVES {
+        let mut printer = created(&rt, rt.alloc(), 0, 0, 9);
+        printer.set_next(next);
+        assert!(rt; print(&mut printer, b"1234").err() == Some(PrintFault::Save));
+        assert!(rt; print(&mut printer, b"1234").err() == Some(PrintFault::Failed));
+        let mut printer = opened(&rt, rt.alloc(), 0, printer.close());
+        assert!(rt; printer.left() == left);
+        assert!(rt; print(&mut printer, b"1234")?.id().number() == number);
+    }
+    let range = Range { first: 0, last: 9 };
+    let mut store = MemStore::new(rt.alloc());
+    store.set_next(NextSave::FaultNew);
+    let refused = Printer::create(rt.alloc(), store, 0, range).err();
+    let refused = refused.expect(&rt, "its save fails");
+    assert!(rt; refused.fault == CreateFault::Device);
+    let refused = Printer::create(rt.alloc(), refused.store, 0, range).err();
+    let mut refused = refused.expect(&rt, "something is saved");
+    assert!(rt; refused.fault == CreateFault::Exists);
+    refused.store.set_load(true);
+    let refused = Printer::open(rt.alloc(), refused.store, 0).err();
+    assert!(rt; refused.expect(&rt, "its load fails").fault == OpenFault::Device);
     Ok(())
 }
 

@@ -25,7 +25,7 @@ use Rattle.dm_assembly_desk.specs.declared.fault.ImportFault.{ImportFault}
 use Rattle.dm_assembly_desk.specs.declared.fault.MoveFault.{MoveFault}
 use Rattle.dm_assembly_desk.specs.declared.reply.Imported.{Imported}
 use Rattle.relay_streams.specs.FaultNames.{input_fault_name, write_fault_name}
-use Rattle.relay_streams.specs.Streams.{AppendsPart, InputView, TakesFirst}
+use Rattle.relay_streams.specs.Streams.{AppendsPart, InputView, ReadsFirst}
 use Rattle.relay_streams.specs.declared.fault.InputFault.{InputFault}
 use Rattle.relay_streams.specs.declared.fault.WriteFault.TheVariants.{Write}
 use Rattle.relay_desk_commands.specs.declared.giving.Given.{Given}
@@ -148,14 +148,15 @@ pub data EndsForget (text : List ℕ) (old : OnDesk) (status : ℕ) (new : OnDes
       → TellsAnswer (λ _. forgotten_line id) forget_fault_name reply old.streams.output status new.streams.output
       → OnlyOutput old.streams new.streams → EndsForget text old status new
 
--- these bytes were read, and no other: one more than the greatest file has, or all where they are fewer
+-- no read failed, and these bytes were read, and no other: one more than the greatest file has, or all if they are
+-- fewer
 abbrev pub ReadsFile : InputView → InputView → List ℕ → Type 0
-ReadsFile old new bytes = TakesFirst old.remaining new.remaining IMPORT_BYTES bytes
+ReadsFile old new bytes = ReadsFirst old new IMPORT_BYTES bytes
 
 -- How `import` ends: the input was read, then the desk was opened, and it has answered; or the input could not be read;
 -- or it was read, and there is no desk. Nothing was written to the standard error.
 pub data EndsImport (capacity : ℕ) (old : OnDesk) (status : ℕ) (new : OnDesk) : Type 0 where
-  not_read : (fault : InputFault) → HasInputFault new.streams.input fault → new.files ≡ old.files
+  not_read : (fault : InputFault) → HasInputFault old.streams.input new.streams.input fault → new.files ≡ old.files
       → TellsRefusal (input_fault_name fault) old.streams.output status new.streams.output
       → LeavesErrors old.streams new.streams → EndsImport capacity old status new
   no_desk : (bytes name : List ℕ) → ReadsFile old.streams.input new.streams.input bytes

@@ -56,7 +56,7 @@ module _ (before after : PrinterView) (status : ℕ) where
   printed_on old new size scheme document (Ok job) left p tells = saves (job.id, p.3.used) p.3.saved
   printed_on old new size scheme document (Err printing.Save) left p tells =
       fails (not_printed (refused_by tells.0) (ap (λ (s : StreamsView). s.output) tells.1)) p.1.unsaved
-      (p.1.id, p.1.used) p.1.failed
+      (p.1.job.id, p.1.used) p.1.failed
   printed_on old new size scheme document (Err _) left p tells =
       stays (not_printed (refused_by tells.0) (ap (λ (s : StreamsView). s.output) tells.1)) p.1
 

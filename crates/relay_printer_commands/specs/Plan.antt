@@ -37,6 +37,6 @@ pub data EndsPlan (scheme : Scheme) (old : StreamsView) (status : ℕ) (new : St
       → ((size : Size) → HasNoLabels size scheme document)
       → RefusesOnOutput (print_fault_name TooLong) (record old { input = rest }) status new
       → EndsPlan scheme old status new
-  not_read : (fault : InputFault) (rest : InputView) → HasInputFault rest fault
+  not_read : (fault : InputFault) (rest : InputView) → HasInputFault old.input rest fault
       → RefusesOnOutput (input_fault_name fault) (record old { input = rest }) status new
       → EndsPlan scheme old status new

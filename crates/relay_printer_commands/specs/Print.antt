@@ -93,7 +93,7 @@ pub data PrintsDocument (options : SizedOptions) (document : List ℕ) (old : On
 pub data EndsPrint (options : PrintOptions) (old : OnLedger) (status : ℕ) (new : OnLedger) : Type 0 where
   no_side : ¬ IsSide options.side → new.saved ≡ old.saved
       → RefusesOnErrors (refusal_name refusals.Side) old.streams status new.streams → EndsPrint options old status new
-  not_read : (fault : InputFault) (rest : InputView) → IsSide options.side → HasInputFault rest fault
+  not_read : (fault : InputFault) (rest : InputView) → IsSide options.side → HasInputFault old.streams.input rest fault
       → new.saved ≡ old.saved
       → RefusesOnErrors (input_fault_name fault) (record old.streams { input = rest }) status new.streams
       → EndsPrint options old status new

@@ -28,7 +28,7 @@ pub record IsSmallestSide (most : ℕ) (scheme : Scheme) (document : List ℕ) (
 -- what came of it in the smallest size of which it has few enough labels; or, in this order, the input could not be
 -- read, or the document has few enough labels of no size.
 pub data EndsPrintAuto (options : AutoOptions) (old : OnLedger) (status : ℕ) (new : OnLedger) : Type 0 where
-  not_read : (fault : InputFault) (rest : InputView) → HasInputFault rest fault → new.saved ≡ old.saved
+  not_read : (fault : InputFault) (rest : InputView) → HasInputFault old.streams.input rest fault → new.saved ≡ old.saved
       → RefusesOnErrors (input_fault_name fault) (record old.streams { input = rest }) status new.streams
       → EndsPrintAuto options old status new
   too_long : (document : List ℕ) (rest : InputView) → ReadsDocument old.streams.input rest document

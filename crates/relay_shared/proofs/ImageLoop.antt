@@ -1,12 +1,12 @@
 -- From the steps over images to all of them: what a step took and said is added to what was taken and said before it.
-use Rattle.std.specs.Prelude.{◌≡◌, ℕ, ◌+◌, ◌<◌, ◌≤◌, Bool, true, false, ◌||◌, if◌then◌else◌, List, [], ◌++◌}
+use Rattle.std.specs.Prelude.{◌≡◌, ◌⊎◌, ℕ, ◌+◌, ◌<◌, ◌≤◌, Bool, true, false, ◌||◌, if◌then◌else◌, List, [], ◌++◌}
 use Rattle.std.specs.Io.KnownBytes.{Appends, Consumes, IsAtEnd, Keeps}
-use Rattle.std.proofs.Common.{inl, inr, refl, sym, ap, ◌∙◌}
+use Rattle.std.proofs.Common.{inl, inr, ⊎_elim, refl, sym, ap, ◌∙◌}
 use Rattle.std.proofs.KnownBytes.{Consumes-kept, Consumes-nil, Consumes-trans, Appends-nil, Appends-trans}
 use Rattle.std.proofs.lemmas.Bool.{or_parts, or_right}
 use Rattle.dm_pbm_io.specs.Image.{Picture, Spells}
 use Rattle.relay_streams.specs.Streams.{AppendsPart, InputView, OutputView}
-use Rattle.relay_shared.specs.EachImage.{Comes, ImageCommand, Progress, Said, Step, Taken, TellsImages, last_step, progress_at, refusal_of}
+use Rattle.relay_shared.specs.EachImage.{Comes, ImageCommand, IsOfFailedRead, Progress, Said, Step, Taken, TellsImages, last_step, progress_at, refusal_of}
 use Rattle.relay_shared.specs.EachImage.AnswersImages.{none, another}
 use Rattle.relay_shared.specs.EachImage.Comes.{image, unread, too_many}
 use Rattle.relay_shared.specs.EachImage.EndsImages.{no_image, last_line}
@@ -28,12 +28,15 @@ came c p answer few spelled answers same ends is =
 -- what has come was answered, and its line was written
 pub takes : (c : ImageCommand) (count : ℕ) (old : Progress c) (answer : Answered) (new : Progress c)
     {bytes line : List ℕ} → Consumes old.input.remaining new.input.remaining bytes
+    → (new.input.has_failed ≡ old.input.has_failed)
+    ⊎ ((answer.last ≡ true) × IsOfFailedRead (record { line = line; refused = answer.refused }))
     → Comes c count old.state (taken_to bytes new) (step_to line answer new)
     → Appends old.output.contents new.output.contents line → TakesStep c count old answer new
-takes c count old answer new consumed comes appended = record {
+takes c count old answer new consumed whole comes appended = record {
   bytes = _;
   line = _;
   consumed = consumed;
+  whole = whole;
   appended = appended;
   goes_on = λ _. comes;
   ends = λ last. last_line comes last;
@@ -58,12 +61,14 @@ stops c count old answer new consumed comes part failed = record {
 -- the input has ended, and nothing was taken or written
 pub at_end : (c : ImageCommand) (count : ℕ) (now : c.State) (output : OutputView) {input rest : InputView}
     → count ≤ MOST_IMAGES → Keeps input.remaining rest.remaining × IsAtEnd rest.remaining
+    → rest.has_failed ≡ input.has_failed
     → TakesStep c count (progress_at now input output) (record { refused = false; last = true })
     (progress_at now rest output)
-at_end c count now output few ended = record {
+at_end c count now output few ended whole = record {
   bytes = [];
   line = [];
   consumed = Consumes-kept _ _ _ _ (Consumes-nil _) ended.0;
+  whole = inl whole;
   appended = Appends-nil _;
   goes_on = λ same. cc;
   ends = λ same. no_image few (refl {a = []}) ended.1;
@@ -84,6 +89,7 @@ begun c start = record {
   line = [];
   answered = none;
   consumed = Consumes-nil _;
+  whole = refl;
   appended = Appends-nil _;
 }
 
@@ -96,6 +102,7 @@ one_more c count start now after refused answer so_far step goes_on = record {
   line = so_far.line ++ step.line;
   answered = another so_far.answered (step.goes_on goes_on) goes_on;
   consumed = Consumes-trans _ _ _ _ _ so_far.consumed step.consumed;
+  whole = ⊎_elim (λ same. same ∙ so_far.whole) (λ last. cc (goes_on, last.0)) step.whole;
   appended = Appends-trans _ _ _ _ _ so_far.appended step.appended;
 }
 
@@ -110,6 +117,7 @@ ended c count start now after refused answer status so_far step last is = inl re
   said = record { line = step.line; refused = answer.refused };
   ended = rw (← last) (step.ends last);
   consumed = Consumes-trans _ _ _ _ _ so_far.consumed step.consumed;
+  whole = ⊎_elim (λ same. inl (same ∙ so_far.whole)) (λ is_last. inr is_last.1) step.whole;
   appended = Appends-trans _ _ _ _ _ so_far.appended step.appended;
   status_is = is;
 }
@@ -134,10 +142,11 @@ stopped c count start now after refused so_far step = inr record {
 pub refused_last : (c : ImageCommand) (count : ℕ) (start now after : Progress c) (refused : Bool) (name : List ℕ)
     {bytes : List ℕ} {status : ℕ} → WritesImages c count start refused now → Consumes now.input.remaining after.input.remaining bytes
     → Comes c count now.state (taken_to bytes after) (last_step c after.state (refusal_of name))
+    → IsOfFailedRead (refusal_of name)
     → TellsRefusal name now.output status after.output → TellsImages c start status after
-refused_last c count start now after refused name so_far consumed comes (inl told) =
+refused_last c count start now after refused name so_far consumed comes of_read (inl told) =
     ended c count start now after refused (record { refused = true; last = true }) _ so_far
-    (takes c count now _ after consumed comes told.0) refl (rw (or_right refused true refl) told.1)
-refused_last c count start now after refused name so_far consumed comes (inr failed) =
+    (takes c count now _ after consumed (inr (refl, of_read)) comes told.0) refl (rw (or_right refused true refl) told.1)
+refused_last c count start now after refused name so_far consumed comes of_read (inr failed) =
     rw failed.2 (stopped c count start now after refused so_far
     (stops c count now (record { refused = true; last = true }) after consumed comes failed.1 failed.0))

@@ -1,6 +1,6 @@
 -- The document that a command reads.
 use Rattle.std.specs.Prelude.{◌≡◌, ℕ, true, List, take}
-use Rattle.relay_streams.specs.Streams.{InputView, TakesFirst}
+use Rattle.relay_streams.specs.Streams.{InputView, ReadsFirst}
 use Rattle.relay_streams.specs.declared.fault.InputFault.{InputFault}
 use Rattle.relay_streams.specs.declared.fault.InputFault.TheVariants as input_faults
 use Rattle.relay_shared.specs.declared.document.TheConstants.{DOCUMENT_BYTES}
@@ -10,10 +10,11 @@ use Rattle.relay_shared.specs.declared.document.TheConstants.{DOCUMENT_BYTES}
 abbrev pub document_of : List ℕ → List ℕ
 document_of input = take DOCUMENT_BYTES input
 
--- this document was read: it, and no other byte, was taken of the input
+-- no read failed, and this document was read, and no other byte
 abbrev pub ReadsDocument : InputView → InputView → List ℕ → Type 0
-ReadsDocument input rest document = TakesFirst input.remaining rest.remaining DOCUMENT_BYTES document
+ReadsDocument input rest document = ReadsFirst input rest DOCUMENT_BYTES document
 
--- why the input gave no document: where it is the reader, a read of it has failed
-abbrev pub HasInputFault : InputView → InputFault → Type 0
-HasInputFault rest fault = fault ≡ input_faults.Read → rest.has_failed ≡ true
+-- why the input gave no document: a read has failed, or none has, and memory was refused
+pub record HasInputFault (input rest : InputView) (fault : InputFault) : Type 0 where
+  pub read : fault ≡ input_faults.Read → rest.has_failed ≡ true
+  pub memory : fault ≡ input_faults.Memory → rest.has_failed ≡ input.has_failed

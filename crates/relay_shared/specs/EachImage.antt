@@ -6,6 +6,7 @@ use Rattle.std.specs.Io.KnownBytes.{Appends, Consumes, IsAtEnd}
 use Rattle.dm_pbm_io.specs.FaultNames.{pbm_fault_name}
 use Rattle.dm_pbm_io.specs.Image.{Picture, Spells}
 use Rattle.dm_pbm_io.specs.declared.fault.PbmFault.{PbmFault}
+use Rattle.dm_pbm_io.specs.declared.fault.PbmFault.TheVariants as image_faults
 use Rattle.relay_streams.specs.Refusal.{refused_line}
 use Rattle.relay_streams.specs.Streams.{AppendsPart, InputView, OutputView}
 use Rattle.relay_streams.specs.declared.fault.WriteFault.{WriteFault}
@@ -119,8 +120,14 @@ pub data AnswersImages (c : ImageCommand) (start : c.State) : SoFar c → Type 0
         state = step.state;
       })
 
+-- what is said last if a read has failed: that it has, or that there are too many images, whatever comes after them
+abbrev pub IsOfFailedRead : Said → Type 0
+IsOfFailedRead said =
+    (said ≡ refusal_of (pbm_fault_name image_faults.Read)) ⊎ (said ≡ refusal_of (refusal_name TooMany))
+
 -- What was taken of the input is images and its end, the command has answered to each image, in order, their lines were
--- written, and the exit status says whether any of them names a refusal.
+-- written, and the exit status says whether any of them names a refusal. A read that fails is taken neither for the end
+-- nor for what is in an image.
 pub record AnswersInput (c : ImageCommand) (old : Progress c) (status : ℕ) (new : Progress c) : Type 0 where
   pub images : SoFar c
   pub answered : AnswersImages c old.state images
@@ -129,6 +136,7 @@ pub record AnswersInput (c : ImageCommand) (old : Progress c) (status : ℕ) (ne
   pub ended : EndsImages c images.count images.state (record { bytes = end_bytes; rest = new.input })
       (last_step c new.state said)
   pub consumed : Consumes old.input.remaining new.input.remaining (images.bytes ++ end_bytes)
+  pub whole : (new.input.has_failed ≡ old.input.has_failed) ⊎ IsOfFailedRead said
   pub appended : Appends old.output.contents new.output.contents (images.said.line ++ said.line)
   pub status_is : status ≡ (if images.said.refused || said.refused then 1 else 0)
 

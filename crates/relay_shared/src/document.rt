@@ -23,6 +23,7 @@ pub fn read_document<A: Allocator, R: Read>(
     ensures taken { IfOk result (λ document. ReadsDocument input.old input.new document.items) }
     ensures part { TakesPart input.old.remaining input.new.remaining DOCUMENT_BYTES }
     ensures failed { IsErrOf result input_faults.Read → input.new.has_failed ≡ true }
+    ensures kept { IsErrOf result input_faults.Memory → input.new.has_failed ≡ input.old.has_failed }
 {
     input.read_up_to(alloc, DOCUMENT_BYTES)
 }

@@ -36,6 +36,7 @@ pub const REFUSED: Answered = Answered {
 /// Whether the input has ended, or something else comes.
 pub(crate) fn is_at_end<A: Allocator + Copy, R: Read>(alloc: A, input: &mut Input<R>) -> bool
     ensures ended { result ≡ true → Keeps input.old.remaining input.new.remaining × IsAtEnd input.new.remaining }
+    ensures whole { result ≡ true → input.new.has_failed ≡ input.old.has_failed }
     ensures another { result ≡ false → (taken : List ℕ) × Consumes input.old.remaining input.new.remaining taken
         × IsAnother taken input.new }
 {

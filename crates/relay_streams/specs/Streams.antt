@@ -25,6 +25,12 @@ pub record TakesFirst (old new : Option (List ℕ)) (limit : ℕ) (bytes : List 
   pub consumed : Consumes old new bytes
   pub bound : length bytes ≤ limit
 
+-- no read failed, and these bytes were read, and no other: the first `limit` of those that were left, or all if they
+-- are fewer
+pub record ReadsFirst (old new : InputView) (limit : ℕ) (bytes : List ℕ) : Type 0 where
+  pub taken : TakesFirst old.remaining new.remaining limit bytes
+  pub whole : new.has_failed ≡ old.has_failed
+
 -- some of the bytes that were left, at most `limit`, are taken
 abbrev pub TakesPart : Option (List ℕ) → Option (List ℕ) → ℕ → Type 0
 TakesPart old new limit = (part : List ℕ) × Consumes old new part × (length part ≤ limit)

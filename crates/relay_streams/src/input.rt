@@ -127,7 +127,7 @@ fn read_first<R: Read, A: Allocator>(
 impl<R: Read> Input<R> {
     ghost use Rattle.std.specs.Prelude.{◌≡◌, ◌⊎◌, true, false, length, IfOk, OnOk, OnErr, IsErrOf};
     ghost use Rattle.std.specs.Io.KnownBytes.{Keeps};
-    ghost use Rattle.relay_streams.specs.Streams.{Fills, GivesNext, TakesFewer, TakesFirst, TakesPart};
+    ghost use Rattle.relay_streams.specs.Streams.{Fills, GivesNext, ReadsFirst, TakesFewer, TakesPart};
 
     /// The reader, of which no read has failed.
     pub fn new(reader: R) -> Self
@@ -201,9 +201,9 @@ impl<R: Read> Input<R> {
         alloc: A,
         limit: usize,
     ) -> Result<Vec<u8, A>, InputFault>
-        ensures taken { IfOk result (λ bytes. TakesFirst self.old.remaining self.new.remaining limit bytes.items) }
+        ensures read { IfOk result (λ bytes. ReadsFirst self.old self.new limit bytes.items) }
         ensures failed { IsErrOf result InputFault.Read → self.new.has_failed ≡ true }
-        ensures kept { IsErrOf result InputFault.Read ⊎ (self.new.has_failed ≡ self.old.has_failed) }
+        ensures kept { IsErrOf result InputFault.Memory → self.new.has_failed ≡ self.old.has_failed }
         ensures part { OnErr result (TakesPart self.old.remaining self.new.remaining limit) }
     {
         let taken = read_first(&mut self.reader, alloc, limit);

@@ -19,14 +19,14 @@ pub record CarriesDocument (form : Form) (document : List ℕ) (size : Size) (wo
   pub completed : Completes size (filled form.scheme [] document (data_words size)) words
 
 -- Why no symbol was made: the side comes first, before anything is read, then the input, which is seen before and
--- after, and then the document.
+-- after, and then the document, of which no read has failed.
 abbrev pub RefusesSymbol : Form → InputView → InputView → SymbolRefusal → Type 0
 RefusesSymbol form old new Side = (¬ IsSide form.side) × (new ≡ old)
 RefusesSymbol form old new Read = IsSide form.side × (new.has_failed ≡ true)
 RefusesSymbol form old new TooLong =
-    (size : Size) × (side size ≡ form.side) ×
+    (size : Size) × (side size ≡ form.side) × (new.has_failed ≡ old.has_failed) ×
     IfSome old.remaining (λ bytes. data_words size < need_of form.scheme (document_of bytes))
-RefusesSymbol form old new Memory = IsSide form.side
+RefusesSymbol form old new Memory = IsSide form.side × (new.has_failed ≡ old.has_failed)
 
 -- the line of a refusal for which there was a reason was written, or the output has failed and a part of it is out; and
 -- nothing else

@@ -23,9 +23,9 @@ pub record DrawsDocument (form : Form) (plain : Bool) (document : List ℕ) (p :
   pub symbol : CarriesDocument form document size words
   pub drawn : p ≡ image_with_quiet_zone (grid_of_words size words) plain
 
--- that picture, of the document on an input, is out in this way: whole or in part
-abbrev pub PrintsDrawing : Form → Bool → InputView → (List ℕ → Type 0) → Type 0
-PrintsDrawing form plain input IsOut =
+-- no read of the input failed, and that picture, of the document on it, is out in this way: whole or in part
+abbrev pub PrintsDrawing : Form → Bool → InputView → InputView → (List ℕ → Type 0) → Type 0
+PrintsDrawing form plain input rest IsOut = (rest.has_failed ≡ input.has_failed) ×
     IfSome input.remaining (λ bytes.
     (p : Picture) × DrawsDocument form plain (document_of bytes) p × IsOut (written p))
 
@@ -42,10 +42,11 @@ pub record PrintsWriteRefusal (output old new : OutputView) : Type 0 where
 pub record EndsDraw (form : Form) (plain : Bool) (old : StreamsView) (status : ℕ) (new : StreamsView) : Type 0 where
   pub status_is : (status ≡ 0) ⊎ (status ≡ 1)
   pub part : TakesPart old.input.remaining new.input.remaining DOCUMENT_BYTES
-  pub drawn : status ≡ 0 → PrintsDrawing form plain old.input (Appends old.output.contents new.output.contents)
+  pub drawn : status ≡ 0
+      → PrintsDrawing form plain old.input new.input (Appends old.output.contents new.output.contents)
   pub silent : status ≡ 0 → LeavesErrors old new
   pub refused : status ≡ 1 → PrintsRefusal form old.input new.input old.errors new.errors
       ⊎ PrintsWriteRefusal new.output old.errors new.errors
   pub nothing_else : status ≡ 1 → ((new.output.has_failed ≡ true)
-      × PrintsDrawing form plain old.input (AppendsPart old.output.contents new.output.contents))
+      × PrintsDrawing form plain old.input new.input (AppendsPart old.output.contents new.output.contents))
       ⊎ (new.output ≡ old.output)

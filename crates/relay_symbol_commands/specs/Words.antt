@@ -23,9 +23,9 @@ pub record IsLineOf (form : Form) (document line : List ℕ) : Type 0 where
   pub symbol : CarriesDocument form document size words
   pub spelled : line ≡ words_line words
 
--- that line, of the document on an input, is out in this way: whole or in part
-abbrev pub PrintsWords : Form → InputView → (List ℕ → Type 0) → Type 0
-PrintsWords form input IsOut =
+-- no read of the input failed, and that line, of the document on it, is out in this way: whole or in part
+abbrev pub PrintsWords : Form → InputView → InputView → (List ℕ → Type 0) → Type 0
+PrintsWords form input rest IsOut = (rest.has_failed ≡ input.has_failed) ×
     IfSome input.remaining (λ bytes. (line : List ℕ) × IsLineOf form (document_of bytes) line × IsOut line)
 
 -- How `words` ends, from its streams to the exit status and the streams: the words were printed; or the output has
@@ -34,8 +34,8 @@ PrintsWords form input IsOut =
 pub record EndsWords (form : Form) (old : StreamsView) (status : ℕ) (new : StreamsView) : Type 0 where
   pub status_is : (status ≡ 0) ⊎ (status ≡ 1)
   pub part : TakesPart old.input.remaining new.input.remaining DOCUMENT_BYTES
-  pub printed : status ≡ 0 → PrintsWords form old.input (Appends old.output.contents new.output.contents)
+  pub printed : status ≡ 0 → PrintsWords form old.input new.input (Appends old.output.contents new.output.contents)
   pub refused : status ≡ 1 → ((new.output.has_failed ≡ true)
-      × PrintsWords form old.input (AppendsPart old.output.contents new.output.contents))
+      × PrintsWords form old.input new.input (AppendsPart old.output.contents new.output.contents))
       ⊎ PrintsRefusal form old.input new.input old.output new.output
   pub silent : LeavesErrors old new

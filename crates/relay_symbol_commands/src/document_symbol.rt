@@ -1,6 +1,6 @@
 //! The symbol that carries the document on the standard input.
 
-ghost use Rattle.std.specs.Prelude.{◌≡◌, ◌<◌, length, IfOk, IfErr, IfSome, IsErrOf};
+ghost use Rattle.std.specs.Prelude.{◌≡◌, ◌<◌, length, IfOk, IfErr, IfSome, IsErrOf, OnOk};
 ghost use Rattle.dm_check_blocks.specs.Sizes as sizes;
 ghost use Rattle.dm_encodation.specs.Written.{need_of};
 ghost use Rattle.dm_encodation.specs.declared.fault.EncodeFault.TheVariants as encode_faults;
@@ -62,6 +62,7 @@ pub(crate) fn read_symbol<A: Allocator + Copy, R: Read>(
     ensures count { IfOk result (λ symbol. length symbol.words.items ≡ sizes.all_words symbol.size) }
     ensures symbol { IfOk result (λ symbol. IfSome input.old.remaining (λ bytes.
         CarriesDocument form (document_of bytes) symbol.size symbol.words.items)) }
+    ensures whole { OnOk result (input.new.has_failed ≡ input.old.has_failed) }
     ensures refused { IfErr result (RefusesSymbol form input.old input.new) }
     ensures part { TakesPart input.old.remaining input.new.remaining DOCUMENT_BYTES }
 {

@@ -1,6 +1,6 @@
 //! `relay draw`: the image of a symbol.
 
-ghost use Rattle.std.specs.Prelude.{◌≡◌, ◌*◌, length, IfOk, IfErr, IfSome};
+ghost use Rattle.std.specs.Prelude.{◌≡◌, ◌*◌, length, IfOk, IfErr, IfSome, OnOk};
 ghost use Rattle.dm_check_blocks.specs.Sizes.{all_words};
 ghost use Rattle.dm_symbol.specs.Symbols.{grid_of_words};
 ghost use Rattle.dm_pbm_io.specs.Shown.{picture};
@@ -13,6 +13,7 @@ ghost use Rattle.relay_symbol_commands.specs.Draw.{DrawsDocument, EndsDraw};
 use crate::document_symbol::{Form, Symbol, read_symbol};
 use crate::refusal::SymbolRefusal;
 use dm_pbm_io::{Image, image_of};
+use dm_placement::Layout;
 use dm_symbol::draw_words;
 use relay_shared::{DOCUMENT_BYTES, Streams, refuse};
 use relay_streams::Input;
@@ -30,7 +31,8 @@ fn image_of_symbol<A: Allocator + Copy>(
         picture image ≡ image_with_quiet_zone (grid_of_words symbol.now.size symbol.now.words.items) plain) }
     ensures count { IfOk result (λ image. length image.pixels.items ≡ image.width * image.height) }
 {
-    let grid = draw_words(alloc, symbol.size, &symbol.words)?;
+    let layout = Layout::of_size(alloc, symbol.size)?;
+    let grid = draw_words(alloc, &layout, &symbol.words)?;
     image_of(alloc, &grid, plain)
 }
 
@@ -43,6 +45,7 @@ fn image_of_document<A: Allocator + Copy, R: Read>(
 ) -> Result<Image<A>, SymbolRefusal>
     ensures drawn { IfOk result (λ image. IfSome input.old.remaining (λ bytes.
         DrawsDocument form plain (document_of bytes) (picture image))) }
+    ensures whole { OnOk result (input.new.has_failed ≡ input.old.has_failed) }
     ensures count { IfOk result (λ image. length image.pixels.items ≡ image.width * image.height) }
     ensures refused { IfErr result (RefusesSymbol form input.old input.new) }
     ensures part { TakesPart input.old.remaining input.new.remaining DOCUMENT_BYTES }

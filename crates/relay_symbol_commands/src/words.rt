@@ -48,6 +48,7 @@ fn line_of_document<A: Allocator + Copy, R: Read>(
 ) -> Result<String<A>, SymbolRefusal>
     ensures line { IfOk result (λ line. IfSome input.old.remaining (λ bytes.
         IsLineOf form (document_of bytes) (string_bytes line))) }
+    ensures whole { OnOk result (input.new.has_failed ≡ input.old.has_failed) }
     ensures refused { IfErr result (RefusesSymbol form input.old input.new) }
     ensures part { TakesPart input.old.remaining input.new.remaining DOCUMENT_BYTES }
 {

@@ -1,2 +1,1 @@
-pub mod BatchRooms
 pub mod Outcomes

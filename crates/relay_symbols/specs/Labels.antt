@@ -10,16 +10,12 @@ use Rattle.dm_append_label.specs.Pages.{PageView}
 use Rattle.dm_pbm_io.specs.SymbolImage.{p4}
 use Rattle.relay_symbols.specs.Images.{ShowsGrid}
 
--- page 1 of 2 of the document of the identification 0
-abbrev pub first_page : List ℕ → PageView
-first_page text = record { id = 0; m = 1; n = 2; bytes = text }
-
--- the bytes are the image of the label of this side of that page
-pub record DrawsFirstPage (n : ℕ) (text bytes : List ℕ) : Type 0 where
+-- the bytes are the image of the label of this side of a page
+pub record DrawsLabel (n : ℕ) (page : PageView) (bytes : List ℕ) : Type 0 where
   pub size : Size
   pub is_side : side size ≡ n
   pub grid : GridView
-  pub sealed : Seals size Ascii (first_page text) grid
+  pub sealed : Seals size Ascii page grid
   pub shown : bytes ≡ p4 grid
 
 -- the bytes begin with the image of a grid that opens as a page with these bytes

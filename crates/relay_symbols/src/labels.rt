@@ -1,7 +1,7 @@
 //! Labels for programs in C.
 
 ghost use Rattle.std.specs.Prelude.{◌≡◌, ◌≢◌, ◌≤◌, ◌^◌, ◌-◌, IfSome, length, take};
-ghost use Rattle.relay_symbols.specs.Labels.{DrawsFirstPage, ReadsPage, first_page};
+ghost use Rattle.relay_symbols.specs.Labels.{DrawsLabel, ReadsPage};
 
 use crate::drawing::grid_image;
 use crate::opening::grid_from;
@@ -11,40 +11,47 @@ use dm_check_blocks::Size;
 use dm_encodation::Scheme;
 use std::alloc::{Allocator, Global};
 
-// Page 1 of 2 that has this text, under the identification 0.
-fn page_of<A: Allocator + Copy>(alloc: A, text: &[u8]) -> Option<Page<A>>
-    ensures { IfSome result (λ page. page ≡ first_page text.now) }
+// The page of a text: page m of n of the document of an identification, given by its number.
+fn page_of<A: Allocator + Copy>(alloc: A, id: u16, m: u8, n: u8, text: &[u8]) -> Option<Page<A>>
+    ensures { IfSome result (λ page. page ≡ record { id = id; m = m; n = n; bytes = text.now }) }
 {
-    let id = FileId::of_number(0)?;
+    let id = FileId::of_number(id)?;
     let bytes = text.to_vec(alloc).ok()?;
-    Page::new(id, 1, 2, bytes)
+    Page::new(id, m, n, bytes)
 }
 
 // The bytes of the image of that page's label.
-fn label_image<A: Allocator + Copy>(alloc: A, side: u16, text: &[u8]) -> Option<Vec<u8, A>>
-    ensures { IfSome result (λ bytes. DrawsFirstPage side text.now bytes.items) }
+fn label_image<A: Allocator + Copy>(alloc: A, side: u16, page: &Page<A>) -> Option<Vec<u8, A>>
+    ensures { IfSome result (λ bytes. DrawsLabel side page.now bytes.items) }
 {
     let size = Size::of_side(side)?;
-    let page = page_of(alloc, text)?;
-    let label = seal(alloc, &page, size, Scheme::Ascii).ok()?;
+    let label = seal(alloc, page, size, Scheme::Ascii).ok()?;
     grid_image(alloc, &label).ok()
 }
 
-/// Draws the label of this side of page 1 of 2, under the identification 0, that has this text, in ASCII encodation,
-/// and answers how many bytes the image has, which are then at the front of `image`. Answers 0, and leaves `image` as it
-/// is, if no size has this side, the text does not fit after the head, the image has no room, or memory is refused.
+/// Draws the label of this side of page `m` of `n` that has this text, under this file identification, in ASCII
+/// encodation, and answers how many bytes the image has, which are then at the front of `image`. Answers 0, and leaves
+/// `image` as it is, if no size has this side, the identification's number is above 64,515, there is no such page (`n`
+/// is 2 to 16, `m` 1 to `n`), the text does not fit after the head, the image has no room, or memory is refused.
 #[unsafe(no_mangle)]
 pub extern "C" fn relay_label_from_text(
     alloc: Global,
     side: u16,
+    id: u16,
+    m: u8,
+    n: u8,
     text: &[u8],
     image: &mut [u8],
 ) -> usize
     ensures fits { result ≤ length image.old }
-    ensures drawn { result ≢ 0 → DrawsFirstPage side text.now (take result image.new) }
+    ensures drawn { result ≢ 0 → DrawsLabel side (record { id = id; m = m; n = n; bytes = text.now })
+        (take result image.new) }
     ensures refused { result ≡ 0 → image.new ≡ image.old }
 {
-    let Some(bytes) = label_image(alloc, side, text) else {
+    let Some(page) = page_of(alloc, id, m, n, text) else {
+        return 0;
+    };
+    let Some(bytes) = label_image(alloc, side, &page) else {
         return 0;
     };
     put(&bytes, image).unwrap_or(0)

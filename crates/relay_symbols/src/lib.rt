@@ -3,20 +3,16 @@
 //! are in ASCII encodation (ISO/IEC 16022:2006, 5.2). The parameter `alloc` does not appear in the C signature.
 //!
 //! Proved: an image is exactly that of the one symbol, or label, that was asked for; a text or a page's bytes are those
-//! of the one symbol within the limit of correction; a refused call leaves the caller's bytes as they were. The same of
-//! each symbol of a batch, which is drawn and read by one layout of its size.
+//! of the one symbol within the limit of correction; a refused call leaves the caller's bytes as they were.
 #![tactic(auto)]
 
-mod batch;
 mod drawing;
 mod labels;
 mod opening;
 mod putting;
-mod rooms;
 mod symbols;
 #[cfg(test)]
 mod tests;
 
-pub use batch::{relay_symbols_from_texts, relay_texts_from_images};
 pub use labels::{relay_label_from_text, relay_page_from_image};
 pub use symbols::{relay_image_from_words, relay_symbol_from_text, relay_text_from_image};

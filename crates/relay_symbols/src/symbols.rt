@@ -1,7 +1,6 @@
 //! Symbols for programs in C.
 
-ghost use Rattle.std.specs.Prelude.{◌≡◌, ◌≢◌, ◌≤◌, ◌^◌, ◌-◌, ℕ, List, IfSome, length, take};
-ghost use Rattle.relay_symbols.specs.Images.{ShowsGrid};
+ghost use Rattle.std.specs.Prelude.{◌≡◌, ◌≢◌, ◌≤◌, ◌^◌, ◌-◌, IfSome, length, take};
 ghost use Rattle.relay_symbols.specs.Symbols.{DrawsText, DrawsWords, ReadsText};
 
 use crate::drawing::grid_image;
@@ -9,7 +8,7 @@ use crate::opening::grid_from;
 use crate::putting::put;
 use dm_check_blocks::Size;
 use dm_encodation::{Scheme, decode, encode};
-use dm_finder_frame::Grid;
+use dm_placement::Layout;
 use dm_symbol::{correct_grid, draw_symbol, draw_words};
 use std::alloc::{Allocator, Global};
 
@@ -19,7 +18,10 @@ fn text_image<A: Allocator + Copy>(alloc: A, side: u16, text: &[u8]) -> Option<V
 {
     let size = Size::of_side(side)?;
     let data = encode(alloc, Scheme::Ascii, text, &[], size).ok()?;
-    let Ok(grid) = draw_symbol(alloc, size, &data) else {
+    let Ok(layout) = Layout::of_size(alloc, size) else {
+        return None;
+    };
+    let Ok(grid) = draw_symbol(alloc, &layout, &data) else {
         return None;
     };
     grid_image(alloc, &grid).ok()
@@ -53,7 +55,12 @@ fn image_of_words<A: Allocator + Copy>(alloc: A, side: u16, words: &[u8]) -> Opt
     if words.len() != size.all_words() {
         return None;
     }
-    let grid = draw_words(alloc, size, words).ok()?;
+    let Ok(layout) = Layout::of_size(alloc, size) else {
+        return None;
+    };
+    let Ok(grid) = draw_words(alloc, &layout, words) else {
+        return None;
+    };
     grid_image(alloc, &grid).ok()
 }
 
@@ -77,22 +84,15 @@ pub extern "C" fn relay_image_from_words(
     put(&bytes, image).unwrap_or(0)
 }
 
-// The text of the symbol of a grid, which an image shows.
-pub(crate) fn text_of_grid<A: Allocator + Copy>(alloc: A, grid: &Grid<A>) -> Option<Vec<u8, A>>
-    ensures { IfSome result (λ text. (image : List ℕ) → ShowsGrid image grid.now → ReadsText image text.items) }
-{
-    let Ok(symbol) = correct_grid(alloc, grid) else {
-        return None;
-    };
-    decode(alloc, symbol.data(), 0).ok()
-}
-
 // The text of the symbol of an image.
 fn text_of<A: Allocator + Copy>(alloc: A, image: &[u8]) -> Option<Vec<u8, A>>
     ensures { IfSome result (λ text. ReadsText image.now text.items) }
 {
     let grid = grid_from(alloc, image)?;
-    text_of_grid(alloc, &grid)
+    let Ok(symbol) = correct_grid(alloc, &grid) else {
+        return None;
+    };
+    decode(alloc, symbol.data(), 0).ok()
 }
 
 /// Reads the symbol of the image that `image` begins with, corrects it, and answers the length of its text, which

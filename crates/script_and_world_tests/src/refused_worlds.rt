@@ -77,7 +77,7 @@ const STOPPED_DESKS: [&str; 14] = [
 ];
 
 // What a reply tells, in a word.
-fn told<A: Allocator>(reply: &Reply<A>) -> &'static str {
+pub(crate) fn told<A: Allocator>(reply: &Reply<A>) -> &'static str {
     match reply {
         Reply::Printed { .. } => "printed",
         Reply::Scanned(accepted) => match accepted.kind {

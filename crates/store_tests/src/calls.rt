@@ -19,6 +19,22 @@ pub enum Call {
     Keys(usize, &'static [u16]),
 }
 
+impl Call {
+    // Whether it saves nothing.
+    pub fn is_load(&self) -> bool {
+        matches!(self, Call::Load(_) | Call::LoadKey(_) | Call::Keys(_, _))
+    }
+
+    // What is answered if memory is refused after that many growths, the first of which is the folder's own path. A
+    // remove can't say then whether the key is there.
+    pub fn refused(&self, passes: u64) -> &'static str {
+        match self {
+            Call::RemoveKey if passes > 0 => "Device",
+            _ => "Memory",
+        }
+    }
+}
+
 // The allocator of a call.
 pub type Memory = Refusing<Global>;
 

@@ -4,6 +4,7 @@
 
 use crate::calls::{Call, Memory, answer, text_of};
 use crate::scripted::{Listed, Scripted, Steps};
+use std::io::ErrorKind;
 use std::process::Abort;
 use std::test::Fail;
 use std::{env, fs, io, process};
@@ -187,6 +188,24 @@ impl Place<'_> {
         assert!(rt; self.tried(case, &memory) == (case.answer, case.after));
     }
 
+    // The call of a case where the system syncs no folders, which is the last that a call does.
+    fn sync_no_folder(&self, rt: &impl Abort, case: &Case) {
+        let Some((("sync", _), before)) = case.steps.list().split_last() else {
+            return;
+        };
+        let memory = Refusing::new(self.files.alloc(), u64::MAX);
+        assert!(rt; self.make(case));
+        self.files.begin(case.steps, before.len());
+        self.files.fail_by(ErrorKind::InvalidInput);
+        let answer = if case.call.is_load() {
+            case.answer
+        } else {
+            "Device"
+        };
+        assert!(rt; self.tried(case, &memory) == (answer, case.after));
+        self.files.fail_by(ErrorKind::PermissionDenied);
+    }
+
     // The call of a case with each growth refused, until none is, if that comes.
     fn refuse_each(&self, rt: &impl Abort, case: &Case) -> bool {
         self.files.begin(Steps::Any, NONE);
@@ -195,7 +214,10 @@ impl Place<'_> {
             let memory = Refusing::new(self.files.alloc(), passes);
             let mut tried = self.tried(case, &memory);
             if memory.is_spent() {
-                assert!(rt; tried == ("Memory", case.before), "{passes}");
+                assert!(rt;
+                    tried == (case.call.refused(passes), case.before),
+                    "{passes}"
+                );
                 tried = self.tried(case, &memory);
             }
             assert!(rt; tried == (case.answer, case.after), "{passes}");
@@ -231,6 +253,7 @@ fn each_call_fails_and_is_refused(rt: HostRuntime) -> Result<(), Fail> {
     };
     for case in CASES.iter() {
         place.fail_each(&rt, case);
+        place.sync_no_folder(&rt, case);
         assert!(rt; place.refuse_each(&rt, case));
     }
     fs::remove_dir_all(&rt, above.as_str())?;

@@ -80,7 +80,14 @@ const REMOVE_NOTHING: &[Step] = &[
     ("sync", ""),
 ];
 
-const KEYS: &[Step] = &[("list", "above/pages/"), ("names", ""), ("names", "")];
+// The names are taken until there are none. Then the folder is synced.
+const KEYS: &[Step] = &[
+    ("list", "above/pages/"),
+    ("names", ""),
+    ("names", ""),
+    ("open", "above/pages"),
+    ("sync", ""),
+];
 
 impl Steps {
     // The calls in order, or none where any may come.
@@ -131,6 +138,8 @@ struct Script {
     // How many of them came, and how many pass before the one that fails.
     came: Cell<usize>,
     passes: Cell<usize>,
+    // The error of the one that fails.
+    error: Cell<ErrorKind>,
     // The names of each folder, each ended by a NUL, and how often they are listed.
     names: Cell<Listed>,
     times: Cell<u32>,
@@ -149,7 +158,7 @@ impl Script {
         if is_right && place != self.passes.get() {
             Ok(())
         } else {
-            Err(io::Error::from(ErrorKind::PermissionDenied))
+            Err(io::Error::from(self.error.get()))
         }
     }
 }
@@ -168,6 +177,7 @@ impl Scripted {
             steps: Cell::new(Steps::Any),
             came: Cell::new(0),
             passes: Cell::new(usize::MAX),
+            error: Cell::new(ErrorKind::PermissionDenied),
             names: Cell::new(Listed::OneKey),
             times: Cell::new(1),
         };
@@ -184,6 +194,11 @@ impl Scripted {
         self.script.steps.set(steps);
         self.script.came.set(0);
         self.script.passes.set(passes);
+    }
+
+    // From now on the call that fails gives this error.
+    pub fn fail_by(&self, error: ErrorKind) {
+        self.script.error.set(error);
     }
 
     // From now on each folder lists these names that often.

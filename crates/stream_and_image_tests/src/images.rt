@@ -4,7 +4,7 @@ ghost use Rattle.std.specs.Prelude.{◌≡◌, ◌*◌, IfOk, length};
 
 use dm_finder_frame::Grid;
 use dm_pbm_io::{
-    Image, PbmFault, grid_moved, grid_of, image_in, image_of, read_image, write_image,
+    Image, PbmFault, ShapeFault, grid_moved, grid_of, image_in, image_of, read_image, write_image,
 };
 use relay_streams::{Input, Output};
 use std::alloc::{AllocError, Global};
@@ -167,6 +167,23 @@ fn a_symbol_is_read_and_drawn(rt: HostRuntime) -> Result<(), Fail> {
         let mut bytes = Vec::new(alloc);
         write_image(&mut bytes, &image)?;
         assert!(rt; bytes.as_slice() == text);
+    }
+    Ok(())
+}
+
+// No symbol has 11 modules along a side, nor is a row a square.
+#[test]
+fn images_of_no_symbol_are_refused(rt: HostRuntime) -> Result<(), Fail> {
+    let alloc = rt.alloc();
+    for (width, height, count) in [(13, 13, 169), (12, 11, 132), (12, 12, 143)] {
+        let image = Image {
+            width,
+            height,
+            pixels: vec![in alloc; true; count]?,
+            plain: false,
+        };
+        let grid: Result<Grid, ShapeFault> = grid_of(alloc, &image);
+        assert!(rt; grid.err() == Some(ShapeFault::Shape), "{width} {height}");
     }
     Ok(())
 }

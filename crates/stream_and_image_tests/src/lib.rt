@@ -1,4 +1,4 @@
-//! Tests of streams and of images: known images and refusals, images by a layout, readers and writers that fail in
+//! Tests of streams and of images: known images and refusals, readers and writers that fail in
 //! mid-stream or are interrupted, and the texts of faults. And tests of what the other crates of tests stand on: the
 //! allocator that refuses one growth, and the copies of bytes that are spoiled.
 #![tactic(auto)]
@@ -7,7 +7,5 @@
 mod helpers;
 #[cfg(test)]
 mod images;
-#[cfg(test)]
-mod layouts;
 #[cfg(test)]
 mod streams;

@@ -155,6 +155,13 @@ const ROOMS: [(Scheme, u8, usize, usize, usize); 12] = [
     (Scheme::Base256, 0, 1559, 1556, 1559),
 ];
 
+// A longer text may need fewer words: five characters need six words, and six of them five.
+#[test]
+fn a_longer_text_may_need_fewer_words(rt: HostRuntime) {
+    assert!(rt; need(Scheme::C40, b"AIMAI") == 6 && need(Scheme::C40, b"AIMAIM") == 5);
+    assert!(rt; fit(Scheme::C40, b"AIMAIM", 5) == 6);
+}
+
 #[test]
 fn the_greatest_texts_fill_a_room(rt: HostRuntime) {
     for (scheme, byte, room, count, words) in ROOMS {

@@ -1,8 +1,9 @@
 //! Where each bit of a word stands, and the finder patterns around and between the regions.
 
+use crate::worked::{WORDS, is_worked_example, worked_modules};
 use dm_check_blocks::Size;
-use dm_finder_frame::cell_of;
-use dm_placement::{Layout, lift, place};
+use dm_finder_frame::{FrameFault, Grid, GridFault, cell_of, frame, unframe};
+use dm_placement::{Layout, Matrix, lift, lift_with, place, place_with};
 use std::test::Fail;
 
 // A word in a corner's shape, and the cells of its bits.
@@ -79,5 +80,53 @@ fn cells_are_free_or_on_no_finder_pattern(rt: HostRuntime) -> Result<(), Fail> {
     assert!(rt; cell_of(Size::Side10, 1, 1) == Some((0, 0)));
     assert!(rt; cell_of(Size::Side132, 131, 0) == None);
     assert!(rt; cell_of(Size::Side132, 130, 23) == Some((119, 20)));
+    Ok(())
+}
+
+// The words of the standard's example are placed as it draws them, with a layout made before and without, and the
+// modules that it draws give them back.
+#[test]
+#[tactic(auto, unfolding(dm_check_blocks::specs::Sizes::row))]
+fn the_drawn_modules_hold_the_words(rt: HostRuntime) -> Result<(), Fail> {
+    let alloc = rt.alloc();
+    let layout = Layout::of_size(alloc, Size::Side10)?;
+    assert!(rt; layout.size() == Size::Side10);
+    let placed = place(alloc, Size::Side10, &WORDS)?;
+    assert!(rt; is_worked_example(&frame(alloc, Size::Side10, &placed)?));
+    let placed = place_with(alloc, &layout, &WORDS)?;
+    assert!(rt; is_worked_example(&frame(alloc, Size::Side10, &placed)?));
+    let drawn = Grid::of_modules(alloc, 10, &worked_modules())?;
+    assert!(rt; is_worked_example(&drawn));
+    let framed = unframe(alloc, &drawn)?;
+    assert!(rt; framed.size == Size::Side10 && framed.wrong == 0);
+    assert!(rt; lift(alloc, framed.size, &framed.matrix)?.as_slice() == WORDS.as_slice());
+    assert!(rt; lift_with(alloc, &layout, &framed.matrix)?.as_slice() == WORDS.as_slice());
+    Ok(())
+}
+
+// A matrix with all modules light holds words 0, and one dark module is one bit.
+#[test]
+#[tactic(auto, unfolding(dm_check_blocks::specs::Sizes::row))]
+fn a_light_matrix_holds_zeros(rt: HostRuntime) -> Result<(), Fail> {
+    let mut matrix = Matrix::light(rt.alloc(), Size::Side12)?;
+    assert!(rt; matrix.side() == 10);
+    assert!(rt; lift(rt.alloc(), Size::Side12, &matrix)?.as_slice() == [0; 12].as_slice());
+    let layout = Layout::of_size(rt.alloc(), Size::Side12)?;
+    let (row, column) = layout.cell(3, 8);
+    matrix.set(row, column, true);
+    let words = lift_with(rt.alloc(), &layout, &matrix)?;
+    assert!(rt; words.as_slice() == [0, 0, 0, 1, 0, 0, 0, 0, 0, 0, 0, 0].as_slice());
+    Ok(())
+}
+
+// Of the 36 modules on the frame of side 10 27 are dark. No size has 11 modules along a side.
+#[test]
+fn grids_without_a_frame_are_refused(rt: HostRuntime) -> Result<(), Fail> {
+    let light = Grid::of_modules(rt.alloc(), 10, &[false; 100])?;
+    assert!(rt; unframe(rt.alloc(), &light).err() == Some(FrameFault::Border { wrong: 27 }));
+    let dark = Grid::of_modules(rt.alloc(), 10, &[true; 100])?;
+    assert!(rt; unframe(rt.alloc(), &dark).err() == Some(FrameFault::Border { wrong: 9 }));
+    assert!(rt; Grid::of_modules(rt.alloc(), 11, &[true; 121]).err() == Some(GridFault::Side));
+    assert!(rt; Grid::of_modules(rt.alloc(), 10, &[true; 99]).err() == Some(GridFault::Side));
     Ok(())
 }

@@ -1,11 +1,15 @@
 //! Labels, the parts of documents, heads, and labels that are damaged.
 
 use crate::worked::flip_all;
-use dm_append_label::{FileId, LabelFault, Page, SealFault, cut, open_label, seal};
+use dm_append_label::{
+    FileId, LabelFault, Page, SealFault, cut, open_label, open_label_with, seal, seal_with,
+    still_near,
+};
 use dm_check_blocks::Size;
 use dm_encodation::{DecodeFault, Scheme};
 use dm_finder_frame::Grid;
-use dm_symbol::{correct_grid, draw_symbol};
+use dm_placement::Layout;
+use dm_symbol::{SymbolReader, correct_grid, draw_symbol};
 use std::alloc::{AllocError, Global};
 use std::test::Fail;
 
@@ -107,7 +111,7 @@ fn labels_are_sealed_and_opened(rt: HostRuntime) -> Result<(), Fail> {
 }
 
 // A document, the size and the encodation of its labels, and where its parts end; or none, if it has too many.
-const DOCUMENTS: [(&[u8], Size, Scheme, &[usize]); 9] = [
+const DOCUMENTS: [(&[u8], Size, Scheme, &[usize]); 10] = [
     (&[1], Size::Side14, Scheme::Base256, &[1, 1]),
     (b"", Size::Side14, Scheme::Ascii, &[0, 0]),
     (b"1234", Size::Side12, Scheme::Ascii, &[2, 4]),
@@ -121,6 +125,15 @@ const DOCUMENTS: [(&[u8], Size, Scheme, &[usize]); 9] = [
     (&[b'7'; 33], Size::Side12, Scheme::Ascii, &[]),
     (&[233], Size::Side12, Scheme::Ascii, &[]),
     (b"", Size::Side10, Scheme::Ascii, &[]),
+    (
+        &[233; 20_752],
+        Size::Side132,
+        Scheme::Base256,
+        &[
+            1297, 2594, 3891, 5188, 6485, 7782, 9079, 10_376, 11_673, 12_970, 14_267, 15_564,
+            16_861, 18_158, 19_455, 20_752,
+        ],
+    ),
     (&[233; 20_753], Size::Side132, Scheme::Base256, &[]),
 ];
 
@@ -140,7 +153,7 @@ fn drawn_of_data(alloc: Global, size: Size, data: &[u8]) -> Result<Grid, AllocEr
     if data.len() != size.data_words() {
         return Err(AllocError);
     }
-    draw_symbol(alloc, size, data)
+    draw_symbol(alloc, &Layout::of_size(alloc, size)?, data)
 }
 
 // Data words, a size, and why such a symbol is no label.
@@ -186,6 +199,33 @@ fn heads_are_told_apart(rt: HostRuntime) -> Result<(), Fail> {
     Ok(())
 }
 
+// Of the first label of `1234` in side 12 one module of each of three words is turned over, then of a fourth.
+#[test]
+#[tactic(auto, unfolding(dm_check_blocks::specs::Sizes::row))]
+fn three_words_are_near_and_four_are_not(rt: HostRuntime) -> Result<(), Fail> {
+    let label = sealed(rt.alloc(), 1, 2, b"12", Scheme::Ascii, Size::Side12)?;
+    assert!(rt; label.side() == 12);
+    assert!(rt; still_near(rt.alloc(), &label, &[(1, 9), (4, 6), (8, 3)])?);
+    assert!(rt; !still_near(rt.alloc(), &label, &[(1, 9), (4, 6), (8, 3), (9, 8)])?);
+    Ok(())
+}
+
+// A layout of the size seals the same label.
+#[test]
+fn labels_are_sealed_by_a_layout(rt: HostRuntime) -> Result<(), Fail> {
+    let alloc = rt.alloc();
+    let layout = Layout::of_size(alloc, Size::Side12)?;
+    let id = FileId::of_number(0).expect(&rt, "an identification");
+    let page = Page::new(id, 1, 2, b"12".as_slice().to_vec(alloc)?).expect(&rt, "a page");
+    let one = seal(alloc, &page, Size::Side12, Scheme::Ascii)?;
+    let other = seal_with(alloc, &page, &layout, Scheme::Ascii)?;
+    assert!(rt; one.side() == 12 && other.side() == 12);
+    for row in 0..12u16 {
+        assert!(rt; one.row(row) == other.row(row));
+    }
+    Ok(())
+}
+
 // Of side 12 an eighth of the 44 modules on the frame are 5, and a block with 7 check words has at most 3 wrong words.
 #[test]
 fn labels_are_worn(rt: HostRuntime) -> Result<(), Fail> {
@@ -196,6 +236,9 @@ fn labels_are_worn(rt: HostRuntime) -> Result<(), Fail> {
     let opened = open_label(rt.alloc(), &label)?;
     assert!(rt; (opened.corrected, opened.wrong) == (3, 5));
     assert!(rt; opened.page.bytes() == b"12".as_slice());
+    let mut reader = SymbolReader::new();
+    let again = open_label_with(rt.alloc(), &mut reader, &label)?;
+    assert!(rt; (again.corrected, again.wrong) == (3, 5));
     flip_all(&mut label, &[(9, 8)]);
     let fault = open_label(rt.alloc(), &label).err();
     assert!(rt; fault == Some(LabelFault::Block { block: 0 }));

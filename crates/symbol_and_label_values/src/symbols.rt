@@ -3,6 +3,7 @@
 use crate::worked::{WORDS, flip_all, is_worked_example};
 use dm_check_blocks::Size;
 use dm_finder_frame::Grid;
+use dm_placement::Layout;
 use dm_symbol::{SymbolFault, SymbolReader, correct_grid, draw_symbol, draw_words, still_near};
 use std::test::Fail;
 
@@ -11,25 +12,28 @@ use std::test::Fail;
 #[test]
 #[tactic(auto, unfolding(dm_check_blocks::specs::Sizes::row))]
 fn symbols_are_drawn_and_read(rt: HostRuntime) -> Result<(), Fail> {
-    let mut grid = draw_symbol(rt.alloc(), Size::Side10, &WORDS[..3])?;
+    let layout = Layout::of_size(rt.alloc(), Size::Side10)?;
+    let mut grid = draw_symbol(rt.alloc(), &layout, &WORDS[..3])?;
     assert!(rt; is_worked_example(&grid));
     flip_all(&mut grid, &[(2, 2), (6, 6), (0, 1), (9, 3)]);
     let mut reader = SymbolReader::new();
     let symbol = reader.read(rt.alloc(), &grid)?;
     assert!(rt; symbol.words() == WORDS.as_slice() && symbol.data() == &WORDS[..3]);
     assert!(rt; (symbol.corrected(), symbol.wrong()) == (2, 2));
-    let zeros = draw_words(rt.alloc(), Size::Side12, &[0; 12])?;
+    let layout = Layout::of_size(rt.alloc(), Size::Side12)?;
+    let zeros = draw_words(rt.alloc(), &layout, &[0; 12])?;
     assert!(rt; reader.read(rt.alloc(), &zeros)?.words() == [0; 12].as_slice());
     assert!(rt; reader.read(rt.alloc(), &grid)?.words() == WORDS.as_slice());
     Ok(())
 }
 
 // Flips in two words and on the frame, and in four words. Where all modules are light, 27 of the 36 on the frame are
-// wrong.
+// wrong, and where all are dark the other 9.
 #[test]
 #[tactic(auto, unfolding(dm_check_blocks::specs::Sizes::row))]
 fn grids_are_near_or_refused(rt: HostRuntime) -> Result<(), Fail> {
-    let drawn = draw_words(rt.alloc(), Size::Side10, &WORDS)?;
+    let layout = Layout::of_size(rt.alloc(), Size::Side10)?;
+    let drawn = draw_words(rt.alloc(), &layout, &WORDS)?;
     assert!(rt; drawn.size() == Size::Side10);
     let two = [(2, 2), (6, 6), (0, 1), (9, 3)];
     assert!(rt; still_near(rt.alloc(), &drawn, &two)?);
@@ -41,5 +45,8 @@ fn grids_are_near_or_refused(rt: HostRuntime) -> Result<(), Fail> {
     let light = Grid::of_modules(rt.alloc(), 10, &[false; 100])?;
     let fault = correct_grid(rt.alloc(), &light).err();
     assert!(rt; fault == Some(SymbolFault::Border { wrong: 27 }));
+    let dark = Grid::of_modules(rt.alloc(), 10, &[true; 100])?;
+    let fault = correct_grid(rt.alloc(), &dark).err();
+    assert!(rt; fault == Some(SymbolFault::Border { wrong: 9 }));
     Ok(())
 }

@@ -19,6 +19,17 @@ const MODULES: [[u8; 10]; 10] = [
     *b"1111111111",
 ];
 
+/// Its modules as a grid has them, row by row.
+pub(crate) fn worked_modules() -> [bool; 100] {
+    let mut modules = [false; 100];
+    for row in 0..10usize {
+        for column in 0..10usize {
+            modules[10 * row + column] = MODULES[row][column] == b'1';
+        }
+    }
+    modules
+}
+
 /// Whether a grid is that symbol.
 pub(crate) fn is_worked_example(grid: &Grid) -> bool {
     for (row, wanted) in (0..).zip(MODULES.iter()) {

@@ -4,7 +4,7 @@ use Rattle.std.specs.Int.Bits.{bit_xor}
 use Rattle.std.specs.List.{All}
 use Rattle.dm_gf256.specs.Field.{product, power}
 use Rattle.dm_gf256.specs.Polynomial.{value, IsBlockWord}
-use Rattle.dm_check_blocks.specs.Division.{row_at}
+use Rattle.dm_check_blocks.specs.inner.Division.{row_at}
 
 -- these are the coefficients, after the leading 1, of a polynomial with the roots 2^1 .. 2^c, c being their number
 abbrev pub IsGenerator : List ℕ → Type 0

@@ -5,8 +5,8 @@ use Rattle.dm_event_steps.specs.declared.actor.PrinterActor.{PrinterActor}
 use Rattle.dm_event_steps.specs.declared.actor.DeskActor.{DeskActor}
 use Rattle.dm_event_steps.specs.Acts.{saved_of}
 use Rattle.dm_event_steps.specs.DeskActs.{desk_saved}
-use Rattle.dm_event_steps.specs.Stands.{IsReady}
-use Rattle.dm_event_steps.specs.DeskStands.{IsReadySet}
+use Rattle.dm_event_steps.specs.Ready.{IsReady}
+use Rattle.dm_event_steps.specs.Ready.{IsReadySet}
 
 -- each printer's store is honest, and nothing is to fail in it
 abbrev pub ArePrintersReady : {A : Type 0} → List (PrinterActor A) → Type 0

@@ -3,7 +3,7 @@ use Rattle.std.specs.Prelude.{ℕ, Bool, false, ◌||◌, List, [], ◌∷◌, O
 use Rattle.std.specs.Str.{bytes_eq}
 use Rattle.std.specs.String.{string_bytes}
 use Rattle.dm_store.specs.declared.mem_disk.DiskCall.{DiskCall}
-use Rattle.dm_store.specs.declared.mem_disk.DiskCall.TheVariants.{Wrote, Synced, Renamed, Removed, SyncedEntry}
+use Rattle.dm_store.specs.declared.mem_disk.DiskCall.TheVariants.{Wrote, Synced, Renamed, Removed, SyncedEntry, SyncedFolder}
 
 -- the path under which a call makes a file, if it does
 abbrev pub made_by : {A : Type 0} → DiskCall A → Option (List ℕ)
@@ -12,6 +12,7 @@ made_by (Synced path) = None
 made_by (Renamed from to) = Some (string_bytes to)
 made_by (Removed path) = None
 made_by (SyncedEntry path) = None
+made_by (SyncedFolder start) = None
 
 abbrev pub is_path : Option (List ℕ) → List ℕ → Bool
 is_path None path = false

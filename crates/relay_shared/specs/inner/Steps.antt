@@ -1,8 +1,8 @@
 -- One step over images: what was taken of the input, what is left, and the line that was written.
-use Rattle.std.specs.Prelude.{◌≡◌, ℕ, true, false, Bool, List}
+use Rattle.std.specs.Prelude.{◌≡◌, ◌⊎◌, ℕ, true, false, Bool, List}
 use Rattle.std.specs.Io.KnownBytes.{Appends, Consumes}
 use Rattle.relay_streams.specs.Streams.{AppendsPart}
-use Rattle.relay_shared.specs.EachImage.{AnswersImages, Comes, Progress, EndsImages, ImageCommand, Step, Taken}
+use Rattle.relay_shared.specs.EachImage.{AnswersImages, Comes, Progress, EndsImages, ImageCommand, IsOfFailedRead, Step, Taken}
 use Rattle.relay_shared.specs.declared.images.Answered.{Answered}
 
 -- the bytes that were taken, and what is left of the input afterwards
@@ -14,12 +14,14 @@ abbrev pub step_to : {c : ImageCommand} → List ℕ → Answered → Progress c
 step_to line answered new =
     record { said = record { line = line; refused = answered.refused }; last = answered.last; state = new.state }
 
--- the next line was written, or the input has ended
+-- the next line was written, or the input has ended; if a read has failed, the line is the last, and says so
 pub record TakesStep (c : ImageCommand) (count : ℕ) (old : Progress c) (answered : Answered) (new : Progress c)
     : Type 0 where
   pub bytes : List ℕ
   pub line : List ℕ
   pub consumed : Consumes old.input.remaining new.input.remaining bytes
+  pub whole : (new.input.has_failed ≡ old.input.has_failed)
+      ⊎ ((answered.last ≡ true) × IsOfFailedRead (record { line = line; refused = answered.refused }))
   pub appended : Appends old.output.contents new.output.contents line
   pub goes_on : answered.last ≡ false → Comes c count old.state (taken_to bytes new) (step_to line answered new)
   pub ends : answered.last ≡ true → EndsImages c count old.state (taken_to bytes new) (step_to line answered new)
@@ -46,4 +48,5 @@ pub record WritesImages (c : ImageCommand) (count : ℕ) (old : Progress c) (ref
     state = new.state;
   })
   pub consumed : Consumes old.input.remaining new.input.remaining bytes
+  pub whole : new.input.has_failed ≡ old.input.has_failed
   pub appended : Appends old.output.contents new.output.contents line

@@ -2,7 +2,7 @@ use Rattle.std.proofs.Common.{◌≡◌, ◌++◌, ℕ, List, sym, ◌∙◌, ap
 use Rattle.std.proofs.lemmas.List.{take_at}
 use Rattle.dm_gf256.specs.Field.{power}
 use Rattle.dm_gf256.specs.Polynomial.{value}
-use Rattle.dm_check_blocks.specs.Division.{row_at, IsDivided}
+use Rattle.dm_check_blocks.specs.inner.Division.{row_at, IsDivided}
 use Rattle.dm_check_blocks.proofs.DivisionSteps.{divided_message, zeros_after}
 use Rattle.dm_check_blocks.proofs.checks.fill_by_rows.Goals as goal
 

@@ -5,7 +5,7 @@ use Rattle.dm_gf256.specs.Field.{power}
 use Rattle.dm_gf256.specs.Polynomial.{value}
 use Rattle.dm_check_blocks.specs.Sizes.{blocks, block_data, block_checks}
 use Rattle.dm_check_blocks.specs.Blocks.{position, block_of}
-use Rattle.dm_check_blocks.specs.Division.{row_at, IsDivided}
+use Rattle.dm_check_blocks.specs.inner.Division.{row_at, IsDivided}
 use Rattle.dm_check_blocks.proofs.Sound.{sound}
 use Rattle.dm_check_blocks.proofs.DivisionSteps.{divided_message}
 use Rattle.dm_check_blocks.proofs.Interleaving.{block_of-parts, position_in_data}

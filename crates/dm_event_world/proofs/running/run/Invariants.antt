@@ -1,6 +1,5 @@
 use Rattle.std.proofs.Common.{◌≡◌, ◌≤◌, length, take, vec_capacity}
 use Rattle.dm_event_steps.specs.Worlds.{Runs}
-use Rattle.dm_event_world.specs.Runs.{GoesOnByAll}
 use Rattle.dm_event_world.proofs.running.run.Given as goal
 
 abbrev pub invariant-loop-event : goal.invariant-loop-event
@@ -8,5 +7,4 @@ invariant-loop-event g l = record {
   count : length l.replies.items ≡ l.event-index;
   room : length l.events ≤ vec_capacity l.replies;
   runs : Runs l.fn.world (take l.event-index l.events) l.replies.items l.world;
-  goes_on : GoesOnByAll l.fn.world (take l.event-index l.events) l.replies.items l.world;
 }

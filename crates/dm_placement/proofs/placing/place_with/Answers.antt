@@ -1,65 +1,93 @@
-use Rattle.std.specs.Prelude.{bit_and}
-use Rattle.std.proofs.Common.{◌^◌, ◌≡◌, ◌<◌, ◌-◌, ◌/◌, ◌%◌, arith, ap, sym, ◌∙◌, get_or, subst, length, eqb, List, ℕ}
-use Rattle.std.proofs.lemmas.Nat.Bits.{shr_and_one}
-use Rattle.dm_check_blocks.specs.Sizes.{mapping}
-use Rattle.dm_placement.specs.declared.shape.Cell.{Cell}
-use Rattle.dm_placement.specs.Cells.{cell_at, dark_cells}
-use Rattle.dm_placement.specs.Square.{Square, with_module, with_dark, light_square}
-use Rattle.dm_placement.specs.inner.WalkSteps.{AllIn}
-use Rattle.dm_placement.proofs.CellLists.{all_in_at}
+use Rattle.std.specs.Int.{bit_at}
+use Rattle.std.proofs.Common.{zero-add, false, ◌≡◌, ◌<◌, ◌+◌, ◌-◌, ◌*◌, ◌/◌, ◌%◌, arith, ap, refl, sym, ◌∙◌, get_or, set, subst, length, eqb, Bool, List, ℕ, map}
+use Rattle.std.proofs.lemmas.List.{length-map}
+use Rattle.std.proofs.lemmas.List.FromFn.{get_or-map-range_with_len}
+use Rattle.dm_check_blocks.specs.declared.size.Size.{Size}
+use Rattle.dm_check_blocks.specs.Sizes.{all_words, mapping}
+use Rattle.dm_placement.specs.Bits.{byte_bits}
+use Rattle.dm_placement.specs.Cells.{bit_cells, cell_at, dark_cells}
+use Rattle.dm_placement.specs.Placement.{bit_of}
+use Rattle.dm_placement.specs.Square.{Square, place_of, with_module, with_dark, light_square}
 use Rattle.dm_placement.proofs.EachSize.{side_is_sound}
-use Rattle.dm_placement.specs.inner.WordsSoFar.{Placing}
-use Rattle.dm_placement.proofs.PlacedBits.{placing_start, placing_step, placing_end}
+use Rattle.dm_placement.proofs.Places.{place_at, places_in}
+use Rattle.dm_placement.proofs.PlacedBits.{Placing, placing_start, placing_step, placing_end}
 use Rattle.dm_placement.proofs.PlacedMatrix.{placed_only}
 use Rattle.dm_placement.proofs.ShapesSound.{all_in_bits, bit_count}
 use Rattle.dm_placement.proofs.Tiled.{tiled_size}
 use Rattle.dm_placement.proofs.placing.place_with.Goals as goal
 
-pub loop-i-init : goal.loop-i-init
-loop-i-init g c =
+pub loop-k-init : goal.loop-k-init
+loop-k-init g c =
     let n = mapping c.args.layout.now in
     let side : c.mapping.result ≡ n = c.mapping.ensures.value ∙ ap mapping c.size.ensures in
     let blank = c.in_ok-matrix.ensures ∙ ap (λ (k : ℕ). with_dark (light_square k) (dark_cells k)) side in
     subst (λ (m : Square). Placing n c.args.words.now m 0) (sym blank)
     (placing_start n c.args.words.now (side_is_sound c.args.layout.now).eight)
 
-pub bounds-words-i : goal.bounds-words-i
-bounds-words-i g c =
-    let e = ap length c.cells-cells.ensures in
-    let k = bit_count c.args.layout.now in
-    omega (arith, e, k)
+-- there are eight places for each word
+all_places : (s : Size) (places : List ℕ) → places ≡ map (place_of (mapping s)) (bit_cells (mapping s))
+    → length places ≡ 8 * all_words s
+all_places s places e =
+    ap length e ∙ length-map (bit_cells (mapping s)) (place_of (mapping s)) ∙ bit_count s
 
-pub set-requires-clause-row_in : goal.set-requires-clause-row_in
-set-requires-clause-row_in g c =
-    let n = mapping c.args.layout.now in
-    let all = subst (λ (l : List Cell). AllIn n l) (sym c.cells-cells.ensures) (all_in_bits c.args.layout.now) in
-    let h = all_in_at n c.cells-cells.result.now c.loop-i.i (cell_at 0 0) all c.loop-i-test.true in
-    omega (arith, h.0, c.loop-i.invariant.side)
+pub bounds-places-k : goal.bounds-places-k
+bounds-places-k g c =
+    let e = all_places c.args.layout.now c.places-places.result.now c.places-places.ensures in
+    omega (arith, e)
 
-pub set-requires-clause-column_in : goal.set-requires-clause-column_in
-set-requires-clause-column_in g c =
-    let n = mapping c.args.layout.now in
-    let all = subst (λ (l : List Cell). AllIn n l) (sym c.cells-cells.ensures) (all_in_bits c.args.layout.now) in
-    let h = all_in_at n c.cells-cells.result.now c.loop-i.i (cell_at 0 0) all c.loop-i-test.true in
-    omega (arith, h.1, c.loop-i.invariant.side)
+-- each of them is in the matrix
+place_in : (s : Size) (places : List ℕ) (i n : ℕ) → places ≡ map (place_of (mapping s)) (bit_cells (mapping s))
+    → n ≡ mapping s → i < 8 * all_words s → get_or places i 0 < n * n
+place_in s places i n e side h =
+    let k = bit_count s in
+    let lt : get_or (map (place_of (mapping s)) (bit_cells (mapping s))) i 0 < mapping s * mapping s =
+    places_in (mapping s) (bit_cells (mapping s)) i (all_in_bits s) (omega (arith, k)) in
+    subst (λ (v : ℕ). get_or places i 0 < v * v) (sym side)
+    (subst (λ (l : List ℕ). get_or l i 0 < mapping s * mapping s) (sym e) lt)
 
-pub loop-i-preserved : goal.loop-i-preserved
-loop-i-preserved g c =
-    let e = c.cells-cells.ensures in
-    let lt = subst (λ (l : List Cell). c.loop-i.i < length l) e c.loop-i-test.true in
-    let w = get_or c.args.words.now (c.loop-i.i / 8) 0 in
-    let b = eqb (bit_and (w / 2 ^ (7 - c.loop-i.i % 8)) 1) 1 in
-    let bit = ap (λ v. eqb v 1) (shr_and_one w (7 - c.loop-i.i % 8)) in
-    let written = subst (λ (l : List Cell). c.set.new.self ≡ with_module c.loop-i.matrix
-    (get_or l c.loop-i.i (cell_at 0 0)).row (get_or l c.loop-i.i (cell_at 0 0)).column b) e c.set.ensures in
-    placing_step (mapping c.args.layout.now) c.args.words.now c.loop-i.matrix c.set.new.self c.loop-i.i b
-    (tiled_size c.args.layout.now) c.loop-i.invariant lt bit written
+pub make-requires : goal.make-requires
+make-requires g c =
+    place_in c.args.layout.now c.places-places.result.now (8 * c.loop-k.k + c.loop-b.b) c.loop-b.matrix.side
+    c.places-places.ensures c.loop-b.invariant.side (let e = c.requires.count in omega (arith, e))
+
+-- one bit more is placed
+bit_placed : (s : Size) (places words : List ℕ) (m m' : Square) (k b : ℕ) (dark : Bool)
+    → places ≡ map (place_of (mapping s)) (bit_cells (mapping s))
+    → Placing (mapping s) words m (8 * k + b) → k < all_words s → b < 8
+    → dark ≡ get_or (byte_bits (get_or words k 0)) b false
+    → m' ≡ record { side = m.side; modules = set m.modules (get_or places (8 * k + b) 0) dark }
+    → Placing (mapping s) words m' (8 * k + (b + 1))
+bit_placed s places words m m' k b dark e p hk hb hd hm =
+    let n = mapping s in
+    let i = 8 * k + b in
+    let count = bit_count s in
+    let q = get_or (bit_cells n) i (cell_at 0 0) in
+    let at : get_or places i 0 ≡ q.row * m.side + q.column =
+    ap (λ (l : List ℕ). get_or l i 0) e ∙ place_at n (bit_cells n) i ∙ ap (λ v. q.row * v + q.column) (sym p.side) in
+    let word : i / 8 ≡ k = omega arith in
+    let turn : i % 8 ≡ b = omega arith in
+    let f : ℕ → Bool = λ j. eqb (bit_at (get_or words k 0) (7 - j)) 1 in
+    let bit : dark ≡ bit_of words i =
+    hd ∙ get_or-map-range_with_len f 0 8 b b false hb (zero-add b) ∙ sym (rw word (rw turn refl)) in
+    let written : m' ≡ with_module m q.row q.column dark =
+    hm ∙ ap (λ v. record { side = m.side; modules = set m.modules v dark }) at in
+    let next : i + 1 ≡ 8 * k + (b + 1) = omega arith in
+    subst (λ (v : ℕ). Placing n words m' v) next
+    (placing_step n words m m' i dark (tiled_size s) p (omega (arith, count)) bit written)
+
+pub loop-b-preserved : goal.loop-b-preserved
+loop-b-preserved g c =
+    bit_placed c.args.layout.now c.places-places.result.now c.args.words.now c.loop-b.matrix c.make.new.self c.loop-k.k
+    c.loop-b.b _ c.places-places.ensures c.loop-b.invariant
+    (let e = c.requires.count in omega (arith, e)) c.loop-b-test.true
+    (ap (λ (l : List Bool). get_or l c.loop-b.b false) c.bits_of-bits.ensures) c.make.ensures
 
 pub returns : goal.returns
 returns g c =
-    let e = ap length c.cells-cells.ensures in
+    let e = c.requires.count in
+    let k = bit_count c.args.layout.now in
     record {
-      placed = placed_only c.args.layout.now c.args.words.now c.loop-i.matrix (tiled_size c.args.layout.now)
-          (placing_end (mapping c.args.layout.now) c.args.words.now c.loop-i.matrix c.loop-i.i
-          (omega (arith, e)) c.loop-i.invariant);
+      placed = placed_only c.args.layout.now c.args.words.now c.loop-k.matrix (tiled_size c.args.layout.now)
+          (placing_end (mapping c.args.layout.now) c.args.words.now c.loop-k.matrix (8 * c.loop-k.k)
+          (omega (arith, e, k)) c.loop-k.invariant);
     }

@@ -7,7 +7,10 @@ use Rattle.relay_printer_commands.proofs.plan.plan_command.Goals as goal
 pub returns-in-Err-clause-ends : goal.returns-in-Err-clause-ends
 returns-in-Err-clause-ends g c =
     rw (← c.streams.view_is) (not_read c.in-Err.fault c.read_document.new.input
-    (λ e. c.in-Err.ensures.failed (ap Err e)) (rw c.name.ensures at c.refuse.ensures, refl))
+    (record {
+      read = λ e. c.in-Err.ensures.failed (ap Err e);
+      memory = λ e. c.in-Err.ensures.kept (ap Err e);
+    }) (rw c.name.ensures at c.refuse.ensures, refl))
 
 pub returns-then-is_empty-clause-ends : goal.returns-then-is_empty-clause-ends
 returns-then-is_empty-clause-ends g c =

@@ -10,7 +10,10 @@ returns-in_default-clause-ends g c =
 pub returns-in-Err-clause-ends : goal.returns-in-Err-clause-ends
 returns-in-Err-clause-ends g c =
     rw (← c.streams.view_is) (not_read c.in-Err.fault c.read_document.new.input
-    (c.in-Some.size, c.in-Some.ensures.found) (λ e. c.in-Err.ensures.failed (ap Err e)) refl
+    (c.in-Some.size, c.in-Some.ensures.found) (record {
+      read = λ e. c.in-Err.ensures.failed (ap Err e);
+      memory = λ e. c.in-Err.ensures.kept (ap Err e);
+    }) refl
     (rw c.name-in-Err.ensures at c.refuse-status-in-Err.ensures, refl))
 
 pub returns-clause-line_first : goal.returns-clause-line_first

@@ -5,7 +5,10 @@ use Rattle.relay_printer_commands.proofs.print_auto.print_auto_command.Goals as 
 pub returns-in-Err-clause-ends : goal.returns-in-Err-clause-ends
 returns-in-Err-clause-ends g c =
     rw (← c.streams.view_is) (not_read c.in-Err.fault c.read_document.new.input
-    (λ e. c.in-Err.ensures.failed (ap Err e)) refl (rw c.name.ensures at c.refuse-status.ensures, refl))
+    (record {
+      read = λ e. c.in-Err.ensures.failed (ap Err e);
+      memory = λ e. c.in-Err.ensures.kept (ap Err e);
+    }) refl (rw c.name.ensures at c.refuse-status.ensures, refl))
 
 pub returns-in_default-clause-ends : goal.returns-in_default-clause-ends
 returns-in_default-clause-ends g c =

@@ -1,4 +1,4 @@
-use Rattle.std.proofs.Common.{◌≡◌, true, false, arith, refl}
+use Rattle.std.proofs.Common.{◌≡◌, inr, true, false, arith, refl}
 use Rattle.std.proofs.Math.Bool.{or-false}
 use Rattle.relay_shared.specs.EachImage.Comes.{too_many}
 use Rattle.relay_shared.specs.Refusals.{refusal_name}
@@ -36,7 +36,8 @@ pub returns-then-is_at_end-clause-told : goal.returns-then-is_at_end-clause-told
 returns-then-is_at_end-clause-told g c =
     let all : c.loop-count.count ≡ 65536 = omega arith in
     ended _ _ _ _ _ _ (record { refused = false; last = true }) _ (rw all at c.loop-count.invariant.written)
-    (at_end _ _ _ _ (omega arith) (c.is_at_end.ensures.ended c.if-is_at_end.true)) refl
+    (at_end _ _ _ _ (omega arith) (c.is_at_end.ensures.ended c.if-is_at_end.true)
+    (c.is_at_end.ensures.whole c.if-is_at_end.true)) refl
     (rw or-false (grind (arith, c.from-then-is_at_end.ensures)))
 
 pub returns-clause-told : goal.returns-clause-told
@@ -44,4 +45,4 @@ returns-clause-told g c =
     let all : c.loop-count.count ≡ 65536 = omega arith in
     let more = c.is_at_end.ensures.another c.if-is_at_end.false in
     refused_last _ _ _ _ _ _ (refusal_name TooMany) (rw all at c.loop-count.invariant.written) more.1
-    (too_many refl more.2) (rw c.name.ensures at c.refuse.ensures)
+    (too_many refl more.2) (inr refl) (rw c.name.ensures at c.refuse.ensures)

@@ -1,0 +1,61 @@
+-- The remainder of a block: the sum of its check words and of those that its data words have in a block word.
+use Rattle.std.proofs.Common.{◌≡◌, ℕ, ◌+◌, ◌<◌, ◌≤◌, ◌↔◌, sym, ◌∙◌, ap, arith, List, length, length-drop, get_or, take, drop, replicate}
+use Rattle.std.proofs.lemmas.List.{length-replicate, take-append-drop}
+use Rattle.std.proofs.lemmas.List.Elements.{All-get_or, All-from_get_or, recursion_from_All}
+use Rattle.std.specs.List.{All}
+use Rattle.std.specs.Int.Bits.{bit_xor}
+use Rattle.std.proofs.lemmas.Nat.{xor_comm}
+use Rattle.dm_gf256.specs.Field.{power, product}
+use Rattle.dm_gf256.specs.Polynomial.{add_scaled, value, IsBlockWord}
+use Rattle.dm_gf256.proofs.Divide.{length-add_scaled, value-add_scaled, value-append, xor_solve}
+use Rattle.dm_gf256.proofs.OneBlockWord.{one_block_word}
+use Rattle.dm_gf256.proofs.Ring.{one-product, power_byte, product_byte}
+use Rattle.dm_check_blocks.proofs.DivisionSteps.{zeros_at}
+use Rattle.dm_check_blocks.proofs.OneCompletion.{differ_most}
+use Rattle.dm_check_blocks.proofs.Remainders.{zeros_value}
+use Rattle.dm_corrector.specs.inner.Remainders.{IsRemainder}
+
+-- a remainder with the values of a block at the generator polynomial's roots is zero exactly for a block word
+zero_remainder : (c : ℕ) (rest block : List ℕ) → c ≤ 255 → length rest ≡ c → All (λ word. word < 256) rest →
+    ((k : ℕ) → 1 ≤ k → k ≤ c → value rest (power 2 k) ≡ value block (power 2 k)) →
+    All (λ word. word ≡ 0) rest ↔ IsBlockWord c block
+zero_remainder c rest block most long bytes same =
+    let zs : List ℕ = replicate c 0 in
+    let lz : length zs ≡ c = length-replicate c 0 in
+    let zero_bytes : All (λ word. word < 256) zs =
+    All-from_get_or (λ word. word < 256) zs 0 (λ i h. rw (zeros_at c i) (omega arith)) in (
+      (λ z k p q. sym (same k p q) ∙
+          zeros_value rest (power 2 k) (λ i h. All-get_or (λ word. word ≡ 0) rest i 0 h z)),
+      (λ b.
+          let is : rest ≡ zs = one_block_word c rest zs (long ∙ sym lz) (omega arith) (recursion_from_All _ rest bytes)
+          (recursion_from_All _ zs zero_bytes) (λ k p q. same k p q ∙ b k p q)
+          (λ k p q. zeros_value zs (power 2 k) (λ i h. zeros_at c i))
+          (let d = differ_most rest zs in omega arith) in
+          All-from_get_or (λ word. word ≡ 0) rest 0 (λ i h. ap (λ t. get_or t i 0) is ∙ zeros_at c i)),
+    )
+
+-- the remainder of a block, given a block word with the same data words
+pub is_remainder : (checks d : ℕ) (block word rest : List ℕ) → length block ≡ d + checks → length word ≡ d + checks →
+    checks ≤ 255 → take d word ≡ take d block → IsBlockWord checks word → All (λ x. x < 256) rest →
+    rest ≡ add_scaled 1 (drop d block) (drop d word) → IsRemainder checks block rest
+is_remainder checks d block word rest lb lw most same holds bytes is =
+    let last : length (drop d block) ≡ checks = length-drop d block ∙ omega arith in
+    let wanted : length (drop d word) ≡ checks = length-drop d word ∙ omega arith in
+    let long : length rest ≡ checks = ap length is ∙ length-add_scaled 1 (drop d block) (drop d word) ∙ last in
+    let values : (k : ℕ) → 1 ≤ k → k ≤ checks → value rest (power 2 k) ≡ value block (power 2 k) = λ k p q.
+    let x = power 2 k in
+    let byte : x < 256 = power_byte 2 k (omega arith) in
+    let first = product (value (take d block) x) (power x checks) in
+    let of_block : value block x ≡ bit_xor first (value (drop d block) x) =
+    ap (λ t. value t x) (sym (take-append-drop d block)) ∙ value-append (take d block) (drop d block) x byte
+    ∙ ap (λ n. bit_xor (product (value (take d block) x) (power x n)) (value (drop d block) x)) last in
+    let of_word : value word x ≡ bit_xor first (value (drop d word) x) =
+    ap (λ t. value t x) (sym (take-append-drop d word)) ∙ value-append (take d word) (drop d word) x byte
+    ∙ ap (λ n. bit_xor (product (value (take d word) x) (power x n)) (value (drop d word) x)) wanted
+    ∙ ap (λ t. bit_xor (product (value t x) (power x checks)) (value (drop d word) x)) same in
+    let added : value (drop d word) x ≡ first = xor_solve first (value (drop d word) x) (sym of_word ∙ holds k p q) in
+    ap (λ t. value t x) is ∙ value-add_scaled 1 (drop d block) (drop d word) x (last ∙ sym wanted)
+    ∙ ap (λ v. bit_xor (value (drop d block) x) (product 1 v)) added
+    ∙ ap (bit_xor (value (drop d block) x)) (one-product first (product_byte (value (take d block) x) (power x checks)))
+    ∙ xor_comm (value (drop d block) x) first ∙ sym of_block in
+    record { values = values; clean = zero_remainder checks rest block most long bytes values }

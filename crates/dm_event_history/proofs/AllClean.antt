@@ -1,0 +1,305 @@
+-- As long as each scan is fair, all desks and all exports are clean.
+use Rattle.std.proofs.Common.{◌≡◌, inl, inr, ℕ, zero, suc, Option, Some, None, true, Result, Ok, Err, List, [], ◌∷◌, ◌++◌, length, slice_get, refl, sym, ap, subst, ◌∙◌}
+use Rattle.std.specs.FinMap as finite
+use Rattle.dm_finder_frame.specs.Grids.{flipped}
+use Rattle.dm_check_blocks.specs.declared.size.Size.{Size}
+use Rattle.dm_encodation.specs.declared.scheme.Scheme.{Scheme}
+use Rattle.dm_print_ledger.specs.declared.range.Range.{Range}
+use Rattle.dm_print_ledger.specs.Views.{LedgerView, TicketView}
+use Rattle.dm_assembly_desk.specs.Pages.{Pages}
+use Rattle.dm_assembly_desk.specs.Documents.{Documents}
+use Rattle.dm_event_history.specs.declared.event.Event.{Event}
+use Rattle.dm_event_history.specs.declared.event.Event.TheVariants.{Print, Scan, RestartPrinter, RestartDesk, Ask, Forget, Give, Take, Export, Import}
+use Rattle.dm_event_history.specs.declared.reply.Reply.{Reply}
+use Rattle.dm_event_history.proofs.Gotten.{in_either}
+use Rattle.dm_append_label.specs.Pages.{PageView}
+use Rattle.dm_append_label.specs.declared.opening.Opened.{Opened}
+use Rattle.dm_append_label.specs.declared.fault.LabelFault.{LabelFault}
+use Rattle.dm_append_label.specs.declared.fault.LabelFault.TheVariants as label_fault
+use Rattle.dm_assembly_desk.specs.Answers.{Answer, answer}
+use Rattle.dm_assembly_desk.specs.declared.reply.Kind.{Kind}
+use Rattle.dm_assembly_desk.specs.declared.reply.Kind.TheVariants as kinds
+use Rattle.dm_event_history.specs.declared.reply.Reply.TheVariants.{Scanned}
+use Rattle.dm_event_history.specs.declared.stop.Stop.{Stop}
+use Rattle.dm_event_history.specs.Saving.{Stores, may_save}
+use Rattle.dm_event_history.proofs.Deciding.{decided, true_false}
+use Rattle.dm_event_history.proofs.Having.{CourseHas, HasAll, calls_have, may_lack_has, saves_may}
+use Rattle.dm_event_history.specs.Actors.{Actor, Running, Failed, Down}
+use Rattle.dm_event_history.specs.Relay as relays
+use Rattle.dm_event_history.specs.Relay.{Desk, Goods, Label, Relay, nothing}
+use Rattle.dm_event_history.specs.Calls.{Answers, Calls, Course, Ending, LacksMemory, Looks, MayLackFirst, Saves, ends}
+use Rattle.dm_event_history.specs.PrinterCalls.{GiveComes, PrintComes, TakeComes}
+use Rattle.dm_event_history.specs.DeskCalls.{ExportTells, ExportsHeld, MayBe, ScanComes, accepted, by_answer, scan_course, scan_faults}
+use Rattle.dm_event_history.specs.Steps.{Acts, DeskGoes, IsNamed, PrinterGoes, Step}
+use Rattle.dm_event_history.specs.Clean.{ArePrinted, HaveLeft, IsClean, IsCleanActor, IsCleanExport, IsHarmless}
+use Rattle.dm_event_history.specs.Headline.{AreAllClean, IsFairEvent}
+use Rattle.dm_event_history.proofs.LeavingGoods.{IsClosed, Leaves, OfCourse, as_known, calls_leave, known_goods, may_lack_leaves, restarts_leave}
+use Rattle.dm_event_history.proofs.DeskGoods.{ask_leaves, forget_leaves, import_leaves, scan_leaves}
+use Rattle.dm_event_history.proofs.Stays.{actor_more, each_step_keeps_clean, got_set, more_left, more_pages}
+use Rattle.dm_event_history.proofs.Gives.{held_export}
+
+-- each of the exports is clean
+abbrev AreClean : List Label → List relays.Export → Type 0
+AreClean labels exports = (number : ℕ) (export : relays.Export) → slice_get exports number ≡ Some export →
+    IsCleanExport labels export
+
+none_sent : (labels : List Label) → AreClean labels []
+none_sent labels i export is = cc
+
+both_clean : (labels : List Label) (xs ys : List relays.Export) → AreClean labels xs → AreClean labels ys →
+    AreClean labels (xs ++ ys)
+both_clean labels xs ys p q i export is = elim (in_either xs ys i export is) [
+  | inl first ↦ p i export first
+  | inr later ↦ q later.0 export later.2
+]
+
+more_clean : (labels more : List Label) (exports : List relays.Export) → AreClean labels exports →
+    AreClean (labels ++ more) exports
+more_clean labels more exports p i export is =
+    let c = p i export is in
+    record {
+      pages = λ m bytes held. more_left labels more export.id m bytes (c.pages m bytes held);
+      count = more_pages labels more export.id (length export.pages) c.count;
+      some = c.some;
+    }
+
+abbrev Sends : List Label → Goods → Type 0
+Sends labels goods = AreClean labels goods.exports
+
+closed : (labels : List Label) → IsClosed (Sends labels)
+closed labels = record { none = none_sent labels; cut = λ most goods p. none_sent labels }
+
+no_exports : (labels : List Label) (goods : Goods) → goods.exports ≡ [] → Sends labels goods
+no_exports labels goods none = subst (λ (es : List relays.Export). AreClean labels es) (sym none) (none_sent labels)
+
+print_sends : {A : Type 0} (labels : List Label) (before : ℕ) (document : List ℕ) (size : Size) (scheme : Scheme)
+    (held : LedgerView) (course : Course A LedgerView) → PrintComes before document size scheme held course →
+    OfCourse (Sends labels) course
+print_sends labels before document size scheme held (Saves next goods reply) comes =
+    no_exports labels goods (ap (λ (g : Goods). g.exports) comes.goods_are)
+print_sends labels before document size scheme held (Answers reply) comes = tt
+print_sends labels before document size scheme held LacksMemory comes = tt
+
+give_sends : {A : Type 0} (labels : List Label) (before receiver : ℕ) (range : Range) (held : LedgerView)
+    (course : Course A LedgerView) → GiveComes before receiver range held course → OfCourse (Sends labels) course
+give_sends labels before receiver range held (Saves next goods reply) comes =
+    no_exports labels goods (ap (λ (g : Goods). g.exports) comes.goods_are)
+give_sends labels before receiver range held (Answers reply) comes = tt
+give_sends labels before receiver range held LacksMemory comes = tt
+
+take_sends : {A : Type 0} (labels : List Label) (number : ℕ) (ticket : TicketView) (held : LedgerView)
+    (course : Course A LedgerView) → TakeComes number ticket held course → OfCourse (Sends labels) course
+take_sends labels number ticket held (Saves next goods reply) comes =
+    no_exports labels goods (ap (λ (g : Goods). g.exports) comes.goods_are)
+take_sends labels number ticket held (Answers reply) comes = tt
+take_sends labels number ticket held LacksMemory comes = tt
+
+-- an export of what a clean desk shows is clean
+held_sends : {A : Type 0} (labels : List Label) (before id : ℕ) (held : Documents) (o : Option Pages) (reply : Reply A)
+    (goods : Goods) → HaveLeft labels held → finite.get held id ≡ o → ExportsHeld before id o reply goods →
+    Sends labels goods
+held_sends labels before id held None reply goods left at tells =
+    no_exports labels goods (ap (λ (g : Goods). g.exports) tells.1)
+held_sends labels before id held (Some pages) reply goods left at (inl tells) =
+    known_goods (Sends labels) goods _ tells.1 (one_sent labels _ (held_export labels held id pages left at))
+  where
+    one_sent : (labels : List Label) (sent : relays.Export) → IsCleanExport labels sent → AreClean labels (sent ∷ [])
+    one_sent labels sent c zero export is =
+        (let same : sent ≡ export = cc (is) in subst (λ (e : relays.Export). IsCleanExport labels e) same c)
+    one_sent labels sent c (suc i) export is = cc
+held_sends labels before id held (Some pages) reply goods left at (inr tells) =
+    no_exports labels goods (ap (λ (g : Goods). g.exports) tells.1)
+
+export_sends : {A : Type 0} (labels : List Label) (before id : ℕ) (actor : Actor Documents) (end : Ending A Documents) →
+    IsCleanActor labels actor → MayLackFirst (Looks (ExportTells {A = A} before id)) actor end → Sends labels end.goods
+export_sends labels before id (Running held) end clean (inl lack) =
+    as_known (Sends labels) end _ lack (none_sent labels)
+export_sends labels before id (Running held) end clean (inr acts) =
+    held_sends labels before id held (finite.get held id) end.reply end.goods clean refl acts.0
+export_sends labels before id (Failed shown stored) end clean (inl lack) =
+    as_known (Sends labels) end _ lack (none_sent labels)
+export_sends labels before id (Failed shown stored) end clean (inr acts) =
+    held_sends labels before id shown (finite.get shown id) end.reply end.goods clean.0 refl acts.0
+export_sends labels before id (Down stored) end clean acts = as_known (Sends labels) end _ acts (none_sent labels)
+
+-- ---- steps
+
+printer_sends : {A : Type 0} (old new : Relay) (printer : ℕ) (Acts : Actor LedgerView → Ending A LedgerView → Type 0)
+    (reply : Reply A) → AreClean old.labels old.exports → Leaves (Sends old.labels) Acts →
+    PrinterGoes old printer Acts reply new → AreClean new.labels new.exports
+printer_sends old new printer Acts reply p each g =
+    subst (λ (r : Relay). AreClean r.labels r.exports) (sym g.new_is)
+    (more_clean old.labels g.end.goods.labels (old.exports ++ g.end.goods.exports)
+    (both_clean old.labels old.exports g.end.goods.exports p (each g.actor g.end g.acts)))
+
+desk_sends : {A : Type 0} (old new : Relay) (number : ℕ) (Acts : ℕ → Actor Documents → Ending A Documents → Type 0)
+    (reply : Reply A) → AreAllClean old →
+    ((room : ℕ) (actor : Actor Documents) (end : Ending A Documents) → IsCleanActor old.labels actor →
+    Acts room actor end → Sends old.labels end.goods) → DeskGoes old number Acts reply new →
+    AreClean new.labels new.exports
+desk_sends old new number Acts reply all each g =
+    subst (λ (r : Relay). AreClean r.labels r.exports) (sym g.new_is)
+    (more_clean old.labels g.end.goods.labels (old.exports ++ g.end.goods.exports)
+    (both_clean old.labels old.exports g.end.goods.exports all.exports
+    (each g.desk.room g.desk.actor g.end (all.desks number g.desk g.was) g.acts)))
+
+acts_send : {A : Type 0} (old new : Relay) (event : Event A) (reply : Reply A) → AreAllClean old →
+    Acts old event reply new → AreClean new.labels new.exports
+acts_send old new (Print printer document size scheme stop) reply all acts =
+    printer_sends old new printer _ reply all.exports
+    (may_lack_leaves (Sends old.labels) (closed old.labels) _ (calls_leave (Sends old.labels) (closed old.labels) _ stop _
+    (print_sends old.labels (length old.labels) document size scheme))) acts
+acts_send old new (Give printer receiver range stop) reply all acts =
+    printer_sends old new printer _ reply all.exports
+    (may_lack_leaves (Sends old.labels) (closed old.labels) _ (calls_leave (Sends old.labels) (closed old.labels) _ stop _
+    (give_sends old.labels (length old.tickets) receiver range))) acts
+acts_send old new (Take printer number stop) reply all acts =
+    printer_sends old new printer _ reply all.exports
+    (calls_leave (Sends old.labels) (closed old.labels) _ stop _ (take_sends old.labels number acts.0)) acts.2
+acts_send old new (RestartPrinter printer) reply all acts =
+    printer_sends old new printer _ reply all.exports (restarts_leave (Sends old.labels) (closed old.labels) _) acts
+acts_send old new (Scan desk number flips stop) reply all acts =
+    desk_sends old new desk _ reply all
+    (λ room actor end clean. scan_leaves (Sends old.labels) (closed old.labels) _ stop room (flipped acts.0.grid flips)
+    actor end) acts.2
+acts_send old new (Forget desk id stop) reply all acts =
+    desk_sends old new desk _ reply all
+    (λ room actor end clean. forget_leaves (Sends old.labels) (closed old.labels) _ stop id actor end) acts
+acts_send old new (Import desk number stop) reply all acts =
+    desk_sends old new desk _ reply all
+    (λ room actor end clean. import_leaves (Sends old.labels) (closed old.labels) _ stop room acts.0 actor end) acts.2
+acts_send old new (Ask desk id) reply all acts =
+    desk_sends old new desk _ reply all
+    (λ room actor end clean. ask_leaves (Sends old.labels) (closed old.labels) id actor end) acts
+acts_send old new (Export desk id) reply all acts =
+    desk_sends old new desk _ reply all
+    (λ room actor end clean. export_sends old.labels (length old.exports) id actor end clean) acts
+acts_send old new (RestartDesk desk) reply all acts =
+    desk_sends old new desk _ reply all
+    (λ room actor end clean. restarts_leave (Sends old.labels) (closed old.labels) _ actor end) acts
+
+-- a fair event of what is there does no harm where all is clean
+harmless : {A : Type 0} (old : Relay) (event : Event A) (desk : ℕ) → AreAllClean old → IsFairEvent old event →
+    IsNamed old event → IsHarmless old event desk
+harmless old (Print printer document size scheme stop) own all fair named = tt
+harmless old (Give printer receiver range stop) own all fair named = tt
+harmless old (Take printer number stop) own all fair named = tt
+harmless old (RestartPrinter printer) own all fair named = tt
+harmless old (Scan desk number flips stop) own all fair named = λ same. fair named
+harmless old (Forget desk id stop) own all fair named = tt
+harmless old (Import desk number stop) own all fair named = λ same export there. all.exports number export there
+harmless old (Ask desk id) own all fair named = tt
+harmless old (Export desk id) own all fair named = tt
+harmless old (RestartDesk desk) own all fair named = tt
+
+pub all_stay_clean : {A : Type 0} (old new : Relay) (event : Event A) (reply : Reply A) → ArePrinted old.labels →
+    AreAllClean old → IsFairEvent old event → Step old event reply new → AreAllClean new
+all_stay_clean {A} old new event reply printed all fair (inl acts) = record {
+  desks = λ desk. each_step_keeps_clean A old new event reply desk printed (all.desks desk)
+      (harmless old event desk all fair acts.0) (inl acts);
+  exports = acts_send old new event reply all acts.1;
+}
+all_stay_clean old new event reply printed all fair (inr none) =
+    subst (λ (r : Relay). AreAllClean r) (sym none.2) all
+
+-- ---- scans that did not save
+
+to_all : (labels : List Label) (actor : Actor Documents) → IsCleanActor labels actor → HasAll (HaveLeft labels) actor
+to_all labels (Running held) h = h
+to_all labels (Failed shown stored) h = h
+to_all labels (Down stored) h = h
+
+of_all : (labels : List Label) (actor : Actor Documents) → HasAll (HaveLeft labels) actor → IsCleanActor labels actor
+of_all labels (Running held) h = h
+of_all labels (Failed shown stored) h = h
+of_all labels (Down stored) h = h
+
+-- what a scan that was answered so comes to is not kept
+unsaved_course : {A : Type 0} (Q : Documents → Type 0) (desk number : ℕ) (flips : List (ℕ × ℕ)) (stop : Stop)
+    (reply : Reply A) (held : Documents) (k : Result (Opened A) LabelFault) (room : ℕ) (course : Course A Documents) →
+    ¬ (may_save (Scan desk number flips stop) reply ≡ true) → MayBe (scan_course room held k) course →
+    reply ≡ (ends scan_faults stop course (Running held)).reply → CourseHas Q stop course
+unsaved_course {A} Q desk number flips stop reply held k room course unsaved (inr lack) is =
+    subst (λ (c : Course A Documents). CourseHas Q stop c) (sym lack.0) tt
+unsaved_course {A} Q desk number flips stop reply held k room course unsaved (inl same) is =
+    subst (λ (c : Course A Documents). (reply ≡ (ends scan_faults stop c (Running held)).reply) → CourseHas Q stop c)
+    (sym same) (by_read k) is
+  where
+    none : (next : Documents) (page : PageView) (kind : Kind) →
+        (reply ≡ (ends scan_faults stop (Saves next nothing (Scanned (accepted page kind))) (Running held)).reply) →
+        Stores stop → Q next
+    none next page kind told stores =
+        absurd (unsaved (ap (λ (r : Reply A). may_save (Scan desk number flips stop) r) told
+        ∙ saves_may (Scan desk number flips stop) scan_faults stop next nothing (Scanned (accepted page kind))
+        (Running held) refl refl refl stores))
+
+    by_answer_of : (page : PageView) (a : Answer) →
+        (reply ≡ (ends scan_faults stop (by_answer held page a) (Running held)).reply) →
+        CourseHas {A = A} Q stop (by_answer held page a)
+    by_answer_of page (Ok kinds.Again) told = tt
+    by_answer_of page (Ok kinds.New) told = none _ page kinds.New told
+    by_answer_of page (Ok kinds.Complete) told = none _ page kinds.Complete told
+    by_answer_of page (Err fault) told = tt
+
+    by_read : (k : Result (Opened A) LabelFault) →
+        (reply ≡ (ends scan_faults stop (scan_course room held k) (Running held)).reply) →
+        CourseHas {A = A} Q stop (scan_course room held k)
+    by_read (Ok opened) told = by_answer_of opened.page (answer room held opened.page) told
+    by_read (Err label_fault.Memory) told = tt
+    by_read (Err fault) told = tt
+
+unsaved_clean : {A : Type 0} (old new : Relay) (desk number : ℕ) (flips : List (ℕ × ℕ)) (stop : Stop) (reply : Reply A) →
+    AreAllClean old → ¬ (may_save (Scan desk number flips stop) reply ≡ true) →
+    Acts old (Scan desk number flips stop) reply new → AreAllClean new
+unsaved_clean {A} old new desk number flips stop reply all unsaved acts = record {
+  desks = λ own. subst (λ (r : Relay). IsClean r own) (sym g.new_is) (λ d is. elim (got_set old.desks desk own _ d is) [
+    | inl here ↦ subst (λ (x : Desk). IsCleanActor (old.labels ++ g.end.goods.labels) x.actor) here.1
+        (actor_more old.labels g.end.goods.labels g.end.actor (of_all old.labels g.end.actor kept))
+    | inr there ↦ actor_more old.labels g.end.goods.labels d.actor (all.desks own d there)
+  ]);
+  exports = acts_send old new (Scan desk number flips stop) reply all acts;
+}
+  where
+    g : DeskGoes old desk
+        (λ room. MayLackFirst (Calls scan_faults stop (ScanComes room (flipped acts.0.grid flips)))) reply new
+    g = acts.2
+
+    kept : HasAll (HaveLeft old.labels) g.end.actor
+    kept =
+        let before = to_all old.labels g.desk.actor (all.desks desk g.desk g.was) in
+        may_lack_has (HaveLeft old.labels) (Calls scan_faults stop (ScanComes g.desk.room (flipped acts.0.grid flips)))
+        g.desk.actor g.end before
+        (λ called. calls_have (HaveLeft old.labels) (HaveLeft old.labels) scan_faults stop
+        (ScanComes g.desk.room (flipped acts.0.grid flips)) g.desk.actor g.end before (λ held h. h)
+        (λ held course h comes is. unsaved_course (HaveLeft old.labels) desk number flips stop reply held comes.0
+        g.desk.room course unsaved comes.2 (g.reply_is ∙ ap (λ (e : Ending A Documents). e.reply) is)) called) g.acts
+
+-- all stays clean where a scan that may have saved is fair
+pub all_stay_so : {A : Type 0} (old new : Relay) (event : Event A) (reply : Reply A) → ArePrinted old.labels →
+    AreAllClean old → (may_save event reply ≡ true → IsFairEvent old event) → Step old event reply new →
+    AreAllClean new
+all_stay_so {A} old new event reply printed all fair (inr none) =
+    subst (λ (r : Relay). AreAllClean r) (sym none.2) all
+all_stay_so {A} old new (Scan desk number flips stop) reply printed all fair (inl acts) =
+    elim (decided (may_save (Scan desk number flips stop) reply)) [
+      | inl may ↦ all_stay_clean old new (Scan desk number flips stop) reply printed all (fair may) (inl acts)
+      | inr none ↦ unsaved_clean old new desk number flips stop reply all (λ may. true_false _ may none) acts.1
+    ]
+all_stay_so old new (Print printer document size scheme stop) reply printed all fair (inl acts) =
+    all_stay_clean old new (Print printer document size scheme stop) reply printed all tt (inl acts)
+all_stay_so old new (Give printer receiver range stop) reply printed all fair (inl acts) =
+    all_stay_clean old new (Give printer receiver range stop) reply printed all tt (inl acts)
+all_stay_so old new (Take printer number stop) reply printed all fair (inl acts) =
+    all_stay_clean old new (Take printer number stop) reply printed all tt (inl acts)
+all_stay_so old new (RestartPrinter printer) reply printed all fair (inl acts) =
+    all_stay_clean old new (RestartPrinter printer) reply printed all tt (inl acts)
+all_stay_so old new (Forget desk id stop) reply printed all fair (inl acts) =
+    all_stay_clean old new (Forget desk id stop) reply printed all tt (inl acts)
+all_stay_so old new (Import desk number stop) reply printed all fair (inl acts) =
+    all_stay_clean old new (Import desk number stop) reply printed all tt (inl acts)
+all_stay_so old new (Ask desk id) reply printed all fair (inl acts) =
+    all_stay_clean old new (Ask desk id) reply printed all tt (inl acts)
+all_stay_so old new (Export desk id) reply printed all fair (inl acts) =
+    all_stay_clean old new (Export desk id) reply printed all tt (inl acts)
+all_stay_so old new (RestartDesk desk) reply printed all fair (inl acts) =
+    all_stay_clean old new (RestartDesk desk) reply printed all tt (inl acts)

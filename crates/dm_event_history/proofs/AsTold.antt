@@ -1,0 +1,598 @@
+-- The printers and desks of a run are down, and have failed, as its replies tell.
+use Rattle.std.proofs.Common.{◌≡◌, ◌⊎◌, ◌+◌, ◌-◌, inl, inr, ℕ, zero, suc, Bool, true, false, ◌==◌, ◌&&◌, nat_lt, if◌then◌else◌, length, Option, Some, None, Ok, Err, Result, List, [], ◌∷◌, slice_get, slice_set, refl, sym, ap, subst, ◌∙◌, eq-eqb}
+use Rattle.std.specs.Prelude.{is_some}
+use Rattle.std.specs.List.{list_all}
+use Rattle.std.specs.Str.{bytes_eq}
+use Rattle.std.specs.FinMap as finite
+use Rattle.dm_finder_frame.specs.Grids.{GridView, flipped}
+use Rattle.dm_check_blocks.specs.declared.size.Size.{Size}
+use Rattle.dm_encodation.specs.declared.scheme.Scheme.{Scheme}
+use Rattle.dm_append_label.specs.Pages.{PageView}
+use Rattle.dm_append_label.specs.declared.opening.Opened.{Opened}
+use Rattle.dm_append_label.specs.declared.fault.LabelFault.{LabelFault}
+use Rattle.dm_append_label.specs.declared.fault.LabelFault.TheVariants as label_fault
+use Rattle.dm_store.specs.declared.fuse.Kept.TheVariants.{Old, New}
+use Rattle.dm_print_ledger.specs.declared.range.Range.{Range}
+use Rattle.dm_print_ledger.specs.Creating.{opening}
+use Rattle.dm_print_ledger.specs.Views.{LedgerView, TicketView}
+use Rattle.dm_print_ledger.specs.declared.fault.PrintFault.TheVariants as print_fault
+use Rattle.dm_print_ledger.specs.declared.fault.GiveFault.TheVariants as give_fault
+use Rattle.dm_print_ledger.specs.declared.fault.TakeFault.TheVariants as take_fault
+use Rattle.dm_print_ledger.specs.declared.fault.OpenFault.TheVariants as open_fault
+use Rattle.dm_assembly_desk.specs.declared.fault.ScanFault.{ScanFault}
+use Rattle.dm_assembly_desk.specs.declared.fault.ScanFault.TheVariants as scan_fault
+use Rattle.dm_assembly_desk.specs.declared.fault.AskFault.{AskFault}
+use Rattle.dm_assembly_desk.specs.declared.fault.ImportFault.{ImportFault}
+use Rattle.dm_assembly_desk.specs.declared.fault.ImportFault.TheVariants as import_fault
+use Rattle.dm_assembly_desk.specs.declared.fault.DeskFault.TheVariants as desk_fault
+use Rattle.dm_assembly_desk.specs.declared.reply.Kind.TheVariants as kinds
+use Rattle.dm_assembly_desk.specs.Pages.{Pages, page}
+use Rattle.dm_assembly_desk.specs.Documents.{Documents}
+use Rattle.dm_assembly_desk.specs.Answers.{Answer, answer, answer_at, answer_at_page}
+use Rattle.dm_assembly_desk.specs.Importing.{ImportAnswer, answer_by, import_answer, kind_of}
+use Rattle.dm_assembly_desk.specs.Merging.{added_mask, agree, union_of}
+use Rattle.dm_event_history.specs.declared.event.Event.{Event}
+use Rattle.dm_event_history.specs.declared.event.Event.TheVariants.{Print, Scan, RestartPrinter, RestartDesk, Ask, Forget, Give, Take, Export, Import}
+use Rattle.dm_event_history.specs.declared.reply.Reply.{Reply}
+use Rattle.dm_event_history.specs.declared.reply.Reply.TheVariants as replies
+use Rattle.dm_event_history.specs.declared.stop.Stop.{Stop}
+use Rattle.dm_event_history.specs.declared.stop.Stop.TheVariants as stops
+use Rattle.dm_event_history.specs.declared.stop.Stop.TheVariants.{BeforeSave, InSave, SaveFault, AfterLabels}
+use Rattle.dm_event_history.specs.WhoActs.{DeskAt, Named, PrinterAt, actor_of, is_same}
+use Rattle.dm_event_history.specs.Actors.{Actor, Running, Failed, Down}
+use Rattle.dm_event_history.specs.Relay as relays
+use Rattle.dm_event_history.specs.Relay.{Desk, Goods, Relay, empty_desk, fresh_from, start}
+use Rattle.dm_event_history.specs.Calls.{Answers, Calls, Course, Ending, Faults, LacksMemory, Looks, MayLackFirst, Reaches, Restarts, Saves, ends}
+use Rattle.dm_event_history.specs.PrinterCalls.{GiveComes, PrintComes, TakeComes, give_faults, print_faults, take_faults}
+use Rattle.dm_event_history.specs.DeskCalls.{AskTells, ExportTells, ExportsHeld, ForgetComes, ImportComes, MayBe, ScanComes, ask_reply, by_answer, by_import, forget_course, forget_faults, import_faults, scan_course, scan_faults}
+use Rattle.dm_event_history.specs.Steps.{Acts, DeskGoes, PrinterGoes, Step}
+use Rattle.dm_event_history.specs.Runs.{Moment}
+use Rattle.dm_event_history.specs.Told.{AreAsTold, EachRunIsAsTold, IsAsTold, down_after, failed_after, is_down, is_failed, tells_failed}
+use Rattle.dm_event_history.proofs.Deciding.{if_not, if_same, if_so, other_number, true_false}
+use Rattle.dm_event_history.proofs.Beginning.{empty_there}
+use Rattle.dm_event_history.proofs.Reaching.{reaches}
+use Rattle.dm_event_history.proofs.Between.{set_at}
+
+-- ---- replies of calls
+
+-- the reply tells neither of a stop nor of a save that failed, now or before
+pub record IsPlain {A : Type 0} (reply : Reply A) : Type 0 where
+  pub up : (b : Bool) → down_after reply b ≡ false
+  pub same : (b : Bool) → failed_after reply b ≡ b
+  pub unfailed : tells_failed reply ≡ false
+
+pub record ArePlain {A : Type 0} (faults : Faults A) : Type 0 where
+  pub failed_up : (b : Bool) → down_after faults.failed b ≡ false
+  pub failed_same : (b : Bool) → failed_after faults.failed b ≡ b
+  pub memory : IsPlain faults.memory
+  pub save_up : (b : Bool) → down_after faults.save b ≡ false
+  pub save_fails : (b : Bool) → failed_after faults.save b ≡ true
+  pub save_unfailed : tells_failed faults.save ≡ false
+
+abbrev pub IsPlainCourse : {A C : Type 0} → Course A C → Type 0
+IsPlainCourse (Saves next goods reply) = IsPlain reply
+IsPlainCourse (Answers reply) = IsPlain reply
+IsPlainCourse LacksMemory = Unit {0}
+
+-- ---- how a call ends
+
+told_ends : {A C : Type 0} (faults : Faults A) (stop : Stop) (course : Course A C) (held : C) → ArePlain faults →
+    Reaches stop (IsPlainCourse course) →
+    (let e = ends faults stop course (Running held) in
+    IsAsTold (down_after e.reply false) (failed_after e.reply false) e.actor)
+told_ends faults BeforeSave course held fine plain = refl
+told_ends faults (InSave Old) course held fine plain = refl
+told_ends faults stops.None (Saves next goods reply) held fine plain = (plain.up false, plain.same false)
+told_ends faults (SaveFault Old) (Saves next goods reply) held fine plain = (fine.save_up false, fine.save_fails false)
+told_ends faults (SaveFault New) (Saves next goods reply) held fine plain = (fine.save_up false, fine.save_fails false)
+told_ends faults (InSave New) (Saves next goods reply) held fine plain = refl
+told_ends faults (AfterLabels most) (Saves next goods reply) held fine plain = refl
+told_ends faults stops.None (Answers reply) held fine plain = (plain.up false, plain.same false)
+told_ends faults (SaveFault kept) (Answers reply) held fine plain = (plain.up false, plain.same false)
+told_ends faults (InSave New) (Answers reply) held fine plain = refl
+told_ends faults (AfterLabels most) (Answers reply) held fine plain = refl
+told_ends faults stops.None LacksMemory held fine plain = (fine.memory.up false, fine.memory.same false)
+told_ends faults (SaveFault kept) LacksMemory held fine plain = (fine.memory.up false, fine.memory.same false)
+told_ends faults (InSave New) LacksMemory held fine plain = (refl, refl)
+told_ends faults (AfterLabels most) LacksMemory held fine plain = (refl, refl)
+
+failed_ends : {A C : Type 0} (faults : Faults A) (stop : Stop) (shown stored : C) → ArePlain faults →
+    (let e = ends faults stop (Answers faults.failed) (Failed shown stored) in
+    IsAsTold (down_after e.reply false) (failed_after e.reply true) e.actor)
+failed_ends faults BeforeSave shown stored fine = refl
+failed_ends faults (InSave Old) shown stored fine = refl
+failed_ends faults stops.None shown stored fine = (fine.failed_up false, fine.failed_same true)
+failed_ends faults (SaveFault kept) shown stored fine = (fine.failed_up false, fine.failed_same true)
+failed_ends faults (InSave New) shown stored fine = refl
+failed_ends faults (AfterLabels most) shown stored fine = refl
+
+-- the one that acts is as it tells, if it was
+abbrev pub Tells : {A C : Type 0} → (Actor C → Ending A C → Type 0) → Type 0
+Tells {A} {C} Acts = (actor : Actor C) (end : Ending A C) (down failed : Bool) → IsAsTold down failed actor →
+    Acts actor end → IsAsTold (down_after end.reply down) (failed_after end.reply failed) end.actor
+
+told_of : {A C : Type 0} (down failed : Bool) (end known : Ending A C) → end ≡ known →
+    IsAsTold (down_after known.reply down) (failed_after known.reply failed) known.actor →
+    IsAsTold (down_after end.reply down) (failed_after end.reply failed) end.actor
+told_of {A} {C} down failed end known is t =
+    subst (λ (e : Ending A C). IsAsTold (down_after e.reply down) (failed_after e.reply failed) e.actor) (sym is) t
+
+by_flags : {A C : Type 0} (down failed d f : Bool) (end : Ending A C) → down ≡ d → failed ≡ f →
+    IsAsTold (down_after end.reply d) (failed_after end.reply f) end.actor →
+    IsAsTold (down_after end.reply down) (failed_after end.reply failed) end.actor
+by_flags {A} {C} down failed d f end x y t =
+    subst (λ (b : Bool). IsAsTold (down_after end.reply b) (failed_after end.reply failed) end.actor) (sym x)
+    (subst (λ (b : Bool). IsAsTold (down_after end.reply d) (failed_after end.reply b) end.actor) (sym y) t)
+
+pub calls_tell : {A C : Type 0} (faults : Faults A) (stop : Stop) (Comes : C → Course A C → Type 0) → ArePlain faults →
+    ((held : C) (course : Course A C) → Comes held course → IsPlainCourse course) → Tells (Calls faults stop Comes)
+calls_tell faults stop Comes fine each (Running held) end down failed t acts =
+    by_flags down failed false false end t.0 t.1
+    (told_of false false end _ acts.2
+    (told_ends faults stop acts.0 held fine (reaches stop (each held acts.0) acts.1)))
+calls_tell faults stop Comes fine each (Failed shown stored) end down failed t acts =
+    by_flags down failed false true end t.0 t.1
+    (told_of false true end _ acts (failed_ends faults stop shown stored fine))
+calls_tell faults stop Comes fine each (Down stored) end down failed t acts = told_of down failed end _ acts t
+
+pub may_lack_tells : {A C : Type 0} (Acts : Actor C → Ending A C → Type 0) → Tells Acts → Tells (MayLackFirst Acts)
+may_lack_tells Acts each (Running held) end down failed t (inl lack) = told_of down failed end _ lack t
+may_lack_tells Acts each (Running held) end down failed t (inr acts) = each (Running held) end down failed t acts
+may_lack_tells Acts each (Failed shown stored) end down failed t (inl lack) = told_of down failed end _ lack t
+may_lack_tells Acts each (Failed shown stored) end down failed t (inr acts) =
+    each (Failed shown stored) end down failed t acts
+may_lack_tells Acts each (Down stored) end down failed t acts = each (Down stored) end down failed t acts
+
+pub restarts_tell : {A C : Type 0} (refused : Reply A) → ((b : Bool) → down_after refused b ≡ true) →
+    Tells (Restarts {A = A} {C = C} refused)
+restarts_tell refused down_so actor end down failed t (inl is) = told_of down failed end _ is (refl, refl)
+restarts_tell refused down_so actor end down failed t (inr is) = told_of down failed end _ is (down_so down)
+
+pub looks_tell : {A C : Type 0} (Said : C → Reply A → Goods → Type 0) →
+    ((held : C) (reply : Reply A) (goods : Goods) → Said held reply goods → IsPlain reply) → Tells (Looks Said)
+looks_tell {A} {C} Said each (Running held) end down failed t acts =
+    let p = each held end.reply end.goods acts.0 in
+    subst (λ (a : Actor C). IsAsTold (down_after end.reply down) (failed_after end.reply failed) a) (sym acts.1)
+    (p.up down, p.same failed ∙ t.1)
+looks_tell {A} {C} Said each (Failed shown stored) end down failed t acts =
+    let p = each shown end.reply end.goods acts.0 in
+    subst (λ (a : Actor C). IsAsTold (down_after end.reply down) (failed_after end.reply failed) a) (sym acts.1)
+    (p.up down, p.same failed ∙ t.1)
+looks_tell Said each (Down stored) end down failed t acts = told_of down failed end _ acts t
+
+-- ---- what each call comes to
+
+as_plain : {A : Type 0} (reply known : Reply A) → reply ≡ known → IsPlain known → IsPlain reply
+as_plain {A} reply known is p = subst (λ (r : Reply A). IsPlain r) (sym is) p
+
+pub print_plain : {A : Type 0} (before : ℕ) (document : List ℕ) (size : Size) (scheme : Scheme) (held : LedgerView)
+    (course : Course A LedgerView) → PrintComes before document size scheme held course → IsPlainCourse course
+print_plain before document size scheme held (Saves next goods reply) comes =
+    as_plain reply _ comes.reply_is (record { up = λ b. refl; same = λ b. refl; unfailed = refl })
+print_plain before document size scheme held (Answers reply) (print_fault.Failed, cannot, is) =
+    absurd (cc (cannot))
+print_plain before document size scheme held (Answers reply) (print_fault.TooLong, cannot, is) =
+    as_plain reply _ is (record { up = λ b. refl; same = λ b. refl; unfailed = refl })
+print_plain before document size scheme held (Answers reply) (print_fault.Exhausted, cannot, is) =
+    as_plain reply _ is (record { up = λ b. refl; same = λ b. refl; unfailed = refl })
+print_plain before document size scheme held (Answers reply) (print_fault.Memory, cannot, is) = absurd cannot
+print_plain before document size scheme held (Answers reply) (print_fault.Save, cannot, is) = absurd cannot
+print_plain before document size scheme held LacksMemory comes = tt
+
+pub give_plain : {A : Type 0} (before receiver : ℕ) (range : Range) (held : LedgerView) (course : Course A LedgerView) →
+    GiveComes before receiver range held course → IsPlainCourse course
+give_plain before receiver range held (Saves next goods reply) comes =
+    as_plain reply _ comes.reply_is (record { up = λ b. refl; same = λ b. refl; unfailed = refl })
+give_plain before receiver range held (Answers reply) (give_fault.Failed, cannot, is) = absurd (cc (cannot))
+give_plain before receiver range held (Answers reply) (give_fault.Range, cannot, is) =
+    as_plain reply _ is (record { up = λ b. refl; same = λ b. refl; unfailed = refl })
+give_plain before receiver range held (Answers reply) (give_fault.Receiver, cannot, is) =
+    as_plain reply _ is (record { up = λ b. refl; same = λ b. refl; unfailed = refl })
+give_plain before receiver range held (Answers reply) (give_fault.NotFree, cannot, is) =
+    as_plain reply _ is (record { up = λ b. refl; same = λ b. refl; unfailed = refl })
+give_plain before receiver range held (Answers reply) (give_fault.Serials, cannot, is) =
+    as_plain reply _ is (record { up = λ b. refl; same = λ b. refl; unfailed = refl })
+give_plain before receiver range held (Answers reply) (give_fault.Ranges, cannot, is) =
+    as_plain reply _ is (record { up = λ b. refl; same = λ b. refl; unfailed = refl })
+give_plain before receiver range held (Answers reply) (give_fault.Memory, cannot, is) = absurd cannot
+give_plain before receiver range held (Answers reply) (give_fault.Save, cannot, is) = absurd cannot
+give_plain before receiver range held LacksMemory comes = tt
+
+pub take_plain : {A : Type 0} (number : ℕ) (ticket : TicketView) (held : LedgerView) (course : Course A LedgerView) →
+    TakeComes number ticket held course → IsPlainCourse course
+take_plain number ticket held (Saves next goods reply) comes =
+    as_plain reply _ comes.reply_is (record { up = λ b. refl; same = λ b. refl; unfailed = refl })
+take_plain number ticket held (Answers reply) (take_fault.Failed, cannot, is) = absurd (cc (cannot))
+take_plain number ticket held (Answers reply) (take_fault.Receiver, cannot, is) =
+    as_plain reply _ is (record { up = λ b. refl; same = λ b. refl; unfailed = refl })
+take_plain number ticket held (Answers reply) (take_fault.Old, cannot, is) =
+    as_plain reply _ is (record { up = λ b. refl; same = λ b. refl; unfailed = refl })
+take_plain number ticket held (Answers reply) (take_fault.Overlap, cannot, is) =
+    as_plain reply _ is (record { up = λ b. refl; same = λ b. refl; unfailed = refl })
+take_plain number ticket held (Answers reply) (take_fault.Ranges, cannot, is) =
+    as_plain reply _ is (record { up = λ b. refl; same = λ b. refl; unfailed = refl })
+take_plain number ticket held (Answers reply) (take_fault.Givers, cannot, is) =
+    as_plain reply _ is (record { up = λ b. refl; same = λ b. refl; unfailed = refl })
+take_plain number ticket held (Answers reply) (take_fault.Memory, cannot, is) = absurd cannot
+take_plain number ticket held (Answers reply) (take_fault.Save, cannot, is) = absurd cannot
+take_plain number ticket held LacksMemory comes = tt
+
+-- a page is refused for what is held alone
+pub answer_plain : (room : ℕ) (held : Documents) (p : PageView) (fault : ScanFault) → answer room held p ≡ Err fault →
+    (fault ≡ scan_fault.Conflict) ⊎ (fault ≡ scan_fault.Full)
+answer_plain room held p fault is = by_held (finite.get held p.id) is
+  where
+    conflict_is : ◌≡◌ {A = Answer} (Err scan_fault.Conflict) (Err fault) → fault ≡ scan_fault.Conflict
+    conflict_is e = cc (e)
+
+    by_kind : (b : Bool) → ◌≡◌ {A = Answer} (Ok (if b then kinds.Complete else kinds.New)) (Err fault) →
+        (fault ≡ scan_fault.Conflict) ⊎ (fault ≡ scan_fault.Full)
+    by_kind true e = cc (e)
+    by_kind false e = cc (e)
+
+    by_bytes : (b : Bool) → ◌≡◌ {A = Answer} (if b then Ok kinds.Again else Err scan_fault.Conflict) (Err fault) →
+        (fault ≡ scan_fault.Conflict) ⊎ (fault ≡ scan_fault.Full)
+    by_bytes true e = cc (e)
+    by_bytes false e = inl (conflict_is e)
+
+    by_page : (pages : Pages) (o : Option (List ℕ)) → answer_at_page pages p o ≡ Err fault →
+        (fault ≡ scan_fault.Conflict) ⊎ (fault ≡ scan_fault.Full)
+    by_page pages None e = by_kind (list_all is_some (slice_set pages (p.m - 1) (Some p.bytes))) e
+    by_page pages (Some bytes) e = by_bytes (bytes_eq bytes p.bytes) e
+
+    by_count : (pages : Pages) (b : Bool) →
+        ◌≡◌ {A = Answer} (if b then answer_at_page pages p (page pages p.m) else Err scan_fault.Conflict) (Err fault) →
+        (fault ≡ scan_fault.Conflict) ⊎ (fault ≡ scan_fault.Full)
+    by_count pages true e = by_page pages (page pages p.m) e
+    by_count pages false e = inl (conflict_is e)
+
+    by_room : (b : Bool) → ◌≡◌ {A = Answer} (if b then Ok kinds.New else Err scan_fault.Full) (Err fault) →
+        (fault ≡ scan_fault.Conflict) ⊎ (fault ≡ scan_fault.Full)
+    by_room true e = cc (e)
+    by_room false e = inr (full_is e)
+      where
+        full_is : ◌≡◌ {A = Answer} (Err scan_fault.Full) (Err fault) → fault ≡ scan_fault.Full
+        full_is e = cc (e)
+
+    by_held : (o : Option Pages) → answer_at room (finite.len held) p o ≡ Err fault →
+        (fault ≡ scan_fault.Conflict) ⊎ (fault ≡ scan_fault.Full)
+    by_held None e = by_room (nat_lt (finite.len held) room) e
+    by_held (Some pages) e = by_count pages (length pages == p.n) e
+
+fault_plain : {A : Type 0} (fault : ScanFault) → (fault ≡ scan_fault.Conflict) ⊎ (fault ≡ scan_fault.Full) →
+    IsPlain {A = A} (replies.ScanRefused fault)
+fault_plain {A} fault (inl is) =
+    subst (λ (f : ScanFault). IsPlain {A = A} (replies.ScanRefused f)) (sym is) (record { up = λ b. refl; same = λ b. refl; unfailed = refl })
+fault_plain {A} fault (inr is) =
+    subst (λ (f : ScanFault). IsPlain {A = A} (replies.ScanRefused f)) (sym is) (record { up = λ b. refl; same = λ b. refl; unfailed = refl })
+
+may_be_plain : {A : Type 0} (wanted course : Course A Documents) → IsPlainCourse wanted → MayBe wanted course →
+    IsPlainCourse course
+may_be_plain {A} wanted course p (inl is) = subst (λ (c : Course A Documents). IsPlainCourse c) (sym is) p
+may_be_plain {A} wanted course p (inr lack) = subst (λ (c : Course A Documents). IsPlainCourse c) (sym lack.0) tt
+
+pub scan_plain : {A : Type 0} (room : ℕ) (grid : GridView) (held : Documents) (course : Course A Documents) →
+    ScanComes room grid held course → IsPlainCourse course
+scan_plain {A} room grid held course comes =
+    may_be_plain (scan_course room held comes.0) course (by_read comes.0) comes.2
+  where
+    by_answer_of : (p : PageView) (a : Answer) → answer room held p ≡ a → IsPlainCourse {A = A} (by_answer held p a)
+    by_answer_of p (Ok kinds.Again) is = record { up = λ b. refl; same = λ b. refl; unfailed = refl }
+    by_answer_of p (Ok kinds.New) is = record { up = λ b. refl; same = λ b. refl; unfailed = refl }
+    by_answer_of p (Ok kinds.Complete) is = record { up = λ b. refl; same = λ b. refl; unfailed = refl }
+    by_answer_of p (Err fault) is = fault_plain fault (answer_plain room held p fault is)
+
+    by_read : (read : Result (Opened A) LabelFault) → IsPlainCourse {A = A} (scan_course room held read)
+    by_read (Ok opened) = by_answer_of opened.page (answer room held opened.page) refl
+    by_read (Err label_fault.Memory) = tt
+    by_read (Err fault) = record { up = λ b. refl; same = λ b. refl; unfailed = refl }
+
+pub forget_plain : {A : Type 0} (id : ℕ) (held : Documents) (course : Course A Documents) → ForgetComes id held course →
+    IsPlainCourse course
+forget_plain {A} id held course comes =
+    may_be_plain (forget_course held id (finite.get held id)) course (by_held (finite.get held id)) comes
+  where
+    by_held : (o : Option Pages) → IsPlainCourse {A = A} (forget_course held id o)
+    by_held None = record { up = λ b. refl; same = λ b. refl; unfailed = refl }
+    by_held (Some pages) = record { up = λ b. refl; same = λ b. refl; unfailed = refl }
+
+pub import_answer_plain : (room : ℕ) (held : Documents) (id : ℕ) (given : Pages) (fault : ImportFault) →
+    import_answer room held id given ≡ Err fault →
+    (fault ≡ import_fault.Conflict) ⊎ (fault ≡ import_fault.Full)
+import_answer_plain room held id given fault is = by_held (finite.get held id) is
+  where
+    by_kind : (b : Bool) → ◌≡◌ {A = ImportAnswer} (Ok (if b then kinds.Complete else kinds.New)) (Err fault) →
+        (fault ≡ import_fault.Conflict) ⊎ (fault ≡ import_fault.Full)
+    by_kind true e = cc (e)
+    by_kind false e = cc (e)
+
+    by_room : (b : Bool) → ◌≡◌ {A = ImportAnswer} (if b then Ok (kind_of given) else Err import_fault.Full) (Err fault) →
+        (fault ≡ import_fault.Conflict) ⊎ (fault ≡ import_fault.Full)
+    by_room true e = by_kind (list_all is_some given) e
+    by_room false e = inr (full_is e)
+      where
+        full_is : ◌≡◌ {A = ImportAnswer} (Err import_fault.Full) (Err fault) → fault ≡ import_fault.Full
+        full_is e = cc (e)
+
+    by_added : (own : Pages) (b : Bool) →
+        ◌≡◌ {A = ImportAnswer} (if b then Ok kinds.Again else Ok (kind_of (union_of own given))) (Err fault) →
+        (fault ≡ import_fault.Conflict) ⊎ (fault ≡ import_fault.Full)
+    by_added own true e = cc (e)
+    by_added own false e = by_kind (list_all is_some (union_of own given)) e
+
+    by_agreeing : (own : Pages) (b : Bool) →
+        ◌≡◌ {A = ImportAnswer} (if b
+        then (if added_mask own given == 0 then Ok kinds.Again else Ok (kind_of (union_of own given)))
+        else Err import_fault.Conflict) (Err fault) → (fault ≡ import_fault.Conflict) ⊎ (fault ≡ import_fault.Full)
+    by_agreeing own true e = by_added own (added_mask own given == 0) e
+    by_agreeing own false e = inl (conflict_is e)
+      where
+        conflict_is : ◌≡◌ {A = ImportAnswer} (Err import_fault.Conflict) (Err fault) → fault ≡ import_fault.Conflict
+        conflict_is e = cc (e)
+
+    by_held : (o : Option Pages) → answer_by room (finite.len held) given o ≡ Err fault →
+        (fault ≡ import_fault.Conflict) ⊎ (fault ≡ import_fault.Full)
+    by_held None e = by_room (nat_lt (finite.len held) room) e
+    by_held (Some own) e = by_agreeing own (length own == length given && agree own given) e
+
+pub import_plain : {A : Type 0} (room : ℕ) (export : relays.Export) (held : Documents) (course : Course A Documents) →
+    ImportComes room export held course → IsPlainCourse course
+import_plain {A} room export held course comes =
+    may_be_plain (by_import held export (import_answer room held export.id export.pages)) course
+    (by_answer_of (import_answer room held export.id export.pages) refl) comes
+  where
+    by_fault : (fault : ImportFault) → (fault ≡ import_fault.Conflict) ⊎ (fault ≡ import_fault.Full) →
+        IsPlain {A = A} (replies.ImportRefused fault)
+    by_fault fault (inl is) = subst (λ (f : ImportFault). IsPlain {A = A} (replies.ImportRefused f)) (sym is)
+        (record { up = λ b. refl; same = λ b. refl; unfailed = refl })
+    by_fault fault (inr is) = subst (λ (f : ImportFault). IsPlain {A = A} (replies.ImportRefused f)) (sym is)
+        (record { up = λ b. refl; same = λ b. refl; unfailed = refl })
+
+    by_answer_of : (a : ImportAnswer) → import_answer room held export.id export.pages ≡ a →
+        IsPlainCourse {A = A} (by_import held export a)
+    by_answer_of (Ok kinds.Again) is = record { up = λ b. refl; same = λ b. refl; unfailed = refl }
+    by_answer_of (Ok kinds.New) is = record { up = λ b. refl; same = λ b. refl; unfailed = refl }
+    by_answer_of (Ok kinds.Complete) is = record { up = λ b. refl; same = λ b. refl; unfailed = refl }
+    by_answer_of (Err fault) is = by_fault fault (import_answer_plain room held export.id export.pages fault is)
+
+-- ---- looks
+
+pub ask_plain : {A : Type 0} (id : ℕ) (held : Documents) (reply : Reply A) (goods : Goods) → AskTells id held reply goods →
+    IsPlain reply
+ask_plain {A} id held reply goods tells = as_plain reply _ tells.2 (by_answer_of tells.0)
+  where
+    by_answer_of : (a : Result (List ℕ) AskFault) → IsPlain {A = A} (ask_reply a)
+    by_answer_of (Ok bytes) = record { up = λ b. refl; same = λ b. refl; unfailed = refl }
+    by_answer_of (Err fault) = record { up = λ b. refl; same = λ b. refl; unfailed = refl }
+
+pub export_plain : {A : Type 0} (before id : ℕ) (held : Documents) (reply : Reply A) (goods : Goods) →
+    ExportTells before id held reply goods → IsPlain reply
+export_plain {A} before id held reply goods tells = by_held (finite.get held id) tells
+  where
+    by_held : (o : Option Pages) → ExportsHeld before id o reply goods → IsPlain reply
+    by_held None t = as_plain reply _ t.0 (record { up = λ b. refl; same = λ b. refl; unfailed = refl })
+    by_held (Some pages) (inl t) = as_plain reply _ t.0 (record { up = λ b. refl; same = λ b. refl; unfailed = refl })
+    by_held (Some pages) (inr t) = as_plain reply _ t.0 (record { up = λ b. refl; same = λ b. refl; unfailed = refl })
+
+-- ---- the faults of each call
+
+pub fine_print : {A : Type 0} → ArePlain {A = A} print_faults
+fine_print = record {
+  failed_up = λ b. refl;
+  failed_same = λ b. refl;
+  memory = record { up = λ b. refl; same = λ b. refl; unfailed = refl };
+  save_up = λ b. refl;
+  save_fails = λ b. refl;
+  save_unfailed = refl;
+}
+
+pub fine_give : {A : Type 0} → ArePlain {A = A} give_faults
+fine_give = record {
+  failed_up = λ b. refl;
+  failed_same = λ b. refl;
+  memory = record { up = λ b. refl; same = λ b. refl; unfailed = refl };
+  save_up = λ b. refl;
+  save_fails = λ b. refl;
+  save_unfailed = refl;
+}
+
+pub fine_take : {A : Type 0} → ArePlain {A = A} take_faults
+fine_take = record {
+  failed_up = λ b. refl;
+  failed_same = λ b. refl;
+  memory = record { up = λ b. refl; same = λ b. refl; unfailed = refl };
+  save_up = λ b. refl;
+  save_fails = λ b. refl;
+  save_unfailed = refl;
+}
+
+pub fine_scan : {A : Type 0} → ArePlain {A = A} scan_faults
+fine_scan = record {
+  failed_up = λ b. refl;
+  failed_same = λ b. refl;
+  memory = record { up = λ b. refl; same = λ b. refl; unfailed = refl };
+  save_up = λ b. refl;
+  save_fails = λ b. refl;
+  save_unfailed = refl;
+}
+
+pub fine_forget : {A : Type 0} → ArePlain {A = A} forget_faults
+fine_forget = record {
+  failed_up = λ b. refl;
+  failed_same = λ b. refl;
+  memory = record { up = λ b. refl; same = λ b. refl; unfailed = refl };
+  save_up = λ b. refl;
+  save_fails = λ b. refl;
+  save_unfailed = refl;
+}
+
+pub fine_import : {A : Type 0} → ArePlain {A = A} import_faults
+fine_import = record {
+  failed_up = λ b. refl;
+  failed_same = λ b. refl;
+  memory = record { up = λ b. refl; same = λ b. refl; unfailed = refl };
+  save_up = λ b. refl;
+  save_fails = λ b. refl;
+  save_unfailed = refl;
+}
+
+-- ---- steps
+
+other_who : {A : Type 0} (old : Relay) (event : Event A) (reply : Reply A) (earlier : List (Moment A)) (who : Named) →
+    is_same (actor_of event) who ≡ false →
+    (is_down (record { before = old; event = event; reply = reply } ∷ earlier) who ≡ is_down earlier who)
+    × (is_failed (record { before = old; event = event; reply = reply } ∷ earlier) who ≡ is_failed earlier who)
+other_who old event reply earlier who other = (
+  if_not (is_same (actor_of event) who) (down_after reply (is_down earlier who)) (is_down earlier who)
+      (λ so. true_false _ so other),
+  if_not (is_same (actor_of event) who) (failed_after reply (is_failed earlier who)) (is_failed earlier who)
+      (λ so. true_false _ so other),
+)
+
+same_who : {A : Type 0} (old : Relay) (event : Event A) (reply : Reply A) (earlier : List (Moment A)) (who : Named) →
+    is_same (actor_of event) who ≡ true →
+    (is_down (record { before = old; event = event; reply = reply } ∷ earlier) who
+    ≡ down_after reply (is_down earlier who))
+    × (is_failed (record { before = old; event = event; reply = reply } ∷ earlier) who
+    ≡ failed_after reply (is_failed earlier who))
+same_who old event reply earlier who same = (
+  if_so (is_same (actor_of event) who) (down_after reply (is_down earlier who)) (is_down earlier who) same,
+  if_so (is_same (actor_of event) who) (failed_after reply (is_failed earlier who)) (is_failed earlier who) same,
+)
+
+by_told : {C : Type 0} (down failed d f : Bool) (actor : Actor C) → down ≡ d → failed ≡ f → IsAsTold d f actor →
+    IsAsTold down failed actor
+by_told down failed d f actor x y t =
+    subst (λ (b : Bool). IsAsTold b failed actor) (sym x) (subst (λ (b : Bool). IsAsTold d b actor) (sym y) t)
+
+printer_tells : {A : Type 0} (old new : Relay) (event : Event A) (printer : ℕ)
+    (Acts : Actor LedgerView → Ending A LedgerView → Type 0) (reply : Reply A) (earlier : List (Moment A)) →
+    actor_of event ≡ PrinterAt printer → Tells Acts → AreAsTold earlier old → PrinterGoes old printer Acts reply new →
+    AreAsTold (record { before = old; event = event; reply = reply } ∷ earlier) new
+printer_tells {A} old new event printer Acts reply earlier named each b g =
+    subst (λ (r : Relay). AreAsTold (record { before = old; event = event; reply = reply } ∷ earlier) r) (sym g.new_is)
+    (record {
+      printers = λ p actor is. elim (set_at old.printers printer p _ actor is) [
+        | inl here ↦
+            let s = same_who old event reply earlier (PrinterAt p)
+            (ap (λ (who : Named). is_same who (PrinterAt p)) named ∙ eq-eqb printer p here.0) in
+            let t = each g.actor g.end (is_down earlier (PrinterAt p)) (is_failed earlier (PrinterAt p))
+            (b.printers p g.actor (subst (λ (k : ℕ). slice_get old.printers k ≡ Some g.actor) here.0 g.was)) g.acts in
+            by_told _ _ _ _ actor s.0 s.1
+            (subst (λ (a : Actor LedgerView). IsAsTold (down_after reply (is_down earlier (PrinterAt p)))
+            (failed_after reply (is_failed earlier (PrinterAt p))) a) here.1
+            (subst (λ (r : Reply A). IsAsTold (down_after r (is_down earlier (PrinterAt p)))
+            (failed_after r (is_failed earlier (PrinterAt p))) g.end.actor) (sym g.reply_is) t))
+        | inr there ↦
+            let o = other_who old event reply earlier (PrinterAt p)
+            (ap (λ (who : Named). is_same who (PrinterAt p)) named ∙ other_number printer p there.0) in
+            by_told _ _ _ _ actor o.0 o.1 (b.printers p actor there.1)
+      ];
+      desks = λ d desk is.
+          let o = other_who old event reply earlier (DeskAt d) (ap (λ (who : Named). is_same who (DeskAt d)) named) in
+          by_told _ _ _ _ desk.actor o.0 o.1 (b.desks d desk is);
+    })
+
+desk_tells : {A : Type 0} (old new : Relay) (event : Event A) (number : ℕ)
+    (Acts : ℕ → Actor Documents → Ending A Documents → Type 0) (reply : Reply A) (earlier : List (Moment A)) →
+    actor_of event ≡ DeskAt number → ((room : ℕ) → Tells (Acts room)) → AreAsTold earlier old →
+    DeskGoes old number Acts reply new →
+    AreAsTold (record { before = old; event = event; reply = reply } ∷ earlier) new
+desk_tells {A} old new event number Acts reply earlier named each b g =
+    subst (λ (r : Relay). AreAsTold (record { before = old; event = event; reply = reply } ∷ earlier) r) (sym g.new_is)
+    (record {
+      printers = λ p actor is.
+          let o = other_who old event reply earlier (PrinterAt p)
+          (ap (λ (who : Named). is_same who (PrinterAt p)) named) in
+          by_told _ _ _ _ actor o.0 o.1 (b.printers p actor is);
+      desks = λ d desk is. elim (set_at old.desks number d _ desk is) [
+        | inl here ↦
+            let s = same_who old event reply earlier (DeskAt d)
+            (ap (λ (who : Named). is_same who (DeskAt d)) named ∙ eq-eqb number d here.0) in
+            let t = each g.desk.room g.desk.actor g.end (is_down earlier (DeskAt d)) (is_failed earlier (DeskAt d))
+            (b.desks d g.desk (subst (λ (k : ℕ). slice_get old.desks k ≡ Some g.desk) here.0 g.was)) g.acts in
+            by_told _ _ _ _ desk.actor s.0 s.1
+            (subst (λ (x : Desk). IsAsTold (down_after reply (is_down earlier (DeskAt d)))
+            (failed_after reply (is_failed earlier (DeskAt d))) x.actor) here.1
+            (subst (λ (r : Reply A). IsAsTold (down_after r (is_down earlier (DeskAt d)))
+            (failed_after r (is_failed earlier (DeskAt d))) g.end.actor) (sym g.reply_is) t))
+        | inr there ↦
+            let o = other_who old event reply earlier (DeskAt d)
+            (ap (λ (who : Named). is_same who (DeskAt d)) named ∙ other_number number d there.0) in
+            by_told _ _ _ _ desk.actor o.0 o.1 (b.desks d desk there.1)
+      ];
+    })
+
+acts_tell : {A : Type 0} (old new : Relay) (event : Event A) (reply : Reply A) (earlier : List (Moment A)) →
+    AreAsTold earlier old → Acts old event reply new →
+    AreAsTold (record { before = old; event = event; reply = reply } ∷ earlier) new
+acts_tell old new (Print printer document size scheme stop) reply earlier b acts =
+    printer_tells old new (Print printer document size scheme stop) printer _ reply earlier refl
+    (may_lack_tells _ (calls_tell _ stop _ fine_print (print_plain (length old.labels) document size scheme))) b acts
+acts_tell old new (Give printer receiver range stop) reply earlier b acts =
+    printer_tells old new (Give printer receiver range stop) printer _ reply earlier refl
+    (may_lack_tells _ (calls_tell _ stop _ fine_give (give_plain (length old.tickets) receiver range))) b acts
+acts_tell old new (Take printer number stop) reply earlier b acts =
+    printer_tells old new (Take printer number stop) printer _ reply earlier refl
+    (calls_tell _ stop _ fine_take (take_plain number acts.0)) b acts.2
+acts_tell old new (RestartPrinter printer) reply earlier b acts =
+    printer_tells old new (RestartPrinter printer) printer _ reply earlier refl
+    (restarts_tell (replies.PrinterRefused open_fault.Memory) (λ x. refl)) b acts
+acts_tell old new (Scan desk number flips stop) reply earlier b acts =
+    desk_tells old new (Scan desk number flips stop) desk _ reply earlier refl
+    (λ room. may_lack_tells _ (calls_tell _ stop _ fine_scan (scan_plain room (flipped acts.0.grid flips)))) b acts.2
+acts_tell old new (Forget desk id stop) reply earlier b acts =
+    desk_tells old new (Forget desk id stop) desk _ reply earlier refl
+    (λ room. calls_tell _ stop _ fine_forget (forget_plain id)) b acts
+acts_tell old new (Import desk number stop) reply earlier b acts =
+    desk_tells old new (Import desk number stop) desk _ reply earlier refl
+    (λ room. calls_tell _ stop _ fine_import (import_plain room acts.0)) b acts.2
+acts_tell {A} old new (Ask desk id) reply earlier b acts =
+    desk_tells old new (Ask desk id) desk _ reply earlier refl
+    (λ room. looks_tell (AskTells {A = A} id) (ask_plain id)) b acts
+acts_tell {A} old new (Export desk id) reply earlier b acts =
+    desk_tells old new (Export desk id) desk _ reply earlier refl
+    (λ room. may_lack_tells _ (looks_tell (ExportTells {A = A} (length old.exports) id)
+    (export_plain (length old.exports) id))) b acts
+acts_tell old new (RestartDesk desk) reply earlier b acts =
+    desk_tells old new (RestartDesk desk) desk _ reply earlier refl
+    (λ room. restarts_tell (replies.DeskRefused desk_fault.Memory) (λ x. refl)) b acts
+
+-- what was named and is not there changes nothing
+none_tells : {A : Type 0} (old : Relay) (event : Event A) (earlier : List (Moment A)) → AreAsTold earlier old →
+    AreAsTold (record { before = old; event = event; reply = replies.NoSuch } ∷ earlier) old
+none_tells old event earlier b = record {
+  printers = λ p actor is. by_told _ _ _ _ actor
+      (if_same (is_same (actor_of event) (PrinterAt p)) (is_down earlier (PrinterAt p)))
+      (if_same (is_same (actor_of event) (PrinterAt p)) (is_failed earlier (PrinterAt p))) (b.printers p actor is);
+  desks = λ d desk is. by_told _ _ _ _ desk.actor
+      (if_same (is_same (actor_of event) (DeskAt d)) (is_down earlier (DeskAt d)))
+      (if_same (is_same (actor_of event) (DeskAt d)) (is_failed earlier (DeskAt d))) (b.desks d desk is);
+}
+
+step_tells : {A : Type 0} (old new : Relay) (event : Event A) (reply : Reply A) (earlier : List (Moment A)) →
+    AreAsTold earlier old → Step old event reply new →
+    AreAsTold (record { before = old; event = event; reply = reply } ∷ earlier) new
+step_tells old new event reply earlier b (inl acts) = acts_tell old new event reply earlier b acts.1
+step_tells {A} old new event reply earlier b (inr none) =
+    subst (λ (r : Relay). AreAsTold (record { before = old; event = event; reply = reply } ∷ earlier) r) (sym none.2)
+    (subst (λ (r : Reply A). AreAsTold (record { before = old; event = event; reply = r } ∷ earlier) old) (sym none.1)
+    (none_tells old event earlier b))
+
+fresh_runs : (from : ℕ) (ranges : List Range) (p : ℕ) (actor : Actor LedgerView) →
+    slice_get (fresh_from from ranges) p ≡ Some actor → (held : LedgerView) × (Running held ≡ actor)
+fresh_runs from [] p actor is = cc (is)
+fresh_runs from (range ∷ ranges) zero actor is = (opening from range, cc (is))
+fresh_runs from (range ∷ ranges) (suc p) actor is = fresh_runs (from + 1) ranges p actor is
+
+pub each_run_is_as_told : (A : Type 0) → EachRunIsAsTold A
+each_run_is_as_told A ranges rooms [] end run =
+    (let none : List (Moment A) = [] in subst (λ (r : Relay). AreAsTold none r) (sym run) (record {
+      printers = λ p actor is. (let f = fresh_runs 0 ranges p actor is in
+          subst (λ (a : Actor LedgerView). IsAsTold false false a) f.1 (refl, refl));
+      desks = λ d desk is. subst (λ (a : Actor Documents). IsAsTold false false a) (empty_there rooms d desk is)
+          (refl, refl);
+    }))
+each_run_is_as_told A ranges rooms (moment ∷ earlier) end run =
+    step_tells moment.before end moment.event moment.reply earlier
+    (each_run_is_as_told A ranges rooms earlier moment.before run.0) run.1

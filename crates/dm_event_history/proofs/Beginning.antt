@@ -1,0 +1,155 @@
+-- A relay that begins is sound and clean.
+use Rattle.std.proofs.Common.{◌≡◌, ◌+◌, ◌≤◌, inl, inr, ℕ, zero, suc, Bool, true, false, ◌||◌, Option, Some, None, List, [], ◌∷◌, map, slice_get, refl, IsSome, ap, subst, ◌∙◌, arith}
+use Rattle.std.specs.Prelude.{unwrap_or}
+use Rattle.std.specs.FinMap as finite
+use Rattle.std.specs.FinMap.{get-empty}
+use Rattle.std.specs.Ordering.{nat_cmp}
+use Rattle.dm_print_ledger.specs.declared.range.Range.{Range}
+use Rattle.dm_print_ledger.specs.Ranges.{is_in}
+use Rattle.dm_print_ledger.specs.Views.{LedgerView}
+use Rattle.dm_print_ledger.proofs.RangeTests.{at_least, at_most}
+use Rattle.dm_assembly_desk.specs.Pages.{Pages, page}
+use Rattle.dm_assembly_desk.specs.Documents.{Documents, page_at}
+use Rattle.dm_event_history.specs.Places.{AreDisjoint, IsApart}
+use Rattle.dm_event_history.proofs.Deciding.{decided}
+use Rattle.dm_event_history.proofs.Opened.{apart_of}
+use Rattle.dm_event_history.specs.Actors.{Actor, Running, stored_of}
+use Rattle.dm_event_history.specs.Relay.{Desk, Label, empty_desk, fresh_from, start}
+use Rattle.dm_event_history.specs.Clean.{ArePrinted, HaveLeft, IsCleanActor}
+use Rattle.dm_event_history.specs.Headline.{AreAllClean}
+use Rattle.dm_event_history.specs.Places.{IsSound, free_at, one_if, opened}
+
+-- ---- numbers
+
+or_false : (b : Bool) → (b || false) ≡ b
+or_false true = refl
+or_false false = refl
+
+-- a number of none of the ranges is free at no printer
+free_none : (from : ℕ) (ranges : List Range) (number : ℕ) →
+    ((q : ℕ) (range : Range) → slice_get ranges q ≡ Some range → is_in range number ≡ false) →
+    free_at (fresh_from from ranges) number ≡ 0
+free_none from [] number none = refl
+free_none from (range ∷ ranges) number none =
+    let here : one_if (is_in range number || false) ≡ 0 =
+    ap one_if (or_false (is_in range number) ∙ none 0 range refl) in
+    let rest = free_none (from + 1) ranges number (λ q other there. none (suc q) other there) in
+    omega arith
+
+-- a number of a range is of none that is apart from it
+not_in_other : (range other : Range) (number : ℕ) → IsApart range other → is_in range number ≡ true →
+    is_in other number ≡ false
+not_in_other range other number apart inside = elim (decided (is_in other number)) [
+  | inl also ↦ absurd (clash apart (at_least range number inside) (at_most range number inside)
+      (at_least other number also) (at_most other number also))
+  | inr outside ↦ outside
+]
+  where
+    clash : IsApart range other → range.first ≤ number → number ≤ range.last → other.first ≤ number →
+        number ≤ other.last → ⊥
+    clash (inl before) a b c d = omega (arith, before)
+    clash (inr after) a b c d = omega (arith, after)
+
+-- of disjoint ranges it is free at one printer at most
+free_once : (from : ℕ) (ranges : List Range) (number : ℕ) → AreDisjoint ranges →
+    free_at (fresh_from from ranges) number ≤ 1
+free_once from [] number apart = omega arith
+free_once from (range ∷ ranges) number apart =
+    let rest = free_once (from + 1) ranges number
+    (λ i j d below within. apart (suc i) (suc j) d (omega arith) (omega arith)) in
+    elim (decided (is_in range number)) [
+      | inl inside ↦
+          let here : one_if (is_in range number || false) ≡ 1 =
+          ap one_if (or_false (is_in range number) ∙ inside) in
+          let none = free_none (from + 1) ranges number (λ q other there.
+          not_in_other range other number (apart_of (range ∷ ranges) apart 0 (suc q) range other (λ e. omega arith) refl
+          there) inside) in
+          omega arith
+      | inr outside ↦
+          let here : one_if (is_in range number || false) ≡ 0 =
+          ap one_if (or_false (is_in range number) ∙ outside) in
+          omega arith
+    ]
+
+-- how many of the ranges a number is in
+pub fresh_free : (from : ℕ) (ranges : List Range) (number : ℕ) →
+    free_at (fresh_from from ranges) number ≡ opened ranges number
+fresh_free from [] number = refl
+fresh_free from (range ∷ ranges) number =
+    let here : one_if (is_in range number || false) ≡ one_if (is_in range number) =
+    ap one_if (or_false (is_in range number)) in
+    let rest = fresh_free (from + 1) ranges number in omega arith
+
+fresh_number : (from : ℕ) (ranges : List Range) (p : ℕ) (actor : Actor LedgerView) →
+    slice_get (fresh_from from ranges) p ≡ Some actor → (stored_of actor).number ≡ from + p
+fresh_number from [] p actor is = cc
+fresh_number from (range ∷ ranges) zero actor is =
+    let own : from ≡ (stored_of actor).number = some_number is in
+    omega arith
+  where
+    some_number : Some (Running (record { number = from; next_serial = 0; free = range ∷ []; givers = [] })) ≡ Some actor →
+        from ≡ (stored_of actor).number
+    some_number e = number_of (cc (e))
+      where
+        number_of : Running (record { number = from; next_serial = 0; free = range ∷ []; givers = [] }) ≡ actor →
+            from ≡ (stored_of actor).number
+        number_of same = ap (λ (a : Actor LedgerView). (stored_of a).number) same
+fresh_number from (range ∷ ranges) (suc p) actor is = (let h = fresh_number (from + 1) ranges p actor is in omega arith)
+
+pub start_sound : (ranges : List Range) (rooms : List ℕ) → AreDisjoint ranges → IsSound (start ranges rooms)
+start_sound ranges rooms apart = record {
+  order = record {
+    numbers = λ p actor is. (let n = fresh_number 0 ranges p actor is in omega arith);
+    noted = λ k taken. absurd (cc (taken));
+  };
+  apart = λ n. (let once = free_once 0 ranges n apart in omega arith);
+  used = λ i label is. absurd (cc (is));
+  one_document = λ i j one other is there same. absurd (cc (is));
+  once = λ i j one other is there same number. absurd (cc (is));
+}
+
+pub start_printed : (ranges : List Range) (rooms : List ℕ) → ArePrinted (start ranges rooms).labels
+start_printed ranges rooms i label is = absurd (cc (is))
+
+-- ---- desks
+
+page_none : (m : ℕ) → page [] m ≡ None
+page_none zero = refl
+page_none (suc i) = refl
+
+abbrev pub none_held : Documents
+none_held = finite.empty
+
+empty_left : (labels : List Label) → HaveLeft labels none_held
+empty_left labels = record {
+  pages = λ id m bytes is.
+      let none : page_at none_held id m ≡ None =
+      ap (λ (o : Option Pages). page (unwrap_or o []) m) (get-empty nat_cmp id) ∙ page_none m in
+      absurd (cc (none, is));
+  counts = λ id pages is. (let none : finite.get none_held id ≡ None = get-empty nat_cmp id in absurd (cc (none, is)));
+  some = λ id pages is. (let none : finite.get none_held id ≡ None = get-empty nat_cmp id in absurd (cc (none, is)));
+}
+
+pub nothing_at : (id m : ℕ) → ¬ IsSome (page_at none_held id m)
+nothing_at id m some =
+    let none : page_at none_held id m ≡ None =
+    ap (λ (o : Option Pages). page (unwrap_or o []) m) (get-empty nat_cmp id) ∙ page_none m in
+    no_some (page_at none_held id m) none some
+  where
+    no_some : (o : Option (List ℕ)) → o ≡ None → IsSome o → ⊥
+    no_some None none some = cc
+    no_some (Some x) none some = cc
+
+pub empty_there : (rooms : List ℕ) (d : ℕ) (desk : Desk) → slice_get (map empty_desk rooms) d ≡ Some desk →
+    Running none_held ≡ desk.actor
+empty_there [] d desk is = cc
+empty_there (room ∷ rooms) zero desk is =
+    let same : empty_desk room ≡ desk = cc (is) in
+    ap (λ (x : Desk). x.actor) same
+empty_there (room ∷ rooms) (suc d) desk is = empty_there rooms d desk is
+
+pub start_clean : (ranges : List Range) (rooms : List ℕ) → AreAllClean (start ranges rooms)
+start_clean ranges rooms = record {
+  desks = λ d desk is. subst (λ (a : Actor Documents). IsCleanActor [] a) (empty_there rooms d desk is) (empty_left []);
+  exports = λ i export is. absurd (cc (is));
+}

@@ -1,0 +1,148 @@
+-- `Failed` is told by what answered `Save` since it was last restarted.
+use Rattle.std.proofs.Common.{◌≡◌, inl, inr, ℕ, Bool, true, false, List, length, refl, sym, ap, ◌∙◌}
+use Rattle.dm_finder_frame.specs.Grids.{flipped}
+use Rattle.dm_store.specs.declared.fuse.Kept.TheVariants.{Old, New}
+use Rattle.dm_print_ledger.specs.Views.{LedgerView}
+use Rattle.dm_print_ledger.specs.declared.fault.OpenFault.TheVariants as open_fault
+use Rattle.dm_assembly_desk.specs.declared.fault.DeskFault.TheVariants as desk_fault
+use Rattle.dm_assembly_desk.specs.Documents.{Documents}
+use Rattle.dm_event_history.specs.declared.event.Event.{Event}
+use Rattle.dm_event_history.specs.declared.event.Event.TheVariants.{Print, Scan, RestartPrinter, RestartDesk, Ask, Forget, Give, Take, Export, Import}
+use Rattle.dm_event_history.specs.declared.reply.Reply.{Reply}
+use Rattle.dm_event_history.specs.declared.reply.Reply.TheVariants as replies
+use Rattle.dm_event_history.specs.declared.stop.Stop.{Stop}
+use Rattle.dm_event_history.specs.declared.stop.Stop.TheVariants as stops
+use Rattle.dm_event_history.specs.declared.stop.Stop.TheVariants.{BeforeSave, InSave, SaveFault, AfterLabels}
+use Rattle.dm_event_history.specs.WhoActs.{DeskAt, Named, PrinterAt, actor_of}
+use Rattle.dm_event_history.specs.Actors.{Actor, Running, Failed, Down}
+use Rattle.dm_event_history.specs.Relay.{Goods, Relay}
+use Rattle.dm_event_history.specs.Calls.{Answers, Calls, Course, Ending, Faults, LacksMemory, Looks, MayLackFirst, Reaches, Restarts, Saves, ends}
+use Rattle.dm_event_history.specs.DeskCalls.{AskTells, ExportTells}
+use Rattle.dm_event_history.specs.Steps.{Acts, DeskGoes, PrinterGoes, Step}
+use Rattle.dm_event_history.specs.Runs.{Moment}
+use Rattle.dm_event_history.specs.Told.{AreAsTold, EachFailedFailed, IsAsTold, is_failed, tells_failed}
+use Rattle.dm_event_history.proofs.Reaching.{reaches}
+use Rattle.dm_event_history.proofs.AsTold.{ArePlain, IsPlain, IsPlainCourse, ask_plain, each_run_is_as_told, export_plain, fine_forget, fine_give, fine_import, fine_print, fine_scan, fine_take, forget_plain, give_plain, import_plain, print_plain, scan_plain, take_plain}
+
+never : {X : Type 0} (b : Bool) → b ≡ false → b ≡ true → X
+never true unset set = absurd (cc (unset))
+never false unset set = absurd (cc (set))
+
+-- one that runs doesn't tell so
+running_ends : {A C X : Type 0} (faults : Faults A) (stop : Stop) (course : Course A C) (held : C) → ArePlain faults →
+    Reaches stop (IsPlainCourse course) → tells_failed (ends faults stop course (Running held)).reply ≡ true → X
+running_ends faults BeforeSave course held fine plain told = absurd (cc (told))
+running_ends faults (InSave Old) course held fine plain told = absurd (cc (told))
+running_ends faults stops.None (Saves next goods reply) held fine plain told = never _ plain.unfailed told
+running_ends faults (SaveFault Old) (Saves next goods reply) held fine plain told = never _ fine.save_unfailed told
+running_ends faults (SaveFault New) (Saves next goods reply) held fine plain told = never _ fine.save_unfailed told
+running_ends faults (InSave New) (Saves next goods reply) held fine plain told = absurd (cc (told))
+running_ends faults (AfterLabels most) (Saves next goods reply) held fine plain told = absurd (cc (told))
+running_ends faults stops.None (Answers reply) held fine plain told = never _ plain.unfailed told
+running_ends faults (SaveFault kept) (Answers reply) held fine plain told = never _ plain.unfailed told
+running_ends faults (InSave New) (Answers reply) held fine plain told = absurd (cc (told))
+running_ends faults (AfterLabels most) (Answers reply) held fine plain told = absurd (cc (told))
+running_ends faults stops.None LacksMemory held fine plain told = never _ fine.memory.unfailed told
+running_ends faults (SaveFault kept) LacksMemory held fine plain told = never _ fine.memory.unfailed told
+running_ends faults (InSave New) LacksMemory held fine plain told = absurd (cc (told))
+running_ends faults (AfterLabels most) LacksMemory held fine plain told = absurd (cc (told))
+
+-- what tells so is one that has failed
+abbrev FailsBefore : {A C : Type 0} → (Actor C → Ending A C → Type 0) → Type 0
+FailsBefore {A} {C} Acts = (actor : Actor C) (end : Ending A C) (down failed : Bool) → IsAsTold down failed actor →
+    Acts actor end → tells_failed end.reply ≡ true → failed ≡ true
+
+calls_before : {A C : Type 0} (faults : Faults A) (stop : Stop) (Comes : C → Course A C → Type 0) → ArePlain faults →
+    ((held : C) (course : Course A C) → Comes held course → IsPlainCourse course) → FailsBefore (Calls faults stop Comes)
+calls_before {A} {C} faults stop Comes fine each (Running held) end down failed t acts told =
+    running_ends faults stop acts.0 held fine (reaches stop (each held acts.0) acts.1)
+    (sym (ap (λ (e : Ending A C). tells_failed e.reply) acts.2) ∙ told)
+calls_before faults stop Comes fine each (Failed shown stored) end down failed t acts told = t.1
+calls_before {A} {C} faults stop Comes fine each (Down stored) end down failed t acts told =
+    never _ (ap (λ (e : Ending A C). tells_failed e.reply) acts) told
+
+may_lack_before : {A C : Type 0} (Acts : Actor C → Ending A C → Type 0) → FailsBefore Acts →
+    FailsBefore (MayLackFirst Acts)
+may_lack_before {A} {C} Acts each (Running held) end down failed t (inl lack) told =
+    never _ (ap (λ (e : Ending A C). tells_failed e.reply) lack) told
+may_lack_before Acts each (Running held) end down failed t (inr acts) told =
+    each (Running held) end down failed t acts told
+may_lack_before Acts each (Failed shown stored) end down failed t acts told = t.1
+may_lack_before Acts each (Down stored) end down failed t acts told = each (Down stored) end down failed t acts told
+
+looks_before : {A C : Type 0} (Said : C → Reply A → Goods → Type 0) →
+    ((held : C) (reply : Reply A) (goods : Goods) → Said held reply goods → IsPlain reply) → FailsBefore (Looks Said)
+looks_before Said each (Running held) end down failed t acts told =
+    never _ (each held end.reply end.goods acts.0).unfailed told
+looks_before Said each (Failed shown stored) end down failed t acts told = t.1
+looks_before {A} {C} Said each (Down stored) end down failed t acts told =
+    never _ (ap (λ (e : Ending A C). tells_failed e.reply) acts) told
+
+restarts_before : {A C : Type 0} (refused : Reply A) → tells_failed refused ≡ false →
+    FailsBefore (Restarts {A = A} {C = C} refused)
+restarts_before {A} {C} refused none actor end down failed t (inl is) told =
+    never _ (ap (λ (e : Ending A C). tells_failed e.reply) is) told
+restarts_before {A} {C} refused none actor end down failed t (inr is) told =
+    never _ (ap (λ (e : Ending A C). tells_failed e.reply) is ∙ none) told
+
+printer_before : {A : Type 0} (old new : Relay) (event : Event A) (printer : ℕ)
+    (Acts : Actor LedgerView → Ending A LedgerView → Type 0) (reply : Reply A) (h : List (Moment A)) →
+    actor_of event ≡ PrinterAt printer → FailsBefore Acts → AreAsTold h old → PrinterGoes old printer Acts reply new →
+    tells_failed reply ≡ true → is_failed h (actor_of event) ≡ true
+printer_before {A} old new event printer Acts reply h named each b g told =
+    ap (λ (who : Named). is_failed h who) named ∙
+    each g.actor g.end _ _ (b.printers printer g.actor g.was) g.acts
+    (sym (ap (λ (r : Reply A). tells_failed r) g.reply_is) ∙ told)
+
+desk_before : {A : Type 0} (old new : Relay) (event : Event A) (number : ℕ)
+    (Acts : ℕ → Actor Documents → Ending A Documents → Type 0) (reply : Reply A) (h : List (Moment A)) →
+    actor_of event ≡ DeskAt number → ((room : ℕ) → FailsBefore (Acts room)) → AreAsTold h old →
+    DeskGoes old number Acts reply new → tells_failed reply ≡ true → is_failed h (actor_of event) ≡ true
+desk_before {A} old new event number Acts reply h named each b g told =
+    ap (λ (who : Named). is_failed h who) named ∙
+    each g.desk.room g.desk.actor g.end _ _ (b.desks number g.desk g.was) g.acts
+    (sym (ap (λ (r : Reply A). tells_failed r) g.reply_is) ∙ told)
+
+acts_before : {A : Type 0} (old new : Relay) (event : Event A) (reply : Reply A) (h : List (Moment A)) →
+    AreAsTold h old → Acts old event reply new → tells_failed reply ≡ true → is_failed h (actor_of event) ≡ true
+acts_before old new (Print printer document size scheme stop) reply h b acts told =
+    printer_before old new (Print printer document size scheme stop) printer _ reply h refl
+    (may_lack_before _ (calls_before _ stop _ fine_print (print_plain (length old.labels) document size scheme))) b acts told
+acts_before old new (Give printer receiver range stop) reply h b acts told =
+    printer_before old new (Give printer receiver range stop) printer _ reply h refl
+    (may_lack_before _ (calls_before _ stop _ fine_give (give_plain (length old.tickets) receiver range))) b acts told
+acts_before old new (Take printer number stop) reply h b acts told =
+    printer_before old new (Take printer number stop) printer _ reply h refl
+    (calls_before _ stop _ fine_take (take_plain number acts.0)) b acts.2 told
+acts_before old new (RestartPrinter printer) reply h b acts told =
+    printer_before old new (RestartPrinter printer) printer _ reply h refl
+    (restarts_before (replies.PrinterRefused open_fault.Memory) refl) b acts told
+acts_before old new (Scan desk number flips stop) reply h b acts told =
+    desk_before old new (Scan desk number flips stop) desk _ reply h refl
+    (λ room. may_lack_before _ (calls_before _ stop _ fine_scan (scan_plain room (flipped acts.0.grid flips)))) b acts.2
+    told
+acts_before old new (Forget desk id stop) reply h b acts told =
+    desk_before old new (Forget desk id stop) desk _ reply h refl
+    (λ room. calls_before _ stop _ fine_forget (forget_plain id)) b acts told
+acts_before old new (Import desk number stop) reply h b acts told =
+    desk_before old new (Import desk number stop) desk _ reply h refl
+    (λ room. calls_before _ stop _ fine_import (import_plain room acts.0)) b acts.2 told
+acts_before {A} old new (Ask desk id) reply h b acts told =
+    desk_before old new (Ask desk id) desk _ reply h refl
+    (λ room. looks_before (AskTells {A = A} id) (ask_plain id)) b acts told
+acts_before {A} old new (Export desk id) reply h b acts told =
+    desk_before old new (Export desk id) desk _ reply h refl
+    (λ room. may_lack_before _ (looks_before (ExportTells {A = A} (length old.exports) id)
+    (export_plain (length old.exports) id))) b acts told
+acts_before old new (RestartDesk desk) reply h b acts told =
+    desk_before old new (RestartDesk desk) desk _ reply h refl
+    (λ room. restarts_before (replies.DeskRefused desk_fault.Memory) refl) b acts told
+
+pub each_failed_failed : (A : Type 0) → EachFailedFailed A
+each_failed_failed A ranges rooms moment earlier end run told =
+    by_step (each_run_is_as_told A ranges rooms earlier moment.before run.0) run.1
+  where
+    by_step : AreAsTold earlier moment.before → Step moment.before moment.event moment.reply end →
+        is_failed earlier (actor_of moment.event) ≡ true
+    by_step b (inl acts) = acts_before moment.before end moment.event moment.reply earlier b acts.1 told
+    by_step b (inr none) = never _ (ap (λ (r : Reply A). tells_failed r) none.1) told

@@ -1,0 +1,189 @@
+-- The headline, of every run.
+use Rattle.std.proofs.Common.{◌≡◌, ◌≤◌, ◌==◌, inl, inr, ℕ, zero, suc, true, Some, List, [], ◌∷◌, slice_get, refl, sym, ap, subst, ◌∙◌, arith, eq-eqb}
+use Rattle.dm_print_ledger.specs.declared.range.Range.{Range}
+use Rattle.dm_print_ledger.specs.Views.{LedgerView}
+use Rattle.dm_assembly_desk.specs.Documents.{Documents}
+use Rattle.dm_event_history.specs.declared.event.Event.{Event}
+use Rattle.dm_event_history.specs.declared.event.Event.TheVariants.{Print, Scan, RestartPrinter, RestartDesk, Ask, Forget, Give, Take, Export, Import}
+use Rattle.dm_event_history.specs.declared.reply.Reply.{Reply}
+use Rattle.dm_event_history.specs.declared.reply.Reply.TheVariants.{Document}
+use Rattle.dm_event_history.specs.Actors.{Actor}
+use Rattle.dm_event_history.specs.Relay.{CutDocument, Label, Lost, Move, Relay, Took, Used, start}
+use Rattle.dm_event_history.specs.Calls.{Ending}
+use Rattle.dm_event_history.specs.Steps.{Acts, DeskGoes, PrinterGoes, Step}
+use Rattle.dm_event_history.specs.Runs.{IsRun, Moment}
+use Rattle.dm_event_history.specs.Clean.{AreOfOneDocument, ArePrinted}
+use Rattle.dm_event_history.specs.Places.{AreDisjoint, IsSound, gone, one_if, places}
+use Rattle.dm_event_history.specs.Headline.{AreAllClean, AreFairMoments, AreSavedFair, AreTrueMoments, EachRunIsSound, EachRunIsTrue, EachRunKeepsNumbers, PrintsOnce}
+use Rattle.dm_event_history.proofs.Gotten.{get_more}
+use Rattle.dm_event_history.proofs.AllClean.{all_stay_so}
+use Rattle.dm_event_history.proofs.Beginning.{fresh_free, start_clean, start_printed, start_sound}
+use Rattle.dm_event_history.proofs.Gives.{each_clean_desk_gives}
+use Rattle.dm_event_history.proofs.KeepsNumbers.{each_step_keeps_numbers}
+use Rattle.dm_event_history.proofs.Once.{each_step_is_sound}
+use Rattle.dm_event_history.proofs.Printed.{each_step_prints}
+
+abbrev IsSoundAndPrinted : Relay → Type 0
+IsSoundAndPrinted relay = IsSound relay × ArePrinted relay.labels
+
+pub each_run_is_sound : (A : Type 0) → EachRunIsSound A
+each_run_is_sound A ranges rooms [] end apart run =
+    subst (λ (r : Relay). IsSoundAndPrinted r) (sym run) (start_sound ranges rooms apart, start_printed ranges rooms)
+each_run_is_sound A ranges rooms (moment ∷ earlier) end apart run =
+    let before = each_run_is_sound A ranges rooms earlier moment.before apart run.0 in (
+      each_step_is_sound A moment.before end moment.event moment.reply before.0 run.1,
+      each_step_prints A moment.before end moment.event moment.reply before.1 run.1,
+    )
+
+-- ---- clean
+
+pub saved_fair : {A : Type 0} (h : List (Moment A)) → AreFairMoments h → AreSavedFair h
+saved_fair [] fair = tt
+saved_fair (moment ∷ earlier) fair = ((λ _. fair.0), saved_fair earlier fair.1)
+
+pub each_fair_run_is_clean : (A : Type 0) (ranges : List Range) (rooms : List ℕ) (h : List (Moment A)) (end : Relay) →
+    AreDisjoint ranges → IsRun (start ranges rooms) h end → AreSavedFair h → AreAllClean end
+each_fair_run_is_clean A ranges rooms [] end apart run fair =
+    subst (λ (r : Relay). AreAllClean r) (sym run) (start_clean ranges rooms)
+each_fair_run_is_clean A ranges rooms (moment ∷ earlier) end apart run fair =
+    all_stay_so moment.before end moment.event moment.reply
+    (each_run_is_sound A ranges rooms earlier moment.before apart run.0).1
+    (each_fair_run_is_clean A ranges rooms earlier moment.before apart run.0 fair.1) fair.0 run.1
+
+-- ---- labels that left have left for good
+
+abbrev Stay : List Label → List Label → Type 0
+Stay old new = (n : ℕ) (label : Label) → slice_get old n ≡ Some label → slice_get new n ≡ Some label
+
+printer_stay : {A : Type 0} (old new : Relay) (printer : ℕ) (Acts : Actor LedgerView → Ending A LedgerView → Type 0)
+    (reply : Reply A) → PrinterGoes old printer Acts reply new → Stay old.labels new.labels
+printer_stay old new printer Acts reply g n label is =
+    subst (λ (r : Relay). slice_get r.labels n ≡ Some label) (sym g.new_is)
+    (get_more old.labels g.end.goods.labels n label is)
+
+desk_stay : {A : Type 0} (old new : Relay) (desk : ℕ) (Acts : ℕ → Actor Documents → Ending A Documents → Type 0)
+    (reply : Reply A) → DeskGoes old desk Acts reply new → Stay old.labels new.labels
+desk_stay old new desk Acts reply g n label is =
+    subst (λ (r : Relay). slice_get r.labels n ≡ Some label) (sym g.new_is)
+    (get_more old.labels g.end.goods.labels n label is)
+
+step_stay : {A : Type 0} (old new : Relay) (event : Event A) (reply : Reply A) → Step old event reply new →
+    Stay old.labels new.labels
+step_stay old new event reply (inr none) =
+    (λ n label is. subst (λ (r : Relay). slice_get r.labels n ≡ Some label) (sym none.2) is)
+step_stay old new (Print printer document size scheme stop) reply (inl acts) =
+    printer_stay old new printer _ reply acts.1
+step_stay old new (Give printer receiver range stop) reply (inl acts) = printer_stay old new printer _ reply acts.1
+step_stay old new (Take printer number stop) reply (inl acts) = printer_stay old new printer _ reply acts.1.2
+step_stay old new (RestartPrinter printer) reply (inl acts) = printer_stay old new printer _ reply acts.1
+step_stay old new (Scan desk number flips stop) reply (inl acts) = desk_stay old new desk _ reply acts.1.2
+step_stay old new (Forget desk id stop) reply (inl acts) = desk_stay old new desk _ reply acts.1
+step_stay old new (Import desk number stop) reply (inl acts) = desk_stay old new desk _ reply acts.1.2
+step_stay old new (Ask desk id) reply (inl acts) = desk_stay old new desk _ reply acts.1
+step_stay old new (Export desk id) reply (inl acts) = desk_stay old new desk _ reply acts.1
+step_stay old new (RestartDesk desk) reply (inl acts) = desk_stay old new desk _ reply acts.1
+
+-- ---- no number is used twice
+
+one_more : (moves : List Move) (n id : ℕ) → slice_get moves n ≡ Some (Used id) → 1 ≤ gone moves id
+one_more [] n id is = cc (is)
+one_more (Used own ∷ moves) zero id is =
+    (let same : own ≡ id = used_is is in let e : (own == id) ≡ true = eq-eqb own id same in
+    let one : one_if (own == id) ≡ 1 = ap one_if e in omega arith)
+  where
+    used_is : Some (Used own) ≡ Some (Used id) → own ≡ id
+    used_is e = cc (e)
+one_more (Took ticket ∷ moves) zero id is = cc (is)
+one_more (Lost range ∷ moves) zero id is = cc (is)
+one_more (Used own ∷ moves) (suc n) id is = (let more = one_more moves n id is in omega arith)
+one_more (Took ticket ∷ moves) (suc n) id is = one_more moves n id is
+one_more (Lost range ∷ moves) (suc n) id is = (let more = one_more moves n id is in omega arith)
+
+used_once : (moves : List Move) (i j id : ℕ) → gone moves id ≤ 1 → slice_get moves i ≡ Some (Used id) →
+    slice_get moves j ≡ Some (Used id) → i ≡ j
+used_once [] i j id most is there = cc (is)
+used_once (move ∷ moves) zero zero id most is there = refl
+used_once (Used own ∷ moves) zero (suc j) id most is there =
+    (let same : own ≡ id = used_is is in let e : (own == id) ≡ true = eq-eqb own id same in
+    let one : one_if (own == id) ≡ 1 = ap one_if e in let more = one_more moves j id there in absurd (omega arith))
+  where
+    used_is : Some (Used own) ≡ Some (Used id) → own ≡ id
+    used_is e = cc (e)
+used_once (Took ticket ∷ moves) zero (suc j) id most is there = cc (is)
+used_once (Lost range ∷ moves) zero (suc j) id most is there = cc (is)
+used_once (Used own ∷ moves) (suc i) zero id most is there =
+    (let same : own ≡ id = used_is there in let e : (own == id) ≡ true = eq-eqb own id same in
+    let one : one_if (own == id) ≡ 1 = ap one_if e in let more = one_more moves i id is in absurd (omega arith))
+  where
+    used_is : Some (Used own) ≡ Some (Used id) → own ≡ id
+    used_is e = cc (e)
+used_once (Took ticket ∷ moves) (suc i) zero id most is there = cc (there)
+used_once (Lost range ∷ moves) (suc i) zero id most is there = cc (there)
+used_once (Used own ∷ moves) (suc i) (suc j) id most is there =
+    ap suc (used_once moves i j id (omega arith) is there)
+used_once (Took ticket ∷ moves) (suc i) (suc j) id most is there = ap suc (used_once moves i j id most is there)
+used_once (Lost range ∷ moves) (suc i) (suc j) id most is there =
+    ap suc (used_once moves i j id (omega arith) is there)
+
+prints_once : (relay : Relay) → IsSound relay → PrintsOnce relay
+prints_once relay sound = record {
+  used = λ i j id is there. used_once relay.moves i j id (let most = sound.apart id in omega arith) is there;
+  once = sound.once;
+  one_document = sound.one_document;
+}
+
+-- ---- each moment
+
+true_moments : (A : Type 0) (ranges : List Range) (rooms : List ℕ) (labels : List Label) → AreOfOneDocument labels →
+    AreDisjoint ranges → (h : List (Moment A)) (end : Relay) → IsRun (start ranges rooms) h end →
+    Stay end.labels labels → AreTrueMoments labels h
+true_moments A ranges rooms labels one apart [] end run stay = tt
+true_moments A ranges rooms labels one apart (moment ∷ earlier) end run stay =
+    let before = each_run_is_sound A ranges rooms earlier moment.before apart run.0 in
+    let still : Stay moment.before.labels labels =
+    (λ n label is. stay n label (step_stay moment.before end moment.event moment.reply run.1 n label is)) in (
+      record {
+        given = λ desk id bytes asked told clean.
+            let step : Step {A = A} moment.before (Ask desk id) (Document bytes) end =
+            subst (λ (e : Event A). Step moment.before e (Document bytes) end) asked
+            (subst (λ (r : Reply A). Step moment.before moment.event r end) told run.1) in
+            let gave = each_clean_desk_gives A moment.before end desk id bytes before.1 before.0.one_document clean step in
+            let n : ℕ = gave.1 in
+            let own : Label = gave.2 in
+            let here : slice_get labels n ≡ Some own = still n own gave.3 in (
+              (λ k label there is. ap (λ (c : CutDocument). c.bytes)
+                  (one k n label own there here (is ∙ sym gave.4)) ∙ gave.0 n own gave.3 gave.4),
+              n,
+              own,
+              here,
+              gave.4,
+            );
+        clean = each_fair_run_is_clean A ranges rooms earlier moment.before apart run.0;
+      },
+      true_moments A ranges rooms labels one apart earlier moment.before run.0 still,
+    )
+
+pub each_run_is_true : (A : Type 0) → EachRunIsTrue A
+each_run_is_true A ranges rooms moments end apart run =
+    let sound = (each_run_is_sound A ranges rooms moments end apart run).0 in (
+      prints_once end sound,
+      true_moments A ranges rooms end.labels sound.one_document apart moments end run (λ n label is. is),
+    )
+
+-- ---- where numbers are
+
+run_places : (A : Type 0) (ranges : List Range) (rooms : List ℕ) (h : List (Moment A)) (end : Relay) →
+    AreDisjoint ranges → IsRun (start ranges rooms) h end → (number : ℕ) →
+    places end number ≡ places (start ranges rooms) number
+run_places A ranges rooms [] end apart run number = ap (λ (r : Relay). places r number) run
+run_places A ranges rooms (moment ∷ earlier) end apart run number =
+    (each_step_keeps_numbers A moment.before end moment.event moment.reply
+    (each_run_is_sound A ranges rooms earlier moment.before apart run.0).0.order run.1).1 number
+    ∙ run_places A ranges rooms earlier moment.before apart run.0 number
+
+pub each_run_keeps_numbers : (A : Type 0) → EachRunKeepsNumbers A
+each_run_keeps_numbers A ranges rooms moments end apart run number =
+    let p = run_places A ranges rooms moments end apart run number in
+    let f = fresh_free 0 ranges number in
+    let most = (start_sound ranges rooms apart).apart number in
+    (omega arith, omega arith)

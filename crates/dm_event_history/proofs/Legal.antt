@@ -1,0 +1,428 @@
+-- Each step is legal.
+use Rattle.std.proofs.Common.{◌≡◌, ◌≢◌, ◌↔◌, ◌⊎◌, ◌<◌, IsSomeAnd, inl, inr, ℕ, Bool, true, false, Option, Some, None, Ok, Err, Result, List, length, slice_get, refl, sym, ap, subst, ◌∙◌}
+use Rattle.std.specs.FinMap as finite
+use Rattle.dm_finder_frame.specs.Grids.{GridView, flipped}
+use Rattle.dm_check_blocks.specs.declared.size.Size.{Size}
+use Rattle.dm_encodation.specs.declared.scheme.Scheme.{Scheme}
+use Rattle.dm_append_label.specs.Pages.{PageView}
+use Rattle.dm_append_label.specs.declared.opening.Opened.{Opened}
+use Rattle.dm_append_label.specs.declared.fault.LabelFault.{LabelFault}
+use Rattle.dm_append_label.specs.declared.fault.LabelFault.TheVariants as label_fault
+use Rattle.dm_store.specs.declared.fuse.Kept.TheVariants.{Old, New}
+use Rattle.dm_print_ledger.specs.declared.range.Range.{Range}
+use Rattle.dm_print_ledger.specs.Views.{LedgerView, TicketView}
+use Rattle.dm_print_ledger.specs.declared.fault.OpenFault.TheVariants as open_fault
+use Rattle.dm_assembly_desk.specs.declared.fault.AskFault.{AskFault}
+use Rattle.dm_assembly_desk.specs.declared.fault.DeskFault.TheVariants as desk_fault
+use Rattle.dm_assembly_desk.specs.declared.reply.Kind.TheVariants as kinds
+use Rattle.dm_assembly_desk.specs.Pages.{Pages}
+use Rattle.dm_assembly_desk.specs.Documents.{Documents}
+use Rattle.dm_assembly_desk.specs.Answers.{Answer, answer}
+use Rattle.dm_assembly_desk.specs.Importing.{ImportAnswer, import_answer}
+use Rattle.dm_event_history.specs.declared.event.Event.{Event}
+use Rattle.dm_event_history.specs.declared.event.Event.TheVariants.{Print, Scan, RestartPrinter, RestartDesk, Ask, Forget, Give, Take, Export, Import}
+use Rattle.dm_event_history.specs.declared.reply.Reply.{Reply}
+use Rattle.dm_event_history.specs.declared.reply.Reply.TheVariants as replies
+use Rattle.dm_event_history.specs.declared.stop.Stop.{Stop}
+use Rattle.dm_event_history.specs.declared.stop.Stop.TheVariants as stops
+use Rattle.dm_event_history.specs.declared.stop.Stop.TheVariants.{BeforeSave, InSave, SaveFault, AfterLabels}
+use Rattle.dm_event_history.specs.WhoActs.{DeskAt, Named, PrinterAt, actor_of}
+use Rattle.dm_event_history.specs.Saving.{IsStopping, stop_of}
+use Rattle.dm_event_history.specs.Actors.{Actor, Running, Failed, Down}
+use Rattle.dm_event_history.specs.Relay as relays
+use Rattle.dm_event_history.specs.Relay.{Desk, Goods, Relay}
+use Rattle.dm_event_history.specs.Calls.{Answers, Calls, Course, Ending, Faults, LacksMemory, Looks, MayLackFirst, Reaches, Restarts, Saves, ends}
+use Rattle.dm_event_history.specs.PrinterCalls.{GiveComes, PrintComes, TakeComes}
+use Rattle.dm_event_history.specs.DeskCalls.{AskTells, ExportTells, ExportsHeld, ForgetComes, ImportComes, MayBe, ScanComes, ask_reply, by_answer, by_import, forget_course, scan_course}
+use Rattle.dm_event_history.specs.Steps.{Acts, DeskGoes, IsNamed, PrinterGoes}
+use Rattle.dm_event_history.specs.Told.{down_after}
+use Rattle.dm_event_history.specs.Legal.{EachStepIsLegal, IsDown, IsDownAt, IsLegal, IsStopped, NeedsRunning, tells_of_save}
+use Rattle.dm_event_history.proofs.Reaching.{reaches}
+use Rattle.dm_event_history.proofs.AsTold.{ArePlain, IsPlainCourse, IsPlain, ask_plain, export_plain, fine_forget, fine_give, fine_import, fine_print, fine_scan, fine_take, forget_plain, give_plain, import_plain, print_plain, scan_plain, take_plain}
+
+never : {X : Type 0} (b : Bool) → b ≡ false → b ≡ true → X
+never true unset set = absurd (cc (unset))
+never false unset set = absurd (cc (set))
+
+-- ---- replies
+
+abbrev IsUp : {A : Type 0} → Reply A → Type 0
+IsUp reply = (b : Bool) → down_after reply b ≡ false
+
+up_other : {A : Type 0} (reply other : Reply A) → IsUp reply → down_after other true ≡ true → reply ≢ other
+up_other {A} reply other up so same =
+    never (down_after reply true) (up true) (ap (λ (r : Reply A). down_after r true) same ∙ so)
+
+-- ---- one call
+
+record IsCallLegal {A C : Type 0} (stop : Option Stop) (actor : Actor C) (reply : Reply A) : Type 0 where
+  pub some : reply ≢ replies.NoSuch
+  pub down : (reply ≡ replies.Down) ↔ IsDown actor
+  pub stopped : reply ≡ replies.Stopped → IsSomeAnd stop IsStopping
+  pub ended : ¬ IsDown actor → IsSomeAnd stop IsStopping → (reply ≡ replies.Stopped) ⊎ (reply ≡ replies.Memory)
+  pub saves : tells_of_save reply ≡ true → stop ≡ Some stops.None
+
+-- one that answers, one that is stopped, and one that lacks memory
+legal_reply : {A C : Type 0} (stop : Option Stop) (actor : Actor C) (reply : Reply A) → ¬ IsDown actor →
+    ¬ IsSomeAnd stop IsStopping → IsUp reply → (tells_of_save reply ≡ true → stop ≡ Some stops.None) → IsCallLegal stop actor reply
+legal_reply stop actor reply up on plain saves = record {
+  some = up_other reply replies.NoSuch plain refl;
+  down = ((λ e. absurd (up_other reply replies.Down plain refl e)), (λ d. absurd (up d)));
+  stopped = λ e. absurd (up_other reply replies.Stopped plain refl e);
+  ended = λ _ s. absurd (on s);
+  saves = saves;
+}
+
+legal_stopped : (A : Type 0) {C : Type 0} (stop : Option Stop) (actor : Actor C) → ¬ IsDown actor →
+    IsSomeAnd stop IsStopping →
+    IsCallLegal {A = A} stop actor replies.Stopped
+legal_stopped A stop actor up s = record {
+  some = λ e. cc (e);
+  down = ((λ e. cc (e)), (λ d. absurd (up d)));
+  stopped = λ _. s;
+  ended = λ _ _. inl refl;
+  saves = λ e. cc (e);
+}
+
+legal_memory : (A : Type 0) {C : Type 0} (stop : Option Stop) (actor : Actor C) → ¬ IsDown actor →
+    IsCallLegal {A = A} stop actor replies.Memory
+legal_memory A stop actor up = record {
+  some = λ e. cc (e);
+  down = ((λ e. cc (e)), (λ d. absurd (up d)));
+  stopped = λ e. cc (e);
+  ended = λ _ _. inr refl;
+  saves = λ e. cc (e);
+}
+
+-- an answer without a save doesn't tell of one, and neither do the faults of a call
+abbrev IsQuietCourse : {A C : Type 0} → Course A C → Type 0
+IsQuietCourse (Saves next goods reply) = Unit {0}
+IsQuietCourse (Answers reply) = tells_of_save reply ≡ false
+IsQuietCourse LacksMemory = Unit {0}
+
+record AreQuiet {A : Type 0} (faults : Faults A) : Type 0 where
+  pub failed : tells_of_save faults.failed ≡ false
+  pub save : tells_of_save faults.save ≡ false
+  pub memory : tells_of_save faults.memory ≡ false
+
+untold : {X : Type 0} {A : Type 0} (reply : Reply A) → tells_of_save reply ≡ false → tells_of_save reply ≡ true → X
+untold reply none told = never (tells_of_save reply) none told
+
+legal_ends : {A C : Type 0} (faults : Faults A) (stop : Stop) (course : Course A C) (held : C) → ArePlain faults →
+    AreQuiet faults → Reaches stop (IsPlainCourse course × IsQuietCourse course) →
+    IsCallLegal (Some stop) (Running held) (ends faults stop course (Running held)).reply
+legal_ends {A} faults BeforeSave course held fine quiet own = legal_stopped A (Some BeforeSave) (Running held) (λ d. d) tt
+legal_ends {A} faults (InSave Old) course held fine quiet own = legal_stopped A (Some (InSave Old)) (Running held) (λ d. d) tt
+legal_ends faults stops.None (Saves next goods reply) held fine quiet own =
+    legal_reply (Some stops.None) (Running held) reply (λ d. d) (λ s. s) own.0.up (λ _. refl)
+legal_ends faults (SaveFault Old) (Saves next goods reply) held fine quiet own =
+    legal_reply (Some (SaveFault Old)) (Running held) faults.save (λ d. d) (λ s. s) fine.save_up (untold faults.save quiet.save)
+legal_ends faults (SaveFault New) (Saves next goods reply) held fine quiet own =
+    legal_reply (Some (SaveFault New)) (Running held) faults.save (λ d. d) (λ s. s) fine.save_up (untold faults.save quiet.save)
+legal_ends {A} faults (InSave New) (Saves next goods reply) held fine quiet own =
+    legal_stopped A (Some (InSave New)) (Running held) (λ d. d) tt
+legal_ends {A} faults (AfterLabels most) (Saves next goods reply) held fine quiet own =
+    legal_stopped A (Some (AfterLabels most)) (Running held) (λ d. d) tt
+legal_ends faults stops.None (Answers reply) held fine quiet own =
+    legal_reply (Some stops.None) (Running held) reply (λ d. d) (λ s. s) own.0.up (λ _. refl)
+legal_ends faults (SaveFault kept) (Answers reply) held fine quiet own =
+    legal_reply (Some (SaveFault kept)) (Running held) reply (λ d. d) (λ s. s) own.0.up (untold reply own.1)
+legal_ends {A} faults (InSave New) (Answers reply) held fine quiet own =
+    legal_stopped A (Some (InSave New)) (Running held) (λ d. d) tt
+legal_ends {A} faults (AfterLabels most) (Answers reply) held fine quiet own =
+    legal_stopped A (Some (AfterLabels most)) (Running held) (λ d. d) tt
+legal_ends faults stops.None LacksMemory held fine quiet own =
+    legal_reply (Some stops.None) (Running held) faults.memory (λ d. d) (λ s. s) fine.memory.up (λ _. refl)
+legal_ends faults (SaveFault kept) LacksMemory held fine quiet own =
+    legal_reply (Some (SaveFault kept)) (Running held) faults.memory (λ d. d) (λ s. s) fine.memory.up
+    (untold faults.memory quiet.memory)
+legal_ends {A} faults (InSave New) LacksMemory held fine quiet own = legal_memory A (Some (InSave New)) (Running held) (λ d. d)
+legal_ends {A} faults (AfterLabels most) LacksMemory held fine quiet own =
+    legal_memory A (Some (AfterLabels most)) (Running held) (λ d. d)
+
+legal_failed : {A C : Type 0} (faults : Faults A) (stop : Stop) (shown stored : C) → ArePlain faults → AreQuiet faults →
+    IsCallLegal (Some stop) (Failed shown stored) (ends faults stop (Answers faults.failed) (Failed shown stored)).reply
+legal_failed {A} faults BeforeSave shown stored fine quiet =
+    legal_stopped A (Some BeforeSave) (Failed shown stored) (λ d. d) tt
+legal_failed {A} faults (InSave Old) shown stored fine quiet =
+    legal_stopped A (Some (InSave Old)) (Failed shown stored) (λ d. d) tt
+legal_failed {A} faults (InSave New) shown stored fine quiet =
+    legal_stopped A (Some (InSave New)) (Failed shown stored) (λ d. d) tt
+legal_failed {A} faults (AfterLabels most) shown stored fine quiet =
+    legal_stopped A (Some (AfterLabels most)) (Failed shown stored) (λ d. d) tt
+legal_failed faults stops.None shown stored fine quiet =
+    legal_reply (Some stops.None) (Failed shown stored) faults.failed (λ d. d) (λ s. s) fine.failed_up (λ _. refl)
+legal_failed faults (SaveFault kept) shown stored fine quiet =
+    legal_reply (Some (SaveFault kept)) (Failed shown stored) faults.failed (λ d. d) (λ s. s) fine.failed_up
+    (untold faults.failed quiet.failed)
+
+legal_down : (A : Type 0) {C : Type 0} (stop : Option Stop) (stored : C) → IsCallLegal {A = A} stop (Down stored) replies.Down
+legal_down A stop stored = record {
+  some = λ e. cc (e);
+  down = ((λ _. tt), (λ _. refl));
+  stopped = λ e. cc (e);
+  ended = λ up _. absurd (up tt);
+  saves = λ e. cc (e);
+}
+
+abbrev AreLegal : {A C : Type 0} → Option Stop → (Actor C → Ending A C → Type 0) → Type 0
+AreLegal {A} {C} stop Acts = (actor : Actor C) (end : Ending A C) → Acts actor end → IsCallLegal stop actor end.reply
+
+of_known : {A C : Type 0} (stop : Option Stop) (actor : Actor C) (end known : Ending A C) → end ≡ known →
+    IsCallLegal stop actor known.reply → IsCallLegal stop actor end.reply
+of_known {A} {C} stop actor end known is l = subst (λ (e : Ending A C). IsCallLegal stop actor e.reply) (sym is) l
+
+calls_legal : {A C : Type 0} (faults : Faults A) (stop : Stop) (Comes : C → Course A C → Type 0) → ArePlain faults →
+    AreQuiet faults → ((held : C) (course : Course A C) → Comes held course → IsPlainCourse course) →
+    ((held : C) (course : Course A C) → Comes held course → IsQuietCourse course) →
+    AreLegal (Some stop) (Calls faults stop Comes)
+calls_legal faults stop Comes fine quiet plain still (Running held) end acts =
+    of_known (Some stop) (Running held) end _ acts.2
+    (legal_ends faults stop acts.0 held fine quiet
+    (reaches stop (λ came. (plain held acts.0 came, still held acts.0 came)) acts.1))
+calls_legal faults stop Comes fine quiet plain still (Failed shown stored) end acts =
+    of_known (Some stop) (Failed shown stored) end _ acts (legal_failed faults stop shown stored fine quiet)
+calls_legal {A} faults stop Comes fine quiet plain still (Down stored) end acts =
+    of_known (Some stop) (Down stored) end _ acts (legal_down A (Some stop) stored)
+
+may_lack_legal : {A C : Type 0} (stop : Option Stop) (Acts : Actor C → Ending A C → Type 0) → AreLegal stop Acts →
+    AreLegal stop (MayLackFirst Acts)
+may_lack_legal {A} stop Acts each (Running held) end (inl lack) =
+    of_known stop (Running held) end _ lack (legal_memory A stop (Running held) (λ d. d))
+may_lack_legal stop Acts each (Running held) end (inr acts) = each (Running held) end acts
+may_lack_legal {A} stop Acts each (Failed shown stored) end (inl lack) =
+    of_known stop (Failed shown stored) end _ lack (legal_memory A stop (Failed shown stored) (λ d. d))
+may_lack_legal stop Acts each (Failed shown stored) end (inr acts) = each (Failed shown stored) end acts
+may_lack_legal stop Acts each (Down stored) end acts = each (Down stored) end acts
+
+-- what saves nothing tells of no save
+looks_legal : {A C : Type 0} (Said : C → Reply A → Goods → Type 0) →
+    ((held : C) (reply : Reply A) (goods : Goods) → Said held reply goods → IsPlain reply) →
+    ((held : C) (reply : Reply A) (goods : Goods) → Said held reply goods → tells_of_save reply ≡ false) →
+    AreLegal None (Looks Said)
+looks_legal Said each still (Running held) end acts =
+    legal_reply None (Running held) end.reply (λ d. d) (λ s. s) (each held end.reply end.goods acts.0).up
+    (untold end.reply (still held end.reply end.goods acts.0))
+looks_legal Said each still (Failed shown stored) end acts =
+    legal_reply None (Failed shown stored) end.reply (λ d. d) (λ s. s) (each shown end.reply end.goods acts.0).up
+    (untold end.reply (still shown end.reply end.goods acts.0))
+looks_legal {A} Said each still (Down stored) end acts =
+    of_known None (Down stored) end _ acts (legal_down A None stored)
+
+-- ---- what each call comes to
+
+print_quiet : {A : Type 0} (before : ℕ) (document : List ℕ) (size : Size) (scheme : Scheme) (held : LedgerView)
+    (course : Course A LedgerView) → PrintComes before document size scheme held course → IsQuietCourse course
+print_quiet before document size scheme held (Saves next goods reply) comes = tt
+print_quiet before document size scheme held (Answers reply) comes = ap tells_of_save comes.2
+print_quiet before document size scheme held LacksMemory comes = tt
+
+give_quiet : {A : Type 0} (before receiver : ℕ) (range : Range) (held : LedgerView) (course : Course A LedgerView) →
+    GiveComes before receiver range held course → IsQuietCourse course
+give_quiet before receiver range held (Saves next goods reply) comes = tt
+give_quiet before receiver range held (Answers reply) comes = ap tells_of_save comes.2
+give_quiet before receiver range held LacksMemory comes = tt
+
+take_quiet : {A : Type 0} (number : ℕ) (ticket : TicketView) (held : LedgerView) (course : Course A LedgerView) →
+    TakeComes number ticket held course → IsQuietCourse course
+take_quiet number ticket held (Saves next goods reply) comes = tt
+take_quiet number ticket held (Answers reply) comes = ap tells_of_save comes.2
+take_quiet number ticket held LacksMemory comes = tt
+
+may_be_quiet : {A : Type 0} (wanted course : Course A Documents) → IsQuietCourse wanted → MayBe wanted course →
+    IsQuietCourse course
+may_be_quiet {A} wanted course q (inl is) = subst (λ (c : Course A Documents). IsQuietCourse c) (sym is) q
+may_be_quiet {A} wanted course q (inr lack) = subst (λ (c : Course A Documents). IsQuietCourse c) (sym lack.0) tt
+
+scan_quiet : {A : Type 0} (room : ℕ) (grid : GridView) (held : Documents) (course : Course A Documents) →
+    ScanComes room grid held course → IsQuietCourse course
+scan_quiet {A} room grid held course comes =
+    may_be_quiet (scan_course room held comes.0) course (by_read comes.0) comes.2
+  where
+    by_answer_of : (p : PageView) (a : Answer) → IsQuietCourse {A = A} (by_answer held p a)
+    by_answer_of p (Ok kinds.Again) = refl
+    by_answer_of p (Ok kinds.New) = tt
+    by_answer_of p (Ok kinds.Complete) = tt
+    by_answer_of p (Err fault) = refl
+
+    by_read : (read : Result (Opened A) LabelFault) → IsQuietCourse {A = A} (scan_course room held read)
+    by_read (Ok opened) = by_answer_of opened.page (answer room held opened.page)
+    by_read (Err label_fault.Memory) = tt
+    by_read (Err fault) = refl
+
+forget_quiet : {A : Type 0} (id : ℕ) (held : Documents) (course : Course A Documents) → ForgetComes id held course →
+    IsQuietCourse course
+forget_quiet {A} id held course comes =
+    may_be_quiet (forget_course held id (finite.get held id)) course (by_held (finite.get held id)) comes
+  where
+    by_held : (o : Option Pages) → IsQuietCourse {A = A} (forget_course held id o)
+    by_held None = refl
+    by_held (Some pages) = tt
+
+import_quiet : {A : Type 0} (room : ℕ) (export : relays.Export) (held : Documents) (course : Course A Documents) →
+    ImportComes room export held course → IsQuietCourse course
+import_quiet {A} room export held course comes =
+    may_be_quiet (by_import held export (import_answer room held export.id export.pages)) course
+    (by_answer_of (import_answer room held export.id export.pages)) comes
+  where
+    by_answer_of : (a : ImportAnswer) → IsQuietCourse {A = A} (by_import held export a)
+    by_answer_of (Ok kinds.Again) = refl
+    by_answer_of (Ok kinds.New) = tt
+    by_answer_of (Ok kinds.Complete) = tt
+    by_answer_of (Err fault) = refl
+
+ask_quiet : {A : Type 0} (id : ℕ) (held : Documents) (reply : Reply A) (goods : Goods) → AskTells id held reply goods →
+    tells_of_save reply ≡ false
+ask_quiet {A} id held reply goods tells = ap tells_of_save tells.2 ∙ by_answer_of tells.0
+  where
+    by_answer_of : (a : Result (List ℕ) AskFault) → tells_of_save {A = A} (ask_reply a) ≡ false
+    by_answer_of (Ok bytes) = refl
+    by_answer_of (Err fault) = refl
+
+export_quiet : {A : Type 0} (before id : ℕ) (held : Documents) (reply : Reply A) (goods : Goods) →
+    ExportTells before id held reply goods → tells_of_save reply ≡ false
+export_quiet {A} before id held reply goods tells = by_held (finite.get held id) tells
+  where
+    by_held : (o : Option Pages) → ExportsHeld before id o reply goods → tells_of_save reply ≡ false
+    by_held None t = ap tells_of_save t.0
+    by_held (Some pages) (inl t) = ap tells_of_save t.0
+    by_held (Some pages) (inr t) = ap tells_of_save t.0
+
+-- ---- steps
+
+-- what a call of one that is there makes of the step
+by_call : {A C : Type 0} (old : Relay) (event : Event A) (reply known : Reply A) (actor : Actor C) →
+    IsNamed old event → NeedsRunning event → (IsDownAt old (actor_of event) ↔ IsDown actor) → reply ≡ known →
+    IsCallLegal (stop_of event) actor known → IsLegal old event reply
+by_call {A} old event reply known actor named needs same is l =
+    subst (λ (r : Reply A). IsLegal old event r) (sym is) (record {
+      no_such = ((λ e. absurd (l.some e)), (λ missing. absurd (missing named)));
+      down = ((λ e. (named, needs, same.1 (l.down.0 e))), (λ d. l.down.1 (same.0 d.2)));
+      stopped = l.stopped;
+      ended = λ _ up s. l.ended (λ d. up (same.1 d)) s;
+      saves = l.saves;
+    })
+
+one_some : {C : Type 0} (o : Option C) (one other : C) → o ≡ Some one → o ≡ Some other → one ≡ other
+one_some o one other first second = cc (first, second)
+
+printer_down : (old : Relay) (printer : ℕ) (actor : Actor LedgerView) → slice_get old.printers printer ≡ Some actor →
+    IsDownAt old (PrinterAt printer) ↔ IsDown actor
+printer_down old printer actor was = (
+  (λ d. subst (λ (a : Actor LedgerView). IsDown a) (one_some _ d.0 actor d.1 was) d.2),
+  (λ d. (actor, was, d)),
+)
+
+desk_down : (old : Relay) (number : ℕ) (desk : Desk) → slice_get old.desks number ≡ Some desk →
+    IsDownAt old (DeskAt number) ↔ IsDown desk.actor
+desk_down old number desk was = (
+  (λ d. subst (λ (x : Desk). IsDown x.actor) (one_some _ d.0 desk d.1 was) d.2),
+  (λ d. (desk, was, d)),
+)
+
+printer_legal : {A : Type 0} (old new : Relay) (event : Event A) (printer : ℕ)
+    (Does : Actor LedgerView → Ending A LedgerView → Type 0) (reply : Reply A) → actor_of event ≡ PrinterAt printer →
+    IsNamed old event → NeedsRunning event → AreLegal (stop_of event) Does → PrinterGoes old printer Does reply new →
+    IsLegal old event reply
+printer_legal old new event printer Does reply who named needs each g =
+    by_call old event reply g.end.reply g.actor named needs
+    (subst (λ (n : Named). IsDownAt old n ↔ IsDown g.actor) (sym who) (printer_down old printer g.actor g.was))
+    g.reply_is (each g.actor g.end g.acts)
+
+desk_legal : {A : Type 0} (old new : Relay) (event : Event A) (number : ℕ)
+    (Does : ℕ → Actor Documents → Ending A Documents → Type 0) (reply : Reply A) → actor_of event ≡ DeskAt number →
+    IsNamed old event → NeedsRunning event → ((room : ℕ) → AreLegal (stop_of event) (Does room)) →
+    DeskGoes old number Does reply new → IsLegal old event reply
+desk_legal old new event number Does reply who named needs each g =
+    by_call old event reply g.end.reply g.desk.actor named needs
+    (subst (λ (n : Named). IsDownAt old n ↔ IsDown g.desk.actor) (sym who) (desk_down old number g.desk g.was))
+    g.reply_is (each g.desk.room g.desk.actor g.end g.acts)
+
+-- a restart is answered that it runs, or that memory was refused
+restart_legal : {A : Type 0} (old : Relay) (event : Event A) (reply known : Reply A) → IsNamed old event →
+    ¬ NeedsRunning event → ¬ IsStopped event → known ≢ replies.NoSuch → known ≢ replies.Down →
+    known ≢ replies.Stopped → tells_of_save known ≡ false → reply ≡ known → IsLegal old event reply
+restart_legal {A} old event reply known named never_down never_stops some up on quiet is =
+    subst (λ (r : Reply A). IsLegal old event r) (sym is) (record {
+      no_such = ((λ e. absurd (some e)), (λ missing. absurd (missing named)));
+      down = ((λ e. absurd (up e)), (λ d. absurd (never_down d.1)));
+      stopped = λ e. absurd (on e);
+      ended = λ _ _ s. absurd (never_stops s);
+      saves = λ told. untold known quiet told;
+    })
+
+restart_printer_legal : {A : Type 0} (old : Relay) (printer : ℕ) (reply : Reply A) (end : Ending A LedgerView)
+    (actor : Actor LedgerView) → printer < length old.printers →
+    Restarts (replies.PrinterRefused open_fault.Memory) actor end → reply ≡ end.reply →
+    IsLegal old (RestartPrinter printer) reply
+restart_printer_legal {A} old printer reply end actor named (inl ends) is =
+    restart_legal old (RestartPrinter printer) reply replies.Restarted named (λ n. n) (λ s. s) (λ e. cc (e)) (λ e. cc (e))
+    (λ e. cc (e)) refl (is ∙ ap (λ (x : Ending A LedgerView). x.reply) ends)
+restart_printer_legal {A} old printer reply end actor named (inr ends) is =
+    restart_legal old (RestartPrinter printer) reply (replies.PrinterRefused open_fault.Memory) named (λ n. n) (λ s. s)
+    (λ e. cc (e)) (λ e. cc (e)) (λ e. cc (e)) refl (is ∙ ap (λ (x : Ending A LedgerView). x.reply) ends)
+
+restart_desk_legal : {A : Type 0} (old : Relay) (desk : ℕ) (reply : Reply A) (end : Ending A Documents)
+    (actor : Actor Documents) → desk < length old.desks →
+    Restarts (replies.DeskRefused desk_fault.Memory) actor end → reply ≡ end.reply →
+    IsLegal old (RestartDesk desk) reply
+restart_desk_legal {A} old desk reply end actor named (inl ends) is =
+    restart_legal old (RestartDesk desk) reply replies.Restarted named (λ n. n) (λ s. s) (λ e. cc (e)) (λ e. cc (e))
+    (λ e. cc (e)) refl (is ∙ ap (λ (x : Ending A Documents). x.reply) ends)
+restart_desk_legal {A} old desk reply end actor named (inr ends) is =
+    restart_legal old (RestartDesk desk) reply (replies.DeskRefused desk_fault.Memory) named (λ n. n) (λ s. s)
+    (λ e. cc (e)) (λ e. cc (e)) (λ e. cc (e)) refl (is ∙ ap (λ (x : Ending A Documents). x.reply) ends)
+
+acts_legal : {A : Type 0} (old new : Relay) (event : Event A) (reply : Reply A) → IsNamed old event →
+    Acts old event reply new → IsLegal old event reply
+acts_legal old new (Print printer document size scheme stop) reply named acts =
+    printer_legal old new (Print printer document size scheme stop) printer _ reply refl named tt
+    (may_lack_legal (Some stop) _ (calls_legal _ stop _ fine_print (record { failed = refl; save = refl; memory = refl })
+    (print_plain (length old.labels) document size scheme) (print_quiet (length old.labels) document size scheme))) acts
+acts_legal old new (Give printer receiver range stop) reply named acts =
+    printer_legal old new (Give printer receiver range stop) printer _ reply refl named tt
+    (may_lack_legal (Some stop) _ (calls_legal _ stop _ fine_give (record { failed = refl; save = refl; memory = refl })
+    (give_plain (length old.tickets) receiver range) (give_quiet (length old.tickets) receiver range))) acts
+acts_legal old new (Take printer number stop) reply named acts =
+    printer_legal old new (Take printer number stop) printer _ reply refl named tt
+    (calls_legal _ stop _ fine_take (record { failed = refl; save = refl; memory = refl }) (take_plain number acts.0)
+    (take_quiet number acts.0)) acts.2
+acts_legal old new (RestartPrinter printer) reply named acts =
+    restart_printer_legal old printer reply acts.end acts.actor named acts.acts acts.reply_is
+acts_legal old new (Scan desk number flips stop) reply named acts =
+    desk_legal old new (Scan desk number flips stop) desk _ reply refl named tt
+    (λ room. may_lack_legal (Some stop) _ (calls_legal _ stop _ fine_scan
+    (record { failed = refl; save = refl; memory = refl }) (scan_plain room (flipped acts.0.grid flips))
+    (scan_quiet room (flipped acts.0.grid flips)))) acts.2
+acts_legal old new (Forget desk id stop) reply named acts =
+    desk_legal old new (Forget desk id stop) desk _ reply refl named tt
+    (λ room. calls_legal _ stop _ fine_forget (record { failed = refl; save = refl; memory = refl }) (forget_plain id)
+    (forget_quiet id)) acts
+acts_legal old new (Import desk number stop) reply named acts =
+    desk_legal old new (Import desk number stop) desk _ reply refl named tt
+    (λ room. calls_legal _ stop _ fine_import (record { failed = refl; save = refl; memory = refl })
+    (import_plain room acts.0) (import_quiet room acts.0)) acts.2
+acts_legal {A} old new (Ask desk id) reply named acts =
+    desk_legal old new (Ask desk id) desk _ reply refl named tt
+    (λ room. looks_legal (AskTells {A = A} id) (ask_plain id) (ask_quiet id)) acts
+acts_legal {A} old new (Export desk id) reply named acts =
+    desk_legal old new (Export desk id) desk _ reply refl named tt
+    (λ room. may_lack_legal None _ (looks_legal (ExportTells {A = A} (length old.exports) id)
+    (export_plain (length old.exports) id) (export_quiet (length old.exports) id))) acts
+acts_legal old new (RestartDesk desk) reply named acts =
+    restart_desk_legal old desk reply acts.end acts.desk.actor named acts.acts acts.reply_is
+
+-- what is not there is answered so
+none_legal : {A : Type 0} (old : Relay) (event : Event A) → ¬ IsNamed old event → IsLegal old event replies.NoSuch
+none_legal old event missing = record {
+  no_such = ((λ _. missing), (λ _. refl));
+  down = ((λ e. cc (e)), (λ d. absurd (missing d.0)));
+  stopped = λ e. cc (e);
+  ended = λ named _ _. absurd (missing named);
+  saves = λ e. cc (e);
+}
+
+pub each_step_is_legal : (A : Type 0) → EachStepIsLegal A
+each_step_is_legal A old new event reply (inl acts) = acts_legal old new event reply acts.0 acts.1
+each_step_is_legal A old new event reply (inr none) =
+    subst (λ (r : Reply A). IsLegal old event r) (sym none.1) (none_legal old event none.0)

@@ -1,0 +1,313 @@
+-- No label leaves twice, and labels of one identification are cut from one document.
+use Rattle.std.proofs.Common.{◌≡◌, ◌⊎◌, ◌+◌, ◌≤◌, inl, inr, ℕ, zero, suc, true, ◌==◌, Some, List, [], ◌∷◌, ◌++◌, length, map, slice_get, take, refl, sym, ap, subst, ◌∙◌, arith, eq-eqb}
+use Rattle.dm_check_blocks.specs.declared.size.Size.{Size}
+use Rattle.dm_encodation.specs.declared.scheme.Scheme.{Scheme}
+use Rattle.dm_finder_frame.specs.Grids.{flipped}
+use Rattle.dm_append_label.specs.Pages.{PageView}
+use Rattle.dm_print_ledger.specs.declared.range.Range.{Range}
+use Rattle.dm_print_ledger.specs.Ranges.{is_free}
+use Rattle.dm_print_ledger.specs.Views.{LedgerView, TicketView}
+use Rattle.dm_assembly_desk.specs.Documents.{Documents}
+use Rattle.dm_event_history.specs.declared.event.Event.{Event}
+use Rattle.dm_event_history.specs.declared.event.Event.TheVariants.{Print, Scan, RestartPrinter, RestartDesk, Ask, Forget, Give, Take, Export, Import}
+use Rattle.dm_event_history.specs.declared.reply.Reply.{Reply}
+use Rattle.dm_event_history.specs.declared.stop.Stop.{Stop}
+use Rattle.dm_event_history.specs.Relay.{CutDocument}
+use Rattle.dm_event_history.proofs.Gotten.{in_either}
+use Rattle.dm_event_history.specs.Actors.{Actor, Running, Failed, Down, stored_of}
+use Rattle.dm_event_history.specs.Relay.{Goods, Label, Move, Relay}
+use Rattle.dm_event_history.specs.Calls.{Answers, Calls, Course, Ending, LacksMemory, MayLackFirst, Saves, cut_off, lost}
+use Rattle.dm_event_history.specs.PrinterCalls.{AreLabelsFor, GiveComes, PrintComes, TakeComes, cut_of, print_faults}
+use Rattle.dm_event_history.specs.Steps.{Acts, DeskGoes, PrinterGoes, Step}
+use Rattle.dm_event_history.specs.Clean.{AreOfOneDocument}
+use Rattle.dm_event_history.specs.Places.{AreOnce, EachStepIsSound, IsSound, free_at, gone, one_if, places}
+use Rattle.dm_event_history.proofs.LeavingGoods.{IsClosed, Leaves, OfCourse, as_known, calls_leave, ends_leave, known_goods, may_lack_leaves, restarts_leave}
+use Rattle.dm_event_history.proofs.Reaching.{reached, reaches}
+use Rattle.dm_event_history.proofs.QuietDesks.{IsQuiet, ask_quiet, export_is_quiet, forget_is_quiet, import_is_quiet, restart_quiet, scan_quiet, take_none}
+use Rattle.dm_event_history.proofs.Numbers.{free_some, gone_more}
+use Rattle.dm_event_history.proofs.Printed.{get_taken}
+use Rattle.dm_event_history.proofs.KeepsNumbers.{each_step_keeps_numbers}
+
+-- ---- the labels of a print
+
+-- a label of this document under this identification, at its place
+pub record IsOfBatch (id : ℕ) (cut : CutDocument) (i : ℕ) (label : Label) : Type 0 where
+  pub id_is : label.page.id ≡ id
+  pub cut_is : label.cut ≡ cut
+  pub m_is : label.page.m ≡ i + 1
+
+-- the labels leave under an identification that was free, and is used
+pub record IsBatch (held : LedgerView) (goods : Goods) : Type 0 where
+  pub id : ℕ
+  pub cut : CutDocument
+  pub free : is_free held.free id ≡ true
+  pub each : (i : ℕ) (label : Label) → slice_get goods.labels i ≡ Some label → IsOfBatch id cut i label
+  pub used : 1 ≤ gone goods.moves id
+
+abbrev pub MayBeBatch : LedgerView → Goods → Type 0
+MayBeBatch held goods = (goods.labels ≡ []) ⊎ IsBatch held goods
+
+batch_closed : (held : LedgerView) → IsClosed (MayBeBatch held)
+batch_closed held = record { none = inl refl; cut = cut }
+  where
+    cut : (most : ℕ) (goods : Goods) → MayBeBatch held goods → MayBeBatch held (cut_off most goods)
+    cut most goods (inl none) = inl (ap (λ (ls : List Label). take most ls) none ∙ take_none most)
+    cut most goods (inr b) = inr (record {
+      id = b.id;
+      cut = b.cut;
+      free = b.free;
+      each = λ i label is. b.each i label (get_taken most goods.labels i label is);
+      used = omega (arith, b.used, gone_more goods.moves (map lost goods.tickets) b.id);
+    })
+
+each_of_batch : (cut : CutDocument) (id k : ℕ) (parts : List (List ℕ)) (labels : List Label) →
+    AreLabelsFor cut id (k + 1) parts labels → (i : ℕ) (label : Label) → slice_get labels i ≡ Some label →
+    IsOfBatch id cut (k + i) label
+each_of_batch cut id k [] [] made i label is = cc
+each_of_batch cut id k [] (x ∷ xs) made i label is = absurd made
+each_of_batch cut id k (part ∷ parts) [] made i label is = absurd made
+each_of_batch cut id k (part ∷ parts) (x ∷ xs) made zero label is =
+    let same : x ≡ label = cc (is) in
+    let place : k + 1 ≡ k + 0 + 1 = omega arith in
+    subst (λ (l : Label). IsOfBatch id cut (k + 0) l) same (record {
+      id_is = ap (λ (q : PageView). q.id) made.0.page_is;
+      cut_is = made.0.cut_is;
+      m_is = ap (λ (q : PageView). q.m) made.0.page_is ∙ place;
+    })
+each_of_batch cut id k (part ∷ parts) (x ∷ xs) made (suc i) label is =
+    let place : (k + 1) + i ≡ k + suc i = omega arith in
+    subst (λ (n : ℕ). IsOfBatch id cut n label) place (each_of_batch cut id (k + 1) parts xs made.1 i label is)
+
+print_batch : {A : Type 0} (before : ℕ) (document : List ℕ) (size : Size) (scheme : Scheme) (held : LedgerView)
+    (course : Course A LedgerView) → PrintComes before document size scheme held course →
+    OfCourse (MayBeBatch held) course
+print_batch before document size scheme held (Saves next goods reply) comes =
+    known_goods (MayBeBatch held) goods _ comes.goods_are (inr (record {
+      id = comes.id;
+      cut = cut_of document size scheme comes.parts;
+      free = comes.used.least.free;
+      each = λ i label is.
+          let place : 0 + i ≡ i = omega arith in
+          subst (λ (n : ℕ). IsOfBatch comes.id (cut_of document size scheme comes.parts) n label) place
+          (each_of_batch (cut_of document size scheme comes.parts) comes.id 0 comes.parts comes.labels comes.are_labels
+          i label is);
+      used = (let e : one_if (comes.id == comes.id) ≡ 1 = ap one_if (eq-eqb comes.id comes.id refl) in omega arith);
+    }))
+print_batch before document size scheme held (Answers reply) comes = tt
+print_batch before document size scheme held LacksMemory comes = tt
+
+print_leaves : {A : Type 0} (before : ℕ) (document : List ℕ) (size : Size) (scheme : Scheme) (stop : Stop)
+    (actor : Actor LedgerView) (end : Ending A LedgerView) →
+    MayLackFirst (Calls print_faults stop (PrintComes before document size scheme)) actor end →
+    MayBeBatch (stored_of actor) end.goods
+print_leaves before document size scheme stop (Running held) end (inl lack) =
+    as_known (MayBeBatch held) end _ lack (inl refl)
+print_leaves before document size scheme stop (Running held) end (inr acts) =
+    as_known (MayBeBatch held) end _ acts.2
+    (ends_leave (MayBeBatch held) (batch_closed held) print_faults stop acts.0 (Running held)
+    (reaches stop (print_batch before document size scheme held acts.0) acts.1))
+print_leaves before document size scheme stop (Failed shown stored) end (inl lack) =
+    as_known (MayBeBatch stored) end _ lack (inl refl)
+print_leaves {A} before document size scheme stop (Failed shown stored) end (inr acts) =
+    as_known (MayBeBatch stored) end _ acts
+    (ends_leave (MayBeBatch stored) (batch_closed stored) print_faults stop (Answers (print_faults {A = A}).failed)
+    (Failed shown stored) (reached stop tt))
+print_leaves before document size scheme stop (Down stored) end acts =
+    as_known (MayBeBatch stored) end _ acts (inl refl)
+
+-- ---- labels that are added
+
+-- goods that leave a relay: no label, or those of a number that was not used before
+pub record IsFresh (old : Relay) (goods : Goods) : Type 0 where
+  pub id : ℕ
+  pub cut : CutDocument
+  pub each : (i : ℕ) (label : Label) → slice_get goods.labels i ≡ Some label → IsOfBatch id cut i label
+  pub used : 1 ≤ gone goods.moves id
+  pub fresh : gone old.moves id ≡ 0
+
+module _ (old : Relay) (goods : Goods) (sound : IsSound old) where
+  -- with no label
+  still_used : goods.labels ≡ [] → (i : ℕ) (label : Label) → slice_get (old.labels ++ goods.labels) i ≡ Some label →
+      1 ≤ gone (old.moves ++ goods.moves) label.page.id
+  still_used none i label is = elim (in_either old.labels goods.labels i label is) [
+    | inl first ↦ omega (arith, sound.used i label first, gone_more old.moves goods.moves label.page.id)
+    | inr later ↦ not_there later.0 label (subst (λ (ls : List Label). slice_get ls later.0 ≡ Some label) none later.2)
+  ]
+    where
+      not_there : {X : Type 0} (j : ℕ) (label : Label) → slice_get [] j ≡ Some label → X
+      not_there j label is = cc
+
+  still_there : goods.labels ≡ [] → (i : ℕ) (label : Label) → slice_get (old.labels ++ goods.labels) i ≡ Some label →
+      slice_get old.labels i ≡ Some label
+  still_there none i label is = elim (in_either old.labels goods.labels i label is) [
+    | inl first ↦ first
+    | inr later ↦ not_there later.0 (subst (λ (ls : List Label). slice_get ls later.0 ≡ Some label) none later.2)
+  ]
+    where
+      not_there : {X : Type 0} (j : ℕ) → slice_get [] j ≡ Some label → X
+      not_there j is = cc
+
+  -- a label that left before has another identification
+  apart : (f : IsFresh old goods) (i : ℕ) (label : Label) {X : Type 0} → slice_get old.labels i ≡ Some label →
+      label.page.id ≡ f.id → X
+  apart f i label is same =
+      let used : 1 ≤ gone old.moves f.id = subst (λ (n : ℕ). 1 ≤ gone old.moves n) same (sound.used i label is) in
+      absurd (omega (arith, used, f.fresh))
+
+  more_used : IsFresh old goods → (i : ℕ) (label : Label) → slice_get (old.labels ++ goods.labels) i ≡ Some label →
+      1 ≤ gone (old.moves ++ goods.moves) label.page.id
+  more_used f i label is = elim (in_either old.labels goods.labels i label is) [
+    | inl first ↦ omega (arith, sound.used i label first, gone_more old.moves goods.moves label.page.id)
+    | inr later ↦
+        let own : label.page.id ≡ f.id = (f.each later.0 label later.2).id_is in
+        let used : 1 ≤ gone goods.moves label.page.id =
+        subst (λ (n : ℕ). 1 ≤ gone goods.moves n) (sym own) f.used in
+        omega (arith, used, gone_more old.moves goods.moves label.page.id)
+  ]
+
+  more_document : IsFresh old goods → AreOfOneDocument (old.labels ++ goods.labels)
+  more_document f i j one other is there same =
+      elim (in_either old.labels goods.labels i one is) [
+        | inl first ↦ elim (in_either old.labels goods.labels j other there) [
+          | inl second ↦ sound.one_document i j one other first second same
+          | inr later ↦ apart f i one first (same ∙ (f.each later.0 other later.2).id_is)
+        ]
+        | inr later ↦ elim (in_either old.labels goods.labels j other there) [
+          | inl second ↦ apart f j other second (sym same ∙ (f.each later.0 one later.2).id_is)
+          | inr also ↦ (f.each later.0 one later.2).cut_is ∙ sym (f.each also.0 other also.2).cut_is
+        ]
+      ]
+
+  more_once : IsFresh old goods → AreOnce (old.labels ++ goods.labels)
+  more_once f i j one other is there same number =
+      elim (in_either old.labels goods.labels i one is) [
+        | inl first ↦ elim (in_either old.labels goods.labels j other there) [
+          | inl second ↦ sound.once i j one other first second same number
+          | inr later ↦ apart f i one first (same ∙ (f.each later.0 other later.2).id_is)
+        ]
+        | inr later ↦ elim (in_either old.labels goods.labels j other there) [
+          | inl second ↦ apart f j other second (sym same ∙ (f.each later.0 one later.2).id_is)
+          | inr also ↦
+              let m : later.0 + 1 ≡ also.0 + 1 =
+              sym (f.each later.0 one later.2).m_is ∙ number ∙ (f.each also.0 other also.2).m_is in
+              omega (arith, m, later.1, also.1)
+        ]
+      ]
+
+abbrev MayBeFresh : Relay → Goods → Type 0
+MayBeFresh old goods = (goods.labels ≡ []) ⊎ IsFresh old goods
+
+abbrev AreSoundLabels : List Label → List Move → Type 0
+AreSoundLabels labels moves =
+    ((i : ℕ) (label : Label) → slice_get labels i ≡ Some label → 1 ≤ gone moves label.page.id)
+    × AreOfOneDocument labels × AreOnce labels
+
+more_labels : (old : Relay) (goods : Goods) → IsSound old → MayBeFresh old goods →
+    AreSoundLabels (old.labels ++ goods.labels) (old.moves ++ goods.moves)
+more_labels old goods sound (inl none) = (
+  still_used old goods sound none,
+  (λ i j one other is there same. sound.one_document i j one other (still_there old goods sound none i one is)
+      (still_there old goods sound none j other there) same),
+  (λ i j one other is there same number. sound.once i j one other (still_there old goods sound none i one is)
+      (still_there old goods sound none j other there) same number),
+)
+more_labels old goods sound (inr f) =
+    (more_used old goods sound f, more_document old goods sound f, more_once old goods sound f)
+
+-- a number that is free is not used
+fresh_of : (old : Relay) (printer : ℕ) (actor : Actor LedgerView) (goods : Goods) → IsSound old →
+    slice_get old.printers printer ≡ Some actor → MayBeBatch (stored_of actor) goods → MayBeFresh old goods
+fresh_of old printer actor goods sound was (inl none) = inl none
+fresh_of old printer actor goods sound was (inr b) = inr (record {
+  id = b.id;
+  cut = b.cut;
+  each = b.each;
+  used = b.used;
+  fresh =
+      let most : places old b.id ≤ 1 = sound.apart b.id in
+      let free : 1 ≤ free_at old.printers b.id = free_some old.printers printer b.id actor was b.free in
+      omega arith;
+})
+
+-- ---- steps
+
+-- labels and moves after a step
+printer_labels : {A : Type 0} (old new : Relay) (printer : ℕ) (Acts : Actor LedgerView → Ending A LedgerView → Type 0)
+    (reply : Reply A) → IsSound old →
+    ((actor : Actor LedgerView) (end : Ending A LedgerView) → Acts actor end → MayBeBatch (stored_of actor) end.goods) →
+    PrinterGoes old printer Acts reply new → AreSoundLabels new.labels new.moves
+printer_labels old new printer Acts reply sound each g =
+    subst (λ (r : Relay). AreSoundLabels r.labels r.moves) (sym g.new_is)
+    (more_labels old g.end.goods sound
+    (fresh_of old printer g.actor g.end.goods sound g.was (each g.actor g.end g.acts)))
+
+abbrev HasNoLabels : Goods → Type 0
+HasNoLabels goods = goods.labels ≡ []
+
+no_labels : IsClosed HasNoLabels
+no_labels = record {
+  none = refl;
+  cut = λ most goods none. ap (λ (ls : List Label). take most ls) none ∙ take_none most;
+}
+
+desk_labels : {A : Type 0} (old new : Relay) (number : ℕ) (Acts : ℕ → Actor Documents → Ending A Documents → Type 0)
+    (reply : Reply A) → IsSound old → ((room : ℕ) → Leaves IsQuiet (Acts room)) → DeskGoes old number Acts reply new →
+    AreSoundLabels new.labels new.moves
+desk_labels old new number Acts reply sound each g =
+    subst (λ (r : Relay). AreSoundLabels r.labels r.moves) (sym g.new_is)
+    (more_labels old g.end.goods sound (inl (each g.desk.room g.desk.actor g.end g.acts).labels))
+
+give_none : {A : Type 0} (before receiver : ℕ) (range : Range) (held : LedgerView) (course : Course A LedgerView) →
+    GiveComes before receiver range held course → OfCourse HasNoLabels course
+give_none before receiver range held (Saves next goods reply) comes = ap (λ (g : Goods). g.labels) comes.goods_are
+give_none before receiver range held (Answers reply) comes = tt
+give_none before receiver range held LacksMemory comes = tt
+
+take_none_leave : {A : Type 0} (number : ℕ) (ticket : TicketView) (held : LedgerView) (course : Course A LedgerView) →
+    TakeComes number ticket held course → OfCourse HasNoLabels course
+take_none_leave number ticket held (Saves next goods reply) comes = ap (λ (g : Goods). g.labels) comes.goods_are
+take_none_leave number ticket held (Answers reply) comes = tt
+take_none_leave number ticket held LacksMemory comes = tt
+
+acts_labels : {A : Type 0} (old new : Relay) (event : Event A) (reply : Reply A) → IsSound old →
+    Acts old event reply new → AreSoundLabels new.labels new.moves
+acts_labels old new (Print printer document size scheme stop) reply sound acts =
+    printer_labels old new printer _ reply sound (print_leaves (length old.labels) document size scheme stop) acts
+acts_labels old new (Give printer receiver range stop) reply sound acts =
+    printer_labels old new printer _ reply sound
+    (λ actor end is. inl (may_lack_leaves HasNoLabels no_labels _ (calls_leave HasNoLabels no_labels _ stop _
+    (give_none (length old.tickets) receiver range)) actor end is)) acts
+acts_labels old new (Take printer number stop) reply sound acts =
+    printer_labels old new printer _ reply sound
+    (λ actor end is. inl (calls_leave HasNoLabels no_labels _ stop _ (take_none_leave number acts.0) actor end is)) acts.2
+acts_labels old new (RestartPrinter printer) reply sound acts =
+    printer_labels old new printer _ reply sound
+    (λ actor end is. inl (restarts_leave HasNoLabels no_labels _ actor end is)) acts
+acts_labels old new (Scan desk number flips stop) reply sound acts =
+    desk_labels old new desk _ reply sound (λ room. scan_quiet _ stop room (flipped acts.0.grid flips)) acts.2
+acts_labels old new (Forget desk id stop) reply sound acts =
+    desk_labels old new desk _ reply sound (λ room. forget_is_quiet _ stop id) acts
+acts_labels old new (Import desk number stop) reply sound acts =
+    desk_labels old new desk _ reply sound (λ room. import_is_quiet _ stop room acts.0) acts.2
+acts_labels old new (Ask desk id) reply sound acts = desk_labels old new desk _ reply sound (λ room. ask_quiet id) acts
+acts_labels old new (Export desk id) reply sound acts =
+    desk_labels old new desk _ reply sound (λ room. export_is_quiet (length old.exports) id) acts
+acts_labels old new (RestartDesk desk) reply sound acts =
+    desk_labels old new desk _ reply sound (λ room. restart_quiet _) acts
+
+pub each_step_is_sound : (A : Type 0) → EachStepIsSound A
+each_step_is_sound A old new event reply sound step =
+    let kept = each_step_keeps_numbers A old new event reply sound.order step in
+    let labels = by_case step in
+    record {
+      order = kept.0;
+      apart = λ n. omega (arith, kept.1 n, sound.apart n);
+      used = labels.0;
+      one_document = labels.1;
+      once = labels.2;
+    }
+  where
+    by_case : Step old event reply new → AreSoundLabels new.labels new.moves
+    by_case (inl acts) = acts_labels old new event reply sound acts.1
+    by_case (inr none) = subst (λ (r : Relay). AreSoundLabels r.labels r.moves) (sym none.2)
+        (sound.used, sound.one_document, sound.once)

@@ -1,0 +1,124 @@
+-- Nothing is open but memory.
+use Rattle.std.proofs.Common.{◌≡◌, ◌⊎◌, inl, inr, ℕ, Some, length, sym, ap, subst, ◌∙◌}
+use Rattle.dm_finder_frame.specs.Grids.{flipped}
+use Rattle.dm_print_ledger.specs.declared.fault.OpenFault.TheVariants as open_fault
+use Rattle.dm_print_ledger.specs.Views.{LedgerView, TicketView}
+use Rattle.dm_assembly_desk.specs.declared.fault.DeskFault.TheVariants as desk_fault
+use Rattle.dm_assembly_desk.specs.Documents.{Documents}
+use Rattle.dm_event_history.specs.declared.event.Event.{Event}
+use Rattle.dm_event_history.specs.declared.event.Event.TheVariants.{Print, Scan, RestartPrinter, RestartDesk, Ask, Forget, Give, Take, Export, Import}
+use Rattle.dm_event_history.specs.declared.reply.Reply.{Reply}
+use Rattle.dm_event_history.specs.declared.reply.Reply.TheVariants.{PrinterRefused, DeskRefused}
+use Rattle.dm_event_history.specs.Actors.{Actor}
+use Rattle.dm_event_history.specs.Relay as relays
+use Rattle.dm_event_history.specs.Relay.{Relay, Desk, Label, with_printer, with_desk}
+use Rattle.dm_event_history.specs.Calls.{Calls, Ending, MayLackFirst}
+use Rattle.dm_event_history.specs.PrinterCalls.{GiveComes, PrintComes, TakeComes, give_faults, print_faults, take_faults}
+use Rattle.dm_event_history.specs.DeskCalls.{AskTells, ExportTells, ForgetComes, ImportComes, ScanComes, forget_faults, import_faults, scan_faults}
+use Rattle.dm_event_history.specs.Steps.{Acts, DeskGoes, PrinterGoes, Step}
+use Rattle.dm_event_history.specs.Laws.{IsOfMemory, NothingIsOpenButMemory}
+use Rattle.dm_event_history.proofs.OneCourse.{print_determined, give_determined, take_determined, scan_determined, forget_determined, import_determined}
+use Rattle.dm_event_history.proofs.OneEnding.{IsOne, calls_one, may_lack_one, restarts_one, looks_one, ask_one, export_one}
+
+abbrev Same : {A : Type 0} → Reply A → Reply A → Relay → Relay → Type 0
+Same r s one other = ((r ≡ s) × (one ≡ other)) ⊎ (IsOfMemory r ⊎ IsOfMemory s)
+
+told_so : {A : Type 0} (r known : Reply A) → r ≡ known → IsOfMemory known → IsOfMemory r
+told_so {A} r known same memory = subst (λ (t : Reply A). IsOfMemory t) (sym same) memory
+
+printer_one : {A : Type 0} (old one other : Relay) (printer : ℕ) (Acts : Actor LedgerView → Ending A LedgerView → Type 0)
+    (r s : Reply A) → IsOne Acts → PrinterGoes old printer Acts r one → PrinterGoes old printer Acts s other →
+    Same r s one other
+printer_one {A} old one other printer Acts r s same p q =
+    let there : Some p.actor ≡ Some q.actor = sym p.was ∙ q.was in
+    let actor : p.actor ≡ q.actor = cc (there) in
+    let acts : Acts p.actor q.end = subst (λ (a : Actor LedgerView). Acts a q.end) (sym actor) q.acts in
+    elim (same p.actor p.end q.end p.acts acts) [
+      | inl e ↦ inl (
+        p.reply_is ∙ ap (λ (x : Ending A LedgerView). x.reply) e ∙ sym q.reply_is,
+        p.new_is ∙ ap (λ (x : Ending A LedgerView). with_printer old printer x.actor x.goods) e ∙ sym q.new_is,
+      )
+      | inr memory ↦ elim memory [
+        | inl first ↦ inr (inl (told_so r p.end.reply p.reply_is first))
+        | inr second ↦ inr (inr (told_so s q.end.reply q.reply_is second))
+      ]
+    ]
+
+desk_one : {A : Type 0} (old one other : Relay) (number : ℕ) (Acts : ℕ → Actor Documents → Ending A Documents → Type 0)
+    (r s : Reply A) → ((room : ℕ) → IsOne (Acts room)) → DeskGoes old number Acts r one →
+    DeskGoes old number Acts s other → Same r s one other
+desk_one {A} old one other number Acts r s same p q =
+    let there : Some p.desk ≡ Some q.desk = sym p.was ∙ q.was in
+    let desk : p.desk ≡ q.desk = cc (there) in
+    let acts : Acts p.desk.room p.desk.actor q.end =
+    subst (λ (d : Desk). Acts d.room d.actor q.end) (sym desk) q.acts in
+    let After : Desk → Ending A Documents → Relay =
+    λ d x. with_desk old number (record { room = d.room; actor = x.actor }) x.goods in
+    elim (same p.desk.room p.desk.actor p.end q.end p.acts acts) [
+      | inl e ↦ inl (
+        p.reply_is ∙ ap (λ (x : Ending A Documents). x.reply) e ∙ sym q.reply_is,
+        p.new_is ∙ (λ i. After (desk i) (e i)) ∙ sym q.new_is,
+      )
+      | inr memory ↦ elim memory [
+        | inl first ↦ inr (inl (told_so r p.end.reply p.reply_is first))
+        | inr second ↦ inr (inr (told_so s q.end.reply q.reply_is second))
+      ]
+    ]
+
+acts_one : {A : Type 0} (old one other : Relay) (event : Event A) (r s : Reply A) → Acts old event r one →
+    Acts old event s other → Same r s one other
+acts_one {A} old one other (Print printer document size scheme stop) r s p q =
+    printer_one old one other printer _ r s
+    (may_lack_one _ (calls_one print_faults stop (PrintComes {A = A} (length old.labels) document size scheme) tt
+    (print_determined (length old.labels) document size scheme))) p q
+acts_one {A} old one other (Give printer receiver range stop) r s p q =
+    printer_one old one other printer _ r s
+    (may_lack_one _ (calls_one give_faults stop (GiveComes {A = A} (length old.tickets) receiver range) tt
+    (give_determined (length old.tickets) receiver range))) p q
+acts_one {A} old one other (Take printer number stop) r s p q =
+    let there : Some p.0 ≡ Some q.0 = sym p.1 ∙ q.1 in
+    let ticket : p.0 ≡ q.0 = cc (there) in
+    let goes : PrinterGoes old printer (Calls take_faults stop (TakeComes number p.0)) s other =
+    subst (λ (t : TicketView). PrinterGoes old printer (Calls take_faults stop (TakeComes number t)) s other)
+    (sym ticket) q.2 in
+    printer_one old one other printer _ r s
+    (calls_one take_faults stop (TakeComes {A = A} number p.0) tt (take_determined number p.0)) p.2 goes
+acts_one old one other (RestartPrinter printer) r s p q =
+    printer_one old one other printer _ r s (restarts_one (PrinterRefused open_fault.Memory) tt) p q
+acts_one {A} old one other (Scan desk number flips stop) r s p q =
+    let there : Some p.0 ≡ Some q.0 = sym p.1 ∙ q.1 in
+    let label : p.0 ≡ q.0 = cc (there) in
+    let Goes : Label → Reply A → Relay → Type 0 = λ l t new. DeskGoes old desk
+    (λ room. MayLackFirst (Calls scan_faults stop (ScanComes room (flipped l.grid flips)))) t new in
+    let goes : Goes p.0 s other = subst (λ (l : Label). Goes l s other) (sym label) q.2 in
+    desk_one old one other desk _ r s
+    (λ room. may_lack_one _ (calls_one scan_faults stop (ScanComes {A = A} room (flipped p.0.grid flips)) tt
+    (scan_determined room (flipped p.0.grid flips)))) p.2 goes
+acts_one {A} old one other (Forget desk id stop) r s p q =
+    desk_one old one other desk _ r s
+    (λ room. calls_one forget_faults stop (ForgetComes {A = A} id) tt (forget_determined id)) p q
+acts_one {A} old one other (Import desk number stop) r s p q =
+    let there : Some p.0 ≡ Some q.0 = sym p.1 ∙ q.1 in
+    let export : p.0 ≡ q.0 = cc (there) in
+    let Goes : relays.Export → Reply A → Relay → Type 0 = λ x t new. DeskGoes old desk
+    (λ room. Calls import_faults stop (ImportComes room x)) t new in
+    let goes : Goes p.0 s other = subst (λ (x : relays.Export). Goes x s other) (sym export) q.2 in
+    desk_one old one other desk _ r s
+    (λ room. calls_one import_faults stop (ImportComes {A = A} room p.0) tt (import_determined room p.0)) p.2 goes
+acts_one {A} old one other (Ask desk id) r s p q =
+    desk_one old one other desk _ r s (λ room. looks_one (AskTells {A = A} id) (ask_one id)) p q
+acts_one {A} old one other (Export desk id) r s p q =
+    desk_one old one other desk _ r s
+    (λ room. may_lack_one _ (looks_one (ExportTells {A = A} (length old.exports) id) (export_one (length old.exports) id)))
+    p q
+acts_one old one other (RestartDesk desk) r s p q =
+    desk_one old one other desk _ r s (λ room. restarts_one (DeskRefused desk_fault.Memory) tt) p q
+
+pub only_memory : (A : Type 0) → NothingIsOpenButMemory A
+only_memory A old one other event r s p q = by_case p q
+  where
+    by_case : Step old event r one → Step old event s other → Same r s one other
+    by_case (inl a) (inl b) = acts_one old one other event r s a.1 b.1
+    by_case (inl a) (inr b) = absurd (b.0 a.0)
+    by_case (inr a) (inl b) = absurd (a.0 b.0)
+    by_case (inr a) (inr b) = inl (a.1 ∙ sym b.1, a.2 ∙ sym b.2)

@@ -1,0 +1,785 @@
+-- In a run in which each scan is fair each reply is safe.
+use Rattle.std.proofs.Common.{◌≡◌, ◌≢◌, ◌⊎◌, ◌↔◌, ◌+◌, ◌≤◌, ◌==◌, inl, inr, ℕ, zero, suc, Bool, true, false, Option, Some, None, Result, Ok, Err, List, [], ◌∷◌, length, slice_get, slice_index_or, IsSome, refl, sym, ap, subst, ◌∙◌, arith, eq-eqb}
+use Rattle.std.specs.Prelude.{is_some, is_none, ◌&&◌, MatchBool, unwrap_or, option_map}
+use Rattle.std.specs.List.{list_all, list_any}
+use Rattle.std.specs.Option.{option_or}
+use Rattle.std.specs.FinMap as finite
+use Rattle.std.specs.FinMap.{contains_key-keys}
+use Rattle.std.specs.Ordering.{nat_cmp}
+use Rattle.std.specs.Ordering.{eq_by_cmp}
+use Rattle.dm_append_label.specs.Pages.{PageView}
+use Rattle.dm_append_label.specs.Heads.{IsHead, head_of}
+use Rattle.dm_append_label.specs.declared.fault.LabelFault.TheVariants as label_fault
+use Rattle.dm_finder_frame.specs.Grids.{flipped}
+use Rattle.dm_symbol.specs.Symbols.{IsNear}
+use Rattle.dm_assembly_desk.specs.declared.reply.Kind.{Kind}
+use Rattle.dm_assembly_desk.specs.declared.reply.Kind.TheVariants.{New, Again, Complete}
+use Rattle.dm_assembly_desk.specs.declared.reply.Imported as imported_type
+use Rattle.dm_assembly_desk.specs.declared.fault.AskFault.{AskFault}
+use Rattle.dm_assembly_desk.specs.declared.fault.AskFault.TheVariants as ask_fault
+use Rattle.dm_assembly_desk.specs.declared.fault.ForgetFault.TheVariants as forget_fault
+use Rattle.dm_assembly_desk.specs.declared.fault.ScanFault.{ScanFault}
+use Rattle.dm_assembly_desk.specs.declared.fault.ScanFault.TheVariants as scan_fault
+use Rattle.dm_assembly_desk.specs.declared.fault.ImportFault.{ImportFault}
+use Rattle.dm_assembly_desk.specs.declared.fault.ImportFault.TheVariants as import_fault
+use Rattle.dm_assembly_desk.specs.Pages.{Pages, lacks, mask, missing_mask, names, page}
+use Rattle.dm_assembly_desk.specs.Documents.{Documents, page_at}
+use Rattle.dm_assembly_desk.specs.Answers.{answer}
+use Rattle.dm_assembly_desk.specs.Asking.{Asks, AsksWhole}
+use Rattle.dm_assembly_desk.specs.Importing.{import_answer}
+use Rattle.dm_assembly_desk.specs.Merging.{added_mask, union_of}
+use Rattle.dm_assembly_desk.proofs.ImportFacts.{KindSays, names_added, page_merged}
+use Rattle.dm_assembly_desk.proofs.ImportLaws.{no_longer}
+use Rattle.dm_assembly_desk.proofs.Loading.{itself, keys_rise, length-keys}
+use Rattle.dm_assembly_desk.proofs.Masks.{names_missing}
+use Rattle.dm_assembly_desk.proofs.MergingLaws.{length_both}
+use Rattle.dm_event_history.specs.declared.event.Event.{Event}
+use Rattle.dm_event_history.specs.declared.event.Event.TheVariants.{Scan, Ask, Forget, Export, Import}
+use Rattle.dm_event_history.specs.declared.reply.Reply.{Reply}
+use Rattle.dm_event_history.specs.declared.reply.Reply.TheVariants.{Scanned, ScanRefused, Document, AskRefused, Forgotten, ForgetRefused, Exported, ExportRefused, Imported, ImportRefused}
+use Rattle.dm_event_history.specs.declared.reply.Reply.TheVariants as replies
+use Rattle.dm_event_history.specs.declared.stop.Stop.{Stop}
+use Rattle.dm_event_history.specs.Actors.{Actor, Running, Failed, Down, shown_of}
+use Rattle.dm_event_history.specs.Relay as relays
+use Rattle.dm_event_history.specs.Relay.{CutDocument, Desk, Label, Relay}
+use Rattle.dm_event_history.specs.Calls.{Calls, Looks, MayLackFirst}
+use Rattle.dm_event_history.specs.DeskCalls.{AskTells, ExportTells, ExportsHeld, ForgetComes, ImportComes, ScanComes, ask_reply, by_import, forget_course, forget_faults, import_faults, imported, scan_course, scan_faults}
+use Rattle.dm_event_history.specs.Steps.{Acts, DeskGoes, IsNamed, Step}
+use Rattle.dm_event_history.specs.Runs.{Moment}
+use Rattle.dm_event_history.specs.Clean.{ArePrinted, AreOfOneDocument, HaveLeft, IsCleanActor, IsCleanExport}
+use Rattle.dm_event_history.specs.Places.{IsSound}
+use Rattle.dm_event_history.specs.Headline.{AreAllClean, IsFairEvent}
+use Rattle.dm_event_history.specs.Safe.{EachFairReplyIsSafe, IsExportSafe, IsFullFor, IsImportKindSafe, IsImportedSafe, IsKindSafe, IsSafe, IsTrulyMissing, Known, docs, known_of}
+use Rattle.dm_event_history.proofs.Deciding.{decided, if_not, if_so, or_left, or_right, same_number, same_or_other}
+use Rattle.dm_event_history.proofs.HeldPages.{Disagrees, disagrees, holds_again, holds_all_others, is_free, is_full, lacks_another, lacks_means}
+use Rattle.dm_event_history.proofs.MergedPages.{Differs, all_held, one_lacks}
+use Rattle.dm_event_history.proofs.ImportAnswers.{import_conflict, import_full}
+use Rattle.dm_event_history.proofs.ImportKinds.{kind_says, named_there, there_named}
+use Rattle.dm_event_history.proofs.Gives.{each_clean_desk_gives}
+use Rattle.dm_event_history.proofs.Stays.{page_in}
+use Rattle.dm_event_history.proofs.Headline.{each_fair_run_is_clean, each_run_is_sound, saved_fair}
+use Rattle.dm_event_history.proofs.Having.{HasAll}
+use Rattle.dm_event_history.proofs.AsTold.{import_answer_plain}
+use Rattle.dm_event_history.proofs.Answered.{Ended, IsOwn, is_answered, is_looked, is_made}
+use Rattle.dm_event_history.proofs.Told.{forget_told, import_refused, import_told, no_page, own_forget, own_import, own_scan, scan_refused, scan_told, was_wanted}
+use Rattle.dm_event_history.proofs.Between.{AreBetween, IsBetween, run_between}
+
+-- ---- what was printed
+
+docs_found : (labels : List Label) (n : ℕ) (label : Label) → slice_get labels n ≡ Some label →
+    (cut : CutDocument) × (docs labels label.page.id ≡ Some cut) × (k : ℕ) × (other : Label)
+    × (slice_get labels k ≡ Some other) × (other.page.id ≡ label.page.id) × (other.cut ≡ cut)
+docs_found [] n label there = cc (there)
+docs_found (own ∷ labels) zero label there =
+    let same : own ≡ label = cc (there) in
+    let is : own.page.id ≡ label.page.id = ap (λ (l : Label). l.page.id) same in (
+      own.cut,
+      if_so (own.page.id == label.page.id) (Some own.cut) (docs labels label.page.id)
+          (eq-eqb own.page.id label.page.id is),
+      0,
+      own,
+      refl,
+      is,
+      refl,
+    )
+docs_found (own ∷ labels) (suc n) label there =
+    let more = docs_found labels n label there in
+    elim (same_or_other own.page.id label.page.id) [
+      | inl same ↦ (
+        own.cut,
+        if_so (own.page.id == label.page.id) (Some own.cut) (docs labels label.page.id)
+            (eq-eqb own.page.id label.page.id same),
+        0,
+        own,
+        refl,
+        same,
+        refl,
+      )
+      | inr away ↦ (
+        more.0,
+        if_not (own.page.id == label.page.id) (Some own.cut) (docs labels label.page.id)
+            (λ same. away (same_number own.page.id label.page.id same)) ∙ more.1,
+        suc more.2,
+        more.3,
+        more.4,
+        more.5,
+        more.6,
+      )
+    ]
+
+-- the document of a label that left is what was printed under its identification
+pub docs_of : (labels : List Label) → AreOfOneDocument labels → (n : ℕ) (label : Label) (id : ℕ) →
+    slice_get labels n ≡ Some label → label.page.id ≡ id → docs labels id ≡ Some label.cut
+docs_of labels one n label id there is =
+    let found = docs_found labels n label there in
+    let same : label.cut ≡ found.0 = one n found.2 label found.3 there found.4 (sym found.5) ∙ found.6 in
+    subst (λ (i : ℕ). docs labels i ≡ Some label.cut) is (found.1 ∙ ap (λ (c : CutDocument). Some c) (sym same))
+
+-- ---- what is held, of what was printed
+
+module _ (labels : List Label) (one : AreOfOneDocument labels) (printed : ArePrinted labels) (held : Documents)
+    (left : HaveLeft labels held) where
+  counted_is : (id : ℕ) (pages : Pages) → finite.get held id ≡ Some pages →
+      (cut : CutDocument) × (docs labels id ≡ Some cut) × (length pages ≡ length cut.parts)
+  counted_is id pages is =
+      let c = left.counts id pages is in (
+        c.label.cut,
+        docs_of labels one c.number c.label id c.there c.id_is,
+        sym c.n_is ∙ (printed c.number c.label c.there).n_is,
+      )
+
+  part_is : (id m : ℕ) (bytes : List ℕ) (cut : CutDocument) → docs labels id ≡ Some cut →
+      page_at held id m ≡ Some bytes → (i : ℕ) × (m ≡ i + 1) × (slice_get cut.parts i ≡ Some bytes)
+  part_is id m bytes cut is at =
+      let l = left.pages id m bytes at in
+      let p = printed l.number l.label l.there in
+      let own : docs labels id ≡ Some l.label.cut = docs_of labels one l.number l.label id l.there l.id_is in
+      let same : l.label.cut ≡ cut = cc (own, is) in (
+        p.place,
+        sym l.m_is ∙ p.m_is,
+        subst (λ (c : CutDocument). slice_get c.parts p.place ≡ Some bytes) same
+            (p.part ∙ ap (λ (b : List ℕ). Some b) l.bytes_are),
+      )
+
+-- ---- pages and masks
+
+one_missing : (ps : Pages) → list_all is_some ps ≡ false → (m : ℕ) × (lacks ps m ≡ true)
+one_missing [] none = cc (none)
+one_missing (None ∷ ps) none = (1, refl)
+one_missing (Some x ∷ ps) none = (let t = one_missing ps none in later t.0 t.1)
+  where
+    later : (m : ℕ) → lacks ps m ≡ true → (k : ℕ) × (lacks (Some x ∷ ps) k ≡ true)
+    later zero l = cc (l)
+    later (suc m) l = (suc (suc m), l)
+
+-- a page that is there has a number of these
+place_of : (pages : Pages) (m : ℕ) → IsSome (page pages m) → (1 ≤ m) × (m ≤ length pages)
+place_of pages zero some = absurd (cc (some))
+place_of pages (suc i) some = (omega arith, below pages i some)
+  where
+    below : (ps : Pages) (k : ℕ) → IsSome (slice_index_or ps k None) → suc k ≤ length ps
+    below [] k there = absurd (cc (there))
+    below (p ∷ ps) zero there = omega arith
+    below (p ∷ ps) (suc k) there = (let rest = below ps k there in omega arith)
+
+neither : (o p : Option (List ℕ)) → option_or o p ≡ None → (o ≡ None) × (p ≡ None)
+neither None p x = (refl, x)
+neither (Some b) p x = cc (x)
+
+either_held : (o p : Option (List ℕ)) → IsSome (option_or o p) → ¬ ((is_none o && is_some p) ≡ true) → IsSome o
+either_held None None x y = cc (x)
+either_held None (Some c) x y = absurd (y refl)
+either_held (Some b) p x y = refl
+
+by_named : (o p : Option (List ℕ)) → (is_none o && is_some p) ≡ true → (o ≡ None) × IsSome p
+by_named None (Some c) x = (refl, refl)
+by_named None None x = cc (x)
+by_named (Some b) (Some c) x = cc (x)
+by_named (Some b) None x = cc (x)
+
+by_unnamed : (o p : Option (List ℕ)) → IsSome p → ¬ ((is_none o && is_some p) ≡ true) → IsSome o
+by_unnamed (Some b) p x y = refl
+by_unnamed None (Some c) x y = absurd (y refl)
+by_unnamed None None x y = cc (x)
+
+again_by : (kind : Kind) (added : ℕ) (own pages : Pages) → added ≡ added_mask own pages → KindSays kind own pages →
+    (kind ≡ Again) ↔ (added ≡ 0)
+again_by Again added own pages is says = ((λ _. is ∙ says), (λ _. refl))
+again_by New added own pages is says = ((λ e. cc (e)), (λ none. absurd (says.0 (sym is ∙ none))))
+again_by Complete added own pages is says = ((λ e. cc (e)), (λ none. absurd (says.0 (sym is ∙ none))))
+
+-- ---- a desk that shows what was printed, between what it surely holds and what it may hold
+
+module _ (A : Type 0) (old : Relay) (earlier : List (Moment A)) (d : ℕ) (held : Documents)
+    (one : AreOfOneDocument old.labels) (printed : ArePrinted old.labels) (left : HaveLeft old.labels held)
+    (b : IsBetween earlier d held) where
+  abbrev known : Known
+  known = known_of old earlier
+
+  not_surely : (id : ℕ) → finite.get held id ≡ None → (m : ℕ) → ¬ known.holds d id m
+  not_surely id none m surely =
+      no_page (page_at held id m) (b.surely id m surely) (ap (λ (o : Option Pages). page (unwrap_or o []) m) none ∙
+      page_none m)
+    where
+      page_none : (m : ℕ) → page [] m ≡ None
+      page_none zero = refl
+      page_none (suc i) = refl
+
+  possibly : (id m : ℕ) (pages : Pages) → finite.get held id ≡ Some pages → IsSome (page pages m) → known.may_hold d id m
+  possibly id m pages is some =
+      b.possibly id m (subst (λ (o : Option (List ℕ)). IsSome o) (sym (page_in held id m pages is)) some)
+
+  not_held : (id m : ℕ) (pages : Pages) → finite.get held id ≡ Some pages → page pages m ≡ None → ¬ known.holds d id m
+  not_held id m pages is none surely =
+      no_page (page_at held id m) (b.surely id m surely) (page_in held id m pages is ∙ none)
+
+  -- ---- asks
+
+  truly_missing : (id : ℕ) (pages : Pages) → finite.get held id ≡ Some pages → list_all is_some pages ≡ false →
+      IsTrulyMissing known d id (missing_mask pages)
+  truly_missing id pages is some =
+      let t = counted_is old.labels one printed held left id pages is in
+      let first = one_missing pages some in
+      let here = left.some id pages is in
+      let place = place_of pages here.0 here.1 in
+      record {
+        document = t.0;
+        printed = t.1;
+        some_named = (first.0, names_missing pages first.0 ∙ first.1);
+        not_all = (
+          here.0,
+          place.0,
+          (let l = t.2 in let r = place.1 in omega arith),
+          (λ named. no_page (page pages here.0) here.1
+              ((lacks_means pages here.0).0 (sym (names_missing pages here.0) ∙ named)).2),
+        );
+        nothing_else = λ m named. let u = (lacks_means pages m).0 (sym (names_missing pages m) ∙ named) in
+            (u.0, (let a = u.1 in let l = t.2 in omega arith));
+        not_surely = λ m named. not_held id m pages is
+            ((lacks_means pages m).0 (sym (names_missing pages m) ∙ named)).2;
+        possibly = λ m least most unnamed. possibly id m pages is (elim (decided (lacks pages m)) [
+          | inl lack ↦ absurd (unnamed (names_missing pages m ∙ lack))
+          | inr has ↦ (lacks_means pages m).1 has least (let l = t.2 in omega arith)
+        ]);
+      }
+
+  all_possibly : (id : ℕ) (pages : Pages) → finite.get held id ≡ Some pages → list_all is_some pages ≡ true →
+      (m : ℕ) → 1 ≤ m → m ≤ length pages → known.may_hold d id m
+  all_possibly id pages is all m least most = possibly id m pages is (all_held pages all m least most)
+
+  -- the answer to an ask, where a document that is given is that which was printed
+  ask_is_safe : (id : ℕ) (given : Result (List ℕ) AskFault) →
+      ((bytes : List ℕ) → given ≡ Ok bytes → (n : ℕ) (label : Label) → slice_get old.labels n ≡ Some label →
+      label.page.id ≡ id → label.cut.bytes ≡ bytes) → (o : Option Pages) → finite.get held id ≡ o →
+      Asks (λ bytes. bytes) o given → IsSafe {A = A} old known (Ask d id) (ask_reply given)
+  ask_is_safe id (Ok bytes) true_one None is asks = cc (asks)
+  ask_is_safe id (Err ask_fault.NotHeld) true_one None is asks = not_surely id is
+  ask_is_safe id (Err (ask_fault.Incomplete m)) true_one None is asks = cc (asks)
+  ask_is_safe id (Err ask_fault.Memory) true_one None is asks = tt
+  ask_is_safe id given true_one (Some pages) is asks = by_all (list_all is_some pages) refl given true_one asks
+    where
+      by_all : (b : Bool) → list_all is_some pages ≡ b → (r : Result (List ℕ) AskFault) →
+          ((bytes : List ℕ) → r ≡ Ok bytes → (n : ℕ) (label : Label) → slice_get old.labels n ≡ Some label →
+          label.page.id ≡ id → label.cut.bytes ≡ bytes) →
+          MatchBool b (AsksWhole (λ bytes. bytes) pages r) (r ≡ Err (ask_fault.Incomplete (missing_mask pages))) →
+          IsSafe {A = A} old known (Ask d id) (ask_reply r)
+      by_all true all (Ok bytes) true_one x =
+          let c = left.counts id pages is in
+          let l : length pages ≡ length c.label.cut.parts = sym c.n_is ∙ (printed c.number c.label c.there).n_is in
+          record {
+            document = c.label.cut;
+            printed = docs_of old.labels one c.number c.label id c.there c.id_is;
+            same = sym (true_one bytes refl c.number c.label c.there c.id_is);
+            possibly = λ m least most. all_possibly id pages is all m least (omega arith);
+          }
+      by_all true all (Err ask_fault.Memory) true_one x = tt
+      by_all true all (Err ask_fault.NotHeld) true_one x = absurd x
+      by_all true all (Err (ask_fault.Incomplete m)) true_one x = absurd x
+      by_all false all (Ok bytes) true_one x = cc (x)
+      by_all false all (Err ask_fault.Memory) true_one x = cc (x)
+      by_all false all (Err ask_fault.NotHeld) true_one x = cc (x)
+      by_all false all (Err (ask_fault.Incomplete m)) true_one x =
+          (let same : m ≡ missing_mask pages = incomplete_is x in
+          subst (λ (k : ℕ). IsTrulyMissing known d id k) (sym same) (truly_missing id pages is all))
+        where
+          incomplete_is : ◌≡◌ {A = Result (List ℕ) AskFault} (Err (ask_fault.Incomplete m))
+              (Err (ask_fault.Incomplete (missing_mask pages))) → m ≡ missing_mask pages
+          incomplete_is e = cc (e)
+
+  -- ---- scans
+
+  kind_safe : (room : ℕ) (p : PageView) (kind : Kind) → IsHead (head_of p) → answer room held p ≡ Ok kind →
+      IsKindSafe known d p.id p.m p.n kind
+  kind_safe room p Again head is =
+      b.possibly p.id p.m (subst (λ (o : Option (List ℕ)). IsSome o) (sym (holds_again room held p is).bytes) refl)
+  kind_safe room p New head is =
+      let free = is_free room held p New (λ x. cc (x)) is in
+      let other = lacks_another room held p head.first head.last head.least is in (
+        (λ x. no_page _ (b.surely p.id p.m x) free.was_missing),
+        other.0,
+        other.1,
+        other.2,
+        other.3,
+        (λ x. no_page _ (b.surely p.id other.0 x) other.4),
+      )
+  kind_safe room p Complete head is =
+      let free = is_free room held p Complete (λ x. cc (x)) is in
+      let others = holds_all_others room held p head.first head.last head.least is in (
+        (λ x. no_page _ (b.surely p.id p.m x) free.was_missing),
+        (λ m least most other. b.possibly p.id m (others m least most other)),
+      )
+
+  -- what was printed never disagrees
+  agrees : (p : PageView) (cut : CutDocument) → docs old.labels p.id ≡ Some cut → p.n ≡ length cut.parts →
+      (i : ℕ) → p.m ≡ i + 1 → slice_get cut.parts i ≡ Some p.bytes → ¬ Disagrees held p
+  agrees p cut is n_is i m_is part (inl other) = by_found (finite.get held p.id) refl other.1
+    where
+      by_found : (o : Option Pages) → finite.get held p.id ≡ o → option_map length o ≡ Some other.0 → ⊥
+      by_found None at c = cc (c)
+      by_found (Some pages) at c =
+          let t = counted_is old.labels one printed held left p.id pages at in
+          let same : t.0 ≡ cut = (let a : docs old.labels p.id ≡ Some t.0 = t.1 in cc (a, is)) in
+          let l : length pages ≡ other.0 = cc (c) in
+          other.2 (sym l ∙ t.2 ∙ ap (λ (x : CutDocument). length x.parts) same ∙ sym n_is)
+  agrees p cut is n_is i m_is part (inr other) =
+      let t = part_is old.labels one printed held left p.id p.m other.0 cut is other.1 in
+      let at : t.0 ≡ i = (let a : p.m ≡ t.0 + 1 = t.1 in omega arith) in
+      let x : slice_get cut.parts i ≡ Some other.0 = subst (λ (j : ℕ). slice_get cut.parts j ≡ Some other.0) at t.2 in
+      other.2 (cc (x, part))
+
+  -- ---- desks that are full
+
+  key_held : (i key : ℕ) → slice_get (finite.keys held) i ≡ Some key → (pages : Pages) × (finite.get held key ≡ Some pages)
+  key_held i key is = by_get (finite.get held key) refl (contains_key-keys held key ∙ among (finite.keys held) i is)
+    where
+      among : (keys : List ℕ) (i : ℕ) → slice_get keys i ≡ Some key → list_any (eq_by_cmp nat_cmp key) keys ≡ true
+      among [] i at = cc (at)
+      among (k ∷ ks) zero at =
+          (let same : k ≡ key = cc (at) in
+          or_left (eq_by_cmp nat_cmp key k) (list_any (eq_by_cmp nat_cmp key) ks) (ap (eq_by_cmp nat_cmp key) same ∙
+          itself key))
+      among (k ∷ ks) (suc i) at = or_right (eq_by_cmp nat_cmp key k) (list_any (eq_by_cmp nat_cmp key) ks) (among ks i at)
+
+      by_get : (o : Option Pages) → finite.get held key ≡ o → is_some (finite.get held key) ≡ true →
+          (pages : Pages) × (finite.get held key ≡ Some pages)
+      by_get None at some = (let x : is_some (finite.get held key) ≡ false = ap is_some at in cc (x, some))
+      by_get (Some pages) at some = (pages, at)
+
+  full_for : (desk : Desk) (id : ℕ) → slice_get old.desks d ≡ Some desk → finite.get held id ≡ None →
+      desk.room ≤ finite.len held → IsFullFor old known d id
+  full_for desk id there none full = (
+    not_surely id none,
+    (λ other here.
+        let same : desk ≡ other = cc (there, here) in
+        record {
+          others = finite.keys held;
+          enough = (let l = length-keys held in let r : desk.room ≡ other.room = ap (λ (x : Desk). x.room) same in
+              omega arith);
+          rising = keys_rise held;
+          each = λ i key at.
+              let k = key_held i key at in
+              let s = left.some key k.0 k.1 in (
+                (λ same. let a : finite.get held key ≡ None = ap (λ (x : ℕ). finite.get held x) same ∙ none in
+                    let b : finite.get held key ≡ Some k.0 = k.1 in cc (a, b)),
+                s.0,
+                possibly key s.0 k.0 k.1 s.1,
+              );
+        }),
+  )
+
+  -- ---- exports and forgets
+
+  export_is_safe : (id n : ℕ) (pages : Pages) → finite.get held id ≡ Some pages → n ≡ length pages →
+      IsExportSafe known d id n (mask pages)
+  export_is_safe id n pages is count =
+      let t = counted_is old.labels one printed held left id pages is in
+      record {
+        document = t.0;
+        printed = t.1;
+        n_is = count ∙ t.2;
+        possibly = λ m named. possibly id m pages is (named_there pages m named);
+        surely = λ m surely. there_named pages m
+            (subst (λ (o : Option (List ℕ)). IsSome o) (page_in held id m pages is) (b.surely id m surely));
+      }
+
+  -- ---- imports
+
+  module _ (export : relays.Export) (sent : IsCleanExport old.labels export) where
+    added_means : (added m : ℕ) → added ≡ added_mask (unwrap_or (finite.get held export.id) []) export.pages →
+        names added m ≡ (is_none (page_at held export.id m) && is_some (page export.pages m))
+    added_means added m is = ap (λ (bits : ℕ). names bits m) is ∙
+        names_added (unwrap_or (finite.get held export.id) []) export.pages m
+
+    import_kind_safe : (added : ℕ) (kind : Kind) →
+        added ≡ added_mask (unwrap_or (finite.get held export.id) []) export.pages →
+        length (unwrap_or (finite.get held export.id) []) ≤ length export.pages →
+        KindSays kind (unwrap_or (finite.get held export.id) []) export.pages →
+        IsImportKindSafe known d export added kind
+    import_kind_safe added Again is short says = tt
+    import_kind_safe added New is short says =
+        let own : Pages = unwrap_or (finite.get held export.id) [] in
+        let lack = one_lacks (union_of own export.pages) says.1 in
+        let both = neither (page own lack.0) (page export.pages lack.0)
+        (sym (page_merged own export.pages lack.0) ∙ lack.3) in
+        let l = length_both own export.pages short in
+        let least : 1 ≤ lack.0 = lack.1 in let most : lack.0 ≤ length (union_of own export.pages) = lack.2 in (
+          lack.0,
+          least,
+          omega arith,
+          both.1,
+          (λ surely. no_page (page_at held export.id lack.0) (b.surely export.id lack.0 surely) both.0),
+        )
+    import_kind_safe added Complete is short says =
+        λ m least most none.
+        (let own : Pages = unwrap_or (finite.get held export.id) [] in
+        let l = length_both own export.pages short in
+        let some : IsSome (option_or (page own m) (page export.pages m)) =
+        subst (λ (o : Option (List ℕ)). IsSome o) (page_merged own export.pages m)
+        (all_held (union_of own export.pages) says.1 m least (omega arith)) in
+        b.possibly export.id m (either_held (page own m) (page export.pages m) some
+        (λ x. none (added_means added m is ∙ x))))
+
+    imported_safe : (room : ℕ) (i : imported_type.Imported) → import_answer room held export.id export.pages ≡ Ok i.kind →
+        i ≡ imported held export i.kind → IsImportedSafe known d export i
+    imported_safe room i answered is =
+        let added : i.added ≡ added_mask (unwrap_or (finite.get held export.id) []) export.pages =
+        ap (λ (x : imported_type.Imported). x.added) is in
+        let says = kind_says room (finite.len held) export.pages (finite.get held export.id) i.kind sent.some answered in
+        record {
+          id_is = ap (λ (x : imported_type.Imported). x.id) is;
+          n_is = ap (λ (x : imported_type.Imported). x.n) is;
+          added = λ m named. (by_named (page_at held export.id m) (page export.pages m)
+              (sym (added_means i.added m added) ∙ named)).1;
+          not_surely = λ m named surely. no_page (page_at held export.id m) (b.surely export.id m surely)
+              (by_named (page_at held export.id m) (page export.pages m) (sym (added_means i.added m added) ∙ named)).0;
+          possibly = λ m some none. b.possibly export.id m
+              (by_unnamed (page_at held export.id m) (page export.pages m) some
+              (λ x. none (added_means i.added m added ∙ x)));
+          again = again_by i.kind i.added (unwrap_or (finite.get held export.id) []) export.pages added says;
+          kind = import_kind_safe i.added i.kind added
+              (no_longer room held export.id export.pages i.kind answered) says;
+        }
+
+    -- what was printed never disagrees
+    import_agrees : (own : Pages) → finite.get held export.id ≡ Some own →
+        ¬ ((length own ≢ length export.pages) ⊎ Differs own export.pages)
+    import_agrees own is (inl other) =
+        let t = counted_is old.labels one printed held left export.id own is in
+        let cut = docs_of old.labels one sent.count.number sent.count.label export.id sent.count.there sent.count.id_is in
+        let same : t.0 ≡ sent.count.label.cut = (let a : docs old.labels export.id ≡ Some t.0 = t.1 in cc (a, cut)) in
+        other (t.2 ∙ ap (λ (x : CutDocument). length x.parts) same ∙
+        sym (printed sent.count.number sent.count.label sent.count.there).n_is ∙ sent.count.n_is)
+    import_agrees own is (inr differs) =
+        let s = sent.pages differs.m differs.other differs.filed in
+        let p = printed s.number s.label s.there in
+        let cut = docs_of old.labels one s.number s.label export.id s.there s.id_is in
+        let t = part_is old.labels one printed held left export.id differs.m differs.one s.label.cut cut
+        (page_in held export.id differs.m own is ∙ differs.held) in
+        let at : t.0 ≡ p.place = (let a : differs.m ≡ t.0 + 1 = t.1 in let c : s.label.page.m ≡ p.place + 1 = p.m_is in
+        let e : s.label.page.m ≡ differs.m = s.m_is in omega arith) in
+        let x : slice_get s.label.cut.parts p.place ≡ Some differs.one =
+        subst (λ (j : ℕ). slice_get s.label.cut.parts j ≡ Some differs.one) at t.2 in
+        let y : slice_get s.label.cut.parts p.place ≡ Some differs.other =
+        p.part ∙ ap (λ (bytes : List ℕ). Some bytes) s.bytes_are in
+        differs.differ (cc (x, y))
+
+-- ---- steps
+
+pub own_scan_fault : {A : Type 0} (fault : ScanFault) → fault ≢ scan_fault.Failed → fault ≢ scan_fault.Save →
+    fault ≢ scan_fault.Memory → IsOwn {A = A} scan_faults (ScanRefused fault)
+own_scan_fault {A} fault failed save memory = record {
+  stopped = λ e. cc (e);
+  down = λ e. cc (e);
+  lacks = λ e. cc (e);
+  failed = λ e. failed (same e);
+  save = λ e. save (same e);
+  memory = λ e. memory (same e);
+}
+  where
+    same : {other : ScanFault} → ◌≡◌ {A = Reply A} (ScanRefused fault) (ScanRefused other) → fault ≡ other
+    same e = cc (e)
+
+own_import_fault : {A : Type 0} (fault : ImportFault) → fault ≢ import_fault.Failed → fault ≢ import_fault.Save →
+    fault ≢ import_fault.Memory → IsOwn {A = A} import_faults (ImportRefused fault)
+own_import_fault {A} fault failed save memory = record {
+  stopped = λ e. cc (e);
+  down = λ e. cc (e);
+  lacks = λ e. cc (e);
+  failed = λ e. failed (same e);
+  save = λ e. save (same e);
+  memory = λ e. memory (same e);
+}
+  where
+    same : {other : ImportFault} → ◌≡◌ {A = Reply A} (ImportRefused fault) (ImportRefused other) → fault ≡ other
+    same e = cc (e)
+
+shown_has : (Q : Documents → Type 0) (actor : Actor Documents) (held : Documents) → HasAll Q actor →
+    shown_of actor ≡ Some held → Q held
+shown_has Q (Running own) held h is = (let same : own ≡ held = cc (is) in subst Q same h)
+shown_has Q (Failed own stored) held h is = (let same : own ≡ held = cc (is) in subst Q same h.0)
+shown_has Q (Down stored) held h is = cc (is)
+
+shown_left : (labels : List Label) (actor : Actor Documents) (held : Documents) → IsCleanActor labels actor →
+    shown_of actor ≡ Some held → HaveLeft labels held
+shown_left labels (Running own) held h is = (let same : own ≡ held = cc (is) in subst (HaveLeft labels) same h)
+shown_left labels (Failed own stored) held h is = (let same : own ≡ held = cc (is) in subst (HaveLeft labels) same h.0)
+shown_left labels (Down stored) held h is = cc (is)
+
+-- what is shown at a desk agrees with what was printed and asked
+record IsGathered {A : Type 0} (old : Relay) (earlier : List (Moment A)) (d : ℕ) (held : Documents) : Type 0 where
+  pub left : HaveLeft old.labels held
+  pub between : IsBetween earlier d held
+
+module _ (A : Type 0) (old new : Relay) (earlier : List (Moment A)) (sound : IsSound old)
+    (printed : ArePrinted old.labels) (clean : AreAllClean old) (b : AreBetween earlier old) where
+  one : AreOfOneDocument old.labels
+  one = sound.one_document
+
+  gathered : (d : ℕ) (desk : Desk) (held : Documents) → slice_get old.desks d ≡ Some desk →
+      shown_of desk.actor ≡ Some held → IsGathered old earlier d held
+  gathered d desk held there shown = record {
+    left = shown_left old.labels desk.actor held (clean.desks d desk there) shown;
+    between = shown_has (IsBetween earlier d) desk.actor held (b d desk there) shown;
+  }
+
+  asked : (d id : ℕ) (reply : Reply A) → reply ≢ replies.Down → Step old (Ask d id) reply new →
+      DeskGoes old d (λ room. Looks (AskTells id)) reply new → IsSafe old (known_of old earlier) (Ask d id) reply
+  asked d id reply up step g =
+      let l = is_looked (AskTells id) g.desk.actor g.end (λ e. up (g.reply_is ∙ e)) g.acts in
+      let h = gathered d g.desk l.held g.was l.shown in
+      let is : reply ≡ ask_reply l.tells.0 = g.reply_is ∙ l.tells.2 in
+      subst (λ (r : Reply A). IsSafe old (known_of old earlier) (Ask d id) r) (sym is)
+      (ask_is_safe A old earlier d l.held one printed h.left h.between id l.tells.0
+      (λ bytes given. (each_clean_desk_gives A old new d id bytes printed one (clean.desks d)
+      (subst (λ (r : Reply A). Step old (Ask d id) r new)
+      (is ∙ ap (λ (x : Result (List ℕ) AskFault). ask_reply x) given) step)).0)
+      (finite.get l.held id) refl l.tells.1)
+
+  ask_safe : (d id : ℕ) (reply : Reply A) → Step old (Ask d id) reply new →
+      DeskGoes old d (λ room. Looks (AskTells id)) reply new → IsSafe old (known_of old earlier) (Ask d id) reply
+  ask_safe d id (Document bytes) step g = asked d id (Document bytes) (λ e. cc (e)) step g
+  ask_safe d id (AskRefused fault) step g = asked d id (AskRefused fault) (λ e. cc (e)) step g
+  ask_safe d id reply step g = tt
+
+  exported : (d id : ℕ) (reply : Reply A) → reply ≢ replies.Down → reply ≢ replies.Memory →
+      DeskGoes old d (λ room. MayLackFirst (Looks (ExportTells (length old.exports) id))) reply new →
+      IsSafe old (known_of old earlier) (Export d id) reply
+  exported d id reply up some g =
+      let looks = is_made (Looks (ExportTells (length old.exports) id)) g.desk.actor g.end reply some g.acts (sym g.reply_is) in
+      let l = is_looked (ExportTells (length old.exports) id) g.desk.actor g.end (λ e. up (g.reply_is ∙ e)) looks in
+      let h = gathered d g.desk l.held g.was l.shown in
+      by_held l.held h (finite.get l.held id) refl g.end.goods
+      (subst (λ (r : Reply A). ExportsHeld (length old.exports) id (finite.get l.held id) r g.end.goods) (sym g.reply_is)
+      l.tells)
+    where
+      by_held : (held : Documents) → IsGathered old earlier d held → (o : Option Pages) → finite.get held id ≡ o →
+          (goods : relays.Goods) → ExportsHeld (length old.exports) id o reply goods →
+          IsSafe old (known_of old earlier) (Export d id) reply
+      by_held held h None is goods tells =
+          subst (λ (r : Reply A). IsSafe old (known_of old earlier) (Export d id) r) (sym tells.0)
+          (not_surely A old earlier d held one printed h.left h.between id is)
+      by_held held h (Some pages) is goods (inl tells) =
+          subst (λ (r : Reply A). IsSafe old (known_of old earlier) (Export d id) r) (sym tells.0)
+          (export_is_safe A old earlier d held one printed h.left h.between id (length pages) pages is refl)
+      by_held held h (Some pages) is goods (inr tells) =
+          subst (λ (r : Reply A). IsSafe old (known_of old earlier) (Export d id) r) (sym tells.0) tt
+
+  export_safe : (d id : ℕ) (reply : Reply A) →
+      DeskGoes old d (λ room. MayLackFirst (Looks (ExportTells (length old.exports) id))) reply new →
+      IsSafe old (known_of old earlier) (Export d id) reply
+  export_safe d id (Exported index told n bits) g = exported d id (Exported index told n bits) (λ e. cc (e)) (λ e. cc (e)) g
+  export_safe d id (ExportRefused fault) g = exported d id (ExportRefused fault) (λ e. cc (e)) (λ e. cc (e)) g
+  export_safe d id reply g = tt
+
+  forget_safe : (d id : ℕ) (stop : Stop) (reply : Reply A) →
+      DeskGoes old d (λ room. Calls forget_faults stop (ForgetComes id)) reply new →
+      IsSafe old (known_of old earlier) (Forget d id stop) reply
+  forget_safe d id stop Forgotten g =
+      let ans = is_answered forget_faults stop (ForgetComes id) g.desk.actor g.end Forgotten own_forget g.acts (sym g.reply_is) in
+      let f = forget_told A id ans.held g.end.actor (finite.get ans.held id) refl
+      (was_wanted (forget_course ans.held id (finite.get ans.held id)) ans.course ans.held Forgotten g.end.actor
+      ans.comes ans.ended) in
+      let h = gathered d g.desk ans.held g.was (ap (λ (a : Actor Documents). shown_of a) ans.was) in
+      let s = h.left.some id f.pages f.were_held in
+      (s.0, possibly A old earlier d ans.held one printed h.left h.between id s.0 f.pages f.were_held s.1)
+  forget_safe d id stop (ForgetRefused forget_fault.NotHeld) g =
+      let ans = is_answered forget_faults stop (ForgetComes id) g.desk.actor g.end (ForgetRefused forget_fault.NotHeld)
+      own_not_held g.acts (sym g.reply_is) in
+      let h = gathered d g.desk ans.held g.was (ap (λ (a : Actor Documents). shown_of a) ans.was) in
+      not_surely A old earlier d ans.held one printed h.left h.between id
+      (none_held ans.held (finite.get ans.held id) refl
+      (was_wanted (forget_course ans.held id (finite.get ans.held id)) ans.course ans.held
+      (ForgetRefused forget_fault.NotHeld) g.end.actor ans.comes ans.ended))
+    where
+      own_not_held : IsOwn {A = A} forget_faults (ForgetRefused forget_fault.NotHeld)
+      own_not_held = record {
+        stopped = λ e. cc (e);
+        down = λ e. cc (e);
+        lacks = λ e. cc (e);
+        failed = λ e. cc (e);
+        save = λ e. cc (e);
+        memory = λ e. cc (e);
+      }
+
+      none_held : (held : Documents) (o : Option Pages) → finite.get held id ≡ o →
+          Ended {A = A} (forget_course held id o) held (ForgetRefused forget_fault.NotHeld) g.end.actor →
+          finite.get held id ≡ None
+      none_held held None is ended = is
+      none_held held (Some pages) is ended = (let e = ended.0 in cc (e))
+  forget_safe d id stop reply g = tt
+
+  -- a scan that was refused, not for a fault of the desk or its memory
+  refused : (d number : ℕ) (flips : List (ℕ × ℕ)) (stop : Stop) (label : Label) (fault : ScanFault) →
+      slice_get old.labels number ≡ Some label → IsNear (flipped label.grid flips) label.grid →
+      (g : DeskGoes {A = A} old d
+      (λ room. MayLackFirst (Calls scan_faults stop (ScanComes room (flipped label.grid flips)))) (ScanRefused fault) new) →
+      IsOwn {A = A} scan_faults (ScanRefused fault) →
+      (held : Documents) × (shown_of g.desk.actor ≡ Some held)
+      × ((answer g.desk.room held label.page ≡ Err fault)
+      ⊎ ((wrong : ℕ) × (fault ≡ scan_fault.Label (label_fault.Border wrong))))
+  refused d number flips stop label fault there near g own =
+      let p = printed number label there in
+      let made = is_made (Calls scan_faults stop (ScanComes g.desk.room (flipped label.grid flips))) g.desk.actor g.end
+      (ScanRefused fault) (λ e. cc (e)) g.acts (sym g.reply_is) in
+      let ans = is_answered scan_faults stop (ScanComes g.desk.room (flipped label.grid flips)) g.desk.actor g.end
+      (ScanRefused fault) own made (sym g.reply_is) in
+      let read = ans.comes.0 in (
+        ans.held,
+        ap (λ (x : Actor Documents). shown_of x) ans.was,
+        elim (scan_refused g.desk.room label.page ans.held fault g.end.actor read
+            (ans.comes.1.near label.grid label.page p.carries near)
+            (was_wanted (scan_course g.desk.room ans.held read) ans.course ans.held (ScanRefused fault) g.end.actor
+            ans.comes.2 ans.ended)) [
+              | inl answered ↦ inl answered
+              | inr border ↦ inr (border.0, border.1)
+            ],
+      )
+
+  scan_safe : (d number : ℕ) (flips : List (ℕ × ℕ)) (stop : Stop) (label : Label) (reply : Reply A) →
+      slice_get old.labels number ≡ Some label → IsNear (flipped label.grid flips) label.grid →
+      DeskGoes old d (λ room. MayLackFirst (Calls scan_faults stop (ScanComes room (flipped label.grid flips)))) reply new →
+      IsSafe old (known_of old earlier) (Scan d number flips stop) reply
+  scan_safe d number flips stop label (Scanned a) there near g =
+      let p = printed number label there in
+      let made = is_made (Calls scan_faults stop (ScanComes g.desk.room (flipped label.grid flips))) g.desk.actor g.end
+      (Scanned a) (λ e. cc (e)) g.acts (sym g.reply_is) in
+      let ans = is_answered scan_faults stop (ScanComes g.desk.room (flipped label.grid flips)) g.desk.actor g.end
+      (Scanned a) (own_scan a) made (sym g.reply_is) in
+      let read = ans.comes.0 in
+      let told = scan_told g.desk.room label.page ans.held a g.end.actor read
+      (ans.comes.1.near label.grid label.page p.carries near)
+      (was_wanted (scan_course g.desk.room ans.held read) ans.course ans.held (Scanned a) g.end.actor ans.comes.2
+      ans.ended) in
+      let h = gathered d g.desk ans.held g.was (ap (λ (x : Actor Documents). shown_of x) ans.was) in
+      record {
+        label = label;
+        has_left = there;
+        id_is = told.id_is;
+        m_is = told.m_is;
+        n_is = told.n_is;
+        kind = kind_safe A old earlier d ans.held one printed h.left h.between g.desk.room label.page a.kind
+            p.carries.is_head told.kind_is;
+      }
+  scan_safe d number flips stop label (ScanRefused scan_fault.Conflict) there near g =
+      let p = printed number label there in
+      let r = refused d number flips stop label scan_fault.Conflict there near g (own_scan_fault scan_fault.Conflict
+      (λ e. cc (e)) (λ e. cc (e)) (λ e. cc (e))) in
+      let h = gathered d g.desk r.0 g.was r.1 in
+      elim r.2 [
+        | inl answered ↦ agrees A old earlier d r.0 one printed h.left h.between label.page label.cut
+            (docs_of old.labels one number label label.page.id there refl) p.n_is p.place p.m_is p.part
+            (disagrees g.desk.room r.0 label.page answered)
+        | inr border ↦ (let e = border.1 in cc (e))
+      ]
+  scan_safe d number flips stop label (ScanRefused scan_fault.Full) there near g =
+      let r = refused d number flips stop label scan_fault.Full there near g (own_scan_fault scan_fault.Full
+      (λ e. cc (e)) (λ e. cc (e)) (λ e. cc (e))) in
+      let h = gathered d g.desk r.0 g.was r.1 in
+      elim r.2 [
+        | inl answered ↦
+            let full = is_full g.desk.room r.0 label.page answered in
+            (label, there, full_for A old earlier d r.0 one printed h.left h.between g.desk label.page.id g.was full.0 full.1)
+        | inr border ↦ (let e = border.1 in cc (e))
+      ]
+  scan_safe d number flips stop label reply there near g = tt
+
+  not_imported : (d number : ℕ) (stop : Stop) (export : relays.Export) (fault : ImportFault) →
+      (g : DeskGoes {A = A} old d (λ room. Calls import_faults stop (ImportComes room export)) (ImportRefused fault) new) →
+      IsOwn {A = A} import_faults (ImportRefused fault) →
+      (held : Documents) × (shown_of g.desk.actor ≡ Some held)
+      × (import_answer g.desk.room held export.id export.pages ≡ Err fault)
+  not_imported d number stop export fault g own =
+      let ans = is_answered import_faults stop (ImportComes g.desk.room export) g.desk.actor g.end (ImportRefused fault)
+      own g.acts (sym g.reply_is) in (
+        ans.held,
+        ap (λ (x : Actor Documents). shown_of x) ans.was,
+        import_refused A g.desk.room export ans.held fault g.end.actor
+            (import_answer g.desk.room ans.held export.id export.pages) refl
+            (was_wanted (by_import ans.held export (import_answer g.desk.room ans.held export.id export.pages)) ans.course
+            ans.held (ImportRefused fault) g.end.actor ans.comes ans.ended),
+      )
+
+  -- what is held alone refuses an import
+  not_of_bytes : (d number : ℕ) (stop : Stop) (export : relays.Export) (fault : ImportFault) →
+      DeskGoes {A = A} old d (λ room. Calls import_faults stop (ImportComes room export)) (ImportRefused fault) new →
+      fault ≢ import_fault.Failed → fault ≢ import_fault.Save → fault ≢ import_fault.Memory →
+      fault ≢ import_fault.Conflict → fault ≢ import_fault.Full → ⊥
+  not_of_bytes d number stop export fault g failed save memory conflict full =
+      let r = not_imported d number stop export fault g (own_import_fault fault failed save memory) in
+      elim (import_answer_plain g.desk.room r.0 export.id export.pages fault r.2) [
+        | inl is ↦ conflict is
+        | inr is ↦ full is
+      ]
+
+  import_safe : (d number : ℕ) (stop : Stop) (export : relays.Export) (reply : Reply A) →
+      slice_get old.exports number ≡ Some export →
+      DeskGoes old d (λ room. Calls import_faults stop (ImportComes room export)) reply new →
+      IsSafe old (known_of old earlier) (Import d number stop) reply
+  import_safe d number stop export (Imported i) there g =
+      let ans = is_answered import_faults stop (ImportComes g.desk.room export) g.desk.actor g.end (Imported i)
+      (own_import i) g.acts (sym g.reply_is) in
+      let told = import_told A g.desk.room export ans.held i g.end.actor
+      (import_answer g.desk.room ans.held export.id export.pages) refl
+      (was_wanted (by_import ans.held export (import_answer g.desk.room ans.held export.id export.pages)) ans.course
+      ans.held (Imported i) g.end.actor ans.comes ans.ended) in
+      let h = gathered d g.desk ans.held g.was (ap (λ (x : Actor Documents). shown_of x) ans.was) in (
+        export,
+        there,
+        imported_safe A old earlier d ans.held one printed h.left h.between export
+            (clean.exports number export there) g.desk.room i told.kind_is told.imported_is,
+      )
+  import_safe d number stop export (ImportRefused import_fault.NotPages) there g =
+      not_of_bytes d number stop export import_fault.NotPages g (λ e. cc (e)) (λ e. cc (e)) (λ e. cc (e)) (λ e. cc (e))
+      (λ e. cc (e))
+  import_safe d number stop export (ImportRefused import_fault.Version) there g =
+      not_of_bytes d number stop export import_fault.Version g (λ e. cc (e)) (λ e. cc (e)) (λ e. cc (e)) (λ e. cc (e))
+      (λ e. cc (e))
+  import_safe d number stop export (ImportRefused import_fault.Damaged) there g =
+      not_of_bytes d number stop export import_fault.Damaged g (λ e. cc (e)) (λ e. cc (e)) (λ e. cc (e)) (λ e. cc (e))
+      (λ e. cc (e))
+  import_safe d number stop export (ImportRefused import_fault.Conflict) there g =
+      let r = not_imported d number stop export import_fault.Conflict g
+      (own_import_fault import_fault.Conflict (λ e. cc (e)) (λ e. cc (e)) (λ e. cc (e))) in
+      let h = gathered d g.desk r.0 g.was r.1 in
+      let c = import_conflict g.desk.room r.0 export.id export.pages r.2 in
+      import_agrees A old earlier d r.0 one printed h.left h.between export (clean.exports number export there) c.0 c.1 c.2
+  import_safe d number stop export (ImportRefused import_fault.Full) there g =
+      let r = not_imported d number stop export import_fault.Full g
+      (own_import_fault import_fault.Full (λ e. cc (e)) (λ e. cc (e)) (λ e. cc (e))) in
+      let h = gathered d g.desk r.0 g.was r.1 in
+      let full = import_full g.desk.room r.0 export.id export.pages r.2 in
+      (export, there, full_for A old earlier d r.0 one printed h.left h.between g.desk export.id g.was full.0 full.1)
+  import_safe d number stop export reply there g = tt
+
+  acts_safe : (event : Event A) (reply : Reply A) → IsFairEvent old event → IsNamed old event →
+      Step old event reply new → Acts old event reply new → IsSafe old (known_of old earlier) event reply
+  acts_safe (Scan d number flips stop) reply fair named step acts =
+      scan_safe d number flips stop acts.0 reply acts.1 (fair named acts.0 acts.1) acts.2
+  acts_safe (Forget d id stop) reply fair named step acts = forget_safe d id stop reply acts
+  acts_safe (Import d number stop) reply fair named step acts = import_safe d number stop acts.0 reply acts.1 acts.2
+  acts_safe (Ask d id) reply fair named step acts = ask_safe d id reply step acts
+  acts_safe (Export d id) reply fair named step acts = export_safe d id reply acts
+  acts_safe event reply fair named step acts = tt
+
+no_such_safe : {A : Type 0} (old : Relay) (known : Known) (event : Event A) → IsSafe old known event replies.NoSuch
+no_such_safe old known (Scan d number flips stop) = tt
+no_such_safe old known (Forget d id stop) = tt
+no_such_safe old known (Import d number stop) = tt
+no_such_safe old known (Ask d id) = tt
+no_such_safe old known (Export d id) = tt
+no_such_safe old known event = tt
+
+pub each_fair_reply_is_safe : (A : Type 0) → EachFairReplyIsSafe A
+each_fair_reply_is_safe A ranges rooms moment earlier end apart run fair =
+    let before = each_run_is_sound A ranges rooms earlier moment.before apart run.0 in
+    by_case before.0 before.1 (each_fair_run_is_clean A ranges rooms earlier moment.before apart run.0 (saved_fair earlier fair.1))
+    (run_between A ranges rooms earlier moment.before apart run.0 fair.1) run.1
+  where
+    by_case : IsSound moment.before → ArePrinted moment.before.labels → AreAllClean moment.before →
+        AreBetween earlier moment.before → Step moment.before moment.event moment.reply end →
+        IsSafe moment.before (known_of moment.before earlier) moment.event moment.reply
+    by_case sound printed clean b (inl acts) =
+        acts_safe A moment.before end earlier sound printed clean b moment.event moment.reply fair.0 acts.0 (inl acts) acts.1
+    by_case sound printed clean b (inr none) =
+        subst (λ (r : Reply A). IsSafe moment.before (known_of moment.before earlier) moment.event r) (sym none.1)
+        (no_such_safe moment.before (known_of moment.before earlier) moment.event)

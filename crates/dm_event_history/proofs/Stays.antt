@@ -1,0 +1,451 @@
+-- A desk stays clean.
+use Rattle.std.proofs.Common.{◌≡◌, ◌≢◌, ◌≤◌, ◌⊎◌, inl, inr, ℕ, zero, suc, Option, Some, None, List, [], ◌∷◌, ◌++◌, length, slice_get, slice_set, Result, Ok, Err, IsSome, refl, sym, ap, subst, ◌∙◌}
+use Rattle.std.specs.Prelude.{option_map, unwrap_or}
+use Rattle.std.specs.Option.{option_or}
+use Rattle.std.specs.FinMap as finite
+use Rattle.dm_append_label.specs.Pages.{PageView}
+use Rattle.dm_append_label.specs.Heads.{IsHead, head_of}
+use Rattle.dm_append_label.specs.Opening.{OpensNear}
+use Rattle.dm_append_label.specs.declared.opening.Opened.{Opened}
+use Rattle.dm_append_label.specs.declared.fault.LabelFault.{LabelFault}
+use Rattle.dm_append_label.specs.declared.fault.LabelFault.TheVariants as label_fault
+use Rattle.dm_store.specs.declared.fuse.Kept.TheVariants.{Old, New}
+use Rattle.dm_assembly_desk.specs.declared.reply.Kind.{Kind}
+use Rattle.dm_assembly_desk.specs.declared.reply.Kind.TheVariants as kinds
+use Rattle.dm_assembly_desk.specs.Pages.{Pages, page}
+use Rattle.dm_assembly_desk.specs.Documents.{Documents, page_at, pages_with, with_page}
+use Rattle.dm_assembly_desk.specs.Answers.{Answer, answer}
+use Rattle.dm_assembly_desk.specs.Importing.{ImportAnswer, import_answer, pages_with_file, with_file}
+use Rattle.dm_assembly_desk.proofs.Adding.{get_here}
+use Rattle.dm_assembly_desk.proofs.ImportLaws.{no_longer, page_given}
+use Rattle.dm_assembly_desk.proofs.MergingLaws.{length_both}
+use Rattle.dm_print_ledger.specs.Views.{LedgerView}
+use Rattle.dm_event_history.specs.declared.event.Event.{Event}
+use Rattle.dm_event_history.specs.declared.event.Event.TheVariants.{Print, Scan, RestartPrinter, RestartDesk, Ask, Forget, Give, Take, Export, Import}
+use Rattle.dm_event_history.specs.declared.reply.Reply.{Reply}
+use Rattle.dm_event_history.specs.declared.stop.Stop.{Stop}
+use Rattle.dm_event_history.specs.declared.stop.Stop.TheVariants as stops
+use Rattle.dm_event_history.specs.declared.stop.Stop.TheVariants.{BeforeSave, InSave, SaveFault, AfterLabels}
+use Rattle.dm_event_history.proofs.Deciding.{same_or_other}
+use Rattle.dm_event_history.proofs.Gotten.{get_more}
+use Rattle.dm_event_history.proofs.HeldDocuments.{get_left, get_other, get_removed}
+use Rattle.dm_event_history.specs.Actors.{Actor, Running, Failed, Down, stored_of}
+use Rattle.dm_event_history.specs.Relay as relays
+use Rattle.dm_event_history.specs.Relay.{Desk, Goods, Label, Relay}
+use Rattle.dm_event_history.specs.Calls.{Answers, Calls, Course, Ending, Faults, LacksMemory, Looks, MayLackFirst, Reaches, Restarts, Saves, ends}
+use Rattle.dm_event_history.specs.DeskCalls.{AskTells, ExportTells, MayBe, by_answer, by_import, forget_course, scan_course}
+use Rattle.dm_event_history.specs.Steps.{Acts, DeskGoes, PrinterGoes, Step}
+use Rattle.dm_event_history.specs.Clean.{ArePrinted, EachStepKeepsClean, HasLeft, HasPages, HaveLeft, IsClean, IsCleanActor, IsCleanExport, IsHarmless, IsPrinted}
+use Rattle.dm_event_history.proofs.Reaching.{reached, reaches}
+use Rattle.dm_event_history.proofs.HeldPages.{IsFree, holds_also, is_free}
+
+-- ---- more labels
+
+pub more_left : (labels more : List Label) (id m : ℕ) (bytes : List ℕ) → HasLeft labels id m bytes →
+    HasLeft (labels ++ more) id m bytes
+more_left labels more id m bytes h = record {
+  number = h.number;
+  label = h.label;
+  there = get_more labels more h.number h.label h.there;
+  id_is = h.id_is;
+  m_is = h.m_is;
+  bytes_are = h.bytes_are;
+}
+
+pub more_pages : (labels more : List Label) (id n : ℕ) → HasPages labels id n → HasPages (labels ++ more) id n
+more_pages labels more id n h = record {
+  number = h.number;
+  label = h.label;
+  there = get_more labels more h.number h.label h.there;
+  id_is = h.id_is;
+  n_is = h.n_is;
+}
+
+pub have_more : (labels more : List Label) (held : Documents) → HaveLeft labels held → HaveLeft (labels ++ more) held
+have_more labels more held h = record {
+  pages = λ id m bytes is. more_left labels more id m bytes (h.pages id m bytes is);
+  counts = λ id pages is. more_pages labels more id (length pages) (h.counts id pages is);
+  some = h.some;
+}
+
+pub actor_more : (labels more : List Label) (actor : Actor Documents) → IsCleanActor labels actor →
+    IsCleanActor (labels ++ more) actor
+actor_more labels more (Running held) h = have_more labels more held h
+actor_more labels more (Failed shown stored) h = (have_more labels more shown h.0, have_more labels more stored h.1)
+actor_more labels more (Down stored) h = have_more labels more stored h
+
+-- ---- what is held with a page
+
+page_none : (m : ℕ) → page [] m ≡ None
+page_none zero = refl
+page_none (suc i) = refl
+
+-- what is found of a document
+page_found : (held new : Documents) (id m : ℕ) → finite.get new id ≡ finite.get held id →
+    page_at new id m ≡ page_at held id m
+page_found held new id m same = ap (λ (o : Option Pages). page (unwrap_or o []) m) same
+
+-- a page of a document that is held
+pub page_in : (held : Documents) (id m : ℕ) (pages : Pages) → finite.get held id ≡ Some pages →
+    page_at held id m ≡ page pages m
+page_in held id m pages is = ap (λ (o : Option Pages). page (unwrap_or o []) m) is
+
+some_so : {o p : Option (List ℕ)} {bytes : List ℕ} → o ≡ p → o ≡ Some bytes → IsSome p
+some_so {o} {p} {bytes} same is = subst (λ (x : Option (List ℕ)). IsSome x) (sym is ∙ same) refl
+
+pub second_some : (o p : Option (List ℕ)) → IsSome p → IsSome (option_or o p)
+second_some None p some = some
+second_some (Some x) p some = refl
+
+own_left : (labels : List Label) (number : ℕ) (label : Label) (p : PageView) → slice_get labels number ≡ Some label →
+    label.page ≡ p → HasLeft labels p.id p.m p.bytes
+own_left labels number label p there same = record {
+  number = number;
+  label = label;
+  there = there;
+  id_is = ap (λ (q : PageView). q.id) same;
+  m_is = ap (λ (q : PageView). q.m) same;
+  bytes_are = ap (λ (q : PageView). q.bytes) same;
+}
+
+own_pages : (labels : List Label) (number : ℕ) (label : Label) (p : PageView) → slice_get labels number ≡ Some label →
+    label.page ≡ p → HasPages labels p.id p.n
+own_pages labels number label p there same = record {
+  number = number;
+  label = label;
+  there = there;
+  id_is = ap (λ (q : PageView). q.id) same;
+  n_is = ap (λ (q : PageView). q.n) same;
+}
+
+with_page_left : (labels : List Label) (held : Documents) (p : PageView) → HaveLeft labels held →
+    HasLeft labels p.id p.m p.bytes → HasPages labels p.id p.n → 1 ≤ p.m → p.m ≤ p.n → IsFree held p →
+    HaveLeft labels (with_page held p)
+with_page_left labels held p clean own own_count least most free =
+    let also = holds_also held p least most free in
+    let new : Documents = with_page held p in
+    record {
+      pages = λ id m bytes is. elim (same_or_other id p.id) [
+        | inl same ↦ elim (same_or_other m p.m) [
+          | inl place ↦
+              let there : page_at new p.id p.m ≡ Some bytes =
+              subst (λ (i : ℕ). page_at new i p.m ≡ Some bytes) same
+              (subst (λ (j : ℕ). page_at new id j ≡ Some bytes) place is) in
+              let here : page_at new p.id p.m ≡ Some p.bytes = also.holds.bytes in
+              let bytes_are : p.bytes ≡ bytes = cc (there, here) in
+              subst (λ (i : ℕ). HasLeft labels i m bytes) (sym same)
+              (subst (λ (j : ℕ). HasLeft labels p.id j bytes) (sym place)
+              (subst (λ (b : List ℕ). HasLeft labels p.id p.m b) bytes_are own))
+          | inr away ↦ clean.pages id m bytes (sym (also.other_pages id m (inr away)) ∙ is)
+        ]
+        | inr other ↦ clean.pages id m bytes (sym (also.other_pages id m (inl other)) ∙ is)
+      ];
+      counts = λ id pages is. elim (same_or_other id p.id) [
+        | inl same ↦
+            let there : finite.get new p.id ≡ Some pages =
+            subst (λ (i : ℕ). finite.get new i ≡ Some pages) same is in
+            let counted_so : Some (length pages) ≡ Some p.n =
+            sym (ap (option_map length) there) ∙ also.holds.count in
+            let count : p.n ≡ length pages = cc (counted_so) in
+            subst (λ (i : ℕ). HasPages labels i (length pages)) (sym same)
+            (subst (λ (n : ℕ). HasPages labels p.id n) count own_count)
+        | inr other ↦ clean.counts id pages (sym (get_other held p.id id (pages_with held p) other) ∙ is)
+      ];
+      some = λ id pages is. elim (same_or_other id p.id) [
+        | inl same ↦ (
+          p.m,
+          some_so (page_in new p.id p.m pages (subst (λ (i : ℕ). finite.get new i ≡ Some pages) same is))
+              also.holds.bytes,
+        )
+        | inr other ↦ clean.some id pages (sym (get_other held p.id id (pages_with held p) other) ∙ is)
+      ];
+    }
+
+-- ---- what is held without a document
+
+without_left : (labels : List Label) (held : Documents) (gone : ℕ) → HaveLeft labels held →
+    HaveLeft labels (finite.remove held gone)
+without_left labels held gone clean =
+    let new : Documents = finite.remove held gone in
+    record {
+      pages = λ id m bytes is. elim (same_or_other id gone) [
+        | inl same ↦
+            let none : page_at new id m ≡ None =
+            ap (λ (i : ℕ). page_at new i m) same ∙
+            ap (λ (o : Option Pages). page (unwrap_or o []) m) (get_removed held gone) ∙ page_none m in
+            cc (none, is)
+        | inr other ↦ clean.pages id m bytes (sym (page_found held new id m (get_left held gone id other)) ∙ is)
+      ];
+      counts = λ id pages is. elim (same_or_other id gone) [
+        | inl same ↦
+            let none : finite.get new id ≡ None = ap (λ (i : ℕ). finite.get new i) same ∙ get_removed held gone in
+            cc (none, is)
+        | inr other ↦ clean.counts id pages (sym (get_left held gone id other) ∙ is)
+      ];
+      some = λ id pages is. elim (same_or_other id gone) [
+        | inl same ↦
+            let none : finite.get new id ≡ None = ap (λ (i : ℕ). finite.get new i) same ∙ get_removed held gone in
+            cc (none, is)
+        | inr other ↦ clean.some id pages (sym (get_left held gone id other) ∙ is)
+      ];
+    }
+
+-- ---- what is held with an export
+
+with_file_left : (labels : List Label) (room : ℕ) (held : Documents) (export : relays.Export) (kind : Kind) →
+    import_answer room held export.id export.pages ≡ Ok kind → IsCleanExport labels export → HaveLeft labels held →
+    HaveLeft labels (with_file held export.id export.pages)
+with_file_left labels room held export kind answered sent clean = record {
+  pages = λ id m bytes is. elim (same_or_other id export.id) [
+    | inl same ↦ subst (λ (i : ℕ). HasLeft labels i m bytes) (sym same)
+        (either m bytes (page_at held export.id m) refl (sym (page_given held export.id export.pages m) ∙
+        subst (λ (i : ℕ). page_at new i m ≡ Some bytes) same is))
+    | inr other ↦ clean.pages id m bytes (sym (page_found held new id m (kept id other)) ∙ is)
+  ];
+  counts = λ id pages is. elim (same_or_other id export.id) [
+    | inl same ↦
+        let there : finite.get new export.id ≡ Some pages =
+        subst (λ (i : ℕ). finite.get new i ≡ Some pages) same is in
+        let here : finite.get new export.id ≡ Some all = get_here held export.id all in
+        let same_pages : all ≡ pages = cc (there, here) in
+        let count : length export.pages ≡ length pages = sym all_count ∙ ap length same_pages in
+        subst (λ (i : ℕ). HasPages labels i (length pages)) (sym same)
+        (subst (λ (n : ℕ). HasPages labels export.id n) count sent.count)
+    | inr other ↦ clean.counts id pages (sym (kept id other) ∙ is)
+  ];
+  some = λ id pages is. elim (same_or_other id export.id) [
+    | inl same ↦
+        let there : finite.get new export.id ≡ Some pages =
+        subst (λ (i : ℕ). finite.get new i ≡ Some pages) same is in (
+          sent.some.0,
+          subst (λ (o : Option (List ℕ)). IsSome o)
+              (sym (page_given held export.id export.pages sent.some.0) ∙ page_in new export.id sent.some.0 pages there)
+              (second_some (page_at held export.id sent.some.0) (page export.pages sent.some.0) sent.some.1),
+        )
+    | inr other ↦ clean.some id pages (sym (kept id other) ∙ is)
+  ];
+}
+  where
+    all : Pages
+    all = pages_with_file held export.id export.pages
+
+    new : Documents
+    new = with_file held export.id export.pages
+
+    kept : (id : ℕ) → id ≢ export.id → finite.get (with_file held export.id export.pages) id ≡ finite.get held id
+    kept id other = get_other held export.id id (pages_with_file held export.id export.pages) other
+
+    all_count : length (pages_with_file held export.id export.pages) ≡ length export.pages
+    all_count = length_both (unwrap_or (finite.get held export.id) []) export.pages
+        (no_longer room held export.id export.pages kind answered)
+
+    either : (m : ℕ) (bytes : List ℕ) (o : Option (List ℕ)) → page_at held export.id m ≡ o →
+        option_or (page_at held export.id m) (page export.pages m) ≡ Some bytes → HasLeft labels export.id m bytes
+    either m bytes None at given =
+        sent.pages m bytes (sym (ap (λ (o : Option (List ℕ)). option_or o (page export.pages m)) at) ∙ given)
+    either m bytes (Some found) at given =
+        let one : Some found ≡ Some bytes =
+        sym (ap (λ (o : Option (List ℕ)). option_or o (page export.pages m)) at) ∙ given in
+        clean.pages export.id m bytes (at ∙ one)
+
+-- ---- how a call ends
+
+abbrev IsCleanCourse : {A : Type 0} → List Label → Course A Documents → Type 0
+IsCleanCourse labels (Saves next goods reply) = HaveLeft labels next
+IsCleanCourse labels (Answers reply) = Unit {0}
+IsCleanCourse labels LacksMemory = Unit {0}
+
+stored_left : (labels : List Label) (old : Actor Documents) → IsCleanActor labels old →
+    HaveLeft labels (stored_of old)
+stored_left labels (Running held) h = h
+stored_left labels (Failed shown stored) h = h.1
+stored_left labels (Down stored) h = h
+
+ends_clean : {A : Type 0} (labels : List Label) (faults : Faults A) (stop : Stop) (course : Course A Documents)
+    (old : Actor Documents) → IsCleanActor labels old → Reaches stop (IsCleanCourse labels course) →
+    IsCleanActor labels (ends faults stop course old).actor
+ends_clean labels faults BeforeSave course old h c = stored_left labels old h
+ends_clean labels faults (InSave Old) course old h c = stored_left labels old h
+ends_clean labels faults stops.None (Saves next goods reply) old h c = c
+ends_clean labels faults (SaveFault Old) (Saves next goods reply) old h c =
+    (stored_left labels old h, stored_left labels old h)
+ends_clean labels faults (SaveFault New) (Saves next goods reply) old h c = (stored_left labels old h, c)
+ends_clean labels faults (InSave New) (Saves next goods reply) old h c = c
+ends_clean labels faults (AfterLabels most) (Saves next goods reply) old h c = c
+ends_clean labels faults stops.None (Answers reply) old h c = h
+ends_clean labels faults (SaveFault kept) (Answers reply) old h c = h
+ends_clean labels faults (InSave New) (Answers reply) old h c = stored_left labels old h
+ends_clean labels faults (AfterLabels most) (Answers reply) old h c = stored_left labels old h
+ends_clean labels faults stops.None LacksMemory old h c = h
+ends_clean labels faults (SaveFault kept) LacksMemory old h c = h
+ends_clean labels faults (InSave New) LacksMemory old h c = h
+ends_clean labels faults (AfterLabels most) LacksMemory old h c = h
+
+-- what is done at a desk keeps it clean
+abbrev Keeps : {A : Type 0} → List Label → (Actor Documents → Ending A Documents → Type 0) → Type 0
+Keeps {A} labels Acts = (actor : Actor Documents) (end : Ending A Documents) → IsCleanActor labels actor →
+    Acts actor end → IsCleanActor labels end.actor
+
+as_known : {A : Type 0} (labels : List Label) (end known : Ending A Documents) → end ≡ known →
+    IsCleanActor labels known.actor → IsCleanActor labels end.actor
+as_known {A} labels end known is h = subst (λ (e : Ending A Documents). IsCleanActor labels e.actor) (sym is) h
+
+calls_keep : {A : Type 0} (labels : List Label) (faults : Faults A) (stop : Stop)
+    (Comes : Documents → Course A Documents → Type 0) →
+    ((held : Documents) (course : Course A Documents) → HaveLeft labels held → Comes held course →
+    IsCleanCourse labels course) → Keeps labels (Calls faults stop Comes)
+calls_keep labels faults stop Comes each (Running held) end h acts =
+    as_known labels end _ acts.2
+    (ends_clean labels faults stop acts.0 (Running held) h (reaches stop (each held acts.0 h) acts.1))
+calls_keep labels faults stop Comes each (Failed shown stored) end h acts =
+    as_known labels end _ acts (ends_clean labels faults stop (Answers faults.failed) (Failed shown stored) h
+    (reached stop tt))
+calls_keep labels faults stop Comes each (Down stored) end h acts = as_known labels end _ acts h
+
+may_lack_keeps : {A : Type 0} (labels : List Label) (Acts : Actor Documents → Ending A Documents → Type 0) →
+    Keeps labels Acts → Keeps labels (MayLackFirst Acts)
+may_lack_keeps labels Acts each (Running held) end h (inl lack) = as_known labels end _ lack h
+may_lack_keeps labels Acts each (Running held) end h (inr acts) = each (Running held) end h acts
+may_lack_keeps labels Acts each (Failed shown stored) end h (inl lack) = as_known labels end _ lack h
+may_lack_keeps labels Acts each (Failed shown stored) end h (inr acts) = each (Failed shown stored) end h acts
+may_lack_keeps labels Acts each (Down stored) end h acts = each (Down stored) end h acts
+
+restarts_keep : {A : Type 0} (labels : List Label) (refused : Reply A) →
+    Keeps labels (Restarts {A = A} {C = Documents} refused)
+restarts_keep labels refused actor end h (inl is) = as_known labels end _ is (stored_left labels actor h)
+restarts_keep labels refused actor end h (inr is) = as_known labels end _ is (stored_left labels actor h)
+
+looks_keep : {A : Type 0} (labels : List Label) (Tells : Documents → Reply A → Goods → Type 0) →
+    Keeps labels (Looks Tells)
+looks_keep labels Tells (Running held) end h acts =
+    subst (λ (a : Actor Documents). IsCleanActor labels a) (sym acts.1) h
+looks_keep labels Tells (Failed shown stored) end h acts =
+    subst (λ (a : Actor Documents). IsCleanActor labels a) (sym acts.1) h
+looks_keep labels Tells (Down stored) end h acts = as_known labels end _ acts h
+
+-- ---- call by call
+
+may_be_clean : {A : Type 0} (labels : List Label) (wanted course : Course A Documents) → IsCleanCourse labels wanted →
+    MayBe wanted course → IsCleanCourse labels course
+may_be_clean {A} labels wanted course c (inl is) = subst (λ (x : Course A Documents). IsCleanCourse labels x) (sym is) c
+may_be_clean {A} labels wanted course c (inr lack) =
+    subst (λ (x : Course A Documents). IsCleanCourse labels x) (sym lack.0) tt
+
+-- a page of which a label left is taken
+answer_clean : (A : Type 0) (labels : List Label) (room number : ℕ) (held : Documents) (label : Label) (p : PageView) →
+    HaveLeft labels held → slice_get labels number ≡ Some label → label.page ≡ p → 1 ≤ p.m → p.m ≤ p.n →
+    (a : Answer) → answer room held p ≡ a → IsCleanCourse {A = A} labels (by_answer held p a)
+answer_clean A labels room number held label p h there own least most (Ok kinds.Again) is = tt
+answer_clean A labels room number held label p h there own least most (Ok kinds.New) is =
+    with_page_left labels held p h (own_left labels number label p there own) (own_pages labels number label p there own)
+    least most (is_free room held p kinds.New (λ e. cc) is)
+answer_clean A labels room number held label p h there own least most (Ok kinds.Complete) is =
+    with_page_left labels held p h (own_left labels number label p there own) (own_pages labels number label p there own)
+    least most (is_free room held p kinds.Complete (λ e. cc) is)
+answer_clean A labels room number held label p h there own least most (Err fault) is = tt
+
+-- a fair scan is read as its label's page
+reading_clean : {A : Type 0} (labels : List Label) (room number : ℕ) (held : Documents) (label : Label) →
+    HaveLeft labels held → slice_get labels number ≡ Some label → IsPrinted label →
+    (read : Result (Opened A) LabelFault) → OpensNear label.page read →
+    IsCleanCourse labels (scan_course room held read)
+reading_clean {A} labels room number held label h there printed (Ok opened) near =
+    let head : IsHead (head_of opened.page) =
+    subst (λ (p : PageView). IsHead (head_of p)) (sym near) printed.carries.is_head in
+    answer_clean A labels room number held label opened.page h there (sym near) head.first head.last
+    (answer room held opened.page) refl
+reading_clean labels room number held label h there printed (Err label_fault.Memory) near = tt
+reading_clean labels room number held label h there printed (Err fault) near = tt
+
+forget_clean : (A : Type 0) (labels : List Label) (id : ℕ) (held : Documents) (o : Option Pages) →
+    HaveLeft labels held → IsCleanCourse {A = A} labels (forget_course held id o)
+forget_clean A labels id held None h = tt
+forget_clean A labels id held (Some pages) h = without_left labels held id h
+
+import_clean : (A : Type 0) (labels : List Label) (room : ℕ) (held : Documents) (export : relays.Export) →
+    HaveLeft labels held → IsCleanExport labels export → (a : ImportAnswer) →
+    import_answer room held export.id export.pages ≡ a → IsCleanCourse {A = A} labels (by_import held export a)
+import_clean A labels room held export h sent (Ok kinds.Again) is = tt
+import_clean A labels room held export h sent (Ok kinds.New) is =
+    with_file_left labels room held export kinds.New is sent h
+import_clean A labels room held export h sent (Ok kinds.Complete) is =
+    with_file_left labels room held export kinds.Complete is sent h
+import_clean A labels room held export h sent (Err fault) is = tt
+
+-- ---- steps
+
+pub got_set : {X : Type 0} (xs : List X) (i j : ℕ) (x y : X) → slice_get (slice_set xs i x) j ≡ Some y →
+    ((i ≡ j) × (x ≡ y)) ⊎ (slice_get xs j ≡ Some y)
+got_set [] i j x y is = cc
+got_set (z ∷ zs) zero zero x y is = inl (refl, cc (is))
+got_set (z ∷ zs) zero (suc j) x y is = inr is
+got_set (z ∷ zs) (suc i) zero x y is = inr is
+got_set (z ∷ zs) (suc i) (suc j) x y is = elim (got_set zs i j x y is) [
+  | inl here ↦ inl (ap suc here.0, here.1)
+  | inr there ↦ inr there
+]
+
+desk_keeps : {A : Type 0} (old new : Relay) (number own : ℕ)
+    (Acts : ℕ → Actor Documents → Ending A Documents → Type 0) (reply : Reply A) → IsClean old own →
+    (number ≡ own → (room : ℕ) → Keeps old.labels (Acts room)) → DeskGoes old number Acts reply new → IsClean new own
+desk_keeps old new number own Acts reply clean each g =
+    subst (λ (r : Relay). IsClean r own) (sym g.new_is) (λ desk is. elim (got_set old.desks number own _ desk is) [
+      | inl here ↦
+          let was : slice_get old.desks own ≡ Some g.desk =
+          subst (λ (k : ℕ). slice_get old.desks k ≡ Some g.desk) here.0 g.was in
+          subst (λ (d : Desk). IsCleanActor (old.labels ++ g.end.goods.labels) d.actor) here.1
+          (actor_more old.labels g.end.goods.labels g.end.actor
+          (each here.0 g.desk.room g.desk.actor g.end (clean g.desk was) g.acts))
+      | inr there ↦ actor_more old.labels g.end.goods.labels desk.actor (clean desk there)
+    ])
+
+printer_keeps : {A : Type 0} (old new : Relay) (printer own : ℕ)
+    (Acts : Actor LedgerView → Ending A LedgerView → Type 0) (reply : Reply A) → IsClean old own →
+    PrinterGoes old printer Acts reply new → IsClean new own
+printer_keeps old new printer own Acts reply clean g =
+    subst (λ (r : Relay). IsClean r own) (sym g.new_is)
+    (λ desk is. actor_more old.labels g.end.goods.labels desk.actor (clean desk is))
+
+acts_keep : {A : Type 0} (old new : Relay) (event : Event A) (reply : Reply A) (own : ℕ) → ArePrinted old.labels →
+    IsClean old own → IsHarmless old event own → Acts old event reply new → IsClean new own
+acts_keep old new (Print printer document size scheme stop) reply own p clean harm acts =
+    printer_keeps old new printer own _ reply clean acts
+acts_keep old new (Give printer receiver range stop) reply own p clean harm acts =
+    printer_keeps old new printer own _ reply clean acts
+acts_keep old new (Take printer number stop) reply own p clean harm acts =
+    printer_keeps old new printer own _ reply clean acts.2
+acts_keep old new (RestartPrinter printer) reply own p clean harm acts =
+    printer_keeps old new printer own _ reply clean acts
+acts_keep old new (Scan desk number flips stop) reply own p clean harm acts =
+    desk_keeps old new desk own _ reply clean
+    (λ same room. may_lack_keeps old.labels _ (calls_keep old.labels _ stop _
+    (λ held course h comes. may_be_clean old.labels _ course
+    (reading_clean old.labels room number held acts.0 h acts.1 (p number acts.0 acts.1) comes.0
+    (comes.1.near acts.0.grid acts.0.page (p number acts.0 acts.1).carries (harm same acts.0 acts.1))) comes.2)))
+    acts.2
+acts_keep {A} old new (Forget desk id stop) reply own p clean harm acts =
+    desk_keeps old new desk own _ reply clean
+    (λ same room. calls_keep old.labels _ stop _
+    (λ held course h comes. may_be_clean old.labels _ course
+    (forget_clean A old.labels id held (finite.get held id) h) comes)) acts
+acts_keep {A} old new (Import desk number stop) reply own p clean harm acts =
+    desk_keeps old new desk own _ reply clean
+    (λ same room. calls_keep old.labels _ stop _
+    (λ held course h comes. may_be_clean old.labels _ course
+    (import_clean A old.labels room held acts.0 h (harm same acts.0 acts.1)
+    (import_answer room held acts.0.id acts.0.pages) refl) comes)) acts.2
+acts_keep {A} old new (Ask desk id) reply own p clean harm acts =
+    desk_keeps old new desk own _ reply clean (λ same room. looks_keep old.labels (AskTells {A = A} id)) acts
+acts_keep {A} old new (Export desk id) reply own p clean harm acts =
+    desk_keeps old new desk own _ reply clean
+    (λ same room. may_lack_keeps old.labels _ (looks_keep old.labels (ExportTells {A = A} (length old.exports) id)))
+    acts
+acts_keep old new (RestartDesk desk) reply own p clean harm acts =
+    desk_keeps old new desk own _ reply clean (λ same room. restarts_keep old.labels _) acts
+
+pub each_step_keeps_clean : (A : Type 0) → EachStepKeepsClean A
+each_step_keeps_clean A old new event reply own p clean harm step = by_case step
+  where
+    by_case : Step old event reply new → IsClean new own
+    by_case (inl acts) = acts_keep old new event reply own p clean harm acts.1
+    by_case (inr none) = subst (λ (r : Relay). IsClean r own) (sym none.2) clean

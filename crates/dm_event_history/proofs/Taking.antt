@@ -1,0 +1,238 @@
+-- A take moves numbers from a ticket to its printer, once.
+use Rattle.std.proofs.Common.{◌≡◌, ◌⊎◌, ◌+◌, ◌≤◌, ◌<◌, inl, inr, ℕ, zero, suc, Bool, true, false, ◌==◌, ◌||◌, Option, Some, None, List, [], ◌∷◌, ◌++◌, map, slice_get, slice_set, refl, sym, ap, subst, ◌∙◌, arith, eq-eqb}
+use Rattle.std.specs.Prelude.{IfSome, IsSomeAnd}
+use Rattle.std.proofs.lemmas.List.{append-nil}
+use Rattle.dm_store.specs.declared.fuse.Kept.TheVariants.{Old, New}
+use Rattle.dm_print_ledger.specs.Ranges.{is_free, is_in}
+use Rattle.dm_print_ledger.specs.Givers.{last_taken}
+use Rattle.dm_print_ledger.specs.Views.{LedgerView, TicketView}
+use Rattle.dm_print_ledger.specs.Moving.{IsNew, TakesIn}
+use Rattle.dm_event_history.specs.declared.stop.Stop.{Stop}
+use Rattle.dm_event_history.specs.declared.stop.Stop.TheVariants as stops
+use Rattle.dm_event_history.specs.declared.stop.Stop.TheVariants.{BeforeSave, InSave, SaveFault, AfterLabels}
+use Rattle.dm_event_history.proofs.Gotten.{get_more}
+use Rattle.dm_event_history.proofs.Deciding.{decided, if_not, if_so, other_number, same_or_other, true_false}
+use Rattle.dm_event_history.specs.Actors.{Actor, Running, Failed, Down, stored_of}
+use Rattle.dm_event_history.specs.Relay.{Goods, Move, Relay, Took, with_printer}
+use Rattle.dm_event_history.specs.Calls.{Answers, Calls, Course, Ending, Faults, LacksMemory, Reaches, Saves, cut_off, ends, lost}
+use Rattle.dm_event_history.specs.PrinterCalls.{TakeComes, take_faults}
+use Rattle.dm_event_history.specs.Places.{IsInOrder, IsNoted, gone, is_taken, on_tickets, one_if, places}
+use Rattle.dm_event_history.proofs.Numbers.{free_set, gone_more, on_taken, taken_by}
+use Rattle.dm_event_history.proofs.Reaching.{reached, reaches}
+use Rattle.dm_event_history.proofs.Stays.{got_set}
+use Rattle.dm_event_history.proofs.OneLedger.{old_or_new}
+use Rattle.dm_event_history.proofs.Balance.{IsBalanced, still}
+
+-- the ticket of this number is taken
+pub record IsTaking (held next : LedgerView) (number : ℕ) (ticket : TicketView) (goods : Goods) : Type 0 where
+  pub takes : TakesIn held ticket next
+  pub is_new : IsNew held ticket
+  pub is_for : ticket.receiver ≡ held.number
+  pub moves_are : goods.moves ≡ Took number ∷ []
+  pub tickets_are : goods.tickets ≡ []
+
+abbrev pub MayTake : LedgerView → LedgerView → ℕ → TicketView → Goods → Type 0
+MayTake held next number ticket goods = IsBalanced held next goods ⊎ IsTaking held next number ticket goods
+
+abbrev IsTakeCourse : {A : Type 0} → LedgerView → ℕ → TicketView → Course A LedgerView → Type 0
+IsTakeCourse held number ticket (Saves next goods reply) = IsTaking held next number ticket goods
+IsTakeCourse held number ticket (Answers reply) = Unit {0}
+IsTakeCourse held number ticket LacksMemory = Unit {0}
+
+cut_taking : (held next : LedgerView) (number : ℕ) (ticket : TicketView) (goods : Goods) (most : ℕ) →
+    IsTaking held next number ticket goods → IsTaking held next number ticket (cut_off most goods)
+cut_taking held next number ticket goods most t = record {
+  takes = t.takes;
+  is_new = t.is_new;
+  is_for = t.is_for;
+  moves_are = ap (λ (ts : List TicketView). goods.moves ++ map lost ts) t.tickets_are ∙ append-nil goods.moves ∙ t.moves_are;
+  tickets_are = refl;
+}
+
+ends_taking : {A : Type 0} (faults : Faults A) (stop : Stop) (course : Course A LedgerView) (old : Actor LedgerView)
+    (number : ℕ) (ticket : TicketView) → Reaches stop (IsTakeCourse (stored_of old) number ticket course) →
+    MayTake (stored_of old) (stored_of (ends faults stop course old).actor) number ticket
+    (ends faults stop course old).goods
+ends_taking faults BeforeSave course old number ticket t = inl (still (stored_of old))
+ends_taking faults (InSave Old) course old number ticket t = inl (still (stored_of old))
+ends_taking faults stops.None (Saves next goods reply) old number ticket t = inr t
+ends_taking faults (SaveFault Old) (Saves next goods reply) old number ticket t = inl (still (stored_of old))
+ends_taking faults (SaveFault New) (Saves next goods reply) old number ticket t =
+    inr (cut_taking (stored_of old) next number ticket goods 0 t)
+ends_taking faults (InSave New) (Saves next goods reply) old number ticket t =
+    inr (cut_taking (stored_of old) next number ticket goods 0 t)
+ends_taking faults (AfterLabels most) (Saves next goods reply) old number ticket t =
+    inr (cut_taking (stored_of old) next number ticket goods most t)
+ends_taking faults stops.None (Answers reply) old number ticket t = inl (still (stored_of old))
+ends_taking faults (SaveFault kept) (Answers reply) old number ticket t = inl (still (stored_of old))
+ends_taking faults (InSave New) (Answers reply) old number ticket t = inl (still (stored_of old))
+ends_taking faults (AfterLabels most) (Answers reply) old number ticket t = inl (still (stored_of old))
+ends_taking faults stops.None LacksMemory old number ticket t = inl (still (stored_of old))
+ends_taking faults (SaveFault kept) LacksMemory old number ticket t = inl (still (stored_of old))
+ends_taking faults (InSave New) LacksMemory old number ticket t = inl (still (stored_of old))
+ends_taking faults (AfterLabels most) LacksMemory old number ticket t = inl (still (stored_of old))
+
+as_known : {A : Type 0} (held : LedgerView) (number : ℕ) (ticket : TicketView) (end known : Ending A LedgerView) →
+    end ≡ known → MayTake held (stored_of known.actor) number ticket known.goods →
+    MayTake held (stored_of end.actor) number ticket end.goods
+as_known {A} held number ticket end known is m =
+    subst (λ (e : Ending A LedgerView). MayTake held (stored_of e.actor) number ticket e.goods) (sym is) m
+
+take_course : {A : Type 0} (number : ℕ) (ticket : TicketView) (held : LedgerView) (course : Course A LedgerView) →
+    TakeComes number ticket held course → IsTakeCourse held number ticket course
+take_course number ticket held (Saves next goods reply) comes = record {
+  takes = comes.takes;
+  is_new = comes.can.2;
+  is_for = comes.can.1.0;
+  moves_are = ap (λ (g : Goods). g.moves) comes.goods_are;
+  tickets_are = ap (λ (g : Goods). g.tickets) comes.goods_are;
+}
+take_course number ticket held (Answers reply) comes = tt
+take_course number ticket held LacksMemory comes = tt
+
+pub take_ends : {A : Type 0} (stop : Stop) (number : ℕ) (ticket : TicketView) (actor : Actor LedgerView)
+    (end : Ending A LedgerView) → Calls take_faults stop (TakeComes number ticket) actor end →
+    MayTake (stored_of actor) (stored_of end.actor) number ticket end.goods
+take_ends stop number ticket (Running held) end acts =
+    as_known held number ticket end _ acts.2
+    (ends_taking take_faults stop acts.0 (Running held) number ticket
+    (reaches stop (take_course number ticket held acts.0) acts.1))
+take_ends {A} stop number ticket (Failed shown stored) end acts =
+    as_known stored number ticket end _ acts
+    (ends_taking take_faults stop (Answers (take_faults {A = A}).failed) (Failed shown stored) number ticket (reached stop tt))
+take_ends stop number ticket (Down stored) end acts = as_known stored number ticket end _ acts (inl (still stored))
+
+-- ---- a step of a printer that takes
+
+-- what is put in the free numbers, number by number
+put_in : (free inside new : Bool) → new ≡ (inside || free) → (inside ≡ true → free ≡ false) →
+    one_if new ≡ one_if free + one_if inside
+put_in true true new is were = (let e : true ≡ false = were refl in cc (e))
+put_in true false new is were = ap one_if is
+put_in false true new is were = ap one_if is
+put_in false false new is were = ap one_if is
+
+-- what was put in a place stands there
+own_set : {X : Type 0} (xs : List X) (i : ℕ) (was x y : X) → slice_get xs i ≡ Some was →
+    slice_get (slice_set xs i x) i ≡ Some y → x ≡ y
+own_set [] i was x y there is = cc
+own_set (z ∷ zs) zero was x y there is = cc (is)
+own_set (z ∷ zs) (suc i) was x y there is = own_set zs i was x y there is
+
+module _ (old : Relay) (printer number : ℕ) (ticket : TicketView) (actor next : Actor LedgerView) (goods : Goods)
+    (order : IsInOrder old) (was : slice_get old.printers printer ≡ Some actor)
+    (there : slice_get old.tickets number ≡ Some ticket)
+    (t : IsTaking (stored_of actor) (stored_of next) number ticket goods) where
+  is_here : ticket.receiver ≡ printer
+  is_here = t.is_for ∙ order.numbers printer actor was
+
+  -- the ticket was not taken before
+  pub untaken : is_taken old.moves number ≡ false
+  untaken = elim (decided (is_taken old.moves number)) [
+    | inl taken ↦
+        let noted = order.noted number taken in
+        let same_some : Some noted.ticket ≡ Some ticket = sym noted.there ∙ there in
+        let same : noted.ticket ≡ ticket = cc (same_some) in
+        let at : slice_get old.printers noted.ticket.receiver ≡ Some actor =
+        subst (λ (p : ℕ). slice_get old.printers p ≡ Some actor)
+        (sym (ap (λ (x : TicketView). x.receiver) same ∙ is_here)) was in
+        let last = subst (λ (x : TicketView). IsSomeAnd (last_taken (stored_of actor).givers x.giver)
+        (λ last. x.serial ≤ last)) same (noted.noted actor at) in
+        absurd (old_or_new (last_taken (stored_of actor).givers ticket.giver) ticket.serial last t.is_new)
+    | inr none ↦ none
+  ]
+
+  pub taking_places : (n : ℕ) → places (with_printer old printer next goods) n ≡ places old n
+  taking_places n =
+      let free = free_set old.printers printer n actor next was in
+      let put = put_in (is_free (stored_of actor).free n) (is_in ticket.range n) (is_free (stored_of next).free n)
+      (t.takes.free.free n) (t.takes.free.were_taken n) in
+      let moves : gone (old.moves ++ goods.moves) n ≡ gone old.moves n + 0 =
+      gone_more old.moves goods.moves n ∙ ap (λ (ms : List Move). gone old.moves n + gone ms n) t.moves_are in
+      let tickets : on_tickets (old.moves ++ goods.moves) 0 (old.tickets ++ goods.tickets) n
+      ≡ on_tickets (old.moves ++ Took number ∷ []) 0 old.tickets n =
+      ap (λ (ts : List TicketView). on_tickets (old.moves ++ goods.moves) 0 (old.tickets ++ ts) n) t.tickets_are ∙
+      ap (λ (ts : List TicketView). on_tickets (old.moves ++ goods.moves) 0 ts n) (append-nil old.tickets) ∙
+      ap (λ (ms : List Move). on_tickets (old.moves ++ ms) 0 old.tickets n) t.moves_are in
+      let took = on_taken old.moves 0 number old.tickets ticket number n there (omega arith) untaken in
+      omega arith
+
+  later_last : (o : Option ℕ) (serial : ℕ) → IsSomeAnd o (λ last. serial ≤ last) →
+      IfSome o (λ last. last < ticket.serial) → serial ≤ ticket.serial
+  later_last None serial some new = absurd some
+  later_last (Some last) serial some new = omega (arith, some, new)
+
+  -- what was noted still is
+  still_noted : (giver serial : ℕ) → IsSomeAnd (last_taken (stored_of actor).givers giver) (λ last. serial ≤ last) →
+      IsSomeAnd (last_taken (stored_of next).givers giver) (λ last. serial ≤ last)
+  still_noted giver serial some =
+      let found = t.takes.givers.last giver in
+      elim (same_or_other ticket.giver giver) [
+        | inl same ↦
+            let own : last_taken (stored_of next).givers giver ≡ Some ticket.serial =
+            found ∙ if_so (ticket.giver == giver) (Some ticket.serial) (last_taken (stored_of actor).givers giver)
+            (eq-eqb ticket.giver giver same) in
+            let before : IfSome (last_taken (stored_of actor).givers giver) (λ last. last < ticket.serial) =
+            subst (λ (g : ℕ). IfSome (last_taken (stored_of actor).givers g) (λ last. last < ticket.serial)) same
+            t.is_new in
+            subst (λ (o : Option ℕ). IsSomeAnd o (λ last. serial ≤ last)) (sym own)
+            (later_last (last_taken (stored_of actor).givers giver) serial some before)
+        | inr other ↦
+            let kept : last_taken (stored_of next).givers giver ≡ last_taken (stored_of actor).givers giver =
+            found ∙ if_not (ticket.giver == giver) (Some ticket.serial) (last_taken (stored_of actor).givers giver)
+            (λ e. true_false (ticket.giver == giver) e (other_number ticket.giver giver other)) in
+            subst (λ (o : Option ℕ). IsSomeAnd o (λ last. serial ≤ last)) (sym kept) some
+      ]
+
+  own_noted : IsSomeAnd (last_taken (stored_of next).givers ticket.giver) (λ last. ticket.serial ≤ last)
+  own_noted =
+      let own : last_taken (stored_of next).givers ticket.giver ≡ Some ticket.serial =
+      t.takes.givers.last ticket.giver ∙
+      if_so (ticket.giver == ticket.giver) (Some ticket.serial) (last_taken (stored_of actor).givers ticket.giver)
+      (eq-eqb ticket.giver ticket.giver refl) in
+      let least : ticket.serial ≤ ticket.serial = omega arith in
+      subst (λ (o : Option ℕ). IsSomeAnd o (λ last. ticket.serial ≤ last)) (sym own) least
+
+  pub taking_order : IsInOrder (with_printer old printer next goods)
+  taking_order = record {
+    numbers = λ p a is. elim (got_set old.printers printer p next a is) [
+      | inl here ↦
+          ap (λ (x : Actor LedgerView). (stored_of x).number) (sym here.1) ∙ t.takes.number ∙
+          order.numbers printer actor was ∙ here.0
+      | inr rest ↦ order.numbers p a rest
+    ];
+    noted = λ k taken. elim (taken_by old.moves number k
+        (subst (λ (ms : List Move). is_taken (old.moves ++ ms) k ≡ true) t.moves_are taken)) [
+          | inl same ↦ subst (λ (j : ℕ). IsNoted (with_printer old printer next goods) j) same (record {
+            ticket = ticket;
+            there = get_more old.tickets goods.tickets number ticket there;
+            noted = λ a is. elim (got_set old.printers printer ticket.receiver next a is) [
+              | inl here ↦ subst (λ (x : Actor LedgerView). IsSomeAnd (last_taken (stored_of x).givers ticket.giver)
+                  (λ last. ticket.serial ≤ last)) here.1 own_noted
+              | inr rest ↦
+                  let at : slice_get old.printers ticket.receiver ≡ Some actor =
+                  subst (λ (p : ℕ). slice_get old.printers p ≡ Some actor) (sym is_here) was in
+                  let own_is : slice_get (slice_set old.printers printer next) printer ≡ Some a =
+                  subst (λ (p : ℕ). slice_get (slice_set old.printers printer next) p ≡ Some a) is_here is in
+                  let now : next ≡ a = own_set old.printers printer actor next a was own_is in
+                  subst (λ (x : Actor LedgerView). IsSomeAnd (last_taken (stored_of x).givers ticket.giver)
+                  (λ last. ticket.serial ≤ last)) now own_noted
+            ];
+          })
+          | inr before ↦
+              let noted = order.noted k before in
+              record {
+                ticket = noted.ticket;
+                there = get_more old.tickets goods.tickets k noted.ticket noted.there;
+                noted = λ a is. elim (got_set old.printers printer noted.ticket.receiver next a is) [
+                  | inl here ↦
+                      let at : slice_get old.printers noted.ticket.receiver ≡ Some actor =
+                      subst (λ (p : ℕ). slice_get old.printers p ≡ Some actor) here.0 was in
+                      subst (λ (x : Actor LedgerView). IsSomeAnd (last_taken (stored_of x).givers noted.ticket.giver)
+                      (λ last. noted.ticket.serial ≤ last)) here.1
+                      (still_noted noted.ticket.giver noted.ticket.serial (noted.noted actor at))
+                  | inr rest ↦ noted.noted a rest
+                ];
+              }
+        ];
+  }

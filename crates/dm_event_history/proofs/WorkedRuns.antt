@@ -1,0 +1,498 @@
+-- The worked runs, step by step.
+use Rattle.std.proofs.Common.{◌≡◌, ◌≤◌, ◌<◌, inl, inr, ℕ, Some, None, Option, List, [], ◌∷◌, Ok, Err, refl, sym, ap, subst, ◌∙◌, arith}
+use Rattle.std.specs.Prelude.{unwrap_or, slice_set, replicate}
+use Rattle.std.specs.FinMap as finite
+use Rattle.std.specs.FinMap.{get-empty, len-empty}
+use Rattle.std.specs.Ordering.{nat_cmp}
+use Rattle.dm_check_blocks.specs.declared.size.Size.TheVariants.{Side12}
+use Rattle.dm_encodation.specs.declared.scheme.Scheme.TheVariants.{Ascii}
+use Rattle.dm_symbol.specs.Symbols.{CarriesItsWords}
+use Rattle.dm_append_label.specs.Pages.{PageView}
+use Rattle.dm_print_ledger.specs.declared.giver.Giver.{Giver}
+use Rattle.dm_print_ledger.specs.declared.fault.TakeFault.TheVariants as take_fault
+use Rattle.dm_print_ledger.specs.Ranges.{AreFree, AreTaken, IsRange}
+use Rattle.dm_print_ledger.specs.Givers.{AreGivers}
+use Rattle.dm_print_ledger.specs.Ledger.{IsSound}
+use Rattle.dm_print_ledger.specs.Views.{LedgerView, TicketView}
+use Rattle.dm_print_ledger.specs.Creating.{opening}
+use Rattle.dm_print_ledger.specs.inner.Changes.{without}
+use Rattle.dm_print_ledger.proofs.OutLaws.{covered_free}
+use Rattle.dm_print_ledger.proofs.InLaws.{meets_none}
+use Rattle.dm_print_ledger.proofs.LedgerLaws.{gives_away, out_of, takes_in, joins_few}
+use Rattle.dm_assembly_desk.specs.declared.reply.Kind.TheVariants.{New, Again, Complete}
+use Rattle.dm_assembly_desk.specs.declared.fault.AskFault.TheVariants as ask_fault
+use Rattle.dm_assembly_desk.specs.Pages.{Pages}
+use Rattle.dm_assembly_desk.specs.Documents.{Documents, pages_with, with_page}
+use Rattle.dm_assembly_desk.specs.Answers.{Answer, answer, answer_at}
+use Rattle.dm_assembly_desk.specs.Asking.{Asks}
+use Rattle.dm_event_history.specs.declared.reply.Reply.TheVariants.{Printed, Scanned, Document, AskRefused, Given, Taken, TakeRefused, Restarted, Stopped, PrinterRefused}
+use Rattle.dm_event_history.specs.declared.reply.Reply.TheVariants as replies
+use Rattle.dm_event_history.specs.Worked.{digits, first_ticket, range}
+use Rattle.dm_event_history.proofs.HeldDocuments.{get_same}
+use Rattle.dm_event_history.specs.Actors.{Running, Down}
+use Rattle.dm_event_history.specs.Relay.{Desk, Goods, Relay, Took, nothing, with_desk, with_printer}
+use Rattle.dm_event_history.specs.Calls.{Answers, Course, LacksMemory, Saves, cut_off, ending}
+use Rattle.dm_event_history.specs.PrinterCalls.{SavesGive, SavesPrint, SavesTake}
+use Rattle.dm_event_history.specs.DeskCalls.{accepted, by_answer}
+use Rattle.dm_event_history.specs.Runs.{Tells}
+use Rattle.dm_event_history.specs.Worked.{AreRuns, gathered, moved, one_printer, stopped_after, stopped_before, two_printers}
+use Rattle.dm_event_history.proofs.WorkedLabels.{first_are, first_are_1, first_are_5, first_page, first_words, first_words_1, first_words_5, opened_page, opens, second_are, second_are_1, second_are_5, second_page, second_words, second_words_1, second_words_5}
+use Rattle.dm_event_history.proofs.WorkedSteps.{both_labels, desk_goes, label, ledger, printer_goes, saves_print, sound, uses_first}
+
+-- ---- prints that are stopped
+
+abbrev fresh : LedgerView
+fresh = opening 0 (range 0 9)
+
+abbrev used_once : LedgerView
+used_once = ledger 0 0 (range 1 9) []
+
+abbrev used_twice : LedgerView
+used_twice = ledger 0 0 (range 2 9) []
+
+abbrev labels_0 : Goods
+labels_0 = both_labels 0 first_words second_words
+
+abbrev labels_1 : Goods
+labels_1 = both_labels 1 first_words_1 second_words_1
+
+print_0 : {A : Type 0} (before : ℕ) →
+    SavesPrint {A = A} before digits Side12 Ascii fresh used_once labels_0 (Printed 0 before 2)
+print_0 {A} before = saves_print {A = A} before 0 fresh used_once first_words second_words
+    (uses_first 0 0 0 9 [] (range 1 9 ∷ []) (omega arith) (omega arith) tt (omega arith) refl) (omega arith)
+    first_are second_are
+
+print_1 : {A : Type 0} (before : ℕ) →
+    SavesPrint {A = A} before digits Side12 Ascii used_once used_twice labels_1 (Printed 1 before 2)
+print_1 {A} before = saves_print {A = A} before 1 used_once used_twice first_words_1 second_words_1
+    (uses_first 0 0 1 9 [] (range 2 9 ∷ []) (omega arith) (omega arith) tt (omega arith) refl) (omega arith)
+    first_are_1 second_are_1
+
+abbrev cut_short : Relay
+cut_short = with_printer one_printer 0 (Down used_once) (cut_off 0 labels_0)
+
+abbrev still_down : Relay
+still_down = with_printer cut_short 0 (Down used_once) nothing
+
+abbrev up_again : Relay
+up_again = with_printer still_down 0 (Running used_once) nothing
+
+pub after_is : (A : Type 0) → Tells one_printer (stopped_after {A = A} 1)
+after_is A = (
+  cut_short,
+  inl (
+    omega arith,
+    printer_goes one_printer 0 _ (Running fresh) (ending Stopped (Down used_once) (cut_off 0 labels_0)) refl
+        (inr (Saves used_once labels_0 (Printed 0 0 2), print_0 0, refl)),
+  ),
+  (
+    still_down,
+    inl (
+      omega arith,
+      printer_goes cut_short 0 _ (Down used_once) (ending replies.Down (Down used_once) nothing) refl refl,
+    ),
+    (
+      up_again,
+      inl (
+        omega arith,
+        printer_goes still_down 0 _ (Down used_once) (ending Restarted (Running used_once) nothing) refl (inl refl),
+      ),
+      (
+        with_printer up_again 0 (Running used_twice) labels_1,
+        inl (
+          omega arith,
+          printer_goes up_again 0 _ (Running used_once) (ending (Printed 1 0 2) (Running used_twice) labels_1) refl
+              (inr (Saves used_twice labels_1 (Printed 1 0 2), print_1 0, refl)),
+        ),
+        tt,
+      ),
+    ),
+  ),
+)
+
+abbrev cut_before : Relay
+cut_before = with_printer one_printer 0 (Down fresh) nothing
+
+abbrev down_before : Relay
+down_before = with_printer cut_before 0 (Down fresh) nothing
+
+abbrev up_as_before : Relay
+up_as_before = with_printer down_before 0 (Running fresh) nothing
+
+pub before_is : (A : Type 0) → Tells one_printer (stopped_before {A = A} 0)
+before_is A = (
+  cut_before,
+  inl (
+    omega arith,
+    printer_goes one_printer 0 _ (Running fresh) (ending Stopped (Down fresh) nothing) refl
+        (inr (LacksMemory, tt, refl)),
+  ),
+  (
+    down_before,
+    inl (
+      omega arith,
+      printer_goes cut_before 0 _ (Down fresh) (ending replies.Down (Down fresh) nothing) refl refl,
+    ),
+    (
+      up_as_before,
+      inl (
+        omega arith,
+        printer_goes down_before 0 _ (Down fresh) (ending Restarted (Running fresh) nothing) refl (inl refl),
+      ),
+      (
+        with_printer up_as_before 0 (Running used_once) labels_0,
+        inl (
+          omega arith,
+          printer_goes up_as_before 0 _ (Running fresh) (ending (Printed 0 0 2) (Running used_once) labels_0) refl
+              (inr (Saves used_once labels_0 (Printed 0 0 2), print_0 0, refl)),
+        ),
+        tt,
+      ),
+    ),
+  ),
+)
+
+-- ---- ranges that move
+
+abbrev given_once : LedgerView
+given_once = ledger 0 1 (range 0 4) []
+
+abbrev given_twice : LedgerView
+given_twice = ledger 0 2 (range 2 4) []
+
+abbrev other_fresh : LedgerView
+other_fresh = opening 1 (range 10 19)
+
+abbrev noted : List Giver
+noted = record { number = 0; serial = 0 } ∷ []
+
+abbrev taken : LedgerView
+taken = ledger 1 0 (range 5 19) noted
+
+abbrev taken_used : LedgerView
+taken_used = ledger 1 0 (range 6 19) noted
+
+abbrev a_ticket : TicketView → Goods
+a_ticket ticket = record { labels = []; tickets = ticket ∷ []; exports = []; moves = [] }
+
+abbrev second_ticket : TicketView
+second_ticket = record { giver = 0; serial = 1; receiver = 1; range = range 0 1 }
+
+abbrev took_first : Goods
+took_first = record { labels = []; tickets = []; exports = []; moves = Took 0 ∷ [] }
+
+abbrev labels_5 : Goods
+labels_5 = both_labels 5 first_words_5 second_words_5
+
+noted_rise : AreGivers noted
+noted_rise = (omega arith, tt)
+
+gives_first : {A : Type 0} (before : ℕ) →
+    SavesGive {A = A} before 1 (range 5 9) fresh given_once (a_ticket first_ticket) (Given before first_ticket)
+gives_first before =
+    let s : IsSound fresh = sound 0 0 0 9 [] (omega arith) (omega arith) tt (omega arith) in
+    let is : IsRange (range 5 9) = record { not_empty = omega arith; within = omega arith } in
+    let free : AreFree fresh.free (range 5 9) = covered_free fresh.free (range 5 9) refl in
+    let some : 5 ≤ 9 = omega arith in
+    record {
+      can = (
+        refl,
+        is,
+        (λ same. omega (arith, same)),
+        free,
+        (λ same. omega (arith, same)),
+        (without fresh.free (range 5 9), out_of fresh.free (range 5 9) s.ranges some free, omega arith),
+      );
+      gives = gives_away fresh (range 5 9) given_once s is free refl refl refl refl;
+      goods_are = refl;
+      reply_is = refl;
+    }
+
+gives_second : {A : Type 0} (before : ℕ) →
+    SavesGive {A = A} before 1 (range 0 1) given_once given_twice (a_ticket second_ticket) (Given before second_ticket)
+gives_second before =
+    let s : IsSound given_once = sound 0 1 0 4 [] (omega arith) (omega arith) tt (omega arith) in
+    let is : IsRange (range 0 1) = record { not_empty = omega arith; within = omega arith } in
+    let free : AreFree given_once.free (range 0 1) = covered_free given_once.free (range 0 1) refl in
+    let some : 0 ≤ 1 = omega arith in
+    record {
+      can = (
+        refl,
+        is,
+        (λ same. omega (arith, same)),
+        free,
+        (λ same. omega (arith, same)),
+        (without given_once.free (range 0 1), out_of given_once.free (range 0 1) s.ranges some free, omega arith),
+      );
+      gives = gives_away given_once (range 0 1) given_twice s is free refl refl refl refl;
+      goods_are = refl;
+      reply_is = refl;
+    }
+
+takes_first : {A : Type 0} → SavesTake {A = A} 0 first_ticket other_fresh taken took_first Taken
+takes_first =
+    let s : IsSound other_fresh = sound 1 0 10 19 [] (omega arith) (omega arith) tt (omega arith) in
+    let is : IsRange first_ticket.range = record { not_empty = omega arith; within = omega arith } in
+    let none : AreTaken other_fresh.free first_ticket.range = meets_none other_fresh.free first_ticket.range refl in
+    record {
+      can = (
+        refl,
+        (refl, (λ same. omega (arith, same))),
+        tt,
+        none,
+        joins_few other_fresh first_ticket s is none (omega arith),
+        (λ full. omega (arith, full.1)),
+      );
+      takes = takes_in other_fresh first_ticket taken s is none refl refl refl refl;
+      goods_are = refl;
+      reply_is = refl;
+    }
+
+print_5 : {A : Type 0} (before : ℕ) →
+    SavesPrint {A = A} before digits Side12 Ascii taken taken_used labels_5 (Printed 5 before 2)
+print_5 {A} before = saves_print {A = A} before 5 taken taken_used first_words_5 second_words_5
+    (uses_first 1 0 5 19 noted (range 6 19 ∷ []) (omega arith) (omega arith) noted_rise (omega arith) refl) (omega arith)
+    first_are_5 second_are_5
+
+abbrev given : Relay
+given = with_printer two_printers 0 (Running given_once) (a_ticket first_ticket)
+
+abbrev received : Relay
+received = with_printer given 1 (Running taken) took_first
+
+abbrev refused : Relay
+refused = with_printer received 1 (Running taken) nothing
+
+abbrev printed : Relay
+printed = with_printer refused 1 (Running taken_used) labels_5
+
+abbrev lost_one : Relay
+lost_one = with_printer printed 0 (Down given_twice) (cut_off 0 (a_ticket second_ticket))
+
+abbrev restarted : Relay
+restarted = with_printer lost_one 0 (Running given_twice) nothing
+
+pub moved_is : (A : Type 0) → Tells two_printers (moved A)
+moved_is A = (
+  given,
+  inl (
+    omega arith,
+    printer_goes two_printers 0 _ (Running fresh)
+        (ending (Given 0 first_ticket) (Running given_once) (a_ticket first_ticket)) refl
+        (inr (Saves given_once (a_ticket first_ticket) (Given 0 first_ticket), gives_first 0, refl)),
+  ),
+  (
+    received,
+    inl (
+      (omega arith, omega arith),
+      (
+        first_ticket,
+        refl,
+        printer_goes given 1 _ (Running other_fresh) (ending Taken (Running taken) took_first) refl
+            (Saves taken took_first Taken, takes_first, refl),
+      ),
+    ),
+    (
+      refused,
+      inl (
+        (omega arith, omega arith),
+        (
+          first_ticket,
+          refl,
+          printer_goes received 1 _ (Running taken) (ending (TakeRefused take_fault.Old) (Running taken) nothing) refl (
+            Answers (TakeRefused take_fault.Old),
+            (take_fault.Old, (refl, (refl, (λ same. omega (arith, same))), omega arith), refl),
+            refl,
+          ),
+        ),
+      ),
+      (
+        printed,
+        inl (
+          omega arith,
+          printer_goes refused 1 _ (Running taken) (ending (Printed 5 0 2) (Running taken_used) labels_5) refl
+              (inr (Saves taken_used labels_5 (Printed 5 0 2), print_5 0, refl)),
+        ),
+        (
+          lost_one,
+          inl (
+            omega arith,
+            printer_goes printed 0 _ (Running given_once)
+                (ending Stopped (Down given_twice) (cut_off 0 (a_ticket second_ticket))) refl
+                (inr (Saves given_twice (a_ticket second_ticket) (Given 1 second_ticket), gives_second 1, refl)),
+          ),
+          (
+            restarted,
+            inl (
+              omega arith,
+              printer_goes lost_one 0 _ (Down given_twice) (ending Restarted (Running given_twice) nothing) refl
+                  (inl refl),
+            ),
+            (restarted, inr ((λ named. let past : 1 < 1 = named.1 in omega arith), refl, refl), tt),
+          ),
+        ),
+      ),
+    ),
+  ),
+)
+
+-- ---- a document that is gathered
+
+abbrev none_held : Documents
+none_held = finite.empty
+
+abbrev half_held : Documents
+half_held = with_page none_held (second_page 0)
+
+abbrev all_held : Documents
+all_held = with_page half_held (first_page 0)
+
+none_at : (id : ℕ) → finite.get none_held id ≡ None
+none_at id = get-empty nat_cmp id
+
+half_at : finite.get half_held 0 ≡ Some (None ∷ Some (51 ∷ 52 ∷ []) ∷ [])
+half_at = get_same none_held 0 (pages_with none_held (second_page 0)) ∙
+    ap (λ (o : Option Pages). Some (slice_set (unwrap_or o (replicate 2 None)) 1 (Some (51 ∷ 52 ∷ [])))) (none_at 0)
+
+all_at : finite.get all_held 0 ≡ Some (Some (49 ∷ 50 ∷ []) ∷ Some (51 ∷ 52 ∷ []) ∷ [])
+all_at = get_same half_held 0 (pages_with half_held (first_page 0)) ∙
+    ap (λ (o : Option Pages). Some (slice_set (unwrap_or o (replicate 2 None)) 0 (Some (49 ∷ 50 ∷ [])))) half_at
+
+is_new : answer 4 none_held (second_page 0) ≡ Ok New
+is_new = ap (λ (o : Option Pages). answer_at 4 (finite.len none_held) (second_page 0) o) (none_at 0) ∙
+    ap (λ (n : ℕ). answer_at 4 n (second_page 0) None) (len-empty nat_cmp Pages)
+
+is_again : answer 4 half_held (second_page 0) ≡ Ok Again
+is_again = ap (λ (o : Option Pages). answer_at 4 (finite.len half_held) (second_page 0) o) half_at
+
+is_complete : answer 4 half_held (first_page 0) ≡ Ok Complete
+is_complete = ap (λ (o : Option Pages). answer_at 4 (finite.len half_held) (first_page 0) o) half_at
+
+abbrev desk_with : Documents → Desk
+desk_with held = record { room = 4; actor = Running held }
+
+abbrev desk_goes_on : Relay → Documents → Relay
+desk_goes_on relay held = with_desk relay 0 (desk_with held) nothing
+
+abbrev labelled : Relay
+labelled = with_printer one_printer 0 (Running used_once) labels_0
+
+abbrev scanned : Relay
+scanned = desk_goes_on labelled half_held
+
+abbrev scanned_again : Relay
+scanned_again = desk_goes_on scanned half_held
+
+abbrev whole : Relay
+whole = desk_goes_on scanned_again all_held
+
+abbrev asked : Relay
+asked = desk_goes_on whole all_held
+
+abbrev asked_other : Relay
+asked_other = with_desk asked 1 (desk_with none_held) nothing
+
+pub gathered_is : (A : Type 0) → CarriesItsWords Side12 → Tells one_printer (gathered A)
+gathered_is A law =
+    let By : Documents → PageView → Answer → Course A Documents = λ held page answer. by_answer held page answer in
+    let first = opens (first_page 0) first_words first_are law A (omega arith) in
+    let second = opens (second_page 0) second_words second_are law A (omega arith) in (
+      labelled,
+      inl (
+        omega arith,
+        printer_goes one_printer 0 _ (Running fresh) (ending (Printed 0 0 2) (Running used_once) labels_0) refl
+            (inr (Saves used_once labels_0 (Printed 0 0 2), print_0 0, refl)),
+      ),
+      (
+        scanned,
+        inl (
+          (omega arith, (label (second_page 0) second_words, refl, (λ k flip below. absurd (omega (arith, below))))),
+          (
+            label (second_page 0) second_words,
+            refl,
+            desk_goes labelled 0 _ (desk_with none_held)
+                (ending (Scanned (accepted (second_page 0) New)) (Running half_held) nothing) refl
+                (inr (
+                  Saves half_held nothing (Scanned (accepted (second_page 0) New)),
+                  (Ok (opened_page (second_page 0)), second, inl (sym (ap (By none_held (second_page 0)) is_new))),
+                  refl,
+                )),
+          ),
+        ),
+        (
+          scanned_again,
+          inl (
+            (omega arith, (label (second_page 0) second_words, refl, (λ k flip below. absurd (omega (arith, below))))),
+            (
+              label (second_page 0) second_words,
+              refl,
+              desk_goes scanned 0 _ (desk_with half_held)
+                  (ending (Scanned (accepted (second_page 0) Again)) (Running half_held) nothing) refl
+                  (inr (
+                    Answers (Scanned (accepted (second_page 0) Again)),
+                    (Ok (opened_page (second_page 0)), second, inl (sym (ap (By half_held (second_page 0)) is_again))),
+                    refl,
+                  )),
+            ),
+          ),
+          (
+            whole,
+            inl (
+              (omega arith, (label (first_page 0) first_words, refl, (λ k flip below. absurd (omega (arith, below))))),
+              (
+                label (first_page 0) first_words,
+                refl,
+                desk_goes scanned_again 0 _ (desk_with half_held)
+                    (ending (Scanned (accepted (first_page 0) Complete)) (Running all_held) nothing) refl
+                    (inr (
+                      Saves all_held nothing (Scanned (accepted (first_page 0) Complete)),
+                      (Ok (opened_page (first_page 0)), first, inl (sym (ap (By half_held (first_page 0)) is_complete))),
+                      refl,
+                    )),
+              ),
+            ),
+            (
+              asked,
+              inl (
+                omega arith,
+                desk_goes whole 0 _ (desk_with all_held) (ending (Document digits) (Running all_held) nothing) refl (
+                  (
+                    Ok digits,
+                    subst (λ (o : Option Pages). Asks (λ given. given) o (Ok digits)) (sym all_at) refl,
+                    refl,
+                    refl,
+                  ),
+                  refl,
+                ),
+              ),
+              (
+                asked_other,
+                inl (
+                  omega arith,
+                  desk_goes asked 1 _ (desk_with none_held)
+                      (ending (AskRefused ask_fault.NotHeld) (Running none_held) nothing) refl (
+                        (
+                          Err ask_fault.NotHeld,
+                          subst (λ (o : Option Pages). Asks {X = List ℕ} (λ given. given) o (Err ask_fault.NotHeld))
+                              (sym (none_at 0)) refl,
+                          refl,
+                          refl,
+                        ),
+                        refl,
+                      ),
+                ),
+                tt,
+              ),
+            ),
+          ),
+        ),
+      ),
+    )
+
+pub are_runs : (A : Type 0) → CarriesItsWords Side12 → AreRuns A
+are_runs A law = record {
+  gathered_is = gathered_is A law;
+  after_is = after_is A;
+  before_is = before_is A;
+  moved_is = moved_is A;
+}

@@ -1,0 +1,102 @@
+-- A relay: its printers and desks, and what left them.
+use Rattle.std.specs.Prelude.{ℕ, ◌+◌, List, [], ◌∷◌, ◌++◌, map, slice_set}
+use Rattle.std.specs.FinMap as finite
+use Rattle.dm_finder_frame.specs.Grids.{GridView}
+use Rattle.dm_append_label.specs.Pages.{PageView}
+use Rattle.dm_print_ledger.specs.declared.range.Range.{Range}
+use Rattle.dm_print_ledger.specs.Views.{LedgerView, TicketView}
+use Rattle.dm_print_ledger.specs.Creating.{opening}
+use Rattle.dm_assembly_desk.specs.Pages.{Pages}
+use Rattle.dm_assembly_desk.specs.Documents.{Documents}
+use Rattle.dm_check_blocks.specs.declared.size.Size.{Size}
+use Rattle.dm_encodation.specs.declared.scheme.Scheme.{Scheme}
+use Rattle.dm_event_history.specs.Actors.{Actor, Running}
+
+-- a desk has room for that many documents
+pub record Desk : Type 0 where
+  pub room : ℕ
+  pub actor : Actor Documents
+
+-- a document, and how it was cut: the size and the encodation of its labels, and its parts
+pub record CutDocument : Type 0 where
+  pub bytes : List ℕ
+  pub size : Size
+  pub scheme : Scheme
+  pub parts : List (List ℕ)
+
+-- a label that left: its page, the document that it is cut from, and its grid
+pub record Label : Type 0 where
+  pub page : PageView
+  pub cut : CutDocument
+  pub grid : GridView
+
+-- an export that left: the pages that its desk held of a document
+pub record Export : Type 0 where
+  pub id : ℕ
+  pub pages : Pages
+
+-- where numbers went: one to a print, those of a ticket to the printer that took it, those of a range nowhere, since
+-- their ticket was saved as given and did not leave
+pub data Move : Type 0 where
+  Used : ℕ → Move
+  Took : ℕ → Move
+  Lost : Range → Move
+
+-- what leaves by a call, and the numbers that it moves
+pub record Goods : Type 0 where
+  pub labels : List Label
+  pub tickets : List TicketView
+  pub exports : List Export
+  pub moves : List Move
+
+abbrev pub nothing : Goods
+nothing = record { labels = []; tickets = []; exports = []; moves = [] }
+
+-- the printers and desks by their numbers; and what left and which numbers moved, the first of them first
+pub record Relay : Type 0 where
+  pub printers : List (Actor LedgerView)
+  pub desks : List Desk
+  pub labels : List Label
+  pub tickets : List TicketView
+  pub exports : List Export
+  pub moves : List Move
+
+-- that printer, or that desk, is so from now on, and these goods left
+abbrev pub with_printer : Relay → ℕ → Actor LedgerView → Goods → Relay
+with_printer relay printer actor goods = record {
+  printers = slice_set relay.printers printer actor;
+  desks = relay.desks;
+  labels = relay.labels ++ goods.labels;
+  tickets = relay.tickets ++ goods.tickets;
+  exports = relay.exports ++ goods.exports;
+  moves = relay.moves ++ goods.moves;
+}
+
+abbrev pub with_desk : Relay → ℕ → Desk → Goods → Relay
+with_desk relay number desk goods = record {
+  printers = relay.printers;
+  desks = slice_set relay.desks number desk;
+  labels = relay.labels ++ goods.labels;
+  tickets = relay.tickets ++ goods.tickets;
+  exports = relay.exports ++ goods.exports;
+  moves = relay.moves ++ goods.moves;
+}
+
+-- printers, numbered on from there, of whose ranges nothing was used
+abbrev pub fresh_from : ℕ → List Range → List (Actor LedgerView)
+fresh_from number [] = []
+fresh_from number (range ∷ ranges) = Running (opening number range) ∷ fresh_from (number + 1) ranges
+
+abbrev pub empty_desk : ℕ → Desk
+empty_desk room = record { room = room; actor = Running finite.empty }
+
+-- a relay that begins
+abbrev pub start : List Range → List ℕ → Relay
+start ranges rooms = record {
+  printers = fresh_from 0 ranges;
+  desks = map empty_desk rooms;
+  labels = [];
+  tickets = [];
+  exports = [];
+  moves = [];
+}

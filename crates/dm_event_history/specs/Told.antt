@@ -1,0 +1,185 @@
+-- What the replies of a history tell of its printers and desks, and why its events are refused.
+use Rattle.std.specs.Prelude.{◌≡◌, ◌≢◌, ◌+◌, ◌≤◌, ℕ, Bool, true, false, if◌then◌else◌, Option, None, Some, List, [], ◌∷◌, slice_get}
+use Rattle.dm_check_blocks.specs.declared.size.Size.{Size}
+use Rattle.dm_encodation.specs.declared.scheme.Scheme.{Scheme}
+use Rattle.dm_finder_frame.specs.Grids.{GridView, flipped}
+use Rattle.dm_finder_frame.specs.UnframeOutcome.{HasGoodFrame, HasBadFrame}
+use Rattle.dm_append_label.specs.Parts.{HasNoEnds}
+use Rattle.dm_append_label.specs.declared.fault.LabelFault.TheVariants.{Border}
+use Rattle.dm_store.specs.declared.fuse.Kept.{Kept}
+use Rattle.dm_print_ledger.specs.declared.range.Range.{Range}
+use Rattle.dm_print_ledger.specs.Ranges.{size_of}
+use Rattle.dm_print_ledger.specs.Views.{LedgerView, TicketView}
+use Rattle.dm_print_ledger.specs.declared.fault.PrintFault.TheVariants as print_fault
+use Rattle.dm_print_ledger.specs.declared.fault.GiveFault.TheVariants as give_fault
+use Rattle.dm_print_ledger.specs.declared.fault.TakeFault.TheVariants as take_fault
+use Rattle.dm_assembly_desk.specs.declared.fault.ScanFault.TheVariants as scan_fault
+use Rattle.dm_assembly_desk.specs.declared.fault.ForgetFault.TheVariants as forget_fault
+use Rattle.dm_assembly_desk.specs.declared.fault.ImportFault.TheVariants as import_fault
+use Rattle.dm_event_history.specs.declared.event.Event.{Event}
+use Rattle.dm_event_history.specs.declared.event.Event.TheVariants.{Print, Scan, Give, Take}
+use Rattle.dm_event_history.specs.declared.reply.Reply.{Reply}
+use Rattle.dm_event_history.specs.declared.reply.Reply.TheVariants.{PrintRefused, Scanned, ScanRefused, ForgetRefused, GiveRefused, Taken, TakeRefused, ImportRefused, Restarted, PrinterRefused, DeskRefused, Stopped, Down, NoSuch, Memory}
+use Rattle.dm_event_history.specs.declared.stop.Stop.{Stop}
+use Rattle.dm_event_history.specs.declared.stop.Stop.TheVariants as stops
+use Rattle.dm_event_history.specs.WhoActs.{DeskAt, Named, PrinterAt, actor_of, is_same}
+use Rattle.dm_event_history.specs.Saving.{may_save, stop_of}
+use Rattle.dm_event_history.specs.Actors as actors
+use Rattle.dm_event_history.specs.Actors.{Actor}
+use Rattle.dm_event_history.specs.Relay.{Desk, Label, Relay, Took, start}
+use Rattle.dm_event_history.specs.Runs.{IsRun, Moment}
+use Rattle.dm_event_history.specs.Steps.{Step}
+use Rattle.dm_event_history.specs.Clean.{ArePrinted}
+use Rattle.dm_event_history.specs.Headline.{IsFairEvent}
+use Rattle.dm_event_history.specs.Places.{AreDisjoint}
+
+-- ---- who is down, and who has failed
+
+-- whether the one that answers so is down then, if it was before
+abbrev pub down_after : {A : Type 0} → Reply A → Bool → Bool
+down_after Stopped before = true
+down_after (PrinterRefused fault) before = true
+down_after (DeskRefused fault) before = true
+down_after Down before = before
+down_after NoSuch before = before
+down_after Memory before = before
+down_after other before = false
+
+-- whether the one that answers so has failed then, if it had before
+abbrev pub failed_after : {A : Type 0} → Reply A → Bool → Bool
+failed_after (PrintRefused print_fault.Save) before = true
+failed_after (GiveRefused give_fault.Save) before = true
+failed_after (TakeRefused take_fault.Save) before = true
+failed_after (ScanRefused scan_fault.Save) before = true
+failed_after (ForgetRefused forget_fault.Save) before = true
+failed_after (ImportRefused import_fault.Save) before = true
+failed_after Restarted before = false
+failed_after other before = before
+
+-- the reply tells that a save had failed
+abbrev pub tells_failed : {A : Type 0} → Reply A → Bool
+tells_failed (PrintRefused print_fault.Failed) = true
+tells_failed (GiveRefused give_fault.Failed) = true
+tells_failed (TakeRefused take_fault.Failed) = true
+tells_failed (ScanRefused scan_fault.Failed) = true
+tells_failed (ForgetRefused forget_fault.Failed) = true
+tells_failed (ImportRefused import_fault.Failed) = true
+tells_failed other = false
+
+-- its last reply but `Down`, `NoSuch` and `Memory` was `Stopped`, or a restart that was refused
+abbrev pub is_down : {A : Type 0} → List (Moment A) → Named → Bool
+is_down [] who = false
+is_down (moment ∷ earlier) who =
+    if is_same (actor_of moment.event) who then down_after moment.reply (is_down earlier who) else is_down earlier who
+
+-- it answered `Save` since it was last restarted
+abbrev pub is_failed : {A : Type 0} → List (Moment A) → Named → Bool
+is_failed [] who = false
+is_failed (moment ∷ earlier) who =
+    if is_same (actor_of moment.event) who
+    then failed_after moment.reply (is_failed earlier who)
+    else is_failed earlier who
+
+abbrev pub IsAsTold : {C : Type 0} → Bool → Bool → Actor C → Type 0
+IsAsTold down failed (actors.Running held) = (down ≡ false) × (failed ≡ false)
+IsAsTold down failed (actors.Failed shown stored) = (down ≡ false) × (failed ≡ true)
+IsAsTold down failed (actors.Down stored) = down ≡ true
+
+-- The printers and desks that are down are those of which the replies tell so; and of those that run just those have
+-- failed that answered `Save` since they were last restarted.
+pub record AreAsTold {A : Type 0} (h : List (Moment A)) (relay : Relay) : Type 0 where
+  pub printers : (printer : ℕ) (actor : Actor LedgerView) → slice_get relay.printers printer ≡ Some actor →
+      IsAsTold (is_down h (PrinterAt printer)) (is_failed h (PrinterAt printer)) actor
+  pub desks : (number : ℕ) (desk : Desk) → slice_get relay.desks number ≡ Some desk →
+      IsAsTold (is_down h (DeskAt number)) (is_failed h (DeskAt number)) desk.actor
+
+abbrev pub EachRunIsAsTold : Type 0 → Type 0
+EachRunIsAsTold A = (ranges : List Range) (rooms : List ℕ) (h : List (Moment A)) (end : Relay) →
+    IsRun (start ranges rooms) h end → AreAsTold h end
+
+-- ---- why events are refused
+
+-- whether a label is refused for its finder patterns, and with which number of wrong modules, is told by the grid alone
+abbrev pub IsFramedSo : {A : Type 0} → GridView → Reply A → Type 0
+IsFramedSo grid (Scanned accepted) = HasGoodFrame grid
+IsFramedSo grid (ScanRefused scan_fault.Failed) = Unit {0}
+IsFramedSo grid (ScanRefused (scan_fault.Label (Border wrong))) = HasBadFrame grid wrong
+IsFramedSo grid (ScanRefused (scan_fault.Label fault)) = ⊥
+IsFramedSo grid (ScanRefused fault) = HasGoodFrame grid
+IsFramedSo grid reply = Unit {0}
+
+-- the stop of the event is a fault of its save
+abbrev pub IsToFail : {A : Type 0} → Event A → Type 0
+IsToFail event = (kept : Kept) × (stop_of event ≡ Some (stops.SaveFault kept))
+
+-- A fair scan is refused as its label for its finder patterns alone; `Save` is answered only where the save was to
+-- fail, and `TooLong` only where the document has no parts.
+pub record IsRefusedSo {A : Type 0} (old : Relay) (event : Event A) (reply : Reply A) : Type 0 where
+  pub framed : (desk number : ℕ) (flips : List (ℕ × ℕ)) (stop : Stop) (label : Label) →
+      event ≡ Scan desk number flips stop → slice_get old.labels number ≡ Some label → IsFairEvent old event →
+      IsFramedSo (flipped label.grid flips) reply
+  pub save : failed_after reply false ≡ true → IsToFail event
+  pub too_long : (printer : ℕ) (document : List ℕ) (size : Size) (scheme : Scheme) (stop : Stop) →
+      event ≡ Print printer document size scheme stop → reply ≡ PrintRefused print_fault.TooLong →
+      HasNoEnds size scheme document
+
+abbrev pub EachStepIsRefusedSo : Type 0 → Type 0
+EachStepIsRefusedSo A = (old new : Relay) (event : Event A) (reply : Reply A) → ArePrinted old.labels →
+    Step old event reply new → IsRefusedSo old event reply
+
+-- `Failed` is told only where the printer or the desk answered `Save` since it was last restarted
+abbrev pub EachFailedFailed : Type 0 → Type 0
+EachFailedFailed A = (ranges : List Range) (rooms : List ℕ) (moment : Moment A) (earlier : List (Moment A))
+    (end : Relay) → IsRun (start ranges rooms) (moment ∷ earlier) end → tells_failed moment.reply ≡ true →
+    is_failed earlier (actor_of moment.event) ≡ true
+
+-- ---- tickets and numbers
+
+-- no ticket is taken twice, and no take is refused since a number of it is free at its receiver
+pub record TakesOnce {A : Type 0} (h : List (Moment A)) (relay : Relay) : Type 0 where
+  pub once : (i j ticket : ℕ) → slice_get relay.moves i ≡ Some (Took ticket) →
+      slice_get relay.moves j ≡ Some (Took ticket) → i ≡ j
+  pub never : (i printer ticket : ℕ) (stop : Stop) (moment : Moment A) → slice_get h i ≡ Some moment →
+      moment.event ≡ Take printer ticket stop → moment.reply ≢ TakeRefused take_fault.Overlap
+
+abbrev pub EachRunTakesOnce : Type 0 → Type 0
+EachRunTakesOnce A = (ranges : List Range) (rooms : List ℕ) (h : List (Moment A)) (end : Relay) →
+    AreDisjoint ranges → IsRun (start ranges rooms) h end → TakesOnce h end
+
+-- how many numbers a printer may have used or given away, and how many it has taken for sure
+abbrev pub lost_by : {A : Type 0} → Event A → ℕ
+lost_by (Print printer document size scheme stop) = 1
+lost_by (Give printer receiver range stop) = size_of range
+lost_by event = 0
+
+abbrev pub may_lose : {A : Type 0} → List (Moment A) → ℕ → ℕ
+may_lose [] printer = 0
+may_lose (moment ∷ earlier) printer =
+    (if is_same (actor_of moment.event) (PrinterAt printer)
+    then (if may_save moment.event moment.reply then lost_by moment.event else 0) else 0)
+    + may_lose earlier printer
+
+abbrev pub size_of_some : Option TicketView → ℕ
+size_of_some None = 0
+size_of_some (Some ticket) = size_of ticket.range
+
+-- a take that is answered `Taken`
+abbrev pub won_at : {A : Type 0} → Relay → Event A → Reply A → ℕ
+won_at before (Take printer ticket stop) Taken = size_of_some (slice_get before.tickets ticket)
+won_at before event reply = 0
+
+abbrev pub won_by : {A : Type 0} → Moment A → ℕ
+won_by moment = won_at moment.before moment.event moment.reply
+
+abbrev pub has_taken : {A : Type 0} → List (Moment A) → ℕ → ℕ
+has_taken [] printer = 0
+has_taken (moment ∷ earlier) printer =
+    (if is_same (actor_of moment.event) (PrinterAt printer) then won_by moment else 0) + has_taken earlier printer
+
+-- `Exhausted` is told only where a printer may have used and given away all numbers that it began with and took
+abbrev pub EachExhaustedIsSo : Type 0 → Type 0
+EachExhaustedIsSo A = (ranges : List Range) (rooms : List ℕ) (moment : Moment A) (earlier : List (Moment A))
+    (end : Relay) (printer : ℕ) (range : Range) (document : List ℕ) (size : Size) (scheme : Scheme) (stop : Stop) →
+    IsRun (start ranges rooms) (moment ∷ earlier) end → moment.event ≡ Print printer document size scheme stop →
+    slice_get ranges printer ≡ Some range → moment.reply ≡ PrintRefused print_fault.Exhausted →
+    size_of range + has_taken earlier printer ≤ may_lose earlier printer

@@ -1,3 +1,0 @@
-pub mod PixelPlaces
-pub mod ShownImages
-pub mod ShownWords

@@ -1,2 +1,0 @@
-pub mod ImageWords
-pub mod inner
