@@ -1,27 +1,21 @@
 -- What a desk and its set hold after a save, done or failed.
-use Rattle.std.proofs.Common.{◌≡◌, ◌⊎◌, ℕ, ◌<◌, ◌≤◌, Bool, true, false, cond, List, Option, Some, None, Result, Ok, Err, inl, inr, refl, sym, ap, subst, ◌∙◌, arith}
+use Rattle.std.proofs.Common.{◌≡◌, ◌⊎◌, ℕ, ◌+◌, ◌<◌, ◌≤◌, Bool, true, false, cond, List, Option, Some, None, Result, Ok, Err, inl, inr, refl, sym, ap, subst, ◌∙◌, arith}
 use Rattle.std.specs.Prelude.{option_map, IsTrue, IsSome, is_some}
 use Rattle.std.specs.Ordering.{nat_cmp, eq_by_cmp}
 use Rattle.std.specs.Cmp.{nat_cmp_total}
-use Rattle.std.specs.FinMap.{get, insert, remove, len, get-insert, get-remove, len-remove}
-use Rattle.dm_append_label.specs.Pages.{PageView}
-use Rattle.dm_store.specs.Saved.{SavePlan, SavesFine, FaultOld, FaultNew, SavesOpen, Done, Faulted, HeldAfterFault}
-use Rattle.dm_store.specs.Left.{IsDurableSet}
-use Rattle.dm_store.specs.Sets.{SavedSet, Contents, Saves, SavesKey, RemovesKey}
-use Rattle.dm_store.specs.declared.store.ReplaceFault.TheVariants as replacing
+use Rattle.std.specs.FinMap.{get, insert, remove, len, get-insert, get-remove, len-insert, len-remove}
+use Rattle.dm_store.specs.Saved.{SavePlan, SavesFine, FaultOld, FaultNew, SavesOpen, Outcome, Done, Faulted, Refused, HeldAfterFault, Follows, outcome_of}
+use Rattle.dm_store.specs.Sets.{SavedSet, Contents, Saves, SavesKey, RemovesKey, outcome_of_remove}
 use Rattle.dm_store.specs.declared.set.RemoveFault.{RemoveFault}
 use Rattle.dm_store.specs.declared.set.RemoveFault.TheVariants as removing
+use Rattle.dm_store.specs.declared.store.ReplaceFault.{ReplaceFault}
 use Rattle.dm_assembly_desk.specs.Pages.{Pages}
 use Rattle.dm_assembly_desk.specs.Files.{IsEntry, file}
-use Rattle.dm_assembly_desk.specs.Documents.{Documents, AreEntries, HoldsFiles, pages_with, with_page}
+use Rattle.dm_assembly_desk.specs.Documents.{Documents, AreEntries, HoldsFiles}
 use Rattle.dm_assembly_desk.specs.Views.{DeskView, IsInOrder}
-use Rattle.dm_assembly_desk.specs.Answers.{Answer, answer, NeedsSave}
-use Rattle.dm_assembly_desk.specs.Accepting.{ChangesByPage, KeepsPage, FailsToKeepPage}
-use Rattle.dm_assembly_desk.specs.Forgetting.{LetsGo, FailsToLetGo}
-use Rattle.dm_assembly_desk.specs.declared.reply.Kind.{Kind}
-use Rattle.dm_assembly_desk.specs.declared.reply.Kind.TheVariants.{New, Again, Complete}
-use Rattle.dm_assembly_desk.proofs.Loading.{same_key, entries_insert}
-use Rattle.dm_assembly_desk.proofs.Adding.{IsPage, can_be_added, room_for, entry_with, entries_with, few_with}
+use Rattle.dm_assembly_desk.specs.Holding.{SavesDocument, shown, Ends}
+use Rattle.dm_assembly_desk.proofs.Loading.{itself, same_key, entries_insert}
+use Rattle.dm_assembly_desk.proofs.Undoing.{get_here}
 
 -- ---- files of what is held
 
@@ -102,95 +96,101 @@ pub record IsToSave (old : DeskView) (content : Contents) (held : Documents) : T
   pub entries : AreEntries held
   pub files : IsTrue old.saved.is_honest → HoldsFiles content held
 
-pub was_durable : (old new : SavedSet) → new.is_honest ≡ old.is_honest → new.is_durable ≡ old.is_durable
-    → IsDurableSet new → IsDurableSet old
-was_durable old new same still durable = (subst IsTrue same durable.0, subst IsTrue still durable.1)
-
-pub was_honest : (old new : SavedSet) → new.is_honest ≡ old.is_honest → IsTrue new.is_honest → IsTrue old.is_honest
-was_honest old new same honest = subst IsTrue same honest
-
-module _ (old : DeskView) (content : Contents) (held : Documents) (set : SavedSet) (t : IsToSave old content held) where
-  pub holds_now : Saves old.saved content Done set → IsTrue old.saved.is_honest → HoldsFiles set.content held
+module _ (old : DeskView) (id : ℕ) (content : Contents) (held : Documents) (set : SavedSet)
+    (t : IsToSave old content held) where
+  holds_now : Saves old.saved content Done set → IsTrue old.saved.is_honest → HoldsFiles set.content held
   holds_now s honest = subst (λ (c : Contents). HoldsFiles c held) (sym (s.done refl honest)) (t.files honest)
 
-  pub kept_now : Saves old.saved content Faulted set → IsTrue old.saved.is_honest →
-      (kept : Documents) × HeldAfterFault old.saved.save_plan old.held held kept × HoldsFiles set.content kept
-  kept_now s honest = kept_after old.saved.save_plan old.saved.content content set.content old.held held
-      (t.order.saved t.running honest) (t.files honest) (s.faulted refl honest)
+  pub ends : (outcome : Outcome) → (outcome ≡ Refused → set ≡ old.saved) →
+      SavesDocument old.saved id (get held id) outcome set →
+      (IsTrue old.saved.is_honest → Saves old.saved content outcome set) →
+      Ends id held outcome old (shown held outcome old set)
+  ends Done refused document saves = record {
+    shows = refl;
+    saved = document;
+    keeps = λ honest. (held, refl, holds_now (saves honest) honest);
+  }
+  ends Faulted refused document saves = record {
+    shows = refl;
+    saved = document;
+    keeps = λ honest. kept_after old.saved.save_plan old.saved.content content set.content old.held held
+        (t.order.saved t.running honest) (t.files honest) ((saves honest).faulted refl honest);
+  }
+  ends Refused refused document saves = record {
+    shows = refl;
+    saved = subst (λ (s : SavedSet). SavesDocument old.saved id (get held id) Refused s) (refused refl) document;
+    keeps = λ honest. (old.held, refl, t.order.saved t.running honest);
+  }
 
-abbrev pub done_view : DeskView → SavedSet → Documents → DeskView
-done_view old set held = record { saved = set; held = held; capacity = old.capacity; is_failed = old.is_failed }
+  pub ordered : (outcome : Outcome) → set.is_honest ≡ old.saved.is_honest →
+      (IsTrue old.saved.is_honest → Saves old.saved content outcome set) → IsInOrder (shown held outcome old set)
+  ordered Done same saves = record {
+    room = t.order.room;
+    few = t.few;
+    entries = t.entries;
+    saved = λ _ honest. let was : IsTrue old.saved.is_honest = subst IsTrue same honest in holds_now (saves was) was;
+  }
+  ordered Faulted same saves = record {
+    room = t.order.room;
+    few = t.order.few;
+    entries = t.order.entries;
+    saved = λ failed. absurd cc;
+  }
+  ordered Refused same saves = t.order
 
-abbrev pub failed_view : DeskView → SavedSet → DeskView
-failed_view old set = record { saved = set; held = old.held; capacity = old.capacity; is_failed = true }
+-- ---- pages that are held
 
-failed_order : (old : DeskView) (set : SavedSet) → IsInOrder old → IsInOrder (failed_view old set)
-failed_order old set o = record { room = o.room; few = o.few; entries = o.entries; saved = λ e. absurd cc }
+few_insert : (o : Option Pages) (n capacity : ℕ) → n ≤ capacity → (o ≡ None → n < capacity) →
+    cond (is_some o) n (n + 1) ≤ capacity
+few_insert None n capacity le room = omega (arith, room refl)
+few_insert (Some pages) n capacity le room = le
 
--- ---- a page
+module _ (old : DeskView) (id : ℕ) (pages : Pages) (set : SavedSet) (order : IsInOrder old)
+    (running : old.is_failed ≡ false) (entry : IsEntry id pages)
+    (room : get old.held id ≡ None → len old.held < old.capacity) where
+  to_hold : IsToSave old (insert old.saved.content id (file id pages)) (insert old.held id pages)
+  to_hold = record {
+    order = order;
+    running = running;
+    few = rw (len-insert nat_cmp_total old.held id pages)
+        (few_insert (get old.held id) (len old.held) old.capacity order.few room);
+    entries = entries_insert old.held id pages order.entries entry;
+    files = λ honest. files_insert old.saved.content old.held id pages (order.saved running honest) entry;
+  }
 
-page_to_save : (old : DeskView) (p : PageView) → IsInOrder old → old.is_failed ≡ false → IsPage p →
-    NeedsSave (answer old.capacity old.held p)
-    → IsToSave old (insert old.saved.content p.id (file p.id (pages_with old.held p))) (with_page old.held p)
-page_to_save old p order running q adding =
-    let can = can_be_added old.capacity old.held p adding in record {
-      order = order;
-      running = running;
-      few = few_with old.held p old.capacity order.few (room_for old.capacity old.held p adding);
-      entries = entries_with old.held p q order.entries can;
-      files = λ honest. files_insert old.saved.content old.held p.id (pages_with old.held p)
-          (order.saved running honest) (entry_with old.held p q order.entries can);
-    }
+  pub held_ends : (answer : Result (Unit {0}) ReplaceFault) → SavesKey old.saved id (file id pages) answer set →
+      Ends id (insert old.held id pages) (outcome_of answer) old
+      (shown (insert old.held id pages) (outcome_of answer) old set)
+  held_ends answer s = ends old id (insert old.saved.content id (file id pages)) (insert old.held id pages) set to_hold
+      (outcome_of answer) (λ refused. s.refused refused)
+      (subst (λ (o : Option Pages). SavesDocument old.saved id o (outcome_of answer) set)
+      (sym (get_here old.held id pages)) s) (λ _. s)
 
-pub keeps : (old : DeskView) (p : PageView) (set : SavedSet) → IsInOrder old → old.is_failed ≡ false → IsPage p →
-    NeedsSave (answer old.capacity old.held p)
-    → SavesKey old.saved p.id (file p.id (pages_with old.held p)) (Ok tt) set →
-    KeepsPage p old (done_view old set (with_page old.held p))
-keeps old p set order running q adding s =
-    let t = page_to_save old p order running q adding in record {
-      holding = record {
-        was_running = running;
-        running = running;
-        holds = refl;
-        capacity = refl;
-        kept = holds_now old _ (with_page old.held p) set t s;
-      };
-      replaced = s;
-    }
+  pub held_order : (answer : Result (Unit {0}) ReplaceFault) → SavesKey old.saved id (file id pages) answer set →
+      IsInOrder (shown (insert old.held id pages) (outcome_of answer) old set)
+  held_order answer s = ordered old id (insert old.saved.content id (file id pages)) (insert old.held id pages) set
+      to_hold (outcome_of answer) s.same_honesty (λ _. s)
 
-pub keeps_order : (old : DeskView) (p : PageView) (set : SavedSet) → IsInOrder old → old.is_failed ≡ false → IsPage p →
-    NeedsSave (answer old.capacity old.held p)
-    → SavesKey old.saved p.id (file p.id (pages_with old.held p)) (Ok tt) set →
-    IsInOrder (done_view old set (with_page old.held p))
-keeps_order old p set order running q adding s =
-    let t = page_to_save old p order running q adding in record {
-      room = order.room;
-      few = t.few;
-      entries = t.entries;
-      saved = λ _ honest. holds_now old _ (with_page old.held p) set t s
-          (was_honest old.saved set s.same_honesty honest);
-    }
+no_plan : (plan : SavePlan) → Follows plan Refused plan
+no_plan SavesFine = refl
+no_plan FaultOld = refl
+no_plan FaultNew = refl
+no_plan SavesOpen = refl
 
-pub fails_to_keep : (old : DeskView) (p : PageView) (set : SavedSet) → IsInOrder old → old.is_failed ≡ false →
-    IsPage p → NeedsSave (answer old.capacity old.held p)
-    → SavesKey old.saved p.id (file p.id (pages_with old.held p)) (Err replacing.Device) set →
-    FailsToKeepPage p old (failed_view old set)
-fails_to_keep old p set order running q adding s =
-    let t = page_to_save old p order running q adding in record {
-      failing = record {
-        was_running = running;
-        failed = refl;
-        holds = refl;
-        capacity = refl;
-        kept = kept_now old _ (with_page old.held p) set t s;
-      };
-      replaced = s;
-    }
+-- a save that is refused before it is begun
+pub not_begun : (s : SavedSet) (content : Contents) → Saves s content Refused s
+not_begun s content = record {
+  same_honesty = refl;
+  same_durability = refl;
+  same_memory_plan = refl;
+  same_load_plan = refl;
+  follows = no_plan s.save_plan;
+  done = λ e. absurd cc;
+  refused = λ _. refl;
+  faulted = λ e. absurd cc;
+}
 
-pub fails_order : (old : DeskView) (set : SavedSet) → IsInOrder old → IsInOrder (failed_view old set)
-fails_order old set o = failed_order old set o
-
--- ---- a forget
+-- ---- a document that is let go
 
 is_there : (content : Contents) (held : Documents) (id : ℕ) → HoldsFiles content held → IsSome (get held id) →
     IsSome (get content id)
@@ -208,77 +208,44 @@ same_honesty old id answer set r =
       | Some bytes ↦ λ is. (r.there (subst IsSome (sym is) refl)).same_honesty
     ] refl
 
-pub same_durability : (old : SavedSet) (id : ℕ) (answer : Result (Unit {0}) RemoveFault) (set : SavedSet) →
-    RemovesKey old id answer set → set.is_durable ≡ old.is_durable
-same_durability old id answer set r =
-    elim (get old.content id) as (λ o. get old.content id ≡ o → set.is_durable ≡ old.is_durable) [
-      | None ↦ λ is. ap (λ (s : SavedSet). s.is_durable) (r.absent is)
-      | Some bytes ↦ λ is. (r.there (subst IsSome (sym is) refl)).same_durability
+pub refused_same : (old : SavedSet) (id : ℕ) (set : SavedSet) → RemovesKey old id (Err removing.Memory) set → set ≡ old
+refused_same old id set r =
+    elim (get old.content id) as (λ o. get old.content id ≡ o → set ≡ old) [
+      | None ↦ λ is. r.absent is
+      | Some bytes ↦ λ is. (r.there (subst IsSome (sym is) refl)).refused refl
     ] refl
 
-forget_to_save : (old : DeskView) (id : ℕ) → IsInOrder old → old.is_failed ≡ false →
-    IsToSave old (remove old.saved.content id) (remove old.held id)
-forget_to_save old id order running = record {
-  order = order;
-  running = running;
-  few = few_remove old.held id old.capacity order.few;
-  entries = entries_remove old.held id order.entries;
-  files = λ honest. files_remove old.saved.content old.held id (order.saved running honest);
-}
+refused_to_remove : (old : SavedSet) (id : ℕ) (set : SavedSet) (answer : Result (Unit {0}) RemoveFault) →
+    RemovesKey old id answer set → outcome_of_remove answer ≡ Refused → set ≡ old
+refused_to_remove old id set (Ok done) r e = absurd cc
+refused_to_remove old id set (Err removing.Device) r e = absurd cc
+refused_to_remove old id set (Err removing.Memory) r e = refused_same old id set r
 
-module _ (old : DeskView) (id : ℕ) (set : SavedSet) (order : IsInOrder old)
-    (running : old.is_failed ≡ false) (some : IsSome (get old.held id)) where
-  there : IsTrue old.saved.is_honest → IsSome (get old.saved.content id)
-  there honest = is_there old.saved.content old.held id (order.saved running honest) some
+gone_here : (held : Documents) (id : ℕ) → get (remove held id) id ≡ None
+gone_here held id = get-remove nat_cmp_total held id id ∙ ap (λ b. cond b None (get held id)) (itself id)
 
-  pub lets_go : RemovesKey old.saved id (Ok tt) set → LetsGo id old (done_view old set (remove old.held id))
-  lets_go r = record {
-    was_held = some;
-    holding = record {
-      was_running = running;
-      running = running;
-      holds = refl;
-      capacity = refl;
-      kept = λ honest. holds_now old _ (remove old.held id) set (forget_to_save old id order running)
-          (r.there (there honest)) honest;
-    };
-    removed = r;
+module _ (old : DeskView) (id : ℕ) (set : SavedSet) (order : IsInOrder old) (running : old.is_failed ≡ false)
+    (some : IsSome (get old.held id)) (answer : Result (Unit {0}) RemoveFault)
+    (removes : RemovesKey old.saved id answer set) where
+  to_let_go : IsToSave old (remove old.saved.content id) (remove old.held id)
+  to_let_go = record {
+    order = order;
+    running = running;
+    few = few_remove old.held id old.capacity order.few;
+    entries = entries_remove old.held id order.entries;
+    files = λ honest. files_remove old.saved.content old.held id (order.saved running honest);
   }
 
-  pub lets_go_order : RemovesKey old.saved id (Ok tt) set → IsInOrder (done_view old set (remove old.held id))
-  lets_go_order r =
-      let t = forget_to_save old id order running in record {
-        room = order.room;
-        few = t.few;
-        entries = t.entries;
-        saved = λ _ honest.
-            let was = was_honest old.saved set (same_honesty old.saved id (Ok tt) set r) honest in
-            holds_now old _ (remove old.held id) set t (r.there (there was)) was;
-      }
+  removed : IsTrue old.saved.is_honest → Saves old.saved (remove old.saved.content id) (outcome_of_remove answer) set
+  removed honest = removes.there (is_there old.saved.content old.held id (order.saved running honest) some)
 
-  pub fails_to_let_go : RemovesKey old.saved id (Err removing.Device) set → FailsToLetGo id old (failed_view old set)
-  fails_to_let_go r = record {
-    was_held = some;
-    failing = record {
-      was_running = running;
-      failed = refl;
-      holds = refl;
-      capacity = refl;
-      kept = λ honest. kept_now old _ (remove old.held id) set (forget_to_save old id order running)
-          (r.there (there honest)) honest;
-    };
-    removed = r;
-  }
+  pub gone_ends : Ends id (remove old.held id) (outcome_of_remove answer) old
+      (shown (remove old.held id) (outcome_of_remove answer) old set)
+  gone_ends = ends old id (remove old.saved.content id) (remove old.held id) set to_let_go (outcome_of_remove answer)
+      (refused_to_remove old.saved id set answer removes)
+      (subst (λ (o : Option Pages). SavesDocument old.saved id o (outcome_of_remove answer) set)
+      (sym (gone_here old.held id)) (answer, refl, removes)) removed
 
--- ---- an answer that needs a save
-
-pub adds : (a : Answer) (kind : Kind) → a ≡ Ok kind → (kind ≡ Again → ⊥) → NeedsSave a
-adds a New is ne = inl is
-adds a Complete is ne = inr is
-adds a Again is ne = absurd (ne refl)
-
-pub changes : (kind : Kind) (p : PageView) (old new : DeskView) → (kind ≡ Again → ⊥) → KeepsPage p old new →
-    ChangesByPage kind p old new
-changes New p old new ne k = k
-changes Complete p old new ne k = k
-changes Again p old new ne k = absurd (ne refl)
+  pub gone_order : IsInOrder (shown (remove old.held id) (outcome_of_remove answer) old set)
+  gone_order = ordered old id (remove old.saved.content id) (remove old.held id) set to_let_go
+      (outcome_of_remove answer) (same_honesty old.saved id answer set removes) removed

@@ -1,8 +1,6 @@
 -- Private: only contracts inside this crate cite what stands in this folder.
 pub mod Reading
-pub mod Adding
 pub mod Loading
 pub mod ReadingJoint
 pub mod MovingOn
 pub mod LookingAt
-pub mod MoveEnds

@@ -12,11 +12,11 @@
 //! of its pages is held, and then it is these, joined in order. A call on one document leaves all others. Every refusal
 //! but a failed save leaves the desk and its set as they were; after one that failed the set holds the old or the new
 //! file, and the desk answers `Failed` until it is opened again. A desk that is opened on what an honest set kept holds
-//! exactly that; and on what a stop of the machine left of a durable set, each document that was held. A file that is
-//! looked at without a desk is described as it is, or the reason is named why it is no file of pages.
+//! exactly that. A file that is looked at without a desk is described as it is, or the reason is named why it is no file of pages.
 #![tactic(auto)]
 
 mod accepting;
+mod adding;
 mod desk;
 mod document;
 mod documents;
@@ -38,10 +38,9 @@ mod reading;
 mod reply;
 mod writing;
 
+pub use adding::AddFault;
 pub use desk::Desk;
-pub use fault::{
-    AskFault, DeskFault, ExportFault, ForgetFault, HeldFault, ImportFault, MoveFault, ScanFault,
-};
+pub use fault::{AskFault, DeskFault, ExportFault, ForgetFault, ImportFault, MoveFault, ScanFault};
 pub use joint_file::JointFile;
 pub use limits::{MOST_CAPACITY, MOST_FILE_BYTES, MOST_JOINT_FILE_BYTES};
 pub use looking::{held_at, is_listed};

@@ -16,7 +16,10 @@ use Rattle.dm_append_label.specs.Pages.{PageView}
 use Rattle.dm_append_label.specs.declared.opening.Opened.{Opened}
 use Rattle.dm_append_label.specs.declared.fault.LabelFault.{LabelFault}
 use Rattle.dm_append_label.specs.declared.fault.LabelFault.TheVariants as label_fault
-use Rattle.dm_assembly_desk.specs.Answers.{Answer, answer}
+use Rattle.dm_assembly_desk.specs.declared.adding.AddFault.{AddFault}
+use Rattle.dm_assembly_desk.specs.declared.reply.Imported as imported_type
+use Rattle.dm_assembly_desk.specs.Accepting.{lone}
+use Rattle.dm_assembly_desk.specs.Adding.{add_verdict}
 use Rattle.dm_assembly_desk.specs.declared.reply.Kind.{Kind}
 use Rattle.dm_assembly_desk.specs.declared.reply.Kind.TheVariants as kinds
 use Rattle.dm_event_history.specs.declared.reply.Reply.TheVariants.{Scanned}
@@ -29,14 +32,17 @@ use Rattle.dm_event_history.specs.Relay as relays
 use Rattle.dm_event_history.specs.Relay.{Desk, Goods, Label, Relay, nothing}
 use Rattle.dm_event_history.specs.Calls.{Answers, Calls, Course, Ending, LacksMemory, Looks, MayLackFirst, Saves, ends}
 use Rattle.dm_event_history.specs.PrinterCalls.{GiveComes, PrintComes, TakeComes}
-use Rattle.dm_event_history.specs.DeskCalls.{ExportTells, ExportsHeld, MayBe, ScanComes, accepted, by_answer, scan_course, scan_faults}
+use Rattle.dm_event_history.specs.DeskCalls.{ExportTells, ExportsHeld, MayBe, ScanComes, scan_course, scan_faults, verdict_course, page_reply}
 use Rattle.dm_event_history.specs.Steps.{Acts, DeskGoes, IsNamed, PrinterGoes, Step}
 use Rattle.dm_event_history.specs.Clean.{ArePrinted, HaveLeft, IsClean, IsCleanActor, IsCleanExport, IsHarmless}
 use Rattle.dm_event_history.specs.Headline.{AreAllClean, IsFairEvent}
+use Rattle.dm_event_history.proofs.LedgerFacts.{made_print}
 use Rattle.dm_event_history.proofs.LeavingGoods.{IsClosed, Leaves, OfCourse, as_known, calls_leave, known_goods, may_lack_leaves, restarts_leave}
 use Rattle.dm_event_history.proofs.DeskGoods.{ask_leaves, forget_leaves, import_leaves, scan_leaves}
 use Rattle.dm_event_history.proofs.Stays.{actor_more, each_step_keeps_clean, got_set, more_left, more_pages}
 use Rattle.dm_event_history.proofs.Gives.{held_export}
+use Rattle.dm_event_history.proofs.Adds.{Answer, done_well, IsDoneWell}
+use Rattle.dm_assembly_desk.specs.Holding.{Verdict, Stays, Becomes}
 
 -- each of the exports is clean
 abbrev AreClean : List Label → List relays.Export → Type 0
@@ -76,21 +82,22 @@ print_sends : {A : Type 0} (labels : List Label) (before : ℕ) (document : List
     (held : LedgerView) (course : Course A LedgerView) → PrintComes before document size scheme held course →
     OfCourse (Sends labels) course
 print_sends labels before document size scheme held (Saves next goods reply) comes =
-    no_exports labels goods (ap (λ (g : Goods). g.exports) comes.goods_are)
+    no_exports labels goods
+    (ap (λ (g : Goods). g.exports) (made_print before document size scheme held next goods reply comes).left.goods_are)
 print_sends labels before document size scheme held (Answers reply) comes = tt
 print_sends labels before document size scheme held LacksMemory comes = tt
 
 give_sends : {A : Type 0} (labels : List Label) (before receiver : ℕ) (range : Range) (held : LedgerView)
     (course : Course A LedgerView) → GiveComes before receiver range held course → OfCourse (Sends labels) course
 give_sends labels before receiver range held (Saves next goods reply) comes =
-    no_exports labels goods (ap (λ (g : Goods). g.exports) comes.goods_are)
+    no_exports labels goods (ap (λ (g : Goods). g.exports) comes.1.1.0)
 give_sends labels before receiver range held (Answers reply) comes = tt
 give_sends labels before receiver range held LacksMemory comes = tt
 
 take_sends : {A : Type 0} (labels : List Label) (number : ℕ) (ticket : TicketView) (held : LedgerView)
     (course : Course A LedgerView) → TakeComes number ticket held course → OfCourse (Sends labels) course
 take_sends labels number ticket held (Saves next goods reply) comes =
-    no_exports labels goods (ap (λ (g : Goods). g.exports) comes.goods_are)
+    no_exports labels goods (ap (λ (g : Goods). g.exports) comes.2.1.0)
 take_sends labels number ticket held (Answers reply) comes = tt
 take_sends labels number ticket held LacksMemory comes = tt
 
@@ -225,26 +232,21 @@ unsaved_course {A} Q desk number flips stop reply held k room course unsaved (in
     subst (λ (c : Course A Documents). (reply ≡ (ends scan_faults stop c (Running held)).reply) → CourseHas Q stop c)
     (sym same) (by_read k) is
   where
-    none : (next : Documents) (page : PageView) (kind : Kind) →
-        (reply ≡ (ends scan_faults stop (Saves next nothing (Scanned (accepted page kind))) (Running held)).reply) →
-        Stores stop → Q next
-    none next page kind told stores =
+    by_add : (page : PageView) (v : Verdict Answer) → IsDoneWell v →
+        (reply ≡ (ends scan_faults stop (verdict_course (page_reply page) v) (Running held)).reply) →
+        CourseHas {A = A} Q stop (verdict_course (page_reply page) v)
+    by_add page (Stays answer) well told = tt
+    by_add page (Becomes next (Ok added)) well told = λ stores.
         absurd (unsaved (ap (λ (r : Reply A). may_save (Scan desk number flips stop) r) told
-        ∙ saves_may (Scan desk number flips stop) scan_faults stop next nothing (Scanned (accepted page kind))
+        ∙ saves_may (Scan desk number flips stop) scan_faults stop next nothing (page_reply page (Ok added))
         (Running held) refl refl refl stores))
-
-    by_answer_of : (page : PageView) (a : Answer) →
-        (reply ≡ (ends scan_faults stop (by_answer held page a) (Running held)).reply) →
-        CourseHas {A = A} Q stop (by_answer held page a)
-    by_answer_of page (Ok kinds.Again) told = tt
-    by_answer_of page (Ok kinds.New) told = none _ page kinds.New told
-    by_answer_of page (Ok kinds.Complete) told = none _ page kinds.Complete told
-    by_answer_of page (Err fault) told = tt
+    by_add page (Becomes next (Err fault)) well told = absurd well
 
     by_read : (k : Result (Opened A) LabelFault) →
         (reply ≡ (ends scan_faults stop (scan_course room held k) (Running held)).reply) →
         CourseHas {A = A} Q stop (scan_course room held k)
-    by_read (Ok opened) told = by_answer_of opened.page (answer room held opened.page) told
+    by_read (Ok opened) told = by_add opened.page (add_verdict room held opened.page.id (lone opened.page))
+        (done_well room held opened.page.id (lone opened.page)) told
     by_read (Err label_fault.Memory) told = tt
     by_read (Err fault) told = tt
 

@@ -28,9 +28,15 @@ use Rattle.dm_assembly_desk.specs.declared.fault.DeskFault.TheVariants as desk_f
 use Rattle.dm_assembly_desk.specs.declared.reply.Kind.TheVariants as kinds
 use Rattle.dm_assembly_desk.specs.Pages.{Pages, page}
 use Rattle.dm_assembly_desk.specs.Documents.{Documents}
-use Rattle.dm_assembly_desk.specs.Answers.{Answer, answer, answer_at, answer_at_page}
-use Rattle.dm_assembly_desk.specs.Importing.{ImportAnswer, answer_by, import_answer, kind_of}
-use Rattle.dm_assembly_desk.specs.Merging.{added_mask, agree, union_of}
+use Rattle.dm_assembly_desk.specs.declared.adding.AddFault.{AddFault}
+use Rattle.dm_assembly_desk.specs.declared.adding.AddFault.TheVariants as adds
+use Rattle.dm_assembly_desk.specs.declared.reply.Imported as imported_type
+use Rattle.dm_assembly_desk.specs.declared.reply.Kind.{Kind}
+use Rattle.dm_assembly_desk.specs.Accepting.{lone}
+use Rattle.dm_assembly_desk.specs.Adding.{add_verdict}
+use Rattle.dm_event_history.specs.declared.reply.Reply.TheVariants.{GiveRefused, Imported, PrintRefused, TakeRefused}
+use Rattle.dm_event_history.proofs.Adds.{add_refuses, Answer, by_verdict}
+use Rattle.dm_event_history.proofs.LedgerFacts.{give_refuses, made_print, print_refuses, take_refuses}
 use Rattle.dm_event_history.specs.declared.event.Event.{Event}
 use Rattle.dm_event_history.specs.declared.event.Event.TheVariants.{Print, Scan, RestartPrinter, RestartDesk, Ask, Forget, Give, Take, Export, Import}
 use Rattle.dm_event_history.specs.declared.reply.Reply.{Reply}
@@ -44,7 +50,7 @@ use Rattle.dm_event_history.specs.Relay as relays
 use Rattle.dm_event_history.specs.Relay.{Desk, Goods, Relay, empty_desk, fresh_from, start}
 use Rattle.dm_event_history.specs.Calls.{Answers, Calls, Course, Ending, Faults, LacksMemory, Looks, MayLackFirst, Reaches, Restarts, Saves, ends}
 use Rattle.dm_event_history.specs.PrinterCalls.{GiveComes, PrintComes, TakeComes, give_faults, print_faults, take_faults}
-use Rattle.dm_event_history.specs.DeskCalls.{AskTells, ExportTells, ExportsHeld, ForgetComes, ImportComes, MayBe, ScanComes, ask_reply, by_answer, by_import, forget_course, forget_faults, import_faults, scan_course, scan_faults}
+use Rattle.dm_event_history.specs.DeskCalls.{AskTells, ExportTells, ExportsHeld, ForgetComes, ImportComes, MayBe, ScanComes, ask_reply, forget_faults, import_faults, scan_course, scan_faults, verdict_course, page_reply, pages_reply, forget_reply}
 use Rattle.dm_event_history.specs.Steps.{Acts, DeskGoes, PrinterGoes, Step}
 use Rattle.dm_event_history.specs.Runs.{Moment}
 use Rattle.dm_event_history.specs.Told.{AreAsTold, EachRunIsAsTold, IsAsTold, down_after, failed_after, is_down, is_failed, tells_failed}
@@ -52,6 +58,8 @@ use Rattle.dm_event_history.proofs.Deciding.{if_not, if_same, if_so, other_numbe
 use Rattle.dm_event_history.proofs.Beginning.{empty_there}
 use Rattle.dm_event_history.proofs.Reaching.{reaches}
 use Rattle.dm_event_history.proofs.Between.{set_at}
+use Rattle.dm_event_history.proofs.Told.{forget_by}
+use Rattle.dm_assembly_desk.specs.Forgetting.{forget_verdict}
 
 -- ---- replies of calls
 
@@ -168,103 +176,49 @@ as_plain {A} reply known is p = subst (λ (r : Reply A). IsPlain r) (sym is) p
 pub print_plain : {A : Type 0} (before : ℕ) (document : List ℕ) (size : Size) (scheme : Scheme) (held : LedgerView)
     (course : Course A LedgerView) → PrintComes before document size scheme held course → IsPlainCourse course
 print_plain before document size scheme held (Saves next goods reply) comes =
-    as_plain reply _ comes.reply_is (record { up = λ b. refl; same = λ b. refl; unfailed = refl })
-print_plain before document size scheme held (Answers reply) (print_fault.Failed, cannot, is) =
-    absurd (cc (cannot))
-print_plain before document size scheme held (Answers reply) (print_fault.TooLong, cannot, is) =
-    as_plain reply _ is (record { up = λ b. refl; same = λ b. refl; unfailed = refl })
-print_plain before document size scheme held (Answers reply) (print_fault.Exhausted, cannot, is) =
-    as_plain reply _ is (record { up = λ b. refl; same = λ b. refl; unfailed = refl })
-print_plain before document size scheme held (Answers reply) (print_fault.Memory, cannot, is) = absurd cannot
-print_plain before document size scheme held (Answers reply) (print_fault.Save, cannot, is) = absurd cannot
+    as_plain reply _ (made_print before document size scheme held next goods reply comes).left.reply_is
+    (record { up = λ b. refl; same = λ b. refl; unfailed = refl })
+print_plain {A} before document size scheme held (Answers reply) comes =
+    as_plain reply _ comes.3.2 (print_refuses (λ fault. IsPlain {A = A} (PrintRefused fault)) held (is_some comes.1)
+    comes.3.0 (λ _. record { up = λ b. refl; same = λ b. refl; unfailed = refl })
+    (λ _. record { up = λ b. refl; same = λ b. refl; unfailed = refl }) comes.3.1)
 print_plain before document size scheme held LacksMemory comes = tt
 
 pub give_plain : {A : Type 0} (before receiver : ℕ) (range : Range) (held : LedgerView) (course : Course A LedgerView) →
     GiveComes before receiver range held course → IsPlainCourse course
 give_plain before receiver range held (Saves next goods reply) comes =
-    as_plain reply _ comes.reply_is (record { up = λ b. refl; same = λ b. refl; unfailed = refl })
-give_plain before receiver range held (Answers reply) (give_fault.Failed, cannot, is) = absurd (cc (cannot))
-give_plain before receiver range held (Answers reply) (give_fault.Range, cannot, is) =
-    as_plain reply _ is (record { up = λ b. refl; same = λ b. refl; unfailed = refl })
-give_plain before receiver range held (Answers reply) (give_fault.Receiver, cannot, is) =
-    as_plain reply _ is (record { up = λ b. refl; same = λ b. refl; unfailed = refl })
-give_plain before receiver range held (Answers reply) (give_fault.NotFree, cannot, is) =
-    as_plain reply _ is (record { up = λ b. refl; same = λ b. refl; unfailed = refl })
-give_plain before receiver range held (Answers reply) (give_fault.Serials, cannot, is) =
-    as_plain reply _ is (record { up = λ b. refl; same = λ b. refl; unfailed = refl })
-give_plain before receiver range held (Answers reply) (give_fault.Ranges, cannot, is) =
-    as_plain reply _ is (record { up = λ b. refl; same = λ b. refl; unfailed = refl })
-give_plain before receiver range held (Answers reply) (give_fault.Memory, cannot, is) = absurd cannot
-give_plain before receiver range held (Answers reply) (give_fault.Save, cannot, is) = absurd cannot
+    as_plain reply _ comes.1.1.1 (record { up = λ b. refl; same = λ b. refl; unfailed = refl })
+give_plain {A} before receiver range held (Answers reply) comes =
+    as_plain reply _ comes.1.2 (give_refuses (λ fault. IsPlain {A = A} (GiveRefused fault)) held receiver range
+    comes.1.0 (record { up = λ b. refl; same = λ b. refl; unfailed = refl })
+    (record { up = λ b. refl; same = λ b. refl; unfailed = refl })
+    (record { up = λ b. refl; same = λ b. refl; unfailed = refl })
+    (record { up = λ b. refl; same = λ b. refl; unfailed = refl })
+    (record { up = λ b. refl; same = λ b. refl; unfailed = refl }) comes.1.1)
 give_plain before receiver range held LacksMemory comes = tt
 
 pub take_plain : {A : Type 0} (number : ℕ) (ticket : TicketView) (held : LedgerView) (course : Course A LedgerView) →
     TakeComes number ticket held course → IsPlainCourse course
 take_plain number ticket held (Saves next goods reply) comes =
-    as_plain reply _ comes.reply_is (record { up = λ b. refl; same = λ b. refl; unfailed = refl })
-take_plain number ticket held (Answers reply) (take_fault.Failed, cannot, is) = absurd (cc (cannot))
-take_plain number ticket held (Answers reply) (take_fault.Receiver, cannot, is) =
-    as_plain reply _ is (record { up = λ b. refl; same = λ b. refl; unfailed = refl })
-take_plain number ticket held (Answers reply) (take_fault.Old, cannot, is) =
-    as_plain reply _ is (record { up = λ b. refl; same = λ b. refl; unfailed = refl })
-take_plain number ticket held (Answers reply) (take_fault.Overlap, cannot, is) =
-    as_plain reply _ is (record { up = λ b. refl; same = λ b. refl; unfailed = refl })
-take_plain number ticket held (Answers reply) (take_fault.Ranges, cannot, is) =
-    as_plain reply _ is (record { up = λ b. refl; same = λ b. refl; unfailed = refl })
-take_plain number ticket held (Answers reply) (take_fault.Givers, cannot, is) =
-    as_plain reply _ is (record { up = λ b. refl; same = λ b. refl; unfailed = refl })
-take_plain number ticket held (Answers reply) (take_fault.Memory, cannot, is) = absurd cannot
-take_plain number ticket held (Answers reply) (take_fault.Save, cannot, is) = absurd cannot
+    as_plain reply _ comes.2.1.1 (record { up = λ b. refl; same = λ b. refl; unfailed = refl })
+take_plain {A} number ticket held (Answers reply) comes =
+    as_plain reply _ comes.2.2 (take_refuses (λ fault. IsPlain {A = A} (TakeRefused fault)) held ticket comes.2.0
+    (record { up = λ b. refl; same = λ b. refl; unfailed = refl })
+    (record { up = λ b. refl; same = λ b. refl; unfailed = refl })
+    (λ _. record { up = λ b. refl; same = λ b. refl; unfailed = refl })
+    (record { up = λ b. refl; same = λ b. refl; unfailed = refl })
+    (record { up = λ b. refl; same = λ b. refl; unfailed = refl }) comes.2.1)
 take_plain number ticket held LacksMemory comes = tt
 
--- a page is refused for what is held alone
-pub answer_plain : (room : ℕ) (held : Documents) (p : PageView) (fault : ScanFault) → answer room held p ≡ Err fault →
-    (fault ≡ scan_fault.Conflict) ⊎ (fault ≡ scan_fault.Full)
-answer_plain room held p fault is = by_held (finite.get held p.id) is
-  where
-    conflict_is : ◌≡◌ {A = Answer} (Err scan_fault.Conflict) (Err fault) → fault ≡ scan_fault.Conflict
-    conflict_is e = cc (e)
-
-    by_kind : (b : Bool) → ◌≡◌ {A = Answer} (Ok (if b then kinds.Complete else kinds.New)) (Err fault) →
-        (fault ≡ scan_fault.Conflict) ⊎ (fault ≡ scan_fault.Full)
-    by_kind true e = cc (e)
-    by_kind false e = cc (e)
-
-    by_bytes : (b : Bool) → ◌≡◌ {A = Answer} (if b then Ok kinds.Again else Err scan_fault.Conflict) (Err fault) →
-        (fault ≡ scan_fault.Conflict) ⊎ (fault ≡ scan_fault.Full)
-    by_bytes true e = cc (e)
-    by_bytes false e = inl (conflict_is e)
-
-    by_page : (pages : Pages) (o : Option (List ℕ)) → answer_at_page pages p o ≡ Err fault →
-        (fault ≡ scan_fault.Conflict) ⊎ (fault ≡ scan_fault.Full)
-    by_page pages None e = by_kind (list_all is_some (slice_set pages (p.m - 1) (Some p.bytes))) e
-    by_page pages (Some bytes) e = by_bytes (bytes_eq bytes p.bytes) e
-
-    by_count : (pages : Pages) (b : Bool) →
-        ◌≡◌ {A = Answer} (if b then answer_at_page pages p (page pages p.m) else Err scan_fault.Conflict) (Err fault) →
-        (fault ≡ scan_fault.Conflict) ⊎ (fault ≡ scan_fault.Full)
-    by_count pages true e = by_page pages (page pages p.m) e
-    by_count pages false e = inl (conflict_is e)
-
-    by_room : (b : Bool) → ◌≡◌ {A = Answer} (if b then Ok kinds.New else Err scan_fault.Full) (Err fault) →
-        (fault ≡ scan_fault.Conflict) ⊎ (fault ≡ scan_fault.Full)
-    by_room true e = cc (e)
-    by_room false e = inr (full_is e)
-      where
-        full_is : ◌≡◌ {A = Answer} (Err scan_fault.Full) (Err fault) → fault ≡ scan_fault.Full
-        full_is e = cc (e)
-
-    by_held : (o : Option Pages) → answer_at room (finite.len held) p o ≡ Err fault →
-        (fault ≡ scan_fault.Conflict) ⊎ (fault ≡ scan_fault.Full)
-    by_held None e = by_room (nat_lt (finite.len held) room) e
-    by_held (Some pages) e = by_count pages (length pages == p.n) e
-
-fault_plain : {A : Type 0} (fault : ScanFault) → (fault ≡ scan_fault.Conflict) ⊎ (fault ≡ scan_fault.Full) →
-    IsPlain {A = A} (replies.ScanRefused fault)
-fault_plain {A} fault (inl is) =
-    subst (λ (f : ScanFault). IsPlain {A = A} (replies.ScanRefused f)) (sym is) (record { up = λ b. refl; same = λ b. refl; unfailed = refl })
-fault_plain {A} fault (inr is) =
-    subst (λ (f : ScanFault). IsPlain {A = A} (replies.ScanRefused f)) (sym is) (record { up = λ b. refl; same = λ b. refl; unfailed = refl })
+-- pages that are to be added are refused for what is held alone
+add_plain : {A : Type 0} (tells : Answer → Reply A) (room : ℕ) (held : Documents) (id : ℕ) (pages : Pages) →
+    ((added : imported_type.Imported) → IsPlain (tells (Ok added))) → IsPlain (tells (Err adds.Conflict)) →
+    IsPlain (tells (Err adds.Full)) → IsPlainCourse (verdict_course tells (add_verdict room held id pages))
+add_plain {A} tells room held id pages told conflict full = by_verdict
+    (λ v. IsPlainCourse {A = A} (verdict_course tells v)) room held id pages
+    (λ fault is. add_refuses (λ f. IsPlain (tells (Err f))) room held id pages fault (λ own at differs. conflict)
+    (λ none most. full) is)
+    (λ is. told _) (λ kind other is. told _)
 
 may_be_plain : {A : Type 0} (wanted course : Course A Documents) → IsPlainCourse wanted → MayBe wanted course →
     IsPlainCourse course
@@ -276,84 +230,31 @@ pub scan_plain : {A : Type 0} (room : ℕ) (grid : GridView) (held : Documents) 
 scan_plain {A} room grid held course comes =
     may_be_plain (scan_course room held comes.0) course (by_read comes.0) comes.2
   where
-    by_answer_of : (p : PageView) (a : Answer) → answer room held p ≡ a → IsPlainCourse {A = A} (by_answer held p a)
-    by_answer_of p (Ok kinds.Again) is = record { up = λ b. refl; same = λ b. refl; unfailed = refl }
-    by_answer_of p (Ok kinds.New) is = record { up = λ b. refl; same = λ b. refl; unfailed = refl }
-    by_answer_of p (Ok kinds.Complete) is = record { up = λ b. refl; same = λ b. refl; unfailed = refl }
-    by_answer_of p (Err fault) is = fault_plain fault (answer_plain room held p fault is)
-
     by_read : (read : Result (Opened A) LabelFault) → IsPlainCourse {A = A} (scan_course room held read)
-    by_read (Ok opened) = by_answer_of opened.page (answer room held opened.page) refl
+    by_read (Ok opened) = add_plain {A = A} (page_reply opened.page) room held opened.page.id (lone opened.page)
+        (λ added. record { up = λ b. refl; same = λ b. refl; unfailed = refl })
+        (record { up = λ b. refl; same = λ b. refl; unfailed = refl })
+        (record { up = λ b. refl; same = λ b. refl; unfailed = refl })
     by_read (Err label_fault.Memory) = tt
     by_read (Err fault) = record { up = λ b. refl; same = λ b. refl; unfailed = refl }
 
 pub forget_plain : {A : Type 0} (id : ℕ) (held : Documents) (course : Course A Documents) → ForgetComes id held course →
     IsPlainCourse course
 forget_plain {A} id held course comes =
-    may_be_plain (forget_course held id (finite.get held id)) course (by_held (finite.get held id)) comes
+    may_be_plain (verdict_course forget_reply (forget_verdict held id)) course (by_held (finite.get held id)) comes
   where
-    by_held : (o : Option Pages) → IsPlainCourse {A = A} (forget_course held id o)
+    by_held : (o : Option Pages) → IsPlainCourse {A = A} (verdict_course forget_reply (forget_by held id o))
     by_held None = record { up = λ b. refl; same = λ b. refl; unfailed = refl }
     by_held (Some pages) = record { up = λ b. refl; same = λ b. refl; unfailed = refl }
-
-pub import_answer_plain : (room : ℕ) (held : Documents) (id : ℕ) (given : Pages) (fault : ImportFault) →
-    import_answer room held id given ≡ Err fault →
-    (fault ≡ import_fault.Conflict) ⊎ (fault ≡ import_fault.Full)
-import_answer_plain room held id given fault is = by_held (finite.get held id) is
-  where
-    by_kind : (b : Bool) → ◌≡◌ {A = ImportAnswer} (Ok (if b then kinds.Complete else kinds.New)) (Err fault) →
-        (fault ≡ import_fault.Conflict) ⊎ (fault ≡ import_fault.Full)
-    by_kind true e = cc (e)
-    by_kind false e = cc (e)
-
-    by_room : (b : Bool) → ◌≡◌ {A = ImportAnswer} (if b then Ok (kind_of given) else Err import_fault.Full) (Err fault) →
-        (fault ≡ import_fault.Conflict) ⊎ (fault ≡ import_fault.Full)
-    by_room true e = by_kind (list_all is_some given) e
-    by_room false e = inr (full_is e)
-      where
-        full_is : ◌≡◌ {A = ImportAnswer} (Err import_fault.Full) (Err fault) → fault ≡ import_fault.Full
-        full_is e = cc (e)
-
-    by_added : (own : Pages) (b : Bool) →
-        ◌≡◌ {A = ImportAnswer} (if b then Ok kinds.Again else Ok (kind_of (union_of own given))) (Err fault) →
-        (fault ≡ import_fault.Conflict) ⊎ (fault ≡ import_fault.Full)
-    by_added own true e = cc (e)
-    by_added own false e = by_kind (list_all is_some (union_of own given)) e
-
-    by_agreeing : (own : Pages) (b : Bool) →
-        ◌≡◌ {A = ImportAnswer} (if b
-        then (if added_mask own given == 0 then Ok kinds.Again else Ok (kind_of (union_of own given)))
-        else Err import_fault.Conflict) (Err fault) → (fault ≡ import_fault.Conflict) ⊎ (fault ≡ import_fault.Full)
-    by_agreeing own true e = by_added own (added_mask own given == 0) e
-    by_agreeing own false e = inl (conflict_is e)
-      where
-        conflict_is : ◌≡◌ {A = ImportAnswer} (Err import_fault.Conflict) (Err fault) → fault ≡ import_fault.Conflict
-        conflict_is e = cc (e)
-
-    by_held : (o : Option Pages) → answer_by room (finite.len held) given o ≡ Err fault →
-        (fault ≡ import_fault.Conflict) ⊎ (fault ≡ import_fault.Full)
-    by_held None e = by_room (nat_lt (finite.len held) room) e
-    by_held (Some own) e = by_agreeing own (length own == length given && agree own given) e
 
 pub import_plain : {A : Type 0} (room : ℕ) (export : relays.Export) (held : Documents) (course : Course A Documents) →
     ImportComes room export held course → IsPlainCourse course
 import_plain {A} room export held course comes =
-    may_be_plain (by_import held export (import_answer room held export.id export.pages)) course
-    (by_answer_of (import_answer room held export.id export.pages) refl) comes
-  where
-    by_fault : (fault : ImportFault) → (fault ≡ import_fault.Conflict) ⊎ (fault ≡ import_fault.Full) →
-        IsPlain {A = A} (replies.ImportRefused fault)
-    by_fault fault (inl is) = subst (λ (f : ImportFault). IsPlain {A = A} (replies.ImportRefused f)) (sym is)
-        (record { up = λ b. refl; same = λ b. refl; unfailed = refl })
-    by_fault fault (inr is) = subst (λ (f : ImportFault). IsPlain {A = A} (replies.ImportRefused f)) (sym is)
-        (record { up = λ b. refl; same = λ b. refl; unfailed = refl })
-
-    by_answer_of : (a : ImportAnswer) → import_answer room held export.id export.pages ≡ a →
-        IsPlainCourse {A = A} (by_import held export a)
-    by_answer_of (Ok kinds.Again) is = record { up = λ b. refl; same = λ b. refl; unfailed = refl }
-    by_answer_of (Ok kinds.New) is = record { up = λ b. refl; same = λ b. refl; unfailed = refl }
-    by_answer_of (Ok kinds.Complete) is = record { up = λ b. refl; same = λ b. refl; unfailed = refl }
-    by_answer_of (Err fault) is = by_fault fault (import_answer_plain room held export.id export.pages fault is)
+    may_be_plain (verdict_course pages_reply (add_verdict room held export.id export.pages)) course
+    (add_plain {A = A} pages_reply room held export.id export.pages
+    (λ added. record { up = λ b. refl; same = λ b. refl; unfailed = refl })
+    (record { up = λ b. refl; same = λ b. refl; unfailed = refl })
+    (record { up = λ b. refl; same = λ b. refl; unfailed = refl })) comes
 
 -- ---- looks
 

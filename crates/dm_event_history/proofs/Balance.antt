@@ -10,8 +10,8 @@ use Rattle.dm_print_ledger.specs.declared.giver.Giver.{Giver}
 use Rattle.dm_print_ledger.specs.Ranges.{is_free, is_in}
 use Rattle.dm_print_ledger.specs.Givers.{last_taken}
 use Rattle.dm_print_ledger.specs.Views.{LedgerView, TicketView}
-use Rattle.dm_print_ledger.specs.Printing.{Uses, single}
-use Rattle.dm_print_ledger.specs.Moving.{GivesAway}
+use Rattle.dm_print_ledger.specs.Changes.{least, single}
+use Rattle.dm_print_ledger.specs.Verdicts.{ticket_of}
 use Rattle.dm_print_ledger.proofs.RangeTests.{at_least, at_most, in_from}
 use Rattle.dm_event_history.specs.declared.stop.Stop.{Stop}
 use Rattle.dm_event_history.specs.declared.stop.Stop.TheVariants as stops
@@ -19,6 +19,7 @@ use Rattle.dm_event_history.specs.declared.stop.Stop.TheVariants.{BeforeSave, In
 use Rattle.dm_event_history.specs.declared.reply.Reply.{Reply}
 use Rattle.dm_event_history.proofs.Deciding.{decided, other_number, same_or_other}
 use Rattle.dm_event_history.proofs.Gotten.{get_more}
+use Rattle.dm_event_history.proofs.LedgerFacts.{LosesNumbers, give_loses, made_print}
 use Rattle.dm_event_history.specs.Actors.{Actor, Running, Failed, Down, stored_of}
 use Rattle.dm_event_history.specs.Relay.{Goods, Label, Relay, Used, nothing, with_printer}
 use Rattle.dm_event_history.specs.Calls.{Answers, Calls, Course, Ending, Faults, LacksMemory, MayLackFirst, Reaches, Restarts, Saves, cut_off, ends, lost}
@@ -131,29 +132,29 @@ in_single id number = elim (same_or_other id number) [
       ]
 ]
 
-uses_balanced : (held next : LedgerView) (id : ℕ) (labels : List Label) → Uses held id next →
+uses_balanced : (held next : LedgerView) (id : ℕ) (labels : List Label) → LosesNumbers held (single id) next →
     IsBalanced held next (record { labels = labels; tickets = []; exports = []; moves = Used id ∷ [] })
-uses_balanced held next id labels used = record {
+uses_balanced held next id labels loses = record {
   kept = λ n.
-      let out = out_of (is_free held.free n) (is_in (single id) n) (is_free next.free n) (used.free.free n)
-      (used.free.were_free n) in
+      let out = out_of (is_free held.free n) (is_in (single id) n) (is_free next.free n) (loses.free.free n)
+      (loses.were_free n) in
       let one = in_single id n in
       omega arith;
   none_taken = λ k. refl;
-  number = used.number;
-  givers = used.givers;
+  number = loses.number;
+  givers = loses.givers;
 }
 
-gives_balanced : (held next : LedgerView) (ticket : TicketView) → GivesAway held ticket.range next →
+gives_balanced : (held next : LedgerView) (ticket : TicketView) → LosesNumbers held ticket.range next →
     IsBalanced held next (record { labels = []; tickets = ticket ∷ []; exports = []; moves = [] })
-gives_balanced held next ticket gives = record {
+gives_balanced held next ticket loses = record {
   kept = λ n.
-      let out = out_of (is_free held.free n) (is_in ticket.range n) (is_free next.free n) (gives.free.free n)
-      (gives.free.were_free n) in
+      let out = out_of (is_free held.free n) (is_in ticket.range n) (is_free next.free n) (loses.free.free n)
+      (loses.were_free n) in
       omega arith;
   none_taken = λ k. refl;
-  number = gives.number;
-  givers = gives.givers;
+  number = loses.number;
+  givers = loses.givers;
 }
 
 of_goods : (held next : LedgerView) (goods known : Goods) → goods ≡ known → IsBalanced held next known →
@@ -163,14 +164,17 @@ of_goods held next goods known is b = subst (λ (g : Goods). IsBalanced held nex
 pub print_balanced : {A : Type 0} (before : ℕ) (document : List ℕ) (size : Size) (scheme : Scheme) (held : LedgerView)
     (course : Course A LedgerView) → PrintComes before document size scheme held course → IsBalancedCourse held course
 print_balanced before document size scheme held (Saves next goods reply) comes =
-    of_goods held next goods _ comes.goods_are (uses_balanced held next comes.id comes.labels comes.used)
+    let made = made_print before document size scheme held next goods reply comes in
+    of_goods held next goods _ made.left.goods_are
+    (uses_balanced held next (least held.free) made.left.labels made.uses.loses)
 print_balanced before document size scheme held (Answers reply) comes = tt
 print_balanced before document size scheme held LacksMemory comes = tt
 
 pub give_balanced : {A : Type 0} (before receiver : ℕ) (range : Range) (held : LedgerView)
     (course : Course A LedgerView) → GiveComes before receiver range held course → IsBalancedCourse held course
 give_balanced before receiver range held (Saves next goods reply) comes =
-    of_goods held next goods _ comes.goods_are (gives_balanced held next _ comes.gives)
+    of_goods held next goods _ comes.1.1.0
+    (gives_balanced held next (ticket_of held receiver range) (give_loses held next receiver range comes.0 comes.1.0))
 give_balanced before receiver range held (Answers reply) comes = tt
 give_balanced before receiver range held LacksMemory comes = tt
 

@@ -13,9 +13,10 @@ use Rattle.dm_assembly_desk.specs.declared.reply.Imported as imported_type
 use Rattle.dm_assembly_desk.specs.declared.reply.Kind.{Kind}
 use Rattle.dm_assembly_desk.specs.declared.reply.Kind.TheVariants as kinds
 use Rattle.dm_assembly_desk.specs.Pages.{Pages, page}
-use Rattle.dm_assembly_desk.specs.Documents.{Documents, with_page}
-use Rattle.dm_assembly_desk.specs.Answers.{Answer, answer}
-use Rattle.dm_assembly_desk.specs.Importing.{ImportAnswer, import_answer, with_file}
+use Rattle.dm_assembly_desk.specs.declared.adding.AddFault.{AddFault}
+use Rattle.dm_assembly_desk.specs.Documents.{Documents}
+use Rattle.dm_assembly_desk.specs.Accepting.{lone}
+use Rattle.dm_assembly_desk.specs.Adding.{add_verdict, with_pages, add_kind, reply_of}
 use Rattle.dm_finder_frame.specs.Grids.{flipped}
 use Rattle.dm_print_ledger.specs.declared.range.Range.{Range}
 use Rattle.dm_print_ledger.specs.Views.{LedgerView}
@@ -25,12 +26,12 @@ use Rattle.dm_event_history.specs.declared.reply.Reply.{Reply}
 use Rattle.dm_event_history.specs.declared.reply.Reply.TheVariants.{Scanned, Forgotten, Imported}
 use Rattle.dm_event_history.specs.declared.reply.Reply.TheVariants as replies
 use Rattle.dm_event_history.specs.declared.stop.Stop.{Stop}
-use Rattle.dm_event_history.specs.Saving.{may_save}
+use Rattle.dm_event_history.specs.Saving.{Stores, leaves_new, may_save, stop_of}
 use Rattle.dm_event_history.specs.Actors.{Actor, Running}
 use Rattle.dm_event_history.specs.Relay as relays
 use Rattle.dm_event_history.specs.Relay.{Desk, Label, Relay, empty_desk, start, nothing}
-use Rattle.dm_event_history.specs.Calls.{Calls, Course, Ending, LacksMemory, Looks, MayLackFirst, ends}
-use Rattle.dm_event_history.specs.DeskCalls.{AskTells, ExportTells, ForgetComes, ImportComes, MayBe, ScanComes, by_answer, by_import, forget_course, forget_faults, import_faults, scan_course, scan_faults}
+use Rattle.dm_event_history.specs.Calls.{Calls, Course, Ending, Faults, LacksMemory, Looks, MayLackFirst, Saves, ends}
+use Rattle.dm_event_history.specs.DeskCalls.{AskTells, ExportTells, ForgetComes, ImportComes, MayBe, ScanComes, forget_faults, import_faults, scan_course, scan_faults, verdict_course, page_reply, pages_reply, forget_reply}
 use Rattle.dm_event_history.specs.Steps.{Acts, DeskGoes, HasModules, IsNamed, PrinterGoes, Step}
 use Rattle.dm_event_history.specs.Runs.{Moment, IsRun}
 use Rattle.dm_event_history.specs.Clean.{ArePrinted}
@@ -40,11 +41,12 @@ use Rattle.dm_event_history.specs.Held.{Forgets, IsPossiblyHeld, IsSurelyHeld, M
 use Rattle.dm_event_history.proofs.Deciding.{same_or_other}
 use Rattle.dm_event_history.proofs.Headline.{each_run_is_sound}
 use Rattle.dm_event_history.proofs.Beginning.{empty_there, nothing_at}
-use Rattle.dm_event_history.proofs.HeldPages.{holds_again}
-use Rattle.dm_event_history.proofs.ImportKinds.{held_all}
+use Rattle.dm_event_history.proofs.Adds.{held_all, lone_some, Answer, by_verdict}
 use Rattle.dm_event_history.proofs.Having.{CourseHas, HasAll, calls_have, has_map, looks_have, may_lack_has, restarts_have, saves_may}
 use Rattle.dm_event_history.proofs.Answered.{IsAnswered, is_answered, is_made}
-use Rattle.dm_event_history.proofs.Told.{Has, ImportTold, ScanTold, forget_told, import_told, own_forget, own_import, own_scan, scan_told, was_wanted, with_file_has, with_file_keeps, with_file_only, with_page_has, with_page_keeps, with_page_only, without_keeps, without_only}
+use Rattle.dm_event_history.proofs.Told.{AddTold, Has, IsAfter, add_ended, forget_told, own_forget, own_import, own_scan, scan_told, was_wanted, with_pages_has, with_pages_keeps, with_pages_only, without_keeps, without_only, forget_by}
+use Rattle.dm_assembly_desk.specs.Forgetting.{forget_verdict}
+use Rattle.dm_assembly_desk.proofs.LonePages.{lone_here}
 
 pub record IsBetween {A : Type 0} (h : List (Moment A)) (desk : ℕ) (held : Documents) : Type 0 where
   pub surely : (id m : ℕ) → IsSurelyHeld h desk id m → Has held id m
@@ -80,6 +82,71 @@ stays before event reply earlier at none still held b =
     next before event reply earlier at held held b (λ id m has _. has) (λ id m took. absurd (none id m took))
     (λ id m has. inr (still id, has))
 
+-- ---- scans and imports
+
+-- an event at a desk by which pages of a document are to be added
+module _ (A : Type 0) (before : Relay) (event : Event A) (stop : Stop) (faults : Faults A)
+    (tells : Answer → Reply A) (desk id : ℕ) (pages : Pages)
+    (earlier : List (Moment A)) (forgets : (reply : Reply A) (i : ℕ) → ¬ Forgets event reply desk i)
+    (may : (reply : Reply A) (i m : ℕ) → may_save event reply ≡ true → i ≡ id → IsSome (page pages m) →
+    MayTake before event reply desk i m) where
+  -- by which just these are taken, if any
+  abbrev TakesThese : Reply A → Type 0
+  TakesThese reply = (i m : ℕ) → Takes before event reply desk i m → (id ≡ i) × IsSome (page pages m)
+
+  -- they are added
+  added : (held : Documents) (reply : Reply A) → may_save event reply ≡ true → TakesThese reply →
+      IsBetween earlier desk held → IsBetween (after before event reply earlier) desk (with_pages held id pages)
+  added held reply saved takes b =
+      next before event reply earlier desk held (with_pages held id pages) b
+      (λ i m has _. with_pages_keeps held id pages i m has)
+      (λ i m t. let o = takes i m t in
+      subst (λ (k : ℕ). Has (with_pages held id pages) k m) o.0 (with_pages_has held id pages m o.1))
+      (λ i m has. elim (with_pages_only held id pages i m has) [
+        | inl given ↦ inl (may reply i m saved given.0 given.1)
+        | inr old ↦ inr (forgets reply i, old)
+      ])
+
+  -- it is answered that they were added, or were all held
+  pub answered : (room : ℕ) (held : Documents) (reply : Reply A) (end : Actor Documents) → may_save event reply ≡ true →
+      TakesThese reply → IsBetween earlier desk held → AddTold tells room held id pages reply end →
+      HasAll (IsBetween (after before event reply earlier) desk) end
+  answered room held reply end saved takes b told = by_kind told.kind told.kind_is told.after_is
+    where
+      known : (held : Documents) → IsBetween (after before event reply earlier) desk held → end ≡ Running held →
+          HasAll (IsBetween (after before event reply earlier) desk) end
+      known held new is =
+          subst (λ (x : Actor Documents). HasAll (IsBetween (after before event reply earlier) desk) x) (sym is) new
+
+      by_kind : (kind : Kind) → add_kind room held id pages ≡ Ok kind → IsAfter kind held (with_pages held id pages) end →
+          HasAll (IsBetween (after before event reply earlier) desk) end
+      by_kind kinds.Again at is = known held
+          (next before event reply earlier desk held held b (λ i m has _. has)
+          (λ i m t. let o = takes i m t in subst (λ (k : ℕ). Has held k m) o.0 (held_all room held id pages at m o.1))
+          (λ i m has. inr (forgets reply i, has))) is
+      by_kind kinds.New at is = known (with_pages held id pages) (added held reply saved takes b) is
+      by_kind kinds.Complete at is = known (with_pages held id pages) (added held reply saved takes b) is
+
+  -- it is answered otherwise
+  pub unanswered : (room : ℕ) (held : Documents) (reply : Reply A) (course : Course A Documents) →
+      stop_of event ≡ Some stop → may_save event faults.save ≡ leaves_new (stop_of event) →
+      ((i : imported_type.Imported) → may_save event (tells (Ok i)) ≡ true) → TakesThese reply →
+      IsBetween earlier desk held → MayBe (verdict_course tells (add_verdict room held id pages)) course →
+      reply ≡ (ends faults stop course (Running held)).reply →
+      CourseHas (IsBetween (after before event reply earlier) desk) stop course
+  unanswered room held reply course stopped save saved takes b (inr lack) is =
+      subst (λ (c : Course A Documents). CourseHas (IsBetween (after before event reply earlier) desk) stop c)
+      (sym lack.0) tt
+  unanswered room held reply course stopped save saved takes b (inl same) is =
+      subst (λ (c : Course A Documents). (reply ≡ (ends faults stop c (Running held)).reply) →
+      CourseHas (IsBetween (after before event reply earlier) desk) stop c) (sym same)
+      (by_verdict (λ v. (reply ≡ (ends faults stop (verdict_course tells v) (Running held)).reply) →
+      CourseHas (IsBetween (after before event reply earlier) desk) stop (verdict_course tells v)) room held id pages
+      (λ fault at told. tt) (λ at told. tt)
+      (λ kind other at told stores. added held reply (ap (λ (r : Reply A). may_save event r) told
+      ∙ saves_may event faults stop (with_pages held id pages) nothing (tells (Ok (reply_of held id pages kind)))
+      (Running held) stopped save (saved _) stores) takes b)) is
+
 -- ---- scans
 
 is_scanned : {A : Type 0} (reply : Reply A) → ((a : Accepted) × (reply ≡ Scanned a)) ⊎ ((a : Accepted) → reply ≢ Scanned a)
@@ -96,59 +163,32 @@ module _ (A : Type 0) (before : Relay) (desk number room : ℕ) (flips : List (�
     (head : IsHead (head_of label.page))
     (near : (read : Result (Opened A) LabelFault) → LabelOpens (flipped label.grid flips) read →
     OpensNear label.page read) where
-  -- the page was taken
-  taken : (held : Documents) (reply : Reply A) (k : Kind) → k ≢ kinds.Again → answer room held label.page ≡ Ok k →
-      may_save (Scan desk number flips stop) reply ≡ true → IsBetween earlier desk held →
-      ((id m : ℕ) → Takes before (Scan desk number flips stop) reply desk id m →
-      (label.page.id ≡ id) × (label.page.m ≡ m)) →
-      ((id : ℕ) → ¬ Forgets (Scan desk number flips stop) reply desk id) →
-      IsBetween (after before (Scan desk number flips stop) reply earlier) desk (with_page held label.page)
-  taken held reply k other is may b took still =
-      let p : PageView = label.page in
-      next before (Scan desk number flips stop) reply earlier desk held (with_page held p) b
-      (λ id m has _. with_page_keeps room held p k other is head.first head.last id m has)
-      (λ id m t. let same = took id m t in
-      subst (λ (i : ℕ). Has (with_page held p) i m) same.0
-      (subst (λ (j : ℕ). Has (with_page held p) p.id j) same.1
-      (with_page_has room held p k other is head.first head.last)))
-      (λ id m has. elim (with_page_only room held p k other is head.first head.last id m has) [
-        | inl own ↦ inl (refl, may, (label, there, sym own.0, sym own.1))
-        | inr old ↦ inr (still id, old)
-      ])
+  may : (reply : Reply A) (i m : ℕ) → may_save {A = A} (Scan desk number flips stop) reply ≡ true → i ≡ label.page.id →
+      IsSome (page (lone label.page) m) → MayTake {A = A} before (Scan desk number flips stop) reply desk i m
+  may reply i m saved same some =
+      (refl, saved, (label, there, sym same, sym (lone_some label.page m head.first some)))
 
   -- a scan that was answered with a page
-  scanned : (actor end : Actor Documents) (a : Accepted) → HasAll (IsBetween earlier desk) actor →
+  scanned_so : (actor end : Actor Documents) (a : Accepted) → HasAll (IsBetween earlier desk) actor →
       IsAnswered {A = A} (ScanComes room (flipped label.grid flips)) actor (Scanned a) end →
       HasAll (IsBetween (after before (Scan desk number flips stop) (Scanned a) earlier) desk) end
-  scanned actor end a between ans =
+  scanned_so actor end a between ans =
       let read = ans.comes.0 in
       let told = scan_told room label.page ans.held a end read (near read ans.comes.1)
       (was_wanted (scan_course room ans.held read) ans.course ans.held (Scanned a) end ans.comes.2 ans.ended) in
-      by_after ans.held told (subst (λ (x : Actor Documents). HasAll (IsBetween earlier desk) x) ans.was between)
-      told.after_is
+      let same : record { id = label.page.id; m = label.page.m; n = label.page.n; kind = told.kind } ≡ a =
+      scanned_is told.told in
+      answered A before (Scan desk number flips stop) stop scan_faults (page_reply label.page) desk
+      label.page.id (lone label.page) earlier (λ reply i f. f) may room ans.held (Scanned a) end refl
+      (λ i m t. (
+        ap (λ (x : Accepted). x.id) same ∙ t.1,
+        subst (λ (k : ℕ). IsSome (page (lone label.page) k)) (ap (λ (x : Accepted). x.m) same ∙ t.2)
+            (subst IsSome (sym (lone_here label.page head.first head.last)) refl),
+      ))
+      (subst (λ (x : Actor Documents). HasAll (IsBetween earlier desk) x) ans.was between) told
     where
-      own : (held : Documents) → ScanTold room label.page held a end → (id m : ℕ) → a.id ≡ id → a.m ≡ m →
-          (label.page.id ≡ id) × (label.page.m ≡ m)
-      own held told id m i j = (sym told.id_is ∙ i, sym told.m_is ∙ j)
-
-      by_after : (held : Documents) → ScanTold room label.page held a end → IsBetween earlier desk held →
-          ((a.kind ≡ kinds.Again) × (end ≡ Running held))
-          ⊎ ((a.kind ≢ kinds.Again) × (end ≡ Running (with_page held label.page))) →
-          HasAll (IsBetween (after before (Scan desk number flips stop) (Scanned a) earlier) desk) end
-      by_after held told b (inl again) =
-          let is : answer room held label.page ≡ Ok kinds.Again =
-          told.kind_is ∙ ap (λ (k : Kind). Ok k) again.0 in
-          subst (λ (x : Actor Documents).
-          HasAll (IsBetween (after before (Scan desk number flips stop) (Scanned a) earlier) desk) x) (sym again.1)
-          (next before (Scan desk number flips stop) (Scanned a) earlier desk held held b (λ id m has _. has)
-          (λ id m t. let same = own held told id m t.1 t.2 in
-          subst (λ (i : ℕ). Has held i m) same.0 (subst (λ (j : ℕ). Has held label.page.id j) same.1
-          (subst (λ (o : Option (List ℕ)). IsSome o) (sym (holds_again room held label.page is).bytes) refl)))
-          (λ id m has. inr ((λ f. f), has)))
-      by_after held told b (inr new) =
-          subst (λ (x : Actor Documents).
-          HasAll (IsBetween (after before (Scan desk number flips stop) (Scanned a) earlier) desk) x) (sym new.1)
-          (taken held (Scanned a) a.kind new.0 told.kind_is refl b (λ id m t. own held told id m t.1 t.2) (λ id f. f))
+      scanned_is : {one other : Accepted} → ◌≡◌ {A = Reply A} (Scanned one) (Scanned other) → one ≡ other
+      scanned_is e = cc (e)
 
   -- one that was not
   unscanned : (reply : Reply A) → ((a : Accepted) → reply ≢ Scanned a) → (held : Documents)
@@ -158,45 +198,27 @@ module _ (A : Type 0) (before : Relay) (desk number room : ℕ) (flips : List (�
   unscanned reply never held course b comes is =
       by_read comes.0 (near comes.0 comes.1) comes.2
     where
-      Now : Course A Documents → Type 0
-      Now c = (reply ≡ (ends scan_faults stop c (Running held)).reply) →
-          CourseHas (IsBetween (after before (Scan desk number flips stop) reply earlier) desk) stop c
-
-      may_be : (wanted : Course A Documents) → Now wanted → MayBe wanted course →
+      still : (wanted : Course A Documents) →
+          CourseHas (IsBetween (after before (Scan desk number flips stop) reply earlier) desk) stop wanted →
+          MayBe wanted course →
           CourseHas (IsBetween (after before (Scan desk number flips stop) reply earlier) desk) stop course
-      may_be wanted each (inl same) =
-          subst (λ (c : Course A Documents). Now c) (sym same) each is
-      may_be wanted each (inr lack) =
+      still wanted c (inl same) =
+          subst (λ (c : Course A Documents). CourseHas (IsBetween (after before (Scan desk number flips stop) reply earlier)
+          desk) stop c) (sym same) c
+      still wanted c (inr lack) =
           subst (λ (c : Course A Documents). CourseHas (IsBetween (after before (Scan desk number flips stop) reply earlier)
           desk) stop c) (sym lack.0) tt
 
-      by_kind : (p : PageView) → p ≡ label.page → (k : Answer) → answer room held p ≡ k →
-          MayBe (by_answer held p k) course →
-          CourseHas (IsBetween (after before (Scan desk number flips stop) reply earlier) desk) stop course
-      by_kind p same (Ok kinds.Again) at = may_be (by_answer held p (Ok kinds.Again)) (λ _. tt)
-      by_kind p same (Ok kinds.New) at = may_be (by_answer held p (Ok kinds.New)) (λ told stores.
-          subst (λ (q : PageView). IsBetween (after before (Scan desk number flips stop) reply earlier) desk
-          (with_page held q)) (sym same)
-          (taken held reply kinds.New (λ e. cc (e))
-          (subst (λ (q : PageView). answer room held q ≡ Ok kinds.New) same at)
-          (ap (λ (r : Reply A). may_save (Scan desk number flips stop) r) told
-          ∙ saves_may (Scan desk number flips stop) scan_faults stop _ _ _ (Running held) refl refl refl stores) b
-          (λ id m t. absurd (not_scanned before desk number flips stop reply never desk id m t)) (λ id f. f)))
-      by_kind p same (Ok kinds.Complete) at = may_be (by_answer held p (Ok kinds.Complete)) (λ told stores.
-          subst (λ (q : PageView). IsBetween (after before (Scan desk number flips stop) reply earlier) desk
-          (with_page held q)) (sym same)
-          (taken held reply kinds.Complete (λ e. cc (e))
-          (subst (λ (q : PageView). answer room held q ≡ Ok kinds.Complete) same at)
-          (ap (λ (r : Reply A). may_save (Scan desk number flips stop) r) told
-          ∙ saves_may (Scan desk number flips stop) scan_faults stop _ _ _ (Running held) refl refl refl stores) b
-          (λ id m t. absurd (not_scanned before desk number flips stop reply never desk id m t)) (λ id f. f)))
-      by_kind p same (Err fault) at = may_be (by_answer held p (Err fault)) (λ _. tt)
-
       by_read : (read : Result (Opened A) LabelFault) → OpensNear label.page read → MayBe (scan_course room held read) course →
           CourseHas (IsBetween (after before (Scan desk number flips stop) reply earlier) desk) stop course
-      by_read (Ok opened) same may = by_kind opened.page same (answer room held opened.page) refl may
-      by_read (Err label_fault.Memory) same may = may_be LacksMemory (λ _. tt) may
-      by_read (Err fault) same may = may_be (scan_course room held (Err fault)) (λ _. tt) may
+      by_read (Ok opened) same may_be =
+          unanswered A before (Scan desk number flips stop) stop scan_faults (page_reply label.page) desk
+          label.page.id (lone label.page) earlier (λ reply i f. f) may room held reply course refl refl (λ i. refl)
+          (λ i m t. absurd (not_scanned before desk number flips stop reply never desk i m t)) b
+          (subst (λ (p : PageView). MayBe (verdict_course (page_reply p) (add_verdict room held p.id (lone p))) course)
+          same may_be) is
+      by_read (Err label_fault.Memory) same may_be = still LacksMemory tt may_be
+      by_read (Err fault) same may_be = still (scan_course room held (Err fault)) tt may_be
 
   pub scan_between : (actor : Actor Documents) (end : Ending A Documents) → HasAll (IsBetween earlier desk) actor →
       MayLackFirst (Calls scan_faults stop (ScanComes room (flipped label.grid flips))) actor end →
@@ -207,7 +229,7 @@ module _ (A : Type 0) (before : Relay) (desk number room : ℕ) (flips : List (�
         (λ e. cc (e)) acts told.1 in
         subst (λ (r : Reply A). HasAll (IsBetween (after before (Scan desk number flips stop) r earlier) desk) end.actor)
         (sym told.1)
-        (scanned actor end.actor told.0 b
+        (scanned_so actor end.actor told.0 b
         (is_answered scan_faults stop (ScanComes room (flipped label.grid flips)) actor end (Scanned told.0)
         (own_scan told.0) called told.1))
     | inr never ↦
@@ -258,7 +280,7 @@ module _ (A : Type 0) (before : Relay) (desk name : ℕ) (stop : Stop) (earlier 
     | inl told ↦
         let ans = is_answered forget_faults stop (ForgetComes name) actor end Forgotten own_forget acts told in
         let f = forget_told A name ans.held end.actor (finite.get ans.held name) refl
-        (was_wanted (forget_course ans.held name (finite.get ans.held name)) ans.course ans.held Forgotten end.actor
+        (was_wanted (verdict_course forget_reply (forget_verdict ans.held name)) ans.course ans.held Forgotten end.actor
         ans.comes ans.ended) in
         subst (λ (r : Reply A). HasAll (IsBetween (after before (Forget desk name stop) r earlier) desk) end.actor)
         (sym told)
@@ -277,7 +299,7 @@ module _ (A : Type 0) (before : Relay) (desk name : ℕ) (stop : Stop) (earlier 
   ]
     where
       came : (reply : Reply A) (held : Documents) (course : Course A Documents) → IsBetween earlier desk held →
-          (o : Option Pages) → MayBe (forget_course held name o) course →
+          (o : Option Pages) → MayBe (verdict_course forget_reply (forget_by held name o)) course →
           reply ≡ (ends forget_faults stop course (Running held)).reply →
           CourseHas (IsBetween (after before (Forget desk name stop) reply earlier) desk) stop course
       came reply held course old None (inl same) is =
@@ -316,73 +338,23 @@ module _ (A : Type 0) (before : Relay) (desk number room : ℕ) (stop : Stop) (e
       subst (λ (e : relays.Export). (e.id ≡ id) × IsSome (page e.pages m)) same (took.1.2, took.1.3)
   own reply id m took = absurd took
 
-  filed : (held : Documents) (reply : Reply A) → may_save (Import desk number stop) reply ≡ true →
-      IsBetween earlier desk held → ((id : ℕ) → ¬ Forgets (Import desk number stop) reply desk id) →
-      IsBetween (after before (Import desk number stop) reply earlier) desk (with_file held export.id export.pages)
-  filed held reply may b still =
-      next before (Import desk number stop) reply earlier desk held (with_file held export.id export.pages) b
-      (λ id m has _. with_file_keeps held export.id export.pages id m has)
-      (λ id m t. let o = own reply id m t in
-      subst (λ (i : ℕ). Has (with_file held export.id export.pages) i m) o.0
-      (with_file_has held export.id export.pages m o.1))
-      (λ id m has. elim (with_file_only held export.id export.pages id m has) [
-        | inl given ↦ inl (refl, may, (export, there, sym given.0, given.1))
-        | inr old ↦ inr (still id, old)
-      ])
+  may_file : (reply : Reply A) (i m : ℕ) → may_save {A = A} (Import desk number stop) reply ≡ true → i ≡ export.id →
+      IsSome (page export.pages m) → MayTake {A = A} before (Import desk number stop) reply desk i m
+  may_file reply i m saved same some = (refl, saved, (export, there, sym same, some))
 
-  imported : (actor end : Actor Documents) (i : imported_type.Imported) → HasAll (IsBetween earlier desk) actor →
+  imported_so : (actor end : Actor Documents) (i : imported_type.Imported) → HasAll (IsBetween earlier desk) actor →
       IsAnswered {A = A} (ImportComes room export) actor (Imported i) end →
       HasAll (IsBetween (after before (Import desk number stop) (Imported i) earlier) desk) end
-  imported actor end i between ans =
-      let told = import_told A room export ans.held i end (import_answer room ans.held export.id export.pages) refl
-      (was_wanted (by_import ans.held export (import_answer room ans.held export.id export.pages)) ans.course ans.held
-      (Imported i) end ans.comes ans.ended) in
-      by_after ans.held told (subst (λ (x : Actor Documents). HasAll (IsBetween earlier desk) x) ans.was between)
-      told.after_is
-    where
-      by_after : (held : Documents) → ImportTold room export held i end → IsBetween earlier desk held →
-          ((i.kind ≡ kinds.Again) × (end ≡ Running held))
-          ⊎ ((i.kind ≢ kinds.Again) × (end ≡ Running (with_file held export.id export.pages))) →
-          HasAll (IsBetween (after before (Import desk number stop) (Imported i) earlier) desk) end
-      by_after held told b (inl again) =
-          subst (λ (x : Actor Documents).
-          HasAll (IsBetween (after before (Import desk number stop) (Imported i) earlier) desk) x) (sym again.1)
-          (next before (Import desk number stop) (Imported i) earlier desk held held b (λ id m has _. has)
-          (λ id m t. let o = own (Imported i) id m t in
-          subst (λ (k : ℕ). Has held k m) o.0 (held_all room held export.id export.pages
-          (told.kind_is ∙ ap (λ (k : Kind). Ok k) again.0) m o.1))
-          (λ id m has. inr ((λ f. f), has)))
-      by_after held told b (inr new) =
-          subst (λ (x : Actor Documents).
-          HasAll (IsBetween (after before (Import desk number stop) (Imported i) earlier) desk) x) (sym new.1)
-          (filed held (Imported i) refl b (λ id f. f))
-
-  came : (reply : Reply A) (held : Documents) (course : Course A Documents) → IsBetween earlier desk held →
-      ((i : imported_type.Imported) → reply ≢ Imported i) →
-      ((id : ℕ) → ¬ Forgets (Import desk number stop) reply desk id) → (k : ImportAnswer) →
-      MayBe (by_import held export k) course → reply ≡ (ends import_faults stop course (Running held)).reply →
-      CourseHas (IsBetween (after before (Import desk number stop) reply earlier) desk) stop course
-  came reply held course old never still k (inr lack) is =
-      subst (λ (c : Course A Documents). CourseHas (IsBetween (after before (Import desk number stop) reply earlier) desk)
-      stop c) (sym lack.0) tt
-  came reply held course old never still (Ok kinds.Again) (inl same) is =
-      subst (λ (c : Course A Documents). CourseHas (IsBetween (after before (Import desk number stop) reply earlier) desk)
-      stop c) (sym same) tt
-  came reply held course old never still (Ok kinds.New) (inl same) is =
-      subst (λ (c : Course A Documents). (reply ≡ (ends import_faults stop c (Running held)).reply) →
-      CourseHas (IsBetween (after before (Import desk number stop) reply earlier) desk) stop c) (sym same)
-      (λ told stores. filed held reply
-      (ap (λ (r : Reply A). may_save (Import desk number stop) r) told
-      ∙ saves_may (Import desk number stop) import_faults stop _ _ _ (Running held) refl refl refl stores) old still) is
-  came reply held course old never still (Ok kinds.Complete) (inl same) is =
-      subst (λ (c : Course A Documents). (reply ≡ (ends import_faults stop c (Running held)).reply) →
-      CourseHas (IsBetween (after before (Import desk number stop) reply earlier) desk) stop c) (sym same)
-      (λ told stores. filed held reply
-      (ap (λ (r : Reply A). may_save (Import desk number stop) r) told
-      ∙ saves_may (Import desk number stop) import_faults stop _ _ _ (Running held) refl refl refl stores) old still) is
-  came reply held course old never still (Err fault) (inl same) is =
-      subst (λ (c : Course A Documents). CourseHas (IsBetween (after before (Import desk number stop) reply earlier) desk)
-      stop c) (sym same) tt
+  imported_so actor end i between ans =
+      elim (add_ended pages_reply room ans.held export.id export.pages (Imported i) end
+      (was_wanted (verdict_course pages_reply (add_verdict room ans.held export.id export.pages)) ans.course ans.held
+      (Imported i) end ans.comes ans.ended)) [
+        | inl told ↦ answered A before (Import desk number stop) stop import_faults pages_reply desk export.id
+            export.pages earlier (λ reply i f. f) may_file room ans.held (Imported i) end refl
+            (λ id m t. own (Imported i) id m t)
+            (subst (λ (x : Actor Documents). HasAll (IsBetween earlier desk) x) ans.was between) told
+        | inr refused ↦ (let e = refused.told in absurd (cc (e)))
+      ]
 
   pub import_between : (actor : Actor Documents) (end : Ending A Documents) → HasAll (IsBetween earlier desk) actor →
       Calls import_faults stop (ImportComes room export) actor end →
@@ -391,7 +363,7 @@ module _ (A : Type 0) (before : Relay) (desk number room : ℕ) (stop : Stop) (e
     | inl told ↦
         subst (λ (r : Reply A). HasAll (IsBetween (after before (Import desk number stop) r earlier) desk) end.actor)
         (sym told.1)
-        (imported actor end.actor told.0 b
+        (imported_so actor end.actor told.0 b
         (is_answered import_faults stop (ImportComes room export) actor end (Imported told.0) (own_import told.0) acts
         told.1))
     | inr never ↦
@@ -400,8 +372,9 @@ module _ (A : Type 0) (before : Relay) (desk number room : ℕ) (stop : Stop) (e
         calls_have Old Q import_faults stop (ImportComes room export) actor end b
         (stays before (Import desk number stop) end.reply earlier desk
         (λ id m t. not_imported before desk number stop end.reply never desk id m t) (λ id f. f))
-        (λ held course old comes is. came end.reply held course old never (λ id f. f)
-        (import_answer room held export.id export.pages) comes (ap (λ (e : Ending A Documents). e.reply) is)) acts
+        (λ held course old comes is. unanswered A before (Import desk number stop) stop import_faults pages_reply desk export.id export.pages earlier (λ reply i f. f) may_file room held end.reply course refl refl
+        (λ i. refl) (λ id m t. absurd (not_imported before desk number stop end.reply never desk id m t)) old comes
+        (ap (λ (e : Ending A Documents). e.reply) is)) acts
   ]
 
 -- ---- steps

@@ -31,6 +31,8 @@ use Rattle.dm_event_history.proofs.Deciding.{if_not, if_same, if_so, other_numbe
 use Rattle.dm_event_history.proofs.Between.{set_at}
 use Rattle.dm_event_history.proofs.Having.{saves_may}
 use Rattle.dm_event_history.proofs.Answered.{Ended, IsOwn, is_answered}
+use Rattle.dm_event_history.proofs.LedgerFacts.{give_loses, made_print, print_refuses, take_gains}
+use Rattle.std.specs.Prelude.{is_some}
 use Rattle.dm_event_history.proofs.Reasons.{own_print, print_refused}
 
 -- ---- what a call stores
@@ -164,11 +166,13 @@ print_keeps {A} old printer document size scheme stop actor end acts =
           ap (λ (r : Reply A). may_save (Print printer document size scheme stop) r) s.told
           ∙ saves_may (Print printer document size scheme stop) print_faults stop s.next s.goods s.reply
           (Running s.held) refl refl
-          (ap (λ (r : Reply A). may_save (Print printer document size scheme stop) r) s.comes.reply_is) s.stores in
+          (ap (λ (r : Reply A). may_save (Print printer document size scheme stop) r) (made_print (length old.labels)
+          document size scheme s.held s.next s.goods s.reply s.comes).left.reply_is) s.stores in
           let lost = may_lost (Print printer document size scheme stop) end.reply may in
           let before = ap (λ (a : Actor LedgerView). stored_count a) s.was in
           let after = ap (λ (l : LedgerView). free_count l.free) s.stored_is in
-          let count = s.comes.used.free.count in
+          let count = (made_print (length old.labels) document size scheme s.held s.next s.goods s.reply
+          s.comes).uses.loses.free.count in
           omega arith
     ]
 
@@ -184,11 +188,11 @@ give_keeps {A} old printer receiver range stop actor end acts =
           ap (λ (r : Reply A). may_save (Give printer receiver range stop) r) s.told
           ∙ saves_may (Give printer receiver range stop) give_faults stop s.next s.goods s.reply
           (Running s.held) refl refl
-          (ap (λ (r : Reply A). may_save (Give printer receiver range stop) r) s.comes.reply_is) s.stores in
+          (ap (λ (r : Reply A). may_save (Give printer receiver range stop) r) s.comes.1.1.1) s.stores in
           let lost = may_lost (Give printer receiver range stop) end.reply may in
           let before = ap (λ (a : Actor LedgerView). stored_count a) s.was in
           let after = ap (λ (l : LedgerView). free_count l.free) s.stored_is in
-          let count = s.comes.gives.free.count in
+          let count = (give_loses s.held s.next receiver range s.comes.0 s.comes.1.0).free.count in
           omega arith
     ]
 
@@ -231,7 +235,7 @@ take_keeps {A} old printer number ticket stop there actor end acts = elim (is_ta
         | inr s ↦
             let before = ap (λ (a : Actor LedgerView). stored_count a) s.was in
             let after = ap (λ (l : LedgerView). free_count l.free) s.stored_is in
-            let count = s.comes.takes.free.count in
+            let count = (take_gains s.held s.next ticket s.comes.0 s.comes.1 s.comes.2.0).free.count in
             omega arith
       ]
 ]
@@ -240,8 +244,9 @@ take_keeps {A} old printer number ticket stop there actor end acts = elim (is_ta
         TakeComes number ticket held course → Ended course held Taken after →
         stored_count after ≡ free_count held.free + size_of ticket.range
     by_course held after (Saves next goods reply) comes ended =
-        ap (λ (a : Actor LedgerView). stored_count a) ended.1 ∙ comes.takes.free.count
-    by_course held after (Answers reply) comes ended = (let e = sym comes.2 ∙ ended.0 in cc (e))
+        ap (λ (a : Actor LedgerView). stored_count a) ended.1 ∙
+        (take_gains held next ticket comes.0 comes.1 comes.2.0).free.count
+    by_course held after (Answers reply) comes ended = (let e = sym comes.2.2 ∙ ended.0 in cc (e))
     by_course held after LacksMemory comes ended = absurd ended
 
 restart_keeps : {A : Type 0} (old : Relay) (printer : ℕ) →
@@ -404,6 +409,8 @@ each_exhausted_is_so A ranges rooms moment earlier end printer range document si
     (own_print print_fault.Exhausted (λ e. cc (e)) (λ e. cc (e)) (λ e. cc (e)))
     (subst (λ (e : Event A). Step moment.before e (PrintRefused print_fault.Exhausted) end) asked
     (subst (λ (x : Reply A). Step moment.before moment.event x end) told run.1)) in
-    let before = run_counts A ranges rooms earlier moment.before run.0 printer range (Running r.0) there r.1 in
-    let none : free_count r.0.free ≡ 0 = r.2.2 in
+    let before = run_counts A ranges rooms earlier moment.before run.0 printer range (Running r.held) there r.runs in
+    let none : free_count r.held.free ≡ 0 = print_refuses
+    (λ f. f ≡ print_fault.Exhausted → free_count r.held.free ≡ 0) r.held (is_some r.parts) print_fault.Exhausted
+    (λ some e. cc (e)) (λ none e. none) r.verdict refl in
     omega arith

@@ -1,6 +1,6 @@
 -- What a clean desk gives is what was printed.
 use Rattle.std.proofs.Common.{◌≡◌, ◌+◌, inl, inr, ℕ, suc, Bool, true, false, Option, Some, None, List, [], ◌∷◌, length, map, slice_get, Result, Ok, Err, refl, sym, ap, subst, ◌∙◌, arith}
-use Rattle.std.specs.Prelude.{is_some, unwrap_or, MatchBool}
+use Rattle.std.specs.Prelude.{is_some, unwrap_or, MatchBool, if◌then◌else◌}
 use Rattle.std.specs.List.{list_all, concat}
 use Rattle.std.specs.FinMap as finite
 use Rattle.std.proofs.lemmas.List.{length-map}
@@ -10,7 +10,8 @@ use Rattle.dm_assembly_desk.specs.declared.fault.AskFault.{AskFault}
 use Rattle.dm_assembly_desk.specs.declared.fault.AskFault.TheVariants as ask_fault
 use Rattle.dm_assembly_desk.specs.Pages.{Pages, document_of, missing_mask, page, page_bytes}
 use Rattle.dm_assembly_desk.specs.Documents.{Documents}
-use Rattle.dm_assembly_desk.specs.Asking.{Asks, AsksWhole}
+use Rattle.dm_assembly_desk.specs.Asking as asking
+use Rattle.dm_assembly_desk.specs.Asking.{Asks}
 use Rattle.dm_event_history.specs.declared.event.Event.TheVariants.{Ask}
 use Rattle.dm_event_history.specs.declared.reply.Reply.{Reply}
 use Rattle.dm_event_history.specs.declared.reply.Reply.TheVariants.{Document}
@@ -22,7 +23,7 @@ use Rattle.dm_event_history.specs.Calls.{Ending, Looks}
 use Rattle.dm_event_history.specs.DeskCalls.{AskTells, ask_reply}
 use Rattle.dm_event_history.specs.Steps.{Step}
 use Rattle.dm_event_history.specs.Clean.{AreOfOneDocument, ArePrinted, EachCleanDeskGives, HasLeft, HaveLeft, IsCleanActor, IsCleanExport}
-use Rattle.dm_event_history.proofs.HeldPages.{whole_pages}
+use Rattle.dm_event_history.proofs.MergedPages.{whole_pages}
 
 same_lists : {X : Type 0} (xs ys : List X) → length xs ≡ length ys →
     ((i : ℕ) (x y : X) → slice_get xs i ≡ Some x → slice_get ys i ≡ Some y → x ≡ y) → xs ≡ ys
@@ -84,7 +85,8 @@ by_test : (labels : List Label) → ArePrinted labels → AreOfOneDocument label
     HaveLeft labels held → (id : ℕ) (pages : Pages) (bytes : List ℕ) → finite.get held id ≡ Some pages → (test : Bool) →
     list_all is_some pages ≡ test →
     (let given : Gives = Ok bytes in
-    MatchBool test (AsksWhole (λ b. b) pages given) (given ≡ Err (ask_fault.Incomplete (missing_mask pages)))) →
+    asking.Gives (λ b. b) ask_fault.Memory
+    (if test then Ok (document_of pages) else Err (ask_fault.Incomplete (missing_mask pages))) given) →
     IsItsDocument labels id bytes
 by_test labels printed one held left id pages bytes at true all given =
     let c = left.counts id pages at in (

@@ -17,12 +17,16 @@ use Rattle.dm_assembly_desk.specs.declared.fault.DeskFault.TheVariants as desk_f
 use Rattle.dm_assembly_desk.specs.declared.reply.Kind.TheVariants as kinds
 use Rattle.dm_assembly_desk.specs.Pages.{Pages}
 use Rattle.dm_assembly_desk.specs.Documents.{Documents}
-use Rattle.dm_assembly_desk.specs.Answers.{Answer, answer}
-use Rattle.dm_assembly_desk.specs.Importing.{ImportAnswer, import_answer}
+use Rattle.dm_assembly_desk.specs.declared.adding.AddFault.{AddFault}
+use Rattle.dm_assembly_desk.specs.declared.reply.Imported as imported_type
+use Rattle.dm_assembly_desk.specs.declared.reply.Kind.{Kind}
+use Rattle.dm_assembly_desk.specs.Accepting.{lone}
+use Rattle.dm_assembly_desk.specs.Adding.{add_verdict}
 use Rattle.dm_event_history.specs.declared.event.Event.{Event}
 use Rattle.dm_event_history.specs.declared.event.Event.TheVariants.{Print, Scan, RestartPrinter, RestartDesk, Ask, Forget, Give, Take, Export, Import}
 use Rattle.dm_event_history.specs.declared.reply.Reply.{Reply}
 use Rattle.dm_event_history.specs.declared.reply.Reply.TheVariants as replies
+use Rattle.dm_event_history.specs.declared.reply.Reply.TheVariants.{Imported}
 use Rattle.dm_event_history.specs.declared.stop.Stop.{Stop}
 use Rattle.dm_event_history.specs.declared.stop.Stop.TheVariants as stops
 use Rattle.dm_event_history.specs.declared.stop.Stop.TheVariants.{BeforeSave, InSave, SaveFault, AfterLabels}
@@ -33,12 +37,15 @@ use Rattle.dm_event_history.specs.Relay as relays
 use Rattle.dm_event_history.specs.Relay.{Desk, Goods, Relay}
 use Rattle.dm_event_history.specs.Calls.{Answers, Calls, Course, Ending, Faults, LacksMemory, Looks, MayLackFirst, Reaches, Restarts, Saves, ends}
 use Rattle.dm_event_history.specs.PrinterCalls.{GiveComes, PrintComes, TakeComes}
-use Rattle.dm_event_history.specs.DeskCalls.{AskTells, ExportTells, ExportsHeld, ForgetComes, ImportComes, MayBe, ScanComes, ask_reply, by_answer, by_import, forget_course, scan_course}
+use Rattle.dm_event_history.specs.DeskCalls.{AskTells, ExportTells, ExportsHeld, ForgetComes, ImportComes, MayBe, ScanComes, ask_reply, scan_course, verdict_course, page_reply, pages_reply, forget_reply}
 use Rattle.dm_event_history.specs.Steps.{Acts, DeskGoes, IsNamed, PrinterGoes}
 use Rattle.dm_event_history.specs.Told.{down_after}
-use Rattle.dm_event_history.specs.Legal.{EachStepIsLegal, IsDown, IsDownAt, IsLegal, IsStopped, NeedsRunning, tells_of_save}
+use Rattle.dm_event_history.specs.Legal.{EachStepIsLegal, IsDown, IsDownAt, IsLegal, IsStopped, NeedsRunning, is_new, tells_of_save}
 use Rattle.dm_event_history.proofs.Reaching.{reaches}
 use Rattle.dm_event_history.proofs.AsTold.{ArePlain, IsPlainCourse, IsPlain, ask_plain, export_plain, fine_forget, fine_give, fine_import, fine_print, fine_scan, fine_take, forget_plain, give_plain, import_plain, print_plain, scan_plain, take_plain}
+use Rattle.dm_event_history.proofs.Adds.{Answer, by_verdict}
+use Rattle.dm_event_history.proofs.Told.{forget_by}
+use Rattle.dm_assembly_desk.specs.Forgetting.{forget_verdict}
 
 never : {X : Type 0} (b : Bool) → b ≡ false → b ≡ true → X
 never true unset set = absurd (cc (unset))
@@ -214,19 +221,19 @@ looks_legal {A} Said each still (Down stored) end acts =
 print_quiet : {A : Type 0} (before : ℕ) (document : List ℕ) (size : Size) (scheme : Scheme) (held : LedgerView)
     (course : Course A LedgerView) → PrintComes before document size scheme held course → IsQuietCourse course
 print_quiet before document size scheme held (Saves next goods reply) comes = tt
-print_quiet before document size scheme held (Answers reply) comes = ap tells_of_save comes.2
+print_quiet before document size scheme held (Answers reply) comes = ap tells_of_save comes.3.2
 print_quiet before document size scheme held LacksMemory comes = tt
 
 give_quiet : {A : Type 0} (before receiver : ℕ) (range : Range) (held : LedgerView) (course : Course A LedgerView) →
     GiveComes before receiver range held course → IsQuietCourse course
 give_quiet before receiver range held (Saves next goods reply) comes = tt
-give_quiet before receiver range held (Answers reply) comes = ap tells_of_save comes.2
+give_quiet before receiver range held (Answers reply) comes = ap tells_of_save comes.1.2
 give_quiet before receiver range held LacksMemory comes = tt
 
 take_quiet : {A : Type 0} (number : ℕ) (ticket : TicketView) (held : LedgerView) (course : Course A LedgerView) →
     TakeComes number ticket held course → IsQuietCourse course
 take_quiet number ticket held (Saves next goods reply) comes = tt
-take_quiet number ticket held (Answers reply) comes = ap tells_of_save comes.2
+take_quiet number ticket held (Answers reply) comes = ap tells_of_save comes.2.2
 take_quiet number ticket held LacksMemory comes = tt
 
 may_be_quiet : {A : Type 0} (wanted course : Course A Documents) → IsQuietCourse wanted → MayBe wanted course →
@@ -234,42 +241,40 @@ may_be_quiet : {A : Type 0} (wanted course : Course A Documents) → IsQuietCour
 may_be_quiet {A} wanted course q (inl is) = subst (λ (c : Course A Documents). IsQuietCourse c) (sym is) q
 may_be_quiet {A} wanted course q (inr lack) = subst (λ (c : Course A Documents). IsQuietCourse c) (sym lack.0) tt
 
+-- pages that were all held tell of no save
+add_quiet : {A : Type 0} (tells : Answer → Reply A) (room : ℕ) (held : Documents) (id : ℕ) (pages : Pages) →
+    ((added : imported_type.Imported) → tells_of_save (tells (Ok added)) ≡ is_new added.kind) →
+    ((fault : AddFault) → tells_of_save (tells (Err fault)) ≡ false) →
+    IsQuietCourse (verdict_course tells (add_verdict room held id pages))
+add_quiet {A} tells room held id pages told refused = by_verdict
+    (λ v. IsQuietCourse {A = A} (verdict_course tells v)) room held id pages
+    (λ fault is. refused fault) (λ is. told _) (λ kind other is. tt)
+
 scan_quiet : {A : Type 0} (room : ℕ) (grid : GridView) (held : Documents) (course : Course A Documents) →
     ScanComes room grid held course → IsQuietCourse course
 scan_quiet {A} room grid held course comes =
     may_be_quiet (scan_course room held comes.0) course (by_read comes.0) comes.2
   where
-    by_answer_of : (p : PageView) (a : Answer) → IsQuietCourse {A = A} (by_answer held p a)
-    by_answer_of p (Ok kinds.Again) = refl
-    by_answer_of p (Ok kinds.New) = tt
-    by_answer_of p (Ok kinds.Complete) = tt
-    by_answer_of p (Err fault) = refl
-
     by_read : (read : Result (Opened A) LabelFault) → IsQuietCourse {A = A} (scan_course room held read)
-    by_read (Ok opened) = by_answer_of opened.page (answer room held opened.page)
+    by_read (Ok opened) = add_quiet {A = A} (page_reply opened.page) room held opened.page.id (lone opened.page)
+        (λ added. refl) (λ fault. refl)
     by_read (Err label_fault.Memory) = tt
     by_read (Err fault) = refl
 
 forget_quiet : {A : Type 0} (id : ℕ) (held : Documents) (course : Course A Documents) → ForgetComes id held course →
     IsQuietCourse course
 forget_quiet {A} id held course comes =
-    may_be_quiet (forget_course held id (finite.get held id)) course (by_held (finite.get held id)) comes
+    may_be_quiet (verdict_course forget_reply (forget_verdict held id)) course (by_held (finite.get held id)) comes
   where
-    by_held : (o : Option Pages) → IsQuietCourse {A = A} (forget_course held id o)
+    by_held : (o : Option Pages) → IsQuietCourse {A = A} (verdict_course forget_reply (forget_by held id o))
     by_held None = refl
     by_held (Some pages) = tt
 
 import_quiet : {A : Type 0} (room : ℕ) (export : relays.Export) (held : Documents) (course : Course A Documents) →
     ImportComes room export held course → IsQuietCourse course
 import_quiet {A} room export held course comes =
-    may_be_quiet (by_import held export (import_answer room held export.id export.pages)) course
-    (by_answer_of (import_answer room held export.id export.pages)) comes
-  where
-    by_answer_of : (a : ImportAnswer) → IsQuietCourse {A = A} (by_import held export a)
-    by_answer_of (Ok kinds.Again) = refl
-    by_answer_of (Ok kinds.New) = tt
-    by_answer_of (Ok kinds.Complete) = tt
-    by_answer_of (Err fault) = refl
+    may_be_quiet (verdict_course pages_reply (add_verdict room held export.id export.pages)) course
+    (add_quiet {A = A} pages_reply room held export.id export.pages (λ added. refl) (λ fault. refl)) comes
 
 ask_quiet : {A : Type 0} (id : ℕ) (held : Documents) (reply : Reply A) (goods : Goods) → AskTells id held reply goods →
     tells_of_save reply ≡ false

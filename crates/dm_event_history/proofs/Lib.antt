@@ -5,7 +5,7 @@ pub mod Opened
 pub mod WorkedParts
 pub mod Reaching
 pub mod OneReading
-pub mod OneLedger
+pub mod LedgerFacts
 pub mod OneBatch
 pub mod OneCourse
 pub mod OneEnding
@@ -17,7 +17,6 @@ pub mod NoRuns
 pub mod LeavingGoods
 pub mod DeskGoods
 pub mod QuietDesks
-pub mod HeldPages
 pub mod Printed
 pub mod Stays
 pub mod Gives
@@ -30,11 +29,10 @@ pub mod AllClean
 pub mod Beginning
 pub mod Headline
 pub mod MergedPages
-pub mod ImportAnswers
+pub mod Adds
 pub mod Having
 pub mod Answered
 pub mod Told
-pub mod ImportKinds
 pub mod Between
 pub mod SafeReplies
 pub mod AsTold

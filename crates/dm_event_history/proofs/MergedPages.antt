@@ -1,10 +1,11 @@
 -- Lists of pages that are joined: which pages are there, one by one, and where two lists disagree.
-use Rattle.std.proofs.Common.{◌≡◌, ◌≢◌, ℕ, zero, suc, ◌≤◌, ◌&&◌, List, [], ◌∷◌, length, Bool, true, false, Option, Some, None, IsSome, refl, arith, Decides}
+use Rattle.std.proofs.Common.{◌≡◌, ◌≢◌, ℕ, zero, suc, ◌≤◌, ◌&&◌, List, [], ◌∷◌, ◌++◌, length, slice_get, ap, Bool, true, false, Option, Some, None, IsSome, refl, arith, Decides}
 use Rattle.std.specs.Prelude.{is_some}
-use Rattle.std.specs.List.{list_all}
+use Rattle.std.proofs.Common.{map as mapped}
+use Rattle.std.specs.List.{list_all, concat}
 use Rattle.std.specs.Str.{bytes_eq}
 use Rattle.std.proofs.lemmas.Slice.Eq.{bytes_eq-Decides}
-use Rattle.dm_assembly_desk.specs.Pages.{Pages, page}
+use Rattle.dm_assembly_desk.specs.Pages.{Pages, page, lacks, page_bytes, document_of}
 use Rattle.dm_assembly_desk.specs.Merging.{agrees_at, agree}
 use Rattle.std.proofs.lemmas.Bool.{and_parts}
 
@@ -78,3 +79,32 @@ differs (p ∷ ps) (q ∷ qs) is = by_head (agrees_at p q) refl is (differs ps q
         Differs (p ∷ ps) (q ∷ qs)
     by_head true x e again = after (again e)
     by_head false x e again = here p q x
+
+-- a document whose pages are all held is its pages, document_of
+pub whole_pages : (pages : Pages) → list_all is_some pages ≡ true →
+    (document_of pages ≡ concat (mapped page_bytes pages)) ×
+    ((i : ℕ) (x : List ℕ) → slice_get (mapped page_bytes pages) i ≡ Some x → page pages (suc i) ≡ Some x)
+whole_pages [] all = (refl, (λ i x is. cc))
+whole_pages (None ∷ ps) all = cc
+whole_pages (Some y ∷ ps) all =
+    let t = whole_pages ps all in
+    (ap (λ (l : List ℕ). y ++ l) t.0, at t.1)
+  where
+    at : ((i : ℕ) (x : List ℕ) → slice_get (mapped page_bytes ps) i ≡ Some x → page ps (suc i) ≡ Some x) →
+        (i : ℕ) (x : List ℕ) → slice_get (y ∷ mapped page_bytes ps) i ≡ Some x → page (Some y ∷ ps) (suc i) ≡ Some x
+    at rest zero x is = is
+    at rest (suc i) x is = rest i x is
+
+-- a page that lacks is one of them, and isn't held; any other of them is held
+pub lacks_means : (pages : Pages) (m : ℕ) →
+    (lacks pages m ≡ true → (1 ≤ m) × (m ≤ length pages) × (page pages m ≡ None)) ×
+    (lacks pages m ≡ false → 1 ≤ m → m ≤ length pages → IsSome (page pages m))
+lacks_means pages zero = ((λ e. cc), (λ e low high. absurd (omega arith)))
+lacks_means [] (suc m) = ((λ e. cc), (λ e low high. absurd (omega arith)))
+lacks_means (None ∷ ps) (suc zero) = ((λ e. ((omega arith), (omega arith), refl)), (λ e low high. cc))
+lacks_means (Some x ∷ ps) (suc zero) = ((λ e. cc), (λ e low high. refl))
+lacks_means (p ∷ ps) (suc (suc m)) =
+    let t = lacks_means ps (suc m) in (
+      (λ e. let u = t.0 e in ((omega arith), (let v = u.1 in omega arith), u.2)),
+      (λ e low high. t.1 e (omega arith) (omega arith)),
+    )

@@ -5,6 +5,7 @@ use Rattle.dm_encodation.specs.declared.scheme.Scheme.{Scheme}
 use Rattle.dm_finder_frame.specs.Grids.{flipped}
 use Rattle.dm_append_label.specs.Pages.{PageView}
 use Rattle.dm_print_ledger.specs.declared.range.Range.{Range}
+use Rattle.dm_print_ledger.specs.Changes.{least}
 use Rattle.dm_print_ledger.specs.Ranges.{is_free}
 use Rattle.dm_print_ledger.specs.Views.{LedgerView, TicketView}
 use Rattle.dm_assembly_desk.specs.Documents.{Documents}
@@ -21,6 +22,7 @@ use Rattle.dm_event_history.specs.PrinterCalls.{AreLabelsFor, GiveComes, PrintCo
 use Rattle.dm_event_history.specs.Steps.{Acts, DeskGoes, PrinterGoes, Step}
 use Rattle.dm_event_history.specs.Clean.{AreOfOneDocument}
 use Rattle.dm_event_history.specs.Places.{AreOnce, EachStepIsSound, IsSound, free_at, gone, one_if, places}
+use Rattle.dm_event_history.proofs.LedgerFacts.{made_print}
 use Rattle.dm_event_history.proofs.LeavingGoods.{IsClosed, Leaves, OfCourse, as_known, calls_leave, ends_leave, known_goods, may_lack_leaves, restarts_leave}
 use Rattle.dm_event_history.proofs.Reaching.{reached, reaches}
 use Rattle.dm_event_history.proofs.QuietDesks.{IsQuiet, ask_quiet, export_is_quiet, forget_is_quiet, import_is_quiet, restart_quiet, scan_quiet, take_none}
@@ -82,16 +84,18 @@ print_batch : {A : Type 0} (before : ℕ) (document : List ℕ) (size : Size) (s
     (course : Course A LedgerView) → PrintComes before document size scheme held course →
     OfCourse (MayBeBatch held) course
 print_batch before document size scheme held (Saves next goods reply) comes =
-    known_goods (MayBeBatch held) goods _ comes.goods_are (inr (record {
-      id = comes.id;
-      cut = cut_of document size scheme comes.parts;
-      free = comes.used.least.free;
+    let made = made_print before document size scheme held next goods reply comes in
+    let cut : CutDocument = cut_of document size scheme made.parts in
+    let id : ℕ = least held.free in
+    known_goods (MayBeBatch held) goods _ made.left.goods_are (inr (record {
+      id = id;
+      cut = cut;
+      free = made.uses.least_is.free;
       each = λ i label is.
           let place : 0 + i ≡ i = omega arith in
-          subst (λ (n : ℕ). IsOfBatch comes.id (cut_of document size scheme comes.parts) n label) place
-          (each_of_batch (cut_of document size scheme comes.parts) comes.id 0 comes.parts comes.labels comes.are_labels
-          i label is);
-      used = (let e : one_if (comes.id == comes.id) ≡ 1 = ap one_if (eq-eqb comes.id comes.id refl) in omega arith);
+          subst (λ (n : ℕ). IsOfBatch id cut n label) place
+          (each_of_batch cut id 0 made.parts made.left.labels made.left.are_labels i label is);
+      used = (let e : one_if (id == id) ≡ 1 = ap one_if (eq-eqb id id refl) in omega arith);
     }))
 print_batch before document size scheme held (Answers reply) comes = tt
 print_batch before document size scheme held LacksMemory comes = tt
@@ -259,13 +263,13 @@ desk_labels old new number Acts reply sound each g =
 
 give_none : {A : Type 0} (before receiver : ℕ) (range : Range) (held : LedgerView) (course : Course A LedgerView) →
     GiveComes before receiver range held course → OfCourse HasNoLabels course
-give_none before receiver range held (Saves next goods reply) comes = ap (λ (g : Goods). g.labels) comes.goods_are
+give_none before receiver range held (Saves next goods reply) comes = ap (λ (g : Goods). g.labels) comes.1.1.0
 give_none before receiver range held (Answers reply) comes = tt
 give_none before receiver range held LacksMemory comes = tt
 
 take_none_leave : {A : Type 0} (number : ℕ) (ticket : TicketView) (held : LedgerView) (course : Course A LedgerView) →
     TakeComes number ticket held course → OfCourse HasNoLabels course
-take_none_leave number ticket held (Saves next goods reply) comes = ap (λ (g : Goods). g.labels) comes.goods_are
+take_none_leave number ticket held (Saves next goods reply) comes = ap (λ (g : Goods). g.labels) comes.2.1.0
 take_none_leave number ticket held (Answers reply) comes = tt
 take_none_leave number ticket held LacksMemory comes = tt
 

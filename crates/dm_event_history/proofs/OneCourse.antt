@@ -1,24 +1,23 @@
 -- What a call comes to is one thing, but for memory.
-use Rattle.std.proofs.Common.{◌≡◌, ◌⊎◌, inl, inr, ℕ, List, [], ◌∷◌, length, Result, refl, sym, ap, subst, ◌∙◌}
+use Rattle.std.proofs.Common.{◌≡◌, ◌⊎◌, inl, inr, ℕ, Option, None, Some, List, length, Result, Ok, Err, refl, sym, ap, subst, ◌∙◌, [], ◌∷◌}
+use Rattle.std.specs.Prelude.{IsSomeAnd, is_some}
 use Rattle.dm_check_blocks.specs.declared.size.Size.{Size}
 use Rattle.dm_encodation.specs.declared.scheme.Scheme.{Scheme}
 use Rattle.dm_finder_frame.specs.Grids.{GridView}
 use Rattle.dm_append_label.specs.declared.opening.Opened.{Opened}
 use Rattle.dm_append_label.specs.declared.fault.LabelFault.{LabelFault}
 use Rattle.dm_print_ledger.specs.declared.range.Range.{Range}
-use Rattle.dm_print_ledger.specs.declared.fault.PrintFault.{PrintFault}
-use Rattle.dm_print_ledger.specs.declared.fault.GiveFault.{GiveFault}
-use Rattle.dm_print_ledger.specs.declared.fault.TakeFault.{TakeFault}
+use Rattle.dm_print_ledger.specs.Changes.{least}
+use Rattle.dm_print_ledger.specs.Verdicts.{print_verdict, give_verdict, take_verdict}
 use Rattle.dm_print_ledger.specs.Views.{LedgerView, TicketView}
 use Rattle.dm_assembly_desk.specs.Documents.{Documents}
 use Rattle.dm_event_history.specs.declared.reply.Reply.{Reply}
 use Rattle.dm_event_history.specs.declared.reply.Reply.TheVariants.{Printed, PrintRefused, GiveRefused, TakeRefused}
 use Rattle.dm_event_history.specs.Relay.{Export, Goods, Label, Used}
 use Rattle.dm_event_history.specs.Calls.{Course, Saves, Answers, LacksMemory}
-use Rattle.dm_event_history.specs.PrinterCalls.{AreLabelsFor, GiveComes, PrintComes, SavesGive, SavesPrint, SavesTake, TakeComes, cut_of}
+use Rattle.dm_event_history.specs.PrinterCalls.{Comes, GiveComes, IsCut, PrintComes, PrintLeaves, TakeComes, cut_of}
 use Rattle.dm_event_history.specs.DeskCalls.{ForgetComes, ImportComes, MayBe, ScanComes, scan_course}
 use Rattle.dm_event_history.proofs.OneReading.{reading_once}
-use Rattle.dm_event_history.proofs.OneLedger.{uses_once, gives_once, takes_once, print_fault_once, print_or_not, give_fault_once, give_or_not, take_fault_once, take_or_not}
 use Rattle.dm_event_history.proofs.OneBatch.{parts_once, labels_once}
 
 abbrev pub SameCourse : {A C : Type 0} → Course A C → Course A C → Type 0
@@ -34,83 +33,69 @@ same_saves a b g h r s x y z = inl (λ i. Saves (x i) (y i) (z i))
 
 -- ---- printers
 
+-- of one verdict, by which one thing leaves
+module _ {A F : Type 0} (refuses : F → Reply A) (verdict : Result LedgerView F) (Leaves : Goods → Reply A → Type 0)
+    (once : (g h : Goods) (r s : Reply A) → Leaves g r → Leaves h s → (g ≡ h) × (r ≡ s)) where
+  verdict_once : (one other : Course A LedgerView) → Comes refuses verdict Leaves one →
+      Comes refuses verdict Leaves other → SameCourse one other
+  verdict_once (Saves a g r) (Saves b h s) p q =
+      let next : a ≡ b = (let x : verdict ≡ Ok a = p.0 in let y : verdict ≡ Ok b = q.0 in cc (x, y)) in
+      let left = once g h r s p.1 q.1 in
+      same_saves a b g h r s next left.0 left.1
+  verdict_once (Saves a g r) (Answers s) p q =
+      (let x : verdict ≡ Ok a = p.0 in let y : verdict ≡ Err q.0 = q.1 in cc (x, y))
+  verdict_once (Answers r) (Saves b h s) p q =
+      (let x : verdict ≡ Ok b = q.0 in let y : verdict ≡ Err p.0 = p.1 in cc (x, y))
+  verdict_once (Answers r) (Answers s) p q =
+      let fault : p.0 ≡ q.0 = (let x : verdict ≡ Err p.0 = p.1 in let y : verdict ≡ Err q.0 = q.1 in cc (x, y)) in
+      let reply : r ≡ s = p.2 ∙ ap (λ (f : F). refuses f) fault ∙ sym q.2 in
+      inl (ap (λ (r : Reply A). Answers r) reply)
+  verdict_once LacksMemory other p q = inr (inl refl)
+  verdict_once one LacksMemory p q = inr (inr refl)
+
 abbrev printed_goods : ℕ → List Label → Goods
 printed_goods id labels = record { labels = labels; tickets = []; exports = []; moves = Used id ∷ [] }
 
-module _ {A : Type 0} (before : ℕ) (document : List ℕ) (size : Size) (scheme : Scheme) where
-  abbrev printed_reply : ℕ → List (List ℕ) → Reply A
-  printed_reply id parts = Printed id before (length parts)
+-- a document has one list of parts, or none
+cut_once : (document : List ℕ) (size : Size) (scheme : Scheme) (a b : Option (List (List ℕ))) →
+    IsCut size scheme document a → IsCut size scheme document b → a ≡ b
+cut_once document size scheme None None p q = refl
+cut_once document size scheme None (Some parts) p q = absurd (p q.ends q.are_ends)
+cut_once document size scheme (Some parts) None p q = absurd (q p.ends p.are_ends)
+cut_once document size scheme (Some a) (Some b) p q =
+    ap (λ (ps : List (List ℕ)). Some ps) (parts_once size scheme document a b p q)
 
-  saves_print : (held a b : LedgerView) (g h : Goods) (r s : Reply A) →
-      SavesPrint before document size scheme held a g r → SavesPrint before document size scheme held b h s →
-      SameCourse (Saves a g r) (Saves b h s)
-  saves_print held a b g h r s p q =
-      let used = uses_once held p.id q.id a b p.used q.used in
-      let parts : p.parts ≡ q.parts = parts_once size scheme document p.parts q.parts p.are_parts q.are_parts in
-      let by_id : AreLabelsFor (cut_of document size scheme q.parts) p.id 1 q.parts q.labels =
-      subst (λ (n : ℕ). AreLabelsFor (cut_of document size scheme q.parts) n 1 q.parts q.labels) (sym used.0)
-      q.are_labels in
-      let by_parts : AreLabelsFor (cut_of document size scheme p.parts) p.id 1 p.parts q.labels =
-      subst (λ (ps : List (List ℕ)). AreLabelsFor (cut_of document size scheme ps) p.id 1 ps q.labels) (sym parts)
-      by_id in
-      let labels : p.labels ≡ q.labels =
-      labels_once (cut_of document size scheme p.parts) p.id 1 p.parts p.labels q.labels p.are_labels by_parts in
-      let goods : printed_goods p.id p.labels ≡ printed_goods q.id q.labels =
-      λ i. printed_goods (used.0 i) (labels i) in
-      let reply : printed_reply p.id p.parts ≡ printed_reply q.id q.parts =
-      λ i. printed_reply (used.0 i) (parts i) in
-      same_saves a b g h r s used.1 (p.goods_are ∙ goods ∙ sym q.goods_are) (p.reply_is ∙ reply ∙ sym q.reply_is)
+module _ {A : Type 0} (before : ℕ) (document : List ℕ) (size : Size) (scheme : Scheme) where
+  -- by which the same labels leave
+  labels_leave_once : (id : ℕ) (parts : Option (List (List ℕ))) (g h : Goods) (r s : Reply A) →
+      IsSomeAnd parts (λ parts. PrintLeaves before (cut_of document size scheme parts) id g r) →
+      IsSomeAnd parts (λ parts. PrintLeaves before (cut_of document size scheme parts) id h s) → (g ≡ h) × (r ≡ s)
+  labels_leave_once id None g h r s p q = absurd p
+  labels_leave_once id (Some parts) g h r s p q =
+      let labels = labels_once (cut_of document size scheme parts) id 1 parts p.labels q.labels p.are_labels q.are_labels in
+      (p.goods_are ∙ ap (printed_goods id) labels ∙ sym q.goods_are, p.reply_is ∙ sym q.reply_is)
 
   pub print_determined : IsDetermined (PrintComes {A = A} before document size scheme)
-  print_determined held (Saves a g r) (Saves b h s) p q = saves_print held a b g h r s p q
-  print_determined held (Saves a g r) (Answers s) p q =
-      absurd (print_or_not held size scheme document q.0 p.can q.1)
-  print_determined held (Answers r) (Saves b h s) p q =
-      absurd (print_or_not held size scheme document p.0 q.can p.1)
-  print_determined held (Answers r) (Answers s) p q =
-      let fault : p.0 ≡ q.0 = print_fault_once held size scheme document p.0 q.0 p.1 q.1 in
-      let reply : r ≡ s = p.2 ∙ ap (λ (f : PrintFault). PrintRefused f) fault ∙ sym q.2 in
-      inl (ap (λ (r : Reply A). Answers r) reply)
-  print_determined held LacksMemory other p q = inr (inl refl)
-  print_determined held one LacksMemory p q = inr (inr refl)
+  print_determined held one other p q =
+      let Be : Option (List (List ℕ)) → Type 0 = λ parts. Comes PrintRefused (print_verdict held (is_some parts))
+      (λ goods reply. IsSomeAnd parts
+      (λ parts. PrintLeaves before (cut_of document size scheme parts) (least held.free) goods reply)) other in
+      verdict_once PrintRefused (print_verdict held (is_some p.1))
+      (λ goods reply. IsSomeAnd p.1
+      (λ parts. PrintLeaves before (cut_of document size scheme parts) (least held.free) goods reply))
+      (labels_leave_once (least held.free) p.1) one other p.3 (subst Be (cut_once document size scheme q.1 p.1 q.2 p.2) q.3)
 
-module _ {A : Type 0} (before receiver : ℕ) (range : Range) where
-  saves_give : (held a b : LedgerView) (g h : Goods) (r s : Reply A) →
-      SavesGive before receiver range held a g r → SavesGive before receiver range held b h s →
-      SameCourse (Saves a g r) (Saves b h s)
-  saves_give held a b g h r s p q =
-      same_saves a b g h r s (gives_once held range a b p.gives q.gives) (p.goods_are ∙ sym q.goods_are)
-      (p.reply_is ∙ sym q.reply_is)
+pub give_determined : {A : Type 0} (before receiver : ℕ) (range : Range) →
+    IsDetermined (GiveComes {A = A} before receiver range)
+give_determined before receiver range held one other p q =
+    verdict_once GiveRefused (give_verdict held receiver range) _
+    (λ g h r s x y. (x.0 ∙ sym y.0, x.1 ∙ sym y.1)) one other p.1 q.1
 
-  pub give_determined : IsDetermined (GiveComes {A = A} before receiver range)
-  give_determined held (Saves a g r) (Saves b h s) p q = saves_give held a b g h r s p q
-  give_determined held (Saves a g r) (Answers s) p q = absurd (give_or_not held receiver range q.0 p.can q.1)
-  give_determined held (Answers r) (Saves b h s) p q = absurd (give_or_not held receiver range p.0 q.can p.1)
-  give_determined held (Answers r) (Answers s) p q =
-      let fault : p.0 ≡ q.0 = give_fault_once held receiver range p.0 q.0 p.1 q.1 in
-      let reply : r ≡ s = p.2 ∙ ap (λ (f : GiveFault). GiveRefused f) fault ∙ sym q.2 in
-      inl (ap (λ (r : Reply A). Answers r) reply)
-  give_determined held LacksMemory other p q = inr (inl refl)
-  give_determined held one LacksMemory p q = inr (inr refl)
-
-module _ {A : Type 0} (number : ℕ) (ticket : TicketView) where
-  saves_take : (held a b : LedgerView) (g h : Goods) (r s : Reply A) →
-      SavesTake number ticket held a g r → SavesTake number ticket held b h s →
-      SameCourse (Saves a g r) (Saves b h s)
-  saves_take held a b g h r s p q =
-      same_saves a b g h r s (takes_once held ticket a b p.takes q.takes) (p.goods_are ∙ sym q.goods_are)
-      (p.reply_is ∙ sym q.reply_is)
-
-  pub take_determined : IsDetermined (TakeComes {A = A} number ticket)
-  take_determined held (Saves a g r) (Saves b h s) p q = saves_take held a b g h r s p q
-  take_determined held (Saves a g r) (Answers s) p q = absurd (take_or_not held ticket q.0 p.can q.1)
-  take_determined held (Answers r) (Saves b h s) p q = absurd (take_or_not held ticket p.0 q.can p.1)
-  take_determined held (Answers r) (Answers s) p q =
-      let fault : p.0 ≡ q.0 = take_fault_once held ticket p.0 q.0 p.1 q.1 in
-      let reply : r ≡ s = p.2 ∙ ap (λ (f : TakeFault). TakeRefused f) fault ∙ sym q.2 in
-      inl (ap (λ (r : Reply A). Answers r) reply)
-  take_determined held LacksMemory other p q = inr (inl refl)
-  take_determined held one LacksMemory p q = inr (inr refl)
+pub take_determined : {A : Type 0} (number : ℕ) (ticket : TicketView) →
+    IsDetermined (TakeComes {A = A} number ticket)
+take_determined number ticket held one other p q =
+    verdict_once TakeRefused (take_verdict held ticket) _
+    (λ g h r s x y. (x.0 ∙ sym y.0, x.1 ∙ sym y.1)) one other p.2 q.2
 
 -- ---- desks
 

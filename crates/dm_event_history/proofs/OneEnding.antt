@@ -7,7 +7,7 @@ use Rattle.dm_store.specs.declared.fuse.Kept.TheVariants.{Old, New}
 use Rattle.dm_assembly_desk.specs.declared.fault.AskFault.{AskFault}
 use Rattle.dm_assembly_desk.specs.declared.fault.AskFault.TheVariants as ask_fault
 use Rattle.dm_assembly_desk.specs.Pages.{Pages, missing_mask}
-use Rattle.dm_assembly_desk.specs.Asking.{Asks, AsksWhole}
+use Rattle.dm_assembly_desk.specs.Asking as asking
 use Rattle.dm_event_history.specs.declared.reply.Reply.{Reply}
 use Rattle.dm_event_history.specs.declared.stop.Stop.{Stop}
 use Rattle.dm_event_history.specs.declared.stop.Stop.TheVariants as stops
@@ -136,34 +136,19 @@ Gives = Result (List ℕ) AskFault
 abbrev SameAnswer : Gives → Gives → Type 0
 SameAnswer a b = (a ≡ b) ⊎ ((a ≡ Err ask_fault.Memory) ⊎ (b ≡ Err ask_fault.Memory))
 
-whole_once : (pages : Pages) (a b : Gives) → AsksWhole (λ bytes. bytes) pages a → AsksWhole (λ bytes. bytes) pages b →
-    SameAnswer a b
-whole_once pages (Ok a) (Ok b) p q = inl (ap (λ (bytes : List ℕ). Ok bytes) (p ∙ sym q))
-whole_once pages (Err ask_fault.Memory) b p q = inr (inl refl)
-whole_once pages (Err ask_fault.NotHeld) b p q = absurd p
-whole_once pages (Err (ask_fault.Incomplete missing)) b p q = absurd p
-whole_once pages (Ok a) (Err ask_fault.Memory) p q = inr (inr refl)
-whole_once pages (Ok a) (Err ask_fault.NotHeld) p q = absurd q
-whole_once pages (Ok a) (Err (ask_fault.Incomplete missing)) p q = absurd q
-
-by_test : (test : Bool) (pages : Pages) (a b : Gives) →
-    MatchBool test (AsksWhole (λ bytes. bytes) pages a) (a ≡ Err (ask_fault.Incomplete (missing_mask pages))) →
-    MatchBool test (AsksWhole (λ bytes. bytes) pages b) (b ≡ Err (ask_fault.Incomplete (missing_mask pages))) →
-    SameAnswer a b
-by_test true pages a b p q = whole_once pages a b p q
-by_test false pages a b p q = inl (p ∙ sym q)
-
-asks_once : (held : Option Pages) (a b : Gives) → Asks (λ bytes. bytes) held a → Asks (λ bytes. bytes) held b →
-    SameAnswer a b
-asks_once None a b p q = inl (p ∙ sym q)
-asks_once (Some pages) a b p q = by_test (list_all is_some pages) pages a b p q
+gives_once : (verdict a b : Gives) → asking.Gives (λ bytes. bytes) ask_fault.Memory verdict a →
+    asking.Gives (λ bytes. bytes) ask_fault.Memory verdict b → SameAnswer a b
+gives_once (Ok bytes) (Ok a) (Ok b) p q = inl (ap (λ (given : List ℕ). Ok given) (p ∙ sym q))
+gives_once (Ok bytes) (Err fault) b p q = inr (inl (ap (λ (f : AskFault). Err f) p))
+gives_once (Ok bytes) (Ok a) (Err fault) p q = inr (inr (ap (λ (f : AskFault). Err f) q))
+gives_once (Err fault) a b p q = inl (p ∙ sym q)
 
 pub ask_one : {A : Type 0} (id : ℕ) → TellsOne (AskTells {A = A} id)
 ask_one {A} id held r s g h p q =
     let Told : Gives → Reply A = λ answer. ask_reply answer in
     let memory : (t : Reply A) (a : Gives) → t ≡ Told a → a ≡ Err ask_fault.Memory → IsOfMemory t =
     λ t a is none. subst (λ (t : Reply A). IsOfMemory t) (sym (is ∙ ap Told none)) tt in
-    elim (asks_once (finite.get held id) p.0 q.0 p.1 q.1) [
+    elim (gives_once (asking.ask_verdict (finite.get held id)) p.0 q.0 p.1 q.1) [
       | inl same ↦ inl (p.2 ∙ ap Told same ∙ sym q.2, p.3 ∙ sym q.3)
       | inr none ↦ elim none [
         | inl first ↦ inr (inl (memory r p.0 p.2 first))

@@ -8,6 +8,7 @@ use Rattle.dm_append_label.specs.Pages.{PageView}
 use Rattle.dm_append_label.specs.Parts.{AreParts}
 use Rattle.dm_assembly_desk.specs.Documents.{Documents}
 use Rattle.dm_print_ledger.specs.declared.range.Range.{Range}
+use Rattle.dm_print_ledger.specs.Changes.{least}
 use Rattle.dm_print_ledger.specs.Views.{LedgerView, TicketView}
 use Rattle.dm_event_history.specs.declared.event.Event.{Event}
 use Rattle.dm_event_history.specs.declared.event.Event.TheVariants.{Print, Scan, RestartPrinter, RestartDesk, Ask, Forget, Give, Take, Export, Import}
@@ -20,6 +21,7 @@ use Rattle.dm_event_history.specs.Calls.{Answers, Course, Ending, LacksMemory, S
 use Rattle.dm_event_history.specs.PrinterCalls.{AreLabelsFor, GiveComes, PrintComes, TakeComes, cut_of}
 use Rattle.dm_event_history.specs.Steps.{Acts, DeskGoes, PrinterGoes, Step}
 use Rattle.dm_event_history.specs.Clean.{ArePrinted, EachStepPrints, IsPrinted}
+use Rattle.dm_event_history.proofs.LedgerFacts.{made_print}
 use Rattle.dm_event_history.proofs.LeavingGoods.{IsClosed, Leaves, OfCourse, calls_leave, known_goods, may_lack_leaves, restarts_leave}
 use Rattle.dm_event_history.proofs.QuietDesks.{IsQuiet, ask_quiet, export_is_quiet, forget_is_quiet, import_is_quiet, restart_quiet, scan_quiet}
 
@@ -90,21 +92,22 @@ quiet_printed goods q = subst ArePrinted (sym q.labels) none_printed
 print_prints : {A : Type 0} (before : ℕ) (document : List ℕ) (size : Size) (scheme : Scheme) (held : LedgerView)
     (course : Course A LedgerView) → PrintComes before document size scheme held course → OfCourse PrintedGoods course
 print_prints before document size scheme held (Saves next goods reply) comes =
-    known_goods PrintedGoods goods _ comes.goods_are (each_printed (cut_of document size scheme comes.parts) comes.id 0 comes.parts
-    comes.labels comes.are_parts
-    (λ j. ap (λ (n : ℕ). slice_get comes.parts n) (let z : j ≡ 0 + j = omega arith in z)) comes.are_labels)
+    let made = made_print before document size scheme held next goods reply comes in
+    known_goods PrintedGoods goods _ made.left.goods_are (each_printed (cut_of document size scheme made.parts)
+    (least held.free) 0 made.parts made.left.labels made.are_parts
+    (λ j. ap (λ (n : ℕ). slice_get made.parts n) (let z : j ≡ 0 + j = omega arith in z)) made.left.are_labels)
 print_prints before document size scheme held (Answers reply) comes = tt
 print_prints before document size scheme held LacksMemory comes = tt
 
 give_prints : {A : Type 0} (before receiver : ℕ) (range : Range) (held : LedgerView) (course : Course A LedgerView) →
     GiveComes before receiver range held course → OfCourse PrintedGoods course
-give_prints before receiver range held (Saves next goods reply) comes = known_goods PrintedGoods goods _ comes.goods_are none_printed
+give_prints before receiver range held (Saves next goods reply) comes = known_goods PrintedGoods goods _ comes.1.1.0 none_printed
 give_prints before receiver range held (Answers reply) comes = tt
 give_prints before receiver range held LacksMemory comes = tt
 
 take_prints : {A : Type 0} (number : ℕ) (ticket : TicketView) (held : LedgerView) (course : Course A LedgerView) →
     TakeComes number ticket held course → OfCourse PrintedGoods course
-take_prints number ticket held (Saves next goods reply) comes = known_goods PrintedGoods goods _ comes.goods_are none_printed
+take_prints number ticket held (Saves next goods reply) comes = known_goods PrintedGoods goods _ comes.2.1.0 none_printed
 take_prints number ticket held (Answers reply) comes = tt
 take_prints number ticket held LacksMemory comes = tt
 

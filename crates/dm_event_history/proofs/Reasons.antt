@@ -1,5 +1,5 @@
 -- Why events are refused.
-use Rattle.std.proofs.Common.{◌≡◌, ◌≢◌, ◌⊎◌, inl, inr, ℕ, Bool, true, false, Some, Ok, Err, Result, List, length, slice_get, refl, sym, ap, subst, ◌∙◌}
+use Rattle.std.proofs.Common.{None, ◌≡◌, ◌≢◌, ◌⊎◌, inl, inr, ℕ, Bool, true, false, Some, Ok, Err, Result, List, length, slice_get, refl, sym, ap, subst, ◌∙◌, Option, is_some}
 use Rattle.dm_finder_frame.specs.Grids.{GridView, flipped}
 use Rattle.dm_finder_frame.specs.UnframeOutcome.{HasGoodFrame}
 use Rattle.dm_check_blocks.specs.declared.size.Size.{Size}
@@ -11,7 +11,8 @@ use Rattle.dm_append_label.specs.declared.fault.LabelFault.{LabelFault}
 use Rattle.dm_append_label.specs.declared.fault.LabelFault.TheVariants as label_fault
 use Rattle.dm_store.specs.declared.fuse.Kept.{Kept}
 use Rattle.dm_store.specs.declared.fuse.Kept.TheVariants.{Old, New}
-use Rattle.dm_print_ledger.specs.Printing.{CannotPrint}
+use Rattle.dm_append_label.specs.Parts.{HasNoEnds}
+use Rattle.dm_print_ledger.specs.Verdicts.{print_verdict}
 use Rattle.dm_print_ledger.specs.Views.{LedgerView}
 use Rattle.dm_print_ledger.specs.declared.fault.PrintFault.{PrintFault}
 use Rattle.dm_print_ledger.specs.declared.fault.PrintFault.TheVariants as print_fault
@@ -21,7 +22,13 @@ use Rattle.dm_assembly_desk.specs.declared.fault.ScanFault.{ScanFault}
 use Rattle.dm_assembly_desk.specs.declared.fault.ScanFault.TheVariants as scan_fault
 use Rattle.dm_assembly_desk.specs.declared.reply.Kind.TheVariants as kinds
 use Rattle.dm_assembly_desk.specs.declared.reply.Accepted.{Accepted}
-use Rattle.dm_assembly_desk.specs.Answers.{Answer, answer}
+use Rattle.dm_assembly_desk.specs.declared.adding.AddFault.{AddFault}
+use Rattle.dm_assembly_desk.specs.declared.reply.Imported as imported_type
+use Rattle.dm_assembly_desk.specs.declared.reply.Kind.{Kind}
+use Rattle.dm_assembly_desk.specs.Accepting.{lone}
+use Rattle.dm_assembly_desk.specs.Adding.{add_verdict}
+use Rattle.dm_event_history.proofs.Adds.{add_refuses, by_verdict}
+use Rattle.dm_event_history.proofs.LedgerFacts.{made_print, print_refuses}
 use Rattle.dm_assembly_desk.specs.Documents.{Documents}
 use Rattle.dm_event_history.specs.declared.event.Event.{Event}
 use Rattle.dm_event_history.specs.declared.event.Event.TheVariants.{Print, Scan, RestartPrinter, RestartDesk, Ask, Forget, Give, Take, Export, Import}
@@ -35,14 +42,14 @@ use Rattle.dm_event_history.specs.Saving.{stop_of}
 use Rattle.dm_event_history.specs.Actors.{Actor, Running, Failed, Down}
 use Rattle.dm_event_history.specs.Relay.{Goods, Label, Relay}
 use Rattle.dm_event_history.specs.Calls.{Answers, Calls, Course, Ending, Faults, LacksMemory, Looks, MayLackFirst, Reaches, Restarts, Saves, ends}
-use Rattle.dm_event_history.specs.PrinterCalls.{PrintComes, print_faults, running}
-use Rattle.dm_event_history.specs.DeskCalls.{AskTells, ExportTells, MayBe, ScanComes, by_answer, scan_course, scan_faults}
+use Rattle.dm_event_history.specs.PrinterCalls.{IsCut, PrintComes, print_faults}
+use Rattle.dm_event_history.specs.DeskCalls.{AskTells, ExportTells, MayBe, ScanComes, scan_course, scan_faults, verdict_course, page_reply}
 use Rattle.dm_event_history.specs.Steps.{Acts, DeskGoes, PrinterGoes, Step}
 use Rattle.dm_event_history.specs.Headline.{IsFairEvent}
 use Rattle.dm_event_history.specs.Told.{EachStepIsRefusedSo, IsFramedSo, IsToFail, failed_after}
 use Rattle.dm_event_history.proofs.Reaching.{reaches}
 use Rattle.dm_event_history.proofs.Answered.{Ended, IsOwn, is_answered, is_made}
-use Rattle.dm_event_history.proofs.AsTold.{ArePlain, IsPlain, IsPlainCourse, answer_plain, ask_plain, export_plain, fine_forget, fine_give, fine_import, fine_print, fine_scan, fine_take, forget_plain, give_plain, import_plain, print_plain, scan_plain, take_plain}
+use Rattle.dm_event_history.proofs.AsTold.{ArePlain, IsPlain, IsPlainCourse, ask_plain, export_plain, fine_forget, fine_give, fine_import, fine_print, fine_scan, fine_take, forget_plain, give_plain, import_plain, print_plain, scan_plain, take_plain}
 
 never : {X : Type 0} (b : Bool) → b ≡ false → b ≡ true → X
 never true unset set = absurd (cc (unset))
@@ -178,15 +185,11 @@ acts_fail {A} old new (RestartDesk desk) reply acts save =
 
 -- what is held says nothing of finder patterns
 good_reply : {A : Type 0} (grid : GridView) (room : ℕ) (held : Documents) (p : PageView) (stop : Stop)
-    (course : Course A Documents) → HasGoodFrame grid → MayBe (by_answer held p (answer room held p)) course →
+    (course : Course A Documents) → HasGoodFrame grid →
+    MayBe (verdict_course (page_reply p) (add_verdict room held p.id (lone p))) course →
     IsFramedSo grid (ends scan_faults stop course (Running held)).reply
-good_reply {A} grid room held p stop course good may = by_may (answer room held p) refl may
+good_reply {A} grid room held p stop course good may = by_may may
   where
-    by_reply : (fault : ScanFault) → (fault ≡ scan_fault.Conflict) ⊎ (fault ≡ scan_fault.Full) →
-        IsFramedSo {A = A} grid (ScanRefused fault)
-    by_reply fault (inl is) = subst (λ (f : ScanFault). IsFramedSo {A = A} grid (ScanRefused f)) (sym is) good
-    by_reply fault (inr is) = subst (λ (f : ScanFault). IsFramedSo {A = A} grid (ScanRefused f)) (sym is) good
-
     lacks : (stop : Stop) → IsFramedSo {A = A} grid (ends scan_faults stop LacksMemory (Running held)).reply
     lacks BeforeSave = tt
     lacks (InSave Old) = tt
@@ -214,19 +217,22 @@ good_reply {A} grid room held p stop course good may = by_may (answer room held 
     answers (InSave New) reply f = tt
     answers (AfterLabels most) reply f = tt
 
-    by_may : (a : Answer) → answer room held p ≡ a → MayBe (by_answer held p a) course →
+    by_add : IsFramedSo {A = A} grid (ends scan_faults stop (verdict_course (page_reply p)
+        (add_verdict room held p.id (lone p))) (Running held)).reply
+    by_add = by_verdict
+        (λ v. IsFramedSo {A = A} grid (ends scan_faults stop (verdict_course (page_reply p) v) (Running held)).reply)
+        room held p.id (lone p)
+        (λ fault is. add_refuses
+        (λ f. IsFramedSo {A = A} grid (ends scan_faults stop (Answers (page_reply p (Err f))) (Running held)).reply)
+        room held p.id (lone p) fault (λ own at differs. answers stop _ good) (λ none most. answers stop _ good) is)
+        (λ is. answers stop _ good) (λ kind other is. saves stop _ _ _)
+
+    by_may : MayBe (verdict_course (page_reply p) (add_verdict room held p.id (lone p))) course →
         IsFramedSo {A = A} grid (ends scan_faults stop course (Running held)).reply
-    by_may a is (inr lack) = subst (λ (c : Course A Documents). IsFramedSo {A = A} grid
+    by_may (inr lack) = subst (λ (c : Course A Documents). IsFramedSo {A = A} grid
         (ends scan_faults stop c (Running held)).reply) (sym lack.0) (lacks stop)
-    by_may (Ok kinds.Again) is (inl same) = subst (λ (c : Course A Documents). IsFramedSo {A = A} grid
-        (ends scan_faults stop c (Running held)).reply) (sym same) (answers stop _ good)
-    by_may (Ok kinds.New) is (inl same) = subst (λ (c : Course A Documents). IsFramedSo {A = A} grid
-        (ends scan_faults stop c (Running held)).reply) (sym same) (saves stop _ _ _)
-    by_may (Ok kinds.Complete) is (inl same) = subst (λ (c : Course A Documents). IsFramedSo {A = A} grid
-        (ends scan_faults stop c (Running held)).reply) (sym same) (saves stop _ _ _)
-    by_may (Err fault) is (inl same) = subst (λ (c : Course A Documents). IsFramedSo {A = A} grid
-        (ends scan_faults stop c (Running held)).reply) (sym same)
-        (answers stop (ScanRefused fault) (by_reply fault (answer_plain room held p fault is)))
+    by_may (inl same) = subst (λ (c : Course A Documents). IsFramedSo {A = A} grid
+        (ends scan_faults stop c (Running held)).reply) (sym same) by_add
 
 -- a fair scan of a desk that runs
 framed : {A : Type 0} (grid : GridView) (page : PageView) (room : ℕ) (held : Documents) (stop : Stop)
@@ -325,42 +331,65 @@ own_print {A} fault failed save memory = record {
     same e = cc (e)
 
 -- why a print was refused
+pub record IsPrintRefused (old : Relay) (printer : ℕ) (document : List ℕ) (size : Size) (scheme : Scheme)
+    (fault : PrintFault) : Type 0 where
+  pub held : LedgerView
+  pub runs : slice_get old.printers printer ≡ Some (Running held)
+  pub parts : Option (List (List ℕ))
+  pub cut : IsCut size scheme document parts
+  pub verdict : print_verdict held (is_some parts) ≡ Err fault
+
 pub print_refused : {A : Type 0} (old new : Relay) (printer : ℕ) (document : List ℕ) (size : Size) (scheme : Scheme)
     (stop : Stop) (fault : PrintFault) → IsOwn {A = A} print_faults (PrintRefused fault) →
     Step {A = A} old (Print printer document size scheme stop) (PrintRefused fault) new →
-    (held : LedgerView) × (slice_get old.printers printer ≡ Some (Running held))
-    × CannotPrint (running held) size scheme document fault
+    IsPrintRefused old printer document size scheme fault
 print_refused {A} old new printer document size scheme stop fault own (inl acts) =
     let g = acts.1 in
     let made = is_made (Calls print_faults stop (PrintComes (length old.labels) document size scheme)) g.actor g.end
     (PrintRefused fault) (λ e. cc (e)) g.acts (sym g.reply_is) in
     let ans = is_answered print_faults stop (PrintComes (length old.labels) document size scheme) g.actor g.end
     (PrintRefused fault) own made (sym g.reply_is) in
-    (ans.held, g.was ∙ ap (λ (a : Actor LedgerView). Some a) ans.was, by_course ans.held ans.course ans.comes ans.ended)
+    by_course ans.held (g.was ∙ ap (λ (a : Actor LedgerView). Some a) ans.was) ans.course ans.comes ans.ended
   where
     fault_is : {f : PrintFault} → ◌≡◌ {A = Reply A} (PrintRefused f) (PrintRefused fault) → f ≡ fault
     fault_is e = cc (e)
 
-    by_course : (held : LedgerView) (course : Course A LedgerView) →
+    by_course : (held : LedgerView) → slice_get old.printers printer ≡ Some (Running held) → (course : Course A LedgerView) →
         PrintComes (length old.labels) document size scheme held course →
-        Ended course held (PrintRefused fault) acts.1.end.actor → CannotPrint (running held) size scheme document fault
-    by_course held (Saves next goods reply) comes ended =
-        (let e = sym comes.reply_is ∙ ended.0 in cc (e))
-    by_course held (Answers reply) comes ended =
-        subst (λ (f : PrintFault). CannotPrint (running held) size scheme document f)
-        (fault_is (sym comes.2 ∙ ended.0)) comes.1
-    by_course held LacksMemory comes ended = absurd ended
+        Ended course held (PrintRefused fault) acts.1.end.actor → IsPrintRefused old printer document size scheme fault
+    by_course held runs (Saves next goods reply) comes ended =
+        (let e = sym (made_print (length old.labels) document size scheme held next goods reply comes).left.reply_is ∙
+        ended.0 in cc (e))
+    by_course held runs (Answers reply) comes ended = record {
+      held = held;
+      runs = runs;
+      parts = comes.1;
+      cut = comes.2;
+      verdict = comes.3.1 ∙ ap (λ (f : PrintFault). Err f) (fault_is (sym comes.3.2 ∙ ended.0));
+    }
+    by_course held runs LacksMemory comes ended = absurd ended
 print_refused old new printer document size scheme stop fault own (inr none) = (let e = none.1 in cc (e))
+
+-- a document that is refused as too long has no parts
+no_parts : (size : Size) (scheme : Scheme) (document : List ℕ) (held : LedgerView) (parts : Option (List (List ℕ))) →
+    IsCut size scheme document parts → print_verdict held (is_some parts) ≡ Err print_fault.TooLong →
+    HasNoEnds size scheme document
+no_parts size scheme document held None cut is = cut
+no_parts size scheme document held (Some parts) cut is =
+    absurd (print_refuses (λ f. f ≡ print_fault.TooLong → ⊥) held true print_fault.TooLong (λ none. cc (none))
+    (λ none e. cc (e)) is refl)
 
 pub each_step_is_refused_so : (A : Type 0) → EachStepIsRefusedSo A
 each_step_is_refused_so A old new event reply printed step = record {
   framed = λ desk number flips stop label is there fair. by_scan desk number flips stop label there
       (subst (λ (e : Event A). IsFairEvent old e) is fair) (subst (λ (e : Event A). Step old e reply new) is step);
   save = λ save. by_save step save;
-  too_long = λ printer document size scheme stop is told. (print_refused old new printer document size scheme stop
-      print_fault.TooLong (own_print print_fault.TooLong (λ e. cc (e)) (λ e. cc (e)) (λ e. cc (e)))
+  too_long = λ printer document size scheme stop is told.
+      let r = print_refused old new printer document size scheme stop print_fault.TooLong
+      (own_print print_fault.TooLong (λ e. cc (e)) (λ e. cc (e)) (λ e. cc (e)))
       (subst (λ (e : Event A). Step old e (PrintRefused print_fault.TooLong) new) is
-      (subst (λ (r : Reply A). Step old event r new) told step))).2.1;
+      (subst (λ (r : Reply A). Step old event r new) told step)) in
+      no_parts size scheme document r.held r.parts r.cut r.verdict;
 }
   where
     by_save : Step old event reply new → failed_after reply false ≡ true → IsToFail event

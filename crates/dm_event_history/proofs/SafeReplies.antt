@@ -1,6 +1,6 @@
 -- In a run in which each scan is fair each reply is safe.
 use Rattle.std.proofs.Common.{◌≡◌, ◌≢◌, ◌⊎◌, ◌↔◌, ◌+◌, ◌≤◌, ◌==◌, inl, inr, ℕ, zero, suc, Bool, true, false, Option, Some, None, Result, Ok, Err, List, [], ◌∷◌, length, slice_get, slice_index_or, IsSome, refl, sym, ap, subst, ◌∙◌, arith, eq-eqb}
-use Rattle.std.specs.Prelude.{is_some, is_none, ◌&&◌, MatchBool, unwrap_or, option_map}
+use Rattle.std.specs.Prelude.{is_some, is_none, ◌&&◌, MatchBool, unwrap_or, option_map, if◌then◌else◌}
 use Rattle.std.specs.List.{list_all, list_any}
 use Rattle.std.specs.Option.{option_or}
 use Rattle.std.specs.FinMap as finite
@@ -22,16 +22,20 @@ use Rattle.dm_assembly_desk.specs.declared.fault.ScanFault.{ScanFault}
 use Rattle.dm_assembly_desk.specs.declared.fault.ScanFault.TheVariants as scan_fault
 use Rattle.dm_assembly_desk.specs.declared.fault.ImportFault.{ImportFault}
 use Rattle.dm_assembly_desk.specs.declared.fault.ImportFault.TheVariants as import_fault
-use Rattle.dm_assembly_desk.specs.Pages.{Pages, lacks, mask, missing_mask, names, page}
-use Rattle.dm_assembly_desk.specs.Documents.{Documents, page_at}
-use Rattle.dm_assembly_desk.specs.Answers.{answer}
-use Rattle.dm_assembly_desk.specs.Asking.{Asks, AsksWhole}
-use Rattle.dm_assembly_desk.specs.Importing.{import_answer}
+use Rattle.dm_assembly_desk.specs.Pages.{Pages, lacks, mask, missing_mask, names, page, document_of}
+use Rattle.dm_assembly_desk.specs.Documents.{Documents, page_at, own_pages}
+use Rattle.dm_assembly_desk.specs.Asking as asking
+use Rattle.dm_assembly_desk.specs.Asking.{Asks}
+use Rattle.dm_assembly_desk.specs.declared.adding.AddFault.{AddFault}
+use Rattle.dm_assembly_desk.specs.declared.adding.AddFault.TheVariants as adds
+use Rattle.dm_assembly_desk.specs.declared.reply.Accepted.{Accepted}
+use Rattle.dm_assembly_desk.specs.Accepting.{lone}
+use Rattle.dm_assembly_desk.specs.Adding.{add_verdict, add_kind, added_to, reply_of}
 use Rattle.dm_assembly_desk.specs.Merging.{added_mask, union_of}
-use Rattle.dm_assembly_desk.proofs.ImportFacts.{KindSays, names_added, page_merged}
-use Rattle.dm_assembly_desk.proofs.ImportLaws.{no_longer}
+use Rattle.dm_assembly_desk.proofs.AddFacts.{names_added, page_merged}
+use Rattle.dm_assembly_desk.proofs.AddLaws.{no_longer, KindSays, kind_says}
 use Rattle.dm_assembly_desk.proofs.Loading.{itself, keys_rise, length-keys}
-use Rattle.dm_assembly_desk.proofs.Masks.{names_missing}
+use Rattle.dm_assembly_desk.proofs.Masks.{names_missing, none_named}
 use Rattle.dm_assembly_desk.proofs.MergingLaws.{length_both}
 use Rattle.dm_event_history.specs.declared.event.Event.{Event}
 use Rattle.dm_event_history.specs.declared.event.Event.TheVariants.{Scan, Ask, Forget, Export, Import}
@@ -43,26 +47,25 @@ use Rattle.dm_event_history.specs.Actors.{Actor, Running, Failed, Down, shown_of
 use Rattle.dm_event_history.specs.Relay as relays
 use Rattle.dm_event_history.specs.Relay.{CutDocument, Desk, Label, Relay}
 use Rattle.dm_event_history.specs.Calls.{Calls, Looks, MayLackFirst}
-use Rattle.dm_event_history.specs.DeskCalls.{AskTells, ExportTells, ExportsHeld, ForgetComes, ImportComes, ScanComes, ask_reply, by_import, forget_course, forget_faults, import_faults, imported, scan_course, scan_faults}
+use Rattle.dm_event_history.specs.DeskCalls.{AskTells, ExportTells, ExportsHeld, ForgetComes, ImportComes, ScanComes, ask_reply, forget_faults, import_faults, scan_course, scan_faults, verdict_course, page_reply, pages_reply, forget_reply}
 use Rattle.dm_event_history.specs.Steps.{Acts, DeskGoes, IsNamed, Step}
 use Rattle.dm_event_history.specs.Runs.{Moment}
 use Rattle.dm_event_history.specs.Clean.{ArePrinted, AreOfOneDocument, HaveLeft, IsCleanActor, IsCleanExport}
 use Rattle.dm_event_history.specs.Places.{IsSound}
 use Rattle.dm_event_history.specs.Headline.{AreAllClean, IsFairEvent}
 use Rattle.dm_event_history.specs.Safe.{EachFairReplyIsSafe, IsExportSafe, IsFullFor, IsImportKindSafe, IsImportedSafe, IsKindSafe, IsSafe, IsTrulyMissing, Known, docs, known_of}
-use Rattle.dm_event_history.proofs.Deciding.{decided, if_not, if_so, or_left, or_right, same_number, same_or_other}
-use Rattle.dm_event_history.proofs.HeldPages.{Disagrees, disagrees, holds_again, holds_all_others, is_free, is_full, lacks_another, lacks_means}
-use Rattle.dm_event_history.proofs.MergedPages.{Differs, all_held, one_lacks}
-use Rattle.dm_event_history.proofs.ImportAnswers.{import_conflict, import_full}
-use Rattle.dm_event_history.proofs.ImportKinds.{kind_says, named_there, there_named}
+use Rattle.dm_event_history.proofs.Deciding.{decided, if_not, if_so, or_left, or_right, same_number, same_or_other, true_false}
+use Rattle.dm_event_history.proofs.MergedPages.{Differs, all_held, lacks_means, one_lacks}
+use Rattle.dm_event_history.proofs.Adds.{add_refuses, length-lone, lone_some, named_there, some_added, there_named}
 use Rattle.dm_event_history.proofs.Gives.{each_clean_desk_gives}
-use Rattle.dm_event_history.proofs.Stays.{page_in}
+use Rattle.dm_event_history.proofs.Stays.{lone_clean, lone_export, page_in}
 use Rattle.dm_event_history.proofs.Headline.{each_fair_run_is_clean, each_run_is_sound, saved_fair}
 use Rattle.dm_event_history.proofs.Having.{HasAll}
-use Rattle.dm_event_history.proofs.AsTold.{import_answer_plain}
 use Rattle.dm_event_history.proofs.Answered.{Ended, IsOwn, is_answered, is_looked, is_made}
-use Rattle.dm_event_history.proofs.Told.{forget_told, import_refused, import_told, no_page, own_forget, own_import, own_scan, scan_refused, scan_told, was_wanted}
+use Rattle.dm_event_history.proofs.Told.{AddRefused, add_ended, forget_told, no_page, own_forget, own_import, own_scan, scan_told, scan_was_refused, was_wanted, forget_by}
 use Rattle.dm_event_history.proofs.Between.{AreBetween, IsBetween, run_between}
+use Rattle.dm_assembly_desk.specs.Forgetting.{forget_verdict}
+use Rattle.dm_assembly_desk.proofs.LonePages.{lone_here}
 
 -- ---- what was printed
 
@@ -261,7 +264,8 @@ module _ (A : Type 0) (old : Relay) (earlier : List (Moment A)) (d : ℕ) (held 
       by_all : (b : Bool) → list_all is_some pages ≡ b → (r : Result (List ℕ) AskFault) →
           ((bytes : List ℕ) → r ≡ Ok bytes → (n : ℕ) (label : Label) → slice_get old.labels n ≡ Some label →
           label.page.id ≡ id → label.cut.bytes ≡ bytes) →
-          MatchBool b (AsksWhole (λ bytes. bytes) pages r) (r ≡ Err (ask_fault.Incomplete (missing_mask pages))) →
+          asking.Gives (λ bytes. bytes) ask_fault.Memory
+          (if b then Ok (document_of pages) else Err (ask_fault.Incomplete (missing_mask pages))) r →
           IsSafe {A = A} old known (Ask d id) (ask_reply r)
       by_all true all (Ok bytes) true_one x =
           let c = left.counts id pages is in
@@ -273,8 +277,8 @@ module _ (A : Type 0) (old : Relay) (earlier : List (Moment A)) (d : ℕ) (held 
             possibly = λ m least most. all_possibly id pages is all m least (omega arith);
           }
       by_all true all (Err ask_fault.Memory) true_one x = tt
-      by_all true all (Err ask_fault.NotHeld) true_one x = absurd x
-      by_all true all (Err (ask_fault.Incomplete m)) true_one x = absurd x
+      by_all true all (Err ask_fault.NotHeld) true_one x = cc (x)
+      by_all true all (Err (ask_fault.Incomplete m)) true_one x = cc (x)
       by_all false all (Ok bytes) true_one x = cc (x)
       by_all false all (Err ask_fault.Memory) true_one x = cc (x)
       by_all false all (Err ask_fault.NotHeld) true_one x = cc (x)
@@ -285,47 +289,6 @@ module _ (A : Type 0) (old : Relay) (earlier : List (Moment A)) (d : ℕ) (held 
           incomplete_is : ◌≡◌ {A = Result (List ℕ) AskFault} (Err (ask_fault.Incomplete m))
               (Err (ask_fault.Incomplete (missing_mask pages))) → m ≡ missing_mask pages
           incomplete_is e = cc (e)
-
-  -- ---- scans
-
-  kind_safe : (room : ℕ) (p : PageView) (kind : Kind) → IsHead (head_of p) → answer room held p ≡ Ok kind →
-      IsKindSafe known d p.id p.m p.n kind
-  kind_safe room p Again head is =
-      b.possibly p.id p.m (subst (λ (o : Option (List ℕ)). IsSome o) (sym (holds_again room held p is).bytes) refl)
-  kind_safe room p New head is =
-      let free = is_free room held p New (λ x. cc (x)) is in
-      let other = lacks_another room held p head.first head.last head.least is in (
-        (λ x. no_page _ (b.surely p.id p.m x) free.was_missing),
-        other.0,
-        other.1,
-        other.2,
-        other.3,
-        (λ x. no_page _ (b.surely p.id other.0 x) other.4),
-      )
-  kind_safe room p Complete head is =
-      let free = is_free room held p Complete (λ x. cc (x)) is in
-      let others = holds_all_others room held p head.first head.last head.least is in (
-        (λ x. no_page _ (b.surely p.id p.m x) free.was_missing),
-        (λ m least most other. b.possibly p.id m (others m least most other)),
-      )
-
-  -- what was printed never disagrees
-  agrees : (p : PageView) (cut : CutDocument) → docs old.labels p.id ≡ Some cut → p.n ≡ length cut.parts →
-      (i : ℕ) → p.m ≡ i + 1 → slice_get cut.parts i ≡ Some p.bytes → ¬ Disagrees held p
-  agrees p cut is n_is i m_is part (inl other) = by_found (finite.get held p.id) refl other.1
-    where
-      by_found : (o : Option Pages) → finite.get held p.id ≡ o → option_map length o ≡ Some other.0 → ⊥
-      by_found None at c = cc (c)
-      by_found (Some pages) at c =
-          let t = counted_is old.labels one printed held left p.id pages at in
-          let same : t.0 ≡ cut = (let a : docs old.labels p.id ≡ Some t.0 = t.1 in cc (a, is)) in
-          let l : length pages ≡ other.0 = cc (c) in
-          other.2 (sym l ∙ t.2 ∙ ap (λ (x : CutDocument). length x.parts) same ∙ sym n_is)
-  agrees p cut is n_is i m_is part (inr other) =
-      let t = part_is old.labels one printed held left p.id p.m other.0 cut is other.1 in
-      let at : t.0 ≡ i = (let a : p.m ≡ t.0 + 1 = t.1 in omega arith) in
-      let x : slice_get cut.parts i ≡ Some other.0 = subst (λ (j : ℕ). slice_get cut.parts j ≡ Some other.0) at t.2 in
-      other.2 (cc (x, part))
 
   -- ---- desks that are full
 
@@ -419,25 +382,24 @@ module _ (A : Type 0) (old : Relay) (earlier : List (Moment A)) (d : ℕ) (held 
         b.possibly export.id m (either_held (page own m) (page export.pages m) some
         (λ x. none (added_means added m is ∙ x))))
 
-    imported_safe : (room : ℕ) (i : imported_type.Imported) → import_answer room held export.id export.pages ≡ Ok i.kind →
-        i ≡ imported held export i.kind → IsImportedSafe known d export i
-    imported_safe room i answered is =
-        let added : i.added ≡ added_mask (unwrap_or (finite.get held export.id) []) export.pages =
-        ap (λ (x : imported_type.Imported). x.added) is in
-        let says = kind_says room (finite.len held) export.pages (finite.get held export.id) i.kind sent.some answered in
+    added_safe : (room : ℕ) (kind : Kind) → add_kind room held export.id export.pages ≡ Ok kind →
+        IsImportedSafe known d export (reply_of held export.id export.pages kind)
+    added_safe room kind is =
+        let added : ℕ = added_to held export.id export.pages in
+        let says = kind_says room held export.id export.pages kind is in
         record {
-          id_is = ap (λ (x : imported_type.Imported). x.id) is;
-          n_is = ap (λ (x : imported_type.Imported). x.n) is;
+          id_is = refl;
+          n_is = refl;
           added = λ m named. (by_named (page_at held export.id m) (page export.pages m)
-              (sym (added_means i.added m added) ∙ named)).1;
+              (sym (added_means added m refl) ∙ named)).1;
           not_surely = λ m named surely. no_page (page_at held export.id m) (b.surely export.id m surely)
-              (by_named (page_at held export.id m) (page export.pages m) (sym (added_means i.added m added) ∙ named)).0;
+              (by_named (page_at held export.id m) (page export.pages m)
+              (sym (added_means added m refl) ∙ named)).0;
           possibly = λ m some none. b.possibly export.id m
               (by_unnamed (page_at held export.id m) (page export.pages m) some
-              (λ x. none (added_means i.added m added ∙ x)));
-          again = again_by i.kind i.added (unwrap_or (finite.get held export.id) []) export.pages added says;
-          kind = import_kind_safe i.added i.kind added
-              (no_longer room held export.id export.pages i.kind answered) says;
+              (λ x. none (added_means added m refl ∙ x)));
+          again = again_by kind added (own_pages held export.id) export.pages refl says;
+          kind = import_kind_safe added kind refl (no_longer room held export.id export.pages kind is) says;
         }
 
     -- what was printed never disagrees
@@ -462,6 +424,52 @@ module _ (A : Type 0) (old : Relay) (earlier : List (Moment A)) (d : ℕ) (held 
         let y : slice_get s.label.cut.parts p.place ≡ Some differs.other =
         p.part ∙ ap (λ (bytes : List ℕ). Some bytes) s.bytes_are in
         differs.differ (cc (x, y))
+
+  -- ---- scans: the page of a label, as an export of it alone
+
+  kind_safe : (room : ℕ) (p : PageView) → IsHead (head_of p) → IsCleanExport old.labels (lone_export p) →
+      (kind : Kind) → add_kind room held p.id (lone p) ≡ Ok kind → IsKindSafe known d p.id p.m p.n kind
+  kind_safe room p head sent kind is = by_kind kind refl safe.kind
+    where
+      added : ℕ
+      added = added_to held p.id (lone p)
+
+      safe : IsImportedSafe known d (lone_export p) (reply_of held p.id (lone p) kind)
+      safe = added_safe (lone_export p) sent room kind is
+
+      here : IsSome (page (lone p) p.m)
+      here = subst IsSome (sym (lone_here p head.first head.last)) refl
+
+      not_here : added ≢ 0 → ¬ known.holds d p.id p.m
+      not_here some surely =
+          let own : Pages = own_pages held p.id in
+          let m = some_added own (lone p) some in
+          let same : m.0 ≡ p.m = lone_some p m.0 head.first m.1 in
+          no_page (page_at held p.id p.m) (b.surely p.id p.m surely)
+          (subst (λ (k : ℕ). page own k ≡ None) same m.2)
+
+      away : (m : ℕ) → page (lone p) m ≡ None → m ≢ p.m
+      away m none same = no_page (page (lone p) p.m) here (subst (λ (k : ℕ). page (lone p) k ≡ None) same none)
+
+      by_kind : (other : Kind) → kind ≡ other → IsImportKindSafe known d (lone_export p) added other →
+          IsKindSafe known d p.id p.m p.n other
+      by_kind Again at k = safe.possibly p.m here (λ named.
+          let none : added ≡ 0 = safe.again.0 at in
+          let unnamed : names added p.m ≡ false = ap (λ (bits : ℕ). names bits p.m) none ∙ none_named p.m in
+          true_false (names added p.m) named unnamed)
+      by_kind New at k = (
+        not_here (λ none. let again : kind ≡ Again = safe.again.1 none in cc (again, at)),
+        k.0,
+        k.1,
+        (let l = length-lone p in let most : k.0 ≤ length (lone p) = k.2 in omega arith),
+        away k.0 k.3,
+        k.4,
+      )
+      by_kind Complete at k = (
+        not_here (λ none. let again : kind ≡ Again = safe.again.1 none in cc (again, at)),
+        (λ m least most other. k m least (let l = length-lone p in omega arith)
+            (λ named. other (lone_some p m head.first (safe.added m named)))),
+      )
 
 -- ---- steps
 
@@ -577,7 +585,7 @@ module _ (A : Type 0) (old new : Relay) (earlier : List (Moment A)) (sound : IsS
   forget_safe d id stop Forgotten g =
       let ans = is_answered forget_faults stop (ForgetComes id) g.desk.actor g.end Forgotten own_forget g.acts (sym g.reply_is) in
       let f = forget_told A id ans.held g.end.actor (finite.get ans.held id) refl
-      (was_wanted (forget_course ans.held id (finite.get ans.held id)) ans.course ans.held Forgotten g.end.actor
+      (was_wanted (verdict_course forget_reply (forget_verdict ans.held id)) ans.course ans.held Forgotten g.end.actor
       ans.comes ans.ended) in
       let h = gathered d g.desk ans.held g.was (ap (λ (a : Actor Documents). shown_of a) ans.was) in
       let s = h.left.some id f.pages f.were_held in
@@ -588,7 +596,7 @@ module _ (A : Type 0) (old new : Relay) (earlier : List (Moment A)) (sound : IsS
       let h = gathered d g.desk ans.held g.was (ap (λ (a : Actor Documents). shown_of a) ans.was) in
       not_surely A old earlier d ans.held one printed h.left h.between id
       (none_held ans.held (finite.get ans.held id) refl
-      (was_wanted (forget_course ans.held id (finite.get ans.held id)) ans.course ans.held
+      (was_wanted (verdict_course forget_reply (forget_verdict ans.held id)) ans.course ans.held
       (ForgetRefused forget_fault.NotHeld) g.end.actor ans.comes ans.ended))
     where
       own_not_held : IsOwn {A = A} forget_faults (ForgetRefused forget_fault.NotHeld)
@@ -602,7 +610,7 @@ module _ (A : Type 0) (old new : Relay) (earlier : List (Moment A)) (sound : IsS
       }
 
       none_held : (held : Documents) (o : Option Pages) → finite.get held id ≡ o →
-          Ended {A = A} (forget_course held id o) held (ForgetRefused forget_fault.NotHeld) g.end.actor →
+          Ended {A = A} (verdict_course forget_reply (forget_by held id o)) held (ForgetRefused forget_fault.NotHeld) g.end.actor →
           finite.get held id ≡ None
       none_held held None is ended = is
       none_held held (Some pages) is ended = (let e = ended.0 in cc (e))
@@ -615,7 +623,7 @@ module _ (A : Type 0) (old new : Relay) (earlier : List (Moment A)) (sound : IsS
       (λ room. MayLackFirst (Calls scan_faults stop (ScanComes room (flipped label.grid flips)))) (ScanRefused fault) new) →
       IsOwn {A = A} scan_faults (ScanRefused fault) →
       (held : Documents) × (shown_of g.desk.actor ≡ Some held)
-      × ((answer g.desk.room held label.page ≡ Err fault)
+      × (AddRefused {A = A} (page_reply label.page) g.desk.room held label.page.id (lone label.page) (ScanRefused fault)
       ⊎ ((wrong : ℕ) × (fault ≡ scan_fault.Label (label_fault.Border wrong))))
   refused d number flips stop label fault there near g own =
       let p = printed number label there in
@@ -626,14 +634,27 @@ module _ (A : Type 0) (old new : Relay) (earlier : List (Moment A)) (sound : IsS
       let read = ans.comes.0 in (
         ans.held,
         ap (λ (x : Actor Documents). shown_of x) ans.was,
-        elim (scan_refused g.desk.room label.page ans.held fault g.end.actor read
+        scan_was_refused g.desk.room label.page ans.held fault g.end.actor read
             (ans.comes.1.near label.grid label.page p.carries near)
             (was_wanted (scan_course g.desk.room ans.held read) ans.course ans.held (ScanRefused fault) g.end.actor
-            ans.comes.2 ans.ended)) [
-              | inl answered ↦ inl answered
-              | inr border ↦ inr (border.0, border.1)
-            ],
+            ans.comes.2 ans.ended),
       )
+
+  -- what was printed never disagrees, and where there is no room others are held
+  not_added : (d room : ℕ) (desk : Desk) (export : relays.Export) (held : Documents) (fault : AddFault) →
+      slice_get old.desks d ≡ Some desk → room ≡ desk.room → shown_of desk.actor ≡ Some held →
+      IsCleanExport old.labels export → add_kind room held export.id export.pages ≡ Err fault →
+      (fault ≡ adds.Full) × IsFullFor old (known_of old earlier) d export.id
+  not_added d room desk export held fault there same shown sent is =
+      let h = gathered d desk held there shown in
+      add_refuses (λ f. (f ≡ adds.Full) × IsFullFor old (known_of old earlier) d export.id) room held export.id
+      export.pages fault
+      (λ own at differs. absurd (import_agrees A old earlier d held one printed h.left h.between export sent own at differs))
+      (λ none most. (
+        refl,
+        full_for A old earlier d held one printed h.left h.between desk export.id there none
+            (subst (λ (r : ℕ). r ≤ finite.len held) same most),
+      )) is
 
   scan_safe : (d number : ℕ) (flips : List (ℕ × ℕ)) (stop : Stop) (label : Label) (reply : Reply A) →
       slice_get old.labels number ≡ Some label → IsNear (flipped label.grid flips) label.grid →
@@ -651,65 +672,68 @@ module _ (A : Type 0) (old new : Relay) (earlier : List (Moment A)) (sound : IsS
       (was_wanted (scan_course g.desk.room ans.held read) ans.course ans.held (Scanned a) g.end.actor ans.comes.2
       ans.ended) in
       let h = gathered d g.desk ans.held g.was (ap (λ (x : Actor Documents). shown_of x) ans.was) in
+      let same : record { id = label.page.id; m = label.page.m; n = label.page.n; kind = told.kind } ≡ a =
+      scanned_is told.told in
       record {
         label = label;
         has_left = there;
-        id_is = told.id_is;
-        m_is = told.m_is;
-        n_is = told.n_is;
-        kind = kind_safe A old earlier d ans.held one printed h.left h.between g.desk.room label.page a.kind
-            p.carries.is_head told.kind_is;
+        id_is = sym (ap (λ (x : Accepted). x.id) same);
+        m_is = sym (ap (λ (x : Accepted). x.m) same);
+        n_is = sym (ap (λ (x : Accepted). x.n) same);
+        kind = subst (λ (k : Kind). IsKindSafe (known_of old earlier) d label.page.id label.page.m label.page.n k)
+            (ap (λ (x : Accepted). x.kind) same)
+            (kind_safe A old earlier d ans.held one printed h.left h.between g.desk.room label.page p.carries.is_head
+            (lone_clean old.labels number label there p) told.kind told.kind_is);
       }
+    where
+      scanned_is : {one other : Accepted} → ◌≡◌ {A = Reply A} (Scanned one) (Scanned other) → one ≡ other
+      scanned_is e = cc (e)
   scan_safe d number flips stop label (ScanRefused scan_fault.Conflict) there near g =
-      let p = printed number label there in
       let r = refused d number flips stop label scan_fault.Conflict there near g (own_scan_fault scan_fault.Conflict
       (λ e. cc (e)) (λ e. cc (e)) (λ e. cc (e))) in
-      let h = gathered d g.desk r.0 g.was r.1 in
       elim r.2 [
-        | inl answered ↦ agrees A old earlier d r.0 one printed h.left h.between label.page label.cut
-            (docs_of old.labels one number label label.page.id there refl) p.n_is p.place p.m_is p.part
-            (disagrees g.desk.room r.0 label.page answered)
+        | inl was ↦
+            let full = (not_added d g.desk.room g.desk (lone_export label.page) r.0 was.fault g.was refl r.1
+            (lone_clean old.labels number label there (printed number label there)) was.fault_is).0 in
+            let told = subst (λ (f : AddFault). page_reply {A = A} label.page (Err f) ≡ ScanRefused scan_fault.Conflict) full was.told in
+            absurd (cc (told))
         | inr border ↦ (let e = border.1 in cc (e))
       ]
   scan_safe d number flips stop label (ScanRefused scan_fault.Full) there near g =
       let r = refused d number flips stop label scan_fault.Full there near g (own_scan_fault scan_fault.Full
       (λ e. cc (e)) (λ e. cc (e)) (λ e. cc (e))) in
-      let h = gathered d g.desk r.0 g.was r.1 in
       elim r.2 [
-        | inl answered ↦
-            let full = is_full g.desk.room r.0 label.page answered in
-            (label, there, full_for A old earlier d r.0 one printed h.left h.between g.desk label.page.id g.was full.0 full.1)
+        | inl was ↦ (
+          label,
+          there,
+          (not_added d g.desk.room g.desk (lone_export label.page) r.0 was.fault g.was refl r.1
+              (lone_clean old.labels number label there (printed number label there)) was.fault_is).1,
+        )
         | inr border ↦ (let e = border.1 in cc (e))
       ]
   scan_safe d number flips stop label reply there near g = tt
 
   not_imported : (d number : ℕ) (stop : Stop) (export : relays.Export) (fault : ImportFault) →
-      (g : DeskGoes {A = A} old d (λ room. Calls import_faults stop (ImportComes room export)) (ImportRefused fault) new) →
-      IsOwn {A = A} import_faults (ImportRefused fault) →
-      (held : Documents) × (shown_of g.desk.actor ≡ Some held)
-      × (import_answer g.desk.room held export.id export.pages ≡ Err fault)
-  not_imported d number stop export fault g own =
-      let ans = is_answered import_faults stop (ImportComes g.desk.room export) g.desk.actor g.end (ImportRefused fault)
-      own g.acts (sym g.reply_is) in (
-        ans.held,
-        ap (λ (x : Actor Documents). shown_of x) ans.was,
-        import_refused A g.desk.room export ans.held fault g.end.actor
-            (import_answer g.desk.room ans.held export.id export.pages) refl
-            (was_wanted (by_import ans.held export (import_answer g.desk.room ans.held export.id export.pages)) ans.course
-            ans.held (ImportRefused fault) g.end.actor ans.comes ans.ended),
-      )
-
-  -- what is held alone refuses an import
-  not_of_bytes : (d number : ℕ) (stop : Stop) (export : relays.Export) (fault : ImportFault) →
+      slice_get old.exports number ≡ Some export →
       DeskGoes {A = A} old d (λ room. Calls import_faults stop (ImportComes room export)) (ImportRefused fault) new →
       fault ≢ import_fault.Failed → fault ≢ import_fault.Save → fault ≢ import_fault.Memory →
-      fault ≢ import_fault.Conflict → fault ≢ import_fault.Full → ⊥
-  not_of_bytes d number stop export fault g failed save memory conflict full =
-      let r = not_imported d number stop export fault g (own_import_fault fault failed save memory) in
-      elim (import_answer_plain g.desk.room r.0 export.id export.pages fault r.2) [
-        | inl is ↦ conflict is
-        | inr is ↦ full is
+      (fault ≡ import_fault.Full) × IsFullFor old (known_of old earlier) d export.id
+  not_imported d number stop export fault there g failed save memory =
+      let ans = is_answered import_faults stop (ImportComes g.desk.room export) g.desk.actor g.end (ImportRefused fault)
+      (own_import_fault fault failed save memory) g.acts (sym g.reply_is) in
+      elim (add_ended pages_reply g.desk.room ans.held export.id export.pages (ImportRefused fault) g.end.actor
+      (was_wanted (verdict_course pages_reply (add_verdict g.desk.room ans.held export.id export.pages)) ans.course
+      ans.held (ImportRefused fault) g.end.actor ans.comes ans.ended)) [
+        | inl told ↦ (let e = told.told in absurd (cc (e)))
+        | inr was ↦
+            let full = not_added d g.desk.room g.desk export ans.held was.fault g.was refl
+            (ap (λ (x : Actor Documents). shown_of x) ans.was) (clean.exports number export there) was.fault_is in
+            let told = subst (λ (f : AddFault). pages_reply {A = A} (Err f) ≡ ImportRefused fault) full.0 was.told in
+            (sym (fault_is told), full.1)
       ]
+    where
+      fault_is : {one other : ImportFault} → ◌≡◌ {A = Reply A} (ImportRefused one) (ImportRefused other) → one ≡ other
+      fault_is e = cc (e)
 
   import_safe : (d number : ℕ) (stop : Stop) (export : relays.Export) (reply : Reply A) →
       slice_get old.exports number ≡ Some export →
@@ -718,37 +742,40 @@ module _ (A : Type 0) (old new : Relay) (earlier : List (Moment A)) (sound : IsS
   import_safe d number stop export (Imported i) there g =
       let ans = is_answered import_faults stop (ImportComes g.desk.room export) g.desk.actor g.end (Imported i)
       (own_import i) g.acts (sym g.reply_is) in
-      let told = import_told A g.desk.room export ans.held i g.end.actor
-      (import_answer g.desk.room ans.held export.id export.pages) refl
-      (was_wanted (by_import ans.held export (import_answer g.desk.room ans.held export.id export.pages)) ans.course
-      ans.held (Imported i) g.end.actor ans.comes ans.ended) in
-      let h = gathered d g.desk ans.held g.was (ap (λ (x : Actor Documents). shown_of x) ans.was) in (
-        export,
-        there,
-        imported_safe A old earlier d ans.held one printed h.left h.between export
-            (clean.exports number export there) g.desk.room i told.kind_is told.imported_is,
-      )
+      let h = gathered d g.desk ans.held g.was (ap (λ (x : Actor Documents). shown_of x) ans.was) in
+      elim (add_ended pages_reply g.desk.room ans.held export.id export.pages (Imported i) g.end.actor
+      (was_wanted (verdict_course pages_reply (add_verdict g.desk.room ans.held export.id export.pages)) ans.course
+      ans.held (Imported i) g.end.actor ans.comes ans.ended)) [
+        | inl told ↦ (
+          export,
+          there,
+          subst (λ (x : imported_type.Imported). IsImportedSafe (known_of old earlier) d export x) (imported_is told.told)
+              (added_safe A old earlier d ans.held one printed h.left h.between export (clean.exports number export there)
+              g.desk.room told.kind told.kind_is),
+        )
+        | inr was ↦ (let e = was.told in absurd (cc (e)))
+      ]
+    where
+      imported_is : {one other : imported_type.Imported} → ◌≡◌ {A = Reply A} (Imported one) (Imported other) →
+          one ≡ other
+      imported_is e = cc (e)
   import_safe d number stop export (ImportRefused import_fault.NotPages) there g =
-      not_of_bytes d number stop export import_fault.NotPages g (λ e. cc (e)) (λ e. cc (e)) (λ e. cc (e)) (λ e. cc (e))
-      (λ e. cc (e))
+      (let r = (not_imported d number stop export import_fault.NotPages there g (λ e. cc (e)) (λ e. cc (e))
+      (λ e. cc (e))).0 in cc (r))
   import_safe d number stop export (ImportRefused import_fault.Version) there g =
-      not_of_bytes d number stop export import_fault.Version g (λ e. cc (e)) (λ e. cc (e)) (λ e. cc (e)) (λ e. cc (e))
-      (λ e. cc (e))
+      (let r = (not_imported d number stop export import_fault.Version there g (λ e. cc (e)) (λ e. cc (e))
+      (λ e. cc (e))).0 in cc (r))
   import_safe d number stop export (ImportRefused import_fault.Damaged) there g =
-      not_of_bytes d number stop export import_fault.Damaged g (λ e. cc (e)) (λ e. cc (e)) (λ e. cc (e)) (λ e. cc (e))
-      (λ e. cc (e))
+      (let r = (not_imported d number stop export import_fault.Damaged there g (λ e. cc (e)) (λ e. cc (e))
+      (λ e. cc (e))).0 in cc (r))
   import_safe d number stop export (ImportRefused import_fault.Conflict) there g =
-      let r = not_imported d number stop export import_fault.Conflict g
-      (own_import_fault import_fault.Conflict (λ e. cc (e)) (λ e. cc (e)) (λ e. cc (e))) in
-      let h = gathered d g.desk r.0 g.was r.1 in
-      let c = import_conflict g.desk.room r.0 export.id export.pages r.2 in
-      import_agrees A old earlier d r.0 one printed h.left h.between export (clean.exports number export there) c.0 c.1 c.2
-  import_safe d number stop export (ImportRefused import_fault.Full) there g =
-      let r = not_imported d number stop export import_fault.Full g
-      (own_import_fault import_fault.Full (λ e. cc (e)) (λ e. cc (e)) (λ e. cc (e))) in
-      let h = gathered d g.desk r.0 g.was r.1 in
-      let full = import_full g.desk.room r.0 export.id export.pages r.2 in
-      (export, there, full_for A old earlier d r.0 one printed h.left h.between g.desk export.id g.was full.0 full.1)
+      (let r = (not_imported d number stop export import_fault.Conflict there g (λ e. cc (e)) (λ e. cc (e))
+      (λ e. cc (e))).0 in cc (r))
+  import_safe d number stop export (ImportRefused import_fault.Full) there g = (
+    export,
+    there,
+    (not_imported d number stop export import_fault.Full there g (λ e. cc (e)) (λ e. cc (e)) (λ e. cc (e))).1,
+  )
   import_safe d number stop export reply there g = tt
 
   acts_safe : (event : Event A) (reply : Reply A) → IsFairEvent old event → IsNamed old event →

@@ -13,16 +13,19 @@ use Rattle.dm_store.specs.declared.fuse.Kept.TheVariants.{Old, New}
 use Rattle.dm_assembly_desk.specs.declared.reply.Kind.{Kind}
 use Rattle.dm_assembly_desk.specs.declared.reply.Kind.TheVariants as kinds
 use Rattle.dm_assembly_desk.specs.Pages.{Pages, page}
-use Rattle.dm_assembly_desk.specs.Documents.{Documents, page_at, pages_with, with_page}
-use Rattle.dm_assembly_desk.specs.Answers.{Answer, answer}
-use Rattle.dm_assembly_desk.specs.Importing.{ImportAnswer, import_answer, pages_with_file, with_file}
-use Rattle.dm_assembly_desk.proofs.Adding.{get_here}
-use Rattle.dm_assembly_desk.proofs.ImportLaws.{no_longer, page_given}
+use Rattle.dm_assembly_desk.specs.declared.adding.AddFault.{AddFault}
+use Rattle.dm_assembly_desk.specs.declared.reply.Imported as imported_type
+use Rattle.dm_assembly_desk.specs.Documents.{Documents, page_at}
+use Rattle.dm_assembly_desk.specs.Accepting.{lone}
+use Rattle.dm_assembly_desk.specs.Adding.{add_kind, add_verdict, pages_with, with_pages}
+use Rattle.dm_assembly_desk.proofs.Undoing.{get_here}
+use Rattle.dm_assembly_desk.proofs.AddLaws.{no_longer, page_given}
 use Rattle.dm_assembly_desk.proofs.MergingLaws.{length_both}
 use Rattle.dm_print_ledger.specs.Views.{LedgerView}
 use Rattle.dm_event_history.specs.declared.event.Event.{Event}
 use Rattle.dm_event_history.specs.declared.event.Event.TheVariants.{Print, Scan, RestartPrinter, RestartDesk, Ask, Forget, Give, Take, Export, Import}
 use Rattle.dm_event_history.specs.declared.reply.Reply.{Reply}
+use Rattle.dm_event_history.specs.declared.reply.Reply.TheVariants.{Imported}
 use Rattle.dm_event_history.specs.declared.stop.Stop.{Stop}
 use Rattle.dm_event_history.specs.declared.stop.Stop.TheVariants as stops
 use Rattle.dm_event_history.specs.declared.stop.Stop.TheVariants.{BeforeSave, InSave, SaveFault, AfterLabels}
@@ -33,11 +36,13 @@ use Rattle.dm_event_history.specs.Actors.{Actor, Running, Failed, Down, stored_o
 use Rattle.dm_event_history.specs.Relay as relays
 use Rattle.dm_event_history.specs.Relay.{Desk, Goods, Label, Relay}
 use Rattle.dm_event_history.specs.Calls.{Answers, Calls, Course, Ending, Faults, LacksMemory, Looks, MayLackFirst, Reaches, Restarts, Saves, ends}
-use Rattle.dm_event_history.specs.DeskCalls.{AskTells, ExportTells, MayBe, by_answer, by_import, forget_course, scan_course}
+use Rattle.dm_event_history.specs.DeskCalls.{AskTells, ExportTells, MayBe, scan_course, verdict_course, page_reply, pages_reply, forget_reply}
 use Rattle.dm_event_history.specs.Steps.{Acts, DeskGoes, PrinterGoes, Step}
 use Rattle.dm_event_history.specs.Clean.{ArePrinted, EachStepKeepsClean, HasLeft, HasPages, HaveLeft, IsClean, IsCleanActor, IsCleanExport, IsHarmless, IsPrinted}
 use Rattle.dm_event_history.proofs.Reaching.{reached, reaches}
-use Rattle.dm_event_history.proofs.HeldPages.{IsFree, holds_also, is_free}
+use Rattle.dm_event_history.proofs.Adds.{length-lone, lone_some, Answer, by_verdict}
+use Rattle.dm_event_history.proofs.Told.{forget_by}
+use Rattle.dm_assembly_desk.proofs.LonePages.{lone_here}
 
 -- ---- more labels
 
@@ -97,70 +102,6 @@ pub second_some : (o p : Option (List ℕ)) → IsSome p → IsSome (option_or o
 second_some None p some = some
 second_some (Some x) p some = refl
 
-own_left : (labels : List Label) (number : ℕ) (label : Label) (p : PageView) → slice_get labels number ≡ Some label →
-    label.page ≡ p → HasLeft labels p.id p.m p.bytes
-own_left labels number label p there same = record {
-  number = number;
-  label = label;
-  there = there;
-  id_is = ap (λ (q : PageView). q.id) same;
-  m_is = ap (λ (q : PageView). q.m) same;
-  bytes_are = ap (λ (q : PageView). q.bytes) same;
-}
-
-own_pages : (labels : List Label) (number : ℕ) (label : Label) (p : PageView) → slice_get labels number ≡ Some label →
-    label.page ≡ p → HasPages labels p.id p.n
-own_pages labels number label p there same = record {
-  number = number;
-  label = label;
-  there = there;
-  id_is = ap (λ (q : PageView). q.id) same;
-  n_is = ap (λ (q : PageView). q.n) same;
-}
-
-with_page_left : (labels : List Label) (held : Documents) (p : PageView) → HaveLeft labels held →
-    HasLeft labels p.id p.m p.bytes → HasPages labels p.id p.n → 1 ≤ p.m → p.m ≤ p.n → IsFree held p →
-    HaveLeft labels (with_page held p)
-with_page_left labels held p clean own own_count least most free =
-    let also = holds_also held p least most free in
-    let new : Documents = with_page held p in
-    record {
-      pages = λ id m bytes is. elim (same_or_other id p.id) [
-        | inl same ↦ elim (same_or_other m p.m) [
-          | inl place ↦
-              let there : page_at new p.id p.m ≡ Some bytes =
-              subst (λ (i : ℕ). page_at new i p.m ≡ Some bytes) same
-              (subst (λ (j : ℕ). page_at new id j ≡ Some bytes) place is) in
-              let here : page_at new p.id p.m ≡ Some p.bytes = also.holds.bytes in
-              let bytes_are : p.bytes ≡ bytes = cc (there, here) in
-              subst (λ (i : ℕ). HasLeft labels i m bytes) (sym same)
-              (subst (λ (j : ℕ). HasLeft labels p.id j bytes) (sym place)
-              (subst (λ (b : List ℕ). HasLeft labels p.id p.m b) bytes_are own))
-          | inr away ↦ clean.pages id m bytes (sym (also.other_pages id m (inr away)) ∙ is)
-        ]
-        | inr other ↦ clean.pages id m bytes (sym (also.other_pages id m (inl other)) ∙ is)
-      ];
-      counts = λ id pages is. elim (same_or_other id p.id) [
-        | inl same ↦
-            let there : finite.get new p.id ≡ Some pages =
-            subst (λ (i : ℕ). finite.get new i ≡ Some pages) same is in
-            let counted_so : Some (length pages) ≡ Some p.n =
-            sym (ap (option_map length) there) ∙ also.holds.count in
-            let count : p.n ≡ length pages = cc (counted_so) in
-            subst (λ (i : ℕ). HasPages labels i (length pages)) (sym same)
-            (subst (λ (n : ℕ). HasPages labels p.id n) count own_count)
-        | inr other ↦ clean.counts id pages (sym (get_other held p.id id (pages_with held p) other) ∙ is)
-      ];
-      some = λ id pages is. elim (same_or_other id p.id) [
-        | inl same ↦ (
-          p.m,
-          some_so (page_in new p.id p.m pages (subst (λ (i : ℕ). finite.get new i ≡ Some pages) same is))
-              also.holds.bytes,
-        )
-        | inr other ↦ clean.some id pages (sym (get_other held p.id id (pages_with held p) other) ∙ is)
-      ];
-    }
-
 -- ---- what is held without a document
 
 without_left : (labels : List Label) (held : Documents) (gone : ℕ) → HaveLeft labels held →
@@ -192,10 +133,10 @@ without_left labels held gone clean =
 
 -- ---- what is held with an export
 
-with_file_left : (labels : List Label) (room : ℕ) (held : Documents) (export : relays.Export) (kind : Kind) →
-    import_answer room held export.id export.pages ≡ Ok kind → IsCleanExport labels export → HaveLeft labels held →
-    HaveLeft labels (with_file held export.id export.pages)
-with_file_left labels room held export kind answered sent clean = record {
+with_pages_left : (labels : List Label) (room : ℕ) (held : Documents) (export : relays.Export) (kind : Kind) →
+    add_kind room held export.id export.pages ≡ Ok kind → IsCleanExport labels export → HaveLeft labels held →
+    HaveLeft labels (with_pages held export.id export.pages)
+with_pages_left labels room held export kind answered sent clean = record {
   pages = λ id m bytes is. elim (same_or_other id export.id) [
     | inl same ↦ subst (λ (i : ℕ). HasLeft labels i m bytes) (sym same)
         (either m bytes (page_at held export.id m) refl (sym (page_given held export.id export.pages m) ∙
@@ -227,15 +168,15 @@ with_file_left labels room held export kind answered sent clean = record {
 }
   where
     all : Pages
-    all = pages_with_file held export.id export.pages
+    all = pages_with held export.id export.pages
 
     new : Documents
-    new = with_file held export.id export.pages
+    new = with_pages held export.id export.pages
 
-    kept : (id : ℕ) → id ≢ export.id → finite.get (with_file held export.id export.pages) id ≡ finite.get held id
-    kept id other = get_other held export.id id (pages_with_file held export.id export.pages) other
+    kept : (id : ℕ) → id ≢ export.id → finite.get (with_pages held export.id export.pages) id ≡ finite.get held id
+    kept id other = get_other held export.id id (pages_with held export.id export.pages) other
 
-    all_count : length (pages_with_file held export.id export.pages) ≡ length export.pages
+    all_count : length (pages_with held export.id export.pages) ≡ length export.pages
     all_count = length_both (unwrap_or (finite.get held export.id) []) export.pages
         (no_longer room held export.id export.pages kind answered)
 
@@ -331,18 +272,46 @@ may_be_clean {A} labels wanted course c (inl is) = subst (λ (x : Course A Docum
 may_be_clean {A} labels wanted course c (inr lack) =
     subst (λ (x : Course A Documents). IsCleanCourse labels x) (sym lack.0) tt
 
--- a page of which a label left is taken
-answer_clean : (A : Type 0) (labels : List Label) (room number : ℕ) (held : Documents) (label : Label) (p : PageView) →
-    HaveLeft labels held → slice_get labels number ≡ Some label → label.page ≡ p → 1 ≤ p.m → p.m ≤ p.n →
-    (a : Answer) → answer room held p ≡ a → IsCleanCourse {A = A} labels (by_answer held p a)
-answer_clean A labels room number held label p h there own least most (Ok kinds.Again) is = tt
-answer_clean A labels room number held label p h there own least most (Ok kinds.New) is =
-    with_page_left labels held p h (own_left labels number label p there own) (own_pages labels number label p there own)
-    least most (is_free room held p kinds.New (λ e. cc) is)
-answer_clean A labels room number held label p h there own least most (Ok kinds.Complete) is =
-    with_page_left labels held p h (own_left labels number label p there own) (own_pages labels number label p there own)
-    least most (is_free room held p kinds.Complete (λ e. cc) is)
-answer_clean A labels room number held label p h there own least most (Err fault) is = tt
+-- pages that are clean as those of an export are added
+add_clean : {A : Type 0} (labels : List Label) (room : ℕ) (held : Documents) (export : relays.Export)
+    (tells : Answer → Reply A) → HaveLeft labels held → IsCleanExport labels export →
+    IsCleanCourse labels (verdict_course tells (add_verdict room held export.id export.pages))
+add_clean {A} labels room held export tells h sent = by_verdict
+    (λ v. IsCleanCourse {A = A} labels (verdict_course tells v)) room held export.id export.pages
+    (λ fault is. tt) (λ is. tt) (λ kind other is. with_pages_left labels room held export kind is sent h)
+
+-- the page of a label that left, as an export of it alone
+abbrev pub lone_export : PageView → relays.Export
+lone_export p = record { id = p.id; pages = lone p }
+
+pub lone_clean : (labels : List Label) (number : ℕ) (label : Label) → slice_get labels number ≡ Some label →
+    IsPrinted label → IsCleanExport labels (lone_export label.page)
+lone_clean labels number label there printed =
+    let head : IsHead (head_of label.page) = printed.carries.is_head in
+    record {
+      pages = λ m bytes is.
+          let m_is : m ≡ label.page.m = lone_some label.page m head.first (subst IsSome (sym is) refl) in
+          let here : page (lone label.page) label.page.m ≡ Some label.page.bytes =
+          lone_here label.page head.first head.last in
+          let own : page (lone label.page) label.page.m ≡ Some bytes =
+          subst (λ (k : ℕ). page (lone label.page) k ≡ Some bytes) m_is is in
+          record {
+            number = number;
+            label = label;
+            there = there;
+            id_is = refl;
+            m_is = sym m_is;
+            bytes_are = cc (here, own);
+          };
+      count = record {
+        number = number;
+        label = label;
+        there = there;
+        id_is = refl;
+        n_is = sym (length-lone label.page);
+      };
+      some = (label.page.m, subst IsSome (sym (lone_here label.page head.first head.last)) refl);
+    }
 
 -- a fair scan is read as its label's page
 reading_clean : {A : Type 0} (labels : List Label) (room number : ℕ) (held : Documents) (label : Label) →
@@ -350,27 +319,17 @@ reading_clean : {A : Type 0} (labels : List Label) (room number : ℕ) (held : D
     (read : Result (Opened A) LabelFault) → OpensNear label.page read →
     IsCleanCourse labels (scan_course room held read)
 reading_clean {A} labels room number held label h there printed (Ok opened) near =
-    let head : IsHead (head_of opened.page) =
-    subst (λ (p : PageView). IsHead (head_of p)) (sym near) printed.carries.is_head in
-    answer_clean A labels room number held label opened.page h there (sym near) head.first head.last
-    (answer room held opened.page) refl
+    subst (λ (p : PageView). IsCleanCourse {A = A} labels
+    (verdict_course (page_reply p) (add_verdict room held p.id (lone p)))) (sym near)
+    (add_clean labels room held (lone_export label.page) (page_reply label.page) h
+    (lone_clean labels number label there printed))
 reading_clean labels room number held label h there printed (Err label_fault.Memory) near = tt
 reading_clean labels room number held label h there printed (Err fault) near = tt
 
 forget_clean : (A : Type 0) (labels : List Label) (id : ℕ) (held : Documents) (o : Option Pages) →
-    HaveLeft labels held → IsCleanCourse {A = A} labels (forget_course held id o)
+    HaveLeft labels held → IsCleanCourse {A = A} labels (verdict_course forget_reply (forget_by held id o))
 forget_clean A labels id held None h = tt
 forget_clean A labels id held (Some pages) h = without_left labels held id h
-
-import_clean : (A : Type 0) (labels : List Label) (room : ℕ) (held : Documents) (export : relays.Export) →
-    HaveLeft labels held → IsCleanExport labels export → (a : ImportAnswer) →
-    import_answer room held export.id export.pages ≡ a → IsCleanCourse {A = A} labels (by_import held export a)
-import_clean A labels room held export h sent (Ok kinds.Again) is = tt
-import_clean A labels room held export h sent (Ok kinds.New) is =
-    with_file_left labels room held export kinds.New is sent h
-import_clean A labels room held export h sent (Ok kinds.Complete) is =
-    with_file_left labels room held export kinds.Complete is sent h
-import_clean A labels room held export h sent (Err fault) is = tt
 
 -- ---- steps
 
@@ -432,8 +391,7 @@ acts_keep {A} old new (Import desk number stop) reply own p clean harm acts =
     desk_keeps old new desk own _ reply clean
     (λ same room. calls_keep old.labels _ stop _
     (λ held course h comes. may_be_clean old.labels _ course
-    (import_clean A old.labels room held acts.0 h (harm same acts.0 acts.1)
-    (import_answer room held acts.0.id acts.0.pages) refl) comes)) acts.2
+    (add_clean {A = A} old.labels room held acts.0 pages_reply h (harm same acts.0 acts.1)) comes)) acts.2
 acts_keep {A} old new (Ask desk id) reply own p clean harm acts =
     desk_keeps old new desk own _ reply clean (λ same room. looks_keep old.labels (AskTells {A = A} id)) acts
 acts_keep {A} old new (Export desk id) reply own p clean harm acts =

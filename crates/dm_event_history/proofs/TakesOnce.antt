@@ -1,10 +1,11 @@
 -- No ticket is taken twice, and none is refused since a number of it is free at its receiver.
-use Rattle.std.proofs.Common.{◌≡◌, ◌≢◌, ◌+◌, ◌≤◌, ◌==◌, ◌||◌, inl, inr, ℕ, zero, suc, Bool, true, false, Some, List, [], ◌∷◌, ◌++◌, length, slice_get, refl, sym, ap, subst, ◌∙◌, arith, eq-eqb}
+use Rattle.std.proofs.Common.{Err, ◌≡◌, ◌≢◌, ◌+◌, ◌≤◌, ◌==◌, ◌||◌, inl, inr, ℕ, zero, suc, Bool, true, false, Some, List, [], ◌∷◌, ◌++◌, length, slice_get, refl, sym, ap, subst, ◌∙◌, arith, eq-eqb}
 use Rattle.std.specs.Prelude.{IsSomeAnd}
 use Rattle.dm_finder_frame.specs.Grids.{flipped}
 use Rattle.dm_print_ledger.specs.declared.range.Range.{Range}
 use Rattle.dm_print_ledger.specs.Givers.{last_taken}
-use Rattle.dm_print_ledger.specs.Moving.{CannotTake}
+use Rattle.dm_print_ledger.proofs.InLaws.{HasFree}
+use Rattle.dm_print_ledger.specs.Verdicts.{take_verdict}
 use Rattle.dm_print_ledger.specs.Ranges.{is_in}
 use Rattle.dm_print_ledger.specs.Views.{LedgerView, TicketView}
 use Rattle.dm_print_ledger.specs.declared.fault.TakeFault.{TakeFault}
@@ -18,14 +19,14 @@ use Rattle.dm_event_history.specs.declared.stop.Stop.{Stop}
 use Rattle.dm_event_history.specs.Actors.{Actor, Running}
 use Rattle.dm_event_history.specs.Relay.{Lost, Move, Relay, Took, Used, start}
 use Rattle.dm_event_history.specs.Calls.{Answers, Calls, Course, Ending, LacksMemory, Saves}
-use Rattle.dm_event_history.specs.PrinterCalls.{TakeComes, running, take_faults}
+use Rattle.dm_event_history.specs.PrinterCalls.{TakeComes, take_faults}
 use Rattle.dm_event_history.specs.Steps.{Acts, DeskGoes, PrinterGoes, Step}
 use Rattle.dm_event_history.specs.Runs.{IsRun, Moment}
 use Rattle.dm_event_history.specs.Places.{AreDisjoint, IsInOrder, IsSound, is_taken, one_if}
 use Rattle.dm_event_history.specs.Told.{EachRunTakesOnce}
 use Rattle.dm_event_history.proofs.Deciding.{decided, same_or_other, other_number}
 use Rattle.dm_event_history.proofs.Numbers.{free_some, on_taken}
-use Rattle.dm_event_history.proofs.OneLedger.{old_or_new}
+use Rattle.dm_event_history.proofs.LedgerFacts.{IsOverlapping, old_or_new, overlap_free, take_refuses}
 use Rattle.dm_event_history.proofs.Balance.{Balances, calls_balance, give_balanced, may_lack_balances, print_balanced, restarts_balance}
 use Rattle.dm_event_history.proofs.LeavingGoods.{Leaves}
 use Rattle.dm_event_history.proofs.QuietDesks.{IsQuiet, ask_quiet, export_is_quiet, forget_is_quiet, import_is_quiet, restart_quiet, scan_quiet}
@@ -203,19 +204,23 @@ no_overlap {A} old new printer number ticket stop sound there g =
 
     by_course : (held : LedgerView) (course : Course A LedgerView) → TakeComes number ticket held course →
         Ended course held (TakeRefused take_fault.Overlap) g.end.actor →
-        CannotTake (running held) ticket take_fault.Overlap
-    by_course held (Saves next goods reply) comes ended = (let e = sym comes.reply_is ∙ ended.0 in cc (e))
+        IsOverlapping held ticket × HasFree held.free ticket.range
+    by_course held (Saves next goods reply) comes ended = (let e = sym comes.2.1.1 ∙ ended.0 in cc (e))
     by_course held (Answers reply) comes ended =
-        subst (λ (f : TakeFault). CannotTake (running held) ticket f) (fault_is (sym comes.2 ∙ ended.0)) comes.1
+        let is : take_verdict held ticket ≡ Err take_fault.Overlap =
+        comes.2.1 ∙ ap (λ (f : TakeFault). Err f) (fault_is (sym comes.2.2 ∙ ended.0)) in
+        let overlaps : IsOverlapping held ticket = take_refuses (λ f. f ≡ take_fault.Overlap → IsOverlapping held ticket)
+        held ticket take_fault.Overlap (λ e. cc (e)) (λ e. cc (e)) (λ o e. o) (λ e. cc (e)) (λ e. cc (e)) is refl in
+        (overlaps, overlap_free held ticket comes.0 comes.1 overlaps.free)
     by_course held LacksMemory comes ended = absurd ended
 
     clash : (held : LedgerView) → slice_get old.printers printer ≡ Some (Running held) →
-        CannotTake (running held) ticket take_fault.Overlap → ⊥
+        IsOverlapping held ticket × HasFree held.free ticket.range → ⊥
     clash held was cannot =
-        let own : ticket.receiver ≡ printer = cannot.1.0 ∙ sound.order.numbers printer (Running held) was in
-        let m : ℕ = cannot.3.0 in
-        let free = free_some old.printers printer m (Running held) was cannot.3.2 in
-        let one : one_if (is_in ticket.range m) ≡ 1 = ap one_if cannot.3.1 in
+        let own : ticket.receiver ≡ printer = cannot.0.is_for ∙ sound.order.numbers printer (Running held) was in
+        let m : ℕ = cannot.1.0 in
+        let free = free_some old.printers printer m (Running held) was cannot.1.2 in
+        let one : one_if (is_in ticket.range m) ≡ 1 = ap one_if cannot.1.1 in
         let on = on_taken old.moves 0 number old.tickets ticket number m there (omega arith) (untaken_so own) in
         let most = sound.apart m in
         absurd (omega arith)
@@ -231,7 +236,7 @@ no_overlap {A} old new printer number ticket stop sound there g =
               (sym (ap (λ (x : TicketView). x.receiver) same ∙ own)) was in
               let last = subst (λ (x : TicketView). IsSomeAnd (last_taken held.givers x.giver)
               (λ last. x.serial ≤ last)) same (noted.noted (Running held) at) in
-              absurd (old_or_new (last_taken held.givers ticket.giver) ticket.serial last cannot.2)
+              absurd (old_or_new (last_taken held.givers ticket.giver) ticket.serial last cannot.0.is_new)
           | inr none ↦ none
         ]
 

@@ -6,7 +6,6 @@ use Rattle.dm_store.specs.declared.fuse.Kept.TheVariants.{Old, New}
 use Rattle.dm_print_ledger.specs.Ranges.{is_free, is_in}
 use Rattle.dm_print_ledger.specs.Givers.{last_taken}
 use Rattle.dm_print_ledger.specs.Views.{LedgerView, TicketView}
-use Rattle.dm_print_ledger.specs.Moving.{IsNew, TakesIn}
 use Rattle.dm_event_history.specs.declared.stop.Stop.{Stop}
 use Rattle.dm_event_history.specs.declared.stop.Stop.TheVariants as stops
 use Rattle.dm_event_history.specs.declared.stop.Stop.TheVariants.{BeforeSave, InSave, SaveFault, AfterLabels}
@@ -20,14 +19,12 @@ use Rattle.dm_event_history.specs.Places.{IsInOrder, IsNoted, gone, is_taken, on
 use Rattle.dm_event_history.proofs.Numbers.{free_set, gone_more, on_taken, taken_by}
 use Rattle.dm_event_history.proofs.Reaching.{reached, reaches}
 use Rattle.dm_event_history.proofs.Stays.{got_set}
-use Rattle.dm_event_history.proofs.OneLedger.{old_or_new}
+use Rattle.dm_event_history.proofs.LedgerFacts.{GainsNumbers, old_or_new, take_gains}
 use Rattle.dm_event_history.proofs.Balance.{IsBalanced, still}
 
 -- the ticket of this number is taken
 pub record IsTaking (held next : LedgerView) (number : ℕ) (ticket : TicketView) (goods : Goods) : Type 0 where
-  pub takes : TakesIn held ticket next
-  pub is_new : IsNew held ticket
-  pub is_for : ticket.receiver ≡ held.number
+  pub takes : GainsNumbers held ticket next
   pub moves_are : goods.moves ≡ Took number ∷ []
   pub tickets_are : goods.tickets ≡ []
 
@@ -43,8 +40,6 @@ cut_taking : (held next : LedgerView) (number : ℕ) (ticket : TicketView) (good
     IsTaking held next number ticket goods → IsTaking held next number ticket (cut_off most goods)
 cut_taking held next number ticket goods most t = record {
   takes = t.takes;
-  is_new = t.is_new;
-  is_for = t.is_for;
   moves_are = ap (λ (ts : List TicketView). goods.moves ++ map lost ts) t.tickets_are ∙ append-nil goods.moves ∙ t.moves_are;
   tickets_are = refl;
 }
@@ -81,11 +76,9 @@ as_known {A} held number ticket end known is m =
 take_course : {A : Type 0} (number : ℕ) (ticket : TicketView) (held : LedgerView) (course : Course A LedgerView) →
     TakeComes number ticket held course → IsTakeCourse held number ticket course
 take_course number ticket held (Saves next goods reply) comes = record {
-  takes = comes.takes;
-  is_new = comes.can.2;
-  is_for = comes.can.1.0;
-  moves_are = ap (λ (g : Goods). g.moves) comes.goods_are;
-  tickets_are = ap (λ (g : Goods). g.tickets) comes.goods_are;
+  takes = take_gains held next ticket comes.0 comes.1 comes.2.0;
+  moves_are = ap (λ (g : Goods). g.moves) comes.2.1.0;
+  tickets_are = ap (λ (g : Goods). g.tickets) comes.2.1.0;
 }
 take_course number ticket held (Answers reply) comes = tt
 take_course number ticket held LacksMemory comes = tt
@@ -124,7 +117,7 @@ module _ (old : Relay) (printer number : ℕ) (ticket : TicketView) (actor next 
     (there : slice_get old.tickets number ≡ Some ticket)
     (t : IsTaking (stored_of actor) (stored_of next) number ticket goods) where
   is_here : ticket.receiver ≡ printer
-  is_here = t.is_for ∙ order.numbers printer actor was
+  is_here = t.takes.is_for ∙ order.numbers printer actor was
 
   -- the ticket was not taken before
   pub untaken : is_taken old.moves number ≡ false
@@ -138,7 +131,7 @@ module _ (old : Relay) (printer number : ℕ) (ticket : TicketView) (actor next 
         (sym (ap (λ (x : TicketView). x.receiver) same ∙ is_here)) was in
         let last = subst (λ (x : TicketView). IsSomeAnd (last_taken (stored_of actor).givers x.giver)
         (λ last. x.serial ≤ last)) same (noted.noted actor at) in
-        absurd (old_or_new (last_taken (stored_of actor).givers ticket.giver) ticket.serial last t.is_new)
+        absurd (old_or_new (last_taken (stored_of actor).givers ticket.giver) ticket.serial last t.takes.is_new)
     | inr none ↦ none
   ]
 
@@ -146,7 +139,7 @@ module _ (old : Relay) (printer number : ℕ) (ticket : TicketView) (actor next 
   taking_places n =
       let free = free_set old.printers printer n actor next was in
       let put = put_in (is_free (stored_of actor).free n) (is_in ticket.range n) (is_free (stored_of next).free n)
-      (t.takes.free.free n) (t.takes.free.were_taken n) in
+      (t.takes.free.free n) (t.takes.were_taken n) in
       let moves : gone (old.moves ++ goods.moves) n ≡ gone old.moves n + 0 =
       gone_more old.moves goods.moves n ∙ ap (λ (ms : List Move). gone old.moves n + gone ms n) t.moves_are in
       let tickets : on_tickets (old.moves ++ goods.moves) 0 (old.tickets ++ goods.tickets) n
@@ -174,7 +167,7 @@ module _ (old : Relay) (printer number : ℕ) (ticket : TicketView) (actor next 
             (eq-eqb ticket.giver giver same) in
             let before : IfSome (last_taken (stored_of actor).givers giver) (λ last. last < ticket.serial) =
             subst (λ (g : ℕ). IfSome (last_taken (stored_of actor).givers g) (λ last. last < ticket.serial)) same
-            t.is_new in
+            t.takes.is_new in
             subst (λ (o : Option ℕ). IsSomeAnd o (λ last. serial ≤ last)) (sym own)
             (later_last (last_taken (stored_of actor).givers giver) serial some before)
         | inr other ↦

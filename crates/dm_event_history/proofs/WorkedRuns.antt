@@ -1,6 +1,6 @@
 -- The worked runs, step by step.
-use Rattle.std.proofs.Common.{◌≡◌, ◌≤◌, ◌<◌, inl, inr, ℕ, Some, None, Option, List, [], ◌∷◌, Ok, Err, refl, sym, ap, subst, ◌∙◌, arith}
-use Rattle.std.specs.Prelude.{unwrap_or, slice_set, replicate}
+use Rattle.std.proofs.Common.{◌&&◌, ◌==◌, ◌≡◌, inl, inr, ℕ, Some, None, Option, Result, List, [], ◌∷◌, Ok, Err, refl, sym, ap, subst, ◌∙◌, arith, cond, not, nat_le}
+use Rattle.std.specs.Prelude.{◌<◌, unwrap_or, if◌then◌else◌, is_none}
 use Rattle.std.specs.FinMap as finite
 use Rattle.std.specs.FinMap.{get-empty, len-empty}
 use Rattle.std.specs.Ordering.{nat_cmp}
@@ -10,20 +10,21 @@ use Rattle.dm_symbol.specs.Symbols.{CarriesItsWords}
 use Rattle.dm_append_label.specs.Pages.{PageView}
 use Rattle.dm_print_ledger.specs.declared.giver.Giver.{Giver}
 use Rattle.dm_print_ledger.specs.declared.fault.TakeFault.TheVariants as take_fault
-use Rattle.dm_print_ledger.specs.Ranges.{AreFree, AreTaken, IsRange}
-use Rattle.dm_print_ledger.specs.Givers.{AreGivers}
-use Rattle.dm_print_ledger.specs.Ledger.{IsSound}
 use Rattle.dm_print_ledger.specs.Views.{LedgerView, TicketView}
 use Rattle.dm_print_ledger.specs.Creating.{opening}
-use Rattle.dm_print_ledger.specs.inner.Changes.{without}
-use Rattle.dm_print_ledger.proofs.OutLaws.{covered_free}
-use Rattle.dm_print_ledger.proofs.InLaws.{meets_none}
-use Rattle.dm_print_ledger.proofs.LedgerLaws.{gives_away, out_of, takes_in, joins_few}
+use Rattle.dm_assembly_desk.specs.declared.adding.AddFault.TheVariants as adds
 use Rattle.dm_assembly_desk.specs.declared.reply.Kind.TheVariants.{New, Again, Complete}
 use Rattle.dm_assembly_desk.specs.declared.fault.AskFault.TheVariants as ask_fault
 use Rattle.dm_assembly_desk.specs.Pages.{Pages}
-use Rattle.dm_assembly_desk.specs.Documents.{Documents, pages_with, with_page}
-use Rattle.dm_assembly_desk.specs.Answers.{Answer, answer, answer_at}
+use Rattle.dm_assembly_desk.specs.declared.adding.AddFault.{AddFault}
+use Rattle.dm_assembly_desk.specs.declared.reply.Accepted.{Accepted}
+use Rattle.dm_assembly_desk.specs.declared.reply.Imported as imported_type
+use Rattle.dm_assembly_desk.specs.declared.reply.Kind.{Kind}
+use Rattle.dm_assembly_desk.specs.Documents.{Documents}
+use Rattle.dm_assembly_desk.specs.Merging.{union_of, may_join, added_mask}
+use Rattle.dm_assembly_desk.specs.Accepting.{lone}
+use Rattle.dm_assembly_desk.specs.Adding.{add_kind, pages_with, verdict_by, with_pages, kind_of}
+use Rattle.dm_event_history.specs.declared.reply.Reply.{Reply}
 use Rattle.dm_assembly_desk.specs.Asking.{Asks}
 use Rattle.dm_event_history.specs.declared.reply.Reply.TheVariants.{Printed, Scanned, Document, AskRefused, Given, Taken, TakeRefused, Restarted, Stopped, PrinterRefused}
 use Rattle.dm_event_history.specs.declared.reply.Reply.TheVariants as replies
@@ -32,12 +33,12 @@ use Rattle.dm_event_history.proofs.HeldDocuments.{get_same}
 use Rattle.dm_event_history.specs.Actors.{Running, Down}
 use Rattle.dm_event_history.specs.Relay.{Desk, Goods, Relay, Took, nothing, with_desk, with_printer}
 use Rattle.dm_event_history.specs.Calls.{Answers, Course, LacksMemory, Saves, cut_off, ending}
-use Rattle.dm_event_history.specs.PrinterCalls.{SavesGive, SavesPrint, SavesTake}
-use Rattle.dm_event_history.specs.DeskCalls.{accepted, by_answer}
+use Rattle.dm_event_history.specs.PrinterCalls.{GiveComes, PrintComes, TakeComes}
 use Rattle.dm_event_history.specs.Runs.{Tells}
 use Rattle.dm_event_history.specs.Worked.{AreRuns, gathered, moved, one_printer, stopped_after, stopped_before, two_printers}
 use Rattle.dm_event_history.proofs.WorkedLabels.{first_are, first_are_1, first_are_5, first_page, first_words, first_words_1, first_words_5, opened_page, opens, second_are, second_are_1, second_are_5, second_page, second_words, second_words_1, second_words_5}
-use Rattle.dm_event_history.proofs.WorkedSteps.{both_labels, desk_goes, label, ledger, printer_goes, saves_print, sound, uses_first}
+use Rattle.dm_event_history.proofs.WorkedSteps.{both_labels, desk_goes, label, ledger, printer_goes, saves_print}
+use Rattle.dm_event_history.specs.DeskCalls.{verdict_course, page_reply}
 
 -- ---- prints that are stopped
 
@@ -57,16 +58,12 @@ abbrev labels_1 : Goods
 labels_1 = both_labels 1 first_words_1 second_words_1
 
 print_0 : {A : Type 0} (before : ℕ) →
-    SavesPrint {A = A} before digits Side12 Ascii fresh used_once labels_0 (Printed 0 before 2)
-print_0 {A} before = saves_print {A = A} before 0 fresh used_once first_words second_words
-    (uses_first 0 0 0 9 [] (range 1 9 ∷ []) (omega arith) (omega arith) tt (omega arith) refl) (omega arith)
-    first_are second_are
+    PrintComes {A = A} before digits Side12 Ascii fresh (Saves used_once labels_0 (Printed 0 before 2))
+print_0 before = saves_print before fresh used_once first_words second_words refl refl first_are second_are
 
 print_1 : {A : Type 0} (before : ℕ) →
-    SavesPrint {A = A} before digits Side12 Ascii used_once used_twice labels_1 (Printed 1 before 2)
-print_1 {A} before = saves_print {A = A} before 1 used_once used_twice first_words_1 second_words_1
-    (uses_first 0 0 1 9 [] (range 2 9 ∷ []) (omega arith) (omega arith) tt (omega arith) refl) (omega arith)
-    first_are_1 second_are_1
+    PrintComes {A = A} before digits Side12 Ascii used_once (Saves used_twice labels_1 (Printed 1 before 2))
+print_1 before = saves_print before used_once used_twice first_words_1 second_words_1 refl refl first_are_1 second_are_1
 
 abbrev cut_short : Relay
 cut_short = with_printer one_printer 0 (Down used_once) (cut_off 0 labels_0)
@@ -184,75 +181,21 @@ took_first = record { labels = []; tickets = []; exports = []; moves = Took 0 �
 abbrev labels_5 : Goods
 labels_5 = both_labels 5 first_words_5 second_words_5
 
-noted_rise : AreGivers noted
-noted_rise = (omega arith, tt)
-
 gives_first : {A : Type 0} (before : ℕ) →
-    SavesGive {A = A} before 1 (range 5 9) fresh given_once (a_ticket first_ticket) (Given before first_ticket)
-gives_first before =
-    let s : IsSound fresh = sound 0 0 0 9 [] (omega arith) (omega arith) tt (omega arith) in
-    let is : IsRange (range 5 9) = record { not_empty = omega arith; within = omega arith } in
-    let free : AreFree fresh.free (range 5 9) = covered_free fresh.free (range 5 9) refl in
-    let some : 5 ≤ 9 = omega arith in
-    record {
-      can = (
-        refl,
-        is,
-        (λ same. omega (arith, same)),
-        free,
-        (λ same. omega (arith, same)),
-        (without fresh.free (range 5 9), out_of fresh.free (range 5 9) s.ranges some free, omega arith),
-      );
-      gives = gives_away fresh (range 5 9) given_once s is free refl refl refl refl;
-      goods_are = refl;
-      reply_is = refl;
-    }
+    GiveComes {A = A} before 1 (range 5 9) fresh (Saves given_once (a_ticket first_ticket) (Given before first_ticket))
+gives_first before = (refl, (refl, (refl, refl)))
 
 gives_second : {A : Type 0} (before : ℕ) →
-    SavesGive {A = A} before 1 (range 0 1) given_once given_twice (a_ticket second_ticket) (Given before second_ticket)
-gives_second before =
-    let s : IsSound given_once = sound 0 1 0 4 [] (omega arith) (omega arith) tt (omega arith) in
-    let is : IsRange (range 0 1) = record { not_empty = omega arith; within = omega arith } in
-    let free : AreFree given_once.free (range 0 1) = covered_free given_once.free (range 0 1) refl in
-    let some : 0 ≤ 1 = omega arith in
-    record {
-      can = (
-        refl,
-        is,
-        (λ same. omega (arith, same)),
-        free,
-        (λ same. omega (arith, same)),
-        (without given_once.free (range 0 1), out_of given_once.free (range 0 1) s.ranges some free, omega arith),
-      );
-      gives = gives_away given_once (range 0 1) given_twice s is free refl refl refl refl;
-      goods_are = refl;
-      reply_is = refl;
-    }
+    GiveComes {A = A} before 1 (range 0 1) given_once
+    (Saves given_twice (a_ticket second_ticket) (Given before second_ticket))
+gives_second before = (refl, (refl, (refl, refl)))
 
-takes_first : {A : Type 0} → SavesTake {A = A} 0 first_ticket other_fresh taken took_first Taken
-takes_first =
-    let s : IsSound other_fresh = sound 1 0 10 19 [] (omega arith) (omega arith) tt (omega arith) in
-    let is : IsRange first_ticket.range = record { not_empty = omega arith; within = omega arith } in
-    let none : AreTaken other_fresh.free first_ticket.range = meets_none other_fresh.free first_ticket.range refl in
-    record {
-      can = (
-        refl,
-        (refl, (λ same. omega (arith, same))),
-        tt,
-        none,
-        joins_few other_fresh first_ticket s is none (omega arith),
-        (λ full. omega (arith, full.1)),
-      );
-      takes = takes_in other_fresh first_ticket taken s is none refl refl refl refl;
-      goods_are = refl;
-      reply_is = refl;
-    }
+takes_first : {A : Type 0} → TakeComes {A = A} 0 first_ticket other_fresh (Saves taken took_first Taken)
+takes_first = (refl, refl, (refl, (refl, refl)))
 
 print_5 : {A : Type 0} (before : ℕ) →
-    SavesPrint {A = A} before digits Side12 Ascii taken taken_used labels_5 (Printed 5 before 2)
-print_5 {A} before = saves_print {A = A} before 5 taken taken_used first_words_5 second_words_5
-    (uses_first 1 0 5 19 noted (range 6 19 ∷ []) (omega arith) (omega arith) noted_rise (omega arith) refl) (omega arith)
-    first_are_5 second_are_5
+    PrintComes {A = A} before digits Side12 Ascii taken (Saves taken_used labels_5 (Printed 5 before 2))
+print_5 before = saves_print before taken taken_used first_words_5 second_words_5 refl refl first_are_5 second_are_5
 
 abbrev given : Relay
 given = with_printer two_printers 0 (Running given_once) (a_ticket first_ticket)
@@ -301,7 +244,7 @@ moved_is A = (
           refl,
           printer_goes received 1 _ (Running taken) (ending (TakeRefused take_fault.Old) (Running taken) nothing) refl (
             Answers (TakeRefused take_fault.Old),
-            (take_fault.Old, (refl, (refl, (λ same. omega (arith, same))), omega arith), refl),
+            (refl, refl, (take_fault.Old, refl, refl)),
             refl,
           ),
         ),
@@ -342,31 +285,41 @@ abbrev none_held : Documents
 none_held = finite.empty
 
 abbrev half_held : Documents
-half_held = with_page none_held (second_page 0)
+half_held = with_pages none_held 0 (lone (second_page 0))
 
 abbrev all_held : Documents
-all_held = with_page half_held (first_page 0)
+all_held = with_pages half_held 0 (lone (first_page 0))
 
 none_at : (id : ℕ) → finite.get none_held id ≡ None
 none_at id = get-empty nat_cmp id
 
 half_at : finite.get half_held 0 ≡ Some (None ∷ Some (51 ∷ 52 ∷ []) ∷ [])
-half_at = get_same none_held 0 (pages_with none_held (second_page 0)) ∙
-    ap (λ (o : Option Pages). Some (slice_set (unwrap_or o (replicate 2 None)) 1 (Some (51 ∷ 52 ∷ [])))) (none_at 0)
+half_at = get_same none_held 0 (pages_with none_held 0 (lone (second_page 0))) ∙
+    ap (λ (o : Option Pages). Some (union_of (unwrap_or o []) (lone (second_page 0)))) (none_at 0)
 
 all_at : finite.get all_held 0 ≡ Some (Some (49 ∷ 50 ∷ []) ∷ Some (51 ∷ 52 ∷ []) ∷ [])
-all_at = get_same half_held 0 (pages_with half_held (first_page 0)) ∙
-    ap (λ (o : Option Pages). Some (slice_set (unwrap_or o (replicate 2 None)) 0 (Some (49 ∷ 50 ∷ [])))) half_at
+all_at = get_same half_held 0 (pages_with half_held 0 (lone (first_page 0))) ∙
+    ap (λ (o : Option Pages). Some (union_of (unwrap_or o []) (lone (first_page 0)))) half_at
 
-is_new : answer 4 none_held (second_page 0) ≡ Ok New
-is_new = ap (λ (o : Option Pages). answer_at 4 (finite.len none_held) (second_page 0) o) (none_at 0) ∙
-    ap (λ (n : ℕ). answer_at 4 n (second_page 0) None) (len-empty nat_cmp Pages)
+abbrev kind_by : Documents → ℕ → Pages → Option Pages → Result Kind AddFault
+kind_by held room given o =
+    if not (may_join o given) then Err adds.Conflict else
+    if added_mask (unwrap_or o []) given == 0 then Ok Again else
+    if is_none o && nat_le room (finite.len held) then Err adds.Full else
+    Ok (kind_of (union_of (unwrap_or o []) given))
 
-is_again : answer 4 half_held (second_page 0) ≡ Ok Again
-is_again = ap (λ (o : Option Pages). answer_at 4 (finite.len half_held) (second_page 0) o) half_at
+is_new : add_kind 4 none_held 0 (lone (second_page 0)) ≡ Ok New
+is_new = ap (λ (o : Option Pages). kind_by none_held 4 (lone (second_page 0)) o) (none_at 0) ∙
+    ap (λ (n : ℕ). cond (nat_le 4 n) (Err adds.Full) (Ok New)) (len-empty nat_cmp Pages)
 
-is_complete : answer 4 half_held (first_page 0) ≡ Ok Complete
-is_complete = ap (λ (o : Option Pages). answer_at 4 (finite.len half_held) (first_page 0) o) half_at
+is_again : add_kind 4 half_held 0 (lone (second_page 0)) ≡ Ok Again
+is_again = ap (λ (o : Option Pages). kind_by half_held 4 (lone (second_page 0)) o) half_at
+
+is_complete : add_kind 4 half_held 0 (lone (first_page 0)) ≡ Ok Complete
+is_complete = ap (λ (o : Option Pages). kind_by half_held 4 (lone (first_page 0)) o) half_at
+
+abbrev accepted : PageView → Kind → Accepted
+accepted page kind = record { id = page.id; m = page.m; n = page.n; kind = kind }
 
 abbrev desk_with : Documents → Desk
 desk_with held = record { room = 4; actor = Running held }
@@ -394,7 +347,8 @@ asked_other = with_desk asked 1 (desk_with none_held) nothing
 
 pub gathered_is : (A : Type 0) → CarriesItsWords Side12 → Tells one_printer (gathered A)
 gathered_is A law =
-    let By : Documents → PageView → Answer → Course A Documents = λ held page answer. by_answer held page answer in
+    let By : Documents → PageView → Result Kind AddFault → Course A Documents = λ held page judged.
+    verdict_course (page_reply page) (verdict_by held page.id (lone page) judged) in
     let first = opens (first_page 0) first_words first_are law A (omega arith) in
     let second = opens (second_page 0) second_words second_are law A (omega arith) in (
       labelled,

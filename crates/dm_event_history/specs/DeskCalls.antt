@@ -1,6 +1,6 @@
 -- What scans, forgets and imports come to, by what a desk holds, and what asks and exports are answered by what it
 -- shows.
-use Rattle.std.specs.Prelude.{◌≡◌, ◌⊎◌, ℕ, Option, Some, None, List, [], ◌∷◌, length, Result, Ok, Err, unwrap_or}
+use Rattle.std.specs.Prelude.{◌≡◌, ◌⊎◌, ℕ, Option, Some, None, List, [], ◌∷◌, length, Result, Ok, Err}
 use Rattle.std.specs.FinMap as finite
 use Rattle.dm_finder_frame.specs.Grids.{GridView}
 use Rattle.dm_append_label.specs.Pages.{PageView}
@@ -8,21 +8,25 @@ use Rattle.dm_append_label.specs.Opening.{LabelOpens}
 use Rattle.dm_append_label.specs.declared.opening.Opened.{Opened}
 use Rattle.dm_append_label.specs.declared.fault.LabelFault.{LabelFault}
 use Rattle.dm_append_label.specs.declared.fault.LabelFault.TheVariants as label_fault
-use Rattle.dm_assembly_desk.specs.declared.reply.Kind.{Kind}
-use Rattle.dm_assembly_desk.specs.declared.reply.Kind.TheVariants.{New, Again, Complete}
 use Rattle.dm_assembly_desk.specs.declared.reply.Accepted.{Accepted}
 use Rattle.dm_assembly_desk.specs.declared.reply.Imported as imported_type
+use Rattle.dm_assembly_desk.specs.declared.adding.AddFault.{AddFault}
+use Rattle.dm_assembly_desk.specs.declared.fault.ScanFault.{ScanFault}
 use Rattle.dm_assembly_desk.specs.declared.fault.ScanFault.TheVariants as scan_fault
 use Rattle.dm_assembly_desk.specs.declared.fault.AskFault.{AskFault}
+use Rattle.dm_assembly_desk.specs.declared.fault.ForgetFault.{ForgetFault}
 use Rattle.dm_assembly_desk.specs.declared.fault.ForgetFault.TheVariants as forget_fault
 use Rattle.dm_assembly_desk.specs.declared.fault.ExportFault.TheVariants as export_fault
+use Rattle.dm_assembly_desk.specs.declared.fault.ImportFault.{ImportFault}
 use Rattle.dm_assembly_desk.specs.declared.fault.ImportFault.TheVariants as import_fault
 use Rattle.dm_assembly_desk.specs.Pages.{Pages, mask}
-use Rattle.dm_assembly_desk.specs.Documents.{Documents, with_page}
-use Rattle.dm_assembly_desk.specs.Answers.{Answer, answer}
+use Rattle.dm_assembly_desk.specs.Documents.{Documents}
+use Rattle.dm_assembly_desk.specs.Holding.{Verdict, Stays, Becomes}
+use Rattle.dm_assembly_desk.specs.Adding.{add_verdict}
+use Rattle.dm_assembly_desk.specs.Accepting.{lone, scan_of}
+use Rattle.dm_assembly_desk.specs.Importing.{import_of}
+use Rattle.dm_assembly_desk.specs.Forgetting.{forget_verdict}
 use Rattle.dm_assembly_desk.specs.Asking.{Asks}
-use Rattle.dm_assembly_desk.specs.Importing.{ImportAnswer, import_answer, with_file}
-use Rattle.dm_assembly_desk.specs.Merging.{added_mask}
 use Rattle.dm_event_history.specs.declared.reply.Reply.{Reply}
 use Rattle.dm_event_history.specs.declared.reply.Reply.TheVariants.{Scanned, ScanRefused, Document, AskRefused, Forgotten, ForgetRefused, Exported, ExportRefused, Imported, ImportRefused}
 use Rattle.dm_event_history.specs.Relay.{Export, Goods, nothing}
@@ -37,6 +41,11 @@ IsSaving LacksMemory = ⊥
 abbrev pub MayBe : {A C : Type 0} → Course A C → Course A C → Type 0
 MayBe wanted course = (course ≡ wanted) ⊎ ((course ≡ LacksMemory) × IsSaving wanted)
 
+-- what a verdict comes to, where its answer is told so
+abbrev pub verdict_course : {A R : Type 0} → (R → Reply A) → Verdict R → Course A Documents
+verdict_course tells (Stays answer) = Answers (tells answer)
+verdict_course tells (Becomes next answer) = Saves next nothing (tells answer)
+
 -- ---- scans
 
 abbrev pub scan_faults : {A : Type 0} → Faults A
@@ -46,42 +55,24 @@ scan_faults = record {
   memory = ScanRefused scan_fault.Memory;
 }
 
-abbrev pub accepted : PageView → Kind → Accepted
-accepted page kind = record { id = page.id; m = page.m; n = page.n; kind = kind }
+abbrev pub scan_reply : {A : Type 0} → Result Accepted ScanFault → Reply A
+scan_reply (Ok accepted) = Scanned accepted
+scan_reply (Err fault) = ScanRefused fault
 
--- a page that is answered so
-abbrev pub by_answer : {A : Type 0} → Documents → PageView → Answer → Course A Documents
-by_answer held page (Ok Again) = Answers (Scanned (accepted page Again))
-by_answer held page (Ok New) = Saves (with_page held page) nothing (Scanned (accepted page New))
-by_answer held page (Ok Complete) = Saves (with_page held page) nothing (Scanned (accepted page Complete))
-by_answer held page (Err fault) = Answers (ScanRefused fault)
+-- of a page that is added
+abbrev pub page_reply : {A : Type 0} → PageView → Result imported_type.Imported AddFault → Reply A
+page_reply page added = scan_reply (scan_of page added)
 
--- what a scan comes to, by what its grid is read as
+-- what a scan comes to, by what its grid is read as: of the document its page alone is added
 abbrev pub scan_course : {A : Type 0} → ℕ → Documents → Result (Opened A) LabelFault → Course A Documents
-scan_course room held (Ok opened) = by_answer held opened.page (answer room held opened.page)
+scan_course room held (Ok opened) =
+    verdict_course (page_reply opened.page) (add_verdict room held opened.page.id (lone opened.page))
 scan_course room held (Err label_fault.Memory) = LacksMemory
 scan_course room held (Err fault) = Answers (ScanRefused (scan_fault.Label fault))
 
 abbrev pub ScanComes : {A : Type 0} → ℕ → GridView → Documents → Course A Documents → Type 0
 ScanComes {A} room grid held course =
     (read : Result (Opened A) LabelFault) × LabelOpens grid read × MayBe (scan_course room held read) course
-
--- ---- forgets
-
-abbrev pub forget_faults : {A : Type 0} → Faults A
-forget_faults = record {
-  failed = ForgetRefused forget_fault.Failed;
-  save = ForgetRefused forget_fault.Save;
-  memory = ForgetRefused forget_fault.Memory;
-}
-
--- what a forget comes to, by what is held of the document
-abbrev pub forget_course : {A : Type 0} → Documents → ℕ → Option Pages → Course A Documents
-forget_course held id None = Answers (ForgetRefused forget_fault.NotHeld)
-forget_course held id (Some pages) = Saves (finite.remove held id) nothing Forgotten
-
-abbrev pub ForgetComes : {A : Type 0} → ℕ → Documents → Course A Documents → Type 0
-ForgetComes id held course = MayBe (forget_course held id (finite.get held id)) course
 
 -- ---- imports
 
@@ -92,27 +83,34 @@ import_faults = record {
   memory = ImportRefused import_fault.Memory;
 }
 
--- it names the document, how many pages that has, and just those of the export that were not held
-abbrev pub imported : Documents → Export → Kind → imported_type.Imported
-imported held export kind = record {
-  id = export.id;
-  n = length export.pages;
-  added = added_mask (unwrap_or (finite.get held export.id) []) export.pages;
-  kind = kind;
-}
+abbrev pub import_reply : {A : Type 0} → Result imported_type.Imported ImportFault → Reply A
+import_reply (Ok imported) = Imported imported
+import_reply (Err fault) = ImportRefused fault
 
--- an export that is answered so
-abbrev pub by_import : {A : Type 0} → Documents → Export → ImportAnswer → Course A Documents
-by_import held export (Ok Again) = Answers (Imported (imported held export Again))
-by_import held export (Ok New) =
-    Saves (with_file held export.id export.pages) nothing (Imported (imported held export New))
-by_import held export (Ok Complete) =
-    Saves (with_file held export.id export.pages) nothing (Imported (imported held export Complete))
-by_import held export (Err fault) = Answers (ImportRefused fault)
+-- of pages that are added
+abbrev pub pages_reply : {A : Type 0} → Result imported_type.Imported AddFault → Reply A
+pages_reply added = import_reply (import_of added)
 
+-- what an import comes to: all pages of the export are added
 abbrev pub ImportComes : {A : Type 0} → ℕ → Export → Documents → Course A Documents → Type 0
 ImportComes room export held course =
-    MayBe (by_import held export (import_answer room held export.id export.pages)) course
+    MayBe (verdict_course pages_reply (add_verdict room held export.id export.pages)) course
+
+-- ---- forgets
+
+abbrev pub forget_faults : {A : Type 0} → Faults A
+forget_faults = record {
+  failed = ForgetRefused forget_fault.Failed;
+  save = ForgetRefused forget_fault.Save;
+  memory = ForgetRefused forget_fault.Memory;
+}
+
+abbrev pub forget_reply : {A : Type 0} → Result (Unit {0}) ForgetFault → Reply A
+forget_reply (Ok done) = Forgotten
+forget_reply (Err fault) = ForgetRefused fault
+
+abbrev pub ForgetComes : {A : Type 0} → ℕ → Documents → Course A Documents → Type 0
+ForgetComes id held course = MayBe (verdict_course forget_reply (forget_verdict held id)) course
 
 -- ---- asks and exports
 

@@ -1,39 +1,34 @@
--- What prints, gives and takes come to, by what a ledger has.
-use Rattle.std.specs.Prelude.{◌≡◌, ◌+◌, ℕ, false, None, List, [], ◌∷◌, length}
+-- What prints, gives and takes come to, by the verdict on a ledger.
+use Rattle.std.specs.Prelude.{◌≡◌, ◌+◌, ℕ, Option, None, Some, List, [], ◌∷◌, length, Result, Ok, Err, IsOk, IsSomeAnd, IsTrue, is_some}
 use Rattle.dm_check_blocks.specs.declared.size.Size.{Size}
 use Rattle.dm_encodation.specs.declared.scheme.Scheme.{Scheme}
 use Rattle.dm_append_label.specs.Pages.{PageView}
-use Rattle.dm_append_label.specs.Parts.{AreParts}
-use Rattle.dm_store.specs.Saved.{Saved, MemoryOpen, LoadsFine, SavesFine}
+use Rattle.dm_append_label.specs.Parts.{AreParts, HasNoEnds}
 use Rattle.dm_print_ledger.specs.declared.range.Range.{Range}
-use Rattle.dm_print_ledger.specs.declared.fault.PrintFault.{PrintFault}
 use Rattle.dm_print_ledger.specs.declared.fault.PrintFault.TheVariants as print_fault
-use Rattle.dm_print_ledger.specs.declared.fault.GiveFault.{GiveFault}
 use Rattle.dm_print_ledger.specs.declared.fault.GiveFault.TheVariants as give_fault
-use Rattle.dm_print_ledger.specs.declared.fault.TakeFault.{TakeFault}
 use Rattle.dm_print_ledger.specs.declared.fault.TakeFault.TheVariants as take_fault
-use Rattle.dm_print_ledger.specs.Views.{LedgerView, TicketView, PrinterView}
-use Rattle.dm_print_ledger.specs.Printing.{CanPrint, CannotPrint, IsLabelOf, Uses}
-use Rattle.dm_print_ledger.specs.Moving.{CanGive, CannotGive, CanTake, CannotTake, GivesAway, TakesIn, ticket_of}
+use Rattle.dm_print_ledger.specs.Changes.{least}
+use Rattle.dm_print_ledger.specs.Ledger.{is_sound}
+use Rattle.dm_print_ledger.specs.Printing.{IsLabelOf}
+use Rattle.dm_print_ledger.specs.Ranges.{is_range}
+use Rattle.dm_print_ledger.specs.Verdicts.{print_verdict, give_verdict, take_verdict, ticket_of}
+use Rattle.dm_print_ledger.specs.Views.{LedgerView, TicketView}
 use Rattle.dm_event_history.specs.declared.reply.Reply.{Reply}
 use Rattle.dm_event_history.specs.declared.reply.Reply.TheVariants.{Printed, PrintRefused, Given, GiveRefused, Taken, TakeRefused}
-use Rattle.dm_event_history.specs.Relay.{CutDocument}
-use Rattle.dm_event_history.specs.Relay.{Label, Goods, Used, Took}
+use Rattle.dm_event_history.specs.Relay.{CutDocument, Label, Goods, Used, Took}
 use Rattle.dm_event_history.specs.Calls.{Course, Saves, Answers, LacksMemory, Faults}
 
--- A printer that runs with this ledger. Only the ledger is looked at: the store is any.
-abbrev pub any_store : Saved
-any_store = record {
-  content = None;
-  is_honest = false;
-  is_durable = false;
-  memory_plan = MemoryOpen;
-  load_plan = LoadsFine;
-  save_plan = SavesFine;
-}
+-- What a verdict on a ledger comes to: it is saved and this leaves by it, or it is the answer.
+abbrev pub Comes : {A F : Type 0} → (F → Reply A) → Result LedgerView F → (Goods → Reply A → Type 0) →
+    Course A LedgerView → Type 0
+Comes refuses verdict Leaves (Saves next goods reply) = (verdict ≡ Ok next) × Leaves goods reply
+Comes {A} {F} refuses verdict Leaves (Answers reply) = (fault : F) × (verdict ≡ Err fault) × (reply ≡ refuses fault)
+Comes refuses verdict Leaves LacksMemory = IsOk verdict
 
-abbrev pub running : LedgerView → PrinterView
-running ledger = record { saved = any_store; ledger = ledger; is_failed = false; unsaved = None }
+-- a ledger that is stored is always sound
+abbrev pub IsStored : LedgerView → Type 0
+IsStored ledger = IsTrue (is_sound ledger)
 
 -- ---- prints
 
@@ -43,6 +38,11 @@ print_faults = record {
   save = PrintRefused print_fault.Save;
   memory = PrintRefused print_fault.Memory;
 }
+
+-- the document has these parts, or none
+abbrev pub IsCut : Size → Scheme → List ℕ → Option (List (List ℕ)) → Type 0
+IsCut size scheme document None = HasNoEnds size scheme document
+IsCut size scheme document (Some parts) = AreParts size scheme document parts
 
 -- it is the label of this page of the document
 pub record IsLabelFor (cut : CutDocument) (page : PageView) (label : Label) : Type 0 where
@@ -59,30 +59,25 @@ AreLabelsFor cut id m (part ∷ parts) (label ∷ labels) =
 AreLabelsFor cut id m [] (label ∷ labels) = ⊥
 AreLabelsFor cut id m (part ∷ parts) [] = ⊥
 
+-- all labels of the document leave under the least free number, which is used; so many left before
+pub record PrintLeaves {A : Type 0} (before : ℕ) (cut : CutDocument) (id : ℕ) (goods : Goods) (reply : Reply A)
+    : Type 0 where
+  pub labels : List Label
+  pub are_labels : AreLabelsFor cut id 1 cut.parts labels
+  pub goods_are : goods ≡ record { labels = labels; tickets = []; exports = []; moves = Used id ∷ [] }
+  pub reply_is : reply ≡ Printed id before (length cut.parts)
+
 -- the document in these parts
 abbrev pub cut_of : List ℕ → Size → Scheme → List (List ℕ) → CutDocument
 cut_of document size scheme parts = record { bytes = document; size = size; scheme = scheme; parts = parts }
 
--- The least free number is used, and all labels of the document leave under it. So many left before.
-pub record SavesPrint {A : Type 0} (before : ℕ) (document : List ℕ) (size : Size) (scheme : Scheme)
-    (old next : LedgerView) (goods : Goods) (reply : Reply A) : Type 0 where
-  pub can : CanPrint (running old) size scheme document
-  pub id : ℕ
-  pub used : Uses old id next
-  pub parts : List (List ℕ)
-  pub are_parts : AreParts size scheme document parts
-  pub labels : List Label
-  pub are_labels : AreLabelsFor (cut_of document size scheme parts) id 1 parts labels
-  pub goods_are : goods ≡ record { labels = labels; tickets = []; exports = []; moves = Used id ∷ [] }
-  pub reply_is : reply ≡ Printed id before (length parts)
-
 -- what a print comes to
 abbrev pub PrintComes : {A : Type 0} → ℕ → List ℕ → Size → Scheme → LedgerView → Course A LedgerView → Type 0
-PrintComes before document size scheme ledger (Saves next goods reply) =
-    SavesPrint before document size scheme ledger next goods reply
-PrintComes before document size scheme ledger (Answers reply) =
-    (fault : PrintFault) × CannotPrint (running ledger) size scheme document fault × (reply ≡ PrintRefused fault)
-PrintComes before document size scheme ledger LacksMemory = CanPrint (running ledger) size scheme document
+PrintComes before document size scheme ledger course =
+    IsStored ledger × (parts : Option (List (List ℕ))) × IsCut size scheme document parts
+    × Comes PrintRefused (print_verdict ledger (is_some parts)) (λ goods reply.
+    IsSomeAnd parts (λ parts. PrintLeaves before (cut_of document size scheme parts) (least ledger.free) goods reply))
+    course
 
 -- ---- gives
 
@@ -93,21 +88,12 @@ give_faults = record {
   memory = GiveRefused give_fault.Memory;
 }
 
--- The numbers leave by a ticket. So many tickets left before.
-pub record SavesGive {A : Type 0} (before : ℕ) (receiver : ℕ) (range : Range)
-    (old next : LedgerView) (goods : Goods) (reply : Reply A) : Type 0 where
-  pub can : CanGive (running old) receiver range
-  pub gives : GivesAway old range next
-  pub goods_are : goods ≡ record { labels = []; tickets = ticket_of old receiver range ∷ []; exports = []; moves = [] }
-  pub reply_is : reply ≡ Given before (ticket_of old receiver range)
-
--- what a give comes to
+-- what a give comes to: the numbers leave by a ticket; so many tickets left before
 abbrev pub GiveComes : {A : Type 0} → ℕ → ℕ → Range → LedgerView → Course A LedgerView → Type 0
-GiveComes before receiver range ledger (Saves next goods reply) =
-    SavesGive before receiver range ledger next goods reply
-GiveComes before receiver range ledger (Answers reply) =
-    (fault : GiveFault) × CannotGive (running ledger) receiver range fault × (reply ≡ GiveRefused fault)
-GiveComes before receiver range ledger LacksMemory = CanGive (running ledger) receiver range
+GiveComes before receiver range ledger course =
+    IsStored ledger × Comes GiveRefused (give_verdict ledger receiver range) (λ goods reply.
+    (goods ≡ record { labels = []; tickets = ticket_of ledger receiver range ∷ []; exports = []; moves = [] })
+    × (reply ≡ Given before (ticket_of ledger receiver range))) course
 
 -- ---- takes
 
@@ -118,17 +104,8 @@ take_faults = record {
   memory = TakeRefused take_fault.Memory;
 }
 
--- the numbers of the ticket, which left under this number, are free here
-pub record SavesTake {A : Type 0} (number : ℕ) (ticket : TicketView)
-    (old next : LedgerView) (goods : Goods) (reply : Reply A) : Type 0 where
-  pub can : CanTake (running old) ticket
-  pub takes : TakesIn old ticket next
-  pub goods_are : goods ≡ record { labels = []; tickets = []; exports = []; moves = Took number ∷ [] }
-  pub reply_is : reply ≡ Taken
-
--- what a take comes to
+-- what a take comes to: the numbers of the ticket, which left under this number, are free here
 abbrev pub TakeComes : {A : Type 0} → ℕ → TicketView → LedgerView → Course A LedgerView → Type 0
-TakeComes number ticket ledger (Saves next goods reply) = SavesTake number ticket ledger next goods reply
-TakeComes number ticket ledger (Answers reply) =
-    (fault : TakeFault) × CannotTake (running ledger) ticket fault × (reply ≡ TakeRefused fault)
-TakeComes number ticket ledger LacksMemory = CanTake (running ledger) ticket
+TakeComes number ticket ledger course =
+    IsStored ledger × IsTrue (is_range ticket.range) × Comes TakeRefused (take_verdict ledger ticket) (λ goods reply.
+    (goods ≡ record { labels = []; tickets = []; exports = []; moves = Took number ∷ [] }) × (reply ≡ Taken)) course

@@ -1,106 +1,621 @@
--- A call of a desk under a stop: it answers, it is stopped before or after its save, or it lacks memory.
-use Rattle.std.proofs.Common.{◌≡◌, ◌≢◌, ◌∙◌, false, inl, inr, refl, ap, subst}
+-- A call of a desk, as a world makes it, is one of the relay that it shows.
+use Rattle.std.proofs.Common.{◌≡◌, ◌≤◌, inl, inr, ℕ, zero, suc, Bool, true, false, List, [], Option, Some, None, IsSome, Result, Ok, Err, take, refl, sym, ap, subst, ◌∙◌}
+use Rattle.std.specs.Prelude.{option_map, is_none, if◌then◌else◌}
+use Rattle.std.specs.Prelude.{◌<◌, ◌+◌, cond, is_some}
+use Rattle.std.proofs.Common.{arith}
+use Rattle.std.specs.Cmp.{nat_cmp_total}
+use Rattle.std.specs.FinMap as finite
+use Rattle.std.specs.FinMap.{len-insert}
+use Rattle.dm_finder_frame.specs.Grids.{GridView}
+use Rattle.dm_append_label.specs.Opening.{LabelOpens}
+use Rattle.dm_append_label.specs.declared.opening.Opened.{Opened}
+use Rattle.dm_append_label.specs.declared.fault.LabelFault.{LabelFault}
+use Rattle.dm_append_label.specs.declared.fault.LabelFault.TheVariants as label_fault
+use Rattle.dm_assembly_desk.specs.declared.reply.Accepted.{Accepted}
+use Rattle.dm_assembly_desk.specs.declared.reply.Kind.TheVariants.{Again}
+use Rattle.dm_assembly_desk.specs.declared.reply.Imported as imported_type
+use Rattle.dm_assembly_desk.specs.declared.adding.AddFault.{AddFault}
+use Rattle.dm_assembly_desk.specs.declared.adding.AddFault.TheVariants as adds
+use Rattle.dm_assembly_desk.specs.declared.fault.ScanFault.{ScanFault}
+use Rattle.dm_assembly_desk.specs.declared.fault.ScanFault.TheVariants as scan_fault
+use Rattle.dm_assembly_desk.specs.declared.fault.ImportFault.{ImportFault}
+use Rattle.dm_assembly_desk.specs.declared.fault.ImportFault.TheVariants as import_fault
+use Rattle.dm_assembly_desk.specs.Adding.{add_verdict, pages_with, reply_of, with_pages}
+use Rattle.dm_assembly_desk.specs.Accepting.{AcceptsGrid, Scans, lone}
+use Rattle.dm_assembly_desk.specs.Importing.{ImportsBytes}
+use Rattle.dm_assembly_desk.proofs.AddLaws as laws
+use Rattle.dm_assembly_desk.proofs.Undoing.{get_here}
+use Rattle.dm_event_history.proofs.Adds as verdicts
+use Rattle.dm_store.specs.Saved.{Done, Faulted, Follows, Outcome, Refused}
+use Rattle.dm_store.specs.Settings.{save_plan_of}
+use Rattle.dm_store.specs.Sets.{Contents, SavedSet, Saves as SavesSet}
 use Rattle.dm_store.specs.declared.fuse.Kept.TheVariants.{Old, New}
 use Rattle.dm_store.specs.declared.mem_store.NextSave.{NextSave}
 use Rattle.dm_store.specs.declared.mem_store.NextSave.TheVariants as next_save
+use Rattle.dm_assembly_desk.specs.Pages.{Pages}
+use Rattle.dm_assembly_desk.specs.Files.{IsEntry, file}
+use Rattle.dm_assembly_desk.specs.Documents.{Documents, HoldsFiles}
+use Rattle.dm_assembly_desk.specs.Holding as holding
+use Rattle.dm_assembly_desk.specs.Holding.{Becomes, SavesDocument, Stays, Verdict, answer_by}
 use Rattle.dm_assembly_desk.specs.Views.{DeskView}
+use Rattle.dm_assembly_desk.specs.Forgetting.{Forgets, forget_verdict}
+use Rattle.dm_assembly_desk.specs.declared.fault.ForgetFault.{ForgetFault}
+use Rattle.dm_assembly_desk.specs.declared.fault.ForgetFault.TheVariants as forget_fault
+use Rattle.dm_assembly_desk.proofs.Saving.{few_remove}
 use Rattle.dm_event_history.specs.declared.reply.Reply.{Reply}
-use Rattle.dm_event_history.specs.declared.reply.Reply.TheVariants.{Stopped, Memory}
+use Rattle.dm_event_history.specs.declared.reply.Reply.TheVariants as replies
+use Rattle.dm_event_history.specs.declared.reply.Reply.TheVariants.{ForgetRefused, ImportRefused, ScanRefused}
 use Rattle.dm_event_history.specs.declared.stop.Stop.{Stop}
-use Rattle.dm_event_history.specs.declared.stop.Stop.TheVariants.{BeforeSave, InSave, SaveFault, AfterLabels}
 use Rattle.dm_event_history.specs.declared.stop.Stop.TheVariants as stops
-use Rattle.dm_event_history.specs.Saving.{IsStopping}
-use Rattle.dm_event_steps.specs.declared.actor.DeskState.{DeskState}
-use Rattle.dm_event_steps.specs.declared.actor.DeskState.TheVariants as desks
-use Rattle.dm_event_steps.specs.Acts.{IsCalled, next_save_of}
-use Rattle.dm_event_steps.specs.DeskActs.{CallActs, DeskLacksMemory, desk_planned}
-use Rattle.dm_event_world.specs.inner.Stopping.{stops_before}
-use Rattle.dm_event_world.specs.inner.DeskEvents.{IsMadeUnder}
+use Rattle.dm_event_history.specs.declared.stop.Stop.TheVariants.{BeforeSave, InSave, SaveFault, AfterLabels}
+use Rattle.dm_event_history.specs.Actors.{Actor, Running, Failed, Down, stored_of}
+use Rattle.dm_event_history.specs.Relay.{Export, Goods, nothing}
+use Rattle.dm_event_history.specs.Calls.{Answers, Calls, Course, Ending, Faults, LacksMemory, Looks, MayLackFirst, Saves, ending, ends}
+use Rattle.dm_event_history.specs.DeskCalls.{ForgetComes, ImportComes, MayBe, ScanComes, forget_faults, forget_reply, import_faults, import_reply, page_reply, pages_reply, scan_course, scan_faults, scan_reply, verdict_course}
+use Rattle.dm_event_world.specs.declared.actor.DeskState.{DeskState}
+use Rattle.dm_event_world.specs.declared.actor.DeskState.TheVariants as states
+use Rattle.dm_event_world.specs.declared.actor.LeftExport.{LeftExport}
+use Rattle.dm_event_world.specs.Shows.{DeskIs, IsReadySet, ShowsDesk}
+use Rattle.dm_event_world.specs.inner.Stops.{IsMadeUnder, next_save_of, stops_before}
+use Rattle.dm_event_world.specs.inner.Ends.{EndsEach, EndsSo, Left, ended, ended_reply, lacks_memory}
+use Rattle.dm_event_world.specs.inner.Desks.{Calling, desk_planned, down_desk}
+use Rattle.dm_event_world.proofs.Endings.{Ends, IsEmpty, TellsMemory, empty, finish, lacks_first, none_left, not_first, plain, reaches, stopped_before, unsaved_empty, with_goods}
+use Rattle.dm_event_world.proofs.Plans.{fine_desk, ready_set}
 
--- the plan is set, the call is made, and the plan is set back
-pub made_under : {X : Type 0} (Call : DeskView → X → DeskView → Type 0) (stop : Stop) (next : NextSave)
-    (old set : DeskView) (answer : X) (mid new : DeskView) → next ≡ next_save_of stop → set ≡ desk_planned old next →
-    Call set answer mid → new ≡ desk_planned mid next_save.Fine → IsMadeUnder Call stop old answer new
-made_under Call stop next old set answer mid new next_is set_is makes new_is = record {
+pub down_shows : {A : Type 0} (room : ℕ) (state : DeskState A) (shown : Actor Documents) → ShowsDesk room state shown →
+    ShowsDesk room (down_desk state) (Down (stored_of shown))
+down_shows room (states.Running view) (Running held) s = s.store
+down_shows room (states.Running view) (Failed held stored) s = s.store
+down_shows room (states.Running view) (Down stored) s = absurd s
+down_shows room (states.Down saved) (Running held) s = absurd s
+down_shows room (states.Down saved) (Failed held stored) s = absurd s
+down_shows room (states.Down saved) (Down stored) s = s
+
+-- what is shown of a desk whose call saved nothing
+same_again : (A : Type 0) (room : ℕ) (view mid : DeskView) (plan : NextSave) (shown : Actor Documents) →
+    ShowsDesk {A = A} room (states.Running view) shown → IsReadySet view.saved → mid ≡ desk_planned view plan →
+    ShowsDesk {A = A} room (states.Running (desk_planned mid next_save.Fine)) shown
+same_again A room view mid plan shown s ready same =
+    let back : desk_planned mid next_save.Fine ≡ view =
+    ap (λ (v : DeskView). desk_planned v next_save.Fine) same ∙ fine_desk view plan ready in
+    subst (λ (v : DeskView). ShowsDesk {A = A} room (states.Running v) shown) (sym back) s
+
+-- a call that answers without a save, under any plan
+answers_end : {A C S : Type 0} (Shows : S → Actor C → Type 0) (faults : Faults A) (stop : Stop) (old : Actor C)
+    (reply : Reply A) (state : S) → Shows state old → Ends Shows faults (plain stop) (Answers reply) old reply state
+answers_end Shows faults stops.None old reply state s = record { reply_is = refl; shows = s }
+answers_end Shows faults (SaveFault kept) old reply state s = record { reply_is = refl; shows = s }
+answers_end Shows faults BeforeSave old reply state s = record { reply_is = refl; shows = s }
+answers_end Shows faults (InSave kept) old reply state s = record { reply_is = refl; shows = s }
+answers_end Shows faults (AfterLabels most) old reply state s = record { reply_is = refl; shows = s }
+
+-- one whose memory is refused
+lacks_end : {A C S : Type 0} (Shows : S → Actor C → Type 0) (faults : Faults A) (stop : Stop) (old : Actor C)
+    (state : S) → Shows state old → Ends Shows faults (plain stop) LacksMemory old faults.memory state
+lacks_end Shows faults stops.None old state s = record { reply_is = refl; shows = s }
+lacks_end Shows faults (SaveFault kept) old state s = record { reply_is = refl; shows = s }
+lacks_end Shows faults BeforeSave old state s = record { reply_is = refl; shows = s }
+lacks_end Shows faults (InSave kept) old state s = record { reply_is = refl; shows = s }
+lacks_end Shows faults (AfterLabels most) old state s = record { reply_is = refl; shows = s }
+
+-- ---- a verdict that is carried out
+
+-- these documents fit; a document that is not among them was held; and it is told without a lack of memory
+pub record IsFit {A R : Type 0} (tells : R → Reply A) (room : ℕ) (held : Documents) (id : ℕ) (next : Documents)
+    (told : R) : Type 0 where
+  pub few : finite.len next ≤ room
+  pub there : finite.get next id ≡ None → IsSome (finite.get held id)
+  pub fine : lacks_memory (tells told) ≡ false
+
+abbrev pub Fits : {A R : Type 0} → (R → Reply A) → ℕ → Documents → ℕ → Verdict R → Type 0
+Fits tells room held id (Stays told) = lacks_memory (tells told) ≡ false
+Fits tells room held id (Becomes next told) = IsFit tells room held id next told
+
+-- a running desk that has not failed, after a call
+pub record Carried {A : Type 0} (faults : Faults A) (room : ℕ) (stop : Stop) (held : Documents)
+    (Comes : Course A Documents → Type 0) (reply : Reply A) (state : DeskState A) : Type 0 where
+  pub course : Course A Documents
+  pub comes : Comes course
+  pub tells : TellsMemory faults course
+  pub ends_so : Ends (ShowsDesk room) faults (plain stop) course (Running held) reply state
+  pub leaves : IsEmpty (ends faults stop course (Running held)).goods
+
+-- of what is saved nothing leaves either
+none_taken : {X : Type 0} (most : ℕ) → (let none : List X = [] in take most none ≡ none)
+none_taken zero = refl
+none_taken (suc n) = refl
+
+saved_empty : {A : Type 0} (faults : Faults A) (stop : Stop) (next : Documents) (reply : Reply A) (old : Actor Documents) →
+    IsEmpty (ends faults stop (Saves next nothing reply) old).goods
+saved_empty faults BeforeSave next reply old = empty
+saved_empty faults (InSave Old) next reply old = empty
+saved_empty faults (InSave New) next reply old = record { labels = none_taken 0; tickets = refl; exports = refl }
+saved_empty faults stops.None next reply old = empty
+saved_empty faults (SaveFault Old) next reply old = empty
+saved_empty faults (SaveFault New) next reply old = record { labels = none_taken 0; tickets = refl; exports = refl }
+saved_empty faults (AfterLabels most) next reply old = record { labels = none_taken most; tickets = refl; exports = refl }
+
+is_there : (content : Contents) (held : Documents) (id : ℕ) → HoldsFiles content held → IsSome (finite.get held id) →
+    IsSome (finite.get content id)
+is_there content held id h some = subst IsSome (sym (h.files id)) (mapped (finite.get held id) some)
+  where
+    mapped : (o : Option Pages) → IsSome o → IsSome (option_map (file id) o)
+    mapped None some = absurd cc
+    mapped (Some pages) some = refl
+
+-- the set was saved, whether a file or that there is none
+set_saved : (view : DeskView) (plan : NextSave) (id : ℕ) (o : Option Pages) (outcome : Outcome) (set : SavedSet) →
+    HoldsFiles view.saved.content view.held → (o ≡ None → IsSome (finite.get view.held id)) →
+    SavesDocument (desk_planned view plan).saved id o outcome set →
+    (content : Contents) × SavesSet (desk_planned view plan).saved content outcome set
+set_saved view plan id (Some pages) outcome set h there saves =
+    (finite.insert view.saved.content id (file id pages), saves)
+set_saved view plan id None outcome set h there saves = (
+  finite.remove view.saved.content id,
+  subst (λ (o : Outcome). SavesSet (desk_planned view plan).saved (finite.remove view.saved.content id) o set)
+      (sym saves.1) (saves.2.there (is_there view.saved.content view.held id h (there refl))),
+)
+
+module _ {A R : Type 0} (tells : R → Reply A) (failed : Reply A) (memory save : R) (id room : ℕ) where
+  abbrev faults : Faults A
+  faults = record { failed = failed; save = tells save; memory = tells memory }
+
+  stored : (view mid : DeskView) (plan : NextSave) (next : Documents) (told : R) →
+      DeskIs view room view.held view.held false → IsFit tells room view.held id next told →
+      holding.Ends id next Done (desk_planned view plan) mid →
+      DeskIs (desk_planned mid next_save.Fine) room next next false
+  stored view mid plan next told s fit e =
+      let saved = set_saved view plan id (finite.get next id) Done mid.saved s.store.holds fit.there e.saved in
+      let k = e.keeps s.store.ready.honest in
+      record {
+        store = record {
+          ready = ready_set view mid plan saved.0 Done s.store.ready saved.1;
+          holds = subst (λ (d : Documents). HoldsFiles mid.saved.content d) k.1 k.2;
+          is_room = s.store.is_room;
+          few = fit.few;
+        };
+        capacity = ap (λ (v : DeskView). v.capacity) e.shows ∙ s.capacity;
+        failed = ap (λ (v : DeskView). v.is_failed) e.shows ∙ s.failed;
+        held_is = ap (λ (v : DeskView). v.held) e.shows;
+      }
+
+  lost : (view mid : DeskView) (plan : NextSave) (next kept : Documents) (told : R) →
+      DeskIs view room view.held view.held false → IsFit tells room view.held id next told →
+      holding.Ends id next Faulted (desk_planned view plan) mid → HoldsFiles mid.saved.content kept →
+      finite.len kept ≤ room → DeskIs (desk_planned mid next_save.Fine) room view.held kept true
+  lost view mid plan next kept told s fit e holds few =
+      let saved = set_saved view plan id (finite.get next id) Faulted mid.saved s.store.holds fit.there e.saved in
+      record {
+        store = record {
+          ready = ready_set view mid plan saved.0 Faulted s.store.ready saved.1;
+          holds = holds;
+          is_room = s.store.is_room;
+          few = few;
+        };
+        capacity = ap (λ (v : DeskView). v.capacity) e.shows ∙ s.capacity;
+        failed = ap (λ (v : DeskView). v.is_failed) e.shows;
+        held_is = ap (λ (v : DeskView). v.held) e.shows;
+      }
+
+  follows : (view mid : DeskView) (plan : NextSave) (outcome : Outcome) (next : Documents) (told : R) →
+      DeskIs view room view.held view.held false → IsFit tells room view.held id next told →
+      holding.Ends id next outcome (desk_planned view plan) mid →
+      Follows (save_plan_of plan) outcome mid.saved.save_plan
+  follows view mid plan outcome next told s fit e =
+      (set_saved view plan id (finite.get next id) outcome mid.saved s.store.holds fit.there e.saved).1.follows
+
+  done_ends : (stop : Stop) (view mid : DeskView) (next : Documents) (told : R) →
+      DeskIs view room view.held view.held false → IsFit tells room view.held id next told →
+      holding.Ends id next Done (desk_planned view (next_save_of stop)) mid →
+      Ends (ShowsDesk {A = A} room) faults (plain stop) (Saves next nothing (tells told)) (Running view.held) (tells told)
+      (states.Running (desk_planned mid next_save.Fine))
+  done_ends stops.None view mid next told s fit e =
+      record { reply_is = refl; shows = stored view mid next_save.Fine next told s fit e }
+  done_ends BeforeSave view mid next told s fit e =
+      record { reply_is = refl; shows = stored view mid next_save.Fine next told s fit e }
+  done_ends (InSave kept) view mid next told s fit e =
+      record { reply_is = refl; shows = stored view mid next_save.Fine next told s fit e }
+  done_ends (AfterLabels most) view mid next told s fit e =
+      record { reply_is = refl; shows = stored view mid next_save.Fine next told s fit e }
+  done_ends (SaveFault Old) view mid next told s fit e =
+      absurd (follows view mid next_save.FaultOld Done next told s fit e)
+  done_ends (SaveFault New) view mid next told s fit e =
+      absurd (follows view mid next_save.FaultNew Done next told s fit e)
+
+  faulted_ends : (stop : Stop) (view mid : DeskView) (next : Documents) (told : R) →
+      DeskIs view room view.held view.held false → IsFit tells room view.held id next told →
+      holding.Ends id next Faulted (desk_planned view (next_save_of stop)) mid →
+      Ends (ShowsDesk {A = A} room) faults (plain stop) (Saves next nothing (tells told)) (Running view.held) (tells save)
+      (states.Running (desk_planned mid next_save.Fine))
+  faulted_ends stops.None view mid next told s fit e =
+      absurd (follows view mid next_save.Fine Faulted next told s fit e)
+  faulted_ends BeforeSave view mid next told s fit e =
+      absurd (follows view mid next_save.Fine Faulted next told s fit e)
+  faulted_ends (InSave kept) view mid next told s fit e =
+      absurd (follows view mid next_save.Fine Faulted next told s fit e)
+  faulted_ends (AfterLabels most) view mid next told s fit e =
+      absurd (follows view mid next_save.Fine Faulted next told s fit e)
+  faulted_ends (SaveFault Old) view mid next told s fit e =
+      (let k = e.keeps s.store.ready.honest in record {
+        reply_is = refl;
+        shows = lost view mid next_save.FaultOld next view.held told s fit e
+            (subst (λ (d : Documents). HoldsFiles mid.saved.content d) k.1 k.2) s.store.few;
+      })
+  faulted_ends (SaveFault New) view mid next told s fit e =
+      (let k = e.keeps s.store.ready.honest in record {
+        reply_is = refl;
+        shows = lost view mid next_save.FaultNew next next told s fit e
+            (subst (λ (d : Documents). HoldsFiles mid.saved.content d) k.1 k.2) fit.few;
+      })
+
+  module _ (memory_told : lacks_memory (tells memory) ≡ true) (stop : Stop) (view mid : DeskView) (answer : R)
+      (s : DeskIs view room view.held view.held false) where
+    abbrev State : DeskState A
+    State = states.Running (desk_planned mid next_save.Fine)
+
+    abbrev CarriedBy : Verdict R → R → Type 0
+    CarriedBy verdict given =
+        Carried faults room stop view.held (MayBe (verdict_course tells verdict)) (tells given) State
+
+    again : mid ≡ desk_planned view (next_save_of stop) → ShowsDesk room State (Running view.held)
+    again same = same_again A room view mid (next_save_of stop) (Running view.held) s s.store.ready same
+
+    pub carried : (verdict : Verdict R) → Fits tells room view.held id verdict →
+        holding.Carries memory save id verdict (desk_planned view (next_save_of stop)) answer mid →
+        CarriedBy verdict answer
+    carried (Stays told) fine does = subst (CarriedBy (Stays told)) (sym does.0) (record {
+      course = Answers (tells told);
+      comes = inl refl;
+      tells = fine;
+      ends_so = answers_end (ShowsDesk {A = A} room) faults stop (Running view.held) (tells told) State (again does.1);
+      leaves = unsaved_empty faults stop (Answers (tells told)) (Running view.held) tt;
+    })
+    carried (Becomes next told) fit does = by_outcome does.0 does.1 does.2
+      where
+        by_outcome : (outcome : Outcome) → answer ≡ answer_by told memory save outcome →
+            holding.Ends id next outcome (desk_planned view (next_save_of stop)) mid → CarriedBy (Becomes next told) answer
+        by_outcome Done is e = subst (CarriedBy (Becomes next told)) (sym is) (record {
+          course = Saves next nothing (tells told);
+          comes = inl refl;
+          tells = fit.fine;
+          ends_so = done_ends stop view mid next told s fit e;
+          leaves = saved_empty faults stop next (tells told) (Running view.held);
+        })
+        by_outcome Faulted is e = subst (CarriedBy (Becomes next told)) (sym is) (record {
+          course = Saves next nothing (tells told);
+          comes = inl refl;
+          tells = fit.fine;
+          ends_so = faulted_ends stop view mid next told s fit e;
+          leaves = saved_empty faults stop next (tells told) (Running view.held);
+        })
+        by_outcome Refused is e = subst (CarriedBy (Becomes next told)) (sym is) (record {
+          course = LacksMemory;
+          comes = inr (refl, tt);
+          tells = memory_told;
+          ends_so = lacks_end (ShowsDesk {A = A} room) faults stop (Running view.held) State (again e.shows);
+          leaves = unsaved_empty faults stop LacksMemory (Running view.held) tt;
+        })
+
+-- ---- a call that is made
+
+module _ {A X : Type 0} (faults : Faults A) (reply : X → Reply A) (failed_answer : X)
+    (Call : DeskView → X → DeskView → Type 0) (Comes : Documents → Course A Documents → Type 0) (room : ℕ) (stop : Stop)
+    (failed_told : reply failed_answer ≡ faults.failed) (failed_fine : lacks_memory faults.failed ≡ false)
+    (made : stops_before stop ≡ false) (view mid : DeskView) (answer : X)
+    (call : Calling failed_answer Call (desk_planned view (next_save_of stop)) answer mid)
+    (carry : DeskIs view room view.held view.held false → Call (desk_planned view (next_save_of stop)) answer mid →
+    Carried faults room stop view.held (Comes view.held) (reply answer)
+    (states.Running (desk_planned mid next_save.Fine))) where
+  abbrev Now : DeskState A
+  Now = states.Running (desk_planned mid next_save.Fine)
+
+  abbrev EndsAs : Actor Documents → Reply A → Type 0
+  EndsAs shown told = EndsSo (ShowsDesk room) (Calls faults stop Comes) IsEmpty shown (ended_reply stop told)
+      (ended down_desk stop told Now)
+
+  running_ends : DeskIs view room view.held view.held false → EndsAs (Running view.held) (reply answer)
+  running_ends s =
+      let c = carry s (call.done s.failed) in
+      let e = finish (ShowsDesk room) down_desk (down_shows room) faults stop c.course (Running view.held) (reply answer)
+      Now made c.tells c.ends_so in
+      record {
+        end = ends faults stop c.course (Running view.held);
+        acts = (c.course, reaches stop _ made c.comes, refl);
+        reply_is = e.reply_is;
+        shows = e.shows;
+        lets = c.leaves;
+      }
+
+  failed_ends : (held stored : Documents) → DeskIs view room held stored true → EndsAs (Failed held stored) (reply answer)
+  failed_ends held stored s =
+      let f = call.failed s.failed in
+      subst (EndsAs (Failed held stored)) (sym (ap reply f.0 ∙ failed_told)) (
+      let e = finish (ShowsDesk room) down_desk (down_shows room) faults stop (Answers faults.failed)
+      (Failed held stored) faults.failed Now made failed_fine
+      (answers_end (ShowsDesk {A = A} room) faults stop (Failed held stored) faults.failed Now
+      (same_again A room view mid (next_save_of stop) (Failed held stored) s s.store.ready f.1)) in
+      record {
+        end = ends faults stop (Answers faults.failed) (Failed held stored);
+        acts = refl;
+        reply_is = e.reply_is;
+        shows = e.shows;
+        lets = unsaved_empty faults stop (Answers faults.failed) (Failed held stored) tt;
+      })
+
+  pub call_ends : (shown : Actor Documents) → ShowsDesk {A = A} room (states.Running view) shown →
+      EndsAs shown (reply answer)
+  call_ends (Running held) s =
+      subst (λ (d : Documents). EndsAs (Running d) (reply answer)) s.held_is
+      (running_ends (subst (λ (d : Documents). DeskIs view room d d false) (sym s.held_is) s))
+  call_ends (Failed held stored) s = failed_ends held stored s
+  call_ends (Down stored) s = absurd s
+
+-- ---- whatever it shows
+
+abbrev pub NoneLeave : Type 0 → Goods → Type 0
+NoneLeave A goods = Left {A = A} [] [] [] goods [] [] []
+
+pub made_under : {X : Type 0} (failed_answer : X) (Call : DeskView → X → DeskView → Type 0) (stop : Stop)
+    (next : NextSave) (view before mid after : DeskView) (answer : X) → next ≡ next_save_of stop →
+    before ≡ desk_planned view next → Calling failed_answer Call before answer mid →
+    after ≡ desk_planned mid next_save.Fine → IsMadeUnder desk_planned stop (Calling failed_answer Call) view answer after
+made_under failed_answer Call stop next view before mid after answer next_is before_is call after_is = record {
   mid = mid;
-  makes = subst (λ (d : DeskView). Call d answer mid) (set_is ∙ ap (desk_planned old) next_is) makes;
-  new_is = new_is;
+  call = subst (λ (v : DeskView). Calling failed_answer Call v answer mid)
+      (before_is ∙ ap (λ (n : NextSave). desk_planned view n) next_is) call;
+  new_is = after_is;
 }
 
-pub call_answers : {A X : Type 0} (Call : DeskView → X → DeskView → Type 0) (reply_of : X → Reply A) (no_memory : X)
-    (stop : Stop) (old : DeskView) (answer : X) (new : DeskView) (reply : Reply A) (state : DeskState A) →
-    IsMadeUnder Call stop old answer new → IsCalled stop → reply ≡ reply_of answer → state ≡ desks.Running new →
-    CallActs Call reply_of no_memory old stop reply state
-call_answers Call reply_of no_memory stop old answer new reply state made called reply_is state_is = inl (record {
-  called = called;
-  answer = answer;
-  mid = made.mid;
-  reply_is = reply_is;
-  makes = made.makes;
-  state_is = state_is ∙ ap desks.Running made.new_is;
-})
-
-pub call_stops_after : {A X : Type 0} (Call : DeskView → X → DeskView → Type 0) (reply_of : X → Reply A) (no_memory : X)
-    (stop : Stop) (old : DeskView) (answer : X) (new : DeskView) (reply : Reply A) (state : DeskState A) →
-    IsMadeUnder Call stop old answer new → stops_before stop ≡ false → IsStopping stop → answer ≢ no_memory →
-    reply ≡ Stopped → state ≡ desks.Down new.saved → CallActs Call reply_of no_memory old stop reply state
-call_stops_after Call reply_of no_memory (InSave New) old answer new reply state made is stopping had reply_is down =
-    inr (inl (
-      reply_is,
-      (
-        made.mid,
-        (answer, had, made.makes),
-        down ∙
-            ap (λ (d : DeskView). desks.Down d.saved) made.new_is,
-      ),
-    ))
-call_stops_after Call reply_of no_memory (AfterLabels count) old answer new reply state made is stopping had
-    reply_is down =
-    inr (inl (
-      reply_is,
-      (
-        made.mid,
-        (answer, had, made.makes),
-        down ∙
-            ap (λ (d : DeskView). desks.Down d.saved) made.new_is,
-      ),
-    ))
-call_stops_after Call reply_of no_memory BeforeSave old answer new reply state made is stopping had reply_is down = cc
-call_stops_after Call reply_of no_memory (InSave Old) old answer new reply state made is stopping had reply_is down = cc
-call_stops_after Call reply_of no_memory stops.None old answer new reply state made is stopping had reply_is down =
-    absurd stopping
-call_stops_after Call reply_of no_memory (SaveFault kept) old answer new reply state made is stopping had
-    reply_is down =
-    absurd stopping
-
-pub call_lacks_memory : {A X : Type 0} (Call : DeskView → X → DeskView → Type 0) (reply_of : X → Reply A)
-    (no_memory : X)
-    (stop : Stop) (old : DeskView) (answer : X) (new : DeskView) (reply : Reply A) (state : DeskState A) →
-    IsMadeUnder Call stop old answer new → stops_before stop ≡ false → IsStopping stop → answer ≡ no_memory →
-    reply ≡ Memory → state ≡ desks.Running new → CallActs Call reply_of no_memory old stop reply state
-call_lacks_memory {A} {X} Call reply_of no_memory stop old answer new reply state made is stopping lacks reply_is
-    running =
-    inr (inr (reply_is, by_stop stop (subst (λ (x : X). IsMadeUnder Call stop old x new) lacks made) is stopping))
+-- a desk that is down
+pub down_ends : {A : Type 0} (room : ℕ) (exports : List (LeftExport A))
+    (Acts : Actor Documents → Ending A Documents → Type 0) →
+    ((stored : Documents) → Acts (Down stored) (ending replies.Down (Down stored) nothing)) → (state : DeskState A)
+    (saved : SavedSet) → state ≡ states.Down saved →
+    EndsEach (ShowsDesk room) Acts (λ goods. Left {A = A} [] [] exports goods [] [] exports) state replies.Down state
+down_ends {A} room exports Acts acts state saved is shown s =
+    by_shown shown (subst (λ (a : DeskState A). ShowsDesk room a shown) is s)
   where
-    by_stop : (stop : Stop) → IsMadeUnder Call stop old no_memory new → stops_before stop ≡ false → IsStopping stop →
-        DeskLacksMemory stop (λ mid. Call (desk_planned old next_save.Fine) no_memory mid) state
-    by_stop (InSave New) made is stopping =
-        record {
-          to_be_stopped = refl;
-          mid = made.mid;
-          call = made.makes;
-          state_is = running ∙
-              ap desks.Running made.new_is;
-        }
-    by_stop (AfterLabels count) made is stopping =
-        record {
-          to_be_stopped = refl;
-          mid = made.mid;
-          call = made.makes;
-          state_is = running ∙
-              ap desks.Running made.new_is;
-        }
-    by_stop BeforeSave made is stopping = cc
-    by_stop (InSave Old) made is stopping = cc
-    by_stop stops.None made is stopping = absurd stopping
-    by_stop (SaveFault kept) made is stopping = absurd stopping
+    by_shown : (shown : Actor Documents) → ShowsDesk {A = A} room (states.Down saved) shown →
+        EndsSo (ShowsDesk room) Acts (λ goods. Left {A = A} [] [] exports goods [] [] exports) shown replies.Down state
+    by_shown (Running held) s = absurd s
+    by_shown (Failed held stored) s = absurd s
+    by_shown (Down stored) s = record {
+      end = ending replies.Down (Down stored) nothing;
+      acts = acts stored;
+      reply_is = refl;
+      shows = subst (λ (a : DeskState A). ShowsDesk room a (Down stored)) (sym is) s;
+      lets = none_left [] [] exports nothing empty;
+    }
+
+-- one that runs is not down
+pub is_up : {A : Type 0} (room : ℕ) (state : DeskState A) (view : DeskView) → state ≡ states.Running view →
+    (stored : Documents) → ShowsDesk room state (Down stored) → ⊥
+is_up {A} room state view is stored s =
+    (subst (λ (a : DeskState A). ShowsDesk room a (Down stored)) is s)
+
+-- a call that is stopped before its save
+pub stopped_ends : {A : Type 0} (faults : Faults A) (Comes : Documents → Course A Documents → Type 0) (room : ℕ)
+    (stop : Stop) (state new : DeskState A) (view : DeskView) → state ≡ states.Running view → new ≡ down_desk (states.Running view) →
+    stops_before stop ≡ true →
+    EndsEach (ShowsDesk room) (Calls faults stop Comes) (NoneLeave A) state replies.Stopped new
+stopped_ends {A} faults Comes room stop state new view is new_is before shown s =
+    subst (λ (a : DeskState A). EndsSo (ShowsDesk room) (Calls faults stop Comes) (NoneLeave A) shown replies.Stopped a)
+    (sym (new_is ∙ sym (ap (λ (a : DeskState A). down_desk a) is)))
+    (with_goods (ShowsDesk room) (Calls faults stop Comes) (Calls faults stop Comes) IsEmpty (NoneLeave A) shown
+    replies.Stopped (down_desk state) (λ end acts. acts) (λ goods none. none_left [] [] [] goods none)
+    (stopped_before (ShowsDesk room) down_desk (down_shows room) faults Comes state (is_up room state view is) stop shown
+    before s))
+
+-- one that is made
+pub made_ends : {A X : Type 0} (faults : Faults A) (reply : X → Reply A) (failed_answer : X)
+    (Call : DeskView → X → DeskView → Type 0) (Comes : Documents → Course A Documents → Type 0) (room : ℕ) (stop : Stop) →
+    reply failed_answer ≡ faults.failed → lacks_memory faults.failed ≡ false →
+    stops_before stop ≡ false → (state new : DeskState A) (view after : DeskView) (answer : X) (told result : Reply A) →
+    state ≡ states.Running view → IsMadeUnder desk_planned stop (Calling failed_answer Call) view answer after →
+    told ≡ reply answer → result ≡ ended_reply stop told → new ≡ ended down_desk stop told (states.Running after) →
+    ((mid : DeskView) → DeskIs view room view.held view.held false →
+    Call (desk_planned view (next_save_of stop)) answer mid →
+    Carried faults room stop view.held (Comes view.held) (reply answer)
+    (states.Running (desk_planned mid next_save.Fine))) →
+    EndsEach (ShowsDesk room) (Calls faults stop Comes) (NoneLeave A) state result new
+made_ends {A} {X} faults reply failed_answer Call Comes room stop failed_told failed_fine made state new view after answer
+    told result is under told_is result_is new_is carry shown s =
+    with_goods (ShowsDesk room) (Calls faults stop Comes) (Calls faults stop Comes) IsEmpty (NoneLeave A) shown
+    result new (λ end acts. acts) (λ goods none. none_left [] [] [] goods none)
+    (subst (λ (r : Reply A). EndsSo (ShowsDesk room) (Calls faults stop Comes) IsEmpty shown r new)
+    (sym (result_is ∙ ap (λ (t : Reply A). ended_reply stop t) told_is))
+    (subst (λ (a : DeskState A). EndsSo (ShowsDesk room) (Calls faults stop Comes) IsEmpty shown
+    (ended_reply stop (reply answer)) a) (sym same)
+    (call_ends faults reply failed_answer Call Comes room stop failed_told failed_fine made view under.mid answer under.call
+    (carry under.mid) shown (subst (λ (a : DeskState A). ShowsDesk room a shown) is s))))
+  where
+    same : new ≡ ended down_desk stop (reply answer) (states.Running (desk_planned under.mid next_save.Fine))
+    same = new_is ∙ ap (λ (t : Reply A). ended down_desk stop t (states.Running after)) told_is ∙
+        ap (λ (v : DeskView). ended down_desk stop (reply answer) (states.Running v)) under.new_is
+
+-- ---- forgets
+
+forget_fits : (A : Type 0) (room : ℕ) (held : Documents) (id : ℕ) → finite.len held ≤ room →
+    Fits (forget_reply {A = A}) room held id (forget_verdict held id)
+forget_fits A room held id few = by_there (finite.get held id) refl
+  where
+    by_there : (o : Option Pages) → finite.get held id ≡ o → Fits (forget_reply {A = A}) room held id
+        (if is_none o then Stays (Err forget_fault.NotHeld) else Becomes (finite.remove held id) (Ok tt))
+    by_there None is = refl
+    by_there (Some pages) is = record {
+      few = few_remove held id room few;
+      there = λ _. subst IsSome (sym is) refl;
+      fine = refl;
+    }
+
+pub forget_carried : {A : Type 0} (id room : ℕ) (stop : Stop) (view : DeskView)
+    (answer : Result (Unit {0}) ForgetFault) (mid : DeskView) → DeskIs view room view.held view.held false →
+    Forgets id (desk_planned view (next_save_of stop)) answer mid →
+    Carried forget_faults room stop view.held (ForgetComes {A = A} id view.held) (forget_reply answer)
+    (states.Running (desk_planned mid next_save.Fine))
+forget_carried {A} id room stop view answer mid s does =
+    carried forget_reply (ForgetRefused forget_fault.Failed) (Err forget_fault.Memory) (Err forget_fault.Save) id
+    room refl stop view mid answer s (forget_verdict view.held id) (forget_fits A room view.held id s.store.few) does
+
+-- ---- pages that are added
+
+few_insert : (o : Option Pages) (n room : ℕ) → n ≤ room → (o ≡ None → n < room) → cond (is_some o) n (n + 1) ≤ room
+few_insert None n room le more = omega (arith, more refl)
+few_insert (Some pages) n room le more = le
+
+no_none : (o : Option Pages) (pages : Pages) → o ≡ Some pages → o ≡ None → ⊥
+no_none None pages is none = cc (is)
+no_none (Some own) pages is none = cc (none)
+
+add_fits : {A : Type 0} (tells : Result imported_type.Imported AddFault → Reply A) →
+    lacks_memory (tells (Err adds.Conflict)) ≡ false → lacks_memory (tells (Err adds.Full)) ≡ false →
+    ((done : imported_type.Imported) → lacks_memory (tells (Ok done)) ≡ false) → (room : ℕ) (held : Documents) (id : ℕ)
+    (pages : Pages) → finite.len held ≤ room → Fits tells room held id (add_verdict room held id pages)
+add_fits {A} tells conflict full well room held id pages few =
+    verdicts.by_verdict (Fits tells room held id) room held id pages
+    (λ fault is. verdicts.add_refuses (λ (f : AddFault). lacks_memory (tells (Err f)) ≡ false) room held id pages fault
+    (λ own at why. conflict) (λ none filled. full) is)
+    (λ is. well (reply_of held id pages Again))
+    (λ kind other is. record {
+      few = rw (len-insert nat_cmp_total held id (pages_with held id pages))
+          (few_insert (finite.get held id) (finite.len held) room few (laws.room room held id pages kind is other));
+      there = λ none. absurd (no_none (finite.get (with_pages held id pages) id) (pages_with held id pages)
+          (get_here held id (pages_with held id pages)) none);
+      fine = well (reply_of held id pages kind);
+    })
+
+-- an import of the file of these pages
+pub import_carried : {A : Type 0} (export : Export) → IsEntry export.id export.pages → (bytes : List ℕ) →
+    bytes ≡ file export.id export.pages → (room : ℕ) (stop : Stop) (view : DeskView)
+    (answer : Result imported_type.Imported ImportFault) (mid : DeskView) → DeskIs view room view.held view.held false →
+    ImportsBytes bytes (desk_planned view (next_save_of stop)) answer mid →
+    Carried import_faults room stop view.held (ImportComes {A = A} room export view.held) (import_reply answer)
+    (states.Running (desk_planned mid next_save.Fine))
+import_carried {A} export entry bytes bytes_are room stop view answer mid s does =
+    let i = does.spelled export.id export.pages (record { sound = entry; spelled = bytes_are }) in
+    subst (λ (r : Result imported_type.Imported ImportFault). Carried import_faults room stop view.held
+    (ImportComes {A = A} room export view.held) (import_reply r) (states.Running (desk_planned mid next_save.Fine)))
+    (sym i.1)
+    (carried pages_reply (ImportRefused import_fault.Failed) (Err adds.Memory) (Err adds.Save) export.id room
+    refl stop view mid i.0 s (add_verdict room view.held export.id export.pages)
+    (add_fits pages_reply refl refl (λ done. refl) room view.held export.id export.pages s.store.few)
+    (subst (λ (c : ℕ). holding.Carries (Err adds.Memory) (Err adds.Save) export.id
+    (add_verdict c view.held export.id export.pages) (desk_planned view (next_save_of stop)) i.0 mid) s.capacity i.2))
+
+abbrev Scanned : Type 0 → GridView → ℕ → Stop → DeskView → DeskView → Result Accepted ScanFault → Type 0
+Scanned A grid room stop view mid r = Carried scan_faults room stop view.held (ScanComes {A = A} room grid view.held)
+    (scan_reply r) (states.Running (desk_planned mid next_save.Fine))
+
+-- a scan
+pub scan_carried : {A : Type 0} (grid : GridView) (room : ℕ) (stop : Stop) (view : DeskView)
+    (answer : Result Accepted ScanFault) (mid : DeskView) → DeskIs view room view.held view.held false →
+    AcceptsGrid A grid (desk_planned view (next_save_of stop)) answer mid →
+    Carried scan_faults room stop view.held (ScanComes {A = A} room grid view.held) (scan_reply answer)
+    (states.Running (desk_planned mid next_save.Fine))
+scan_carried {A} grid room stop view answer mid s does = by_read does.opened does.label does.scans
+  where
+    again : mid ≡ desk_planned view (next_save_of stop) →
+        ShowsDesk {A = A} room (states.Running (desk_planned mid next_save.Fine)) (Running view.held)
+    again same = same_again A room view mid (next_save_of stop) (Running view.held) s s.store.ready same
+
+    refused : (f : LabelFault) → LabelOpens {A = A} grid (Err f) →
+        Answers (ScanRefused (scan_fault.Label f)) ≡ scan_course {A = A} room view.held (Err f) →
+        answer ≡ Err (scan_fault.Label f) → mid ≡ desk_planned view (next_save_of stop) → Scanned A grid room stop view mid answer
+    refused f label course_is answer_is same = subst (Scanned A grid room stop view mid) (sym answer_is) (record {
+      course = Answers (ScanRefused (scan_fault.Label f));
+      comes = (Err f, label, inl course_is);
+      tells = refl;
+      ends_so = answers_end (ShowsDesk {A = A} room) scan_faults stop (Running view.held)
+          (ScanRefused (scan_fault.Label f)) (states.Running (desk_planned mid next_save.Fine)) (again same);
+      leaves = unsaved_empty scan_faults stop (Answers (ScanRefused (scan_fault.Label f))) (Running view.held) tt;
+    })
+
+    by_read : (read : Result (Opened A) LabelFault) → LabelOpens grid read →
+        Scans read (desk_planned view (next_save_of stop)) answer mid → Scanned A grid room stop view mid answer
+    by_read (Ok opened) label scans =
+        let c = carried (page_reply {A = A} opened.page) (ScanRefused scan_fault.Failed) (Err adds.Memory)
+        (Err adds.Save) opened.page.id room refl stop view mid scans.0 s
+        (add_verdict room view.held opened.page.id (lone opened.page))
+        (add_fits (page_reply {A = A} opened.page) refl refl (λ done. refl) room view.held opened.page.id
+        (lone opened.page) s.store.few)
+        (subst (λ (c : ℕ). holding.Carries (Err adds.Memory) (Err adds.Save) opened.page.id
+        (add_verdict c view.held opened.page.id (lone opened.page)) (desk_planned view (next_save_of stop)) scans.0 mid)
+        s.capacity scans.2) in
+        subst (Scanned A grid room stop view mid) (sym scans.1) (record {
+          course = c.course;
+          comes = (Ok opened, label, c.comes);
+          tells = c.tells;
+          ends_so = c.ends_so;
+          leaves = c.leaves;
+        })
+    by_read (Err label_fault.Memory) label scans = subst (Scanned A grid room stop view mid) (sym scans.0) (record {
+      course = LacksMemory;
+      comes = (Err label_fault.Memory, label, inl refl);
+      tells = refl;
+      ends_so = lacks_end (ShowsDesk {A = A} room) scan_faults stop (Running view.held)
+          (states.Running (desk_planned mid next_save.Fine)) (again scans.1);
+      leaves = unsaved_empty scan_faults stop LacksMemory (Running view.held) tt;
+    })
+    by_read (Err (label_fault.Border wrong)) label scans =
+        refused (label_fault.Border wrong) label refl scans.0 scans.1
+    by_read (Err (label_fault.Block block)) label scans =
+        refused (label_fault.Block block) label refl scans.0 scans.1
+    by_read (Err label_fault.NotAppended) label scans = refused label_fault.NotAppended label refl scans.0 scans.1
+    by_read (Err (label_fault.Sequence word)) label scans =
+        refused (label_fault.Sequence word) label refl scans.0 scans.1
+    by_read (Err label_fault.FileId) label scans = refused label_fault.FileId label refl scans.0 scans.1
+    by_read (Err (label_fault.Content fault)) label scans =
+        refused (label_fault.Content fault) label refl scans.0 scans.1
+
+-- ---- memory that is asked for first
+
+pub not_lacking : {A : Type 0} (room : ℕ) (Acts : Actor Documents → Ending A Documents → Type 0) (Q : Goods → Type 0)
+    (state new : DeskState A) (reply : Reply A) → EndsEach (ShowsDesk room) Acts Q state reply new →
+    EndsEach (ShowsDesk room) (MayLackFirst Acts) Q state reply new
+not_lacking room Acts Q state new reply each shown s =
+    with_goods (ShowsDesk room) Acts (MayLackFirst Acts) Q Q shown reply new (λ end acts. not_first Acts shown end acts)
+    (λ goods l. l) (each shown s)
+
+pub lacking : {A : Type 0} (room : ℕ) (exports : List (LeftExport A))
+    (Acts : Actor Documents → Ending A Documents → Type 0) (state new : DeskState A) (view : DeskView) →
+    state ≡ states.Running view → state ≡ new → EndsEach (ShowsDesk room) (MayLackFirst Acts)
+    (λ goods. Left {A = A} [] [] exports goods [] [] exports) state replies.Memory new
+lacking {A} room exports Acts state new view is same shown s =
+    subst (λ (a : DeskState A). EndsSo (ShowsDesk room) (MayLackFirst Acts)
+    (λ goods. Left {A = A} [] [] exports goods [] [] exports) shown replies.Memory a) same
+    (with_goods (ShowsDesk room) (MayLackFirst Acts) (MayLackFirst Acts) IsEmpty
+    (λ goods. Left {A = A} [] [] exports goods [] [] exports) shown replies.Memory state (λ end acts. acts)
+    (λ goods none. none_left [] [] exports goods none)
+    (lacks_first (ShowsDesk room) Acts state (is_up room state view is) shown s))
+
+pub scan_of_flipped : {A : Type 0} (scanned grid : GridView) (room : ℕ) (stop : Stop) (view : DeskView)
+    (answer : Result Accepted ScanFault) (mid : DeskView) → scanned ≡ grid → DeskIs view room view.held view.held false →
+    AcceptsGrid A scanned (desk_planned view (next_save_of stop)) answer mid → Scanned A grid room stop view mid answer
+scan_of_flipped {A} scanned grid room stop view answer mid is s does =
+    scan_carried grid room stop view answer mid s
+    (subst (λ (g : GridView). AcceptsGrid A g (desk_planned view (next_save_of stop)) answer mid) is does)
+
+-- an ask
+pub looks_end : {A : Type 0} (room : ℕ) (Tells : Documents → Reply A → Goods → Type 0) (state : DeskState A)
+    (view : DeskView) (reply : Reply A) → state ≡ states.Running view → Tells view.held reply nothing →
+    EndsEach (ShowsDesk room) (Looks Tells) (NoneLeave A) state reply state
+looks_end {A} room Tells state view reply is tells shown s =
+    by_shown shown s (subst (λ (a : DeskState A). ShowsDesk room a shown) is s)
+  where
+    by_shown : (shown : Actor Documents) → ShowsDesk room state shown → ShowsDesk {A = A} room (states.Running view) shown →
+        EndsSo (ShowsDesk room) (Looks Tells) (NoneLeave A) shown reply state
+    by_shown (Running held) s d = record {
+      end = ending reply (Running held) nothing;
+      acts = (subst (λ (h : Documents). Tells h reply nothing) d.held_is tells, refl);
+      reply_is = refl;
+      shows = s;
+      lets = none_left [] [] [] nothing empty;
+    }
+    by_shown (Failed held stored) s d = record {
+      end = ending reply (Failed held stored) nothing;
+      acts = (subst (λ (h : Documents). Tells h reply nothing) d.held_is tells, refl);
+      reply_is = refl;
+      shows = s;
+      lets = none_left [] [] [] nothing empty;
+    }
+    by_shown (Down stored) s d = absurd d

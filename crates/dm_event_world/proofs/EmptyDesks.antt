@@ -11,15 +11,18 @@ use Rattle.dm_store.specs.Sets.{SavedSet, Contents}
 use Rattle.dm_assembly_desk.specs.Pages.{Pages}
 use Rattle.dm_assembly_desk.specs.Files.{file}
 use Rattle.dm_assembly_desk.specs.Documents.{Documents, AreEntries, HoldsFiles}
-use Rattle.dm_assembly_desk.specs.Views.{DeskView, IsCapacity}
+use Rattle.dm_assembly_desk.specs.Views.{DeskView}
 use Rattle.dm_assembly_desk.specs.Opening.{Opens}
-use Rattle.dm_event_steps.specs.declared.actor.DeskActor.{DeskActor}
-use Rattle.dm_event_steps.specs.declared.actor.DeskState.{DeskState}
-use Rattle.dm_event_steps.specs.declared.actor.DeskState.TheVariants.{Running, Down}
-use Rattle.dm_event_steps.specs.Beginning.{AreEmpty, IsEmptyDesk}
-use Rattle.dm_event_steps.specs.Ready.{IsReadySet}
-use Rattle.dm_event_steps.specs.DeskActs.{desk_saved}
-use Rattle.dm_event_world.specs.inner.Ready.{AreDesksReady}
+use Rattle.dm_event_world.specs.declared.actor.DeskActor.{DeskActor}
+use Rattle.dm_event_world.specs.declared.actor.DeskState.{DeskState}
+use Rattle.dm_event_world.specs.declared.actor.DeskState.TheVariants.{Running, Down}
+use Rattle.dm_event_history.specs.Actors as actors
+use Rattle.dm_event_world.specs.Shows.{IsReadySet, ShowsDesk}
+use Rattle.dm_event_world.specs.inner.Desks.{AreEmpty}
+
+-- the desk is empty, and has this room
+abbrev pub IsEmptyDesk : {A : Type 0} → ℕ → DeskState A → Type 0
+IsEmptyDesk capacity state = ShowsDesk capacity state (actors.Running map.empty)
 
 -- a set that holds nothing
 abbrev pub empty_set : SavedSet
@@ -42,31 +45,34 @@ no_files = record {
 }
 
 -- a desk that was opened on it holds nothing
-pub opened_empty : (set : SavedSet) (capacity : ℕ) (view : DeskView) → set ≡ empty_set → IsCapacity capacity →
+pub opened_empty : (A : Type 0) (set : SavedSet) (capacity : ℕ) (view : DeskView) → set ≡ empty_set →
     Opens set capacity view →
-    ((held : Documents) → IsTrue set.is_honest → HoldsFiles set.content held → IsCapacity capacity →
-    map.len held ≤ capacity → view.held ≡ held) →
-    IsReadySet view.saved × (view.is_failed ≡ false) × (view.capacity ≡ capacity) × (view.held ≡ map.empty)
-    × HoldsFiles view.saved.content map.empty
-opened_empty set capacity view is room opens found =
+    ((held : Documents) → IsTrue set.is_honest → HoldsFiles set.content held → view.held ≡ held) →
+    (let state : DeskState A = Running view in IsEmptyDesk capacity state)
+opened_empty A set capacity view is opens found =
     let set_is : view.saved ≡ empty_set = opens.same ∙ is in
     let content : set.content ≡ map.empty = ap (λ (s : SavedSet). s.content) is in
     let nothing : Documents = map.empty in
-    let few : map.len nothing ≤ capacity = (let l = len-empty nat_cmp Pages in omega arith) in (
-      subst IsReadySet (sym set_is) (record { honest = refl; loads_fine = refl; saves_fine = refl }),
-      opens.running,
-      opens.capacity_is,
-      found map.empty (ap (λ (s : SavedSet). s.is_honest) is)
-          (subst (λ (c : Contents). HoldsFiles c map.empty) (sym content) no_files) room few,
-      subst (λ (s : SavedSet). HoldsFiles s.content map.empty) (sym set_is) no_files,
-    )
+    let few : map.len nothing ≤ capacity = (let l = len-empty nat_cmp Pages in omega arith) in
+    record {
+      store = record {
+        ready = subst IsReadySet (sym set_is) (record { honest = refl; loads_fine = refl; saves_fine = refl });
+        holds = subst (λ (s : SavedSet). HoldsFiles s.content map.empty) (sym set_is) no_files;
+        is_room = opens.room;
+        few = few;
+      };
+      capacity = opens.capacity_is;
+      failed = opens.running;
+      held_is = found map.empty (ap (λ (s : SavedSet). s.is_honest) is)
+          (subst (λ (c : Contents). HoldsFiles c map.empty) (sym content) no_files);
+    }
 
 -- there is an empty desk for each of the first capacities, that many
 pub record AreOpened {A : Type 0} (capacities : List ℕ) (count : ℕ) (desks : List (DeskActor A)) : Type 0 where
   pub count_is : length desks ≡ count
   pub each : (desk capacity : ℕ) (actor : DeskActor A) →
       slice_get capacities desk ≡ Some capacity → slice_get desks desk ≡ Some actor →
-      IsCapacity capacity × (actor.capacity ≡ capacity) × IsEmptyDesk capacity actor.state
+      (actor.capacity ≡ capacity) × IsEmptyDesk capacity actor.state
 
 -- what is among a list and one more
 among_more : {X : Type 0} (xs : List X) (x y : X) (i : ℕ) → slice_get (xs ++ x ∷ []) i ≡ Some y →
@@ -81,9 +87,9 @@ among_more (z ∷ zs) x y (suc i) is = elim (among_more zs x y i is) [
 
 pub one_more_opened : {A : Type 0} (capacities : List ℕ) (count capacity : ℕ) (desks all : List (DeskActor A))
     (actor : DeskActor A) → count < length capacities → capacity ≡ get_or capacities count 0 →
-    IsCapacity capacity → actor.capacity ≡ capacity → IsEmptyDesk capacity actor.state →
+    actor.capacity ≡ capacity → IsEmptyDesk capacity actor.state →
     all ≡ desks ++ actor ∷ [] → AreOpened capacities count desks → AreOpened capacities (count + 1) all
-one_more_opened {A} capacities count capacity desks all actor there is room same empty all_is opened =
+one_more_opened {A} capacities count capacity desks all actor there is same empty all_is opened =
     subst (λ (l : List (DeskActor A)). AreOpened capacities (count + 1) l) (sym all_is) (record {
       count_is = length-append desks (actor ∷ []) ∙ ap (λ n. n + 1) opened.count_is;
       each = λ desk other one here at. elim (among_more desks actor one desk at) [
@@ -93,7 +99,7 @@ one_more_opened {A} capacities count capacity desks all actor there is room same
     })
   where
     new : (desk other : ℕ) (one : DeskActor A) → slice_get capacities desk ≡ Some other → desk ≡ length desks →
-        actor ≡ one → IsCapacity other × (one.capacity ≡ other) × IsEmptyDesk other one.state
+        actor ≡ one → (one.capacity ≡ other) × IsEmptyDesk other one.state
     new desk other one here last same_actor =
         let at_count : slice_get capacities count ≡ Some capacity =
         slice_get-get_or capacities count 0 there ∙ ap Some (sym is) in
@@ -101,24 +107,10 @@ one_more_opened {A} capacities count capacity desks all actor there is room same
         let at_other : slice_get capacities count ≡ Some other =
         subst (λ n. slice_get capacities n ≡ Some other) place here in
         let e : capacity ≡ other = cc in
-        subst (λ (n : ℕ). IsCapacity n × (one.capacity ≡ n) × IsEmptyDesk n one.state) e
-        (subst (λ (x : DeskActor A). IsCapacity capacity × (x.capacity ≡ capacity) × IsEmptyDesk capacity x.state)
-        same_actor (room, same, empty))
+        subst (λ (n : ℕ). (one.capacity ≡ n) × IsEmptyDesk n one.state) e
+        (subst (λ (x : DeskActor A). (x.capacity ≡ capacity) × IsEmptyDesk capacity x.state)
+        same_actor (same, empty))
 
 pub all_opened : {A : Type 0} (capacities : List ℕ) (count : ℕ) (desks : List (DeskActor A)) →
     count ≡ length capacities → AreOpened capacities count desks → AreEmpty capacities desks
 all_opened capacities count desks whole opened = record { count = opened.count_is ∙ whole; each = opened.each }
-
-empty_is_ready : {A : Type 0} (capacity : ℕ) (state : DeskState A) → IsEmptyDesk capacity state →
-    IsReadySet (desk_saved state)
-empty_is_ready capacity (Running view) empty = empty.0
-empty_is_ready capacity (Down saved) empty = absurd empty
-
--- the sets of empty desks are ready
-pub empty_are_ready : {A : Type 0} (capacities : List ℕ) (desks : List (DeskActor A)) → AreEmpty capacities desks →
-    AreDesksReady desks
-empty_are_ready capacities desks empty desk actor at =
-    let within : desk < length desks = slice_get_within desks desk actor at in
-    let count : length desks ≡ length capacities = empty.count in
-    let e = empty.each desk (get_or capacities desk 0) actor (slice_get-get_or capacities desk 0 (omega arith)) at in
-    (subst IsCapacity (sym e.1) e.0, empty_is_ready (get_or capacities desk 0) actor.state e.2)

@@ -1,13 +1,24 @@
 -- Disjoint ranges are few, so the number of each printer has two bytes.
 use Rattle.std.proofs.Common.{◌≡◌, ◌≢◌, ◌<◌, ◌≤◌, ◌||◌, ◌==◌, eqb, inl, inr, ℕ, suc, Bool, true, false, List, [], ◌∷◌, length, map, All, slice_index_or, refl, arith}
+use Rattle.std.specs.Prelude.{IsTrue}
 use Rattle.std.specs.List.{list_any, AllByRecursion, IsDistinct}
 use Rattle.std.proofs.lemmas.List.{length-map}
 use Rattle.std.proofs.lemmas.List.Elements.{All-head, All-tail}
 use Rattle.std.proofs.lemmas.Map.Steps.{length-le_from_distinct_below}
 use Rattle.std.proofs.lemmas.Bool.Decides.{nat_tests}
 use Rattle.dm_print_ledger.specs.declared.range.Range.{Range}
-use Rattle.dm_print_ledger.specs.Ranges.{IsRange}
+use Rattle.std.proofs.lemmas.Bool.{leb-true, and_parts}
+use Rattle.dm_print_ledger.specs.Ranges.{is_range}
 use Rattle.dm_event_history.specs.Places.{IsApart, AreDisjoint}
+
+abbrev IsRange : Range → Type 0
+IsRange range = (range.first ≤ range.last) × (range.last ≤ 64515)
+
+ranged : (ranges : List Range) → All (λ range. IsTrue (is_range range)) ranges → All IsRange ranges
+ranged ranges each = λ i d within. (
+  leb-true _ _ (and_parts _ _ (each i d within)).0,
+  leb-true _ _ (and_parts _ _ (each i d within)).1,
+)
 
 abbrev firsts : List Range → List ℕ
 firsts ranges = map (λ range. range.first) ranges
@@ -56,10 +67,10 @@ small_firsts (r ∷ rs) each n is = by_test (eqb n r.first) refl is (small_first
     by_test false e x again = again x
 
 -- each range has a first number of its own, and there are 64,516 numbers
-pub few_ranges : (ranges : List Range) → All IsRange ranges → AreDisjoint ranges → length ranges ≤ 64516
+pub few_ranges : (ranges : List Range) → All (λ range. IsTrue (is_range range)) ranges → AreDisjoint ranges → length ranges ≤ 64516
 few_ranges ranges each apart =
     let few : length (firsts ranges) ≤ 64516 =
-    length-le_from_distinct_below (firsts ranges) 64516 (distinct_firsts ranges apart each)
-    (small_firsts ranges each) in
+    length-le_from_distinct_below (firsts ranges) 64516 (distinct_firsts ranges apart (ranged ranges each))
+    (small_firsts ranges (ranged ranges each)) in
     let same : length (firsts ranges) ≡ length ranges = length-map ranges (λ range. range.first) in
     omega arith

@@ -1,16 +1,25 @@
 -- Printers that are created one after another.
-use Rattle.std.proofs.Common.{◌≡◌, ◌⊎◌, inl, inr, true, ◌++◌, ℕ, zero, suc, Some, None, List, [], ◌∷◌, length, slice_get, slice_index_or, refl, ap, sym, ◌∙◌, subst, arith}
-use Rattle.std.proofs.lemmas.Option.{slice_get-get_or, slice_get_within}
-use Rattle.dm_store.specs.Saved.{Saved, SavePlan, MemoryOpen, LoadsFine, SavesFine, Done, Follows}
+use Rattle.std.specs.Prelude.{IsTrue, MatchBool, Option, Result, Ok, Err, Bool}
+use Rattle.std.proofs.Common.{◌≡◌, ◌⊎◌, inl, inr, true, ◌++◌, ℕ, zero, suc, Some, None, List, [], ◌∷◌, length, slice_get, refl, ap, sym, ◌∙◌, subst, arith}
+use Rattle.dm_store.specs.Saved.{Saved, SavePlan, MemoryOpen, LoadsFine, SavesFine, Done, Follows, Replaces}
 use Rattle.dm_print_ledger.specs.declared.range.Range.{Range}
 use Rattle.dm_print_ledger.specs.Views.{PrinterView}
-use Rattle.dm_print_ledger.specs.Creating.{Creates}
-use Rattle.dm_event_steps.specs.declared.actor.PrinterActor.{PrinterActor}
-use Rattle.dm_event_steps.specs.declared.actor.PrinterActor.TheVariants as actors
-use Rattle.dm_event_steps.specs.Acts.{saved_of}
-use Rattle.dm_event_steps.specs.Beginning.{IsFresh, AreFresh}
-use Rattle.dm_event_steps.specs.Ready.{IsReady}
-use Rattle.dm_event_world.specs.inner.Ready.{ArePrintersReady}
+use Rattle.dm_print_ledger.specs.Creating.{Creates, SavesFirst, opening}
+use Rattle.dm_event_world.specs.declared.actor.PrinterActor.{PrinterActor}
+use Rattle.dm_event_world.specs.declared.actor.PrinterActor.TheVariants as actors
+use Rattle.dm_event_history.specs.Actors as states
+use Rattle.dm_event_world.specs.Shows.{IsReady, ShowsPrinter}
+use Rattle.dm_print_ledger.specs.Ranges.{is_range}
+use Rattle.dm_print_ledger.specs.Ledger.{ledger_bytes}
+use Rattle.dm_print_ledger.specs.Opening.{open_verdict}
+use Rattle.dm_print_ledger.specs.declared.fault.CreateFault.{CreateFault}
+use Rattle.dm_print_ledger.specs.declared.fault.CreateFault.TheVariants as creating
+use Rattle.dm_print_ledger.proofs.LedgerLaws.{opening_sound}
+use Rattle.dm_print_ledger.proofs.ReadLaws.{ledgers_are_held}
+
+-- the printer of this number, of whose range nothing was used
+abbrev pub IsFresh : {A : Type 0} → ℕ → Range → PrinterActor A → Type 0
+IsFresh number range actor = ShowsPrinter actor (states.Running (opening number range))
 
 -- an element of a list with one more was there, or is that one
 get_pushed : {X : Type 0} (xs : List X) (x y : X) (i : ℕ) → slice_get (xs ++ x ∷ []) i ≡ Some y →
@@ -56,31 +65,26 @@ empty_store = record {
 
 -- a printer that was created over one is fresh
 pub created_fresh : (A : Type 0) (saved : Saved) (number : ℕ) (range : Range) (view : PrinterView) →
-    saved ≡ empty_store →
-    Creates saved number range view → (let actor : PrinterActor A = actors.Running view in IsFresh number range actor)
-created_fresh A saved number range view is creates =
-    let honest = ap (λ (s : Saved). s.is_honest) is in (
+    saved ≡ empty_store → is_range range ≡ true → Creates saved number range (Ok view) view.saved →
+    (let actor : PrinterActor A = actors.Running view in IsFresh number range actor)
+created_fresh A saved number range view is ranged creates =
+    let ok : Result PrinterView CreateFault = Ok view in
+    let saves : (IsTrue saved.is_honest → saved.content ≡ None)
+    × Replaces saved (ledger_bytes (opening number range)) (Ok tt) view.saved =
+    subst (λ (b : Bool). MatchBool b (SavesFirst saved (opening number range) (Ok view) view.saved)
+    ((ok ≡ Err creating.Range) × (view.saved ≡ saved))) ranged creates.saves in
+    let honest = ap (λ (s : Saved). s.is_honest) is in
+    let content : view.saved.content ≡ Some (ledger_bytes (opening number range)) = saves.1.done refl honest in (
       record {
-        honest = creates.replaced.same_honesty ∙ honest;
-        loads_fine = creates.replaced.same_load_plan ∙ ap (λ (s : Saved). s.load_plan) is;
-        saves_fine = subst (λ (plan : SavePlan). Follows plan Done view.saved.save_plan)
-            (ap (λ (s : Saved). s.save_plan) is) creates.replaced.follows;
+        ready = record {
+          honest = saves.1.same_honesty ∙ honest;
+          loads_fine = saves.1.same_load_plan ∙ ap (λ (s : Saved). s.load_plan) is;
+          saves_fine = subst (λ (plan : SavePlan). Follows plan Done view.saved.save_plan)
+              (ap (λ (s : Saved). s.save_plan) is) saves.1.follows;
+        };
+        holds = λ yes. ap (λ (bytes : Option (List ℕ)). open_verdict bytes number) content ∙
+            ledgers_are_held (opening number range) (opening_sound number range ranged);
       },
-      creates.running,
-      creates.ledger,
-      creates.holds honest,
+      ap (λ (v : PrinterView). v.is_failed) creates.runs,
+      ap (λ (v : PrinterView). v.ledger) creates.runs,
     )
-
--- fresh printers are ready
-pub fresh_ready : {A : Type 0} (ranges : List Range) (printers : List (PrinterActor A)) → AreFresh ranges printers →
-    ArePrintersReady printers
-fresh_ready {A} ranges printers fresh number actor at =
-    let count = fresh.count in
-    let within = slice_get_within printers number actor at in
-    let here = slice_get-get_or ranges number (record { first = 0; last = 0 }) (omega arith) in
-    ready_of actor (fresh.each number _ actor here at)
-  where
-    ready_of : (one : PrinterActor A) →
-        IsFresh number (slice_index_or ranges number (record { first = 0; last = 0 })) one → IsReady (saved_of one)
-    ready_of (actors.Running view) is = is.0
-    ready_of (actors.Down saved) is = absurd is

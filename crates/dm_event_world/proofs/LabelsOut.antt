@@ -6,9 +6,9 @@ use Rattle.dm_encodation.specs.declared.scheme.Scheme.{Scheme}
 use Rattle.dm_finder_frame.specs.Grids.{GridView}
 use Rattle.dm_print_ledger.specs.Views.{JobView}
 use Rattle.dm_print_ledger.specs.Printing.{IsJobOf}
-use Rattle.dm_event_steps.specs.declared.actor.LeftLabel.{LeftLabel}
-use Rattle.dm_event_steps.specs.Labels.{left_labels}
-use Rattle.dm_event_steps.proofs.JobLabels.{length-AreLabels}
+use Rattle.dm_event_world.specs.declared.actor.LeftLabel.{LeftLabel}
+use Rattle.dm_event_world.specs.inner.Printers.{left_labels}
+use Rattle.dm_event_world.proofs.JobLabels.{length-AreLabels}
 
 -- one label more has left, and one fewer is to leave
 pub one_more : {A : Type 0} (id count before most : ℕ) (grid : GridView) (rest given : List GridView)

@@ -1,31 +1,41 @@
 -- Runs of worlds: one event more at their end, and the headline.
-use Rattle.std.proofs.Common.{◌≡◌, ◌≤◌, ℕ, zero, suc, Some, List, [], ◌∷◌, ◌++◌, length, map, slice_get, take, refl, sym, ap, subst, arith}
+use Rattle.std.proofs.Common.{◌≡◌, ◌<◌, ◌≤◌, ℕ, zero, suc, Some, List, [], ◌∷◌, ◌++◌, All, length, map, slice_get, take, refl, sym, ap, subst, arith, ◌∙◌}
+use Rattle.dm_check_blocks.specs.Sizes.{side}
 use Rattle.dm_finder_frame.specs.Grids.{flipped}
 use Rattle.dm_symbol.specs.Symbols.{IsNear}
 use Rattle.dm_print_ledger.specs.declared.range.Range.{Range}
 use Rattle.dm_event_history.specs.declared.event.Event.{Event}
 use Rattle.dm_event_history.specs.declared.event.Event.TheVariants.{Scan}
 use Rattle.dm_event_history.specs.declared.reply.Reply.{Reply}
-use Rattle.dm_event_history.specs.Headline.{EachRunIsTrue, IsFairEvent}
+use Rattle.dm_event_history.specs.Headline.{IsFairEvent}
 use Rattle.dm_event_history.specs.Relay.{Relay}
-use Rattle.dm_event_history.specs.Runs.{Moment, onto}
-use Rattle.dm_event_steps.specs.declared.actor.LeftLabel.{LeftLabel}
-use Rattle.dm_event_steps.specs.Shows.{Shows, left_label}
-use Rattle.dm_event_steps.specs.StandsFor.{EachStepStands, StandsFor}
-use Rattle.dm_event_steps.specs.Worlds.{IsFairIn, Runs, Steps, WorldView}
-use Rattle.dm_event_steps.proofs.Changing.{named_here, named_there}
-use Rattle.dm_event_steps.proofs.Mapped.{get_map, get_map_from}
+use Rattle.dm_event_history.specs.Runs.{AreMomentsOf, Moment, onto}
+use Rattle.dm_event_history.specs.Steps.{HasModules}
+use Rattle.dm_event_history.proofs.Headline.{each_run_is_true}
+use Rattle.dm_event_world.specs.declared.actor.LeftLabel.{LeftLabel}
+use Rattle.dm_event_world.specs.Shows.{Shows, left_label}
+use Rattle.dm_event_world.specs.StandsFor.{GoesOn, GoesOnByAll, StandsFor}
+use Rattle.dm_event_world.specs.Worlds.{AreWithin, IsFairIn, IsLookedAt, WorldView}
+use Rattle.dm_event_world.specs.inner.Events.{Answers, AnswersAll}
+use Rattle.dm_event_world.proofs.Mapped.{get_map, get_map_from}
 use Rattle.dm_event_world.specs.declared.answers.Answer.{Answer}
 use Rattle.dm_event_world.specs.declared.answers.Answer.TheVariants.{Given, NotGiven}
-use Rattle.dm_event_world.specs.Openings.{Begins}
-use Rattle.dm_event_world.specs.Watched.{Answers, AnswersAll, AreAnswers, IsLookedAt, IsWatched, MayBeLookedAt, first_of}
+use Rattle.dm_event_world.specs.Watched.{AreAnswers, IsWatched, MayBeLookedAt, first_of}
+
+-- each event of several goes on, one after another
+abbrev pub Goes : {A : Type 0} → WorldView A → List (Event A) → List (Reply A) → WorldView A → Type 0
+Goes old [] [] new = new ≡ old
+Goes {A} old (event ∷ events) (reply ∷ replies) new =
+    (mid : WorldView A) × GoesOn old event reply mid × Goes mid events replies new
+Goes old [] (reply ∷ replies) new = ⊥
+Goes old (event ∷ events) [] new = ⊥
 
 -- one event more
 pub runs_more : {A : Type 0} (old mid new : WorldView A) (events : List (Event A)) (all : List (Reply A))
     (event : Event A) (reply : Reply A) →
-    Runs old events all mid → Steps mid event reply new → Runs old (events ++ event ∷ []) (all ++ reply ∷ []) new
+    Goes old events all mid → GoesOn mid event reply new → Goes old (events ++ event ∷ []) (all ++ reply ∷ []) new
 runs_more {A} old mid new [] [] event reply runs steps =
-    (new, subst (λ (w : WorldView A). Steps w event reply new) runs steps, refl)
+    (new, subst (λ (w : WorldView A). GoesOn w event reply new) runs steps, refl)
 runs_more old mid new (e ∷ events) (r ∷ all) event reply runs steps =
     (runs.0, runs.1, runs_more runs.0 mid new events all event reply runs.2 steps)
 runs_more old mid new [] (r ∷ all) event reply runs steps = absurd runs
@@ -39,9 +49,21 @@ take_whole (suc n) [] most = refl
 take_whole {X} (suc n) (x ∷ xs) most = ap (λ (ys : List X). x ∷ ys) (take_whole n xs (omega arith))
 
 pub runs_all : {A : Type 0} (old new : WorldView A) (n : ℕ) (events : List (Event A)) (all : List (Reply A)) →
-    length events ≤ n → Runs old (take n events) all new → Runs old events all new
+    length events ≤ n → Goes old (take n events) all new → Goes old events all new
 runs_all {A} old new n events all most runs =
-    subst (λ (es : List (Event A)). Runs old es all new) (take_whole n events most) runs
+    subst (λ (es : List (Event A)). Goes old es all new) (take_whole n events most) runs
+
+-- a world that goes on by each event goes on by all
+pub all_go : {A : Type 0} (old new : WorldView A) (events : List (Event A)) (replies : List (Reply A)) →
+    Goes old events replies new → GoesOnByAll old events replies new
+all_go {A} old new [] [] run = λ ranges rooms h s.
+    ([], tt, subst (λ (w : WorldView A). StandsFor ranges rooms w h) (sym run) s)
+all_go {A} old new (event ∷ events) (reply ∷ replies) run = λ ranges rooms h s.
+    let now : Moment A = record { before = s.relay; event = event; reply = reply } in
+    let more = all_go run.0 new events replies run.2 ranges rooms (now ∷ h) (run.1 ranges rooms h s) in
+    (now ∷ more.0, (refl, refl, more.1), more.2)
+all_go old new [] (reply ∷ replies) run = absurd run
+all_go old new (event ∷ events) [] run = absurd run
 
 pub answers_more : {A : Type 0} (old mid new : WorldView A) (events : List (Event A)) (all : List (Answer A))
     (event : Event A) (answer : Answer A) →
@@ -54,11 +76,26 @@ answers_more old mid new (e ∷ events) (r ∷ all) event answer runs steps =
 answers_more old mid new [] (r ∷ all) event answer runs steps = absurd runs
 answers_more old mid new (e ∷ events) [] event answer runs steps = absurd runs
 
+-- what a scan names is there in a world exactly if it is in the relay that the world shows
+modules_here : {A : Type 0} (world : WorldView A) (relay : Relay) (number : ℕ) (flips : List (ℕ × ℕ)) → Shows world relay →
+    (label : LeftLabel A) → slice_get world.labels number ≡ Some label → AreWithin label.grid flips →
+    HasModules relay number flips
+modules_here {A} world relay number flips s label there within =
+    let own = get_map_from (left_label {A = A}) relay.labels number label
+    (subst (λ (ls : List (LeftLabel A)). slice_get ls number ≡ Some label) s.labels there) in
+    (own.0, own.1, subst (λ (l : LeftLabel A). AreWithin l.grid flips) (sym own.2) within)
+
 -- an event is fair in a world exactly if it is in the relay that the world shows
 fair_here : {A : Type 0} (world : WorldView A) (relay : Relay) (event : Event A) → Shows world relay →
     IsFairIn world event → IsFairEvent relay event
 fair_here {A} world relay (Scan desk number flips stop) s fair = λ named label there.
-    fair (named_there world relay (Scan desk number flips stop) s named) (left_label label)
+    fair (
+      subst (λ (k : ℕ). desk < k) (sym s.desk_count) named.0,
+      left_label named.1.0,
+      subst (λ (ls : List (LeftLabel A)). slice_get ls number ≡ Some (left_label named.1.0)) (sym s.labels)
+          (get_map (left_label {A = A}) relay.labels number named.1.0 named.1.1),
+      named.1.2,
+    ) (left_label label)
     (subst (λ (ls : List (LeftLabel A)). slice_get ls number ≡ Some (left_label label)) (sym s.labels)
     (get_map (left_label {A = A}) relay.labels number label there))
 fair_here world relay event s fair = tt
@@ -70,13 +107,18 @@ fair_there {A} world relay (Scan desk number flips stop) s fair = λ named label
     subst (λ (ls : List (LeftLabel A)). slice_get ls number ≡ Some label) s.labels there in
     let own = get_map_from (left_label {A = A}) relay.labels number label shown in
     subst (λ (l : LeftLabel A). IsNear (flipped l.grid flips) l.grid) own.2
-    (fair (named_here world relay (Scan desk number flips stop) s named) own.0 own.1)
+    (fair (
+      subst (λ (k : ℕ). desk < k) s.desk_count named.0,
+      modules_here world relay number flips s named.1 named.2 named.3,
+    ) own.0 own.1)
 fair_there world relay event s fair = tt
 
 looked_here : {A : Type 0} (world : WorldView A) (relay : Relay) (event : Event A) → Shows world relay →
     IsLookedAt world event → MayBeLookedAt relay event
-looked_here world relay (Scan desk number flips stop) s looked =
-    named_here world relay (Scan desk number flips stop) s looked
+looked_here world relay (Scan desk number flips stop) s looked = (
+  subst (λ (k : ℕ). desk < k) s.desk_count looked.0,
+  modules_here world relay number flips s looked.1 looked.2 looked.3,
+)
 looked_here world relay event s looked = absurd looked
 
 -- what was answered is a run of the relay
@@ -87,14 +129,16 @@ record Answered {A : Type 0} (ranges : List Range) (rooms : List ℕ) (relay : R
   pub answered : AreAnswers events answers moments stands.relay
   pub first : first_of moments stands.relay ≡ relay
 
-are_answered : {A : Type 0} (law : EachStepStands A) (ranges : List Range) (rooms : List ℕ) (h : List (Moment A))
+are_answered : {A : Type 0} (ranges : List Range) (rooms : List ℕ) (h : List (Moment A))
     (old new : WorldView A) (events : List (Event A)) (answers : List (Answer A)) →
     (s : StandsFor ranges rooms old h) → AnswersAll old events answers new →
     Answered ranges rooms s.relay events answers new h
-are_answered {A} law ranges rooms h old new [] [] s all = record {
+are_answered {A} ranges rooms h old new [] [] s all = record {
   moments = [];
   stands = record {
+    are_ranges = s.are_ranges;
     disjoint = s.disjoint;
+    are_capacities = s.are_capacities;
     relay = s.relay;
     run = s.run;
     shows = subst (λ (w : WorldView A). Shows w s.relay) (sym all) s.shows;
@@ -102,10 +146,10 @@ are_answered {A} law ranges rooms h old new [] [] s all = record {
   answered = tt;
   first = refl;
 }
-are_answered {A} law ranges rooms h old new (event ∷ events) (Given is_honest reply ∷ answers) s all =
+are_answered {A} ranges rooms h old new (event ∷ events) (Given is_honest reply ∷ answers) s all =
     let now : Moment A = record { before = s.relay; event = event; reply = reply } in
-    let more = are_answered law ranges rooms (now ∷ h) all.0 new events answers
-    (law ranges rooms h old all.0 event reply s all.1.1) all.2 in
+    let more = are_answered ranges rooms (now ∷ h) all.0 new events answers
+    (all.1.1 ranges rooms h s) all.2 in
     record {
       moments = now ∷ more.moments;
       stands = more.stands;
@@ -120,14 +164,16 @@ are_answered {A} law ranges rooms h old new (event ∷ events) (Given is_honest 
       );
       first = refl;
     }
-are_answered {A} law ranges rooms h old new (event ∷ events) (NotGiven ∷ answers) s all =
+are_answered {A} ranges rooms h old new (event ∷ events) (NotGiven ∷ answers) s all =
     let same : StandsFor ranges rooms all.0 h = record {
+      are_ranges = s.are_ranges;
       disjoint = s.disjoint;
+      are_capacities = s.are_capacities;
       relay = s.relay;
       run = s.run;
       shows = subst (λ (w : WorldView A). Shows w s.relay) (sym all.1.1) s.shows;
     } in
-    let more = are_answered law ranges rooms h all.0 new events answers same all.2 in
+    let more = are_answered ranges rooms h all.0 new events answers same all.2 in
     record {
       moments = more.moments;
       stands = more.stands;
@@ -137,20 +183,20 @@ are_answered {A} law ranges rooms h old new (event ∷ events) (NotGiven ∷ ans
       );
       first = more.first;
     }
-are_answered law ranges rooms h old new [] (answer ∷ answers) s all = absurd all
-are_answered law ranges rooms h old new (event ∷ events) [] s all = absurd all
+are_answered ranges rooms h old new [] (answer ∷ answers) s all = absurd all
+are_answered ranges rooms h old new (event ∷ events) [] s all = absurd all
 
-pub is_watched : {A : Type 0} (law : EachStepStands A) (headline : EachRunIsTrue A) (ranges : List Range)
+pub is_watched : {A : Type 0} (ranges : List Range)
     (rooms : List ℕ) (old new : WorldView A) (events : List (Event A)) (answers : List (Answer A)) →
-    Begins ranges rooms old → StandsFor ranges rooms old [] → AnswersAll old events answers new →
+    StandsFor ranges rooms old [] → AnswersAll old events answers new →
     IsWatched ranges rooms events answers
-is_watched law headline ranges rooms old new events answers begins stands all =
-    let a = are_answered law ranges rooms [] old new events answers stands all in
-    let so = headline ranges rooms (onto a.moments []) a.stands.relay a.stands.disjoint a.stands.run in
+is_watched {A} ranges rooms old new events answers stands all =
+    let a = are_answered ranges rooms [] old new events answers stands all in
+    let so = each_run_is_true A ranges rooms (onto a.moments []) a.stands.relay a.stands.disjoint a.stands.run in
     record {
-      are_ranges = begins.are_ranges;
-      disjoint = begins.disjoint;
-      are_capacities = begins.are_capacities;
+      are_ranges = stands.are_ranges;
+      disjoint = stands.disjoint;
+      are_capacities = stands.are_capacities;
       moments = a.moments;
       end = a.stands.relay;
       run = a.stands.run;

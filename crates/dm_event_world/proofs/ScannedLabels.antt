@@ -7,22 +7,11 @@ use Rattle.dm_symbol.specs.Symbols.{IsNear}
 use Rattle.dm_event_history.specs.declared.event.Event.{Event}
 use Rattle.dm_event_history.specs.declared.event.Event.TheVariants.{Scan}
 use Rattle.dm_event_history.specs.declared.stop.Stop.{Stop}
-use Rattle.dm_event_steps.specs.declared.actor.LeftLabel.{LeftLabel}
-use Rattle.dm_event_steps.specs.Worlds.{WorldView, IsNamed, IsFairIn}
-use Rattle.dm_event_world.specs.Watched.{IsLookedAt}
-
--- each module is in the grid
-abbrev pub AreWithin : GridView → List (ℕ × ℕ) → Type 0
-AreWithin grid flips = All (λ flip. (flip.0 < side grid.size) × (flip.1 < side grid.size)) flips
-
-pub no_label : {A : Type 0} (old : WorldView A) (d label : ℕ) (flips : List (ℕ × ℕ)) (stop : Stop) →
-    length old.labels ≤ label →
-    ¬ IsNamed old (Scan d label flips stop)
-no_label old d label flips stop past named =
-    let within = slice_get_within old.labels label named.1 named.2 in absurd (omega arith)
+use Rattle.dm_event_world.specs.declared.actor.LeftLabel.{LeftLabel}
+use Rattle.dm_event_world.specs.Worlds.{AreWithin, WorldView, IsFairIn, IsLookedAt}
 
 pub outside : {A : Type 0} (old : WorldView A) (d label : ℕ) (flips : List (ℕ × ℕ)) (stop : Stop) (left : LeftLabel A) →
-    slice_get old.labels label ≡ Some left → (¬ AreWithin left.grid flips) → ¬ IsNamed old (Scan d label flips stop)
+    slice_get old.labels label ≡ Some left → (¬ AreWithin left.grid flips) → ¬ IsLookedAt old (Scan d label flips stop)
 outside {A} old d label flips stop left is out named =
     let same : named.1 ≡ left = (let e = named.2 in cc) in
     out (subst (λ (l : LeftLabel A). AreWithin l.grid flips) same named.3)

@@ -1,6 +1,7 @@
 pub mod FaultNames
-pub mod Left
+pub mod Worlds
+pub mod Shows
+pub mod StandsFor
 pub mod Openings
-pub mod Runs
 pub mod Watched
 pub mod inner

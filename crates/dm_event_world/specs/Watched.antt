@@ -1,7 +1,6 @@
 -- Runs in which each event is looked at first, and what is so of their answers: the headline.
 use Rattle.std.specs.Prelude.{◌≡◌, ◌↔◌, ℕ, true, List, [], ◌∷◌, All}
 use Rattle.dm_print_ledger.specs.declared.range.Range.{Range}
-use Rattle.dm_print_ledger.specs.Ranges.{IsRange}
 use Rattle.dm_assembly_desk.specs.Views.{IsCapacity}
 use Rattle.dm_event_history.specs.declared.event.Event.{Event}
 use Rattle.dm_event_history.specs.declared.event.Event.TheVariants.{Scan}
@@ -10,7 +9,7 @@ use Rattle.dm_event_history.specs.Steps as relays
 use Rattle.dm_event_history.specs.Runs.{IsRun, Moment, onto}
 use Rattle.dm_event_history.specs.Places.{AreDisjoint}
 use Rattle.dm_event_history.specs.Headline.{AreTrueMoments, IsFairEvent, PrintsOnce}
-use Rattle.dm_event_steps.specs.Worlds.{WorldView, IsNamed, IsFairIn, Steps}
+use Rattle.dm_event_world.specs.StandsFor.{AreRanges}
 use Rattle.dm_event_world.specs.declared.answers.Answer.{Answer}
 use Rattle.dm_event_world.specs.declared.answers.Answer.TheVariants.{Given, NotGiven}
 
@@ -44,7 +43,7 @@ AreAnswers events answers moments end = ⊥
 -- saved its page was fair.
 pub record IsWatched {A : Type 0} (ranges : List Range) (rooms : List ℕ) (events : List (Event A))
     (answers : List (Answer A)) : Type 0 where
-  pub are_ranges : All IsRange ranges
+  pub are_ranges : AreRanges ranges
   pub disjoint : AreDisjoint ranges
   pub are_capacities : All IsCapacity rooms
   pub moments : List (Moment A)
@@ -53,25 +52,3 @@ pub record IsWatched {A : Type 0} (ranges : List Range) (rooms : List ℕ) (even
   pub answered : AreAnswers events answers moments end
   pub once : PrintsOnce end
   pub true_moments : AreTrueMoments end.labels (onto moments [])
-
--- ---- one event of a world
-
--- the world has what a scan names
-abbrev pub IsLookedAt : {A : Type 0} → WorldView A → Event A → Type 0
-IsLookedAt {A} world (Scan desk number flips stop) = IsNamed world (Scan desk number flips stop)
-IsLookedAt world event = ⊥
-
--- An event that is given to the world is one step of it, and found honest exactly where it is fair, or names what is
--- not there. Only a scan of what is there can go without being given, if memory for the look is refused; it changes
--- nothing.
-abbrev pub Answers : {A : Type 0} → WorldView A → Event A → Answer A → WorldView A → Type 0
-Answers old event (Given is_honest reply) new = ((is_honest ≡ true) ↔ IsFairIn old event) × Steps old event reply new
-Answers old event NotGiven new = IsLookedAt old event × (new ≡ old)
-
--- so it is for each event
-abbrev pub AnswersAll : {A : Type 0} → WorldView A → List (Event A) → List (Answer A) → WorldView A → Type 0
-AnswersAll old [] [] new = new ≡ old
-AnswersAll {A} old (event ∷ events) (answer ∷ answers) new =
-    (mid : WorldView A) × Answers old event answer mid × AnswersAll mid events answers new
-AnswersAll old [] (answer ∷ answers) new = ⊥
-AnswersAll old (event ∷ events) [] new = ⊥

@@ -1,6 +1,7 @@
 -- Private: only contracts inside this crate cite what stands in this folder.
 pub mod Codes
-pub mod DeskEvents
-pub mod PrinterCalls
-pub mod Ready
-pub mod Stopping
+pub mod Stops
+pub mod Ends
+pub mod Printers
+pub mod Desks
+pub mod Events

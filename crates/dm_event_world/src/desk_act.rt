@@ -1,35 +1,34 @@
-//! Events at one desk: scans, asks, forgets and restarts.
+//! Events at one desk.
 //!
-//! A call that is stopped after its save is made before the desk is taken down. If its own memory is refused, that is
-//! answered, and the desk runs on as it was.
+//! A call that is stopped before its save is not made. Any other is made, the next save's plan being that of the stop;
+//! and if it is to end before its reply the desk is down then, over its set, unless the call's own memory was refused.
 
-ghost use Rattle.std.specs.Prelude.{◌≡◌, ◌↔◌, Err, IsTrue, All};
-ghost use Rattle.dm_finder_frame.specs.Grids.{IsInGrid};
-ghost use Rattle.dm_assembly_desk.specs.Views.{IsCapacity};
-ghost use Rattle.dm_event_steps.specs.Ready.{IsReadySet};
-ghost use Rattle.dm_event_steps.specs.DeskActs.{Accepts, ForgetsOne, desk_saved, forget_reply, scan_reply};
-ghost use Rattle.dm_event_world.specs.inner.Stopping.{stops_before};
-ghost use Rattle.dm_event_world.specs.inner.DeskEvents.{IsMadeUnder, ScansLabel, AsksFor, ForgetsDocument, Restarts};
+ghost use Rattle.std.specs.Prelude.{◌≡◌, ℕ, [], All, length};
+ghost use Rattle.dm_finder_frame.specs.Grids.{IsInGrid, flipped};
+ghost use Rattle.dm_assembly_desk.specs.Files.{IsEntry, file};
+ghost use Rattle.dm_event_history.specs.declared.reply.Reply.TheVariants.{DeskRefused as desk_refused};
+ghost use Rattle.dm_event_history.specs.Calls.{Calls, Looks, MayLackFirst, Restarts};
+ghost use Rattle.dm_event_history.specs.DeskCalls.{AskTells, ExportTells, ForgetComes, ImportComes, ScanComes, forget_faults, forget_reply, import_faults, import_reply, scan_faults, scan_reply};
+ghost use Rattle.dm_event_history.specs.Relay.{Export};
+ghost use Rattle.dm_event_world.specs.Shows.{ShowsDesk};
+ghost use Rattle.dm_event_world.specs.inner.Stops.{IsMadeUnder};
+ghost use Rattle.dm_event_world.specs.inner.Ends.{EndsEach, Left, ended, ended_reply};
+ghost use Rattle.dm_event_world.specs.inner.Desks.{Accepts, ForgetsOne, ImportsIn, down_desk, desk_planned, desk_saved};
 
-use crate::call::{is_stopping, next_save};
+use crate::actor::{DeskState, LeftExport};
+use crate::call::{is_stopped_before, is_stopping, lacks_memory, next_save};
 use dm_append_label::FileId;
-use dm_assembly_desk::{Accepted, Desk, DeskRefused, ForgetFault, ScanFault};
-use dm_event_history::{Bytes, Kept, Reply, Stop};
-use dm_event_steps::DeskState;
+use dm_assembly_desk::{
+    Accepted, Desk, DeskFault, DeskRefused, ExportFault, ForgetFault, ImportFault, Imported,
+    ScanFault,
+};
+use dm_event_history::{Bytes, Reply, Stop};
 use dm_finder_frame::Grid;
 use dm_store::{MemSet, NextSave};
 use std::alloc::Allocator;
 use std::mem;
 
-/// Whether a stop ends a call before the new content is held, so that the set is as if the call were not made.
-pub(crate) fn is_stopped_before(stop: Stop) -> bool
-    ensures { result ≡ stops_before stop }
-{
-    match stop {
-        Stop::BeforeSave | Stop::InSave(Kept::Old) => true,
-        Stop::None | Stop::InSave(Kept::New) | Stop::SaveFault(_) | Stop::AfterLabels(_) => false,
-    }
-}
+// ---- down and up
 
 // The set of a desk, which is closed if it runs.
 fn set_of<A: Allocator + Copy>(state: DeskState<A>) -> MemSet<A>
@@ -41,151 +40,28 @@ fn set_of<A: Allocator + Copy>(state: DeskState<A>) -> MemSet<A>
     }
 }
 
-/// Takes a desk down, over its set. It takes no memory.
-pub(crate) fn take_down<A: Allocator + Copy>(alloc: A, state: &mut DeskState<A>)
-    ensures { state.new ≡ DeskState.Down (desk_saved state.old) }
+// Takes a desk down, over its set. It takes no memory.
+fn take_down<A: Allocator + Copy>(alloc: A, state: &mut DeskState<A>)
+    ensures { state.new ≡ down_desk state.old }
 {
     let set = set_of(mem::replace(state, DeskState::Down(MemSet::new(alloc))));
     *state = DeskState::Down(set);
 }
 
-// Scans a grid under the plan of a stop.
-fn accept_under<A: Allocator + Copy>(
-    desk: &mut Desk<MemSet<A>, A>,
-    grid: &Grid<A>,
-    stop: Stop,
-) -> Result<Accepted, ScanFault>
-    requires { IsReadySet desk.old.saved }
-    ensures made { IsMadeUnder (Accepts A grid.now) stop desk.old result desk.new }
-    ensures ready { IsReadySet desk.new.saved }
-{
-    desk.set_next(next_save(stop));
-    let answer = desk.accept(grid);
-    desk.set_next(NextSave::Fine);
-    answer
-}
-
-// What is answered to a scan.
-fn reply_to_scan<A: Allocator + Copy>(answer: Result<Accepted, ScanFault>) -> Reply<A>
-    ensures { result ≡ scan_reply answer }
-{
-    match answer {
-        Ok(accepted) => Reply::Scanned(accepted),
-        Err(fault) => Reply::ScanRefused(fault),
-    }
-}
-
-// Whether the memory of a scan was refused.
-fn scan_lacks_memory(answer: Result<Accepted, ScanFault>) -> bool
-    ensures { IsTrue result ↔ (answer ≡ Err ScanFault.Memory) }
-{
-    matches!(answer, Err(ScanFault::Memory))
-}
-
-/// A desk scans a label's grid with these modules flipped. Memory for the flipped grid is asked for first; without it
-/// nothing changes.
-pub(crate) fn scan<A: Allocator + Copy>(
+// Ends a call that was made and is answered so: under a stop the desk is down, unless the call lacked memory.
+fn end<A: Allocator + Copy>(
     alloc: A,
     state: &mut DeskState<A>,
-    grid: &Grid<A>,
-    flips: &[(u16, u16)],
     stop: Stop,
+    reply: Reply<A>,
 ) -> Reply<A>
-    requires within { All (IsInGrid grid.now) flips.now }
-    requires ready { IsReadySet (desk_saved state.old) }
-    ensures acts { ScansLabel grid.now flips.now stop state.old result state.new }
-    ensures ready { IsReadySet (desk_saved state.new) }
+    ensures told { result ≡ ended_reply stop reply }
+    ensures ended { state.new ≡ ended down_desk stop reply state.old }
 {
-    let DeskState::Running(desk) = state else {
-        return Reply::Down;
-    };
-    let Ok(scanned) = grid.with_flips(alloc, flips) else {
-        return Reply::Memory;
-    };
-    if is_stopped_before(stop) {
-        take_down(alloc, state);
-        return Reply::Stopped;
-    }
-    let answer = accept_under(desk, &scanned, stop);
     if !is_stopping(stop) {
-        return reply_to_scan(answer);
+        return reply;
     }
-    if scan_lacks_memory(answer) {
-        return Reply::Memory;
-    }
-    take_down(alloc, state);
-    Reply::Stopped
-}
-
-/// A desk is asked for a document.
-pub(crate) fn ask<A: Allocator + Copy>(state: &DeskState<A>, id: FileId) -> Reply<A>
-    ensures { AsksFor id state.now result }
-{
-    let DeskState::Running(desk) = state else {
-        return Reply::Down;
-    };
-    match desk.document(id) {
-        Ok(bytes) => Reply::Document(Bytes(bytes)),
-        Err(fault) => Reply::AskRefused(fault),
-    }
-}
-
-// Lets a document go under the plan of a stop.
-fn forget_under<A: Allocator + Copy>(
-    desk: &mut Desk<MemSet<A>, A>,
-    id: FileId,
-    stop: Stop,
-) -> Result<(), ForgetFault>
-    requires { IsReadySet desk.old.saved }
-    ensures made { IsMadeUnder (ForgetsOne id) stop desk.old result desk.new }
-    ensures ready { IsReadySet desk.new.saved }
-{
-    desk.set_next(next_save(stop));
-    let answer = desk.forget(id);
-    desk.set_next(NextSave::Fine);
-    answer
-}
-
-// What is answered to a forget.
-fn reply_to_forget<A: Allocator + Copy>(answer: Result<(), ForgetFault>) -> Reply<A>
-    ensures { result ≡ forget_reply answer }
-{
-    match answer {
-        Ok(()) => Reply::Forgotten,
-        Err(fault) => Reply::ForgetRefused(fault),
-    }
-}
-
-// Whether the memory of a forget was refused.
-fn forget_lacks_memory(answer: Result<(), ForgetFault>) -> bool
-    ensures { IsTrue result ↔ (answer ≡ Err ForgetFault.Memory) }
-{
-    matches!(answer, Err(ForgetFault::Memory))
-}
-
-/// A desk is to forget a document.
-pub(crate) fn forget<A: Allocator + Copy>(
-    alloc: A,
-    state: &mut DeskState<A>,
-    id: FileId,
-    stop: Stop,
-) -> Reply<A>
-    requires { IsReadySet (desk_saved state.old) }
-    ensures acts { ForgetsDocument id stop state.old result state.new }
-    ensures ready { IsReadySet (desk_saved state.new) }
-{
-    let DeskState::Running(desk) = state else {
-        return Reply::Down;
-    };
-    if is_stopped_before(stop) {
-        take_down(alloc, state);
-        return Reply::Stopped;
-    }
-    let answer = forget_under(desk, id, stop);
-    if !is_stopping(stop) {
-        return reply_to_forget(answer);
-    }
-    if forget_lacks_memory(answer) {
+    if lacks_memory(&reply) {
         return Reply::Memory;
     }
     take_down(alloc, state);
@@ -198,10 +74,8 @@ pub(crate) fn restart<A: Allocator + Copy>(
     capacity: u16,
     state: &mut DeskState<A>,
 ) -> Reply<A>
-    requires room { IsCapacity capacity }
-    requires ready { IsReadySet (desk_saved state.old) }
-    ensures acts { Restarts capacity state.old result state.new }
-    ensures ready { IsReadySet (desk_saved state.new) }
+    ensures ends { EndsEach (ShowsDesk capacity) (Restarts (desk_refused DeskFault.Memory))
+        (λ goods. Left {A = A} [] [] [] goods [] [] []) state.old result state.new }
 {
     let set = set_of(mem::replace(state, DeskState::Down(MemSet::new(alloc))));
     match Desk::open(alloc, set, capacity) {
@@ -214,4 +88,205 @@ pub(crate) fn restart<A: Allocator + Copy>(
             Reply::DeskRefused(fault)
         }
     }
+}
+
+// ---- scans
+
+// Scans a grid under the plan of a stop.
+fn accept_under<A: Allocator + Copy>(
+    desk: &mut Desk<MemSet<A>, A>,
+    grid: &Grid<A>,
+    stop: Stop,
+) -> Result<Accepted, ScanFault>
+    ensures { IsMadeUnder desk_planned stop (Accepts A grid.now) desk.old result desk.new }
+{
+    desk.set_next(next_save(stop));
+    let answer = desk.accept(grid);
+    desk.set_next(NextSave::Fine);
+    answer
+}
+
+// What is answered to a scan.
+fn tell_scan<A: Allocator + Copy>(answer: Result<Accepted, ScanFault>) -> Reply<A>
+    ensures { result ≡ scan_reply answer }
+{
+    match answer {
+        Ok(accepted) => Reply::Scanned(accepted),
+        Err(fault) => Reply::ScanRefused(fault),
+    }
+}
+
+/// A desk scans a label's grid with these modules flipped. Memory for the flipped grid is asked for first; without it
+/// nothing changes.
+pub(crate) fn scan<A: Allocator + Copy>(
+    alloc: A,
+    state: &mut DeskState<A>,
+    grid: &Grid<A>,
+    flips: &[(u16, u16)],
+    stop: Stop,
+) -> Reply<A>
+    requires within { All (IsInGrid grid.now) flips.now }
+    ensures ends { (room : ℕ) → EndsEach (ShowsDesk room)
+        (MayLackFirst (Calls scan_faults stop (ScanComes room (flipped grid.now flips.now))))
+        (λ goods. Left {A = A} [] [] [] goods [] [] []) state.old result state.new }
+{
+    let DeskState::Running(desk) = state else {
+        return Reply::Down;
+    };
+    let Ok(scanned) = grid.with_flips(alloc, flips) else {
+        return Reply::Memory;
+    };
+    if is_stopped_before(stop) {
+        take_down(alloc, state);
+        return Reply::Stopped;
+    }
+    let answer = accept_under(desk, &scanned, stop);
+    end(alloc, state, stop, tell_scan(answer))
+}
+
+// ---- forgets
+
+// Lets a document go under the plan of a stop.
+fn forget_under<A: Allocator + Copy>(
+    desk: &mut Desk<MemSet<A>, A>,
+    id: FileId,
+    stop: Stop,
+) -> Result<(), ForgetFault>
+    ensures { IsMadeUnder desk_planned stop (ForgetsOne id) desk.old result desk.new }
+{
+    desk.set_next(next_save(stop));
+    let answer = desk.forget(id);
+    desk.set_next(NextSave::Fine);
+    answer
+}
+
+// What is answered to a forget.
+fn tell_forget<A: Allocator + Copy>(answer: Result<(), ForgetFault>) -> Reply<A>
+    ensures { result ≡ forget_reply answer }
+{
+    match answer {
+        Ok(()) => Reply::Forgotten,
+        Err(fault) => Reply::ForgetRefused(fault),
+    }
+}
+
+/// A desk is to forget a document.
+pub(crate) fn forget<A: Allocator + Copy>(
+    alloc: A,
+    state: &mut DeskState<A>,
+    id: FileId,
+    stop: Stop,
+) -> Reply<A>
+    ensures ends { (room : ℕ) → EndsEach (ShowsDesk room) (Calls forget_faults stop (ForgetComes id))
+        (λ goods. Left {A = A} [] [] [] goods [] [] []) state.old result state.new }
+{
+    let DeskState::Running(desk) = state else {
+        return Reply::Down;
+    };
+    if is_stopped_before(stop) {
+        take_down(alloc, state);
+        return Reply::Stopped;
+    }
+    let answer = forget_under(desk, id, stop);
+    end(alloc, state, stop, tell_forget(answer))
+}
+
+// ---- imports
+
+// Imports a file under the plan of a stop.
+fn import_under<A: Allocator + Copy>(
+    desk: &mut Desk<MemSet<A>, A>,
+    bytes: &[u8],
+    stop: Stop,
+) -> Result<Imported, ImportFault>
+    ensures { IsMadeUnder desk_planned stop (ImportsIn bytes.now) desk.old result desk.new }
+{
+    desk.set_next(next_save(stop));
+    let answer = desk.import(bytes);
+    desk.set_next(NextSave::Fine);
+    answer
+}
+
+// What is answered to an import.
+fn tell_import<A: Allocator + Copy>(answer: Result<Imported, ImportFault>) -> Reply<A>
+    ensures { result ≡ import_reply answer }
+{
+    match answer {
+        Ok(imported) => Reply::Imported(imported),
+        Err(fault) => Reply::ImportRefused(fault),
+    }
+}
+
+/// A desk imports an export, of these bytes.
+pub(crate) fn import<A: Allocator + Copy>(
+    alloc: A,
+    state: &mut DeskState<A>,
+    bytes: &[u8],
+    stop: Stop,
+) -> Reply<A>
+    ensures ends { (export : Export) → IsEntry export.id export.pages → bytes.now ≡ file export.id export.pages →
+        (room : ℕ) → EndsEach (ShowsDesk room) (Calls import_faults stop (ImportComes room export))
+        (λ goods. Left {A = A} [] [] [] goods [] [] []) state.old result state.new }
+{
+    let DeskState::Running(desk) = state else {
+        return Reply::Down;
+    };
+    if is_stopped_before(stop) {
+        take_down(alloc, state);
+        return Reply::Stopped;
+    }
+    let answer = import_under(desk, bytes, stop);
+    end(alloc, state, stop, tell_import(answer))
+}
+
+// ---- asks and exports
+
+/// A desk is asked for a document.
+pub(crate) fn ask<A: Allocator + Copy>(state: &DeskState<A>, id: FileId) -> Reply<A>
+    ensures ends { (room : ℕ) → EndsEach (ShowsDesk room) (Looks (AskTells id))
+        (λ goods. Left {A = A} [] [] [] goods [] [] []) state.now result state.now }
+{
+    let DeskState::Running(desk) = state else {
+        return Reply::Down;
+    };
+    match desk.document(id) {
+        Ok(bytes) => Reply::Document(Bytes(bytes)),
+        Err(fault) => Reply::AskRefused(fault),
+    }
+}
+
+/// A desk exports the pages that it holds of a document, and the export leaves after all others. Memory for it among
+/// them is asked for first; without it nothing changes.
+pub(crate) fn export<A: Allocator + Copy>(
+    state: &DeskState<A>,
+    exports: &mut Vec<LeftExport<A>, A>,
+    id: FileId,
+) -> Reply<A>
+    ensures ends { (room : ℕ) → EndsEach (ShowsDesk room)
+        (MayLackFirst (Looks (ExportTells (length exports.old.items) id)))
+        (λ goods. Left [] [] exports.old.items goods [] [] exports.new.items) state.now result state.now }
+{
+    let DeskState::Running(desk) = state else {
+        return Reply::Down;
+    };
+    if exports.reserve(1).is_err() {
+        return Reply::Memory;
+    }
+    let Some(pages) = desk.pages(id) else {
+        return Reply::ExportRefused(ExportFault::NotHeld);
+    };
+    let bytes = match desk.export(id) {
+        Ok(bytes) => Bytes(bytes),
+        Err(fault) => return Reply::ExportRefused(fault),
+    };
+    let index = exports.len();
+    let n = pages.n();
+    let mask = pages.mask();
+    exports.push_reserved(LeftExport {
+        id,
+        count: n,
+        mask,
+        bytes,
+    });
+    Reply::Exported { index, id, n, mask }
 }

@@ -2,11 +2,10 @@
 
 ghost use Rattle.std.specs.Prelude.{◌↔◌, All, IfOk, IsTrue};
 ghost use Rattle.dm_assembly_desk.specs.Views.{IsCapacity};
-ghost use Rattle.dm_event_steps.specs.Beginning.{AreEmpty};
-ghost use Rattle.dm_event_world.specs.inner.Ready.{AreDesksReady};
+ghost use Rattle.dm_event_world.specs.inner.Desks.{AreEmpty};
 
+use crate::actor::{DeskActor, DeskState};
 use dm_assembly_desk::{Desk, MOST_CAPACITY};
-use dm_event_steps::{DeskActor, DeskState};
 use dm_store::MemSet;
 use std::alloc::{AllocError, Allocator};
 
@@ -34,7 +33,6 @@ pub(crate) fn open_desks<A: Allocator + Copy>(
 ) -> Result<Vec<DeskActor<A>, A>, AllocError>
     requires { All IsCapacity capacities.now }
     ensures empty { IfOk result (λ desks. AreEmpty capacities.now desks.items) }
-    ensures ready { IfOk result (λ desks. AreDesksReady desks.items) }
 {
     let mut desks = Vec::with_capacity(alloc, capacities.len())?;
     for capacity in capacities {

@@ -13,10 +13,10 @@
 //! identification was printed twice.
 #![tactic(auto)]
 
+mod actor;
 mod answers;
 mod call;
 mod desk_act;
-mod desk_moves;
 mod desk_opening;
 mod fault;
 mod printer_act;

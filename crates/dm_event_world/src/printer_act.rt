@@ -1,38 +1,35 @@
-//! One event at one printer.
+//! Events at one printer.
 //!
-//! A printer that is down answers so. Then the memory that the event itself needs is asked for. Then the call is made,
-//! the next save's plan being that of the stop; or it is stopped, and the printer is down over its store. A call that
-//! is stopped after its save is made too; if its own memory is refused, that is answered, and the printer runs on as it
-//! was.
+//! A printer that is down answers so. Then the memory that the event itself needs is asked for. A call that is stopped
+//! before its save is not made. Any other is made, the next save's plan being that of the stop; and if it is to end
+//! before its reply the printer is down then, over its store, unless the call's own memory was refused.
 
-ghost use Rattle.std.specs.Prelude.{◌≡◌, ◌≢◌, ◌+◌, ◌≤◌, ◌++◌, ℕ, List, Some, Result, Err, OnOk, OnErr};
-ghost use Rattle.std.specs.Prelude.{length, slice_get, take, vec_len, vec_capacity};
-ghost use Rattle.dm_print_ledger.specs.Moving.{Gives, Takes};
+ghost use Rattle.std.specs.Prelude.{◌≡◌, ℕ, false, ◌+◌, ◌≤◌, ◌++◌, [], IfOk, IsTrue, length, take, vec_len, vec_capacity, if◌then◌else◌};
 ghost use Rattle.dm_print_ledger.specs.Printing.{Prints};
-ghost use Rattle.dm_print_ledger.specs.Views.{JobView, TicketView};
-ghost use Rattle.dm_event_history.specs.declared.event.Event.TheVariants.{Print, Give, Take, RestartPrinter};
-ghost use Rattle.dm_event_history.specs.Saving.{IsStopping};
-ghost use Rattle.dm_event_steps.specs.Acts.{PrinterActs, StopsPrinter, LacksMemory, PrintsAt, GivesAt, TakesAt};
-ghost use Rattle.dm_event_steps.specs.Acts.{planned, saved_of, stopped_labels};
-ghost use Rattle.dm_event_steps.specs.Labels.{left_labels};
-ghost use Rattle.dm_event_steps.specs.Ready.{IsReady};
-ghost use Rattle.dm_event_world.specs.inner.PrinterCalls.{IsCalledUnder, labels_before};
+ghost use Rattle.dm_print_ledger.specs.Ranges.{is_range};
+ghost use Rattle.dm_print_ledger.specs.Verdicts.{Gives, Takes};
+ghost use Rattle.dm_event_history.specs.Calls.{Calls, MayLackFirst, Restarts};
+ghost use Rattle.dm_event_history.specs.PrinterCalls.{GiveComes, PrintComes, TakeComes, give_faults, print_faults, take_faults};
+ghost use Rattle.dm_event_world.specs.Shows.{ShowsPrinter};
+ghost use Rattle.dm_event_world.specs.inner.Stops.{IsMadeUnder, ends_early, most_labels};
+ghost use Rattle.dm_event_world.specs.inner.Ends.{EndsEach, Left, ended, ended_reply};
+ghost use Rattle.dm_event_world.specs.inner.Printers.{RestartsAs, down_printer, give_reply, job_labels, left_labels, left_ticket, planned, print_reply, saved_of, take_reply};
 
-use crate::call::{is_stopping, next_save};
+use crate::actor::{LeftLabel, PrinterActor};
+use crate::call::{is_stopped_before, is_stopping, lacks_memory, most_labels, next_save};
 use dm_append_label::MOST_LABELS;
 use dm_check_blocks::Size;
 use dm_encodation::Scheme;
-use dm_event_history::{Kept, Reply, Stop};
-use dm_event_steps::{LeftLabel, PrinterActor};
+use dm_event_history::{Reply, Stop};
 use dm_print_ledger::{GiveFault, Job, OpenRefused, PrintFault, Printer, Range, TakeFault, Ticket};
 use dm_store::{MemStore, NextSave};
-use std::alloc::{AllocError, Allocator};
+use std::alloc::Allocator;
 use std::mem;
 
 // ---- down and up
 
-// Closes a printer, or takes the store of one that is down.
-fn close<A: Allocator + Copy>(actor: PrinterActor<A>) -> MemStore<A>
+// The store of a printer, which is closed if it runs.
+fn store_of<A: Allocator + Copy>(actor: PrinterActor<A>) -> MemStore<A>
     ensures { result ≡ saved_of actor }
 {
     match actor {
@@ -41,19 +38,32 @@ fn close<A: Allocator + Copy>(actor: PrinterActor<A>) -> MemStore<A>
     }
 }
 
-// Takes the store of an actor, which is down over an empty one until it is given another.
-fn take_store<A: Allocator + Copy>(alloc: A, actor: &mut PrinterActor<A>) -> MemStore<A>
-    ensures { result ≡ saved_of actor.old }
+// Takes a printer down, over its store. It takes no memory.
+fn take_down<A: Allocator + Copy>(alloc: A, actor: &mut PrinterActor<A>)
+    ensures { actor.new ≡ down_printer actor.old }
 {
-    let empty = PrinterActor::Down(MemStore::new(alloc));
-    close(mem::replace(actor, empty))
+    let store = store_of(mem::replace(actor, PrinterActor::Down(MemStore::new(alloc))));
+    *actor = PrinterActor::Down(store);
 }
 
-// Takes a printer down, over its store.
-fn take_down<A: Allocator + Copy>(alloc: A, actor: &mut PrinterActor<A>)
-    ensures { actor.new ≡ PrinterActor.Down (saved_of actor.old) }
+// Ends a call that was made and is answered so: under a stop the printer is down, unless the call lacked memory.
+fn end<A: Allocator + Copy>(
+    alloc: A,
+    actor: &mut PrinterActor<A>,
+    stop: Stop,
+    reply: Reply<A>,
+) -> Reply<A>
+    ensures told { result ≡ ended_reply stop reply }
+    ensures ended { actor.new ≡ ended down_printer stop reply actor.old }
 {
-    *actor = PrinterActor::Down(take_store(alloc, actor));
+    if !is_stopping(stop) {
+        return reply;
+    }
+    if lacks_memory(&reply) {
+        return Reply::Memory;
+    }
+    take_down(alloc, actor);
+    Reply::Stopped
 }
 
 /// Closes the printer of this number, if it runs, and opens it again. One that is refused is down.
@@ -62,13 +72,9 @@ pub(crate) fn restart<A: Allocator + Copy>(
     number: u16,
     actor: &mut PrinterActor<A>,
 ) -> Reply<A>
-    requires ready { IsReady (saved_of actor.old) }
-    ensures acts { (labels : List (LeftLabel A)) (tickets : List TicketView) →
-        PrinterActs (RestartPrinter number) actor.old (record { labels = labels; tickets = tickets })
-        result actor.new (record { labels = labels; tickets = tickets }) }
-    ensures ready { IsReady (saved_of actor.new) }
+    ensures ends { RestartsAs number actor.old result actor.new }
 {
-    let store = take_store(alloc, actor);
+    let store = store_of(mem::replace(actor, PrinterActor::Down(MemStore::new(alloc))));
     match Printer::open(alloc, store, number) {
         Ok(printer) => {
             *actor = PrinterActor::Running(printer);
@@ -83,7 +89,7 @@ pub(crate) fn restart<A: Allocator + Copy>(
 
 // ---- prints
 
-// Prints a document under a stop.
+// Prints a document under the plan of a stop.
 fn print_under<A: Allocator + Copy>(
     printer: &mut Printer<MemStore<A>, A>,
     document: &[u8],
@@ -91,10 +97,8 @@ fn print_under<A: Allocator + Copy>(
     scheme: Scheme,
     stop: Stop,
 ) -> Result<Job<A>, PrintFault>
-    requires ready { IsReady printer.old.saved }
-    ensures prints { IsCalledUnder stop printer.old
-        (λ old new. Prints old size scheme document.now result new) printer.new }
-    ensures ready { IsReady printer.new.saved }
+    ensures { IsMadeUnder planned stop (λ old answer new. Prints old size scheme document.now answer new)
+        printer.old result printer.new }
 {
     printer.set_next(next_save(stop));
     let outcome = printer.print(document, size, scheme);
@@ -122,82 +126,31 @@ fn let_out<A: Allocator + Copy>(labels: &mut Vec<LeftLabel<A>, A>, mut job: Job<
     }
 }
 
-// Prints a document, and lets its labels out.
-fn print_at<A: Allocator + Copy>(
-    printer: &mut Printer<MemStore<A>, A>,
+// What is answered to a print, whose labels leave, as many as do under the stop.
+fn tell_print<A: Allocator + Copy>(
     labels: &mut Vec<LeftLabel<A>, A>,
-    document: &[u8],
-    size: Size,
-    scheme: Scheme,
+    outcome: Result<Job<A>, PrintFault>,
     stop: Stop,
 ) -> Reply<A>
-    requires ready { IsReady printer.old.saved }
+    requires few { IfOk outcome (λ job. length job.labels ≤ MOST_LABELS) }
     requires room { vec_len labels.old + MOST_LABELS ≤ vec_capacity labels.old }
-    ensures prints { PrintsAt printer.old document.now size scheme stop labels.old.items
-        result printer.new labels.new.items }
-    ensures ready { IsReady printer.new.saved }
+    ensures told { result ≡ print_reply (length labels.old.items) outcome }
+    ensures left { labels.new.items ≡ labels.old.items ++ job_labels (most_labels stop) outcome }
 {
-    match print_under(printer, document, size, scheme, stop) {
+    match outcome {
         Ok(job) => {
             let id = job.id();
             let first = labels.len();
             let count = job.count();
-            let_out(labels, job, count);
+            let_out(labels, job, most_labels(stop));
             Reply::Printed { id, first, count }
         }
         Err(fault) => Reply::PrintRefused(fault),
     }
 }
 
-// How many labels of a print leave before a stop, where the print is made at all.
-fn labels_before(stop: Stop) -> Option<u8>
-    ensures { result ≡ labels_before stop }
-{
-    match stop {
-        Stop::AfterLabels(most) => Some(most),
-        Stop::InSave(Kept::New) => Some(0),
-        Stop::BeforeSave | Stop::InSave(Kept::Old) | Stop::None | Stop::SaveFault(_) => None,
-    }
-}
-
-// What a print that is stopped does to the labels, and to its printer until that is taken down. Where the print's own
-// memory is refused, nothing changes.
-fn stop_print<A: Allocator + Copy>(
-    printer: &mut Printer<MemStore<A>, A>,
-    labels: &mut Vec<LeftLabel<A>, A>,
-    document: &[u8],
-    size: Size,
-    scheme: Scheme,
-    stop: Stop,
-) -> Result<(), AllocError>
-    requires ready { IsReady printer.old.saved }
-    requires room { vec_len labels.old + MOST_LABELS ≤ vec_capacity labels.old }
-    requires stopping { IsStopping stop }
-    ensures stops { OnOk result ((answer : Result JobView PrintFault) ×
-        (labels.new.items ≡ labels.old.items ++ stopped_labels stop answer) ×
-        StopsPrinter {A = A} stop printer.old
-        (λ mid. (answer ≢ Err PrintFault.Memory) ×
-        Prints (planned printer.old NextSave.Fine) size scheme document.now answer mid)
-        (PrinterActor.Down printer.new.saved)) }
-    ensures no_memory { OnErr result ((printer.new ≡ printer.old) × (labels.new.items ≡ labels.old.items)) }
-    ensures ready { IsReady printer.new.saved }
-{
-    let Some(most) = labels_before(stop) else {
-        return Ok(());
-    };
-    match print_under(printer, document, size, scheme, Stop::None) {
-        Ok(job) => {
-            let_out(labels, job, most);
-            Ok(())
-        }
-        Err(PrintFault::Memory) => Err(AllocError),
-        Err(_) => Ok(()),
-    }
-}
-
-/// Prints a document, and lets its labels out; under a stop, some of them or none, and the printer is down. The memory
-/// for the labels is asked for before all else; where it is refused, or that of a print that is to be stopped, nothing
-/// changes.
+/// Prints a document, and lets its labels out; under a stop some of them, or none. The memory for the labels is asked
+/// for before all else; where it is refused, or that of the print itself, nothing changes.
 pub(crate) fn print<A: Allocator + Copy>(
     alloc: A,
     actor: &mut PrinterActor<A>,
@@ -207,12 +160,9 @@ pub(crate) fn print<A: Allocator + Copy>(
     scheme: Scheme,
     stop: Stop,
 ) -> Reply<A>
-    requires ready { IsReady (saved_of actor.old) }
-    ensures acts { (printer : ℕ) (tickets : List TicketView) →
-        PrinterActs (Print printer document.now size scheme stop)
-        actor.old (record { labels = labels.old.items; tickets = tickets })
-        result actor.new (record { labels = labels.new.items; tickets = tickets }) }
-    ensures ready { IsReady (saved_of actor.new) }
+    ensures ends { EndsEach ShowsPrinter
+        (MayLackFirst (Calls print_faults stop (PrintComes (length labels.old.items) document.now size scheme)))
+        (λ goods. Left labels.old.items [] [] goods labels.new.items [] []) actor.old result actor.new }
 {
     let PrinterActor::Running(printer) = actor else {
         return Reply::Down;
@@ -220,28 +170,26 @@ pub(crate) fn print<A: Allocator + Copy>(
     let Ok(()) = labels.reserve(MOST_LABELS) else {
         return Reply::Memory;
     };
-    if !is_stopping(stop) {
-        return print_at(printer, labels, document, size, scheme, stop);
+    if is_stopped_before(stop) {
+        take_down(alloc, actor);
+        return Reply::Stopped;
     }
-    let Ok(()) = stop_print(printer, labels, document, size, scheme, stop) else {
-        return Reply::Memory;
-    };
-    take_down(alloc, actor);
-    Reply::Stopped
+    let outcome = print_under(printer, document, size, scheme, stop);
+    let reply = tell_print(labels, outcome, stop);
+    end(alloc, actor, stop, reply)
 }
 
 // ---- gives
 
-// Gives a range under a stop.
+// Gives a range under the plan of a stop.
 fn give_under<A: Allocator + Copy>(
     printer: &mut Printer<MemStore<A>, A>,
     receiver: u16,
     range: Range,
     stop: Stop,
 ) -> Result<Ticket, GiveFault>
-    requires ready { IsReady printer.old.saved }
-    ensures gives { IsCalledUnder stop printer.old (λ old new. Gives old receiver range result new) printer.new }
-    ensures ready { IsReady printer.new.saved }
+    ensures { IsMadeUnder planned stop (λ old answer new. Gives old receiver range answer new)
+        printer.old result printer.new }
 {
     printer.set_next(next_save(stop));
     let outcome = printer.give(receiver, range);
@@ -249,60 +197,30 @@ fn give_under<A: Allocator + Copy>(
     outcome
 }
 
-// Gives a range, and lets its ticket out.
-fn give_at<A: Allocator + Copy>(
-    printer: &mut Printer<MemStore<A>, A>,
+// What is answered to a give, whose ticket leaves unless the give is to end before its reply.
+fn tell_give<A: Allocator + Copy>(
     tickets: &mut Vec<Ticket, A>,
-    receiver: u16,
-    range: Range,
+    outcome: Result<Ticket, GiveFault>,
     stop: Stop,
 ) -> Reply<A>
-    requires ready { IsReady printer.old.saved }
     requires room { vec_len tickets.old + 1 ≤ vec_capacity tickets.old }
-    ensures gives { GivesAt printer.old receiver range stop tickets.old.items result printer.new tickets.new.items }
-    ensures ready { IsReady printer.new.saved }
+    ensures told { result ≡ give_reply (length tickets.old.items) outcome }
+    ensures left { tickets.new.items ≡ tickets.old.items ++ (if ends_early stop then [] else left_ticket outcome) }
 {
-    match give_under(printer, receiver, range, stop) {
+    match outcome {
         Ok(ticket) => {
             let index = tickets.len();
-            tickets.push_reserved(ticket);
+            if !is_stopping(stop) {
+                tickets.push_reserved(ticket);
+            }
             Reply::Given { index, ticket }
         }
         Err(fault) => Reply::GiveRefused(fault),
     }
 }
 
-// What a give that is stopped does to its printer, until that is taken down. Where the give's own memory is refused,
-// nothing changes.
-fn stop_give<A: Allocator + Copy>(
-    printer: &mut Printer<MemStore<A>, A>,
-    receiver: u16,
-    range: Range,
-    stop: Stop,
-) -> Result<(), AllocError>
-    requires ready { IsReady printer.old.saved }
-    requires stopping { IsStopping stop }
-    ensures stops { OnOk result (StopsPrinter {A = A} stop printer.old
-        (λ mid. (answer : Result TicketView GiveFault) × (answer ≢ Err GiveFault.Memory) ×
-        Gives (planned printer.old NextSave.Fine) receiver range answer mid)
-        (PrinterActor.Down printer.new.saved)) }
-    ensures no_memory { OnErr result (printer.new ≡ printer.old) }
-    ensures ready { IsReady printer.new.saved }
-{
-    match stop {
-        Stop::InSave(Kept::New) | Stop::AfterLabels(_) => {
-            match give_under(printer, receiver, range, Stop::None) {
-                Err(GiveFault::Memory) => Err(AllocError),
-                _ => Ok(()),
-            }
-        }
-        Stop::BeforeSave | Stop::InSave(Kept::Old) | Stop::None | Stop::SaveFault(_) => Ok(()),
-    }
-}
-
-/// Gives a range of numbers to a receiver, and lets the ticket out; under a stop there is no ticket, and the printer is
-/// down. The memory for the ticket is asked for before all else; where it is refused, or that of a give that is to be
-/// stopped, nothing changes.
+/// Gives a range of numbers to a receiver, and lets the ticket out; under a stop there is no ticket. The memory for the
+/// ticket is asked for before all else; where it is refused, or that of the give itself, nothing changes.
 pub(crate) fn give<A: Allocator + Copy>(
     alloc: A,
     actor: &mut PrinterActor<A>,
@@ -311,12 +229,9 @@ pub(crate) fn give<A: Allocator + Copy>(
     range: Range,
     stop: Stop,
 ) -> Reply<A>
-    requires ready { IsReady (saved_of actor.old) }
-    ensures acts { (printer : ℕ) (labels : List (LeftLabel A)) →
-        PrinterActs (Give printer receiver range stop)
-        actor.old (record { labels = labels; tickets = tickets.old.items })
-        result actor.new (record { labels = labels; tickets = tickets.new.items }) }
-    ensures ready { IsReady (saved_of actor.new) }
+    ensures ends { EndsEach ShowsPrinter
+        (MayLackFirst (Calls give_faults stop (GiveComes (length tickets.old.items) receiver range)))
+        (λ goods. Left {A = A} [] tickets.old.items [] goods [] tickets.new.items []) actor.old result actor.new }
 {
     let PrinterActor::Running(printer) = actor else {
         return Reply::Down;
@@ -324,27 +239,26 @@ pub(crate) fn give<A: Allocator + Copy>(
     let Ok(()) = tickets.reserve(1) else {
         return Reply::Memory;
     };
-    if !is_stopping(stop) {
-        return give_at(printer, tickets, receiver, range, stop);
+    if is_stopped_before(stop) {
+        take_down(alloc, actor);
+        return Reply::Stopped;
     }
-    let Ok(()) = stop_give(printer, receiver, range, stop) else {
-        return Reply::Memory;
-    };
-    take_down(alloc, actor);
-    Reply::Stopped
+    let outcome = give_under(printer, receiver, range, stop);
+    let reply = tell_give(tickets, outcome, stop);
+    end(alloc, actor, stop, reply)
 }
 
 // ---- takes
 
-// Takes a ticket under a stop.
+// Takes a ticket under the plan of a stop.
 fn take_under<A: Allocator + Copy>(
     printer: &mut Printer<MemStore<A>, A>,
     ticket: &Ticket,
     stop: Stop,
 ) -> Result<(), TakeFault>
-    requires ready { IsReady printer.old.saved }
-    ensures takes { IsCalledUnder stop printer.old (λ old new. Takes old ticket.now result new) printer.new }
-    ensures ready { IsReady printer.new.saved }
+    ensures takes { IsMadeUnder planned stop (λ old answer new. Takes old ticket.now answer new)
+        printer.old result printer.new }
+    ensures range { printer.old.is_failed ≡ false → IsTrue (is_range ticket.now.range) }
 {
     printer.set_next(next_save(stop));
     let outcome = printer.take(ticket);
@@ -352,74 +266,34 @@ fn take_under<A: Allocator + Copy>(
     outcome
 }
 
-// Takes a ticket.
-fn take_at<A: Allocator + Copy>(
-    printer: &mut Printer<MemStore<A>, A>,
-    ticket: &Ticket,
-    stop: Stop,
-) -> Reply<A>
-    requires ready { IsReady printer.old.saved }
-    ensures takes { TakesAt printer.old ticket.now stop result printer.new }
-    ensures ready { IsReady printer.new.saved }
+// What is answered to a take.
+fn tell_take<A: Allocator + Copy>(outcome: Result<(), TakeFault>) -> Reply<A>
+    ensures { result ≡ take_reply outcome }
 {
-    match take_under(printer, ticket, stop) {
+    match outcome {
         Ok(()) => Reply::Taken,
         Err(fault) => Reply::TakeRefused(fault),
     }
 }
 
-// What a take that is stopped does to its printer, until that is taken down. Where the take's own memory is refused,
-// the printer runs on.
-fn stop_take<A: Allocator + Copy>(
-    printer: &mut Printer<MemStore<A>, A>,
-    ticket: &Ticket,
-    stop: Stop,
-) -> Result<(), AllocError>
-    requires ready { IsReady printer.old.saved }
-    requires stopping { IsStopping stop }
-    ensures stops { OnOk result (StopsPrinter {A = A} stop printer.old
-        (λ mid. (answer : Result (Unit {0}) TakeFault) × (answer ≢ Err TakeFault.Memory) ×
-        Takes (planned printer.old NextSave.Fine) ticket.now answer mid)
-        (PrinterActor.Down printer.new.saved)) }
-    ensures no_memory { OnErr result (LacksMemory {A = A} stop
-        (λ mid. Takes (planned printer.old NextSave.Fine) ticket.now (Err TakeFault.Memory) mid)
-        (PrinterActor.Running printer.new)) }
-    ensures ready { IsReady printer.new.saved }
-{
-    match stop {
-        Stop::InSave(Kept::New) | Stop::AfterLabels(_) => {
-            match take_under(printer, ticket, Stop::None) {
-                Err(TakeFault::Memory) => Err(AllocError),
-                _ => Ok(()),
-            }
-        }
-        Stop::BeforeSave | Stop::InSave(Kept::Old) | Stop::None | Stop::SaveFault(_) => Ok(()),
-    }
-}
-
-/// Takes a ticket that was given; under a stop the printer is down, unless the take's own memory is refused.
+/// Takes a ticket, which left under this number.
 pub(crate) fn take<A: Allocator + Copy>(
     alloc: A,
     actor: &mut PrinterActor<A>,
     ticket: &Ticket,
     stop: Stop,
 ) -> Reply<A>
-    requires ready { IsReady (saved_of actor.old) }
-    ensures acts { (printer number : ℕ) (labels : List (LeftLabel A)) (tickets : List TicketView) →
-        slice_get tickets number ≡ Some ticket.now →
-        PrinterActs (Take printer number stop) actor.old (record { labels = labels; tickets = tickets })
-        result actor.new (record { labels = labels; tickets = tickets }) }
-    ensures ready { IsReady (saved_of actor.new) }
+    ensures ends { (number : ℕ) → EndsEach ShowsPrinter (Calls take_faults stop (TakeComes number ticket.now))
+        (λ goods. Left {A = A} [] [] [] goods [] [] []) actor.old result actor.new }
 {
     let PrinterActor::Running(printer) = actor else {
         return Reply::Down;
     };
-    if !is_stopping(stop) {
-        return take_at(printer, ticket, stop);
+    if is_stopped_before(stop) {
+        take_down(alloc, actor);
+        return Reply::Stopped;
     }
-    let Ok(()) = stop_take(printer, ticket, stop) else {
-        return Reply::Memory;
-    };
-    take_down(alloc, actor);
-    Reply::Stopped
+    let outcome = take_under(printer, ticket, stop);
+    let reply = tell_take(outcome);
+    end(alloc, actor, stop, reply)
 }

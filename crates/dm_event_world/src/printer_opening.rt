@@ -1,19 +1,19 @@
 //! The printers that a world begins with.
 
 ghost use Rattle.std.specs.Prelude.{◌↔◌, ◌≤◌, IsTrue, IfOk, All, length};
-ghost use Rattle.dm_print_ledger.specs.Ranges.{IsRange};
+ghost use Rattle.dm_print_ledger.specs.Ranges.{is_range};
 ghost use Rattle.dm_event_history.specs.Places.{IsApart, AreDisjoint};
-ghost use Rattle.dm_event_steps.specs.Beginning.{AreFresh};
-ghost use Rattle.dm_event_world.specs.inner.Ready.{ArePrintersReady};
+ghost use Rattle.dm_event_world.specs.StandsFor.{AreRanges};
+ghost use Rattle.dm_event_world.specs.inner.Printers.{AreFresh};
 
-use dm_event_steps::PrinterActor;
+use crate::actor::PrinterActor;
 use dm_print_ledger::{CreateFault, CreateRefused, Printer, Range, is_range};
 use dm_store::MemStore;
 use std::alloc::{AllocError, Allocator};
 
 /// Whether each of them has numbers, all of them of identifications.
 pub(crate) fn are_ranges(ranges: &[Range]) -> bool
-    ensures { IsTrue result ↔ All IsRange ranges.now }
+    ensures { IsTrue result ↔ AreRanges ranges.now }
 {
     ranges.iter().all(|range| is_range(*range))
 }
@@ -52,10 +52,9 @@ pub(crate) fn create_printers<A: Allocator + Copy>(
     alloc: A,
     ranges: &[Range],
 ) -> Result<Vec<PrinterActor<A>, A>, AllocError>
-    requires ranges { All IsRange ranges.now }
+    requires ranges { AreRanges ranges.now }
     requires disjoint { AreDisjoint ranges.now }
     ensures fresh { IfOk result (λ printers. AreFresh ranges.now printers.items) }
-    ensures ready { IfOk result (λ printers. ArePrintersReady printers.items) }
     ensures few { IfOk result (λ printers. length printers.items ≤ 65536) }
 {
     let mut printers = Vec::with_capacity(alloc, ranges.len())?;

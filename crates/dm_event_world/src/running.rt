@@ -1,18 +1,16 @@
 //! Events of a world, one after another.
 
 ghost use Rattle.std.specs.Prelude.{◌≡◌, IfOk, IfErr, OnErr};
-ghost use Rattle.dm_event_steps.specs.Worlds.{Runs};
 ghost use Rattle.dm_event_world.specs.Openings.{HasWorldFault};
-ghost use Rattle.dm_event_world.specs.Runs.{GoesOnByAll};
-ghost use Rattle.dm_event_world.specs.Watched.{Answers, AnswersAll, IsWatched};
+ghost use Rattle.dm_event_world.specs.StandsFor.{GoesOnByAll};
+ghost use Rattle.dm_event_world.specs.Watched.{IsWatched};
+ghost use Rattle.dm_event_world.specs.inner.Events.{Answers, AnswersAll};
 
 use crate::answers::Answer;
 use crate::fault::WorldFault;
 use crate::steps::is_honest;
 use crate::world::World;
-use dm_event_history::laws::headline;
 use dm_event_history::{Event, Reply};
-use dm_event_steps::laws::{each_run_stands, each_step_stands};
 use dm_print_ledger::Range;
 use std::alloc::{AllocError, Allocator};
 
@@ -25,11 +23,9 @@ pub fn run<A: Allocator + Copy>(
     world: &mut World<A>,
     events: &[Event<A>],
 ) -> Result<Vec<Reply<A>, A>, AllocError>
-    ensures runs { IfOk result (λ replies. Runs world.old events.now replies.items world.new) }
     ensures stands { IfOk result (λ replies. GoesOnByAll world.old events.now replies.items world.new) }
     ensures refused { OnErr result (world.new ≡ world.old) }
 {
-    each_run_stands::<A>();
     let mut replies = Vec::with_capacity(alloc, events.len())?;
     for event in events {
         replies.push_reserved(world.step(event));
@@ -83,8 +79,6 @@ pub fn watch<A: Allocator + Copy>(
         Ok(world) => world,
         Err(fault) => return Err(fault),
     };
-    each_step_stands::<A>();
-    headline::<A>();
     match answer_all(alloc, &mut world, events) {
         Ok(answers) => Ok(answers),
         Err(AllocError) => Err(WorldFault::Memory),

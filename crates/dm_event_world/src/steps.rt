@@ -2,18 +2,17 @@
 
 ghost use Rattle.std.specs.Prelude.{◌≡◌, ◌↔◌, true, IfOk, OnErr};
 ghost use Rattle.dm_event_history.specs.declared.event.Event.TheVariants.{Print, Scan, RestartPrinter, RestartDesk, Ask, Forget, Give, Take, Export, Import};
-ghost use Rattle.dm_event_steps.specs.Worlds.{Steps, IsFairIn};
-ghost use Rattle.dm_event_world.specs.Runs.{GoesOn};
-ghost use Rattle.dm_event_world.specs.Watched.{IsLookedAt};
+ghost use Rattle.dm_event_world.specs.Worlds.{IsFairIn, IsLookedAt};
+ghost use Rattle.dm_event_world.specs.StandsFor.{GoesOn};
+ghost use Rattle.dm_event_world.specs.inner.Events.{Steps};
 
 use crate::scanned::are_within;
 use crate::world::World;
-use crate::{desk_act, desk_moves, printer_act};
+use crate::{desk_act, printer_act};
 use dm_append_label::FileId;
 use dm_check_blocks::Size;
 use dm_encodation::Scheme;
 use dm_event_history::{Event, Reply, Stop};
-use dm_event_steps::laws::each_step_stands;
 use dm_print_ledger::Range;
 use dm_symbol::still_near;
 use std::alloc::{AllocError, Allocator};
@@ -21,10 +20,8 @@ use std::alloc::{AllocError, Allocator};
 impl<A: Allocator + Copy> World<A> {
     /// One event. What it names that is not there is answered `NoSuch`, and then nothing changes.
     pub fn step(&mut self, event: &Event<A>) -> Reply<A>
-        ensures steps { Steps self.old event.now result self.new }
         ensures stands { GoesOn self.old event.now result self.new }
     {
-        each_step_stands::<A>();
         match event {
             Event::Print {
                 printer,
@@ -152,7 +149,7 @@ impl<A: Allocator + Copy> World<A> {
         let Some(actor) = self.desks.get(desk) else {
             return Reply::NoSuch;
         };
-        desk_moves::export(&actor.state, &mut self.exports, id)
+        desk_act::export(&actor.state, &mut self.exports, id)
     }
 
     fn import(&mut self, desk: usize, export: usize, stop: Stop) -> Reply<A>
@@ -164,7 +161,7 @@ impl<A: Allocator + Copy> World<A> {
         let Some(actor) = self.desks.get_mut(desk) else {
             return Reply::NoSuch;
         };
-        desk_moves::import(self.alloc, &mut actor.state, left.bytes.as_slice(), stop)
+        desk_act::import(self.alloc, &mut actor.state, left.bytes.as_slice(), stop)
     }
 
     fn restart_desk(&mut self, desk: usize) -> Reply<A>

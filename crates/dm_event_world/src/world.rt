@@ -1,16 +1,15 @@
 //! Worlds of printers and desks.
 
 ghost use Rattle.std.specs.Prelude.{◌≡◌, [], IfOk, IfErr, length, option_map, slice_get};
-ghost use Rattle.dm_event_steps.specs.StandsFor.{StandsFor};
-ghost use Rattle.dm_event_world.specs.Left.{label_name};
-ghost use Rattle.dm_event_world.specs.Openings.{Begins, HasWorldFault};
+ghost use Rattle.dm_event_world.specs.Openings.{HasWorldFault};
+ghost use Rattle.dm_event_world.specs.StandsFor.{StandsFor};
+ghost use Rattle.dm_event_world.specs.Worlds.{label_name};
 
+use crate::actor::{DeskActor, LeftExport, LeftLabel, PrinterActor};
 use crate::desk_opening::{are_capacities, open_desks};
 use crate::fault::WorldFault;
 use crate::printer_opening::{are_disjoint, are_ranges, create_printers};
 use dm_append_label::FileId;
-use dm_event_steps::laws::each_beginning_stands;
-use dm_event_steps::{DeskActor, LeftExport, LeftLabel, PrinterActor};
 use dm_print_ledger::{Range, Ticket};
 use std::alloc::{Allocator, Global};
 use std::marker::Model;
@@ -32,9 +31,8 @@ impl<A: Allocator + Copy> Model for World<A> {
     ghost use Rattle.std.specs.Coded.{codes};
     ghost use Rattle.dm_store.specs.Codes.{saved_set_code};
     ghost use Rattle.dm_assembly_desk.specs.Codes.{documents_code, desk_code};
-    ghost use Rattle.dm_event_steps.specs.Worlds.{WorldView};
+    ghost use Rattle.dm_event_world.specs.Worlds.{WorldView};
     ghost use Rattle.dm_event_world.specs.inner.Codes.{contents_code};
-    ghost use Rattle.dm_event_world.specs.inner.Ready.{ArePrintersReady, AreDesksReady};
 
     ghost Value = { WorldView A };
 
@@ -48,8 +46,7 @@ impl<A: Allocator + Copy> Model for World<A> {
       exports = w.exports.items;
     } };
 
-    ghost invariant = { λ w. ArePrintersReady w.printers.items × AreDesksReady w.desks.items
-        × (length w.printers.items ≤ 65536) };
+    ghost invariant = { λ w. length w.printers.items ≤ 65536 };
 }
 
 impl<A: Allocator + Copy> World<A> {
@@ -59,7 +56,6 @@ impl<A: Allocator + Copy> World<A> {
     /// # Errors
     /// `Range`, `Overlap` or `Capacity`, the first that applies; `Memory` where none does and the allocator refuses.
     pub fn new(alloc: A, ranges: &[Range], capacities: &[u16]) -> Result<World<A>, WorldFault>
-        ensures begins { IfOk result (Begins ranges.now capacities.now) }
         ensures stands { IfOk result (λ world. StandsFor ranges.now capacities.now world []) }
         ensures refused { IfErr result (HasWorldFault ranges.now capacities.now) }
     {
@@ -78,7 +74,6 @@ impl<A: Allocator + Copy> World<A> {
         let Ok(desks) = open_desks(alloc, capacities) else {
             return Err(WorldFault::Memory);
         };
-        each_beginning_stands::<A>();
         Ok(World {
             alloc,
             printers,

@@ -1,18 +1,19 @@
 -- A ledger can be read back from its bytes.
-use Rattle.std.proofs.Common.{◌≡◌, ◌≢◌, ◌≤◌, ◌<◌, ◌+◌, ◌-◌, ◌*◌, ◌/◌, ◌%◌, ℕ, List, [], ◌∷◌, ◌++◌, length, get_or, refl, ap, ◌∙◌, sym, subst, arith, append_assoc, length-append, suc}
+use Rattle.std.proofs.Common.{◌≡◌, ◌≤◌, ◌<◌, ◌+◌, ◌-◌, ◌*◌, ◌/◌, ◌%◌, ℕ, List, [], ◌∷◌, ◌++◌, length, get_or, refl, ap, ◌∙◌, sym, subst, arith, append_assoc, length-append, suc}
 use Rattle.std.specs.List.{flat_map}
 use Rattle.std.specs.Prelude.{slice_index}
 use Rattle.std.proofs.lemmas.List.{get_or_at, get_or-append-add}
+use Rattle.dm_print_ledger.proofs.Rising.{IsSound}
 use Rattle.dm_print_ledger.specs.declared.range.Range.{Range}
 use Rattle.dm_print_ledger.specs.declared.giver.Giver.{Giver}
 use Rattle.dm_print_ledger.specs.Views.{LedgerView}
 use Rattle.dm_print_ledger.specs.Ranges.{free_count}
-use Rattle.dm_print_ledger.specs.Ledger.{IsSound, ledger_bytes, range_bytes, giver_bytes}
-use Rattle.dm_print_ledger.specs.Numbers.{number_in, two_bytes}
-use Rattle.dm_print_ledger.specs.inner.Reading.{pairs_in, make_range, make_giver, range_count, giver_count, HasSize, read_from}
+use Rattle.dm_print_ledger.specs.Ledger.{ledger_bytes, range_bytes, giver_bytes}
+use Rattle.dm_print_ledger.specs.Ledger.{number_in, two_bytes}
+use Rattle.dm_print_ledger.specs.Ledger.{pairs_in, make_range, make_giver, range_count, giver_count, numbers_in}
 
 -- a number is that of its two bytes
-joins : (n : ℕ) → 256 * (n / 256) + n % 256 ≡ n
+pub joins : (n : ℕ) → 256 * (n / 256) + n % 256 ≡ n
 joins n = omega arith
 
 -- one more pair, and the rest after it
@@ -145,6 +146,12 @@ giver_count_is l =
     ∙ ap (λ bytes. slice_index bytes (10 + 4 * length l.free)) (regrouped l)
     ∙ get_or_at (ranges_of l) (length l.givers) (givers_of l) 0 (10 + 4 * length l.free) (length-ranges_of l)
 
+-- there are as many bytes as the counts ask for
+pub record HasSize (bytes : List ℕ) : Type 0 where
+  pub ranges : range_count bytes ≤ 64
+  pub givers : giver_count bytes ≤ 64
+  pub size : length bytes ≡ 13 + 4 * range_count bytes + 4 * giver_count bytes
+
 -- a sound ledger has as many bytes as its counts ask for
 pub has_size : (l : LedgerView) → IsSound l → HasSize (ledger_bytes l)
 has_size l sound =
@@ -189,14 +196,13 @@ unfolding ledger_bytes
 serial_again l = joins l.next_serial
 
 -- the ledger of four fields
-abbrev view_of : ℕ → ℕ → List Range → List Giver → LedgerView
+abbrev pub view_of : ℕ → ℕ → List Range → List Giver → LedgerView
 view_of number serial free givers = record { number = number; next_serial = serial; free = free; givers = givers }
 
 -- what is written is read
-pub read_again : (l : LedgerView) → read_from (ledger_bytes l) ≡ l
-unfolding read_from
+pub read_again : (l : LedgerView) → numbers_in (ledger_bytes l) ≡ l
+unfolding numbers_in
 read_again l =
-    let bytes : List ℕ = ledger_bytes l in
     let free : pairs_in make_range (ledger_bytes l) 10 (range_count (ledger_bytes l)) ≡ l.free =
     ap (λ n. pairs_in make_range (ledger_bytes l) 10 n) (range_count_is l) ∙ free_again l in
     let givers : pairs_in make_giver (ledger_bytes l) (11 + 4 * range_count (ledger_bytes l))
@@ -204,37 +210,14 @@ read_again l =
     ap (λ n. pairs_in make_giver (ledger_bytes l) (11 + 4 * n) (giver_count (ledger_bytes l))) (range_count_is l)
     ∙ ap (λ n. pairs_in make_giver (ledger_bytes l) (11 + 4 * length l.free) n) (giver_count_is l)
     ∙ givers_again l in
-    ap (λ n. view_of n (number_in (ledger_bytes l) 7)
-    (pairs_in make_range (ledger_bytes l) 10 (range_count (ledger_bytes l)))
-    (pairs_in make_giver (ledger_bytes l) (11 + 4 * range_count (ledger_bytes l)) (giver_count (ledger_bytes l))))
-    (number_again l)
-    ∙ ap (λ n. view_of l.number n (pairs_in make_range (ledger_bytes l) 10 (range_count (ledger_bytes l)))
-    (pairs_in make_giver (ledger_bytes l) (11 + 4 * range_count (ledger_bytes l)) (giver_count (ledger_bytes l))))
-    (serial_again l)
-    ∙ ap (λ f. view_of l.number l.next_serial f
-    (pairs_in make_giver (ledger_bytes l) (11 + 4 * range_count (ledger_bytes l))
-    (giver_count (ledger_bytes l)))) free
-    ∙ ap (λ g. view_of l.number l.next_serial l.free g) givers
+    let number = number_again l in
+    let serial = serial_again l in
+    let all : numbers_in (ledger_bytes l) ≡ view_of l.number l.next_serial l.free l.givers = cc in
+    all
 
 -- bytes of a sound ledger have the size that their counts ask for
 pub size_spelled : (bytes : List ℕ) (l : LedgerView) → IsSound l → bytes ≡ ledger_bytes l → HasSize bytes
 size_spelled bytes l sound e = subst HasSize (sym e) (has_size l sound)
-
--- bytes of a ledger are read as that ledger
-pub read_spelled : (bytes : List ℕ) (l : LedgerView) → bytes ≡ ledger_bytes l → read_from bytes ≡ l
-read_spelled bytes l e = ap read_from e ∙ read_again l
-
--- where the ledger that is read is not sound, the bytes spell none
-pub not_sound : (bytes : List ℕ) (read : LedgerView) → read ≡ read_from bytes → ¬ IsSound read → (l : LedgerView) →
-    IsSound l →
-    ¬ (bytes ≡ ledger_bytes l)
-not_sound bytes read e wrong l sound h = wrong (subst IsSound (sym (e ∙ read_spelled bytes l h)) sound)
-
--- bytes that differ from those of what was read spell no sound ledger
-pub not_spelled : (bytes : List ℕ) (read : LedgerView) → read ≡ read_from bytes → bytes ≢ ledger_bytes read →
-    (l : LedgerView) →
-    IsSound l → ¬ (bytes ≡ ledger_bytes l)
-not_spelled bytes read e wrong l sound h = wrong (h ∙ ap ledger_bytes (sym (e ∙ read_spelled bytes l h)))
 
 -- one pair more was read
 pub pairs_step : {X : Type 0} (make : ℕ → ℕ → X) (bytes : List ℕ) (at i count a b : ℕ) (old new all : List X) →
@@ -259,23 +242,8 @@ pub written : (number serial ranges count others : ℕ) (free : List Range) (giv
     h ≡ ledger_bytes (view_of number serial free givers)
 unfolding ledger_bytes
 written number serial ranges count others free givers a b c d e f g h pa pb pc pd pe pf pg ph pr po pn =
-    let check : List ℕ = two_bytes (65535 - count) in
-    let tail : ((flat_map range_bytes free ++ others ∷ []) ++ flat_map giver_bytes givers) ++ two_bytes (65535 - count)
-    ≡ flat_map range_bytes free ++ (others ∷ (flat_map giver_bytes givers ++ two_bytes (65535 - count))) =
-    append_assoc (flat_map range_bytes free ++ others ∷ []) (flat_map giver_bytes givers) (two_bytes (65535 - count))
-    ∙ append_assoc (flat_map range_bytes free) (others ∷ []) (flat_map giver_bytes givers ++
-    two_bytes (65535 - count)) in
-    let whole : h ≡ 68 ∷ 77 ∷ 76 ∷ 71 ∷ 2 ∷ number / 256 ∷ number % 256 ∷ serial / 256 ∷ serial % 256 ∷ ranges ∷
-    (((flat_map range_bytes free ++ others ∷ []) ++ flat_map giver_bytes givers) ++ two_bytes (65535 - count)) =
-    ph ∙ ap (λ x. x ++ two_bytes (65535 - count)) (pg ∙
-    ap (λ x. x ++ flat_map giver_bytes givers) (pf ∙ ap (λ x. x ++ others ∷ [])
-    (pe ∙ ap (λ x. x ++ flat_map range_bytes free) (pd ∙ ap (λ x. x ++ ranges ∷ []) (pc
-    ∙ ap (λ x. x ++ two_bytes serial) (pb ∙ ap (λ x. x ++ two_bytes number) pa)))))) in
-    whole
-    ∙ ap (λ t. 68 ∷ 77 ∷ 76 ∷ 71 ∷ 2 ∷ number / 256 ∷ number % 256 ∷ serial / 256 ∷ serial % 256 ∷ ranges ∷ t) tail
-    ∙ ap (λ n. 68 ∷ 77 ∷ 76 ∷ 71 ∷ 2 ∷ number / 256 ∷ number % 256 ∷ serial / 256 ∷ serial % 256 ∷ n ∷
-    (flat_map range_bytes free ++ (others ∷ (flat_map giver_bytes givers ++ two_bytes (65535 - count))))) pr
-    ∙ ap (λ n. 68 ∷ 77 ∷ 76 ∷ 71 ∷ 2 ∷ number / 256 ∷ number % 256 ∷ serial / 256 ∷ serial % 256 ∷ length free ∷
-    (flat_map range_bytes free ++ (n ∷ (flat_map giver_bytes givers ++ two_bytes (65535 - count))))) po
-    ∙ ap (λ n. 68 ∷ 77 ∷ 76 ∷ 71 ∷ 2 ∷ number / 256 ∷ number % 256 ∷ serial / 256 ∷ serial % 256 ∷ length free ∷
-    (flat_map range_bytes free ++ (length givers ∷ (flat_map giver_bytes givers ++ two_bytes (65535 - n))))) pn
+    let check : List ℕ = two_bytes (65535 - free_count free) in
+    rw (ph, pg, pf, pe, pd, pc, pb, pa, pr, po, pn)
+    (ap (λ t. 68 ∷ 77 ∷ 76 ∷ 71 ∷ 2 ∷ number / 256 ∷ number % 256 ∷ serial / 256 ∷ serial % 256 ∷ length free ∷ t)
+    (append_assoc (flat_map range_bytes free ++ length givers ∷ []) (flat_map giver_bytes givers) check
+    ∙ append_assoc (flat_map range_bytes free) (length givers ∷ []) (flat_map giver_bytes givers ++ check)))

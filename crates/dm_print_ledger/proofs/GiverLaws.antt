@@ -1,10 +1,11 @@
 -- Givers, of which one is noted.
-use Rattle.std.proofs.Common.{◌≡◌, ◌+◌, ◌≤◌, ◌<◌, ◌⊎◌, inl, inr, ℕ, Bool, true, false, Option, Some, None, List, [], ◌∷◌, length, refl, sym, ◌∙◌, ap, subst, arith}
+use Rattle.dm_print_ledger.specs.FreeNumbers.{Notes}
+use Rattle.std.proofs.Common.{◌≡◌, ◌+◌, ◌≤◌, ◌<◌, ◌⊎◌, inl, inr, ℕ, Bool, true, false, Some, None, List, [], ◌∷◌, refl, sym, ◌∙◌, ap, subst, arith}
 use Rattle.std.specs.Prelude.{nat_lt, ◌==◌, if◌then◌else◌}
 use Rattle.std.proofs.lemmas.Bool.{lt-ltb, le-ltb, eq-eqb, ne_eqb, cond-true, cond-false, eqb-true, cases_lt, cases_eq}
+use Rattle.dm_print_ledger.proofs.Rising.{GiversFrom, givers_test}
 use Rattle.dm_print_ledger.specs.declared.giver.Giver.{Giver}
-use Rattle.dm_print_ledger.specs.Givers.{last_taken, GiversFrom, Notes}
-use Rattle.dm_print_ledger.specs.inner.Changes.{givers_with}
+use Rattle.dm_print_ledger.specs.Givers.{last_taken, givers_with}
 
 -- no giver below the first number is listed
 none_below : (from : ℕ) (givers : List Giver) (number : ℕ) → GiversFrom from givers → number < from →
@@ -109,82 +110,6 @@ with_last from (giver ∷ givers) last other rise =
           cond-false (a == c) x z (ne_eqb a c not'))
     ]
 
--- a list grows by one that is new, and only then
-pub with_known : (from : ℕ) (givers : List Giver) (last : Giver) (serial : ℕ) → GiversFrom from givers →
-    last_taken givers last.number ≡ Some serial → length (givers_with givers last) ≤ length givers
-with_known from [] last serial rise h = cc
-with_known from (giver ∷ givers) last serial rise h =
-    let P : List Giver → Type 0 = λ all. length all ≤ length (giver ∷ givers) in
-    elim (three giver.number last.number) [
-      | inl past ↦
-          let ne : giver.number ≡ last.number → ⊥ = (λ e. omega arith) in
-          let rest : last_taken givers last.number ≡ Some serial = sym
-          (cond-false (giver.number == last.number) (Some giver.serial) (last_taken givers last.number)
-          (ne_eqb _ _ ne)) ∙ h in
-          let n : length (givers_with givers last) ≤ length givers =
-          with_known (giver.number + 1) givers last serial rise.1 rest in
-          subst P (sym (with_past giver givers last past)) (omega arith)
-      | inr g ↦ elim g [
-        | inl here ↦ subst P (sym (with_here giver givers last here)) (omega arith)
-        | inr before ↦
-            let least : giver.number ≤ giver.number = omega arith in
-            let none : last_taken (giver ∷ givers) last.number
-            ≡ None = none_below giver.number (giver ∷ givers) last.number (least, rise.1) before in
-            some_not_none (last_taken (giver ∷ givers) last.number) serial h none
-      ]
-    ]
-  where
-    some_not_none : {A : Type 0} (o : Option ℕ) (n : ℕ) → o ≡ Some n → o ≡ None → A
-    some_not_none o n e f = cc
-
--- a giver that was not listed is one more
-pub with_new : (givers : List Giver) (last : Giver) → last_taken givers last.number ≡ None →
-    length (givers_with givers last) ≡ length givers + 1
-with_new [] last h = refl
-with_new (giver ∷ givers) last h =
-    let P : List Giver → Type 0 = λ all. length all ≡ length (giver ∷ givers) + 1 in
-    elim (three giver.number last.number) [
-      | inl past ↦
-          let ne : giver.number ≡ last.number → ⊥ = (λ e. omega arith) in
-          let rest : last_taken givers last.number ≡ None = sym
-          (cond-false (giver.number == last.number) (Some giver.serial) (last_taken givers last.number)
-          (ne_eqb _ _ ne)) ∙ h in
-          let n : length (givers_with givers last) ≡ length givers + 1 = with_new givers last rest in
-          subst P (sym (with_past giver givers last past)) (omega arith)
-      | inr g ↦ elim g [
-        | inl here ↦ some_none giver.serial (last_taken (giver ∷ givers) last.number)
-            (cond-true (giver.number == last.number) (Some giver.serial) (last_taken givers last.number)
-            (eq-eqb _ _ here)) h
-        | inr before ↦ subst P (sym (with_before giver givers last before)) (omega arith)
-      ]
-    ]
-  where
-    some_none : {A : Type 0} (n : ℕ) (o : Option ℕ) → o ≡ Some n → o ≡ None → A
-    some_none n o e f = cc
-
--- givers that one more makes too many are 64, and it is not one of them
-pub one_too_many : (givers : List Giver) (last : Giver) → GiversFrom 0 givers → length givers ≤ 64 →
-    64 < length (givers_with givers last) →
-    (last_taken givers last.number ≡ None) × (length givers ≡ 64)
-one_too_many givers last rise few many = go (last_taken givers last.number) refl
-  where
-    go : (o : Option ℕ) → last_taken givers last.number ≡ o → (last_taken givers last.number ≡ None) ×
-        (length givers ≡ 64)
-    go None e =
-        let n : length (givers_with givers last) ≡ length givers + 1 = with_new givers last e in
-        (e, omega arith)
-    go (Some serial) e =
-        let n : length (givers_with givers last) ≤ length givers = with_known 0 givers last serial rise e in
-        absurd (omega arith)
-
--- where the givers with one more are few, it is listed or they were fewer
-pub not_one_too_many : (givers : List Giver) (last : Giver) → length (givers_with givers last) ≤ 64 →
-    ¬ ((last_taken givers last.number ≡ None) × (length givers ≡ 64))
-not_one_too_many givers last few h =
-    let n : length (givers_with givers last) ≡ length givers + 1 = with_new givers last h.0 in
-    let m : length givers ≡ 64 = h.1 in
-    omega arith
-
 -- the noted list notes
 pub notes : (givers : List Giver) (number serial : ℕ) → GiversFrom 0 givers →
     (let last : Giver = record { number = number; serial = serial } in
@@ -192,6 +117,7 @@ pub notes : (givers : List Giver) (number serial : ℕ) → GiversFrom 0 givers 
 notes givers number serial rise =
     let last : Giver = record { number = number; serial = serial } in
     record {
-      givers = with_rise 0 givers last rise (let l : 0 ≤ number = omega arith in l);
+      givers = givers_test 0 (givers_with givers last) (with_rise 0 givers last rise
+          (let l : 0 ≤ number = omega arith in l));
       last = λ other. with_last 0 givers last other rise;
     }

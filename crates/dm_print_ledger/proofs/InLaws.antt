@@ -1,11 +1,13 @@
 -- Ranges and one more.
 use Rattle.std.proofs.Common.{◌≡◌, ◌+◌, ◌≤◌, ◌<◌, ◌⊎◌, ℕ, Bool, true, false, ◌||◌, List, [], ◌∷◌, refl, sym, ◌∙◌, ap, subst, inl, inr, arith, min, max}
 use Rattle.std.specs.List.{list_any}
-use Rattle.std.specs.Prelude.{nat_lt, MatchBool, if◌then◌else◌}
+use Rattle.std.specs.Prelude.{nat_lt, if◌then◌else◌}
 use Rattle.std.proofs.lemmas.Bool.{leb-true, le-leb, lt-ltb, le-ltb, or_left, or_right, or_cases, or_parts, and_parts, and_from, cond-true, cond-false, cases_lt}
+use Rattle.dm_print_ledger.specs.FreeNumbers.{AreTaken, PutsIn}
+use Rattle.dm_print_ledger.proofs.Rising.{IsRange, RiseFrom, rise_test}
 use Rattle.dm_print_ledger.specs.declared.range.Range.{Range}
-use Rattle.dm_print_ledger.specs.Ranges.{IsRange, is_in, is_free, RiseFrom, free_count, size_of, AreTaken, HasFree, PutsIn}
-use Rattle.dm_print_ledger.specs.inner.Changes.{meets, hull, union_of}
+use Rattle.dm_print_ledger.specs.Ranges.{is_in, is_free, free_count, size_of}
+use Rattle.dm_print_ledger.specs.Changes.{meets, hull, union_of}
 use Rattle.dm_print_ledger.proofs.RangeTests.{same_tests, both, in_from, at_least, at_most, not_in_below, not_in_above, free_here, free_after, not_free}
 use Rattle.dm_print_ledger.proofs.RangeLaws.{below_not_free, rise_lower}
 
@@ -34,6 +36,10 @@ common one range is some h =
       in_from range
           (max one.first range.first) (omega arith) (omega arith),
     )
+
+-- some number of the range is free
+abbrev pub HasFree : List Range → Range → Type 0
+HasFree ranges range = (number : ℕ) × (is_in range number ≡ true) × (is_free ranges number ≡ true)
 
 -- where a range meets one of them, some number of it is free
 pub meets_free : (from : ℕ) (ranges : List Range) (range : Range) → RiseFrom from ranges → range.first ≤ range.last →
@@ -248,15 +254,15 @@ pub puts_in : (ranges : List Range) (range : Range) → RiseFrom 0 ranges → Is
 puts_in ranges range rise is taken =
     let inner : IsIn 0 ranges range (union_of ranges range) = in_from_all 0 ranges range rise (omega arith) is in
     record {
-      ranges = inner.rises;
-      were_taken = taken;
+      ranges = rise_test 0 (union_of ranges range) inner.rises;
       free = inner.free;
       count = inner.count taken;
     }
 
--- a test for a range that meets another
-pub has_free_by : (ranges : List Range) (range : Range) (test : Bool) → RiseFrom 0 ranges → IsRange range →
-    test ≡ any_meets ranges range →
-    MatchBool test (HasFree ranges range) (AreTaken ranges range)
-has_free_by ranges range true rise is e = meets_free 0 ranges range rise is.not_empty (sym e)
-has_free_by ranges range false rise is e = meets_none ranges range (sym e)
+-- where no number of a range is free, no range meets it
+pub meets_no : (ranges : List Range) (range : Range) (test : Bool) → RiseFrom 0 ranges → IsRange range →
+    test ≡ any_meets ranges range → AreTaken ranges range → test ≡ false
+meets_no ranges range true rise is e taken =
+    let found = meets_free 0 ranges range rise is.not_empty (sym e) in
+    both _ found.2 (taken found.0 found.1)
+meets_no ranges range false rise is e taken = refl

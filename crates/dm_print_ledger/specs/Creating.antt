@@ -1,39 +1,33 @@
 -- What the creation of a printer does to a store.
-use Rattle.std.specs.Prelude.{◌≡◌, ◌⊎◌, ℕ, [], ◌∷◌, false, None, Ok, Err, IsTrue, IsSome}
-use Rattle.dm_store.specs.Saved.{Saved, Replaces, MemoryOpen, LoadsOpen}
+use Rattle.std.specs.Prelude.{◌≡◌, ◌⊎◌, ℕ, [], ◌∷◌, None, Result, Ok, Err, IsTrue, IsSome, IfOk, MatchBool}
+use Rattle.dm_store.specs.Saved.{Saved, Replaces, LoadsOpen}
 use Rattle.dm_store.specs.declared.store.ReplaceFault.TheVariants as replacing
 use Rattle.dm_print_ledger.specs.declared.range.Range.{Range}
 use Rattle.dm_print_ledger.specs.declared.fault.CreateFault.{CreateFault}
 use Rattle.dm_print_ledger.specs.declared.fault.CreateFault.TheVariants as creating
-use Rattle.dm_print_ledger.specs.Ranges.{IsRange}
+use Rattle.dm_print_ledger.specs.Ranges.{is_range}
 use Rattle.dm_print_ledger.specs.Ledger.{ledger_bytes}
-use Rattle.dm_print_ledger.specs.Views.{LedgerView, PrinterView}
-use Rattle.dm_print_ledger.specs.Saving.{HoldsLedger}
+use Rattle.dm_print_ledger.specs.Views.{LedgerView, PrinterView, running}
 
 -- the ledger of a printer with this number of whose range nothing was used
 abbrev pub opening : ℕ → Range → LedgerView
 opening number range = record { number = number; next_serial = 0; free = range ∷ []; givers = [] }
 
--- a running printer whose opening ledger was saved where nothing was held
-pub record Creates (saved : Saved) (number : ℕ) (range : Range) (printer : PrinterView) : Type 0 where
-  pub in_range : IsRange range
-  pub was_empty : IsTrue saved.is_honest → saved.content ≡ None
-  pub ledger : printer.ledger ≡ opening number range
-  pub running : printer.is_failed ≡ false
-  pub replaced : Replaces saved (ledger_bytes (opening number range)) (Ok tt) printer.saved
-  pub holds : IsTrue saved.is_honest → HoldsLedger printer.saved (opening number range)
-
--- the load met a device fault and nothing changed, or the save where nothing was held
-abbrev pub FailsToCreate : Saved → LedgerView → Saved → Type 0
-FailsToCreate old ledger new =
+-- a store before and after a first ledger was to be saved where nothing is held, and how it ended
+abbrev pub SavesFirst : {X : Type 0} → Saved → LedgerView → Result X CreateFault → Saved → Type 0
+SavesFirst old ledger (Ok _) new =
+    (IsTrue old.is_honest → old.content ≡ None) × Replaces old (ledger_bytes ledger) (Ok tt) new
+SavesFirst old ledger (Err creating.Exists) new = (IsTrue old.is_honest → IsSome old.content) × (new ≡ old)
+SavesFirst old ledger (Err creating.Device) new =
     ((old.load_plan ≡ LoadsOpen) × (new ≡ old))
     ⊎ ((IsTrue old.is_honest → old.content ≡ None) × Replaces old (ledger_bytes ledger) (Err replacing.Device) new)
+SavesFirst old ledger (Err creating.Memory) new = new ≡ old
+SavesFirst old ledger (Err creating.Range) new = ⊥
 
--- why nothing was created, and what the store is then
-abbrev pub HasCreateFault : Saved → ℕ → Range → CreateFault → Saved → Type 0
-HasCreateFault old number range creating.Exists new =
-    IsRange range × (IsTrue old.is_honest → IsSome old.content) × (new ≡ old)
-HasCreateFault old number range creating.Range new = (¬ IsRange range) × (new ≡ old)
-HasCreateFault old number range creating.Device new = IsRange range × FailsToCreate old (opening number range) new
-HasCreateFault old number range creating.Memory new =
-    IsRange range × (new ≡ old) × (old.memory_plan ≡ MemoryOpen)
+-- a printer of this number that runs over its store, with this range free, or why there is none
+pub record Creates (old : Saved) (number : ℕ) (range : Range) (answer : Result PrinterView CreateFault) (new : Saved)
+    : Type 0 where
+  pub saves : MatchBool (is_range range)
+      (SavesFirst old (opening number range) answer new)
+      ((answer ≡ Err creating.Range) × (new ≡ old))
+  pub runs : IfOk answer (λ printer. printer ≡ running new (opening number range))

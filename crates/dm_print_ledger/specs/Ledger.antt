@@ -1,25 +1,31 @@
--- Saved ledgers: the bytes of one of either version, and what is wrong with other bytes. The format is this project's
--- own. Numbers have two bytes, the most significant first; counts have one byte.
-use Rattle.std.specs.Prelude.{◌≡◌, ◌≢◌, ◌⊎◌, ◌≤◌, ◌+◌, ◌-◌, ◌/◌, ◌%◌, ℕ, List, [], ◌∷◌, ◌++◌, length, take, slice_get, IsSomeAnd, nat_lt, if◌then◌else◌}
-use Rattle.std.specs.List.{flat_map}
+-- Saved ledgers: what they are, and what bytes are read as. The format is this project's own. Numbers have two bytes,
+-- the most significant first; counts have one byte.
+use Rattle.std.specs.Prelude.{◌≡◌, ℕ, ◌+◌, ◌-◌, ◌*◌, ◌/◌, ◌%◌, ◌↔◌, Bool, ◌&&◌, not, List, [], ◌∷◌, ◌++◌, length, slice_index, Some, None, Result, Ok, Err, IsTrue, ◌==◌, nat_le, nat_lt, nat_eq, if◌then◌else◌, zero, suc}
+use Rattle.std.specs.List.{flat_map, starts_with}
+use Rattle.std.specs.Cmp.Lexicographic.{pointwise}
 use Rattle.dm_print_ledger.specs.declared.range.Range.{Range}
 use Rattle.dm_print_ledger.specs.declared.giver.Giver.{Giver}
-use Rattle.dm_print_ledger.specs.declared.first_format.FirstLedger.{FirstLedger}
+use Rattle.dm_print_ledger.specs.declared.fault.OpenFault.{OpenFault}
+use Rattle.dm_print_ledger.specs.declared.fault.OpenFault.TheVariants.{NotALedger, Version, Damaged}
 use Rattle.dm_print_ledger.specs.declared.limits.TheConstants.{GREATEST, MOST_RANGES, MOST_GIVERS}
-use Rattle.dm_print_ledger.specs.Givers.{AreGivers}
-use Rattle.dm_print_ledger.specs.Numbers.{two_bytes}
-use Rattle.dm_print_ledger.specs.Ranges.{AreRanges, free_count}
-use Rattle.dm_print_ledger.specs.Views.{LedgerView}
+use Rattle.dm_print_ledger.specs.Givers.{are_givers}
+use Rattle.dm_print_ledger.specs.Ranges.{are_ranges, free_count}
+use Rattle.dm_print_ledger.specs.Views.{LedgerView, ShownView}
+
+abbrev pub two_bytes : ℕ → List ℕ
+two_bytes n = n / 256 ∷ n % 256 ∷ []
+
+-- the number whose two bytes stand at a place
+abbrev pub number_in : List ℕ → ℕ → ℕ
+number_in bytes at = 256 * slice_index bytes at + slice_index bytes (at + 1)
 
 -- ---- version 2
 
--- Its free numbers are at most 64 ranges (`MOST_RANGES`), which rise and do not touch, and its givers are at most 64
--- (`MOST_GIVERS`), which rise.
-pub record IsSound (ledger : LedgerView) : Type 0 where
-  pub ranges : AreRanges ledger.free
-  pub few_ranges : length ledger.free ≤ MOST_RANGES
-  pub givers : AreGivers ledger.givers
-  pub few_givers : length ledger.givers ≤ MOST_GIVERS
+-- its free numbers are at most 64 ranges, which rise and do not touch, and its givers at most 64, which rise
+abbrev pub is_sound : LedgerView → Bool
+is_sound ledger =
+    are_ranges ledger.free && nat_le (length ledger.free) MOST_RANGES
+    && are_givers ledger.givers && nat_le (length ledger.givers) MOST_GIVERS
 
 abbrev pub range_bytes : Range → List ℕ
 range_bytes range = range.first / 256 ∷ range.first % 256 ∷ range.last / 256 ∷ range.last % 256 ∷ []
@@ -37,64 +43,105 @@ ledger_bytes ledger =
     (length ledger.givers ∷ (flat_map giver_bytes ledger.givers ++
     two_bytes (65535 - free_count ledger.free))))
 
+-- what that many pairs of numbers make, from a place on
+abbrev pub pairs_in : {X : Type 0} → (ℕ → ℕ → X) → List ℕ → ℕ → ℕ → List X
+pairs_in make bytes at zero = []
+pairs_in make bytes at (suc n) = make (number_in bytes at) (number_in bytes (at + 2)) ∷ pairs_in make bytes (at + 4) n
+
+abbrev pub make_range : ℕ → ℕ → Range
+make_range first last = record { first = first; last = last }
+
+abbrev pub make_giver : ℕ → ℕ → Giver
+make_giver number serial = record { number = number; serial = serial }
+
+-- the counts of ranges and of givers
+abbrev pub range_count : List ℕ → ℕ
+range_count bytes = slice_index bytes 9
+
+abbrev pub giver_count : List ℕ → ℕ
+giver_count bytes = slice_index bytes (10 + 4 * range_count bytes)
+
+-- the ledger whose numbers stand in the bytes, whether it is sound or not
+unfoldable pub numbers_in : List ℕ → LedgerView
+numbers_in bytes = record {
+  number = number_in bytes 5;
+  next_serial = number_in bytes 7;
+  free = pairs_in make_range bytes 10 (range_count bytes);
+  givers = pairs_in make_giver bytes (11 + 4 * range_count bytes) (giver_count bytes);
+}
+
+-- what a ledger says
+abbrev pub shown_of : LedgerView → ShownView
+shown_of ledger = record {
+  number = Some ledger.number;
+  next_serial = ledger.next_serial;
+  free = ledger.free;
+  givers = ledger.givers;
+}
+
+-- the bytes are those of a sound ledger
+abbrev pub read_second : List ℕ → Result ShownView OpenFault
+read_second bytes =
+    if is_sound (numbers_in bytes) && pointwise nat_eq bytes (ledger_bytes (numbers_in bytes))
+    then Ok (shown_of (numbers_in bytes)) else Err Damaged
+
 -- ---- version 1
 
--- identifications first to last, of which those from next on are free
-pub record IsFirst (ledger : FirstLedger) : Type 0 where
-  pub not_empty : ledger.first ≤ ledger.last
-  pub within : ledger.last ≤ GREATEST
-  pub from_first : ledger.first ≤ ledger.next
-  pub to_last : ledger.next ≤ ledger.last + 1
+-- the identifications `first` to `last`, of which those from `next` on are free
+pub record FirstLedger : Type 0 where
+  pub first : ℕ
+  pub last : ℕ
+  pub next : ℕ
 
--- "DMLG", the version 1, the three numbers, and as a check 65,535 less the next number
-unfoldable pub first_ledger_bytes : FirstLedger → List ℕ
-first_ledger_bytes ledger =
-    68 ∷ 77 ∷ 76 ∷ 71 ∷ 1 ∷ (two_bytes ledger.first ++ two_bytes ledger.last ++ two_bytes ledger.next ++
-    two_bytes (65535 - ledger.next))
+-- its numbers are in order
+abbrev pub are_in_order : FirstLedger → Bool
+are_in_order ledger =
+    nat_le ledger.first ledger.last && nat_le ledger.last GREATEST
+    && nat_le ledger.first ledger.next && nat_le ledger.next (ledger.last + 1)
 
--- the ledger with which a printer of this number goes on from one of version 1
-abbrev pub continuation_of : FirstLedger → ℕ → LedgerView
-continuation_of ledger number = record {
-  number = number;
+-- "DMLG", the version 1, the three numbers, and as a check 65,535 less the next one
+unfoldable pub first_bytes : FirstLedger → List ℕ
+first_bytes ledger =
+    68 ∷ 77 ∷ 76 ∷ 71 ∷ 1 ∷ (two_bytes ledger.first ++ (two_bytes ledger.last ++ (two_bytes ledger.next ++
+    two_bytes (65535 - ledger.next))))
+
+-- the one whose numbers stand in the bytes
+abbrev pub first_in : List ℕ → FirstLedger
+first_in bytes = record { first = number_in bytes 5; last = number_in bytes 7; next = number_in bytes 9 }
+
+-- It says no number, and knows of no ticket.
+abbrev pub shown_of_first : FirstLedger → ShownView
+shown_of_first ledger = record {
+  number = None;
   next_serial = 0;
   free = if nat_lt ledger.last ledger.next then [] else record { first = ledger.next; last = ledger.last } ∷ [];
   givers = [];
 }
 
--- the bytes are those of a ledger of version 1, from which its printer goes on with this ledger
-abbrev pub IsContinuation : List ℕ → LedgerView → Type 0
-IsContinuation bytes ledger =
-    (first : FirstLedger) × IsFirst first × (bytes ≡ first_ledger_bytes first)
-    × (ledger ≡ continuation_of first ledger.number)
+abbrev pub is_first : List ℕ → Bool
+is_first bytes = are_in_order (first_in bytes) && pointwise nat_eq bytes (first_bytes (first_in bytes))
+
+abbrev pub read_first : List ℕ → Result ShownView OpenFault
+read_first bytes = if is_first bytes then Ok (shown_of_first (first_in bytes)) else Err Damaged
 
 -- ---- both
 
--- the bytes spell this ledger
-pub record Spells (bytes : List ℕ) (ledger : LedgerView) : Type 0 where
-  pub sound : IsSound ledger
-  pub spelled : (bytes ≡ ledger_bytes ledger) ⊎ IsContinuation bytes ledger
+-- what bytes are read as
+abbrev pub read_ledger : List ℕ → Result ShownView OpenFault
+read_ledger bytes =
+    if not (starts_with nat_eq bytes (68 ∷ 77 ∷ 76 ∷ 71 ∷ [])) then Err NotALedger else
+    if nat_lt (length bytes) 5 then Err Damaged else
+    if slice_index bytes 4 == 1 then read_first bytes else
+    if slice_index bytes 4 == 2 then read_second bytes else
+    Err Version
 
--- the bytes begin as those of a ledger
-abbrev pub IsMarked : List ℕ → Type 0
-IsMarked bytes = take 4 bytes ≡ 68 ∷ 77 ∷ 76 ∷ 71 ∷ []
+-- the bytes are those of a sound ledger of either version, which says this
+pub data Spells (bytes : List ℕ) : ShownView → Type 0 where
+  second : (ledger : LedgerView) → IsTrue (is_sound ledger) → bytes ≡ ledger_bytes ledger
+      → Spells bytes (shown_of ledger)
+  first : (ledger : FirstLedger) → IsTrue (are_in_order ledger) → bytes ≡ first_bytes ledger
+      → Spells bytes (shown_of_first ledger)
 
--- the fifth byte is there, and is another version's
-abbrev pub IsOther : List ℕ → Type 0
-IsOther bytes = IsSomeAnd (slice_get bytes 4) (λ version. (version ≢ 1) × (version ≢ 2))
-
--- ---- what is wrong with bytes that are no ledger of a printer
-
-abbrev pub IsNoLedger : List ℕ → Type 0
-IsNoLedger bytes = ¬ IsMarked bytes
-
-abbrev pub IsOfOtherVersion : List ℕ → Type 0
-IsOfOtherVersion bytes = IsMarked bytes × IsOther bytes
-
--- they begin as those of a ledger of a known version, or end there, and spell no ledger
-abbrev pub IsDamaged : List ℕ → Type 0
-IsDamaged bytes = IsMarked bytes × (¬ IsOther bytes) × ((ledger : LedgerView) → ¬ Spells bytes ledger)
-
--- they are those of a sound ledger of version 2 of a printer with another number
-abbrev pub IsOfOtherNumber : List ℕ → ℕ → Type 0
-IsOfOtherNumber bytes number =
-    (ledger : LedgerView) × IsSound ledger × (bytes ≡ ledger_bytes ledger) × (ledger.number ≢ number)
+-- bytes are read exactly where they are those of a sound ledger
+abbrev pub ReadsWhatIsSpelled : Type 0
+ReadsWhatIsSpelled = (bytes : List ℕ) (shown : ShownView) → (read_ledger bytes ≡ Ok shown) ↔ Spells bytes shown

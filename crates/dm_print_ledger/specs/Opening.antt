@@ -1,49 +1,39 @@
--- What a store gives to a printer that is opened on it.
-use Rattle.std.specs.Prelude.{◌≡◌, ◌⊎◌, false, None, ℕ, IsTrue, IsSomeAnd}
-use Rattle.dm_store.specs.Saved.{Saved, MemoryOpen, LoadsOpen}
+-- What a store gives to who loads a ledger from it, and to a printer that is opened on it.
+use Rattle.std.specs.Prelude.{◌≡◌, ◌⊎◌, ℕ, List, Option, Some, None, Result, Ok, Err, IsTrue, ◌==◌, unwrap_or, if◌then◌else◌}
+use Rattle.dm_store.specs.Saved.{Saved, LoadsOpen}
 use Rattle.dm_print_ledger.specs.declared.fault.OpenFault.{OpenFault}
-use Rattle.dm_print_ledger.specs.declared.fault.OpenFault.TheVariants.{Absent, NotALedger, Version, Damaged, Number, Device, Memory}
-use Rattle.dm_print_ledger.specs.Ledger.{IsNoLedger, IsOfOtherVersion, IsDamaged, IsOfOtherNumber}
-use Rattle.dm_print_ledger.specs.Views.{PrinterView}
-use Rattle.dm_print_ledger.specs.Saving.{HoldsLedger}
+use Rattle.dm_print_ledger.specs.declared.fault.OpenFault.TheVariants.{Absent, Number, Device, Memory}
+use Rattle.dm_print_ledger.specs.Ledger.{read_ledger}
+use Rattle.dm_print_ledger.specs.Views.{LedgerView, PrinterView, ShownView, running}
 
--- a running printer of this number over the unchanged store, with the ledger that an honest store holds
-pub record Opens (saved : Saved) (number : ℕ) (printer : PrinterView) : Type 0 where
-  pub same : printer.saved ≡ saved
-  pub running : printer.is_failed ≡ false
-  pub number_is : printer.ledger.number ≡ number
-  pub found : IsTrue saved.is_honest → HoldsLedger saved printer.ledger
+-- what is read from what a store holds
+abbrev pub show_verdict : Option (List ℕ) → Result ShownView OpenFault
+show_verdict None = Err Absent
+show_verdict (Some bytes) = read_ledger bytes
 
--- what a store holds that gives no printer of this number
-abbrev pub HoldsNone : Saved → ℕ → OpenFault → Type 0
-HoldsNone saved number Absent = saved.content ≡ None
-HoldsNone saved number NotALedger = IsSomeAnd saved.content (λ bytes. IsNoLedger bytes)
-HoldsNone saved number Version = IsSomeAnd saved.content (λ bytes. IsOfOtherVersion bytes)
-HoldsNone saved number Damaged = IsSomeAnd saved.content (λ bytes. IsDamaged bytes)
-HoldsNone saved number Number = IsSomeAnd saved.content (λ bytes. IsOfOtherNumber bytes number)
-HoldsNone saved number Device = ⊥
-HoldsNone saved number Memory = ⊥
+-- the ledger with which the printer of a number goes on
+abbrev pub numbered : ℕ → Result ShownView OpenFault → Result LedgerView OpenFault
+numbered number (Err fault) = Err fault
+numbered number (Ok shown) = if unwrap_or shown.number number == number
+    then Ok (record { number = number; next_serial = shown.next_serial; free = shown.free; givers = shown.givers })
+    else Err Number
 
--- why there is no printer of this number over the store
-abbrev pub HasOpenFault : Saved → ℕ → OpenFault → Type 0
-HasOpenFault saved number Absent = IsTrue saved.is_honest → HoldsNone saved number Absent
-HasOpenFault saved number NotALedger = IsTrue saved.is_honest → HoldsNone saved number NotALedger
-HasOpenFault saved number Version = IsTrue saved.is_honest → HoldsNone saved number Version
-HasOpenFault saved number Damaged = IsTrue saved.is_honest → HoldsNone saved number Damaged
-HasOpenFault saved number Number = IsTrue saved.is_honest → HoldsNone saved number Number
-HasOpenFault saved number Device = saved.load_plan ≡ LoadsOpen
-HasOpenFault saved number Memory = saved.memory_plan ≡ MemoryOpen
+abbrev pub open_verdict : Option (List ℕ) → ℕ → Result LedgerView OpenFault
+open_verdict content number = numbered number (show_verdict content)
 
--- the load failed: that alone keeps a printer from an honest store that holds a ledger of its number
-abbrev pub MayFailToLoad : OpenFault → Type 0
-MayFailToLoad Device = Unit {0}
-MayFailToLoad Memory = Unit {0}
-MayFailToLoad Absent = ⊥
-MayFailToLoad NotALedger = ⊥
-MayFailToLoad Version = ⊥
-MayFailToLoad Damaged = ⊥
-MayFailToLoad Number = ⊥
+-- the store, if it is honest, holds this ledger
+abbrev pub HoldsLedger : Saved → LedgerView → Type 0
+HoldsLedger saved ledger = IsTrue saved.is_honest → open_verdict saved.content ledger.number ≡ Ok ledger
 
--- the refusal is this one, or the load failed
-abbrev pub IsRefusal : OpenFault → OpenFault → Type 0
-IsRefusal fault answered = (answered ≡ fault) ⊎ MayFailToLoad answered
+-- A call that loads answers the verdict on what an honest store holds, unless the load failed. A load meets a device
+-- fault only under an open plan.
+pub record LoadsLedger {X : Type 0} (saved : Saved) (verdict result : Result X OpenFault) : Type 0 where
+  pub answer : IsTrue saved.is_honest → (result ≡ verdict) ⊎ ((result ≡ Err Device) ⊎ (result ≡ Err Memory))
+  pub device : result ≡ Err Device → saved.load_plan ≡ LoadsOpen
+
+-- a printer of this number that runs over the store, or why there is none
+abbrev pub Opens : Saved → ℕ → Result PrinterView OpenFault → Type 0
+Opens saved number (Err fault) = LoadsLedger saved (open_verdict saved.content number) (Err fault)
+Opens saved number (Ok printer) =
+    LoadsLedger saved (open_verdict saved.content number) (Ok printer.ledger)
+    × (printer ≡ running saved printer.ledger) × (printer.ledger.number ≡ number)

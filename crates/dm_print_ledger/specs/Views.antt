@@ -1,5 +1,5 @@
 -- What contracts see of a ledger, of a ticket, of a printer and of a job.
-use Rattle.std.specs.Prelude.{ℕ, Bool, List, Option}
+use Rattle.std.specs.Prelude.{ℕ, Bool, false, List, Option}
 use Rattle.dm_store.specs.Saved.{Saved}
 use Rattle.dm_finder_frame.specs.Grids.{GridView}
 use Rattle.dm_print_ledger.specs.declared.range.Range.{Range}
@@ -12,6 +12,13 @@ pub record LedgerView : Type 0 where
   pub free : List Range
   pub givers : List Giver
 
+-- what a saved ledger says: one of version 1 has no number
+pub record ShownView : Type 0 where
+  pub number : Option ℕ
+  pub next_serial : ℕ
+  pub free : List Range
+  pub givers : List Giver
+
 -- the numbers of a range on their way from one printer to another
 pub record TicketView : Type 0 where
   pub giver : ℕ
@@ -19,13 +26,15 @@ pub record TicketView : Type 0 where
   pub receiver : ℕ
   pub range : Range
 
--- its store, its ledger as last known to be saved, whether a save failed, and the ledger whose save that was, which may
--- be saved or not
+-- its store, its ledger as last known to be saved, and whether a save failed, after which it does nothing more
 pub record PrinterView : Type 0 where
   pub saved : Saved
   pub ledger : LedgerView
   pub is_failed : Bool
-  pub unsaved : Option LedgerView
+
+-- a printer over this store, of which no save failed
+abbrev pub running : Saved → LedgerView → PrinterView
+running saved ledger = record { saved = saved; ledger = ledger; is_failed = false }
 
 -- its identification, how many labels it had, and those that were not taken yet, in order
 pub record JobView : Type 0 where

@@ -1,13 +1,8 @@
 //! Printers that are new.
 
-ghost use Rattle.std.specs.Prelude.{Ok, Err, ◌≡◌, ◌≢◌, ◌⊎◌, None, Some, IsSome, IsTrue, IfOk, IfErr, OnOk, IsErrOf};
-ghost use Rattle.dm_store.specs.Saved.{Replaces, MemoryOpen};
-ghost use Rattle.dm_print_ledger.specs.Creating.{FailsToCreate, opening};
-ghost use Rattle.dm_print_ledger.specs.Ledger.{IsSound, ledger_bytes};
-ghost use Rattle.dm_print_ledger.specs.Ranges.{IsRange};
-ghost use Rattle.dm_store.specs.Disk.{Content};
-ghost use Rattle.dm_store.specs.Left.{IsDurable};
-ghost use Rattle.dm_print_ledger.specs.Lasting.{LeavesLedger};
+ghost use Rattle.std.specs.Prelude.{◌≡◌, Ok, Err, IsTrue, MatchResult};
+ghost use Rattle.dm_print_ledger.specs.Creating.{SavesFirst, opening};
+ghost use Rattle.dm_print_ledger.specs.Ranges.{is_range as test_of_range};
 
 use crate::fault::CreateFault;
 use crate::format::bytes_of;
@@ -27,8 +22,7 @@ pub struct CreateRefused<S: Store> {
 }
 
 impl<S: Store, A: Allocator + Copy> Printer<S, A> {
-    ghost use Rattle.dm_print_ledger.specs.Creating.{Creates, HasCreateFault};
-    ghost use Rattle.dm_print_ledger.specs.Lasting.{CreateLeaves};
+    ghost use Rattle.dm_print_ledger.specs.Creating.{Creates};
 
     /// The printer of a number to which a range is free, on a store that holds nothing: its first ledger is saved. It
     /// takes no memory but the store's.
@@ -43,11 +37,9 @@ impl<S: Store, A: Allocator + Copy> Printer<S, A> {
         number: u16,
         range: Range,
     ) -> Result<Printer<S, A>, CreateRefused<S>>
-        ensures ok { IfOk result (Creates (S.state store) number range) }
-        ensures fault { IfErr result (λ refused.
-            HasCreateFault (S.state store) number range refused.fault (S.state refused.store)) }
-        ensures leaves { IfErr result (λ refused.
-            CreateLeaves (S.state store) (S.left store) number range refused.fault (S.left refused.store)) }
+        ensures { MatchResult result
+            (λ printer. Creates (S.state store) number range (Ok printer) printer.saved)
+            (λ refused. Creates (S.state store) number range (Err refused.fault) (S.state refused.store)) }
     {
         if !is_range(range) {
             let fault = CreateFault::Range;
@@ -60,7 +52,7 @@ impl<S: Store, A: Allocator + Copy> Printer<S, A> {
                 alloc,
                 store,
                 ledger,
-                unsaved: None,
+                is_failed: false,
             }),
             Err(fault) => Err(CreateRefused { fault, store }),
         }
@@ -69,9 +61,8 @@ impl<S: Store, A: Allocator + Copy> Printer<S, A> {
 
 // The ledger of a printer of whose range nothing was used.
 fn opening_of(number: u16, range: Range) -> Ledger
-    requires { IsRange range }
-    ensures value { result ≡ opening number range }
-    ensures sound { IsSound result }
+    requires { IsTrue (test_of_range range) }
+    ensures { result ≡ opening number range }
 {
     let mut free = ArrayVec::new();
     free.push(range);
@@ -85,21 +76,7 @@ fn opening_of(number: u16, range: Range) -> Ledger
 
 // Saves a first ledger on a store that holds nothing.
 fn save_first<S: Store>(store: &mut S, ledger: &Ledger) -> Result<(), CreateFault>
-    requires { IsSound ledger.now }
-    ensures empty { OnOk result (IsTrue (S.state store.old).is_honest → (S.state store.old).content ≡ None) }
-    ensures ok { OnOk result (Replaces (S.state store.old) (ledger_bytes ledger.now) (Ok tt) (S.state store.new)) }
-    // Whatever a stop leaves then is this ledger.
-    ensures leaves { OnOk result (IsDurable (S.state store.old) → LeavesLedger (S.left store.new) ledger.now) }
-    ensures refused { IfErr result (λ fault. IsDurable (S.state store.old)
-        → (content : Content) → S.left store.new content → S.left store.old content
-        ⊎ ((fault ≡ CreateFault.Device) × (content ≡ Some (ledger_bytes ledger.now)))) }
-    ensures exists { IsErrOf result CreateFault.Exists → IsTrue (S.state store.old).is_honest →
-        IsSome (S.state store.old).content }
-    ensures same { IfErr result (λ fault. fault ≢ CreateFault.Device → S.state store.new ≡ S.state store.old) }
-    ensures memory { IsErrOf result CreateFault.Memory → (S.state store.old).memory_plan ≡ MemoryOpen }
-    ensures device { IsErrOf result CreateFault.Device →
-        FailsToCreate (S.state store.old) ledger.now (S.state store.new) }
-    ensures range { result ≢ Err CreateFault.Range }
+    ensures { SavesFirst (S.state store.old) ledger.now result (S.state store.new) }
 {
     match store.load(MOST_BYTES) {
         Ok(None) => {}

@@ -1,42 +1,29 @@
-//! Saved ledgers.
+//! Saved ledgers, written and read.
 
-ghost use Rattle.std.specs.Prelude.{◌≡◌, ◌≤◌, ◌<◌, ◌+◌, ◌*◌, ◌++◌, ◌∷◌, [], ◌↔◌, IfOk, IfErr, IfSome, IfNone, IsTrue, length};
+ghost use Rattle.std.specs.Prelude.{◌≡◌, ◌≤◌, ◌<◌, ◌+◌, ◌*◌, ◌++◌, ◌∷◌, [], None, Ok, Err, IfSome, IfNone, IsTrue, length};
 ghost use Rattle.std.specs.List.{flat_map};
-ghost use Rattle.dm_print_ledger.specs.Ranges.{AreRanges};
-ghost use Rattle.dm_print_ledger.specs.Givers.{AreGivers};
-ghost use Rattle.dm_print_ledger.specs.Ledger.{IsSound, ledger_bytes, range_bytes, giver_bytes, Spells, first_ledger_bytes, IsFirst, continuation_of};
-ghost use Rattle.dm_print_ledger.specs.Numbers.{number_in, two_bytes};
-ghost use Rattle.dm_print_ledger.specs.inner.Parsing.{HasFault};
-ghost use Rattle.dm_print_ledger.specs.inner.Reading.{pairs_in, make_range, make_giver, read_from, HasSize};
-ghost use Rattle.dm_print_ledger.specs.Views.{LedgerView};
+ghost use Rattle.dm_print_ledger.specs.Ranges.{are_ranges as test_of_ranges};
+ghost use Rattle.dm_print_ledger.specs.Givers.{are_givers as test_of_givers};
+ghost use Rattle.dm_print_ledger.specs.Ledger.{is_sound, ledger_bytes, first_bytes, range_bytes, giver_bytes, pairs_in, make_range, make_giver, is_first as test_of_first, read_first, read_second, shown_of, number_in, two_bytes};
+ghost use Rattle.dm_print_ledger.specs.declared.fault.OpenFault.TheVariants.{Damaged};
 
-use crate::first_format::{FirstLedger, first_ledger_of_bytes, number_at};
 use crate::free::count;
 use crate::giver::Giver;
 use crate::ledger::Ledger;
-use crate::limits::{MOST_BYTES, MOST_GIVERS, MOST_RANGES};
+use crate::limits::{GREATEST, MOST_BYTES, MOST_GIVERS, MOST_RANGES};
 use crate::range::{Range, is_range};
 use arrayvec::ArrayVec;
 
-/// Why bytes are no ledger of a printer.
-#[derive(Clone, Copy, Debug, PartialEq, Eq)]
-pub(crate) enum LedgerFault {
-    NotALedger,
-    Version,
-    Damaged,
-    Number,
-}
-
-// The five bytes that a ledger of version 2 begins with.
-fn mark() -> ArrayVec<u8, MOST_BYTES>
-    ensures { result.items ≡ 68 ∷ 77 ∷ 76 ∷ 71 ∷ 2 ∷ [] }
+// The five bytes that a ledger begins with.
+fn mark(version: u8) -> ArrayVec<u8, MOST_BYTES>
+    ensures { result.items ≡ 68 ∷ 77 ∷ 76 ∷ 71 ∷ version ∷ [] }
 {
     let mut bytes = ArrayVec::new();
     bytes.push(b'D');
     bytes.push(b'M');
     bytes.push(b'L');
     bytes.push(b'G');
-    bytes.push(2);
+    bytes.push(version);
     bytes
 }
 
@@ -75,10 +62,10 @@ fn push_givers(bytes: &mut ArrayVec<u8, MOST_BYTES>, givers: &[Giver])
 
 /// The bytes of a ledger.
 pub(crate) fn bytes_of(ledger: &Ledger) -> ArrayVec<u8, MOST_BYTES>
-    requires { IsSound ledger.now }
-    ensures { result.items ≡ ledger_bytes ledger.now }
+    ensures bytes { result.items ≡ ledger_bytes ledger.now }
+    ensures sound { IsTrue (is_sound ledger.now) }
 {
-    let mut bytes = mark();
+    let mut bytes = mark(2);
     push_number(&mut bytes, ledger.number);
     push_number(&mut bytes, ledger.next_serial);
     bytes.push(ledger.free.len() as u8);
@@ -91,14 +78,11 @@ pub(crate) fn bytes_of(ledger: &Ledger) -> ArrayVec<u8, MOST_BYTES>
 
 // Whether the ranges rise and don't touch.
 fn are_ranges(ranges: &[Range]) -> bool
-    ensures { IsTrue result ↔ AreRanges ranges.now }
+    ensures { result ≡ test_of_ranges ranges.now }
 {
     let mut from = 0;
     for range in ranges {
-        if range.first < from {
-            return false;
-        }
-        if !is_range(*range) {
+        if range.first < from || !is_range(*range) {
             return false;
         }
         from = range.last + 2;
@@ -108,7 +92,7 @@ fn are_ranges(ranges: &[Range]) -> bool
 
 // Whether the givers rise by their numbers.
 fn are_givers(givers: &[Giver]) -> bool
-    ensures { IsTrue result ↔ AreGivers givers.now }
+    ensures { result ≡ test_of_givers givers.now }
 {
     let mut from = 0;
     for giver in givers {
@@ -118,6 +102,14 @@ fn are_givers(givers: &[Giver]) -> bool
         from = giver.number as u32 + 1;
     }
     true
+}
+
+/// The number in two bytes.
+pub(crate) fn number_at(bytes: &[u8], at: usize) -> u16
+    requires { at + 1 < length bytes.now }
+    ensures { result ≡ number_in bytes.now at }
+{
+    256 * bytes[at] as u16 + bytes[at + 1] as u16
 }
 
 // That many ranges, from a place on.
@@ -150,11 +142,10 @@ fn givers_at(bytes: &[u8], at: usize, count: usize) -> ArrayVec<Giver, MOST_GIVE
     givers
 }
 
-// The ledger whose numbers stand in the bytes, where there are as many bytes as their counts ask for.
-#[tactic(auto, unfolding(crate::specs::inner::Reading::read_from))]
-fn numbers_of(bytes: &[u8]) -> Option<Ledger>
-    ensures some { IfSome result (λ ledger. ledger ≡ read_from bytes.now) }
-    ensures none { IfNone result (¬ HasSize bytes.now) }
+/// The ledger of version 2 that bytes are, if they are one.
+pub(crate) fn second_ledger(bytes: &[u8]) -> Option<Ledger>
+    ensures some { IfSome result (λ ledger. read_second bytes.now ≡ Ok (shown_of ledger)) }
+    ensures none { IfNone result (read_second bytes.now ≡ Err Damaged) }
 {
     if bytes.len() < 13 {
         return None;
@@ -167,32 +158,20 @@ fn numbers_of(bytes: &[u8]) -> Option<Ledger>
     if givers > MOST_GIVERS || bytes.len() != 13 + 4 * ranges + 4 * givers {
         return None;
     }
-    Some(Ledger {
-        number: number_at(bytes, 5),
-        next_serial: number_at(bytes, 7),
-        free: ranges_at(bytes, 10, ranges),
-        givers: givers_at(bytes, 11 + 4 * ranges, givers),
-    })
-}
-
-// Whether a ledger is one.
-fn is_sound(ledger: &Ledger) -> bool
-    ensures { IsTrue result ↔ IsSound ledger.now }
-{
-    are_ranges(ledger.free.as_slice()) && are_givers(ledger.givers.as_slice())
-}
-
-// The ledger of version 2 that bytes spell, if they spell one.
-fn ledger_of_bytes(bytes: &[u8]) -> Option<Ledger>
-    ensures some { IfSome result (λ ledger. IsSound ledger × (bytes.now ≡ ledger_bytes ledger)) }
-    ensures none { IfNone result ((ledger : LedgerView) → IsSound ledger → ¬ (bytes.now ≡ ledger_bytes ledger)) }
-{
-    let Some(ledger) = numbers_of(bytes) else {
-        return None;
-    };
-    if !is_sound(&ledger) {
+    let free = ranges_at(bytes, 10, ranges);
+    let givers = givers_at(bytes, 11 + 4 * ranges, givers);
+    if !are_ranges(free.as_slice()) {
         return None;
     }
+    if !are_givers(givers.as_slice()) {
+        return None;
+    }
+    let ledger = Ledger {
+        number: number_at(bytes, 5),
+        next_serial: number_at(bytes, 7),
+        free,
+        givers,
+    };
     if bytes == bytes_of(&ledger).as_slice() {
         Some(ledger)
     } else {
@@ -200,53 +179,55 @@ fn ledger_of_bytes(bytes: &[u8]) -> Option<Ledger>
     }
 }
 
-// The ledger that a printer of this number goes on with from one of version 1.
-fn ledger_of_first(first: FirstLedger, number: u16) -> Ledger
-    requires { IsFirst first }
-    ensures value { result ≡ continuation_of first number }
-    ensures sound { IsSound result }
+// The bytes of a ledger of version 1.
+#[tactic(auto, unfolding(crate::specs::Ledger::first_bytes))]
+fn bytes_of_first(first: u16, last: u16, next: u16) -> ArrayVec<u8, MOST_BYTES>
+    ensures { result.items ≡ first_bytes (record { first = first; last = last; next = next }) }
 {
-    let mut free = ArrayVec::new();
-    if first.next <= first.last {
-        free.push(Range {
-            first: first.next,
-            last: first.last,
-        });
+    let mut bytes = mark(1);
+    push_number(&mut bytes, first);
+    push_number(&mut bytes, last);
+    push_number(&mut bytes, next);
+    push_number(&mut bytes, 65535 - next);
+    bytes
+}
+
+// Whether bytes are a ledger of version 1.
+fn is_first(bytes: &[u8]) -> bool
+    ensures value { result ≡ test_of_first bytes.now }
+    ensures size { IsTrue result → length bytes.now ≡ 13 }
+{
+    if bytes.len() != 13 {
+        return false;
     }
-    Ledger {
-        number,
+    let first = number_at(bytes, 5);
+    let last = number_at(bytes, 7);
+    let next = number_at(bytes, 9);
+    first <= last
+        && last <= GREATEST
+        && first <= next
+        && next <= last + 1
+        && bytes == bytes_of_first(first, last, next).as_slice()
+}
+
+/// The ledger of version 1 that bytes are, if they are one, as that of a printer 0.
+pub(crate) fn first_ledger(bytes: &[u8]) -> Option<Ledger>
+    ensures some { IfSome result (λ ledger. read_first bytes.now ≡ Ok (record (shown_of ledger) { number = None })) }
+    ensures none { IfNone result (read_first bytes.now ≡ Err Damaged) }
+{
+    if !is_first(bytes) {
+        return None;
+    }
+    let last = number_at(bytes, 7);
+    let next = number_at(bytes, 9);
+    let mut free = ArrayVec::new();
+    if next <= last {
+        free.push(Range { first: next, last });
+    }
+    Some(Ledger {
+        number: 0,
         next_serial: 0,
         free,
         givers: ArrayVec::new(),
-    }
-}
-
-/// The ledger of a printer of this number that bytes spell.
-pub(crate) fn parse(bytes: &[u8], number: u16) -> Result<Ledger, LedgerFault>
-    ensures ok { IfOk result (λ ledger. Spells bytes.now ledger × (ledger.number ≡ number)) }
-    ensures fault { IfErr result (HasFault bytes.now number) }
-{
-    if !bytes.starts_with(b"DMLG") {
-        return Err(LedgerFault::NotALedger);
-    }
-    if bytes.len() < 5 {
-        return Err(LedgerFault::Damaged);
-    }
-    match bytes[4] {
-        1 => match first_ledger_of_bytes(bytes) {
-            Some(first) => Ok(ledger_of_first(first, number)),
-            None => Err(LedgerFault::Damaged),
-        },
-        2 => match ledger_of_bytes(bytes) {
-            Some(ledger) => {
-                if ledger.number == number {
-                    Ok(ledger)
-                } else {
-                    Err(LedgerFault::Number)
-                }
-            }
-            None => Err(LedgerFault::Damaged),
-        },
-        _ => Err(LedgerFault::Version),
-    }
+    })
 }

@@ -3,7 +3,7 @@
 ghost use Rattle.std.specs.Prelude.{◌≡◌, ◌∷◌, [], ◌≤◌, MatchOption, IfOk, length};
 ghost use Rattle.dm_append_label.specs.Labels.{Fits};
 ghost use Rattle.dm_append_label.specs.Parts.{PartsFit, parts_from};
-ghost use Rattle.dm_print_ledger.specs.Printing.{AreLabels, IsLabelOf};
+ghost use Rattle.dm_print_ledger.specs.Printing.{AreLabels, IsJobOf, IsLabelOf};
 
 use dm_append_label::{FileId, Page, SealFault, seal_with};
 use dm_check_blocks::Size;
@@ -34,7 +34,7 @@ impl<A: Allocator> Model for Job<A> {
 
 impl<A: Allocator> Job<A> {
     // A job of these labels, the first page's first.
-    pub(crate) fn new(id: FileId, count: u8, mut labels: Vec<Grid<A>, A>) -> Job<A>
+    fn new(id: FileId, count: u8, mut labels: Vec<Grid<A>, A>) -> Job<A>
         ensures { result ≡ record { id = id; count = count; labels = labels.items } }
     {
         labels.reverse();
@@ -128,21 +128,21 @@ fn labels_by<A: Allocator + Copy>(
     Ok(labels)
 }
 
-/// The labels of the parts of a document that end at these places.
-pub(crate) fn make_labels<A: Allocator + Copy>(
+/// The job of the parts of a document that end at these places.
+pub(crate) fn make_job<A: Allocator + Copy>(
     alloc: A,
     document: &[u8],
     ends: &[usize],
     id: FileId,
     size: Size,
     scheme: Scheme,
-) -> Result<Vec<Grid<A>, A>, AllocError>
+) -> Result<Job<A>, AllocError>
     requires fit { PartsFit size scheme document.now 0 ends.now }
     requires least { 2 ≤ length ends.now }
     requires most { length ends.now ≤ 16 }
-    ensures { IfOk result (λ labels. AreLabels size scheme id (length ends.now) 1
-        (parts_from document.now 0 ends.now) labels.items) }
+    ensures { IfOk result (IsJobOf size scheme id (parts_from document.now 0 ends.now)) }
 {
     let layout = Layout::of_size(alloc, size)?;
-    labels_by(alloc, document, ends, id, &layout, scheme)
+    let labels = labels_by(alloc, document, ends, id, &layout, scheme)?;
+    Ok(Job::new(id, ends.len() as u8, labels))
 }

@@ -1,14 +1,10 @@
 //! Laws of printers: each function's contract is the law.
 
-ghost use Rattle.std.specs.Prelude.{◌≡◌, ◌⊎◌, Some, IsTrue, MatchResult};
-ghost use Rattle.dm_store.specs.Left.{IsDurable};
-ghost use Rattle.dm_print_ledger.specs.Opening.{MayFailToLoad};
+ghost use Rattle.std.specs.Prelude.{◌≡◌};
+ghost use Rattle.dm_print_ledger.specs.FreeNumbers.{RangesAreNumbers, FirstIsLeast, GiversAreNoted};
+ghost use Rattle.dm_print_ledger.specs.Ledger.{ReadsWhatIsSpelled};
 
 use crate::limits::{GREATEST, MOST_BYTES, MOST_GIVERS, MOST_RANGES, TICKET_BYTES};
-use crate::opening::OpenRefused;
-use crate::printer::Printer;
-use dm_store::Store;
-use std::alloc::Allocator;
 
 /// The limits by number: no definition moves with a constant.
 pub fn limits_by_number()
@@ -19,20 +15,14 @@ pub fn limits_by_number()
     ensures ticket { TICKET_BYTES ≡ 10 }
 {}
 
-/// The machine stops, and a printer is opened again on a store that holds what the stop left of its own. It goes on
-/// with the ledger that it had, or with the one whose save failed, if one did. Gives the old store too, of which the
-/// law speaks.
-pub fn opened_after_a_stop<S: Store, T: Store, A: Allocator + Copy>(
-    alloc: A,
-    printer: Printer<S, A>,
-    left: T,
-) -> (S, Result<Printer<T, A>, OpenRefused<T>>)
-    ensures { IsDurable printer.saved → IsTrue (T.state left).is_honest → S.left result.0 (T.state left).content →
-        MatchResult result.1
-        (λ opened. (opened.ledger ≡ printer.ledger) ⊎ (printer.unsaved ≡ Some opened.ledger))
-        (λ refused. MayFailToLoad refused.fault) }
-{
-    let number = printer.number();
-    let store = printer.close();
-    (store, Printer::open(alloc, left, number))
-}
+/// What is done to lists of ranges and of givers, told of each number and each giver.
+pub fn numbers_and_givers()
+    ensures ranges { RangesAreNumbers }
+    ensures least { FirstIsLeast }
+    ensures givers { GiversAreNoted }
+{}
+
+/// Bytes are read exactly where they are those of a sound ledger, of either version; what is read is that ledger.
+pub fn what_is_spelled_is_read()
+    ensures { ReadsWhatIsSpelled }
+{}

@@ -1,16 +1,12 @@
-//! What a printer remembers.
+//! What a printer remembers, and what a print, a range given and a ticket taken make of it.
 
-ghost use Rattle.std.specs.Prelude.{◌≡◌, ◌≢◌, ◌≤◌, ◌<◌, ◌+◌, ℕ, None, IfOk, IfSome, OnSome, IfNone, OnErr, IsErrOf, length};
-ghost use Rattle.dm_print_ledger.specs.Ranges.{AreRanges, IsRange, IsLeastFree, AreFree, AreTaken, free_count};
-ghost use Rattle.dm_print_ledger.specs.Ledger.{IsSound};
-ghost use Rattle.dm_print_ledger.specs.Printing.{Uses};
-ghost use Rattle.dm_print_ledger.specs.Moving.{GivesAway, TakesIn, LeavesTooMany, JoinsTooMany, JoinsFew, IsOneTooMany};
-ghost use Rattle.dm_print_ledger.specs.Givers.{last_taken};
+ghost use Rattle.std.specs.Prelude.{◌≡◌, ◌≤◌, length};
 
-use crate::free::{TooMany, union_of, without};
-use crate::giver::{Giver, givers_with};
-use crate::limits::{GREATEST, MOST_GIVERS, MOST_RANGES};
-use crate::range::Range;
+use crate::fault::{GiveFault, TakeFault};
+use crate::free::{are_free, count, has_free, union_of, without};
+use crate::giver::{Giver, givers_with, is_old};
+use crate::limits::{MOST_GIVERS, MOST_RANGES};
+use crate::range::{Range, is_range};
 use crate::ticket::Ticket;
 use arrayvec::ArrayVec;
 use std::marker::Model;
@@ -25,6 +21,8 @@ pub(crate) struct Ledger {
 }
 
 impl Model for Ledger {
+    ghost use Rattle.std.specs.Prelude.{IsTrue};
+    ghost use Rattle.dm_print_ledger.specs.Ledger.{is_sound};
     ghost use Rattle.dm_print_ledger.specs.Views.{LedgerView};
 
     ghost Value = { LedgerView };
@@ -35,13 +33,13 @@ impl Model for Ledger {
       free = ledger.free.items;
       givers = ledger.givers.items;
     } };
-}
 
-/// Why a ticket is not taken up into a ledger.
-#[derive(Clone, Copy, Debug, PartialEq, Eq)]
-pub(crate) enum TakingFault {
-    Ranges,
-    Givers,
+    ghost invariant = { λ ledger. IsTrue (is_sound (record {
+      number = ledger.number;
+      next_serial = ledger.next_serial;
+      free = ledger.free.items;
+      givers = ledger.givers.items;
+    })) };
 }
 
 // A copy of the givers.
@@ -56,88 +54,136 @@ fn copy_of(givers: &[Giver]) -> ArrayVec<Giver, MOST_GIVERS>
     copy
 }
 
-/// The least free number.
-pub(crate) fn least_free(ranges: &[Range]) -> Option<u16>
-    requires { AreRanges ranges.now }
-    ensures some { IfSome result (IsLeastFree ranges.now) }
-    ensures below { IfSome result (λ n. n ≤ GREATEST) }
-    ensures counted { OnSome result (0 < free_count ranges.now) }
-    ensures none { IfNone result (free_count ranges.now ≡ 0) }
-{
-    match ranges {
-        [] => None,
-        [first, ..] => Some(first.first),
+impl Ledger {
+    ghost use Rattle.std.specs.Prelude.{◌<◌, true, Ok, IfSome, IfNone, IsTrue, IfOk};
+    ghost use Rattle.std.specs.List.{All};
+    ghost use Rattle.dm_print_ledger.specs.Ledger.{is_sound};
+    ghost use Rattle.dm_print_ledger.specs.Changes.{least};
+    ghost use Rattle.dm_print_ledger.specs.Ranges.{free_count, is_range as test_of_range};
+    ghost use Rattle.dm_print_ledger.specs.Verdicts.{print_verdict, give_verdict, take_verdict, ticket_of};
+
+    /// How many identifications are free.
+    pub(crate) fn left(&self) -> u32
+        ensures value { result ≡ free_count self.now.free }
+        ensures bound { result ≤ 64516 }
+    {
+        count(self.free.as_slice())
     }
-}
 
-/// The ledger with its least free number used.
-pub(crate) fn with_used(ledger: &Ledger, id: u16) -> Ledger
-    requires sound { IsSound ledger.now }
-    requires least { IsLeastFree ledger.now.free id }
-    ensures used { Uses ledger.now id result }
-    ensures sound { IsSound result }
-{
-    let single = Range {
-        first: id,
-        last: id,
-    };
-    let Ok(free) = without(ledger.free.as_slice(), single) else {
-        unreachable!()
-    };
-    Ledger {
-        number: ledger.number,
-        next_serial: ledger.next_serial,
-        free,
-        givers: copy_of(ledger.givers.as_slice()),
+    /// Its free numbers.
+    pub(crate) fn ranges(&self) -> &[Range]
+        ensures same { result.now ≡ self.now.free }
+        ensures each { All (λ range. IsTrue (test_of_range range)) result.now }
+    {
+        self.free.as_slice()
     }
-}
 
-/// The ledger without the numbers of a range, and with one more ticket given.
-pub(crate) fn with_given(ledger: &Ledger, range: Range) -> Result<Ledger, TooMany>
-    requires sound { IsSound ledger.now }
-    requires in_range { IsRange range }
-    requires free { AreFree ledger.now.free range }
-    requires serials { ledger.now.next_serial ≢ 65535 }
-    ensures given { IfOk result (GivesAway ledger.now range) }
-    ensures sound { IfOk result IsSound }
-    ensures too_many { OnErr result (LeavesTooMany ledger.now.free range) }
-{
-    let Ok(free) = without(ledger.free.as_slice(), range) else {
-        return Err(TooMany);
-    };
-    Ok(Ledger {
-        number: ledger.number,
-        next_serial: ledger.next_serial + 1,
-        free,
-        givers: copy_of(ledger.givers.as_slice()),
-    })
-}
+    /// Its least free number, if there is one.
+    pub(crate) fn least_free(&self) -> Option<u16>
+        ensures some { IfSome result (λ n. (0 < length self.now.free) × (n ≡ least self.now.free) × (n ≤ 64515)) }
+        ensures none { IfNone result (length self.now.free ≡ 0) }
+    {
+        match self.free.as_slice() {
+            [] => None,
+            [first, ..] => Some(first.first),
+        }
+    }
 
-/// The ledger with the numbers of a ticket, and its serial noted.
-pub(crate) fn with_taken(ledger: &Ledger, ticket: Ticket) -> Result<Ledger, TakingFault>
-    requires sound { IsSound ledger.now }
-    requires taken { AreTaken ledger.now.free ticket.range }
-    ensures taken { IfOk result (TakesIn ledger.now ticket) }
-    ensures sound { IfOk result IsSound }
-    ensures few { IfOk result (λ _. ¬ IsOneTooMany ledger.now ticket) }
-    ensures ranges { IsErrOf result TakingFault.Ranges → JoinsTooMany ledger.now.free ticket.range }
-    ensures givers { IsErrOf result TakingFault.Givers →
-        JoinsFew ledger.now.free ticket.range × IsOneTooMany ledger.now ticket }
-{
-    let Ok(free) = union_of(ledger.free.as_slice(), ticket.range) else {
-        return Err(TakingFault::Ranges);
-    };
-    let last = Giver {
-        number: ticket.giver,
-        serial: ticket.serial,
-    };
-    let Ok(givers) = givers_with(ledger.givers.as_slice(), last) else {
-        return Err(TakingFault::Givers);
-    };
-    Ok(Ledger {
-        number: ledger.number,
-        next_serial: ledger.next_serial,
-        free,
-        givers,
-    })
+    /// The ledger after a print of a document that has parts.
+    pub(crate) fn after_print(&self) -> Ledger
+        requires { 0 < length self.now.free }
+        ensures value { Ok result ≡ print_verdict self.now true }
+        ensures sound { IsTrue (is_sound result) }
+    {
+        let Some(least) = self.least_free() else {
+            unreachable!()
+        };
+        let single = Range {
+            first: least,
+            last: least,
+        };
+        let Ok(free) = without(self.free.as_slice(), single) else {
+            unreachable!()
+        };
+        Ledger {
+            number: self.number,
+            next_serial: self.next_serial,
+            free,
+            givers: copy_of(self.givers.as_slice()),
+        }
+    }
+
+    /// The ledger after a range is given.
+    pub(crate) fn after_give(&self, receiver: u16, range: Range) -> Result<Ledger, GiveFault>
+        ensures value { result ≡ give_verdict self.now receiver range }
+        ensures sound { IfOk result (λ next. IsTrue (is_sound next)) }
+    {
+        if !is_range(range) {
+            return Err(GiveFault::Range);
+        }
+        if receiver == self.number {
+            return Err(GiveFault::Receiver);
+        }
+        if !are_free(self.free.as_slice(), range) {
+            return Err(GiveFault::NotFree);
+        }
+        if self.next_serial == u16::MAX {
+            return Err(GiveFault::Serials);
+        }
+        let Ok(free) = without(self.free.as_slice(), range) else {
+            return Err(GiveFault::Ranges);
+        };
+        Ok(Ledger {
+            number: self.number,
+            next_serial: self.next_serial + 1,
+            free,
+            givers: copy_of(self.givers.as_slice()),
+        })
+    }
+
+    /// Its next ticket, of a range that it may give.
+    pub(crate) fn next_ticket(&self, receiver: u16, range: Range) -> Ticket
+        requires { IsTrue (test_of_range range) }
+        ensures { result ≡ ticket_of self.now receiver range }
+    {
+        Ticket {
+            giver: self.number,
+            serial: self.next_serial,
+            receiver,
+            range,
+        }
+    }
+
+    /// The ledger after a ticket is taken.
+    pub(crate) fn after_take(&self, ticket: Ticket) -> Result<Ledger, TakeFault>
+        ensures value { result ≡ take_verdict self.now ticket }
+        ensures range { IsTrue (test_of_range ticket.range) }
+        ensures sound { IfOk result (λ next. IsTrue (is_sound next)) }
+    {
+        if ticket.receiver != self.number || ticket.giver == ticket.receiver {
+            return Err(TakeFault::Receiver);
+        }
+        let last = Giver {
+            number: ticket.giver,
+            serial: ticket.serial,
+        };
+        if is_old(self.givers.as_slice(), last) {
+            return Err(TakeFault::Old);
+        }
+        if has_free(self.free.as_slice(), ticket.range) {
+            return Err(TakeFault::Overlap);
+        }
+        let Ok(free) = union_of(self.free.as_slice(), ticket.range) else {
+            return Err(TakeFault::Ranges);
+        };
+        let Ok(givers) = givers_with(self.givers.as_slice(), last) else {
+            return Err(TakeFault::Givers);
+        };
+        Ok(Ledger {
+            number: self.number,
+            next_serial: self.next_serial,
+            free,
+            givers,
+        })
+    }
 }

@@ -8,14 +8,13 @@
 //!
 //! Proved: each call says of every identification whether it is free afterwards. A job has exactly the labels of the
 //! parts of its document, in order, under the least identification that was free. Over an honest store the change is
-//! saved before a job or a ticket is given, so a printer that is opened again goes on with it; also after a stop of the
-//! machine, over a durable store. Each refusal is the first that applies, and all but a failed save leave the printer
-//! and its store as they were. A sound ledger is read back as it was saved, and all other bytes are refused by name.
+//! saved before a job or a ticket is given, so a printer that is opened again goes on with it. Each refusal is the
+//! first that applies, and all but a failed save leave the printer and its store as they were. A sound ledger is read
+//! back as it was saved, and all other bytes are refused by name.
 #![tactic(auto)]
 
 mod creating;
 mod fault;
-mod first_format;
 mod format;
 mod free;
 mod giver;

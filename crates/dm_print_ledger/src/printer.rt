@@ -1,9 +1,8 @@
 //! Printers, and the one way in which they save.
 
-ghost use Rattle.std.specs.Prelude.{◌≡◌, ◌≤◌, ◌+◌, false, OnOk, IsErrOf};
+ghost use Rattle.std.specs.Prelude.{◌≡◌, ◌≤◌, ◌+◌, false};
 
 use crate::format::bytes_of;
-use crate::free::count;
 use crate::ledger::Ledger;
 use crate::limits::GREATEST;
 use dm_store::{MemStore, NextSave, ReplaceFault, Store};
@@ -17,92 +16,54 @@ pub struct Printer<S: Store, A: Allocator + Copy = Global> {
     pub(crate) alloc: A,
     pub(crate) store: S,
     pub(crate) ledger: Ledger,
-    /// The ledger whose save failed, if one did.
-    pub(crate) unsaved: Option<Ledger>,
+    /// Whether a save failed, after which it saves no more.
+    pub(crate) is_failed: bool,
 }
 
 impl<S: Store, A: Allocator + Copy> Model for Printer<S, A> {
-    ghost use Rattle.std.specs.Prelude.{is_some};
     ghost use Rattle.dm_print_ledger.specs.Views.{PrinterView};
-    ghost use Rattle.dm_print_ledger.specs.Lasting.{IsInOrder};
+    ghost use Rattle.dm_print_ledger.specs.Carrying.{IsInOrder};
 
     ghost Value = { PrinterView };
 
-    ghost view = { λ p. record {
-      saved = S.state p.store;
-      ledger = p.ledger;
-      is_failed = is_some p.unsaved;
-      unsaved = p.unsaved;
-    } };
+    ghost view = { λ p. record { saved = S.state p.store; ledger = p.ledger; is_failed = p.is_failed } };
 
-    ghost invariant = { λ p. IsInOrder (record {
-      saved = S.state p.store;
-      ledger = p.ledger;
-      is_failed = is_some p.unsaved;
-      unsaved = p.unsaved;
-    }) (S.left p.store) };
+    ghost invariant = { λ p. IsInOrder (record { saved = S.state p.store; ledger = p.ledger; is_failed = p.is_failed }) };
 }
 
 impl<S: Store, A: Allocator + Copy> Printer<S, A> {
-    ghost use Rattle.dm_print_ledger.specs.Ledger.{IsSound};
     ghost use Rattle.dm_print_ledger.specs.Ranges.{free_count};
-    ghost use Rattle.dm_print_ledger.specs.Saving.{Saves, FailsToSave};
-    ghost use Rattle.dm_print_ledger.specs.Lasting.{IsInOrder};
-    ghost use Rattle.dm_store.specs.Saved.{MemoryOpen};
+    ghost use Rattle.dm_print_ledger.specs.Carrying.{IsInOrder, Saves};
 
     /// How many identifications are free, as last known to be saved: 0 to 64,516.
     pub fn left(&self) -> u32
         ensures value { result ≡ free_count self.now.ledger.free }
         ensures bound { result ≤ GREATEST + 1 }
+        ensures order { IsInOrder self.now }
     {
-        count(self.ledger.free.as_slice())
-    }
-
-    /// Its number.
-    pub(crate) fn number(&self) -> u16
-        ensures { result ≡ self.now.ledger.number }
-    {
-        self.ledger.number
-    }
-
-    /// Whether a save failed, after which it saves no more.
-    pub(crate) fn is_failed(&self) -> bool
-        ensures { result ≡ self.now.is_failed }
-    {
-        self.unsaved.is_some()
-    }
-
-    /// Its store, lent: what a stop of the machine may leave of the printer at this moment.
-    pub fn store(&self) -> &S
-        ensures state { S.state result.now ≡ self.now.saved }
-        ensures order { IsInOrder self.now (S.left result.now) }
-    {
-        &self.store
+        self.ledger.left()
     }
 
     /// Gives its store back.
     pub fn close(self) -> S
-        ensures state { S.state result ≡ self.saved }
-        ensures order { IsInOrder self (S.left result) }
+        ensures { S.state result ≡ self.saved }
     {
         let Printer {
             alloc: _,
             store,
             ledger: _,
-            unsaved: _,
+            is_failed: _,
         } = self;
         store
     }
 
     /// Saves a ledger, and goes on with it.
-    pub(crate) fn save(&mut self, next: Ledger) -> Result<(), ReplaceFault>
-        requires running { self.old.is_failed ≡ false }
-        requires sound { IsSound next }
-        requires number { next.number ≡ self.old.ledger.number }
-        ensures ok { OnOk result (Saves self.old next self.new) }
-        ensures memory { IsErrOf result ReplaceFault.Memory → self.new ≡ self.old }
-        ensures plan { IsErrOf result ReplaceFault.Memory → self.old.saved.memory_plan ≡ MemoryOpen }
-        ensures device { IsErrOf result ReplaceFault.Device → FailsToSave self.old next self.new }
+    ///
+    /// # Errors
+    /// `no_memory` where the store was refused its memory, `failed` where it met a device fault.
+    pub(crate) fn save<F: Copy>(&mut self, next: Ledger, no_memory: F, failed: F) -> Result<(), F>
+        requires { self.old.is_failed ≡ false }
+        ensures { Saves no_memory failed next self.old result self.new }
     {
         let bytes = bytes_of(&next);
         match self.store.replace(bytes.as_slice()) {
@@ -110,10 +71,10 @@ impl<S: Store, A: Allocator + Copy> Printer<S, A> {
                 self.ledger = next;
                 Ok(())
             }
-            Err(ReplaceFault::Memory) => Err(ReplaceFault::Memory),
+            Err(ReplaceFault::Memory) => Err(no_memory),
             Err(ReplaceFault::Device) => {
-                self.unsaved = Some(next);
-                Err(ReplaceFault::Device)
+                self.is_failed = true;
+                Err(failed)
             }
         }
     }

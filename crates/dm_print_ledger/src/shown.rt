@@ -1,14 +1,10 @@
 //! What a ledger says to somebody who only looks at it.
 
-ghost use Rattle.std.specs.Prelude.{◌≡◌, ◌≢◌, ◌<◌, ◌⊎◌, ℕ, IsTrue, IfOk, IfErr, IfSome, IfNone, IsSomeAnd, length, slice_index};
-ghost use Rattle.dm_print_ledger.specs.Numbers.{number_in};
-ghost use Rattle.dm_print_ledger.specs.Showing.{HasShowFault, Shows};
-ghost use Rattle.dm_print_ledger.specs.inner.Parsing.{HasFault};
+ghost use Rattle.std.specs.Prelude.{◌≡◌, ◌≢◌, Err};
+ghost use Rattle.dm_print_ledger.specs.Ledger.{read_ledger};
 
 use crate::fault::OpenFault;
-use crate::first_format::number_at;
-use crate::format::{LedgerFault, parse};
-use crate::free::count;
+use crate::format::{first_ledger, second_ledger};
 use crate::giver::Giver;
 use crate::ledger::Ledger;
 use crate::limits::MOST_BYTES;
@@ -24,25 +20,24 @@ pub struct Shown {
 }
 
 impl Model for Shown {
-    ghost use Rattle.dm_print_ledger.specs.Ledger.{IsSound};
-    ghost use Rattle.dm_print_ledger.specs.Showing.{ShownView};
+    ghost use Rattle.dm_print_ledger.specs.Views.{ShownView};
 
     ghost Value = { ShownView };
 
     ghost view = { λ shown. record {
       number = shown.number;
+      next_serial = shown.ledger.next_serial;
       free = shown.ledger.free;
-      given = shown.ledger.next_serial;
       givers = shown.ledger.givers;
     } };
-
-    ghost invariant = { λ shown. IsSound shown.ledger };
 }
 
 impl Shown {
-    ghost use Rattle.std.specs.Prelude.{◌≡◌};
+    ghost use Rattle.std.specs.Prelude.{Ok, IsTrue, IfOk};
+    ghost use Rattle.dm_print_ledger.specs.Ledger.{is_sound};
+    ghost use Rattle.dm_print_ledger.specs.Opening.{LoadsLedger, numbered, show_verdict};
+    ghost use Rattle.dm_print_ledger.specs.Ranges.{free_count, is_range};
     ghost use Rattle.std.specs.List.{All};
-    ghost use Rattle.dm_print_ledger.specs.Ranges.{IsRange, free_count};
 
     /// What the ledger says that the store holds. It takes no memory but the store's.
     ///
@@ -50,23 +45,31 @@ impl Shown {
     /// The load's `Device` or `Memory`, `Absent`, `NotALedger`, `Version` and `Damaged`: the first of these, in this
     /// order, that applies.
     pub fn load<S: Store>(store: &mut S) -> Result<Shown, OpenFault>
-        ensures ok { IfOk result (λ shown. IsTrue (S.state store.old).is_honest
-            → IsSomeAnd (S.state store.old).content (λ bytes. Shows bytes shown)) }
-        ensures fault { IfErr result (HasShowFault (S.state store.old)) }
+        ensures loads { LoadsLedger (S.state store.old) (show_verdict (S.state store.old).content) result }
         ensures same { S.state store.new ≡ S.state store.old }
     {
         match store.load(MOST_BYTES) {
             Ok(None) => Err(OpenFault::Absent),
-            Ok(Some(bytes)) => match shown_in(bytes.as_slice()) {
-                Ok(shown) => Ok(shown),
-                Err(LedgerFault::NotALedger) => Err(OpenFault::NotALedger),
-                Err(LedgerFault::Version) => Err(OpenFault::Version),
-                Err(LedgerFault::Damaged) => Err(OpenFault::Damaged),
-                Err(LedgerFault::Number) => unreachable!(),
-            },
+            Ok(Some(bytes)) => shown_in(bytes.as_slice()),
             Err(LoadFault::Device) => Err(OpenFault::Device),
             Err(LoadFault::Memory) => Err(OpenFault::Memory),
         }
+    }
+
+    /// The ledger with which the printer of a number goes on.
+    pub(crate) fn of_number(self, number: u16) -> Result<Ledger, OpenFault>
+        ensures value { result ≡ numbered number (Ok self) }
+        ensures sound { IfOk result (λ ledger. IsTrue (is_sound ledger)) }
+    {
+        let Shown {
+            number: shown,
+            mut ledger,
+        } = self;
+        if shown.unwrap_or(number) != number {
+            return Err(OpenFault::Number);
+        }
+        ledger.number = number;
+        Ok(ledger)
     }
 
     /// The printer's number. A ledger of version 1 has none.
@@ -80,20 +83,20 @@ impl Shown {
     pub fn left(&self) -> u32
         ensures { result ≡ free_count self.now.free }
     {
-        count(self.ledger.free.as_slice())
+        self.ledger.left()
     }
 
     /// The free identifications, by rising number.
     pub fn free(&self) -> &[Range]
         ensures same { result.now ≡ self.now.free }
-        ensures ranges { All IsRange result.now }
+        ensures each { All (λ range. IsTrue (is_range range)) result.now }
     {
-        self.ledger.free.as_slice()
+        self.ledger.ranges()
     }
 
     /// How many tickets the printer gave.
     pub fn given(&self) -> u16
-        ensures { result ≡ self.now.given }
+        ensures { result ≡ self.now.next_serial }
     {
         self.ledger.next_serial
     }
@@ -106,25 +109,32 @@ impl Shown {
     }
 }
 
-// The number in the bytes of a ledger, if they are of version 2.
-fn number_of(bytes: &[u8]) -> Option<u16>
-    ensures some { IfSome result (λ number. (slice_index bytes.now 4 ≡ 2) × (number ≡ number_in bytes.now 5)) }
-    ensures none { IfNone result ((length bytes.now < 7) ⊎ (slice_index bytes.now 4 ≢ 2)) }
-{
-    if bytes.len() < 7 || bytes[4] != 2 {
-        return None;
-    }
-    Some(number_at(bytes, 5))
-}
-
 // What bytes say, if they are those of a ledger.
-fn shown_in(bytes: &[u8]) -> Result<Shown, LedgerFault>
-    ensures ok { IfOk result (Shows bytes.now) }
-    ensures fault { IfErr result (λ fault. (fault ≢ LedgerFault.Number) × ((n : ℕ) → HasFault bytes.now n fault)) }
+fn shown_in(bytes: &[u8]) -> Result<Shown, OpenFault>
+    ensures value { result ≡ read_ledger bytes.now }
+    ensures loaded { result ≢ Err OpenFault.Device }
 {
-    let number = number_of(bytes);
-    match parse(bytes, number.unwrap_or(0)) {
-        Ok(ledger) => Ok(Shown { number, ledger }),
-        Err(fault) => Err(fault),
+    if !bytes.starts_with(b"DMLG") {
+        return Err(OpenFault::NotALedger);
+    }
+    if bytes.len() < 5 {
+        return Err(OpenFault::Damaged);
+    }
+    match bytes[4] {
+        1 => match first_ledger(bytes) {
+            Some(ledger) => Ok(Shown {
+                number: None,
+                ledger,
+            }),
+            None => Err(OpenFault::Damaged),
+        },
+        2 => match second_ledger(bytes) {
+            Some(ledger) => Ok(Shown {
+                number: Some(ledger.number),
+                ledger,
+            }),
+            None => Err(OpenFault::Damaged),
+        },
+        _ => Err(OpenFault::Version),
     }
 }

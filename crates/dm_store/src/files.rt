@@ -6,9 +6,8 @@ ghost use Rattle.dm_store.specs.Disk.{draft_of};
 
 use crate::store::LoadFault;
 use std::alloc::{AllocError, Allocator};
-use std::fs::{File, OpenFile};
+use std::fs::{File, OpenFile, OpenOptions};
 use std::io::{ErrorKind, Read};
-use std::path::Path;
 use std::rt::Files;
 use std::{fs, io};
 
@@ -31,6 +30,20 @@ fn is_plain_file<R: Files>(runtime: &R, path: &str) -> io::Result<bool> {
     }
 }
 
+// Opens what is at `path`. Of a pipe that has come there since it was looked at both ends are opened, so that it
+// doesn't wait. What may not be written is looked at again, and then opened to be read alone.
+fn open_at_once<R: Files>(runtime: &R, path: &str) -> io::Result<R::File> {
+    let mut how = OpenOptions::new();
+    how.read(true).write(true);
+    match how.open(runtime, path) {
+        Ok(file) => Ok(file),
+        Err(error) => match is_plain_file(runtime, path) {
+            Ok(true) => fs::open(runtime, path),
+            _ => Err(error),
+        },
+    }
+}
+
 // The first `limit + 1` bytes of the plain file at `path`, or `None` where it isn't there.
 pub(crate) fn load_file<R: Files, A: Allocator>(
     alloc: A,
@@ -43,7 +56,7 @@ pub(crate) fn load_file<R: Files, A: Allocator>(
         Ok(false) => return Ok(None),
         Err(error) => return Err(load_fault_of(&error)),
     }
-    let file = match fs::open(runtime, path) {
+    let file = match open_at_once(runtime, path) {
         Ok(file) => file,
         Err(error) => {
             return match error.kind() {
@@ -52,6 +65,9 @@ pub(crate) fn load_file<R: Files, A: Allocator>(
             };
         }
     };
+    if !matches!(file.metadata(), Ok(metadata) if metadata.is_file()) {
+        return Err(LoadFault::Device);
+    }
     let mut bytes = Vec::new(alloc);
     let most = (limit as u64).saturating_add(1);
     match file.take(most).read_to_end(&mut bytes) {
@@ -73,15 +89,15 @@ pub(crate) fn create_anew<R: Files>(runtime: &R, path: &str) -> io::Result<R::Fi
     }
 }
 
-// The folder that has the entry `path`.
+// The folder that has the entry `path`, with a slash at its end, so that a pipe that has come there is not opened.
 fn folder_of(path: &str) -> &str {
-    match Path::new(path).parent() {
-        Some(parent) if !parent.as_str().is_empty() => parent.as_str(),
-        _ => ".",
+    match path.trim_end_matches('/').rsplit_once('/') {
+        Some((above, _)) => path.get(..above.len() + 1).unwrap_or("."),
+        None => ".",
     }
 }
 
-// Syncs a folder.
+// Syncs a folder, whose path ends with a slash, or is `.`.
 pub(crate) fn sync_folder<R: Files>(runtime: &R, folder: &str) -> io::Result<()> {
     fs::open(runtime, folder)?.sync_all()
 }
@@ -95,6 +111,22 @@ pub(crate) fn sync_folder_of<R: Files>(runtime: &R, path: &str) -> io::Result<()
             sync_folder(runtime, folder_of(folder))
         }
         ended => ended,
+    }
+}
+
+// Gives a file a name that nothing has. If something has it, that stays as it is, and the file goes. Where the file
+// system has no second names, it is only looked whether something is there.
+pub(crate) fn name_new<R: Files>(runtime: &R, from: &str, to: &str) -> io::Result<()> {
+    match runtime.hard_link(from, to) {
+        Ok(()) => fs::remove_file(runtime, from),
+        Err(error) if error.kind() == ErrorKind::AlreadyExists => {
+            let _ = fs::remove_file(runtime, from);
+            Err(error)
+        }
+        Err(error) => match fs::symlink_metadata(runtime, to) {
+            Err(found) if found.kind() == ErrorKind::NotFound => fs::rename(runtime, from, to),
+            _ => Err(error),
+        },
     }
 }
 

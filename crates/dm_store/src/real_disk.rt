@@ -2,7 +2,7 @@
 //! [`Disk`] says is trusted, and this page is to be read.
 
 use crate::disk::{Disk, DiskFault, Folders};
-use crate::files::{create_anew, load_fault_of, load_file, sync_folder, sync_folder_of};
+use crate::files::{create_anew, load_fault_of, load_file, name_new, sync_folder, sync_folder_of};
 use crate::key_files::key_of;
 use crate::store::LoadFault;
 use std::alloc::{AllocError, Allocator, Global};
@@ -27,6 +27,7 @@ pub struct RealDisk<'a, R: Files, A: Allocator + Copy = Global> {
     alloc: A,
     runtime: &'a R,
     written: Option<Written<R::File, A>>,
+    replaces: bool,
 }
 
 impl<'a, R: Files, A: Allocator + Copy> RealDisk<'a, R, A> {
@@ -36,7 +37,15 @@ impl<'a, R: Files, A: Allocator + Copy> RealDisk<'a, R, A> {
             alloc,
             runtime,
             written: None,
+            replaces: true,
         }
+    }
+
+    /// The same files, of which none takes the place of another: a rename to a name that something has fails.
+    pub fn of_new_files(alloc: A, runtime: &'a R) -> RealDisk<'a, R, A> {
+        let mut disk = RealDisk::new(alloc, runtime);
+        disk.replaces = false;
+        disk
     }
 }
 
@@ -156,7 +165,11 @@ impl<R: Files, A: Allocator + Copy> Disk for RealDisk<'_, R, A> {
 
     fn rename(&mut self, from: &str, to: &str) -> Result<(), DiskFault> {
         self.written = None;
-        done(fs::rename(self.runtime, from, to))
+        if self.replaces {
+            done(fs::rename(self.runtime, from, to))
+        } else {
+            done(name_new(self.runtime, from, to))
+        }
     }
 
     fn remove(&mut self, name: &str) -> Result<(), DiskFault> {
@@ -197,6 +210,9 @@ impl<R: Files + Alloc + Clone + Drop, A: Allocator + Copy> Folders for RealDisk<
 
     fn settle_folder(&mut self, folder: &str) -> Result<(), DiskFault> {
         self.written = None;
-        done(settled(sync_folder(self.runtime, folder)))
+        match format!(in self.alloc; "{folder}/") {
+            Ok(path) => done(settled(sync_folder(self.runtime, path.as_str()))),
+            Err(AllocError) => Err(DiskFault::Memory),
+        }
     }
 }

@@ -1,6 +1,6 @@
-//! The commands of `relay`, which stand in crates of their own and are offered here too: `table` has what is fixed of
-//! each, [`do_command`] does the one that a line names, over its streams, and answers the exit status; [`run`] calls it
-//! with the program's own streams and files.
+//! The commands of `relay`, which stand in crates of their own and are offered here too: [`do_command`] does the one
+//! that a line names, over its files and streams, and answers the exit status; [`run`] calls it with the program's own
+//! streams and files.
 //!
 //! Proved, of inputs and outputs whose bytes a contract can name (slices and vectors; of the system's own streams none
 //! can): on status 0 a command has written exactly what it is for: `read` and `scan` a line for each image, `world` one
@@ -11,24 +11,23 @@
 //! files that can't be used among its lines; and `print` may have written its line and images. What a command does to
 //! its store and its files is what the call of the printer or of the desk says. `world` plays printers and desks in
 //! memory, and carries the headline.
+//!
+//! The files of a command, in the order in which it comes to them. Nothing is opened before its first load, so what can
+//! be said without a file is said without one. Then a command that may save locks PATH.lock, or PATH.pages.lock at a
+//! desk, and holds it until its output is out. It loads PATH, and at a desk the files in the folder PATH.pages. It
+//! saves to NAME.new, looks whether the lock file is still its own, and gives that file the name NAME. What a command can't
+//! have is a device fault to it, and a line `relay: PATH: ..` on the standard error says why. Proved of the disk behind
+//! a lock: it is a disk like the one within, whose calls may fail. That it is locked is in no clause.
 #![tactic(auto)]
 
+mod closed_streams;
 mod commands;
-mod course;
-mod faulty_files;
-mod guard;
+mod line_buffer;
 mod lock;
+mod locked;
+mod notes;
+mod place;
 mod program;
-mod refused_images;
-mod rehearsal;
-mod replay;
-mod standard_error;
-mod standard_streams;
-mod steps;
-mod stuck_writer;
-mod system_steps;
-mod table;
-mod workplace;
 
 pub use commands::do_command;
 pub use program::run;
@@ -47,4 +46,3 @@ pub use relay_symbol_commands::{
     Form, ReadRefusal, SymbolRefusal, draw_command, read_command, words_command,
 };
 pub use relay_world_command::{INPUT_BYTES, world_command};
-pub use table::file_of;

@@ -2,65 +2,174 @@
 
 ghost use Rattle.std.specs.Prelude.{◌≡◌};
 
-use crate::standard_streams::HeldPlaces;
-use crate::steps::take_steps;
-use crate::stuck_writer::StuckWriter;
-use crate::system_steps::{SystemSteps, refuse_at};
-use crate::table::{Work, file_of, refuses_on_errors, work_of};
+use crate::closed_streams::HeldPlaces;
+use crate::commands::do_command;
+use crate::line_buffer::{ErrorWriter, LineBuffer};
+use crate::locked::{Gate, Locked};
+use crate::notes::{RefusedImages, note, note_faulty_file, note_folder, note_reason};
+use crate::place::{Access, Named, Place, named_by, refuses_on_errors};
+use dm_store::{FileSet, FileStore, MemSet, MemStore, RealDisk};
+use relay_desk_commands::NoNotes;
 use relay_line::{Command, LineFault, command_line};
+use relay_shared::{Streams, refuse};
+use relay_streams::Output;
+use std::alloc::AllocError;
 use std::fs::File;
-use std::io::{BufReader, BufWriter, ErrorKind, Write};
+use std::io::{BufReader, ErrorKind, Read, Write};
 use std::rt::{Env, Files};
 use std::{env, io};
 
+// How many bytes of its output a command that answers once keeps, before it lets whole lines out.
+const MANY_BYTES: usize = 8192;
+
+// The standard error, a line at a time.
+fn errors_of<R: AllocGlobal + Eprint>(rt: &R) -> LineBuffer<ErrorWriter<'_, R>> {
+    LineBuffer::new(rt.alloc(), ErrorWriter::new(rt), 0)
+}
+
 // Refuses on the standard error, and gives the exit status.
-fn refuse_on_errors<R: Print + Eprint>(rt: &R, name: &str) -> u8
+fn refuse_on_errors<R: AllocGlobal + Eprint>(rt: &R, name: &str) -> u8
     ensures { result ≡ 1 }
 {
-    refuse_at(rt, true, name)
+    refuse(&mut Output::new(errors_of(rt)), name)
 }
 
-// Refuses a command before it begins, where its other refusals go.
-fn refuse_command<R: Print + Eprint>(rt: &R, command: Command, name: &str) -> u8
-    ensures { result ≡ 1 }
-{
-    refuse_at(rt, refuses_on_errors(command), name)
+// Whether a command answers to each image before it waits for the next.
+fn answers_each_image(command: Command) -> bool {
+    matches!(command, Command::Read | Command::Scan { .. })
 }
 
-// Does a command over the program's input, files and standard error, and a writer.
-fn run_to<R: AllocGlobal + Input + Print + Eprint + Files<File = File> + Clone, W: Write + Drop>(
+// Lets the end of the output out, and gives the exit status. If the output has failed, and the command has not said so
+// itself, it is said here; but for a command that was refused and can't say it, and one that answers to each image.
+fn finish<R: AllocGlobal + Eprint, W: Write>(
     rt: &R,
-    writer: W,
+    output: &mut LineBuffer<W>,
+    command: Command,
+    status: u8,
+) -> u8 {
+    let says = if output.has_failed {
+        !refuses_on_errors(command) && !answers_each_image(command)
+    } else {
+        status == 0
+    };
+    if output.flush().is_err() && says {
+        return refuse_on_errors(rt, "Write");
+    }
+    status
+}
+
+// Notes what the line of a refusal can't say of a command's files.
+fn note_files<R: AllocGlobal + Eprint + Files<File = File> + Clone>(
+    rt: &R,
+    named: Named,
+    place: &Place,
+    gate: &Gate<'_, R>,
+) {
+    if let Some(reason) = gate.reason.get() {
+        note_reason(rt, named.file, place, reason);
+    } else if gate.has_no_list.get() {
+        note_folder(rt, place);
+    } else if place.is_desk
+        && place.access != Access::Looks
+        && let Some(path) = gate.loaded.take()
+    {
+        note_faulty_file(rt, place, path.as_str());
+    }
+}
+
+// The disk of a ledger or of a joint file. A new ledger takes the place of nothing.
+fn disk_of<'a, R: AllocGlobal + Files>(rt: &'a R, place: &Place) -> RealDisk<'a, R> {
+    if place.access == Access::Makes && !place.is_desk {
+        RealDisk::of_new_files(rt.alloc(), rt)
+    } else {
+        RealDisk::new(rt.alloc(), rt)
+    }
+}
+
+// Does a command over its files, lets its output out, and only then lets other programs come.
+fn run_on_files<R: AllocGlobal + Eprint + Files<File = File> + Clone, I: Read + Drop, W: Write>(
+    rt: &R,
+    named: Named,
+    reader: I,
+    output: &mut LineBuffer<W>,
+    command: Command,
+) -> Result<u8, AllocError> {
+    let alloc = rt.alloc();
+    let place = Place::of(rt, named)?;
+    let (file, folder) = (place.file.clone()?, place.folder.clone()?);
+    let gate = Gate::new(rt, &place);
+    let status = {
+        let disk = Locked::new(&gate, disk_of(rt, &place));
+        let store = FileStore::of_synced(alloc, disk, file);
+        let disk = Locked::new(&gate, RealDisk::new(alloc, rt));
+        let set = FileSet::of_synced(alloc, disk, folder);
+        let mut streams = Streams::new(reader, &mut *output, errors_of(rt));
+        let mut notes = RefusedImages::new(rt);
+        do_command(alloc, store, set, &mut streams, &mut notes, command).status
+    };
+    let status = finish(rt, output, command, status);
+    if status != 0 || gate.reason.get().is_some() {
+        note_files(rt, named, &place, &gate);
+    }
+    gate.close();
+    Ok(status)
+}
+
+// Does a command that names no file.
+fn run_on_streams<R: AllocGlobal + Eprint, I: Read + Drop, W: Write>(
+    rt: &R,
+    reader: I,
+    output: &mut LineBuffer<W>,
     command: Command,
 ) -> u8 {
-    match BufReader::new(rt.alloc(), rt.reader()) {
-        Ok(reader) => take_steps(&mut SystemSteps::new(rt, command, reader, writer), command),
-        Err(_) => refuse_command(rt, command, "Memory"),
+    let alloc = rt.alloc();
+    let (store, set) = (MemStore::new(alloc), MemSet::new(alloc));
+    let status = {
+        let mut streams = Streams::new(reader, &mut *output, errors_of(rt));
+        do_command(alloc, store, set, &mut streams, &mut NoNotes, command).status
+    };
+    finish(rt, output, command, status)
+}
+
+// Does a command over the program's input and files.
+fn run_to<R: AllocGlobal + Input + Eprint + Files<File = File> + Clone, W: Write>(
+    rt: &R,
+    output: &mut LineBuffer<W>,
+    command: Command,
+) -> Result<u8, AllocError> {
+    let Ok(reader) = BufReader::new(rt.alloc(), rt.reader()) else {
+        return Err(AllocError);
+    };
+    match named_by(command) {
+        None => Ok(run_on_streams(rt, reader, output, command)),
+        Some(named) => run_on_files(rt, named, reader, output, command),
     }
 }
 
 // Does a command, and answers its exit status. Each line of `read` and `scan` goes out before the next image is waited
-// for; the other outputs go out in large pieces. A buffer writes what it holds again when it is dropped, so the writer
-// below it is one that stays failed.
+// for; the other outputs go out in large pieces. Where a command can't begin, that is said where its refusals go.
 fn run_command<R: AllocGlobal + Input + Print + Eprint + Files<File = File> + Clone>(
     rt: &R,
     command: Command,
 ) -> u8 {
-    match command {
-        Command::Read | Command::Scan { .. } => run_to(
-            rt,
-            StuckWriter::new(io::writer(rt)),
-            command,
-        ),
-        _ => match BufWriter::new(rt.alloc(), StuckWriter::new(io::writer(rt))) {
-            Ok(writer) => run_to(rt, writer, command),
-            Err(_) => refuse_command(rt, command, "Memory"),
-        },
+    let least = if answers_each_image(command) {
+        0
+    } else {
+        MANY_BYTES
+    };
+    let mut output = LineBuffer::new(rt.alloc(), io::writer(rt), least);
+    match run_to(rt, &mut output, command) {
+        Ok(status) => status,
+        Err(AllocError) if refuses_on_errors(command) => refuse_on_errors(rt, "Memory"),
+        Err(AllocError) => {
+            let status = refuse(&mut Output::new(&mut output), "Memory");
+            finish(rt, &mut output, command, status)
+        }
     }
 }
 
 // Shows why a line wasn't taken, or the help that it asks for, and answers the exit status.
-fn show_fault<R: Print + Eprint>(rt: &R, fault: &LineFault) -> u8 {
+fn show_fault<R: AllocGlobal + Print + Eprint>(rt: &R, fault: &LineFault) -> u8 {
     match fault {
         LineFault::Line { text, status: 0 } => match print!(rt; "{text}") {
             Ok(()) => 0,
@@ -80,7 +189,7 @@ fn own_words<R: AllocGlobal + Env>(rt: &R) -> io::Result<Vec<String>> {
 }
 
 // Says why the program's own words can't be had, and answers the exit status.
-fn show_word_fault<R: Print + Eprint>(rt: &R, error: &io::Error) -> u8 {
+fn show_word_fault<R: AllocGlobal + Eprint>(rt: &R, error: &io::Error) -> u8 {
     let why = match error.kind() {
         ErrorKind::OutOfMemory => return refuse_on_errors(rt, "Memory"),
         ErrorKind::InvalidData => "a word of the command line is not UTF-8",
@@ -90,9 +199,9 @@ fn show_word_fault<R: Print + Eprint>(rt: &R, error: &io::Error) -> u8 {
     2
 }
 
-// Whether a command is to name a file, and its path is empty.
+// Whether a command names a file by the empty path.
 fn has_empty_path(command: Command) -> bool {
-    !matches!(work_of(command), Work::Nothing) && file_of(command).is_empty()
+    matches!(named_by(command), Some(named) if named.file.is_empty())
 }
 
 /// Does what the program's own words say over its own streams, and answers the exit status: that of the command, or 2
@@ -101,7 +210,9 @@ pub fn run<R: AllocGlobal + Input + Print + Eprint + Env + Files<File = File> + 
     rt: &R,
 ) -> u8 {
     let Ok(_places) = HeldPlaces::hold(rt) else {
-        return refuse_on_errors(rt, "Device");
+        let status = refuse_on_errors(rt, "Device");
+        note(rt, "/", "can't be opened in the place of a closed stream");
+        return status;
     };
     let words = match own_words(rt) {
         Ok(words) => words,

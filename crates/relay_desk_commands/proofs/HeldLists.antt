@@ -4,7 +4,7 @@ use Rattle.std.proofs.Common.{◌≡◌, ◌≤◌, ◌+◌, ◌++◌, ◌||◌,
 use Rattle.std.specs.Prelude.{is_err}
 use Rattle.std.specs.Io.KnownBytes.{Appends}
 use Rattle.std.proofs.KnownBytes.{Appends-trans}
-use Rattle.dm_assembly_desk.specs.declared.fault.HeldFault.{HeldFault}
+use Rattle.dm_assembly_desk.specs.declared.fault.DeskFault.{DeskFault}
 use Rattle.dm_assembly_desk.specs.declared.reply.Held.{Held}
 use Rattle.relay_streams.proofs.Parts.{part_after}
 use Rattle.relay_streams.specs.Streams.{AppendsPart, OutputView}
@@ -17,7 +17,7 @@ module _ (seen : SeenFiles) where
       Appends old.contents new.contents (joint_line seen.joint) → WritesList seen 0 unsound old new
   first_line unsound old new is appended = (joint_line seen.joint, rw is begun, appended)
 
-  pub one_more : (number : ℕ) (unsound more : Bool) (found : Result (Option Held) HeldFault)
+  pub one_more : (number : ℕ) (unsound more : Bool) (found : Result (Option Held) DeskFault)
       (old now new : OutputView) → WritesList seen number unsound old now →
       SeesNumber seen.set (documents_in seen.joint) number found → more ≡ is_err found →
       Appends now.contents new.contents (seen_line number found) →
@@ -35,7 +35,7 @@ module _ (seen : SeenFiles) where
       (0, joint_line seen.joint, is_err seen.joint, begun, omega arith, failed, part)
 
   -- the line of a number was cut off
-  pub cut_in : (number : ℕ) (unsound : Bool) (found : Result (Option Held) HeldFault) (old now new : OutputView) →
+  pub cut_in : (number : ℕ) (unsound : Bool) (found : Result (Option Held) DeskFault) (old now new : OutputView) →
       number + 1 ≤ 65536 → WritesList seen number unsound old now →
       SeesNumber seen.set (documents_in seen.joint) number found → new.has_failed ≡ true →
       AppendsPart now.contents new.contents (seen_line number found) → CutsList seen old new

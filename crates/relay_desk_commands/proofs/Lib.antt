@@ -3,4 +3,3 @@ pub mod ScanLaws
 pub mod LoadedJoint
 pub mod HeldLists
 pub mod CopiedPages
-pub mod StoppedDesks

@@ -1,6 +1,6 @@
 -- What a desk is after a scan: if a save failed, it has failed, and else it runs on.
 use Rattle.std.specs.Prelude.{◌≡◌, Bool, true, false, Result, Ok, Err}
-use Rattle.std.proofs.Common.{refl, ap}
+use Rattle.std.proofs.Common.{refl, ap, sym, ◌∙◌}
 use Rattle.dm_append_label.specs.declared.fault.LabelFault.{LabelFault}
 use Rattle.dm_append_label.specs.declared.fault.LabelFault.TheVariants as labels
 use Rattle.dm_append_label.specs.declared.opening.Opened.{Opened}
@@ -10,14 +10,16 @@ use Rattle.dm_pbm_io.specs.Image.{Picture}
 use Rattle.dm_pbm_io.specs.SymbolImage.{HasShape}
 use Rattle.dm_pbm_io.specs.declared.fault.ShapeFault.{ShapeFault}
 use Rattle.dm_pbm_io.specs.declared.fault.ShapeFault.TheVariants.{Shape, Memory}
-use Rattle.dm_assembly_desk.specs.Accepting.{AcceptsPage, ChangesByPage, Scans}
+use Rattle.dm_assembly_desk.specs.Accepting.{lone, scan_of, Accepts, Scans}
 use Rattle.dm_assembly_desk.specs.FaultOrigin.{scan_fault}
 use Rattle.dm_assembly_desk.specs.Views.{DeskView}
+use Rattle.dm_assembly_desk.specs.declared.adding.AddFault.{AddFault}
+use Rattle.dm_assembly_desk.specs.declared.adding.AddFault.TheVariants as adds
 use Rattle.dm_assembly_desk.specs.declared.fault.ScanFault.{ScanFault}
 use Rattle.dm_assembly_desk.specs.declared.fault.ScanFault.TheVariants as scans
 use Rattle.dm_assembly_desk.specs.declared.reply.Accepted.{Accepted}
-use Rattle.dm_assembly_desk.specs.declared.reply.Kind.{Kind}
-use Rattle.dm_assembly_desk.specs.declared.reply.Kind.TheVariants.{New, Again, Complete}
+use Rattle.dm_assembly_desk.specs.declared.reply.Imported.{Imported}
+use Rattle.dm_assembly_desk.proofs.AddLaws.{says_save, adds_failed}
 use Rattle.relay_shared.specs.EachImage.{refusal_of}
 use Rattle.relay_desk_commands.specs.Scan.{ScansPicture}
 use Rattle.relay_desk_commands.specs.Scan.ScansPicture.{shape, memory}
@@ -31,19 +33,18 @@ pub no_save : (fault : ScanFault) → (fault ≡ scans.Save → ⊥) → is_save
 no_save scans.Save other = absurd (other refl)
 no_save _ other = refl
 
-after_answer : (kind : Kind) (p : PageView) (before after : DeskView) → before.is_failed ≡ false
-    → ChangesByPage kind p before after → after.is_failed ≡ false
-after_answer Again p before after running same = cc
-after_answer New p before after running keeps = keeps.holding.running
-after_answer Complete p before after running keeps = keeps.holding.running
+same_save : (p : PageView) (added : Result Imported AddFault) → is_save (scan_of p added) ≡ says_save added
+same_save p (Ok reply) = refl
+same_save p (Err adds.Conflict) = refl
+same_save p (Err adds.Full) = refl
+same_save p (Err adds.Memory) = refl
+same_save p (Err adds.Save) = refl
 
 after_page : (p : PageView) (before : DeskView) (reply : Result Accepted ScanFault) (after : DeskView)
-    → before.is_failed ≡ false → AcceptsPage p before reply after → after.is_failed ≡ is_save reply
-after_page p before (Ok accepted) after running done = after_answer accepted.kind p before after running done.2
-after_page p before (Err scans.Save) after running done = done.1.failing.failed
-after_page p before (Err scans.Failed) after running done = absurd done
-after_page p before (Err (scans.Label fault)) after running done = absurd done
-after_page p before (Err _) after running done = cc
+    → before.is_failed ≡ false → Accepts p before reply after → after.is_failed ≡ is_save reply
+after_page p before reply after running done =
+    adds_failed p.id (lone p) before after running done.0 done.2
+    ∙ sym (ap is_save done.1 ∙ same_save p done.0)
 
 label_is_no_save : (fault : LabelFault) → is_save (Err (scan_fault fault)) ≡ false
 label_is_no_save labels.Memory = refl

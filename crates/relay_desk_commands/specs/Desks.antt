@@ -6,13 +6,12 @@ use Rattle.hex.specs.Hex.{decode_sized}
 use Rattle.dm_store.specs.Saved.{Saved}
 use Rattle.dm_store.specs.Sets.{SavedSet}
 use Rattle.dm_append_label.specs.Pages.{IsIdWord, id_words}
-use Rattle.dm_assembly_desk.specs.Asking.{Asks}
+use Rattle.dm_assembly_desk.specs.Asking.{Asks, Exports}
 use Rattle.dm_assembly_desk.specs.FaultNames.{ask_fault_name, desk_fault_name, export_fault_name}
 use Rattle.dm_assembly_desk.specs.FaultNames.{forget_fault_name, import_fault_name, move_fault_name}
-use Rattle.dm_assembly_desk.specs.Exporting.{Exports}
 use Rattle.dm_assembly_desk.specs.Forgetting.{Forgets}
 use Rattle.dm_assembly_desk.specs.Importing.{ImportsBytes}
-use Rattle.dm_assembly_desk.specs.Moving.{HasMoveFault, KeepsFiles, KeepsPlans, Moves}
+use Rattle.dm_assembly_desk.specs.Moving.{Moves}
 use Rattle.dm_assembly_desk.specs.Opening.{HasDeskFault, Opens}
 use Rattle.dm_assembly_desk.specs.Pages.{Pages}
 use Rattle.dm_assembly_desk.specs.Views.{DeskView}
@@ -53,25 +52,19 @@ pub record OnDesk : Type 0 where
 abbrev pub desk_at : Saved → SavedSet → StreamsView → OnDesk
 desk_at joint set streams = record { files = record { joint = joint; set = set }; streams = streams }
 
--- The documents of the joint file were moved to the set, and nothing that both held was lost. Honesty stays, the plans
--- of loads stay, and fine plans of saves stay fine.
-pub record MovesFiles (before after : DeskFiles) : Type 0 where
-  pub written : ℕ
-  pub moves : Moves before.joint before.set written after.joint after.set
-  pub kept : KeepsFiles before.joint before.set after.joint after.set
-  pub plans : KeepsPlans before.joint before.set after.joint after.set
+-- the documents of the joint file were moved to the set
+abbrev pub MovesFiles : DeskFiles → DeskFiles → Type 0
+MovesFiles before after = (written : ℕ) × Moves before.joint before.set (Ok written) after.joint after.set
 
 -- the documents were moved, and then a desk with this room was opened on the set
 pub record OpensDesk (before : DeskFiles) (capacity : ℕ) (joint : Saved) (desk : DeskView) : Type 0 where
   pub moves : MovesFiles before (record { joint = joint; set = desk.saved })
   pub opens : Opens desk.saved capacity desk
 
--- There is no desk with this room, and this is the name of the reason: the joint file could not be moved, and nothing
--- that both held was lost; or the desk was not opened.
+-- There is no desk with this room, and this is the name of the reason: the joint file could not be moved; or the desk was
+-- not opened.
 pub data HasNoDesk (before : DeskFiles) (capacity : ℕ) (name : List ℕ) (after : DeskFiles) : Type 0 where
-  not_moved : (fault : MoveFault) → HasMoveFault before.joint before.set fault after.joint after.set
-      → KeepsFiles before.joint before.set after.joint after.set
-      → KeepsPlans before.joint before.set after.joint after.set
+  not_moved : (fault : MoveFault) → Moves before.joint before.set (Err fault) after.joint after.set
       → name ≡ move_fault_name fault → HasNoDesk before capacity name after
   not_opened : (fault : DeskFault) → MovesFiles before after → HasDeskFault after.set capacity fault
       → name ≡ desk_fault_name fault → HasNoDesk before capacity name after

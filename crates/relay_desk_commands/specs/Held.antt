@@ -2,17 +2,17 @@
 use Rattle.std.specs.Prelude.{◌≡◌, ◌≤◌, ◌⊎◌, ◌||◌, ◌++◌, ◌+◌, ℕ, Bool, true, List, [], if◌then◌else◌}
 use Rattle.std.specs.Prelude.{Option, Some, None, Result, Ok, Err, is_err, IsTrue, IsSomeAnd}
 use Rattle.std.specs.FinMap as map
-use Rattle.dm_store.specs.Saved.{Saved, LoadsOpen, MemoryOpen}
+use Rattle.dm_store.specs.Saved.{Saved, LoadsOpen}
 use Rattle.dm_store.specs.Sets.{SavedSet}
 use Rattle.dm_assembly_desk.specs.Documents.{Documents}
-use Rattle.dm_assembly_desk.specs.FaultNames.{ask_fault_name, held_fault_name, move_fault_name}
+use Rattle.dm_assembly_desk.specs.FaultNames.{ask_fault_name, desk_fault_name, move_fault_name}
 use Rattle.dm_assembly_desk.specs.JointFiles.{HasJointFileFault, HoldsJointFile}
 use Rattle.dm_assembly_desk.specs.Looking.{SeesKey}
 use Rattle.dm_assembly_desk.specs.Pages.{Pages}
 use Rattle.dm_assembly_desk.specs.Summaries.{summary}
 use Rattle.dm_assembly_desk.specs.declared.fault.AskFault.TheVariants as asks
-use Rattle.dm_assembly_desk.specs.declared.fault.HeldFault.{HeldFault}
-use Rattle.dm_assembly_desk.specs.declared.fault.HeldFault.TheVariants as looks
+use Rattle.dm_assembly_desk.specs.declared.fault.DeskFault.{DeskFault}
+use Rattle.dm_assembly_desk.specs.declared.fault.DeskFault.TheVariants as looks
 use Rattle.dm_assembly_desk.specs.declared.fault.MoveFault.{MoveFault}
 use Rattle.dm_assembly_desk.specs.declared.fault.MoveFault.TheVariants as moves
 use Rattle.dm_assembly_desk.specs.declared.reply.Held.{Held}
@@ -42,7 +42,7 @@ documents_in (Err fault) = map.empty
 -- why nobody can say what the file of an older version holds
 abbrev pub HasJointUnsound : Saved → MoveFault → Type 0
 HasJointUnsound saved moves.Device = saved.load_plan ≡ LoadsOpen
-HasJointUnsound saved moves.Memory = saved.memory_plan ≡ MemoryOpen
+HasJointUnsound saved moves.Memory = Unit {0}
 HasJointUnsound saved fault =
     IsTrue saved.is_honest → IsSomeAnd saved.content (λ bytes. HasJointFileFault bytes fault)
 
@@ -58,7 +58,7 @@ pub record SeesFiles (files : DeskFiles) (seen : SeenFiles) : Type 0 where
 
 -- What is seen of the document of a number: that of its own file, if there is one, or else what the file of an older
 -- version has of it.
-abbrev pub SeesNumber : SavedSet → Documents → ℕ → Result (Option Held) HeldFault → Type 0
+abbrev pub SeesNumber : SavedSet → Documents → ℕ → Result (Option Held) DeskFault → Type 0
 SeesNumber set joint number (Err fault) = SeesKey set number (Err fault)
 SeesNumber set joint number (Ok None) = SeesKey set number (Ok None) × (map.get joint number ≡ None)
 SeesNumber set joint number (Ok (Some held)) =
@@ -69,10 +69,10 @@ SeesNumber set joint number (Ok (Some held)) =
 -- ---- what is printed
 
 -- the line of what was seen of a number; nothing is held of it, so there is none
-abbrev pub seen_line : ℕ → Result (Option Held) HeldFault → List ℕ
+abbrev pub seen_line : ℕ → Result (Option Held) DeskFault → List ℕ
 seen_line number (Ok None) = []
 seen_line number (Ok (Some held)) = held_line held
-seen_line number (Err fault) = unsound_line number (held_fault_name fault)
+seen_line number (Err fault) = unsound_line number (desk_fault_name fault)
 
 -- the line of the file of an older version, if it is not sound
 abbrev pub joint_line : Result (Option Documents) MoveFault → List ℕ
@@ -83,7 +83,7 @@ joint_line (Err fault) = unsound_joint_line (move_fault_name fault)
 -- them is of a file that is not sound
 pub data Lists (seen : SeenFiles) : ℕ → List ℕ → Bool → Type 0 where
   begun : Lists seen 0 (joint_line seen.joint) (is_err seen.joint)
-  further : {number : ℕ} {text : List ℕ} {unsound : Bool} (found : Result (Option Held) HeldFault)
+  further : {number : ℕ} {text : List ℕ} {unsound : Bool} (found : Result (Option Held) DeskFault)
       → Lists seen number text unsound → SeesNumber seen.set (documents_in seen.joint) number found
       → Lists seen (number + 1) (text ++ seen_line number found) (unsound || is_err found)
 
@@ -92,9 +92,9 @@ abbrev pub status_by : Bool → ℕ
 status_by unsound = if unsound then 1 else 0
 
 -- why the keys of a set could not be had
-abbrev pub HasNoKeys : SavedSet → HeldFault → Type 0
+abbrev pub HasNoKeys : SavedSet → DeskFault → Type 0
 HasNoKeys set looks.Device = set.load_plan ≡ LoadsOpen
-HasNoKeys set looks.Memory = set.memory_plan ≡ MemoryOpen
+HasNoKeys set looks.Memory = Unit {0}
 HasNoKeys set _ = ⊥
 
 -- What `held` says of all documents: each line was written; or the output has failed, and a part of some first lines is
@@ -105,25 +105,25 @@ pub data TellsAll (seen : SeenFiles) (old : OutputView) (status : ℕ) (new : Ou
   cut_off : (number : ℕ) (text : List ℕ) (unsound : Bool) → Lists seen number text unsound → number ≤ 65536
       → new.has_failed ≡ true → AppendsPart old.contents new.contents text → status ≡ 1
       → TellsAll seen old status new
-  no_keys : (why : HeldFault) → HasNoKeys seen.set why → TellsRefusal (held_fault_name why) old status new
+  no_keys : (why : DeskFault) → HasNoKeys seen.set why → TellsRefusal (desk_fault_name why) old status new
       → TellsAll seen old status new
 
 -- The line of one document that is asked for, by what was seen of its number. If nothing is held of it, that is
 -- refused, unless the file of an older version is not sound, which may have held it.
-abbrev pub asked_line : Result (Option Documents) MoveFault → ℕ → Result (Option Held) HeldFault → List ℕ
+abbrev pub asked_line : Result (Option Documents) MoveFault → ℕ → Result (Option Held) DeskFault → List ℕ
 asked_line joint number (Ok (Some held)) = held_line held
 asked_line (Ok _) number (Ok None) = refused_line (ask_fault_name asks.NotHeld)
 asked_line (Err fault) number (Ok None) = unsound_joint_line (move_fault_name fault)
-asked_line joint number (Err fault) = unsound_line number (held_fault_name fault)
+asked_line joint number (Err fault) = unsound_line number (desk_fault_name fault)
 
 -- the exit status after it: 0 if a page is held
-abbrev pub asked_status : Result (Option Held) HeldFault → ℕ
+abbrev pub asked_status : Result (Option Held) DeskFault → ℕ
 asked_status (Ok (Some held)) = 0
 asked_status _ = 1
 
 -- what `held` says of one document
 abbrev pub TellsOne : SeenFiles → ℕ → OutputView → ℕ → OutputView → Type 0
-TellsOne seen id old status new = (found : Result (Option Held) HeldFault)
+TellsOne seen id old status new = (found : Result (Option Held) DeskFault)
     × SeesNumber seen.set (documents_in seen.joint) id found
     × Tells (asked_line seen.joint id found) (asked_status found) old status new
 

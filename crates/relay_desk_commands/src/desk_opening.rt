@@ -1,7 +1,6 @@
 //! The desk that a command works with.
 
 ghost use Rattle.std.specs.Prelude.{◌≡◌, ℕ, List, MatchResult};
-ghost use Rattle.dm_assembly_desk.specs.Lasting.{IsKept};
 ghost use Rattle.dm_assembly_desk.specs.Views.{IsInOrder};
 ghost use Rattle.relay_shared.specs.Telling.{TellsRefusal};
 ghost use Rattle.relay_desk_commands.specs.Desks.{HasNoDesk, OpensDesk};
@@ -26,7 +25,6 @@ impl<S: Store, T: StoreSet, A: Allocator + Copy> OpenDesk<S, T, A> {
         ensures status { result.status ≡ status }
         ensures store { S.state result.store ≡ S.state self.store }
         ensures set { T.state result.set ≡ self.desk.saved }
-        ensures kept { IsKept self.desk (T.left result.set) }
     {
         EndedDesk {
             status,

@@ -7,7 +7,6 @@ ghost use Rattle.dm_assembly_desk.specs.declared.fault.ForgetFault.{ForgetFault}
 ghost use Rattle.relay_shared.specs.DeskLines.{forgotten_line};
 ghost use Rattle.relay_shared.specs.Telling.{TellsAnswer};
 ghost use Rattle.relay_desk_commands.specs.Desks.{EndsForget, desk_at};
-ghost use Rattle.relay_desk_commands.specs.Lasting.{LeavesFiles};
 
 use crate::desk_opening::open_desk;
 use crate::file_id::id_of;
@@ -45,9 +44,8 @@ pub fn forget_command<A: Allocator + Copy, S: Store, T: StoreSet, R: Read, W: Wr
     streams: &mut Streams<R, W, E>,
     text: &str,
 ) -> EndedDesk<S, T>
-    ensures ends { EndsForget text.now (desk_at (S.state store) (T.state set) streams.old) result.status
+    ensures { EndsForget text.now (desk_at (S.state store) (T.state set) streams.old) result.status
         (desk_at (S.state result.store) (T.state result.set) streams.new) }
-    ensures lasts { result.status ≡ 0 → LeavesFiles (T.state result.set) (T.left result.set) }
 {
     let Some(id) = id_of(text) else {
         let status = refuse(&mut streams.output, Refusal::FileId.name());

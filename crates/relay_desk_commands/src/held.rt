@@ -25,7 +25,7 @@ ghost use Rattle.relay_desk_commands.specs.inner.Listing.{CutsList, HasCount, Wr
 use crate::file_id::id_of;
 use dm_append_label::FileId;
 use dm_assembly_desk::{
-    AskFault, Held, HeldFault, JointFile, MOST_JOINT_FILE_BYTES, MoveFault, held_at, is_listed,
+    AskFault, DeskFault, Held, JointFile, MOST_JOINT_FILE_BYTES, MoveFault, held_at, is_listed,
 };
 use dm_store::{LoadFault, Store, StoreSet};
 use relay_shared::{
@@ -75,7 +75,7 @@ fn seen_at<T: StoreSet>(
     is_there: bool,
     first: Option<Held>,
     number: u16,
-) -> Result<Option<Held>, HeldFault>
+) -> Result<Option<Held>, DeskFault>
     requires absent { is_there ≡ false → IsTrue (T.state set.old).is_honest
         → map.get (T.state set.old).content number ≡ None }
     requires count { IfSome first HasCount }
@@ -94,7 +94,7 @@ fn seen_at<T: StoreSet>(
 fn put_seen<W: Write>(
     output: &mut Output<W>,
     number: u16,
-    seen: Result<Option<Held>, HeldFault>,
+    seen: Result<Option<Held>, DeskFault>,
 ) -> Result<(), WriteFault>
     requires { IfOk seen (λ found. IfSome found HasCount) }
     ensures { Puts (seen_line number seen) output.old result output.new }
@@ -168,8 +168,8 @@ fn tell_all<T: StoreSet, W: Write>(set: &mut T, output: &mut Output<W>, joint: &
 {
     let keys = match set.keys(65_536) {
         Ok(keys) => keys,
-        Err(LoadFault::Device) => return refuse(output, HeldFault::Device.name()),
-        Err(LoadFault::Memory) => return refuse(output, HeldFault::Memory.name()),
+        Err(LoadFault::Device) => return refuse(output, DeskFault::Device.name()),
+        Err(LoadFault::Memory) => return refuse(output, DeskFault::Memory.name()),
     };
     match put_list(set, &keys, output, joint) {
         Ok(unsound) => u8::from(unsound),

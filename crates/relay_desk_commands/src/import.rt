@@ -9,7 +9,6 @@ ghost use Rattle.relay_streams.specs.Streams.{TakesPart};
 ghost use Rattle.relay_shared.specs.DeskLines.{imported_line};
 ghost use Rattle.relay_shared.specs.Telling.{TellsAnswer};
 ghost use Rattle.relay_desk_commands.specs.Desks.{EndsImport, desk_at};
-ghost use Rattle.relay_desk_commands.specs.Lasting.{LeavesFiles};
 
 use crate::desk_opening::open_desk;
 use dm_assembly_desk::Desk;
@@ -53,7 +52,6 @@ pub fn import_command<A: Allocator + Copy, S: Store, T: StoreSet, R: Read, W: Wr
     ensures part { TakesPart streams.old.input.remaining streams.new.input.remaining IMPORT_BYTES }
     ensures ends { EndsImport capacity (desk_at (S.state store) (T.state set) streams.old) result.status
         (desk_at (S.state result.store) (T.state result.set) streams.new) }
-    ensures lasts { result.status ≡ 0 → LeavesFiles (T.state result.set) (T.left result.set) }
 {
     let bytes = match streams.input.read_up_to(alloc, IMPORT_BYTES) {
         Ok(bytes) => bytes,

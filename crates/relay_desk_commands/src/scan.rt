@@ -4,7 +4,6 @@ ghost use Rattle.std.specs.Prelude.{◌≡◌, false};
 ghost use Rattle.dm_assembly_desk.specs.Documents.{KeepsPages};
 ghost use Rattle.dm_assembly_desk.specs.Views.{IsInOrder};
 ghost use Rattle.relay_desk_commands.specs.Desks.{desk_at};
-ghost use Rattle.relay_desk_commands.specs.Lasting.{ScanLeaves};
 ghost use Rattle.relay_desk_commands.specs.Scan.{EndsScan, scan_images};
 
 use crate::desk_opening::{OpenDesk, open_desk};
@@ -106,9 +105,8 @@ pub fn scan_with_notes<
     notes: &mut N,
     capacity: u16,
 ) -> EndedDesk<S, T>
-    ensures ends { EndsScan A capacity (desk_at (S.state store) (T.state set) streams.old) result.status
+    ensures { EndsScan A capacity (desk_at (S.state store) (T.state set) streams.old) result.status
         (desk_at (S.state result.store) (T.state result.set) streams.new) }
-    ensures lasts { ScanLeaves streams.old result.status streams.new (T.state result.set) (T.left result.set) }
 {
     let opened = match open_desk(alloc, store, set, &mut streams.output, capacity) {
         Ok(opened) => opened,
@@ -134,9 +132,8 @@ pub fn scan_command<A: Allocator + Copy, S: Store, T: StoreSet, R: Read, W: Writ
     streams: &mut Streams<R, W, E>,
     capacity: u16,
 ) -> EndedDesk<S, T>
-    ensures ends { EndsScan A capacity (desk_at (S.state store) (T.state set) streams.old) result.status
+    ensures { EndsScan A capacity (desk_at (S.state store) (T.state set) streams.old) result.status
         (desk_at (S.state result.store) (T.state result.set) streams.new) }
-    ensures lasts { ScanLeaves streams.old result.status streams.new (T.state result.set) (T.left result.set) }
 {
     scan_with_notes(alloc, store, set, streams, &mut NoNotes, capacity)
 }

@@ -1,35 +1,30 @@
 -- What a command line gives.
-use Rattle.std.specs.Prelude.{◌≡◌, ℕ, ◌≤◌, ◌⊎◌, List, ◌++◌, codes, Option, MatchOption}
-use Rattle.std.specs.Fmt.{decimal}
+use Rattle.std.specs.Prelude.{◌≡◌, ℕ, ◌≤◌, ◌⊎◌, List, codes, Option, MatchOption}
 use Rattle.dm_encodation.specs.declared.scheme.Scheme.{Scheme}
 use Rattle.dm_encodation.specs.declared.scheme.Scheme.TheVariants.{Ascii, C40, Text, Base256}
 use Rattle.relay_line.specs.declared.command.Command.{Command}
-use Rattle.relay_line.specs.declared.command.Command.TheVariants.{Words, Draw, Read, Plan, Ticket, Ledger, Print, PrintAuto, Give, Take, Left, Scan, Deliver, Forget, Export, Import, Held, Copy, World}
+use Rattle.relay_line.specs.declared.command.Command.TheVariants.{Words, Draw, Read, Plan, Ticket, Ledger, Print, Give, Take, Left, Scan, Deliver, Forget, Export, Import, Held, Copy, World}
+use Rattle.relay_line.specs.declared.command.Labels.{Labels}
+use Rattle.relay_line.specs.declared.command.Labels.TheVariants.{OfSide, AtMost}
 use Rattle.relay_line.specs.declared.fault.LineFault.{LineFault}
 use Rattle.relay_line.specs.declared.fault.LineFault.TheVariants.{Line, Memory}
 
--- a side is 10 to 132, the most labels of a print 2 to 16, a page 1 to 16; the other numbers are of 16 bits, and the
--- calls above refuse those beyond their ranges
+-- a side
+abbrev pub IsSideNumber : ℕ → Type 0
+IsSideNumber side = (10 ≤ side) × (side ≤ 132)
+
+-- the labels of a print: of a side, or the most
+abbrev pub IsOfForm : Labels → Type 0
+IsOfForm (OfSide side) = IsSideNumber side
+IsOfForm (AtMost most) = (2 ≤ most) × (most ≤ 16)
+
+-- the other numbers are of 16 bits, and the calls above refuse those beyond their ranges
 abbrev pub HasNumbersInRange : Command → Type 0
-HasNumbersInRange (Words side scheme) = (10 ≤ side) × (side ≤ 132)
-HasNumbersInRange (Draw side scheme plain) = (10 ≤ side) × (side ≤ 132)
-HasNumbersInRange Read = Unit {0}
-HasNumbersInRange (Plan scheme) = Unit {0}
-HasNumbersInRange (Ticket ticket) = Unit {0}
-HasNumbersInRange (Ledger file number first last) = Unit {0}
-HasNumbersInRange (Print file number side scheme) = (10 ≤ side) × (side ≤ 132)
-HasNumbersInRange (PrintAuto file number most scheme) = (2 ≤ most) × (most ≤ 16)
-HasNumbersInRange (Give file number to first last) = Unit {0}
-HasNumbersInRange (Take file number ticket) = Unit {0}
-HasNumbersInRange (Left file) = Unit {0}
-HasNumbersInRange (Scan file capacity) = Unit {0}
-HasNumbersInRange (Deliver file id) = Unit {0}
-HasNumbersInRange (Forget file id) = Unit {0}
-HasNumbersInRange (Export file id) = Unit {0}
-HasNumbersInRange (Import file capacity) = Unit {0}
-HasNumbersInRange (Held file id) = Unit {0}
-HasNumbersInRange (Copy file id page side scheme) = (1 ≤ page) × (page ≤ 16) × (10 ≤ side) × (side ≤ 132)
-HasNumbersInRange World = Unit {0}
+HasNumbersInRange (Words side scheme) = IsSideNumber side
+HasNumbersInRange (Draw side scheme plain) = IsSideNumber side
+HasNumbersInRange (Print file number labels scheme) = IsOfForm labels
+HasNumbersInRange (Copy file id page side scheme) = (1 ≤ page) × (page ≤ 16) × IsSideNumber side
+HasNumbersInRange command = Unit {0}
 
 -- the name by which a command is asked for
 abbrev pub command_name : Command → List ℕ
@@ -39,8 +34,7 @@ command_name Read = codes "read"
 command_name (Plan scheme) = codes "plan"
 command_name (Ticket ticket) = codes "ticket"
 command_name (Ledger file number first last) = codes "ledger"
-command_name (Print file number side scheme) = codes "print"
-command_name (PrintAuto file number most scheme) = codes "print"
+command_name (Print file number labels scheme) = codes "print"
 command_name (Give file number to first last) = codes "give"
 command_name (Take file number ticket) = codes "take"
 command_name (Left file) = codes "left"
@@ -62,10 +56,6 @@ IsNamed name command = MatchOption name (command ≡ Words 10 Ascii) (λ given. 
 abbrev pub HasStatus : LineFault → Type 0
 HasStatus (Line text status) = (status ≡ 0) ⊎ (status ≡ 2)
 HasStatus Memory = Unit {0}
-
--- the side that stands for: the smallest for which there are at most that many labels
-abbrev pub automatic_side : ℕ → List ℕ
-automatic_side most = codes "auto:" ++ decimal most
 
 -- the name of an encodation
 abbrev pub scheme_name : Scheme → List ℕ

@@ -2,7 +2,16 @@
 
 use dm_encodation::Scheme;
 
-/// A command with its options, by name. A `side` is a number from 10 to 132, which need not be one of the sizes.
+/// Which labels a print has: `--side` or `--labels` says it.
+#[derive(Clone, Copy, Debug, PartialEq, Eq)]
+pub enum Labels {
+    /// Those of this side.
+    OfSide(u16),
+    /// At most this many, 2 to 16, of the smallest side for which there are no more.
+    AtMost(u16),
+}
+
+/// A command with its options, by name. A side is a number from 10 to 132, which need not be one of the sizes.
 #[derive(Clone, Copy, Debug, PartialEq, Eq)]
 pub enum Command<'a> {
     /// Prints the words of a symbol.
@@ -37,14 +46,7 @@ pub enum Command<'a> {
     Print {
         file: &'a str,
         number: u16,
-        side: u16,
-        scheme: Scheme,
-    },
-    /// Prints a document as at most that many labels, 2 to 16, of the smallest side that there is for it.
-    PrintAuto {
-        file: &'a str,
-        number: u16,
-        most_labels: u16,
+        labels: Labels,
         scheme: Scheme,
     },
     /// Gives the identifications from first to last to the printer `to`.

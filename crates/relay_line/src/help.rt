@@ -4,10 +4,8 @@ pub const SIDE: &str = "modules along a side: 10 to 26 by twos, 32, 36, 40,\n\
     44, 48, 52, 64, 72, 80, 88, 96, 104, 120 or\n\
     132";
 
-pub const LABEL_SIDE: &str = "modules along a side: 10 to 26 by twos, 32, 36, 40,\n\
-    44, 48, 52, 64, 72, 80, 88, 96, 104, 120 or\n\
-    132; or auto:K, the smallest side for which there\n\
-    are at most K labels, 2 to 16";
+pub const LABELS: &str = "take the smallest side for which there are at most\n\
+    K labels, 2 to 16";
 
 pub const SCHEME: &str = "how the bytes are encoded: ascii, c40, text or\nbase256";
 
@@ -59,7 +57,7 @@ Example:
   relay ledger --file north.ledger --first 0 --last 9999 --number 1";
 
 pub const PRINT_USAGE: &str =
-    "relay print --file PATH --side SIDE [--scheme SCHEME] [--number N]\n         < DOCUMENT > IMAGES";
+    "relay print --file PATH (--side SIDE | --labels K) [--scheme SCHEME]\n         [--number N] < DOCUMENT > IMAGES";
 
 pub const PRINT: &str = "\
 The document is cut into 2 to 16 labels, which carry the least identification

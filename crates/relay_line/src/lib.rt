@@ -1,8 +1,8 @@
 //! The command line of `relay`: its words become a `Command`, or a fault with the text to show.
 //!
-//! Proved: the command has the name on the line, a side is 10 to 132, the most labels of a print 2 to 16, and a page 1
-//! to 16. Not proved: the other values of the options, and which fault and which text a wrong line gets. They come from
-//! `clap`; tests show them.
+//! Proved: the command has the name on the line, a side is 10 to 132, the most labels of a print are 2 to 16, and a
+//! page is 1 to 16. Not proved: the other values of the options, and which fault and which text a wrong line gets. They come
+//! from `clap`; tests show them.
 #![tactic(auto)]
 
 mod command;
@@ -11,7 +11,7 @@ mod help;
 mod options;
 mod parse;
 
-pub use command::Command;
+pub use command::{Command, Labels};
 pub use fault::LineFault;
 pub use options::scheme_of;
 pub use parse::command_line;

@@ -1,12 +1,12 @@
 //! The commands and their options, as the parser knows them.
 
-ghost use Rattle.std.specs.Prelude.{◌≡◌, ◌≢◌, ◌≤◌, MatchOption, IfSome};
+ghost use Rattle.std.specs.Prelude.{◌≡◌, ◌≢◌, MatchOption};
 ghost use Rattle.dm_encodation.specs.declared.scheme.Scheme.{Scheme};
-ghost use Rattle.relay_line.specs.Line.{automatic_side, scheme_name};
+ghost use Rattle.relay_line.specs.Line.{scheme_name};
 
 use crate::help;
 use clap::builder::ValueParser;
-use clap::{Arg, ArgAction, Command, value_parser};
+use clap::{Arg, ArgAction, ArgGroup, Command, value_parser};
 use dm_encodation::Scheme;
 use std::alloc::{AllocError, Global};
 
@@ -28,37 +28,6 @@ pub fn scheme_of(name: &str) -> Option<Scheme>
     }
 }
 
-// The sides that the number of labels decides: the smallest side for which there are at most that many.
-static AUTOMATIC_SIDES: [&str; 15] = [
-    "auto:2", "auto:3", "auto:4", "auto:5", "auto:6", "auto:7", "auto:8", "auto:9", "auto:10",
-    "auto:11", "auto:12", "auto:13", "auto:14", "auto:15", "auto:16",
-];
-
-/// How many labels there may be, of a text that is one of `AUTOMATIC_SIDES`.
-pub fn most_labels_of(name: &str) -> Option<u16>
-    ensures ranges { IfSome result (λ most. (2 ≤ most) × (most ≤ 16)) }
-    ensures named { IfSome result (λ most. name.now ≡ automatic_side most) }
-{
-    match name {
-        "auto:2" => Some(2),
-        "auto:3" => Some(3),
-        "auto:4" => Some(4),
-        "auto:5" => Some(5),
-        "auto:6" => Some(6),
-        "auto:7" => Some(7),
-        "auto:8" => Some(8),
-        "auto:9" => Some(9),
-        "auto:10" => Some(10),
-        "auto:11" => Some(11),
-        "auto:12" => Some(12),
-        "auto:13" => Some(13),
-        "auto:14" => Some(14),
-        "auto:15" => Some(15),
-        "auto:16" => Some(16),
-        _ => None,
-    }
-}
-
 fn side<'a>(alloc: Global) -> Arg<'a> {
     Arg::new(alloc, "side")
         .long("side")
@@ -67,14 +36,13 @@ fn side<'a>(alloc: Global) -> Arg<'a> {
         .value_parser(ValueParser::Signed(10, 132))
 }
 
-// The side of the labels of a print, where the line leaves it to their number and where it doesn't.
-fn label_side<'a>(alloc: Global, is_automatic: bool) -> Arg<'a> {
-    let side = side(alloc).help(help::LABEL_SIDE).required(true);
-    if is_automatic {
-        side.value_parser(AUTOMATIC_SIDES.as_slice())
-    } else {
-        side
-    }
+// The most labels of a print.
+fn labels<'a>(alloc: Global) -> Arg<'a> {
+    Arg::new(alloc, "labels")
+        .long("labels")
+        .value_name("K")
+        .help(help::LABELS)
+        .value_parser(ValueParser::Signed(2, 16))
 }
 
 fn scheme<'a>(alloc: Global) -> Arg<'a> {
@@ -185,18 +153,24 @@ fn plan<'a>(alloc: Global) -> Result<Command<'a>, AllocError> {
         .arg(scheme(alloc))
 }
 
-fn print<'a>(alloc: Global, is_automatic: bool) -> Result<Command<'a>, AllocError> {
+fn print<'a>(alloc: Global) -> Result<Command<'a>, AllocError> {
     let args = vec![in alloc;
         file(alloc),
-        label_side(alloc, is_automatic),
+        side(alloc),
+        labels(alloc),
         scheme(alloc),
         number(alloc).default_value("0"),
     ]?;
+    let form = ArgGroup::new(alloc, "form")
+        .arg("side")?
+        .arg("labels")?
+        .required(true);
     Command::new(alloc, "print")
         .about("Prints a document as labels that carry one identification")
         .override_usage(help::PRINT_USAGE)
         .after_help(help::PRINT)
-        .args(args)
+        .args(args)?
+        .group(form)
 }
 
 fn give<'a>(alloc: Global) -> Result<Command<'a>, AllocError> {
@@ -340,12 +314,37 @@ fn copy<'a>(alloc: Global) -> Result<Command<'a>, AllocError> {
         .args(args)
 }
 
+fn world<'a>(alloc: Global) -> Command<'a> {
+    Command::new(alloc, "world")
+        .about("Plays printers and desks by a script, in memory")
+        .override_usage("relay world < SCRIPT")
+        .after_help(help::WORLD)
+}
+
 // Adds a command, if it could be made.
 fn with<'a>(
     program: Command<'a>,
     command: Result<Command<'a>, AllocError>,
 ) -> Result<Command<'a>, AllocError> {
     program.subcommand(command?)
+}
+
+// The commands of symbols, added to the program.
+fn with_symbols<'a>(alloc: Global, program: Command<'a>) -> Result<Command<'a>, AllocError> {
+    let program = with(program, words(alloc))?;
+    let program = with(program, draw(alloc))?;
+    program.subcommand(read(alloc))
+}
+
+// The commands of printers, added to those of symbols.
+fn with_printers<'a>(alloc: Global, program: Command<'a>) -> Result<Command<'a>, AllocError> {
+    let program = with(program, ledger(alloc))?;
+    let program = with(program, plan(alloc))?;
+    let program = with(program, print(alloc))?;
+    let program = with(program, give(alloc))?;
+    let program = with(program, what_ticket(alloc))?;
+    let program = with(program, take(alloc))?;
+    with(program, left(alloc))
 }
 
 // The commands of desks, added to those of symbols and printers.
@@ -359,41 +358,11 @@ fn with_desks<'a>(alloc: Global, program: Command<'a>) -> Result<Command<'a>, Al
     with(program, copy(alloc))
 }
 
-fn world<'a>(alloc: Global) -> Command<'a> {
-    Command::new(alloc, "world")
-        .about("Plays printers and desks by a script, in memory")
-        .override_usage("relay world < SCRIPT")
-        .after_help(help::WORLD)
-}
-
-// The commands of printers, added to those of symbols.
-fn with_printers<'a>(
-    alloc: Global,
-    program: Command<'a>,
-    is_automatic: bool,
-) -> Result<Command<'a>, AllocError> {
-    let program = with(program, ledger(alloc))?;
-    let program = with(program, plan(alloc))?;
-    let program = with(program, print(alloc, is_automatic))?;
-    let program = with(program, give(alloc))?;
-    let program = with(program, what_ticket(alloc))?;
-    let program = with(program, take(alloc))?;
-    with(program, left(alloc))
-}
-
-// The commands of symbols.
-fn with_symbols<'a>(alloc: Global, program: Command<'a>) -> Result<Command<'a>, AllocError> {
-    let program = with(program, words(alloc))?;
-    let program = with(program, draw(alloc))?;
-    program.subcommand(read(alloc))
-}
-
-/// The whole program; `print` takes the sides that the number of labels decides where the line has one of them, and the
-/// numbers from 10 to 132 where it doesn't.
+/// The whole program.
 ///
 /// # Errors
 /// Where the allocator refuses its memory.
-pub fn relay<'a>(alloc: Global, is_automatic: bool) -> Result<Command<'a>, AllocError> {
+pub fn relay<'a>(alloc: Global) -> Result<Command<'a>, AllocError> {
     let program = Command::new(alloc, "relay")
         .bin_name("relay")?
         .about("Relays documents printed as Data Matrix labels")
@@ -401,6 +370,6 @@ pub fn relay<'a>(alloc: Global, is_automatic: bool) -> Result<Command<'a>, Alloc
         .after_help(help::PROGRAM)
         .disable_help_subcommand(true);
     let program = with_symbols(alloc, program)?;
-    let program = with_printers(alloc, program, is_automatic)?;
+    let program = with_printers(alloc, program)?;
     with_desks(alloc, program)?.subcommand(world(alloc))
 }

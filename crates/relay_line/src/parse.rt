@@ -1,11 +1,11 @@
 //! From words to a command.
 
 ghost use Rattle.std.specs.Prelude.{◌≡◌, ◌≤◌, codes, option_map, slice_get, IfOk, IfErr, IfSome};
-ghost use Rattle.relay_line.specs.Line.{HasNumbersInRange, HasStatus, IsNamed, command_name};
+ghost use Rattle.relay_line.specs.Line.{HasNumbersInRange, HasStatus, IsNamed, IsOfForm, command_name};
 
-use crate::command::Command;
+use crate::command::{Command, Labels};
 use crate::fault::LineFault;
-use crate::options::{most_labels_of, relay, scheme_of};
+use crate::options::{relay, scheme_of};
 use clap::error::ErrorKind;
 use clap::{ArgMatches, Error};
 use dm_encodation::Scheme;
@@ -15,6 +15,8 @@ use std::convert::AsStr;
 const LEAST_SIDE: u16 = 10;
 
 const GREATEST_SIDE: u16 = 132;
+
+const LEAST_LABELS: u16 = 2;
 
 const MOST_LABELS: u16 = 16;
 
@@ -42,72 +44,70 @@ fn unknown(alloc: Global) -> LineFault
     }
 }
 
-// The encodation.
-fn encodation_of(matches: &ArgMatches<'_>) -> Option<Scheme> {
-    matches.get_str("scheme").and_then(|name| scheme_of(name))
+// The encodation. Of this and of what follows the parser has refused all that is not in range, and what is missing.
+fn encodation_of(options: &ArgMatches<'_>) -> Option<Scheme> {
+    options.get_str("scheme").and_then(|name| scheme_of(name))
 }
 
-// The side and the encodation. The parser has refused all that is not in range, so neither is missing here.
-fn symbol_of(matches: &ArgMatches<'_>) -> Option<(u16, Scheme)>
-    ensures { IfSome result (λ symbol. (10 ≤ symbol.0) × (symbol.0 ≤ 132)) }
+// The side.
+fn side_of(options: &ArgMatches<'_>) -> Option<u16>
+    ensures { IfSome result (λ side. (10 ≤ side) × (side ≤ 132)) }
 {
-    let side = matches
+    options
         .get_one::<u16>("side")
-        .filter(|side| (LEAST_SIDE..=GREATEST_SIDE).contains(side))?;
-    Some((side, encodation_of(matches)?))
+        .filter(|side| (LEAST_SIDE..=GREATEST_SIDE).contains(side))
 }
 
-// The commands on symbols, and that on worlds, which name no file.
-fn symbol_command_of<'a>(name: &str, options: &ArgMatches<'a>) -> Option<Command<'a>>
+// Which labels a print has.
+fn labels_of(options: &ArgMatches<'_>) -> Option<Labels>
+    ensures { IfSome result IsOfForm }
+{
+    let most = options
+        .get_one::<u16>("labels")
+        .filter(|most| (LEAST_LABELS..=MOST_LABELS).contains(most));
+    match most {
+        Some(most) => Some(Labels::AtMost(most)),
+        None => Some(Labels::OfSide(side_of(options)?)),
+    }
+}
+
+// The page.
+fn page_of(options: &ArgMatches<'_>) -> Option<u16>
+    ensures { IfSome result (λ page. (1 ≤ page) × (page ≤ 16)) }
+{
+    options
+        .get_one::<u16>("page")
+        .filter(|page| (1..=MOST_LABELS).contains(page))
+}
+
+// The commands that name no file.
+fn stream_command_of<'a>(name: &str, options: &ArgMatches<'a>) -> Option<Command<'a>>
     ensures ranges { IfSome result HasNumbersInRange }
     ensures named { IfSome result (λ command. name.now ≡ command_name command) }
 {
     match name {
-        "words" => {
-            let (side, scheme) = symbol_of(options)?;
-            Some(Command::Words { side, scheme })
-        }
-        "draw" => {
-            let (side, scheme) = symbol_of(options)?;
-            Some(Command::Draw {
-                side,
-                scheme,
-                plain: options.get_flag("plain"),
-            })
-        }
+        "words" => Some(Command::Words {
+            side: side_of(options)?,
+            scheme: encodation_of(options)?,
+        }),
+        "draw" => Some(Command::Draw {
+            side: side_of(options)?,
+            scheme: encodation_of(options)?,
+            plain: options.get_flag("plain"),
+        }),
         "read" => Some(Command::Read),
+        "plan" => Some(Command::Plan {
+            scheme: encodation_of(options)?,
+        }),
+        "ticket" => Some(Command::Ticket {
+            ticket: options.get_str("ticket")?,
+        }),
         "world" => Some(Command::World),
         _ => None,
     }
 }
 
-// A print on labels of a side, or on at most that many labels.
-fn print_of<'a>(file: &'a str, number: u16, options: &ArgMatches<'a>) -> Option<Command<'a>>
-    ensures ranges { IfSome result HasNumbersInRange }
-    ensures named { IfSome result (λ command. codes "print" ≡ command_name command) }
-{
-    if let Some(most_labels) = options
-        .get_str("side")
-        .and_then(|name| most_labels_of(name))
-    {
-        let scheme = encodation_of(options)?;
-        return Some(Command::PrintAuto {
-            file,
-            number,
-            most_labels,
-            scheme,
-        });
-    }
-    let (side, scheme) = symbol_of(options)?;
-    Some(Command::Print {
-        file,
-        number,
-        side,
-        scheme,
-    })
-}
-
-// The commands of printers.
+// The commands of printers that save.
 fn printer_command_of<'a>(name: &str, options: &ArgMatches<'a>) -> Option<Command<'a>>
     ensures ranges { IfSome result HasNumbersInRange }
     ensures named { IfSome result (λ command. name.now ≡ command_name command) }
@@ -121,7 +121,12 @@ fn printer_command_of<'a>(name: &str, options: &ArgMatches<'a>) -> Option<Comman
             first: options.get_one::<u16>("first")?,
             last: options.get_one::<u16>("last")?,
         }),
-        "print" => print_of(file, number, options),
+        "print" => Some(Command::Print {
+            file,
+            number,
+            labels: labels_of(options)?,
+            scheme: encodation_of(options)?,
+        }),
         "give" => Some(Command::Give {
             file,
             number,
@@ -138,65 +143,17 @@ fn printer_command_of<'a>(name: &str, options: &ArgMatches<'a>) -> Option<Comman
     }
 }
 
-// The commands of printers that only answer a question.
-fn question_of<'a>(name: &str, options: &ArgMatches<'a>) -> Option<Command<'a>>
-    ensures ranges { IfSome result HasNumbersInRange }
-    ensures named { IfSome result (λ command. name.now ≡ command_name command) }
-{
-    match name {
-        "plan" => Some(Command::Plan {
-            scheme: encodation_of(options)?,
-        }),
-        "ticket" => Some(Command::Ticket {
-            ticket: options.get_str("ticket")?,
-        }),
-        "left" => Some(Command::Left {
-            file: options.get_str("file")?,
-        }),
-        _ => None,
-    }
-}
-
-// The label of a page again.
-fn copy_of<'a>(file: &'a str, options: &ArgMatches<'a>) -> Option<Command<'a>>
-    ensures ranges { IfSome result HasNumbersInRange }
-    ensures named { IfSome result (λ command. codes "copy" ≡ command_name command) }
-{
-    let page = options
-        .get_one::<u16>("page")
-        .filter(|page| (1..=MOST_LABELS).contains(page))?;
-    let (side, scheme) = symbol_of(options)?;
-    Some(Command::Copy {
-        file,
-        id: options.get_str("id")?,
-        page,
-        side,
-        scheme,
-    })
-}
-
-// The commands of desks.
-fn desk_command_of<'a>(name: &str, options: &ArgMatches<'a>) -> Option<Command<'a>>
+// The commands that name a file by a document's identification, or by nothing else but a desk's capacity.
+fn file_command_of<'a>(name: &str, options: &ArgMatches<'a>) -> Option<Command<'a>>
     ensures ranges { IfSome result HasNumbersInRange }
     ensures named { IfSome result (λ command. name.now ≡ command_name command) }
 {
     let file = options.get_str("file")?;
     match name {
+        "left" => Some(Command::Left { file }),
         "scan" => Some(Command::Scan {
             file,
             capacity: options.get_one::<u16>("capacity")?,
-        }),
-        "deliver" => Some(Command::Deliver {
-            file,
-            id: options.get_str("id")?,
-        }),
-        "forget" => Some(Command::Forget {
-            file,
-            id: options.get_str("id")?,
-        }),
-        "export" => Some(Command::Export {
-            file,
-            id: options.get_str("id")?,
         }),
         "import" => Some(Command::Import {
             file,
@@ -206,21 +163,32 @@ fn desk_command_of<'a>(name: &str, options: &ArgMatches<'a>) -> Option<Command<'
             file,
             id: options.get_str("id"),
         }),
-        "copy" => copy_of(file, options),
-        _ => None,
+        _ => document_command_of(name, file, options),
     }
 }
 
-// The command of a name, with its options.
-fn command_of<'a>(name: &str, options: &ArgMatches<'a>) -> Option<Command<'a>>
+// The commands on one document of a desk.
+fn document_command_of<'a>(
+    name: &str,
+    file: &'a str,
+    options: &ArgMatches<'a>,
+) -> Option<Command<'a>>
     ensures ranges { IfSome result HasNumbersInRange }
     ensures named { IfSome result (λ command. name.now ≡ command_name command) }
 {
+    let id = options.get_str("id")?;
     match name {
-        "words" | "draw" | "read" | "world" => symbol_command_of(name, options),
-        "ledger" | "print" | "give" | "take" => printer_command_of(name, options),
-        "plan" | "ticket" | "left" => question_of(name, options),
-        _ => desk_command_of(name, options),
+        "deliver" => Some(Command::Deliver { file, id }),
+        "forget" => Some(Command::Forget { file, id }),
+        "export" => Some(Command::Export { file, id }),
+        "copy" => Some(Command::Copy {
+            file,
+            id,
+            page: page_of(options)?,
+            side: side_of(options)?,
+            scheme: encodation_of(options)?,
+        }),
+        _ => None,
     }
 }
 
@@ -229,23 +197,12 @@ fn given_command<'a>(name: &str, matches: &ArgMatches<'a>) -> Option<Command<'a>
     ensures ranges { IfSome result HasNumbersInRange }
     ensures named { IfSome result (λ command. name.now ≡ command_name command) }
 {
-    match matches.subcommand() {
-        Some((_, options)) => command_of(name, options),
-        None => None,
+    let (_, options) = matches.subcommand()?;
+    match name {
+        "words" | "draw" | "read" | "plan" | "ticket" | "world" => stream_command_of(name, options),
+        "ledger" | "print" | "give" | "take" => printer_command_of(name, options),
+        _ => file_command_of(name, options),
     }
-}
-
-// Whether the line leaves the side of the labels to their number.
-fn is_automatic<S: AsStr>(words: &[S]) -> bool {
-    let mut follows_side = false;
-    for word in words {
-        let text = word.as_str();
-        if text.starts_with("--side=auto:") || (follows_side && text.starts_with("auto:")) {
-            return true;
-        }
-        follows_side = text == "--side";
-    }
-    false
 }
 
 /// Reads the program's words, the first of which is its name, as the system hands them over. Without a
@@ -255,7 +212,7 @@ pub fn command_line<'a, S: AsStr>(alloc: Global, words: &'a [S]) -> Result<Comma
     ensures named { IfOk result (IsNamed (option_map S.text (slice_get words.now 1))) }
     ensures status { IfErr result HasStatus }
 {
-    let matches = match relay(alloc, is_automatic(words))?.try_get_matches_from(words) {
+    let matches = match relay(alloc)?.try_get_matches_from(words) {
         Ok(matches) => matches,
         Err(error) => return Err(fault_of(alloc, &error)),
     };

@@ -4,4 +4,3 @@ pub mod PlanSteps
 pub mod PrintedLabels
 pub mod Sizes
 pub mod SmallestSteps
-pub mod StoppedCommands

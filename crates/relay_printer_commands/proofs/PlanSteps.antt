@@ -7,7 +7,7 @@ use Rattle.std.proofs.lemmas.List.Quantifiers.{all_pairs_push}
 use Rattle.dm_check_blocks.specs.declared.size.Size.{Size}
 use Rattle.dm_check_blocks.specs.Sizes.{side}
 use Rattle.dm_encodation.specs.declared.scheme.Scheme.{Scheme}
-use Rattle.dm_print_ledger.specs.Planning.{HasNoLabels}
+use Rattle.dm_print_ledger.specs.Printing.{HasLabels}
 use Rattle.relay_shared.specs.declared.plan_lines.PlannedSide.{PlannedSide}
 use Rattle.relay_printer_commands.specs.Plan.{IsPlan, IsPlanned}
 use Rattle.relay_printer_commands.proofs.Sizes.{greatest_side}
@@ -71,7 +71,7 @@ module _ (scheme : Scheme) (document : List ℕ) where
 
   -- the plan is empty where the document has labels of no size
   pub no_plan : (plan : List PlannedSide) → IsPlan scheme document plan → length plan ≡ 0
-      → (size : Size) → HasNoLabels size scheme document
+      → (size : Size) (count : ℕ) → ¬ HasLabels size scheme document count
   no_plan plan is empty size count labels =
       let there = is.all (planned_at (side size) count) (size, refl, labels) in
       omega (arith, empty, there.1)

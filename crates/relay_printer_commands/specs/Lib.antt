@@ -1,4 +1,3 @@
-pub mod Lasting
 pub mod Left
 pub mod Plan
 pub mod Print

@@ -5,7 +5,7 @@ use Rattle.dm_check_blocks.specs.declared.size.Size.{Size}
 use Rattle.dm_check_blocks.specs.Sizes.{side}
 use Rattle.dm_encodation.specs.declared.scheme.Scheme.{Scheme}
 use Rattle.dm_print_ledger.specs.FaultNames.{print_fault_name}
-use Rattle.dm_print_ledger.specs.Planning.{HasLabels, HasNoLabels}
+use Rattle.dm_print_ledger.specs.Printing.{HasLabels}
 use Rattle.dm_print_ledger.specs.declared.fault.PrintFault.TheVariants.{TooLong}
 use Rattle.relay_streams.specs.FaultNames.{input_fault_name}
 use Rattle.relay_streams.specs.Streams.{InputView}
@@ -34,7 +34,7 @@ pub data EndsPlan (scheme : Scheme) (old : StreamsView) (status : ℕ) (new : St
       → TellsOnOutput (flat_map side_line plan) (record old { input = rest }) status new
       → EndsPlan scheme old status new
   too_long : (document : List ℕ) (rest : InputView) → ReadsDocument old.input rest document
-      → ((size : Size) → HasNoLabels size scheme document)
+      → ((size : Size) (count : ℕ) → ¬ HasLabels size scheme document count)
       → RefusesOnOutput (print_fault_name TooLong) (record old { input = rest }) status new
       → EndsPlan scheme old status new
   not_read : (fault : InputFault) (rest : InputView) → HasInputFault old.input rest fault

@@ -7,7 +7,7 @@ use Rattle.dm_check_blocks.specs.Sizes.{IsSide, side}
 use Rattle.dm_finder_frame.specs.Grids.{GridView}
 use Rattle.dm_pbm_io.specs.SymbolImage.{p4}
 use Rattle.dm_print_ledger.specs.FaultNames.{open_fault_name, print_fault_name}
-use Rattle.dm_print_ledger.specs.Opening.{HasOpenFault, Opens}
+use Rattle.dm_print_ledger.specs.Opening.{Opens}
 use Rattle.dm_print_ledger.specs.Printing.{Prints}
 use Rattle.dm_print_ledger.specs.Ranges.{free_count}
 use Rattle.dm_print_ledger.specs.Views.{JobView, PrinterView}
@@ -81,10 +81,10 @@ TellsPrint (Err fault) left old status new = RefusesOnErrors (print_fault_name f
 pub data PrintsDocument (options : SizedOptions) (document : List ℕ) (old : OnLedger) (status : ℕ) (new : OnLedger)
     : Type 0 where
   opened : (before after : PrinterView) (answer : Result JobView PrintFault)
-      → Opens old.saved options.number before → Prints before options.size options.scheme document answer after
+      → Opens old.saved options.number (Ok before) → Prints before options.size options.scheme document answer after
       → new.saved ≡ after.saved → TellsPrint answer (free_count after.ledger.free) old.streams status new.streams
       → PrintsDocument options document old status new
-  not_opened : (fault : OpenFault) → HasOpenFault old.saved options.number fault → new.saved ≡ old.saved
+  not_opened : (fault : OpenFault) → Opens old.saved options.number (Err fault) → new.saved ≡ old.saved
       → RefusesOnErrors (open_fault_name fault) old.streams status new.streams
       → PrintsDocument options document old status new
 

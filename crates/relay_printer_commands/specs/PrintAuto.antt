@@ -4,7 +4,7 @@ use Rattle.dm_check_blocks.specs.declared.size.Size.{Size}
 use Rattle.dm_check_blocks.specs.Sizes.{side}
 use Rattle.dm_encodation.specs.declared.scheme.Scheme.{Scheme}
 use Rattle.dm_print_ledger.specs.FaultNames.{print_fault_name}
-use Rattle.dm_print_ledger.specs.Planning.{HasLabels}
+use Rattle.dm_print_ledger.specs.Printing.{HasLabels}
 use Rattle.dm_print_ledger.specs.declared.fault.PrintFault.TheVariants.{TooLong}
 use Rattle.relay_streams.specs.FaultNames.{input_fault_name}
 use Rattle.relay_streams.specs.Streams.{InputView}

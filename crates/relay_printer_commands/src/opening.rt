@@ -1,7 +1,6 @@
 //! The printer that a command works with.
 
-ghost use Rattle.std.specs.Prelude.{◌≡◌, IfErr, MatchResult};
-ghost use Rattle.dm_store.specs.Left.{IsDurable, LeavesNoMore};
+ghost use Rattle.std.specs.Prelude.{◌≡◌, Ok, IfErr, MatchResult};
 ghost use Rattle.dm_print_ledger.specs.Opening.{Opens};
 ghost use Rattle.relay_printer_commands.specs.inner.Opening.{TellsNotOpened};
 
@@ -20,11 +19,9 @@ pub(crate) fn open_printer<A: Allocator + Copy, S: Store, W: Write>(
     number: u16,
 ) -> Result<Printer<S, A>, Ended<S>>
     ensures opens { MatchResult result
-        (λ printer. Opens (S.state store) number printer × (output.new ≡ output.old))
+        (λ printer. Opens (S.state store) number (Ok printer) × (output.new ≡ output.old))
         (λ ended. TellsNotOpened (S.state store) number output.old ended.status output.new) }
     ensures same { IfErr result (λ ended. S.state ended.store ≡ S.state store) }
-    ensures leaves { IfErr result (λ ended.
-        IsDurable (S.state store) → LeavesNoMore (S.left store) (S.left ended.store)) }
 {
     match Printer::open(alloc, store, number) {
         Ok(printer) => Ok(printer),

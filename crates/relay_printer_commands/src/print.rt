@@ -3,7 +3,6 @@
 ghost use Rattle.std.specs.Prelude.{OnOk, IfErr};
 ghost use Rattle.std.specs.Io.KnownBytes.{Appends};
 ghost use Rattle.relay_streams.specs.Streams.{AppendsPart, TakesPart};
-ghost use Rattle.relay_printer_commands.specs.Lasting.{HasPrinted, StopLeaves, UsesOne, stored};
 ghost use Rattle.relay_printer_commands.specs.Print.{
   EndsPrint,
   PrintsDocument,
@@ -113,8 +112,6 @@ pub(crate) fn open_and_print<A: Allocator + Copy, S: Store, R: Read, W: Write, E
     ensures line_first { PrintsLineFirst streams.old streams.new }
     ensures ends { PrintsDocument options document.now (ledger_at (S.state store) streams.old) result.status
         (ledger_at (S.state result.store) streams.new) }
-    ensures lasts { StopLeaves UsesOne (HasPrinted result.status streams.old streams.new)
-        (stored (S.state store) (S.left store)) (stored (S.state result.store) (S.left result.store)) }
 {
     let mut printer = match open_printer(alloc, store, &mut streams.errors, options.number) {
         Ok(printer) => printer,
@@ -141,8 +138,6 @@ pub fn print_command<A: Allocator + Copy, S: Store, R: Read, W: Write, E: Write>
     ensures line_first { PrintsLineFirst streams.old streams.new }
     ensures ends { EndsPrint options (ledger_at (S.state store) streams.old) result.status
         (ledger_at (S.state result.store) streams.new) }
-    ensures lasts { StopLeaves UsesOne (HasPrinted result.status streams.old streams.new)
-        (stored (S.state store) (S.left store)) (stored (S.state result.store) (S.left result.store)) }
 {
     let Some(size) = Size::of_side(options.side) else {
         let status = refuse(&mut streams.errors, Refusal::Side.name());

@@ -1,7 +1,6 @@
 //! `relay print` with the smallest side that needs few enough labels.
 
 ghost use Rattle.relay_streams.specs.Streams.{TakesPart};
-ghost use Rattle.relay_printer_commands.specs.Lasting.{HasPrinted, StopLeaves, UsesOne, stored};
 ghost use Rattle.relay_printer_commands.specs.Print.{PrintsLineFirst};
 ghost use Rattle.relay_printer_commands.specs.PrintAuto.{EndsPrintAuto};
 ghost use Rattle.relay_printer_commands.specs.Printers.{ledger_at};
@@ -39,8 +38,6 @@ pub fn print_auto_command<A: Allocator + Copy, S: Store, R: Read, W: Write, E: W
     ensures line_first { PrintsLineFirst streams.old streams.new }
     ensures ends { EndsPrintAuto options (ledger_at (S.state store) streams.old) result.status
         (ledger_at (S.state result.store) streams.new) }
-    ensures lasts { StopLeaves UsesOne (HasPrinted result.status streams.old streams.new)
-        (stored (S.state store) (S.left store)) (stored (S.state result.store) (S.left result.store)) }
 {
     let document = match read_document(alloc, &mut streams.input) {
         Ok(document) => document,

@@ -1,10 +1,8 @@
 //! `relay take`: identifications from another printer.
 
-ghost use Rattle.std.specs.Prelude.{◌≡◌};
 ghost use Rattle.dm_print_ledger.specs.FaultNames.{take_fault_name};
 ghost use Rattle.relay_shared.specs.PrinterLines.{taken_line};
 ghost use Rattle.relay_shared.specs.Telling.{TellsAnswer};
-ghost use Rattle.relay_printer_commands.specs.Lasting.{StopLeaves, TakesText, stored};
 ghost use Rattle.relay_printer_commands.specs.Printers.{EndsTake, ledger_at};
 
 use crate::opening::open_printer;
@@ -44,10 +42,8 @@ pub fn take_command<A: Allocator + Copy, S: Store, R: Read, W: Write, E: Write>(
     streams: &mut Streams<R, W, E>,
     options: TakeOptions<'_>,
 ) -> Ended<S>
-    ensures ends { EndsTake options.entry (ledger_at (S.state store) streams.old) result.status
+    ensures { EndsTake options.entry (ledger_at (S.state store) streams.old) result.status
         (ledger_at (S.state result.store) streams.new) }
-    ensures lasts { StopLeaves (TakesText options.entry.text.now) (result.status ≡ 0)
-        (stored (S.state store) (S.left store)) (stored (S.state result.store) (S.left result.store)) }
 {
     let Some(ticket) = ticket_of(options.text) else {
         let status = refuse(&mut streams.output, Refusal::Ticket.name());

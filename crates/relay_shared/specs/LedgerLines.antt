@@ -3,7 +3,7 @@ use Rattle.std.specs.Prelude.{ℕ, List, [], ◌∷◌, ◌++◌, codes, Option,
 use Rattle.std.specs.Fmt.{decimal}
 use Rattle.std.specs.List.{flat_map}
 use Rattle.dm_print_ledger.specs.Ranges.{free_count}
-use Rattle.dm_print_ledger.specs.Showing.{ShownView}
+use Rattle.dm_print_ledger.specs.Views.{ShownView}
 use Rattle.dm_print_ledger.specs.declared.giver.Giver.{Giver}
 use Rattle.dm_print_ledger.specs.declared.range.Range.{Range}
 use Rattle.relay_shared.specs.PrinterLines.{id_text, left_line}
@@ -30,4 +30,4 @@ took_line giver = codes "took " ++ (decimal giver.number ++ (32 ∷ (decimal giv
 -- giver
 abbrev pub shown_lines : ShownView → List ℕ
 shown_lines shown = number_line shown.number ++ (left_line (free_count shown.free) ++ (flat_map free_line shown.free ++
-    (given_line shown.given ++ flat_map took_line shown.givers)))
+    (given_line shown.next_serial ++ flat_map took_line shown.givers)))

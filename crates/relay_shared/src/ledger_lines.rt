@@ -1,7 +1,7 @@
 //! The lines that say what a ledger holds. They take no memory.
 
-ghost use Rattle.std.specs.Prelude.{◌≡◌, ◌≤◌};
-ghost use Rattle.dm_print_ledger.specs.Ranges.{IsRange};
+ghost use Rattle.std.specs.Prelude.{◌≡◌, ◌≤◌, IsTrue};
+ghost use Rattle.dm_print_ledger.specs.Ranges.{is_range};
 ghost use Rattle.relay_shared.specs.LedgerLines.{free_line, given_line, number_line, took_line};
 ghost use Rattle.relay_shared.specs.PrinterLines.{id_text};
 ghost use Rattle.relay_shared.specs.Telling.{Puts};
@@ -45,7 +45,7 @@ pub fn put_number<W: Write>(output: &mut Output<W>, number: Option<u16>) -> Resu
 /// # Errors
 /// Where the output refuses a write.
 pub fn put_free<W: Write>(output: &mut Output<W>, range: Range) -> Result<(), WriteFault>
-    requires { IsRange range }
+    requires { IsTrue (is_range range) }
     ensures { Puts (free_line range) output.old result output.new }
 {
     let (mut from, mut to) = (Buffer::new(), Buffer::new());

@@ -28,14 +28,16 @@ pub enum Steps {
     Keys,
 }
 
-// A load sees first what is there. It takes two bytes at a time, and then none. Then it syncs the folder.
+// A load sees what is there before it opens it and after. It takes two bytes at a time, and then none. Then it syncs
+// the folder.
 const LOAD: &[Step] = &[
     ("look", "pages/0001"),
     ("open", "pages/0001"),
+    ("look", ""),
     ("read", ""),
     ("read", ""),
     ("read", ""),
-    ("open", "above/pages"),
+    ("open", "above/pages/"),
     ("sync", ""),
 ];
 
@@ -47,14 +49,14 @@ const REPLACE: &[Step] = &[
     ("write", ""),
     ("sync", ""),
     ("rename", "pages/0001.new"),
-    ("open", "above/pages"),
+    ("open", "above/pages/"),
     ("sync", ""),
 ];
 
 // A set makes the folder first, whether it is there or not, and syncs the one above it.
 const REPLACE_KEY: &[Step] = &[
     ("make", "above/pages"),
-    ("open", "above"),
+    ("open", "above/"),
     ("sync", ""),
     ("open", "pages/0001.new"),
     ("write", ""),
@@ -62,21 +64,21 @@ const REPLACE_KEY: &[Step] = &[
     ("write", ""),
     ("sync", ""),
     ("rename", "pages/0001.new"),
-    ("open", "above/pages"),
+    ("open", "above/pages/"),
     ("sync", ""),
 ];
 
 const REMOVE: &[Step] = &[
     ("remove", "pages/0001"),
-    ("open", "above/pages"),
+    ("open", "above/pages/"),
     ("sync", ""),
 ];
 
 // If neither the file nor its folder is there, the folder above is synced.
 const REMOVE_NOTHING: &[Step] = &[
     ("remove", "pages/0001"),
-    ("open", "above/pages"),
-    ("open", "above"),
+    ("open", "above/pages/"),
+    ("open", "above/"),
     ("sync", ""),
 ];
 
@@ -85,7 +87,7 @@ const KEYS: &[Step] = &[
     ("list", "above/pages/"),
     ("names", ""),
     ("names", ""),
-    ("open", "above/pages"),
+    ("open", "above/pages/"),
     ("sync", ""),
 ];
 
@@ -269,7 +271,8 @@ impl Seek for ScriptedFile {
 
 impl OpenFile for ScriptedFile {
     fn metadata(&self) -> io::Result<Metadata> {
-        Err(unsupported())
+        self.script.comes("look", "")?;
+        self.system.metadata()
     }
 
     fn set_len(&self, _size: u64) -> io::Result<()> {

@@ -1,15 +1,27 @@
-use Rattle.std.proofs.Common.{refl}
-use Rattle.dm_event_world.proofs.DeskReplies.{asks_running, document_given, document_refused}
+use Rattle.std.proofs.Common.{Ok, Err, Vec, ℕ, refl}
+use Rattle.std.specs.FinMap as finite
+use Rattle.dm_assembly_desk.specs.Asking.{ask_verdict}
+use Rattle.dm_event_history.specs.Calls.{Looks}
+use Rattle.dm_event_history.specs.DeskCalls.{AskTells}
+use Rattle.dm_event_world.proofs.DeskLooks.{asked, down_answers, given_so, refused_so}
 use Rattle.dm_event_world.proofs.desk_act.ask.Goals as goal
 
+pub returns-in_default : goal.returns-in_default
+returns-in_default g c = record {
+  ends = λ room. down_answers room (Looks (AskTells c.args.id)) (λ stored. refl) _ c.args.state.now c.in_default.field-0
+      c.in_default.is;
+}
+
 pub returns-in-Ok : goal.returns-in-Ok
-returns-in-Ok g c =
-    asks_running c.args.id c.in-Running.desk c.args.state.now _ c.in-Running.is
-    (document_given (λ v. v.items) c.in-Running.desk c.args.id c.in-Ok.bytes _
-    c.in-Ok.ensures.asks c.in-Ok.ensures.missing c.in-Ok.ensures.order refl)
+returns-in-Ok g c = record {
+  ends = λ room. asked room c.args.id c.args.state.now c.in-Running.desk (Ok c.in-Ok.bytes.items) c.in-Running.is
+      (given_so (λ v. v.items) (ask_verdict (finite.get c.in-Running.desk.held c.args.id)) c.in-Ok.bytes
+      c.in-Ok.ensures.asks);
+}
 
 pub returns-in-Err : goal.returns-in-Err
-returns-in-Err g c =
-    asks_running c.args.id c.in-Running.desk c.args.state.now _ c.in-Running.is
-    (document_refused (λ v. v.items) c.in-Running.desk c.args.id c.in-Err.fault _
-    c.in-Err.ensures.asks c.in-Err.ensures.missing c.in-Err.ensures.order refl)
+returns-in-Err g c = record {
+  ends = λ room. asked room c.args.id c.args.state.now c.in-Running.desk (Err c.in-Err.fault) c.in-Running.is
+      (refused_so (Vec ℕ g.row.A.Denot) (λ v. v.items) (ask_verdict (finite.get c.in-Running.desk.held c.args.id))
+      c.in-Err.fault c.in-Err.ensures.asks);
+}

@@ -1,40 +1,28 @@
-use Rattle.std.proofs.Common.{Err, refl, sym, ◌∙◌}
-use Rattle.dm_assembly_desk.specs.declared.fault.ForgetFault.TheVariants as forget_fault
-use Rattle.dm_event_history.specs.declared.reply.Reply.TheVariants.{Stopped, Memory}
-use Rattle.dm_event_steps.specs.declared.actor.DeskState.TheVariants.{Running}
-use Rattle.dm_event_steps.specs.DeskActs.{forget_reply}
-use Rattle.dm_event_world.proofs.DeskCalls.{call_answers, call_stops_after, call_lacks_memory}
-use Rattle.dm_event_world.proofs.DeskReplies.{forgets_running}
+use Rattle.std.proofs.Common.{refl, sym, ◌∙◌}
+use Rattle.dm_assembly_desk.specs.Forgetting.{Forgets}
+use Rattle.dm_event_history.specs.Calls.{Calls}
+use Rattle.dm_event_history.specs.DeskCalls.{ForgetComes, forget_faults, forget_reply}
+use Rattle.dm_event_world.proofs.DeskCalls.{down_ends, forget_carried, made_ends, stopped_ends}
 use Rattle.dm_event_world.proofs.desk_act.forget.Goals as goal
 
-pub returns-then-not-is_stopping-clause-acts : goal.returns-then-not-is_stopping-clause-acts
-returns-then-not-is_stopping-clause-acts g c =
-    forgets_running c.args.id c.args.stop c.in-Running.desk c.args.state.now c.reply_to_forget.result
-    (Running c.forget_under-answer.new.desk) c.in-Running.is
-    (call_answers _ forget_reply (Err forget_fault.Memory) c.args.stop c.in-Running.desk c.forget_under-answer.result
-    c.forget_under-answer.new.desk c.reply_to_forget.result
-    (Running c.forget_under-answer.new.desk) c.forget_under-answer.ensures.made
-    (c.is_stopping.ensures.no c.if-not-is_stopping.true) c.reply_to_forget.ensures refl)
+pub returns-in_default : goal.returns-in_default
+returns-in_default g c = record {
+  ends = λ room. down_ends room _ (Calls forget_faults c.args.stop (ForgetComes c.args.id)) (λ stored. refl)
+      c.args.state.now c.in_default.field-0 c.in_default.is;
+}
 
-pub returns-then-forget_lacks_memory-clause-acts : goal.returns-then-forget_lacks_memory-clause-acts
-returns-then-forget_lacks_memory-clause-acts g c =
-    forgets_running c.args.id c.args.stop c.in-Running.desk c.args.state.now Memory
-    (Running c.forget_under-answer.new.desk) c.in-Running.is
-    (call_lacks_memory _ forget_reply (Err forget_fault.Memory) c.args.stop c.in-Running.desk
-    c.forget_under-answer.result c.forget_under-answer.new.desk Memory
-    (Running c.forget_under-answer.new.desk) c.forget_under-answer.ensures.made
-    (sym c.is_stopped_before.ensures ∙ c.if-is_stopped_before.false)
-    (c.is_stopping.ensures.yes.0 c.if-not-is_stopping.false)
-    (c.forget_lacks_memory.ensures.0 c.if-forget_lacks_memory.true) refl refl)
+pub returns-then-is_stopped_before : goal.returns-then-is_stopped_before
+returns-then-is_stopped_before g c = record {
+  ends = λ room. stopped_ends forget_faults (ForgetComes c.args.id) room c.args.stop c.args.state.now
+      c.take_down.new.state c.in-Running.desk c.in-Running.is c.take_down.ensures
+      (sym c.is_stopped_before.ensures ∙ c.if-is_stopped_before.true);
+}
 
-pub returns-clause-acts : goal.returns-clause-acts
-returns-clause-acts g c =
-    forgets_running c.args.id c.args.stop c.in-Running.desk c.args.state.now Stopped
-    c.take_down-2.new.state c.in-Running.is
-    (call_stops_after _ forget_reply
-    (Err forget_fault.Memory) c.args.stop c.in-Running.desk c.forget_under-answer.result
-    c.forget_under-answer.new.desk Stopped c.take_down-2.new.state c.forget_under-answer.ensures.made
-    (sym c.is_stopped_before.ensures ∙ c.if-is_stopped_before.false)
-    (c.is_stopping.ensures.yes.0 c.if-not-is_stopping.false)
-    (λ lacks. let yes = c.forget_lacks_memory.ensures.1 lacks in let no = c.if-forget_lacks_memory.false in
-    cc) refl c.take_down-2.ensures)
+pub returns : goal.returns
+returns g c = record {
+  ends = λ room. made_ends forget_faults forget_reply _ (Forgets c.args.id) (ForgetComes c.args.id) room c.args.stop refl
+      refl (sym c.is_stopped_before.ensures ∙ c.if-is_stopped_before.false) c.args.state.now c.end.new.state
+      c.in-Running.desk c.forget_under-answer.new.desk c.forget_under-answer.result c.tell_forget.result c.end.result
+      c.in-Running.is c.forget_under-answer.ensures c.tell_forget.ensures c.end.ensures.told c.end.ensures.ended
+      (λ mid s does. forget_carried c.args.id room c.args.stop c.in-Running.desk c.forget_under-answer.result mid s does);
+}

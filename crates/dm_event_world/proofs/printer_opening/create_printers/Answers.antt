@@ -1,7 +1,7 @@
-use Rattle.std.proofs.Common.{◌≡◌, ◌≤◌, length, arith, rules}
+use Rattle.std.proofs.Common.{◌≡◌, ◌<◌, ◌≤◌, length, arith, rules}
 use Rattle.std.proofs.lemmas.Option.{slice_get-get_or}
 use Rattle.dm_event_world.proofs.FewRanges.{few_ranges}
-use Rattle.dm_event_world.proofs.FreshPrinters.{one_more, created_fresh, fresh_ready}
+use Rattle.dm_event_world.proofs.FreshPrinters.{one_more, created_fresh}
 use Rattle.dm_event_world.proofs.printer_opening.create_printers.Goals as goal
 
 pub overflow_cast-number : goal.overflow_cast-number
@@ -19,16 +19,10 @@ loop-number-preserved g c =
       room = search rules;
       fresh = one_more c.args.ranges.now c.loop-number.printers.items c.push_reserved.new.self.items _ _ number last
           c.push_reserved.ensures.items here
-          (created_fresh g.row.A.Denot c.new.result number _ c.in-Ok.printer c.new.ensures c.in-Ok.ensures.ok)
+          (created_fresh g.row.A.Denot c.new.result number _ c.in-Ok.printer c.new.ensures
+          (c.requires.ranges number (record { first = 0; last = 0 }) c.loop-number-test.true) c.in-Ok.ensures)
           c.loop-number.invariant.fresh;
     }
-
-pub returns-clause-ready : goal.returns-clause-ready
-returns-clause-ready g c =
-    let count : length c.loop-number.printers.items ≡ length c.args.ranges.now =
-    omega (arith, c.loop-number.printers.ok.0) in
-    fresh_ready c.args.ranges.now c.loop-number.printers.items
-    (record { count = count; each = c.loop-number.invariant.fresh })
 
 pub returns-clause-few : goal.returns-clause-few
 returns-clause-few g c =

@@ -1,5 +1,5 @@
 use Rattle.std.proofs.Common.{◌≡◌, ◌≤◌, length, take, vec_capacity}
-use Rattle.dm_event_world.specs.Watched.{AnswersAll}
+use Rattle.dm_event_world.specs.inner.Events.{AnswersAll}
 use Rattle.dm_event_world.proofs.running.answer_all.Given as goal
 
 abbrev pub invariant-loop-event : goal.invariant-loop-event

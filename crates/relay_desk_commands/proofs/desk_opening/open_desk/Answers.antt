@@ -3,25 +3,13 @@ use Rattle.relay_desk_commands.specs.Desks.HasNoDesk.{not_moved, not_opened}
 use Rattle.relay_desk_commands.proofs.desk_opening.open_desk.Goals as goal
 
 pub returns-in-Err : goal.returns-in-Err
-returns-in-Err g c = (
-  _,
-  not_moved c.in-Err.fault c.in-Err.ensures.fault c.in-Err.ensures.kept c.in-Err.ensures.plans c.name.ensures,
-  c.refuse-status.ensures,
-)
+returns-in-Err g c = (_, not_moved c.in-Err.fault c.in-Err.ensures c.name.ensures, c.refuse-status.ensures)
 
 pub returns-in-Ok-open : goal.returns-in-Ok-open
 returns-in-Ok-open g c =
     let opens = c.in-Ok-open.ensures.ok in
     let same = sym opens.same in (
-      record {
-        moves = record {
-          written = c.in-Ok.field-0;
-          moves = rw same at c.in-Ok.ensures.ok;
-          kept = rw same at c.in-Ok.ensures.kept;
-          plans = rw same at c.in-Ok.ensures.plans;
-        };
-        opens = rw same at opens;
-      },
+      record { moves = (c.in-Ok.field-0, rw same at c.in-Ok.ensures); opens = rw same at opens },
       refl,
       c.in-Ok-open.ensures.order,
     )
@@ -30,13 +18,7 @@ pub returns-in-Err-open : goal.returns-in-Err-open
 returns-in-Err-open g c =
     let same = sym c.in-Err-open.ensures.same in (
       _,
-      not_opened c.in-Err-open.refused.fault
-          (record {
-            written = c.in-Ok.field-0;
-            moves = rw same at c.in-Ok.ensures.ok;
-            kept = rw same at c.in-Ok.ensures.kept;
-            plans = rw same at c.in-Ok.ensures.plans;
-          })
+      not_opened c.in-Err-open.refused.fault (c.in-Ok.field-0, rw same at c.in-Ok.ensures)
           (rw same at c.in-Err-open.ensures.fault) c.name-in-Err-open.ensures,
       c.refuse-status-in-Err-open.ensures,
     )

@@ -2,17 +2,17 @@ use Rattle.std.proofs.Common.{refl}
 use Rattle.relay_desk_commands.specs.Desks.EndsForget.{no_id, no_desk, opened}
 use Rattle.relay_desk_commands.proofs.forget.forget_command.Goals as goal
 
-pub returns-in_default-clause-ends : goal.returns-in_default-clause-ends
-returns-in_default-clause-ends g c =
+pub returns-in_default : goal.returns-in_default
+returns-in_default g c =
     rw (← c.streams.view_is) (no_id c.in_default.ensures refl (rw c.name.ensures at c.refuse-status.ensures, refl))
 
-pub returns-in-Err-clause-ends : goal.returns-in-Err-clause-ends
-returns-in-Err-clause-ends g c =
+pub returns-in-Err : goal.returns-in-Err
+returns-in-Err g c =
     let none = c.in-Err.ensures in
     rw (← c.streams.view_is) (no_desk none.0 c.in-Some.ensures.0 none.1 (none.2, refl))
 
-pub returns-clause-ends : goal.returns-clause-ends
-returns-clause-ends g c =
+pub returns : goal.returns
+returns g c =
     let told = c.forget-status.ensures in
     rw (c.end.ensures.status, c.end.ensures.store, c.end.ensures.set, ← c.streams.view_is)
     (opened c.in-Some.id c.in-Ok.opened.desk c.forget-status.new.desk told.0 c.in-Some.ensures.0 c.in-Some.ensures.1

@@ -1,7 +1,8 @@
 use Rattle.std.specs.FinMap as map
-use Rattle.dm_assembly_desk.specs.Asking.{Asks}
-use Rattle.dm_assembly_desk.specs.Exporting.{Exports}
-use Rattle.relay_desk_commands.proofs.Asked.{asked, exported, named}
+use Rattle.dm_assembly_desk.specs.Asking.{Asks, ask_verdict, Exports, export_verdict}
+use Rattle.dm_assembly_desk.specs.declared.fault.AskFault.TheVariants as asks
+use Rattle.dm_assembly_desk.specs.declared.fault.ExportFault.TheVariants as exports
+use Rattle.relay_desk_commands.proofs.Asked.{gives, named}
 use Rattle.relay_desk_commands.proofs.giving.bytes_of.Goals as goal
 
 pub returns-in-Document : goal.returns-in-Document
@@ -9,11 +10,11 @@ returns-in-Document g c =
     let found = map.get c.args.desk.now.held c.args.id in
     rw c.in-Document.is
     (named _ _ (λ answer. Asks (λ bytes. bytes) found answer) _ _ c.map_err.ensures.cases
-    (asked _ found _ c.document.ensures.asks))
+    (gives _ asks.Memory (ask_verdict found) _ c.document.ensures.asks))
 
 pub returns-in-File : goal.returns-in-File
 returns-in-File g c =
     let found = map.get c.args.desk.now.held c.args.id in
     rw c.in-File.is
     (named _ _ (λ answer. Exports (λ bytes. bytes) c.args.id found answer) _ _ c.map_err-in-File.ensures.cases
-    (exported _ c.args.id found _ c.export.ensures.exports))
+    (gives _ exports.Memory (export_verdict c.args.id found) _ c.export.ensures.exports))

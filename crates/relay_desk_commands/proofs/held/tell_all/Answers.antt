@@ -1,6 +1,6 @@
 use Rattle.std.proofs.Common.{◌≡◌, Err, ap, inl, refl, rules}
 use Rattle.relay_desk_commands.specs.Held.{status_by}
-use Rattle.dm_assembly_desk.specs.declared.fault.HeldFault.TheVariants.{Device, Memory}
+use Rattle.dm_assembly_desk.specs.declared.fault.DeskFault.TheVariants.{Device, Memory}
 use Rattle.relay_desk_commands.specs.Held.TellsAll.{listed, cut_off, no_keys}
 use Rattle.relay_desk_commands.proofs.held.tell_all.Goals as goal
 
@@ -11,7 +11,7 @@ returns-in-Err-Device-clause-tells g c =
 
 pub returns-in-Err-Memory-clause-tells : goal.returns-in-Err-Memory-clause-tells
 returns-in-Err-Memory-clause-tells g c =
-    no_keys Memory (c.in-Err-Memory.ensures.lists.memory (ap (λ fault. Err fault) c.in-Err-Memory.field-0-is))
+    no_keys Memory tt
     (rw c.name-in-Err-Memory.ensures at c.refuse-in-Err-Memory.ensures)
 
 pub returns-in-Ok-put_list-clause-tells : goal.returns-in-Ok-put_list-clause-tells

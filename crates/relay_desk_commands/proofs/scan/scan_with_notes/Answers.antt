@@ -1,23 +1,15 @@
 use Rattle.std.proofs.Common.{refl}
 use Rattle.relay_desk_commands.specs.Scan.EndsScan.{no_desk, opened}
-use Rattle.relay_desk_commands.proofs.StoppedDesks as stopped
 use Rattle.relay_desk_commands.proofs.scan.scan_with_notes.Goals as goal
 
-pub returns-in-Err-clause-ends : goal.returns-in-Err-clause-ends
-returns-in-Err-clause-ends g c =
+pub returns-in-Err : goal.returns-in-Err
+returns-in-Err g c =
     let none = c.in-Err.ensures in
     rw (← c.streams.view_is) (no_desk none.0 none.1 (none.2, refl))
 
-pub returns-clause-ends : goal.returns-clause-ends
-returns-clause-ends g c =
+pub returns : goal.returns
+returns g c =
     let told = rw c.in-Ok.ensures.1 at c.each_image-status.ensures.told in
     let kept = c.each_image-status.ensures.kept in
     rw (← c.streams.view_is) (opened c.in-Ok.opened.desk c.each_image-status.new.command.desk c.in-Ok.ensures.0 told
     kept.0 (kept.1 c.in-Ok.ensures.2) c.close-set.ensures.state refl)
-
-pub returns-clause-lasts : goal.returns-clause-lasts
-returns-clause-lasts g c =
-    let told = rw c.in-Ok.ensures.1 at c.each_image-status.ensures.told in
-    rw (c.close-set.ensures.state, ← c.streams.view_is) (stopped.scan_leaves _ _ _ _ _ _ _
-    c.in-Ok.ensures.0.opens.running told
-    (record { order = c.close-set.ensures.order; lasts = c.close-set.ensures.lasts }))

@@ -1,7 +1,6 @@
 use Rattle.std.proofs.Common.{refl}
 use Rattle.relay_printer_commands.specs.Print.PrintsDocument.{not_opened, opened}
 use Rattle.relay_printer_commands.proofs.PrintedLabels.{line_first}
-use Rattle.relay_printer_commands.proofs.StoppedCommands as stopped
 use Rattle.relay_printer_commands.proofs.print.open_and_print.Goals as goal
 
 pub returns-clause-line_first : goal.returns-clause-line_first
@@ -16,11 +15,5 @@ returns-in-Err-clause-ends g c =
 pub returns-clause-ends : goal.returns-clause-ends
 returns-clause-ends g c =
     rw (← c.streams.view_is) (opened c.in-Ok.printer c.print-answer.new.self c.print-answer.result
-    c.in-Ok.ensures.opens.0 c.print-answer.ensures.prints c.close-store.ensures.state
+    c.in-Ok.ensures.opens.0 c.print-answer.ensures c.close-store.ensures
     (rw (c.in-Ok.ensures.opens.1, c.left.ensures.value) at c.tell_print-status.ensures))
-
-pub returns-clause-lasts : goal.returns-clause-lasts
-returns-clause-lasts g c =
-    rw (← c.streams.view_is, c.close-store.ensures.state) (stopped.closed _ _ _ _ c.in-Ok.printer
-    c.print-answer.new.self _ c.in-Ok.ensures.opens.0 (stopped.printed_on _ _ _ _ _ _ _ _ _ _
-    c.print-answer.ensures.prints c.tell_print-status.ensures) c.close-store.ensures.order _)

@@ -1,0 +1,140 @@
+use Rattle.std.proofs.Common.{◌≡◌, ◌∙◌, ◌+◌, List, ℕ, take, Some, Result, Ok, Err, ap, sym, subst, refl}
+use Rattle.std.specs.Prelude.{IsTrue, option_map}
+use Rattle.std.specs.FinMap.{keys as map_keys, entries as map_entries}
+use Rattle.std.proofs.lemmas.Result.{err_from_is_err_and}
+use Rattle.dm_store.specs.Saved.{Saved, Replaces}
+use Rattle.dm_store.specs.Sets.{SavedSet}
+use Rattle.dm_assembly_desk.specs.Moving.{Moves, early}
+use Rattle.dm_assembly_desk.specs.inner.MovingOn.{lacking, WritesAll}
+use Rattle.dm_assembly_desk.specs.declared.fault.MoveFault.{MoveFault}
+use Rattle.dm_assembly_desk.proofs.JointContents.{all_of_them}
+use Rattle.dm_assembly_desk.proofs.MoveEnds.{no_documents, not_loaded, nothing_there, not_joint, none_there, no_keys, not_saved, ended}
+use Rattle.dm_assembly_desk.proofs.moving.move_pages.Goals as goal
+
+-- the answer is this fault
+ends_so : {old : Saved} {set : SavedSet} {old_after : Saved} {set_after : SavedSet} (result : Result ℕ MoveFault)
+    (given fault : MoveFault) → result ≡ Err given → given ≡ fault → Moves old set (Err fault) old_after set_after →
+    Moves old set result old_after set_after
+ends_so {old} {set} {old_after} {set_after} result given fault is_error is_fault ends =
+    subst (λ (r : Result ℕ MoveFault). Moves old set r old_after set_after)
+    (sym (is_error ∙ ap (λ (f : MoveFault). Err f) is_fault)) ends
+
+-- the old store has not changed
+as_it_was : {old : Saved} {set : SavedSet} {result : Result ℕ MoveFault} {old_after : Saved} {set_after : SavedSet} →
+    old_after ≡ old → Moves old set result old set_after → Moves old set result old_after set_after
+as_it_was {old} {set} {result} {old_after} {set_after} same ends =
+    subst (λ (s : Saved). Moves old set result s set_after) (sym same) ends
+
+pub returns-in_err-bytes : goal.returns-in_err-bytes
+returns-in_err-bytes g c =
+    let answered = err_from_is_err_and c.from_residual.result c.from_residual.ensures.1 in
+    let loads = c.in_err-bytes.ensures.loads in
+    ends_so c.from_residual.result answered.0 _ answered.1 answered.2
+    (early (not_loaded (g.O.Store.state c.args.old.now) (g.S.StoreSet.state c.args.set.now) c.in_err-bytes.field-0.0 (λ e. loads.device (ap Err e))) c.load.ensures.loads.same refl)
+
+pub returns-in_default : goal.returns-in_default
+returns-in_default g c =
+    early (nothing_there (g.O.Store.state c.args.old.now) (g.S.StoreSet.state c.args.set.now) (λ honest. rw c.in_default.is at (c.in_ok-bytes.ensures.loads.saved honest)))
+    c.load.ensures.loads.same refl
+
+pub returns-in_err-count : goal.returns-in_err-count
+returns-in_err-count g c =
+    let loaded : IsTrue (g.O.Store.state c.args.old.now).is_honest →
+    Some c.deref.result.now ≡ option_map (take (42636295 + 1)) (g.O.Store.state c.args.old.now).content =
+    λ honest. ap (λ (bs : List ℕ). Some bs) c.deref.ensures.value ∙
+    (rw c.in-Some.is at (c.in_ok-bytes.ensures.loads.saved honest)) in
+    let answered = err_from_is_err_and c.from_residual-in_err-count.result c.from_residual-in_err-count.ensures.1 in
+    ends_so c.from_residual-in_err-count.result answered.0 _ answered.1 answered.2
+    (early (not_joint (g.O.Store.state c.args.old.now) (g.S.StoreSet.state c.args.set.now) c.deref.result.now loaded c.in_err-count.field-0.0 c.in_err-count.ensures.fault)
+    c.load.ensures.loads.same refl)
+
+pub returns-then-count-eq0 : goal.returns-then-count-eq0
+returns-then-count-eq0 g c =
+    let loaded : IsTrue (g.O.Store.state c.args.old.now).is_honest →
+    Some c.deref.result.now ≡ option_map (take (42636295 + 1)) (g.O.Store.state c.args.old.now).content =
+    λ honest. ap (λ (bs : List ℕ). Some bs) c.deref.ensures.value ∙
+    (rw c.in-Some.is at (c.in_ok-bytes.ensures.loads.saved honest)) in
+    early (none_there (g.O.Store.state c.args.old.now) (g.S.StoreSet.state c.args.set.now) c.deref.result.now loaded c.in_ok-count.count c.in_ok-count.entries.now
+    c.in_ok-count.ensures.found c.if-count-eq0.true) c.load.ensures.loads.same refl
+
+pub returns-in_err-keys : goal.returns-in_err-keys
+returns-in_err-keys g c =
+    let loaded : IsTrue (g.O.Store.state c.args.old.now).is_honest →
+    Some c.deref.result.now ≡ option_map (take (42636295 + 1)) (g.O.Store.state c.args.old.now).content =
+    λ honest. ap (λ (bs : List ℕ). Some bs) c.deref.ensures.value ∙
+    (rw c.in-Some.is at (c.in_ok-bytes.ensures.loads.saved honest)) in
+    let answered = err_from_is_err_and c.from_residual-in_err-keys.result c.from_residual-in_err-keys.ensures.1 in
+    ends_so c.from_residual-in_err-keys.result answered.0 _ answered.1 answered.2
+    (early (no_keys (g.O.Store.state c.args.old.now) (g.S.StoreSet.state c.args.set.now) c.deref.result.now loaded c.in_ok-count.count c.in_ok-count.entries.now
+    c.in_ok-count.ensures.found c.if-count-eq0.false c.in_err-keys.field-0.0
+    (λ e. c.in_err-keys.ensures.lists.device (ap Err e))) c.load.ensures.loads.same c.keys.ensures.lists.same)
+
+pub returns-in_err-written : goal.returns-in_err-written
+returns-in_err-written g c =
+    let old : Saved = g.O.Store.state c.args.old.now in
+    let set : SavedSet = g.S.StoreSet.state c.args.set.now in
+    let after : SavedSet = g.S.StoreSet.state c.move_entries.new.set in
+    let loaded : IsTrue old.is_honest → Some c.deref.result.now ≡ option_map (take (42636295 + 1)) old.content =
+    λ honest. ap (λ (bs : List ℕ). Some bs) c.deref.ensures.value ∙
+    (rw c.in-Some.is at (c.in_ok-bytes.ensures.loads.saved honest)) in
+    let ks : List ℕ = c.deref-3.result.now in
+    let known : IsTrue set.is_honest → ks ≡ map_keys set.content = λ honest.
+    all_of_them set.content ks (λ i. rw (c.deref-3.ensures.value ∙ sym c.deref-2.ensures.value) (c.keys_fit.ensures i))
+    (c.deref-3.ensures.value ∙ c.in_ok-keys.ensures.lists.saved honest) in
+    let reads = c.in_ok-count.ensures.found in
+    let written : WritesAll set (lacking ks (map_entries reads.held)) (Err c.in_err-written.field-0.0) after =
+    subst (λ (s : SavedSet). WritesAll s (lacking ks (map_entries reads.held)) (Err c.in_err-written.field-0.0) after)
+    c.keys.ensures.lists.same (c.in_err-written.ensures (map_entries reads.held) reads.read) in
+    let answered = err_from_is_err_and c.from_residual-in_err-written.result c.from_residual-in_err-written.ensures.1 in
+    ends_so c.from_residual-in_err-written.result answered.0 _ answered.1 answered.2
+    (as_it_was c.load.ensures.loads.same
+    (not_saved old set c.deref.result.now loaded c.in_ok-count.count c.in_ok-count.entries.now reads
+    c.if-count-eq0.false ks known c.in_err-written.field-0.0 after written))
+
+pub returns-in_err-replace : goal.returns-in_err-replace
+returns-in_err-replace g c =
+    let old : Saved = g.O.Store.state c.args.old.now in
+    let set : SavedSet = g.S.StoreSet.state c.args.set.now in
+    let after : SavedSet = g.S.StoreSet.state c.move_entries.new.set in
+    let loaded : IsTrue old.is_honest → Some c.deref.result.now ≡ option_map (take (42636295 + 1)) old.content =
+    λ honest. ap (λ (bs : List ℕ). Some bs) c.deref.ensures.value ∙
+    (rw c.in-Some.is at (c.in_ok-bytes.ensures.loads.saved honest)) in
+    let ks : List ℕ = c.deref-3.result.now in
+    let known : IsTrue set.is_honest → ks ≡ map_keys set.content = λ honest.
+    all_of_them set.content ks (λ i. rw (c.deref-3.ensures.value ∙ sym c.deref-2.ensures.value) (c.keys_fit.ensures i))
+    (c.deref-3.ensures.value ∙ c.in_ok-keys.ensures.lists.saved honest) in
+    let reads = c.in_ok-count.ensures.found in
+    let written : WritesAll set (lacking ks (map_entries reads.held)) (Ok c.in_ok-written.written) after =
+    subst (λ (s : SavedSet). WritesAll s (lacking ks (map_entries reads.held)) (Ok c.in_ok-written.written) after)
+    c.keys.ensures.lists.same (c.in_ok-written.ensures (map_entries reads.held) reads.read) in
+    let last : Saved = g.O.Store.state c.replace.new.self in
+    let replaced : Replaces old no_documents (Err c.in_err-replace.field-0.0) last =
+    subst (λ (s : Saved). Replaces s no_documents (Err c.in_err-replace.field-0.0) last) c.load.ensures.loads.same
+    c.in_err-replace.ensures.replaces in
+    let answered = err_from_is_err_and c.from_residual-in_err-replace.result c.from_residual-in_err-replace.ensures.1 in
+    ends_so c.from_residual-in_err-replace.result answered.0 _ answered.1 answered.2
+    (ended old set c.deref.result.now loaded c.in_ok-count.count c.in_ok-count.entries.now reads c.if-count-eq0.false
+    ks known c.in_ok-written.written after written (Err c.in_err-replace.field-0.0) last replaced)
+
+pub returns : goal.returns
+returns g c =
+    let old : Saved = g.O.Store.state c.args.old.now in
+    let set : SavedSet = g.S.StoreSet.state c.args.set.now in
+    let after : SavedSet = g.S.StoreSet.state c.move_entries.new.set in
+    let loaded : IsTrue old.is_honest → Some c.deref.result.now ≡ option_map (take (42636295 + 1)) old.content =
+    λ honest. ap (λ (bs : List ℕ). Some bs) c.deref.ensures.value ∙
+    (rw c.in-Some.is at (c.in_ok-bytes.ensures.loads.saved honest)) in
+    let ks : List ℕ = c.deref-3.result.now in
+    let known : IsTrue set.is_honest → ks ≡ map_keys set.content = λ honest.
+    all_of_them set.content ks (λ i. rw (c.deref-3.ensures.value ∙ sym c.deref-2.ensures.value) (c.keys_fit.ensures i))
+    (c.deref-3.ensures.value ∙ c.in_ok-keys.ensures.lists.saved honest) in
+    let reads = c.in_ok-count.ensures.found in
+    let written : WritesAll set (lacking ks (map_entries reads.held)) (Ok c.in_ok-written.written) after =
+    subst (λ (s : SavedSet). WritesAll s (lacking ks (map_entries reads.held)) (Ok c.in_ok-written.written) after)
+    c.keys.ensures.lists.same (c.in_ok-written.ensures (map_entries reads.held) reads.read) in
+    let last : Saved = g.O.Store.state c.replace.new.self in
+    let replaced : Replaces old no_documents (Ok tt) last =
+    subst (λ (s : Saved). Replaces s no_documents (Ok tt) last) c.load.ensures.loads.same
+    c.in_ok-replace.ensures.replaces in
+    ended old set c.deref.result.now loaded c.in_ok-count.count c.in_ok-count.entries.now reads c.if-count-eq0.false
+    ks known c.in_ok-written.written after written (Ok tt) last replaced

@@ -1,0 +1,191 @@
+//! Pages of one document that are added to what is held: the page of a label that was scanned, or those of a file that
+//! is imported. They are held and saved at once.
+
+ghost use Rattle.std.specs.Prelude.{map as each};
+ghost use Rattle.std.specs.Prelude.{◌≡◌, ◌≤◌, ◌<◌, false, None, [], length, unwrap_or, IfOk, OnOk, OnErr};
+ghost use Rattle.std.specs.FinMap as map;
+ghost use Rattle.std.specs.Option.{option_copied};
+ghost use Rattle.dm_store.specs.Saved.{outcome_of};
+ghost use Rattle.dm_store.specs.Sets.{SavesKey};
+ghost use Rattle.dm_assembly_desk.specs.Pages.{lent_bytes};
+ghost use Rattle.dm_assembly_desk.specs.Files.{file, IsEntry};
+ghost use Rattle.dm_assembly_desk.specs.Merging.{union_of};
+ghost use Rattle.dm_assembly_desk.specs.Adding.{kind_of, add_kind};
+ghost use Rattle.dm_assembly_desk.specs.FaultOrigin.{keep_fault};
+
+use crate::desk::Desk;
+use crate::document::Document;
+use crate::documents::{Documents, give};
+use crate::file::write_file;
+use crate::merging::{added_of, are_all_held, may_join, merge};
+use crate::reply::{Imported, Kind};
+use dm_append_label::FileId;
+use dm_store::{ReplaceFault, StoreSet};
+use std::alloc::{AllocError, Allocator};
+
+/// Why pages of a document were not added, by a scan or by an import: the first of these, in this order, that applies.
+/// Each has a fault of the same name in `ScanFault` and in `ImportFault`.
+#[derive(Clone, Copy, Debug, PartialEq, Eq)]
+pub enum AddFault {
+    /// The document is held with another number of pages, or a page with other bytes.
+    Conflict,
+    /// The document is not held, and there is no room for another.
+    Full,
+    /// Memory for the pages or for their save was refused.
+    Memory,
+    /// The save met a device fault.
+    Save,
+}
+
+impl From<ReplaceFault> for AddFault {
+    ghost from_gives = { λ given fault. fault ≡ keep_fault given };
+
+    fn from(fault: ReplaceFault) -> Self {
+        match fault {
+            ReplaceFault::Device => AddFault::Save,
+            ReplaceFault::Memory => AddFault::Memory,
+        }
+    }
+}
+
+impl<S: StoreSet, A: Allocator + Copy> Desk<S, A> {
+    ghost use Rattle.dm_assembly_desk.specs.Adding.{Adds};
+    ghost use Rattle.dm_assembly_desk.specs.Holding.{Ends};
+    ghost use Rattle.dm_assembly_desk.specs.Views.{IsInOrder};
+
+    /// Answers the pages of a document, and holds and saves at once those that were not held. Where that fails, what
+    /// was held is held.
+    pub(crate) fn add(&mut self, id: u16, pages: &[Option<&[u8]>]) -> Result<Imported, AddFault>
+        requires running { self.old.is_failed ≡ false }
+        requires entry { IsEntry id (each lent_bytes pages.now) }
+        ensures adds { Adds id (each lent_bytes pages.now) self.old result self.new }
+        ensures after { IsInOrder self.new }
+    {
+        let kind = judge(&self.documents, self.capacity, id, pages)?;
+        let Some(file_id) = FileId::of_number(id) else {
+            unreachable!()
+        };
+        let held = self.documents.get(id);
+        let reply = Imported {
+            id: file_id,
+            n: pages.len() as u8,
+            added: added_of(held, pages),
+            kind,
+        };
+        if kind == Kind::Again {
+            return Ok(reply);
+        }
+        let Ok(document) = merged_copy(self.alloc, held, pages) else {
+            return Err(AddFault::Memory);
+        };
+        match self.hold(id, document) {
+            Ok(()) => Ok(reply),
+            Err(fault) => Err(AddFault::from(fault)),
+        }
+    }
+
+    // Holds these pages of a document from now on, and saves its file first. Where that fails, what was held is held,
+    // and after a device fault the desk has failed.
+    fn hold(&mut self, id: u16, document: Document<A>) -> Result<(), ReplaceFault>
+        requires running { self.old.is_failed ≡ false }
+        requires entry { IsEntry id document }
+        requires room { map.get self.old.held id ≡ None → map.len self.old.held < self.old.capacity }
+        ensures ends { Ends id (map.insert self.old.held id document) (outcome_of result) self.old self.new }
+        ensures after { IsInOrder self.new }
+    {
+        match keep(self.alloc, &mut self.set, &mut self.documents, id, document) {
+            Ok(()) => Ok(()),
+            Err(ReplaceFault::Memory) => Err(ReplaceFault::Memory),
+            Err(ReplaceFault::Device) => {
+                self.is_failed = true;
+                Err(ReplaceFault::Device)
+            }
+        }
+    }
+}
+
+// What pages are that add some to those that are held.
+fn kind_with<A: Allocator>(held: Option<&Document<A>>, pages: &[Option<&[u8]>]) -> Kind
+    requires room { length pages.now ≤ 16 }
+    requires short { length (unwrap_or (option_copied held) []) ≤ length pages.now }
+    ensures { result ≡ kind_of (union_of (unwrap_or (option_copied held.entry) []) (each lent_bytes pages.now)) }
+{
+    let all = merge(held, pages);
+    if are_all_held(all.as_slice()) {
+        Kind::Complete
+    } else {
+        Kind::New
+    }
+}
+
+// A copy of each page that is held, and of the others those that are given.
+fn merged_copy<A: Allocator + Copy>(
+    alloc: A,
+    held: Option<&Document<A>>,
+    pages: &[Option<&[u8]>],
+) -> Result<Document<A>, AllocError>
+    requires least { 2 ≤ length pages.now }
+    requires room { length pages.now ≤ 16 }
+    requires short { length (unwrap_or (option_copied held) []) ≤ length pages.now }
+    ensures { IfOk result (λ d. d ≡ union_of (unwrap_or (option_copied held.entry) []) (each lent_bytes pages.now)) }
+{
+    let all = merge(held, pages);
+    Document::copy_of(alloc, all.as_slice())
+}
+
+// The answer to the pages of a document where their save is done.
+fn judge<A: Allocator + Copy>(
+    documents: &Documents<A>,
+    capacity: u16,
+    id: u16,
+    pages: &[Option<&[u8]>],
+) -> Result<Kind, AddFault>
+    requires { length pages.now ≤ 16 }
+    ensures { result ≡ add_kind capacity documents.now id (each lent_bytes pages.now) }
+{
+    let held = documents.get(id);
+    if !may_join(held, pages) {
+        return Err(AddFault::Conflict);
+    }
+    if added_of(held, pages) == 0 {
+        return Ok(Kind::Again);
+    }
+    if held.is_none() && capacity as usize <= documents.len() {
+        return Err(AddFault::Full);
+    }
+    Ok(kind_with(held, pages))
+}
+
+// Holds these pages of a document from now on, and saves its file. Where that fails, what was held is held.
+fn keep<S: StoreSet, A: Allocator + Copy>(
+    alloc: A,
+    set: &mut S,
+    documents: &mut Documents<A>,
+    id: u16,
+    document: Document<A>,
+) -> Result<(), ReplaceFault>
+    requires { IsEntry id document }
+    ensures ok { OnOk result (documents.new ≡ map.insert documents.old id document) }
+    ensures err { OnErr result (documents.new ≡ documents.old) }
+    ensures replaced { SavesKey (S.state set.old) id (file id document) result (S.state set.new) }
+{
+    let Ok(bytes) = write_file(alloc, id, &document) else {
+        return Err(ReplaceFault::Memory);
+    };
+    let Ok(before) = documents.insert(id, document) else {
+        return Err(ReplaceFault::Memory);
+    };
+    match set.replace(id, &bytes) {
+        Ok(()) => Ok(()),
+        Err(fault) => match before {
+            Some(document) => {
+                give(documents, id, document);
+                Err(fault)
+            }
+            None => {
+                documents.remove(id);
+                Err(fault)
+            }
+        },
+    }
+}

@@ -1,0 +1,248 @@
+-- What prints, gives and takes that are saved do to the numbers of a ledger.
+use Rattle.std.proofs.Common.{◌≡◌, ◌+◌, ◌<◌, ◌≤◌, ℕ, Bool, true, false, ◌==◌, ◌||◌, not, Option, Some, None, Result, Ok, Err, List, [], ◌∷◌, length, nat_le, nat_lt, if◌then◌else◌, IsTrue, refl, sym, ap, subst, ◌∙◌, arith, eq-eqb, suc}
+use Rattle.std.proofs.lemmas.Bool.{leb-false, or_left}
+use Rattle.std.proofs.lemmas.Bool.Decides.{nat_tests}
+use Rattle.std.specs.Option.{option_map_or}
+use Rattle.std.specs.Prelude.{IfSome, IsSomeAnd, MatchBool, is_some}
+use Rattle.dm_check_blocks.specs.declared.size.Size.{Size}
+use Rattle.dm_encodation.specs.declared.scheme.Scheme.{Scheme}
+use Rattle.dm_append_label.specs.Parts.{AreParts}
+use Rattle.dm_print_ledger.specs.declared.range.Range.{Range}
+use Rattle.dm_print_ledger.specs.declared.giver.Giver.{Giver}
+use Rattle.dm_print_ledger.specs.declared.limits.TheConstants.{MOST_RANGES, MOST_GIVERS}
+use Rattle.dm_print_ledger.specs.declared.fault.PrintFault.{PrintFault}
+use Rattle.dm_print_ledger.specs.declared.fault.PrintFault.TheVariants as print_fault
+use Rattle.dm_print_ledger.specs.declared.fault.GiveFault.{GiveFault}
+use Rattle.dm_print_ledger.specs.declared.fault.GiveFault.TheVariants as give_fault
+use Rattle.dm_print_ledger.specs.declared.fault.TakeFault.{TakeFault}
+use Rattle.dm_print_ledger.specs.declared.fault.TakeFault.TheVariants as take_fault
+use Rattle.dm_print_ledger.specs.Changes.{are_free, has_free, least, single, without, union_of}
+use Rattle.dm_print_ledger.specs.FreeNumbers.{AreFree, AreTaken, IsLeastFree, TakesOut, PutsIn, Notes}
+use Rattle.dm_print_ledger.specs.Givers.{givers_with, is_old, last_taken}
+use Rattle.dm_print_ledger.specs.Ledger.{is_sound}
+use Rattle.dm_print_ledger.specs.Ranges.{are_ranges, free_count, is_range}
+use Rattle.dm_print_ledger.specs.Verdicts.{print_verdict, give_verdict, take_verdict, giver_of}
+use Rattle.dm_print_ledger.specs.Views.{LedgerView, TicketView}
+use Rattle.dm_event_history.specs.declared.reply.Reply.{Reply}
+use Rattle.dm_event_history.specs.Calls.{Saves}
+use Rattle.dm_event_history.specs.PrinterCalls.{IsCut, PrintComes, PrintLeaves, cut_of}
+use Rattle.dm_event_history.specs.Relay.{Goods}
+use Rattle.dm_print_ledger.proofs.LedgerLaws.{ranges_are_numbers, first_is_least, givers_are_noted}
+use Rattle.dm_print_ledger.proofs.OutLaws.{covered_free, covers_from, takes_out}
+use Rattle.dm_print_ledger.proofs.InLaws.{meets_none}
+use Rattle.dm_print_ledger.proofs.InLaws.{HasFree, meets_free}
+use Rattle.std.proofs.lemmas.Bool.{leb-true, and_parts}
+use Rattle.dm_print_ledger.proofs.Rising.{rise_fact, sound_ranges, sound_givers}
+
+-- ---- chains of refusals
+
+-- what is not refused goes on
+pub on : {F X : Type 0} (b : Bool) (fault : F) (rest : Result X F) (next : X) →
+    (if b then Err fault else rest) ≡ Ok next → (b ≡ false) × (rest ≡ Ok next)
+on true fault rest next is = cc (is)
+on false fault rest next is = (refl, is)
+
+-- what is so of each refusal is so of the answer
+pub chain : {F X : Type 0} (P : F → Type 0) (b : Bool) (fault : F) (rest : Result X F) (answer : F) →
+    (b ≡ true → P fault) → (b ≡ false → rest ≡ Err answer → P answer) →
+    (if b then Err fault else rest) ≡ Err answer → P answer
+chain P true fault rest answer here after is = (let same : fault ≡ answer = cc (is) in subst P same (here refl))
+chain P false fault rest answer here after is = after refl is
+
+pub not_false : (b : Bool) → not b ≡ false → b ≡ true
+not_false true is = refl
+not_false false is = cc (is)
+
+-- ---- prints
+
+-- the numbers of a range, all free before, leave the ledger
+pub record LosesNumbers (old : LedgerView) (range : Range) (new : LedgerView) : Type 0 where
+  pub were_free : AreFree old.free range
+  pub free : TakesOut old.free range new.free
+  pub number : new.number ≡ old.number
+  pub givers : new.givers ≡ old.givers
+
+pub record UsesLeast (old new : LedgerView) : Type 0 where
+  pub least_is : IsLeastFree old.free (least old.free)
+  pub loses : LosesNumbers old (single (least old.free)) new
+
+uses_first : (old : LedgerView) (free : List Range) → old.free ≡ free → is_sound old ≡ true →
+    (length free == 0) ≡ false → UsesLeast old (record old { free = without old.free (single (least old.free)) })
+uses_first old [] is sound some = cc (some)
+uses_first old (one ∷ ranges) is sound some =
+    let rises : are_ranges (one ∷ ranges) ≡ true = sym (ap are_ranges is) ∙ sound_ranges old sound in
+    let rise = rise_fact 0 (one ∷ ranges) rises in
+    let same : one.first ≤ one.first = omega arith in
+    let covered : are_free (one ∷ ranges) (single one.first) ≡ true =
+    or_left _ _ (covers_from one (single one.first) same rise.1.not_empty) in
+    subst (λ (free : List Range). UsesLeast (record old { free = free })
+    (record old { free = without free (single (least free)) })) (sym is) (record {
+      least_is = first_is_least one ranges rises;
+      loses = record {
+        were_free = covered_free (one ∷ ranges) (single one.first) covered;
+        free = takes_out (one ∷ ranges) (single one.first) rise same covered;
+        number = refl;
+        givers = refl;
+      };
+    })
+
+not_true : (b : Bool) → not b ≡ true → b ≡ false
+not_true true is = cc (is)
+not_true false is = refl
+
+no_ranges : (free : List Range) → (length free == 0) ≡ true → free_count free ≡ 0
+no_ranges [] is = refl
+no_ranges (one ∷ ranges) is = absurd (some is)
+  where
+    some : (suc (length ranges) == 0) ≡ true → ⊥
+    some e = grind (arith, nat_tests, e)
+
+-- a print that is saved used the least number
+pub print_uses : (old next : LedgerView) (has_parts : Bool) → is_sound old ≡ true →
+    print_verdict old has_parts ≡ Ok next → UsesLeast old next
+print_uses old next has_parts sound is =
+    let a = on (not has_parts) print_fault.TooLong _ next is in
+    let b = on (length old.free == 0) print_fault.Exhausted _ next a.1 in
+    let same : record old { free = without old.free (single (least old.free)) } ≡ next = cc (b.1) in
+    subst (λ (l : LedgerView). UsesLeast old l) same (uses_first old old.free refl sound b.0)
+
+-- why a print is refused
+pub print_refuses : (P : PrintFault → Type 0) (old : LedgerView) (has_parts : Bool) (fault : PrintFault) →
+    (has_parts ≡ false → P print_fault.TooLong) → (free_count old.free ≡ 0 → P print_fault.Exhausted) →
+    print_verdict old has_parts ≡ Err fault → P fault
+print_refuses P old has_parts fault too_long exhausted is =
+    chain P (not has_parts) print_fault.TooLong _ fault (λ none. too_long (not_true has_parts none))
+    (λ some. chain P (length old.free == 0) print_fault.Exhausted _ fault (λ none. exhausted (no_ranges old.free none))
+    (λ more clash. absurd (cc (clash)))) is
+
+-- a print that is saved, of a document with these parts
+pub record IsMadePrint {A : Type 0} (before : ℕ) (document : List ℕ) (size : Size) (scheme : Scheme)
+    (held next : LedgerView) (goods : Goods) (reply : Reply A) : Type 0 where
+  pub parts : List (List ℕ)
+  pub are_parts : AreParts size scheme document parts
+  pub left : PrintLeaves before (cut_of document size scheme parts) (least held.free) goods reply
+  pub uses : UsesLeast held next
+
+pub made_print : {A : Type 0} (before : ℕ) (document : List ℕ) (size : Size) (scheme : Scheme) (held next : LedgerView)
+    (goods : Goods) (reply : Reply A) → PrintComes before document size scheme held (Saves next goods reply) →
+    IsMadePrint before document size scheme held next goods reply
+made_print {A} before document size scheme held next goods reply comes =
+    by_parts comes.1 comes.2 comes.0 comes.3.0 comes.3.1
+  where
+    by_parts : (parts : Option (List (List ℕ))) → IsCut size scheme document parts → is_sound held ≡ true →
+        print_verdict held (is_some parts) ≡ Ok next →
+        IsSomeAnd parts (λ parts. PrintLeaves before (cut_of document size scheme parts) (least held.free) goods reply) →
+        IsMadePrint before document size scheme held next goods reply
+    by_parts None cut sound is left = absurd left
+    by_parts (Some parts) cut sound is left =
+        record { parts = parts; are_parts = cut; left = left; uses = print_uses held next true sound is }
+
+-- ---- gives
+
+-- the numbers of a range that is given leave
+pub give_loses : (old next : LedgerView) (receiver : ℕ) (range : Range) → is_sound old ≡ true →
+    give_verdict old receiver range ≡ Ok next → LosesNumbers old range next
+give_loses old next receiver range sound is =
+    let a = on (not (is_range range)) give_fault.Range _ next is in
+    let b = on (receiver == old.number) give_fault.Receiver _ next a.1 in
+    let c = on (not (are_free old.free range)) give_fault.NotFree _ next b.1 in
+    let d = on (old.next_serial == 65535) give_fault.Serials _ next c.1 in
+    let e = on (nat_lt MOST_RANGES (length (without old.free range))) give_fault.Ranges _ next d.1 in
+    let free : are_free old.free range ≡ true = not_false _ c.0 in
+    let same : record old { next_serial = old.next_serial + 1; free = without old.free range } ≡ next = cc (e.1) in
+    subst (λ (l : LedgerView). LosesNumbers old range l) same (record {
+      were_free = covered_free old.free range free;
+      free = (ranges_are_numbers old.free range (sound_ranges old sound) (not_false _ a.0)).taken_out free;
+      number = refl;
+      givers = refl;
+    })
+
+-- why a give is refused
+pub give_refuses : (P : GiveFault → Type 0) (old : LedgerView) (receiver : ℕ) (range : Range) (fault : GiveFault) →
+    P give_fault.Range → P give_fault.Receiver → P give_fault.NotFree → P give_fault.Serials → P give_fault.Ranges →
+    give_verdict old receiver range ≡ Err fault → P fault
+give_refuses P old receiver range fault a b c d e is =
+    chain P (not (is_range range)) give_fault.Range _ fault (λ _. a)
+    (λ _. chain P (receiver == old.number) give_fault.Receiver _ fault (λ _. b)
+    (λ _. chain P (not (are_free old.free range)) give_fault.NotFree _ fault (λ _. c)
+    (λ _. chain P (old.next_serial == 65535) give_fault.Serials _ fault (λ _. d)
+    (λ _. chain P (nat_lt MOST_RANGES (length (without old.free range))) give_fault.Ranges _ fault (λ _. e)
+    (λ _ clash. absurd (cc (clash))))))) is
+
+-- ---- takes
+
+-- the numbers of a ticket, none of which was free, are free, and its serial is the last from its giver
+pub record GainsNumbers (old : LedgerView) (ticket : TicketView) (new : LedgerView) : Type 0 where
+  pub is_for : ticket.receiver ≡ old.number
+  pub is_new : IfSome (last_taken old.givers ticket.giver) (λ last. last < ticket.serial)
+  pub were_taken : AreTaken old.free ticket.range
+  pub free : PutsIn old.free ticket.range new.free
+  pub number : new.number ≡ old.number
+  pub givers : Notes old.givers ticket.giver ticket.serial new.givers
+
+new_serial : (o : Option ℕ) (serial : ℕ) → option_map_or (nat_le serial) o false ≡ false →
+    IfSome o (λ last. last < serial)
+new_serial None serial is = tt
+new_serial (Some last) serial is = leb-false serial last is
+
+pub old_or_new : (last : Option ℕ) (serial : ℕ) → IsSomeAnd last (λ last. serial ≤ last) →
+    IfSome last (λ last. last < serial) → ⊥
+old_or_new None serial old new = absurd old
+old_or_new (Some last) serial old new = omega (arith, old, new)
+
+same_by : (a b : ℕ) → (a == b) ≡ true → a ≡ b
+same_by a b is = grind (arith, nat_tests, is)
+
+either_false : (a b : Bool) → (a || b) ≡ false → a ≡ false
+either_false true b is = cc (is)
+either_false false b is = refl
+
+-- why a take is refused: `Overlap` where the ticket is for this printer and new, and a number of it is free here
+pub record IsOverlapping (old : LedgerView) (ticket : TicketView) : Type 0 where
+  pub is_for : ticket.receiver ≡ old.number
+  pub is_new : IfSome (last_taken old.givers ticket.giver) (λ last. last < ticket.serial)
+  pub free : has_free old.free ticket.range ≡ true
+
+pub take_refuses : (P : TakeFault → Type 0) (old : LedgerView) (ticket : TicketView) (fault : TakeFault) →
+    P take_fault.Receiver → P take_fault.Old → (IsOverlapping old ticket → P take_fault.Overlap) →
+    P take_fault.Ranges → P take_fault.Givers → take_verdict old ticket ≡ Err fault → P fault
+take_refuses P old ticket fault a b c d e is =
+    chain P (not (ticket.receiver == old.number) || ticket.giver == ticket.receiver) take_fault.Receiver _ fault (λ _. a)
+    (λ own. chain P (is_old old.givers ticket.giver ticket.serial) take_fault.Old _ fault (λ _. b)
+    (λ later. chain P (has_free old.free ticket.range) take_fault.Overlap _ fault
+    (λ free. c (record {
+      is_for = same_by _ _ (not_false _ (either_false _ _ own));
+      is_new = new_serial (last_taken old.givers ticket.giver) ticket.serial later;
+      free = free;
+    }))
+    (λ _. chain P (nat_lt MOST_RANGES (length (union_of old.free ticket.range))) take_fault.Ranges _ fault (λ _. d)
+    (λ _. chain P (nat_lt MOST_GIVERS (length (givers_with old.givers (giver_of ticket)))) take_fault.Givers _ fault
+    (λ _. e) (λ _ clash. absurd (cc (clash))))))) is
+
+-- some number of it is free
+pub overlap_free : (old : LedgerView) (ticket : TicketView) → is_sound old ≡ true → is_range ticket.range ≡ true →
+    has_free old.free ticket.range ≡ true → HasFree old.free ticket.range
+overlap_free old ticket sound range some =
+    meets_free 0 old.free ticket.range (rise_fact 0 old.free (sound_ranges old sound))
+    (leb-true _ _ (and_parts _ _ range).0) some
+
+pub take_gains : (old next : LedgerView) (ticket : TicketView) → is_sound old ≡ true → is_range ticket.range ≡ true →
+    take_verdict old ticket ≡ Ok next → GainsNumbers old ticket next
+take_gains old next ticket sound range is =
+    let a = on (not (ticket.receiver == old.number) || ticket.giver == ticket.receiver) take_fault.Receiver _ next is in
+    let b = on (is_old old.givers ticket.giver ticket.serial) take_fault.Old _ next a.1 in
+    let c = on (has_free old.free ticket.range) take_fault.Overlap _ next b.1 in
+    let d = on (nat_lt MOST_RANGES (length (union_of old.free ticket.range))) take_fault.Ranges _ next c.1 in
+    let e = on (nat_lt MOST_GIVERS (length (givers_with old.givers (giver_of ticket)))) take_fault.Givers _ next d.1 in
+    let same : record old {
+      free = union_of old.free ticket.range;
+      givers = givers_with old.givers (giver_of ticket);
+    } ≡ next = cc (e.1) in
+    subst (λ (l : LedgerView). GainsNumbers old ticket l) same (record {
+      is_for = same_by _ _ (not_false _ (either_false _ _ a.0));
+      is_new = new_serial (last_taken old.givers ticket.giver) ticket.serial b.0;
+      were_taken = meets_none old.free ticket.range c.0;
+      free = (ranges_are_numbers old.free ticket.range (sound_ranges old sound) range).put_in c.0;
+      number = refl;
+      givers = givers_are_noted old.givers (giver_of ticket) (sound_givers old sound);
+    })

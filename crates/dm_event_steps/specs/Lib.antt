@@ -1,9 +1,0 @@
-pub mod Acts
-pub mod DeskActs
-pub mod Worlds
-pub mod Beginning
-pub mod Labels
-pub mod Ready
-pub mod Shows
-pub mod Simulating
-pub mod StandsFor

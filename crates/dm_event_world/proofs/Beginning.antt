@@ -1,0 +1,71 @@
+-- A world that begins.
+use Rattle.std.proofs.Common.{◌≡◌, ◌+◌, ℕ, zero, suc, Some, List, [], ◌∷◌, All, length, map, slice_get, refl, sym, ap, subst, ◌∙◌, arith}
+use Rattle.std.proofs.lemmas.List.{length-map}
+use Rattle.dm_print_ledger.specs.declared.range.Range.{Range}
+use Rattle.dm_print_ledger.specs.Creating.{opening}
+use Rattle.dm_print_ledger.specs.Views.{LedgerView, TicketView}
+use Rattle.dm_assembly_desk.specs.Views.{IsCapacity}
+use Rattle.dm_event_history.specs.Actors.{Actor, Running}
+use Rattle.dm_event_history.specs.Places.{AreDisjoint}
+use Rattle.dm_event_history.specs.Relay.{Desk, empty_desk, fresh_from, start}
+use Rattle.dm_event_world.specs.declared.actor.PrinterActor.{PrinterActor}
+use Rattle.dm_event_world.specs.declared.actor.DeskActor.{DeskActor}
+use Rattle.dm_event_world.specs.declared.actor.LeftLabel.{LeftLabel}
+use Rattle.dm_event_world.specs.declared.actor.LeftExport.{LeftExport}
+use Rattle.dm_event_world.specs.Shows.{ShowsDesk, ShowsPrinter}
+use Rattle.dm_event_world.specs.StandsFor.{AreRanges, StandsFor}
+use Rattle.dm_event_world.specs.inner.Desks.{AreEmpty}
+use Rattle.dm_event_world.specs.inner.Printers.{AreFresh}
+use Rattle.dm_event_world.proofs.Changing.{world_of}
+use Rattle.dm_event_world.proofs.Mapped.{get_map_from}
+
+length-fresh : (from : ℕ) (ranges : List Range) → length (fresh_from from ranges) ≡ length ranges
+length-fresh from [] = refl
+length-fresh from (r ∷ rs) = ap suc (length-fresh (from + 1) rs)
+
+get_fresh : (from : ℕ) (ranges : List Range) (i : ℕ) (shown : Actor LedgerView) →
+    slice_get (fresh_from from ranges) i ≡ Some shown →
+    (range : Range) × (slice_get ranges i ≡ Some range) × (Running (opening (from + i) range) ≡ shown)
+get_fresh from [] i shown is = cc
+get_fresh from (r ∷ rs) zero shown is = (
+  r,
+  refl,
+  (let e : Running (opening from r) ≡ shown = cc in
+      let z : from + 0 ≡ from = omega arith in
+      subst (λ (n : ℕ). Running (opening n r) ≡ shown) (sym z) e),
+)
+get_fresh from (r ∷ rs) (suc i) shown is =
+    let more = get_fresh (from + 1) rs i shown is in
+    let z : from + 1 + i ≡ from + suc i = omega arith in
+    (more.0, more.1, subst (λ (n : ℕ). Running (opening n more.0) ≡ shown) z more.2)
+
+pub begins : {A : Type 0} (ranges : List Range) (rooms : List ℕ) (printers : List (PrinterActor A))
+    (desks : List (DeskActor A)) (labels : List (LeftLabel A)) (tickets : List TicketView)
+    (exports : List (LeftExport A)) → AreRanges ranges → AreDisjoint ranges → All IsCapacity rooms →
+    AreFresh ranges printers → AreEmpty rooms desks → labels ≡ [] → tickets ≡ [] → exports ≡ [] →
+    StandsFor ranges rooms (world_of printers desks labels tickets exports) []
+begins {A} ranges rooms printers desks labels tickets exports are_ranges disjoint capacities fresh empty no_labels
+    no_tickets no_exports = record {
+      are_ranges = are_ranges;
+      disjoint = disjoint;
+      are_capacities = capacities;
+      relay = start ranges rooms;
+      run = refl;
+      shows = record {
+        printer_count = fresh.count ∙ sym (length-fresh 0 ranges);
+        printers = λ p actor shown is other.
+            let own = get_fresh 0 ranges p shown other in
+            let z : p ≡ 0 + p = omega arith in
+            subst (λ (s : Actor LedgerView). ShowsPrinter actor s) own.2
+            (subst (λ (n : ℕ). ShowsPrinter actor (Running (opening n own.0))) z (fresh.each p own.0 actor own.1 is));
+        desk_count = empty.count ∙ sym (length-map rooms empty_desk);
+        desks = λ d actor desk is other.
+            let own = get_map_from empty_desk rooms d desk other in
+            subst (λ (x : Desk). (actor.capacity ≡ x.room) × ShowsDesk x.room actor.state x.actor) own.2
+            (empty.each d own.0 actor own.1 is);
+        labels = no_labels;
+        tickets = no_tickets;
+        exports = no_exports;
+        entries = λ n export is. cc;
+      };
+    }

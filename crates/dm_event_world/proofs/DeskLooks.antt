@@ -1,0 +1,245 @@
+-- Desks that are asked, that export, and that are opened again: each ends as one of the relay that the desk shows.
+use Rattle.std.proofs.Common.{◌≡◌, ◌++◌, ◌∷◌, inl, inr, ℕ, zero, suc, List, [], Option, Some, None, Result, Ok, Err, length, map, slice_get, refl, sym, ap, subst, ◌∙◌}
+use Rattle.std.specs.Prelude.{IsTrue}
+use Rattle.std.specs.FinMap as finite
+use Rattle.dm_store.specs.Sets.{SavedSet}
+use Rattle.dm_print_ledger.specs.Views.{TicketView}
+use Rattle.dm_assembly_desk.specs.declared.fault.AskFault.{AskFault}
+use Rattle.dm_assembly_desk.specs.declared.fault.AskFault.TheVariants as ask_fault
+use Rattle.dm_assembly_desk.specs.declared.fault.DeskFault.{DeskFault}
+use Rattle.dm_assembly_desk.specs.declared.fault.DeskFault.TheVariants as desk_fault
+use Rattle.dm_assembly_desk.specs.declared.fault.ExportFault.{ExportFault}
+use Rattle.dm_assembly_desk.specs.declared.fault.ExportFault.TheVariants as export_fault
+use Rattle.dm_assembly_desk.specs.Asking.{Asks, Exports, Gives, ask_verdict, export_verdict}
+use Rattle.dm_assembly_desk.specs.Documents.{Documents, HoldsFiles}
+use Rattle.dm_assembly_desk.specs.Files.{IsEntry, file}
+use Rattle.dm_assembly_desk.specs.Opening.{HasDeskFault, Opens}
+use Rattle.dm_assembly_desk.specs.Pages.{Pages, mask}
+use Rattle.dm_assembly_desk.specs.Views.{DeskView, IsInOrder}
+use Rattle.dm_event_history.specs.declared.reply.Reply.{Reply}
+use Rattle.dm_event_history.specs.declared.reply.Reply.TheVariants as replies
+use Rattle.dm_event_history.specs.Actors.{Actor, Running, Failed, Down, stored_of}
+use Rattle.dm_event_history.specs.Relay.{Export, Goods, nothing}
+use Rattle.dm_event_history.specs.Calls.{Ending, Looks, MayLackFirst, Restarts, ending}
+use Rattle.dm_event_history.specs.DeskCalls.{AskTells, ExportTells, ExportsHeld, ask_reply}
+use Rattle.dm_event_world.specs.declared.actor.DeskState.{DeskState}
+use Rattle.dm_event_world.specs.declared.actor.DeskState.TheVariants as desks
+use Rattle.dm_event_world.specs.declared.actor.LeftExport.{LeftExport}
+use Rattle.dm_event_world.specs.declared.actor.LeftLabel.{LeftLabel}
+use Rattle.dm_event_world.specs.Shows.{ShowsDesk, StoresDocuments, left_export}
+use Rattle.dm_event_world.specs.inner.Ends.{EndsEach, EndsSo, Left}
+use Rattle.dm_event_world.specs.inner.Desks.{desk_saved}
+use Rattle.dm_event_world.proofs.Endings.{IsEmpty, empty, lacks_first, none_left, not_first, with_goods}
+use Rattle.dm_assembly_desk.proofs.StoredFiles.{only_memory}
+
+-- a desk that is down answers so
+pub down_answers : {A : Type 0} (room : ℕ) (Acts : Actor Documents → Ending A Documents → Type 0) →
+    ((stored : Documents) → Acts (Down stored) (ending replies.Down (Down stored) nothing)) →
+    (exports : List (LeftExport A)) (state : DeskState A) (saved : _) → state ≡ desks.Down saved →
+    EndsEach (ShowsDesk room) Acts (λ goods. Left [] [] exports goods [] [] exports) state replies.Down state
+down_answers {A} room Acts acts exports state saved is shown s =
+    by_shown shown (subst (λ (a : DeskState A). ShowsDesk room a shown) is s) s
+  where
+    by_shown : (shown : Actor Documents) → ShowsDesk {A = A} room (desks.Down saved) shown → ShowsDesk room state shown →
+        EndsSo (ShowsDesk room) Acts (λ goods. Left [] [] exports goods [] [] exports) shown replies.Down state
+    by_shown (Running held) t s = absurd t
+    by_shown (Failed held stored) t s = absurd t
+    by_shown (Down stored) t s = record {
+      end = ending replies.Down (Down stored) nothing;
+      acts = acts stored;
+      reply_is = refl;
+      shows = s;
+      lets = none_left [] [] exports nothing empty;
+    }
+
+-- memory for an export among the others is refused
+pub lacks_its : {A : Type 0} (room : ℕ) (Acts : Actor Documents → Ending A Documents → Type 0)
+    (exports : List (LeftExport A)) (state : DeskState A) (view : DeskView) → state ≡ desks.Running view →
+    EndsEach (ShowsDesk room) (MayLackFirst Acts) (λ goods. Left [] [] exports goods [] [] exports) state replies.Memory
+    state
+lacks_its {A} room Acts exports state view is shown s =
+    with_goods (ShowsDesk room) (MayLackFirst Acts) (MayLackFirst Acts) IsEmpty _ shown replies.Memory state
+    (λ end acts. acts) (none_left [] [] exports)
+    (lacks_first (ShowsDesk room) Acts state
+    (λ stored down. (subst (λ (a : DeskState A). ShowsDesk room a (Down stored)) is down)) shown s)
+
+-- what is shown answers, and lets these goods out
+pub looks_so : {A : Type 0} (room : ℕ) (Tells : Documents → Reply A → Goods → Type 0) (Q : Goods → Type 0)
+    (state : DeskState A) (view : DeskView) (reply : Reply A) (goods : Goods) → state ≡ desks.Running view →
+    Tells view.held reply goods → Q goods → EndsEach (ShowsDesk room) (Looks Tells) Q state reply state
+looks_so {A} room Tells Q state view reply goods is tells q shown s =
+    by_shown shown (subst (λ (a : DeskState A). ShowsDesk room a shown) is s) s
+  where
+    by_shown : (shown : Actor Documents) → ShowsDesk {A = A} room (desks.Running view) shown → ShowsDesk room state shown →
+        EndsSo (ShowsDesk room) (Looks Tells) Q shown reply state
+    by_shown (Running held) t s = record {
+      end = ending reply (Running held) goods;
+      acts = (subst (λ (d : Documents). Tells d reply goods) t.held_is tells, refl);
+      reply_is = refl;
+      shows = s;
+      lets = q;
+    }
+    by_shown (Failed held stored) t s = record {
+      end = ending reply (Failed held stored) goods;
+      acts = (subst (λ (d : Documents). Tells d reply goods) t.held_is tells, refl);
+      reply_is = refl;
+      shows = s;
+      lets = q;
+    }
+    by_shown (Down stored) t s = absurd t
+
+-- ---- asks
+
+pub given_so : {X : Type 0} (list : X → List ℕ) (verdict : Result (List ℕ) AskFault) (given : X) →
+    Gives list ask_fault.Memory verdict (Ok given) → Gives (λ bytes. bytes) ask_fault.Memory verdict (Ok (list given))
+given_so list (Ok bytes) given g = g
+given_so list (Err fault) given g = absurd (cc (g))
+
+pub refused_so : (X : Type 0) (list : X → List ℕ) (verdict : Result (List ℕ) AskFault) (fault : AskFault) →
+    Gives {X = X} list ask_fault.Memory verdict (Err fault) →
+    Gives (λ (bytes : List ℕ). bytes) ask_fault.Memory verdict (Err fault)
+refused_so X list (Ok bytes) fault g = g
+refused_so X list (Err own) fault g = ap (λ (f : AskFault). Err f) (same g)
+  where
+    same : ◌≡◌ {A = Result X AskFault} (Err fault) (Err own) → fault ≡ own
+    same e = cc (e)
+
+pub asked : {A : Type 0} (room id : ℕ) (state : DeskState A) (view : DeskView) (answer : Result (List ℕ) AskFault) →
+    state ≡ desks.Running view → Asks (λ bytes. bytes) (finite.get view.held id) answer →
+    EndsEach {A = A} (ShowsDesk room) (Looks (AskTells id)) (λ goods. Left {A = A} [] [] [] goods [] [] []) state
+    (ask_reply answer) state
+asked {A} room id state view answer is asks =
+    looks_so room (AskTells {A = A} id) _ state view (ask_reply answer) nothing is (answer, asks, refl, refl)
+    (none_left [] [] [] nothing empty)
+
+-- ---- exports
+
+export_so : {A : Type 0} (room before id : ℕ) (exports all : List (LeftExport A)) (state : DeskState A) (view : DeskView)
+    (reply : Reply A) (goods : Goods) → state ≡ desks.Running view →
+    ExportsHeld before id (finite.get view.held id) reply goods → Left [] [] exports goods [] [] all →
+    EndsEach {A = A} (ShowsDesk room) (MayLackFirst (Looks (ExportTells before id)))
+    (λ goods. Left [] [] exports goods [] [] all) state reply state
+export_so {A} room before id exports all state view reply goods is tells left shown s =
+    with_goods (ShowsDesk room) (Looks (ExportTells before id)) (MayLackFirst (Looks (ExportTells before id))) _ _ shown
+    reply state (not_first (Looks (ExportTells before id)) shown) (λ g q. q)
+    (looks_so room (ExportTells before id) (λ g. Left [] [] exports g [] [] all) state view reply goods is tells left shown
+    s)
+
+pub not_held : {A : Type 0} (room before id : ℕ) (exports : List (LeftExport A)) (state : DeskState A) (view : DeskView) →
+    state ≡ desks.Running view → finite.get view.held id ≡ None →
+    EndsEach {A = A} (ShowsDesk room) (MayLackFirst (Looks (ExportTells before id)))
+    (λ goods. Left [] [] exports goods [] [] exports) state (replies.ExportRefused export_fault.NotHeld) state
+not_held {A} room before id exports state view is none =
+    export_so room before id exports exports state view (replies.ExportRefused export_fault.NotHeld) nothing is
+    (subst (λ (o : Option Pages). ExportsHeld {A = A} before id o (replies.ExportRefused export_fault.NotHeld) nothing)
+    (sym none) (refl, refl)) (none_left [] [] exports nothing empty)
+
+pub no_bytes : {A X : Type 0} (list : X → List ℕ) (room before id : ℕ) (exports : List (LeftExport A))
+    (state : DeskState A) (view : DeskView) (pages : Pages) (fault : ExportFault) → state ≡ desks.Running view →
+    finite.get view.held id ≡ Some pages → Exports {X = X} list id (finite.get view.held id) (Err fault) →
+    EndsEach {A = A} (ShowsDesk room) (MayLackFirst (Looks (ExportTells before id)))
+    (λ goods. Left [] [] exports goods [] [] exports) state (replies.ExportRefused fault) state
+no_bytes {A} {X} list room before id exports state view pages fault is at refused =
+    export_so room before id exports exports state view (replies.ExportRefused fault) nothing is
+    (subst (λ (o : Option Pages). ExportsHeld {A = A} before id o (replies.ExportRefused fault) nothing) (sym at)
+    (inr (ap (λ (f : ExportFault). refusal f) memory, refl))) (none_left [] [] exports nothing empty)
+  where
+    refusal : ExportFault → Reply A
+    refusal f = replies.ExportRefused f
+
+    memory : fault ≡ export_fault.Memory
+    memory = subst (λ (o : Option Pages). Exports {X = X} list id o (Err fault)) at refused
+
+pub exported : {A : Type 0} (room id : ℕ) (exports all : List (LeftExport A)) (state : DeskState A) (view : DeskView)
+    (pages : Pages) (bytes : List ℕ) (index n bits : ℕ) → state ≡ desks.Running view → IsInOrder view →
+    finite.get view.held id ≡ Some pages → bytes ≡ file id pages → index ≡ length exports → n ≡ length pages →
+    bits ≡ mask pages → all ≡ exports ++ record { bytes = bytes; id = id; count = n; mask = bits } ∷ [] →
+    EndsEach {A = A} (ShowsDesk room) (MayLackFirst (Looks (ExportTells (length exports) id)))
+    (λ goods. Left [] [] exports goods [] [] all) state (replies.Exported index id n bits) state
+exported {A} room id exports all state view pages bytes index n bits is order at bytes_are index_is n_is bits_are all_is =
+    export_so room (length exports) id exports all state view (replies.Exported index id n bits) goods is
+    (subst (λ (o : Option Pages). ExportsHeld {A = A} (length exports) id o (replies.Exported index id n bits) goods)
+    (sym at) (inl (told, refl)))
+    (record {
+      labels_are = refl;
+      tickets_are = refl;
+      exports_are = all_is ∙ ap (λ (x : LeftExport A). exports ++ x ∷ []) left;
+      entries = entries;
+    })
+  where
+    export : Export
+    export = record { id = id; pages = pages }
+
+    goods : Goods
+    goods = record { labels = []; tickets = []; exports = record { id = id; pages = pages } ∷ []; moves = [] }
+
+    as_left : List ℕ → ℕ → ℕ → LeftExport A
+    as_left b k m = record { bytes = b; id = id; count = k; mask = m }
+
+    left : as_left bytes n bits ≡ as_left (file id pages) (length pages) (mask pages)
+    left = ap (λ (b : List ℕ). as_left b n bits) bytes_are ∙ ap (λ (k : ℕ). as_left (file id pages) k bits) n_is ∙
+        ap (λ (m : ℕ). as_left (file id pages) (length pages) m) bits_are
+
+    reply_of : ℕ → ℕ → ℕ → Reply A
+    reply_of i k m = replies.Exported i id k m
+
+    told : reply_of index n bits ≡ reply_of (length exports) (length pages) (mask pages)
+    told = ap (λ (i : ℕ). reply_of i n bits) index_is ∙ ap (λ (k : ℕ). reply_of (length exports) k bits) n_is ∙
+        ap (λ (m : ℕ). reply_of (length exports) (length pages) m) bits_are
+
+    entries : (number : ℕ) (e : Export) → slice_get goods.exports number ≡ Some e → IsEntry e.id e.pages
+    entries zero e there =
+        let same : record { id = id; pages = pages } ≡ e = cc (there) in
+        subst (λ (x : Export). IsEntry x.id x.pages) same (order.entries id pages at)
+    entries (suc n) e there = absurd (cc (there))
+
+-- ---- restarts
+
+stored_store : {A : Type 0} (room : ℕ) (state : DeskState A) (shown : Actor Documents) → ShowsDesk room state shown →
+    StoresDocuments (desk_saved state) room (stored_of shown)
+stored_store room (desks.Running view) (Running held) s = s.store
+stored_store room (desks.Running view) (Failed held stored) s = s.store
+stored_store room (desks.Running view) (Down stored) s = absurd s
+stored_store room (desks.Down saved) (Running held) s = absurd s
+stored_store room (desks.Down saved) (Failed held stored) s = absurd s
+stored_store room (desks.Down saved) (Down stored) s = s
+
+pub restarted : {A : Type 0} (room : ℕ) (state : DeskState A) (saved : SavedSet) (view : DeskView) →
+    saved ≡ desk_saved state → Opens saved room view →
+    ((held : Documents) → IsTrue saved.is_honest → HoldsFiles saved.content held → view.held ≡ held) →
+    EndsEach {A = A} (ShowsDesk room) (Restarts (replies.DeskRefused desk_fault.Memory))
+    (λ goods. Left {A = A} [] [] [] goods [] [] []) state replies.Restarted (desks.Running view)
+restarted {A} room state saved view is opens found shown s =
+    let store : StoresDocuments saved room (stored_of shown) =
+    subst (λ (x : SavedSet). StoresDocuments x room (stored_of shown)) (sym is) (stored_store room state shown s) in
+    record {
+      end = ending replies.Restarted (Running (stored_of shown)) nothing;
+      acts = inl refl;
+      reply_is = refl;
+      shows = record {
+        store = subst (λ (x : SavedSet). StoresDocuments x room (stored_of shown)) (sym opens.same) store;
+        capacity = opens.capacity_is;
+        failed = opens.running;
+        held_is = found (stored_of shown) store.ready.honest store.holds;
+      };
+      lets = none_left [] [] [] nothing empty;
+    }
+
+pub restart_refused : {A : Type 0} (room : ℕ) (state : DeskState A) (saved back : SavedSet) (fault : DeskFault) →
+    saved ≡ desk_saved state → HasDeskFault saved room fault → back ≡ saved →
+    EndsEach {A = A} (ShowsDesk room) (Restarts (replies.DeskRefused desk_fault.Memory))
+    (λ goods. Left {A = A} [] [] [] goods [] [] []) state (replies.DeskRefused fault) (desks.Down back)
+restart_refused {A} room state saved back fault is refused back_is shown s =
+    let store : StoresDocuments saved room (stored_of shown) =
+    subst (λ (x : SavedSet). StoresDocuments x room (stored_of shown)) (sym is) (stored_store room state shown s) in
+    record {
+      end = ending (replies.DeskRefused desk_fault.Memory) (Down (stored_of shown)) nothing;
+      acts = inr refl;
+      reply_is = ap refusal (only_memory saved room (stored_of shown) store.ready.honest store.holds store.is_room store.few
+          store.ready.loads_fine fault refused);
+      shows = subst (λ (x : SavedSet). StoresDocuments x room (stored_of shown)) (sym back_is) store;
+      lets = none_left [] [] [] nothing empty;
+    }
+  where
+    refusal : DeskFault → Reply A
+    refusal f = replies.DeskRefused f

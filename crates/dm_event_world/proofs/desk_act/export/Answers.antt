@@ -1,0 +1,52 @@
+use Rattle.std.proofs.Common.{◌≡◌, ◌++◌, ◌∷◌, [], Ok, Option, Vec, ℕ, List, length, refl, sym, ap, subst, ◌∙◌, arith}
+use Rattle.dm_assembly_desk.specs.Asking.{Exports}
+use Rattle.dm_assembly_desk.specs.Pages.{Pages}
+use Rattle.dm_event_history.specs.Calls.{Looks, MayLackFirst}
+use Rattle.dm_event_history.specs.DeskCalls.{ExportTells}
+use Rattle.dm_event_world.proofs.DeskLooks.{down_answers, exported, lacks_its, no_bytes, not_held}
+use Rattle.dm_event_world.proofs.desk_act.export.Goals as goal
+
+pub returns-in_default : goal.returns-in_default
+returns-in_default g c = record {
+  ends = λ room. down_answers room (MayLackFirst (Looks (ExportTells (length c.args.exports.now.items) c.args.id)))
+      (λ stored. refl) c.args.exports.now.items c.args.state.now c.in_default.field-0 c.in_default.is;
+}
+
+pub returns-then-is_err : goal.returns-then-is_err
+returns-then-is_err g c = record {
+  ends = λ room. rw c.reserve.ensures.items (lacks_its room (Looks (ExportTells (length c.args.exports.now.items) c.args.id))
+      c.args.exports.now.items c.args.state.now c.in-Running.desk c.in-Running.is);
+}
+
+pub returns-in_default-pages : goal.returns-in_default-pages
+returns-in_default-pages g c = record {
+  ends = λ room. rw c.reserve.ensures.items (not_held room (length c.args.exports.now.items) c.args.id
+      c.args.exports.now.items c.args.state.now c.in-Running.desk c.in-Running.is
+      (sym c.pages.ensures.held ∙ c.in_default-pages.is));
+}
+
+pub returns-in-Err : goal.returns-in-Err
+returns-in-Err g c = record {
+  ends = λ room. rw c.reserve.ensures.items (no_bytes {X = Vec ℕ g.row.A.Denot} (λ v. v.items) room
+      (length c.args.exports.now.items) c.args.id c.args.exports.now.items c.args.state.now c.in-Running.desk
+      c.in-Some.pages c.in-Err.fault c.in-Running.is (sym c.pages.ensures.held ∙ c.in-Some.is) c.in-Err.ensures.exports);
+}
+
+pub returns : goal.returns
+returns g c =
+    let at = sym c.pages.ensures.held ∙ c.in-Some.is in
+    let index : c.len-index.result ≡ length c.args.exports.now.items =
+    omega (arith, c.len-index.ensures, c.reserve.ensures.len, c.args.exports.now.ok.0) in
+    let all : c.push_reserved.new.self.items ≡ c.args.exports.now.items ++ record {
+      bytes = c.in-Ok.bytes.items;
+      id = c.args.id;
+      count = c.n-n.result;
+      mask = c.mask-mask.result;
+    } ∷ [] = rw c.reserve.ensures.items at c.push_reserved.ensures.items in
+    record {
+      ends = λ room. exported room c.args.id c.args.exports.now.items c.push_reserved.new.self.items c.args.state.now
+          c.in-Running.desk c.in-Some.pages c.in-Ok.bytes.items c.len-index.result c.n-n.result c.mask-mask.result
+          c.in-Running.is c.pages.ensures.order at
+          (subst (λ (o : Option Pages). Exports {X = Vec ℕ g.row.A.Denot} (λ v. v.items) c.args.id o (Ok c.in-Ok.bytes)) at
+          c.in-Ok.ensures.exports) index c.n-n.ensures c.mask-mask.ensures.mask all;
+    }

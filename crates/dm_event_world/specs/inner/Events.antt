@@ -1,0 +1,37 @@
+-- Events of a world.
+use Rattle.std.specs.Prelude.{◌≡◌, ◌↔◌, true, List, [], ◌∷◌}
+use Rattle.dm_event_history.specs.declared.event.Event.{Event}
+use Rattle.dm_event_history.specs.declared.reply.Reply.{Reply}
+use Rattle.dm_event_history.specs.Places.{IsInOrder}
+use Rattle.dm_event_history.specs.Relay.{Relay}
+use Rattle.dm_event_history.specs.Steps.{Step}
+use Rattle.dm_event_world.specs.declared.answers.Answer.{Answer}
+use Rattle.dm_event_world.specs.declared.answers.Answer.TheVariants.{Given, NotGiven}
+use Rattle.dm_event_world.specs.Shows.{Shows}
+use Rattle.dm_event_world.specs.StandsFor.{GoesOn}
+use Rattle.dm_event_world.specs.Worlds.{IsFairIn, IsLookedAt, WorldView}
+
+-- the relay takes the event on, and the world shows what it is then
+pub record TakesOn {A : Type 0} (relay : Relay) (event : Event A) (reply : Reply A) (new : WorldView A) : Type 0 where
+  pub next : Relay
+  pub step : Step relay event reply next
+  pub shows : Shows new next
+
+-- so does each relay that the world showed
+abbrev pub Steps : {A : Type 0} → WorldView A → Event A → Reply A → WorldView A → Type 0
+Steps old event reply new = (relay : Relay) → IsInOrder relay → Shows old relay → TakesOn relay event reply new
+
+-- An event that is looked at first: it is given to the world, and found honest exactly where it is fair, or names what
+-- is not there. Only a scan of what is there can go without being given, if memory for the look is refused; it changes
+-- nothing.
+abbrev pub Answers : {A : Type 0} → WorldView A → Event A → Answer A → WorldView A → Type 0
+Answers old event (Given is_honest reply) new = ((is_honest ≡ true) ↔ IsFairIn old event) × GoesOn old event reply new
+Answers old event NotGiven new = IsLookedAt old event × (new ≡ old)
+
+-- so it is for each event
+abbrev pub AnswersAll : {A : Type 0} → WorldView A → List (Event A) → List (Answer A) → WorldView A → Type 0
+AnswersAll old [] [] new = new ≡ old
+AnswersAll {A} old (event ∷ events) (answer ∷ answers) new =
+    (mid : WorldView A) × Answers old event answer mid × AnswersAll mid events answers new
+AnswersAll old [] (answer ∷ answers) new = ⊥
+AnswersAll old (event ∷ events) [] new = ⊥

@@ -1,2 +1,0 @@
--- What only contracts of private functions cite.
-pub mod Prints

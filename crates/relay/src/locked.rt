@@ -1,0 +1,296 @@
+//! Files that lock themselves.
+
+ghost use Rattle.std.specs.Prelude.{◌≡◌};
+ghost use Rattle.relay.specs.Files.{locks};
+
+use crate::lock::{Lock, LockFault};
+use crate::place::{Access, Place};
+use dm_store::{Disk, DiskFault, Folders, LoadFault};
+use std::cell::{Cell, OnceCell};
+use std::fs::{File, Metadata};
+use std::io::ErrorKind;
+use std::os::unix::fs::MetadataExt;
+use std::rt::Files;
+
+// The endings of what is made beside a ledger or a desk.
+const OWN_ENDINGS: [&str; 3] = [".new", ".lock", ".pages"];
+
+// The length of a joint file that has no documents.
+const EMPTY_JOINT_FILE_BYTES: u64 = 7;
+
+/// Why a command does not find or does not get its files. What each says stands in [`crate::notes`].
+#[derive(Clone, Copy)]
+pub(crate) enum Reason {
+    NoDesk,
+    LostLink,
+    LostFolder,
+    NoPlainFile,
+    Unknown,
+    OwnEnding,
+    SecondName,
+    Busy,
+    NoLock,
+    LostLock,
+    /// There was no folder for it, or nothing at all when it was first looked at.
+    NotLocked,
+    Taken,
+}
+
+/// What is at the paths of a command.
+#[derive(Clone, Copy, Debug, PartialEq, Eq)]
+pub(crate) struct Found {
+    /// Whether anything is there.
+    pub(crate) is_any: bool,
+    /// Whether a file is there that may have documents of a joint file.
+    pub(crate) has_documents: bool,
+}
+
+// Whether a command locks its files at its first load.
+fn locks_files(access: Access, is_desk: bool, found: Found) -> bool
+    ensures { result ≡ locks access is_desk found }
+{
+    match access {
+        // A ledger is not made where something is.
+        Access::Makes => is_desk || !found.is_any,
+        Access::Saves => found.is_any,
+        Access::Reads | Access::Moves => found.has_documents,
+        Access::Looks => false,
+    }
+}
+
+// The plain file of a command, if surely something is there.
+fn file_at<R: Files>(rt: &R, place: &Place) -> Result<Option<Metadata>, Reason> {
+    if place.is_file_lost {
+        return Err(Reason::LostLink);
+    }
+    match rt.metadata(place.file.as_str()) {
+        Ok(metadata) => {
+            if metadata.is_file() {
+                Ok(Some(metadata))
+            } else {
+                Err(Reason::NoPlainFile)
+            }
+        }
+        Err(error) if error.kind() == ErrorKind::NotFound => Ok(None),
+        Err(_) => Err(Reason::Unknown),
+    }
+}
+
+// Whether a file has a name beside its own, and beside that of its draft, which a stop may have left it.
+fn has_second_name<R: Files>(rt: &R, place: &Place, file: &Metadata) -> bool {
+    let is_draft = matches!(rt.symlink_metadata(place.draft.as_str()), Ok(draft)
+        if (draft.dev(), draft.ino()) == (file.dev(), file.ino()));
+    file.nlink() > 1 + u64::from(is_draft)
+}
+
+/// The files of one command, which its stores share: they are looked at, and locked if the command may save, at its
+/// first load. The lock is held until this is closed.
+#[derive(Drop)]
+pub(crate) struct Gate<'a, R> {
+    rt: &'a R,
+    place: &'a Place,
+    // What came of the first load: the lock, if the command takes one, or why it can't have its files.
+    entered: OnceCell<Result<Option<Lock>, Reason>>,
+    has_saved: Cell<bool>,
+    /// Why the command did not find or did not get its files, if it didn't.
+    pub(crate) reason: Cell<Option<Reason>>,
+    /// Whether the folder could not be listed.
+    pub(crate) has_no_list: Cell<bool>,
+    /// The path of the file that the command has loaded last, if it has loaded one.
+    pub(crate) loaded: Cell<Option<String>>,
+}
+
+impl<'a, R: AllocGlobal + Files<File = File>> Gate<'a, R> {
+    /// The files at a place, which were not asked for yet.
+    pub(crate) fn new(rt: &'a R, place: &'a Place) -> Gate<'a, R> {
+        Gate {
+            rt,
+            place,
+            entered: OnceCell::new(),
+            has_saved: Cell::new(false),
+            reason: Cell::new(None),
+            has_no_list: Cell::new(false),
+            loaded: Cell::new(None),
+        }
+    }
+
+    /// Ends the lock. A lock file that this command has made for nothing is taken away first.
+    pub(crate) fn close(mut self) {
+        if self.has_saved.get() {
+            return;
+        }
+        if let Some(Ok(Some(lock))) = self.entered.take() {
+            lock.take_away(self.rt, self.place.lock.as_str());
+        }
+    }
+
+    // Looks at what is there, and locks it if the command may save.
+    fn enter(&self) -> Result<Option<Lock>, Reason> {
+        let (rt, place) = (self.rt, self.place);
+        let file = file_at(rt, place)?;
+        let has_folder = place.is_desk && rt.symlink_metadata(place.folder.as_str()).is_ok();
+        let found = Found {
+            is_any: file.is_some() || has_folder,
+            has_documents: matches!(&file, Some(file) if file.len() > EMPTY_JOINT_FILE_BYTES),
+        };
+        if !found.is_any
+            && place.is_desk
+            && !matches!(place.access, Access::Makes | Access::Moves)
+        {
+            self.reason.set(Some(Reason::NoDesk));
+        }
+        if !locks_files(place.access, place.is_desk, found) {
+            return Ok(None);
+        }
+        if !found.is_any
+            && OWN_ENDINGS
+                .iter()
+                .any(|ending| place.file.as_str().ends_with(*ending))
+        {
+            return Err(Reason::OwnEnding);
+        }
+        if matches!(&file, Some(file) if has_second_name(rt, place, file)) {
+            return Err(Reason::SecondName);
+        }
+        match Lock::take(rt, place.lock.as_str()) {
+            Ok(lock) => Ok(Some(lock)),
+            // So nothing is there to be loaded.
+            Err(LockFault::NoFolder) => Ok(None),
+            Err(LockFault::Busy) => Err(Reason::Busy),
+            Err(LockFault::Refused) => Err(Reason::NoLock),
+        }
+    }
+
+    // Says whether the command may go on, and keeps why not.
+    fn allows(&self, answer: Result<(), Reason>) -> bool {
+        if let Err(reason) = answer {
+            self.reason.set(Some(reason));
+        }
+        answer.is_ok()
+    }
+
+    // Whether the command may load what is at a path.
+    fn may_load(&self, path: &str) -> bool {
+        if self.entered.get().is_none() {
+            let _ = self.entered.set(self.enter());
+        }
+        let place = self.place;
+        let is_lost = place.is_folder_lost && path.starts_with(place.folder.as_str());
+        self.allows(match self.entered.get() {
+            Some(Err(reason)) => Err(*reason),
+            _ if is_lost => Err(Reason::LostFolder),
+            _ => Ok(()),
+        })
+    }
+
+    // Whether the command may save: its lock is held, and other programs find it.
+    fn may_save(&self) -> bool {
+        self.has_saved.set(true);
+        self.allows(match self.entered.get() {
+            Some(Ok(Some(lock))) if lock.is_in_place(self.rt, self.place.lock.as_str()) => Ok(()),
+            Some(Ok(Some(_))) => Err(Reason::LostLock),
+            _ => Err(Reason::NotLocked),
+        })
+    }
+
+    // Keeps why a rename has failed, if something has come to the place of a new ledger.
+    fn look_at_place(&self) {
+        let place = self.place;
+        let is_new = place.access == Access::Makes && !place.is_desk;
+        if is_new && self.rt.symlink_metadata(place.file.as_str()).is_ok() {
+            self.reason.set(Some(Reason::Taken));
+        }
+    }
+}
+
+/// The disk of a command's files, behind its gate. What the gate refuses is a device fault. It looks at the lock right
+/// before each call that makes, renames or removes.
+#[derive(Drop)]
+pub(crate) struct Locked<'a, R, D> {
+    gate: &'a Gate<'a, R>,
+    within: D,
+}
+
+impl<'a, R, D> Locked<'a, R, D> {
+    pub(crate) fn new(gate: &'a Gate<'a, R>, within: D) -> Locked<'a, R, D> {
+        Locked { gate, within }
+    }
+}
+
+impl<R: AllocGlobal + Files<File = File>, D: Disk> Disk for Locked<'_, R, D> {
+    type Memory = D::Memory;
+
+    ghost state = { λ locked. D.state locked.within };
+
+    ghost leaves_seen = { λ locked. D.leaves_seen locked.within };
+
+    fn read(&mut self, name: &str, limit: usize) -> Result<Option<Vec<u8, D::Memory>>, LoadFault> {
+        if !self.gate.may_load(name) {
+            return Err(LoadFault::Device);
+        }
+        let kept = String::from_str(self.gate.rt.alloc(), name);
+        self.gate.loaded.set(kept.ok());
+        self.within.read(name, limit)
+    }
+
+    fn write(&mut self, name: &str, bytes: &[u8]) -> Result<(), DiskFault> {
+        if !self.gate.may_save() {
+            return Err(DiskFault::Device);
+        }
+        self.within.write(name, bytes)
+    }
+
+    fn sync(&mut self, name: &str) -> Result<(), DiskFault> {
+        self.within.sync(name)
+    }
+
+    fn rename(&mut self, from: &str, to: &str) -> Result<(), DiskFault> {
+        if !self.gate.may_save() {
+            return Err(DiskFault::Device);
+        }
+        let renamed = self.within.rename(from, to);
+        if renamed.is_err() {
+            self.gate.look_at_place();
+        }
+        renamed
+    }
+
+    fn remove(&mut self, name: &str) -> Result<(), DiskFault> {
+        if !self.gate.may_save() {
+            return Err(DiskFault::Device);
+        }
+        self.within.remove(name)
+    }
+
+    fn sync_entry(&mut self, name: &str) -> Result<(), DiskFault> {
+        self.within.sync_entry(name)
+    }
+
+    fn settle_entry(&mut self, name: &str) -> Result<(), DiskFault> {
+        self.within.settle_entry(name)
+    }
+}
+
+impl<R: AllocGlobal + Files<File = File>, D: Folders> Folders for Locked<'_, R, D> {
+    fn make_folder(&mut self, folder: &str) -> Result<(), DiskFault> {
+        if !self.gate.may_save() {
+            return Err(DiskFault::Device);
+        }
+        self.within.make_folder(folder)
+    }
+
+    fn keys(&mut self, folder: &str, limit: usize) -> Result<Vec<u16, D::Memory>, LoadFault> {
+        if !self.gate.may_load(folder) {
+            return Err(LoadFault::Device);
+        }
+        let keys = self.within.keys(folder, limit);
+        self.gate
+            .has_no_list
+            .set(matches!(&keys, Err(LoadFault::Device)));
+        keys
+    }
+
+    fn settle_folder(&mut self, folder: &str) -> Result<(), DiskFault> {
+        self.within.settle_folder(folder)
+    }
+}

@@ -1,0 +1,150 @@
+//! What goes to the standard error beside the line of a refusal, since that line can't say it. Each note is one line,
+//! and is written at once.
+
+use crate::locked::Reason;
+use crate::place::Place;
+use dm_append_label::FileId;
+use dm_assembly_desk::{JointFile, MOST_JOINT_FILE_BYTES, MoveFault, held_at};
+use dm_store::{FileSet, FileStore, LoadFault, RealDisk, Store};
+use relay_desk_commands::Notes;
+use std::alloc::{AllocError, Global};
+use std::io::Read;
+use std::rt::Files;
+
+// In how many pieces the names of a folder are read at most.
+const MOST_PIECES: usize = 65_536;
+
+// The line `relay: NAME: WHY`. What could end the line, or show it as another, is escaped in the name, as are
+// quotes and backslashes.
+fn line_of(alloc: Global, name: &str, why: &str) -> Result<String, AllocError> {
+    let name = name.escape_debug();
+    format!(in alloc; "relay: {name}: {why}\n")
+}
+
+/// Notes why something was refused. Where there is no memory for the line, nothing is said.
+pub(crate) fn note<R: AllocGlobal + Eprint>(rt: &R, name: &str, why: &str) {
+    if let Ok(line) = line_of(rt.alloc(), name, why) {
+        let _ = eprint!(rt; "{line}");
+    }
+}
+
+/// Notes refused images, as `relay: image N: NAME`, or `relay: image N (IIII): NAME` if it is a label of this
+/// identification.
+#[derive(Drop)]
+pub(crate) struct RefusedImages<'a, R> {
+    rt: &'a R,
+}
+
+impl<'a, R> RefusedImages<'a, R> {
+    pub(crate) fn new(rt: &'a R) -> RefusedImages<'a, R> {
+        RefusedImages { rt }
+    }
+}
+
+impl<R: AllocGlobal + Eprint> Notes for RefusedImages<'_, R> {
+    fn note(&mut self, image: u32, id: Option<FileId>, name: &str) {
+        let alloc = self.rt.alloc();
+        let which = match id {
+            Some(id) => {
+                let (first, second) = id.words();
+                format!(in alloc; "image {image} ({first:02x}{second:02x})")
+            }
+            None => format!(in alloc; "image {image}"),
+        };
+        if let Ok(which) = which {
+            note(self.rt, which.as_str(), name);
+        }
+    }
+}
+
+/// Notes why a command did not find or did not get its files; `file` is the path that it names.
+pub(crate) fn note_reason<R: AllocGlobal + Eprint>(
+    rt: &R,
+    file: &str,
+    place: &Place,
+    reason: Reason,
+) {
+    let (folder, lock) = (place.folder.as_str(), place.lock.as_str());
+    let (path, why) = match reason {
+        Reason::NoDesk => (file, "there is no desk"),
+        Reason::LostLink => (file, "a link that leads nowhere"),
+        Reason::LostFolder => (folder, "a link that leads nowhere"),
+        Reason::NoPlainFile => (file, "not a plain file"),
+        Reason::Unknown => (file, "can't be looked at"),
+        Reason::OwnEnding => (
+            file,
+            "paths that end in .new, .lock or .pages are for other files",
+        ),
+        Reason::SecondName => (file, "has a second name"),
+        Reason::Busy => (file, "another program is at work there"),
+        Reason::NoLock => (lock, "can't be locked"),
+        Reason::LostLock => (lock, "was removed or replaced"),
+        Reason::NotLocked => (file, "nothing can be saved there"),
+        Reason::Taken => (file, "something has come there meanwhile"),
+    };
+    note(rt, path, why);
+}
+
+// The fault of a file of a desk, if it has one: of the joint file, or of one in the folder, whose name is its key.
+fn fault_in<R: AllocGlobal + Files + Clone>(
+    rt: &R,
+    place: &Place,
+    path: &str,
+) -> Result<Option<&'static str>, AllocError> {
+    let (alloc, disk) = (rt.alloc(), RealDisk::new(rt.alloc(), rt));
+    if path != place.file.as_str() {
+        let digits = path.rsplit('/').next().unwrap_or(path);
+        let Ok(key) = u16::from_str_radix(digits, 16) else {
+            return Ok(None);
+        };
+        let mut set = FileSet::new(alloc, disk, place.folder.clone()?);
+        return Ok(held_at(&mut set, key).err().map(|fault| fault.name()));
+    }
+    let mut joint = FileStore::new(alloc, disk, place.file.clone()?);
+    match joint.load(MOST_JOINT_FILE_BYTES) {
+        Ok(Some(bytes)) => Ok(JointFile::read(&bytes).err().map(|fault| fault.name())),
+        Ok(None) => Ok(None),
+        Err(LoadFault::Device) => Ok(Some(MoveFault::Device.name())),
+        Err(LoadFault::Memory) => Err(AllocError),
+    }
+}
+
+/// Notes the fault of the file that a desk's command has loaded last, if it has one: the command has ended there. Where
+/// memory is refused nothing is said.
+pub(crate) fn note_faulty_file<R: AllocGlobal + Eprint + Files + Clone>(
+    rt: &R,
+    place: &Place,
+    path: &str,
+) {
+    if let Ok(Some(name)) = fault_in(rt, place, path) {
+        note(rt, path, name);
+    }
+}
+
+// The first name in a folder that is not UTF-8, escaped, if it has one. Each name ends with a byte 0.
+fn odd_name<R: AllocGlobal + Files>(rt: &R, folder: &str) -> Option<String> {
+    let path = format!(in rt.alloc(); "{folder}/").ok()?;
+    let mut names = rt.open_dir(path.as_str()).ok()?;
+    let mut piece = [0u8; 4096];
+    for _ in 0..MOST_PIECES {
+        let count = names.read(&mut piece).ok()?;
+        if count == 0 {
+            return None;
+        }
+        let mut listed = piece[..count].split(|byte| *byte == 0);
+        if let Some(name) = listed.find(|name| str::from_utf8(name).is_err()) {
+            let escaped = name.escape_ascii();
+            return format!(in rt.alloc(); "the name {escaped} is not UTF-8").ok();
+        }
+    }
+    None
+}
+
+/// Notes why the files in a desk's folder can't be listed.
+pub(crate) fn note_folder<R: AllocGlobal + Eprint + Files>(rt: &R, place: &Place) {
+    let folder = place.folder.as_str();
+    match odd_name(rt, folder) {
+        Some(why) => note(rt, folder, why.as_str()),
+        None => note(rt, folder, "can't be listed"),
+    }
+}
