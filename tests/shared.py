@@ -1,5 +1,6 @@
 """What the scripts of this folder share that spoil files and stop programs: commands, identifications, and readers of
 files that know the formats alone."""
+import os
 import pathlib
 import re
 import subprocess
@@ -7,10 +8,12 @@ import sys
 
 TOP = pathlib.Path(__file__).resolve().parent.parent
 RELAY = str(TOP / "relay")
-PROGRAM = str(TOP / "crates" / "relay_main" / "out" / "relay_main")
+# The program that is tried: the proved one, or the one that the environment names.
+GIVEN = os.environ.get("RELAY_PROGRAM")
+PROGRAM = GIVEN or str(TOP / "crates" / "relay_main" / "out" / "relay_main")
 LETTER = b"Softcairn joins no wrong pages."
 REFUSED_ON_ERRORS = {"draw", "print", "deliver", "export", "copy"}
-NAME_NO_FILE = {"words", "draw", "read", "plan", "ticket", "world"}
+NAME_NO_FILE = {"words", "draw", "read", "plan", "ticket", "world", "explain", "version"}
 
 
 def fail(what):
@@ -18,8 +21,9 @@ def fail(what):
 
 
 def build():
-    """Proves and builds the program, by a call that does nothing else."""
-    subprocess.run([RELAY, "--help"], check=True, stdout=subprocess.DEVNULL)
+    """Proves and builds the program, by a call that does nothing else, if none is given."""
+    if not GIVEN:
+        subprocess.run([RELAY, "--help"], check=True, stdout=subprocess.DEVNULL)
 
 
 def relay(*words, program=PROGRAM, by=(), **options):

@@ -1,21 +1,19 @@
 -- What a verdict on pages that are to be added comes to, by what is held.
-use Rattle.std.proofs.Common.{◌≡◌, ◌≢◌, ◌⊎◌, ◌≤◌, ◌<◌, ◌-◌, ℕ, zero, suc, ◌==◌, ◌&&◌, cond, leb, eqb, Bool, true, false, Option, Some, None, Result, Ok, Err, List, [], ◌∷◌, length, IsSome, inl, inr, refl, ap, sym, subst, ◌∙◌, arith, eq-eqb}
-use Rattle.std.specs.Prelude.{is_none, is_some, not, replicate, slice_index_or, slice_set, unwrap_or}
+use Rattle.std.proofs.Common.{◌≡◌, ◌≢◌, ◌⊎◌, ◌≤◌, ◌-◌, ℕ, zero, suc, ◌&&◌, leb, true, false, Option, Some, None, Result, Ok, Err, List, [], ◌∷◌, length, IsSome, refl, ap, sym, ◌∙◌, arith, eq-eqb}
+use Rattle.std.specs.Prelude.{is_none, is_some, replicate}
 use Rattle.std.specs.FinMap.{get, len}
-use Rattle.std.proofs.lemmas.Bool.{and_parts}
-use Rattle.std.proofs.lemmas.Bool.Decides.{nat_tests}
 use Rattle.dm_append_label.specs.Pages.{PageView}
 use Rattle.dm_assembly_desk.specs.Accepting.{lone}
-use Rattle.dm_assembly_desk.specs.Adding.{add_kind, add_verdict, added_to, kind_of, pages_with, reply_of, verdict_by, with_pages}
+use Rattle.dm_assembly_desk.specs.Adding.{add_kind, add_verdict, reply_of, with_pages}
 use Rattle.dm_assembly_desk.specs.Holding.{Verdict, Stays, Becomes}
 use Rattle.dm_assembly_desk.specs.Documents.{Documents, own_pages, page_at}
-use Rattle.dm_assembly_desk.specs.Merging.{added_mask, agree, may_join}
+use Rattle.dm_assembly_desk.specs.Merging.{added_mask, may_join}
 use Rattle.dm_assembly_desk.specs.Pages.{Pages, mask, names, page}
 use Rattle.dm_assembly_desk.specs.declared.adding.AddFault.{AddFault}
 use Rattle.dm_assembly_desk.specs.declared.adding.AddFault.TheVariants as adds
 use Rattle.dm_assembly_desk.specs.declared.reply.Imported as imported_type
 use Rattle.dm_assembly_desk.specs.declared.reply.Kind.{Kind}
-use Rattle.dm_assembly_desk.specs.declared.reply.Kind.TheVariants.{New, Again, Complete}
+use Rattle.dm_assembly_desk.specs.declared.reply.Kind.TheVariants.{Again}
 use Rattle.dm_assembly_desk.proofs.AddFacts.{names_added}
 use Rattle.dm_assembly_desk.proofs.AddLaws.{kind_says}
 use Rattle.dm_assembly_desk.proofs.LonePages.{length-blank, length-set_at, lone_else}
@@ -34,60 +32,22 @@ pub by_verdict : (P : Verdict Answer → Type 0) (room : ℕ) (held : Documents)
     ((kind : Kind) → kind ≢ Again → add_kind room held id pages ≡ Ok kind →
     P (Becomes (with_pages held id pages) (Ok (reply_of held id pages kind)))) →
     P (add_verdict room held id pages)
-by_verdict P room held id pages refused again adds = by_kind (add_kind room held id pages) refl
-  where
-    by_kind : (judged : Result Kind AddFault) → add_kind room held id pages ≡ judged → P (verdict_by held id pages judged)
-    by_kind (Err fault) is = refused fault is
-    by_kind (Ok Again) is = again is
-    by_kind (Ok New) is = adds New (λ e. cc (e)) is
-    by_kind (Ok Complete) is = adds Complete (λ e. cc (e)) is
-
--- what is saved is told without a fault
-abbrev pub IsDoneWell : Verdict Answer → Type 0
-IsDoneWell (Stays answer) = Unit {0}
-IsDoneWell (Becomes next (Ok added)) = Unit {0}
-IsDoneWell (Becomes next (Err fault)) = ⊥
-
-pub done_well : (room : ℕ) (held : Documents) (id : ℕ) (pages : Pages) → IsDoneWell (add_verdict room held id pages)
-done_well room held id pages =
-    by_verdict IsDoneWell room held id pages (λ fault is. tt) (λ is. tt) (λ kind other is. tt)
+by_verdict P room held id pages refused again adds = grind arith
 
 -- ---- why pages are refused
 
 no_join : (o : Option Pages) (pages : Pages) → may_join o pages ≡ false →
     (own : Pages) × (o ≡ Some own) × ((length own ≢ length pages) ⊎ Differs own pages)
-no_join None pages is = cc (is)
-no_join (Some own) pages is = (own, refl, by_count (length own == length pages) refl is)
-  where
-    by_count : (b : Bool) → (length own == length pages) ≡ b → (b && agree own pages) ≡ false →
-        (length own ≢ length pages) ⊎ Differs own pages
-    by_count true at e = inr (differs own pages e)
-    by_count false at e = inl (λ same. let t : (length own == length pages) ≡ true = eq-eqb _ _ same in cc (t, at))
+no_join o pages is = grind (arith, differs, eq-eqb)
 
 no_room : (o : Option Pages) (room count : ℕ) → (is_none o && leb room count) ≡ true → (o ≡ None) × (room ≤ count)
-no_room None room count is = (refl, grind (arith, nat_tests, is))
-no_room (Some own) room count is = cc (is)
+no_room o room count is = grind arith
 
 -- they disagree with those that are held, or there is no room
 pub add_refuses : (P : AddFault → Type 0) (room : ℕ) (held : Documents) (id : ℕ) (pages : Pages) (fault : AddFault) →
     ((own : Pages) → get held id ≡ Some own → (length own ≢ length pages) ⊎ Differs own pages → P adds.Conflict) →
     (get held id ≡ None → room ≤ len held → P adds.Full) → add_kind room held id pages ≡ Err fault → P fault
-add_refuses P room held id pages fault conflicts full is =
-    by_tests (may_join (get held id) pages) (added_to held id pages == 0) (is_none (get held id) && leb room (len held))
-    refl refl is
-  where
-    by_tests : (joins none filled : Bool) → may_join (get held id) pages ≡ joins →
-        (is_none (get held id) && leb room (len held)) ≡ filled →
-        ◌≡◌ {A = Result Kind AddFault} (cond (not joins) (Err adds.Conflict) (cond none (Ok Again)
-        (cond filled (Err adds.Full) (Ok (kind_of (pages_with held id pages)))))) (Err fault) → P fault
-    by_tests false none filled at room_at is =
-        let same : adds.Conflict ≡ fault = cc (is) in
-        let c = no_join (get held id) pages at in subst P same (conflicts c.0 c.1 c.2)
-    by_tests true true filled at room_at is = cc (is)
-    by_tests true false true at room_at is =
-        let same : adds.Full ≡ fault = cc (is) in
-        let f = no_room (get held id) room (len held) room_at in subst P same (full f.0 f.1)
-    by_tests true false false at room_at is = cc (is)
+add_refuses P room held id pages fault conflicts full is = grind (arith, no_join, no_room)
 
 -- ---- pages that are added
 
@@ -106,18 +66,10 @@ held_all room held id pages is m some =
 
 -- a mask names just the pages that are there
 pub named_there : (pages : Pages) (m : ℕ) → names (mask pages) m ≡ true → IsSome (page pages m)
-named_there pages m named = some_is (page pages m) (sym (names_mask pages m) ∙ named)
-  where
-    some_is : (o : Option (List ℕ)) → is_some o ≡ true → IsSome o
-    some_is None x = cc
-    some_is (Some b) x = refl
+named_there pages m named = grind (arith, names_mask)
 
 pub there_named : (pages : Pages) (m : ℕ) → IsSome (page pages m) → names (mask pages) m ≡ true
-there_named pages m some = names_mask pages m ∙ is_so (page pages m) some
-  where
-    is_so : (o : Option (List ℕ)) → IsSome o → is_some o ≡ true
-    is_so None x = cc
-    is_so (Some b) x = refl
+there_named pages m some = grind (arith, names_mask)
 
 -- where some page is added, one that is given was not held
 some_there : (pages : Pages) → mask pages ≢ 0 → (m : ℕ) × IsSome (page pages m)
@@ -158,7 +110,4 @@ length-lone p =
     (let none : Option (List ℕ) = None in length-set_at (replicate p.n none) (p.m - 1) (Some p.bytes)) ∙ length-blank p.n
 
 pub lone_some : (p : PageView) (m : ℕ) → 1 ≤ p.m → IsSome (page (lone p) m) → m ≡ p.m
-lone_some p m least some = elim (same_or_other m p.m) [
-  | inl same ↦ same
-  | inr away ↦ (let none : page (lone p) m ≡ None = lone_else p m least away in cc (none, some))
-]
+lone_some p m least some = grind (arith, lone_else, same_or_other)

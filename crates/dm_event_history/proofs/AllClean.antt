@@ -1,48 +1,33 @@
 -- As long as each scan is fair, all desks and all exports are clean.
-use Rattle.std.proofs.Common.{◌≡◌, inl, inr, ℕ, zero, suc, Option, Some, None, true, Result, Ok, Err, List, [], ◌∷◌, ◌++◌, length, slice_get, refl, sym, ap, subst, ◌∙◌}
-use Rattle.std.specs.FinMap as finite
+use Rattle.std.proofs.Common.{arith, ◌≡◌, inl, inr, ℕ, Some, true, Result, List, [], ◌++◌, length, slice_get, sym, ap, subst, ◌∙◌}
 use Rattle.dm_finder_frame.specs.Grids.{flipped}
 use Rattle.dm_check_blocks.specs.declared.size.Size.{Size}
 use Rattle.dm_encodation.specs.declared.scheme.Scheme.{Scheme}
 use Rattle.dm_print_ledger.specs.declared.range.Range.{Range}
 use Rattle.dm_print_ledger.specs.Views.{LedgerView, TicketView}
-use Rattle.dm_assembly_desk.specs.Pages.{Pages}
 use Rattle.dm_assembly_desk.specs.Documents.{Documents}
 use Rattle.dm_event_history.specs.declared.event.Event.{Event}
 use Rattle.dm_event_history.specs.declared.event.Event.TheVariants.{Print, Scan, RestartPrinter, RestartDesk, Ask, Forget, Give, Take, Export, Import}
 use Rattle.dm_event_history.specs.declared.reply.Reply.{Reply}
 use Rattle.dm_event_history.proofs.Gotten.{in_either}
-use Rattle.dm_append_label.specs.Pages.{PageView}
 use Rattle.dm_append_label.specs.declared.opening.Opened.{Opened}
 use Rattle.dm_append_label.specs.declared.fault.LabelFault.{LabelFault}
-use Rattle.dm_append_label.specs.declared.fault.LabelFault.TheVariants as label_fault
-use Rattle.dm_assembly_desk.specs.declared.adding.AddFault.{AddFault}
-use Rattle.dm_assembly_desk.specs.declared.reply.Imported as imported_type
-use Rattle.dm_assembly_desk.specs.Accepting.{lone}
-use Rattle.dm_assembly_desk.specs.Adding.{add_verdict}
-use Rattle.dm_assembly_desk.specs.declared.reply.Kind.{Kind}
-use Rattle.dm_assembly_desk.specs.declared.reply.Kind.TheVariants as kinds
-use Rattle.dm_event_history.specs.declared.reply.Reply.TheVariants.{Scanned}
 use Rattle.dm_event_history.specs.declared.stop.Stop.{Stop}
-use Rattle.dm_event_history.specs.Saving.{Stores, may_save}
+use Rattle.dm_event_history.specs.Saving.{may_save}
 use Rattle.dm_event_history.proofs.Deciding.{decided, true_false}
-use Rattle.dm_event_history.proofs.Having.{CourseHas, HasAll, calls_have, may_lack_has, saves_may}
-use Rattle.dm_event_history.specs.Actors.{Actor, Running, Failed, Down}
+use Rattle.dm_event_history.proofs.Having.{CourseHas, HasAll, calls_have, may_lack_has}
+use Rattle.dm_event_history.specs.Actors.{Actor, Running}
 use Rattle.dm_event_history.specs.Relay as relays
 use Rattle.dm_event_history.specs.Relay.{Desk, Goods, Label, Relay, nothing}
-use Rattle.dm_event_history.specs.Calls.{Answers, Calls, Course, Ending, LacksMemory, Looks, MayLackFirst, Saves, ends}
+use Rattle.dm_event_history.specs.Calls.{Calls, Course, Ending, Looks, MayLackFirst, ends}
 use Rattle.dm_event_history.specs.PrinterCalls.{GiveComes, PrintComes, TakeComes}
-use Rattle.dm_event_history.specs.DeskCalls.{ExportTells, ExportsHeld, MayBe, ScanComes, scan_course, scan_faults, verdict_course, page_reply}
+use Rattle.dm_event_history.specs.DeskCalls.{ExportTells, MayBe, ScanComes, scan_course, scan_faults}
 use Rattle.dm_event_history.specs.Steps.{Acts, DeskGoes, IsNamed, PrinterGoes, Step}
 use Rattle.dm_event_history.specs.Clean.{ArePrinted, HaveLeft, IsClean, IsCleanActor, IsCleanExport, IsHarmless}
 use Rattle.dm_event_history.specs.Headline.{AreAllClean, IsFairEvent}
-use Rattle.dm_event_history.proofs.LedgerFacts.{made_print}
-use Rattle.dm_event_history.proofs.LeavingGoods.{IsClosed, Leaves, OfCourse, as_known, calls_leave, known_goods, may_lack_leaves, restarts_leave}
+use Rattle.dm_event_history.proofs.LeavingGoods.{IsClosed, Leaves, OfCourse, calls_leave, may_lack_leaves, restarts_leave}
 use Rattle.dm_event_history.proofs.DeskGoods.{ask_leaves, forget_leaves, import_leaves, scan_leaves}
 use Rattle.dm_event_history.proofs.Stays.{actor_more, each_step_keeps_clean, got_set, more_left, more_pages}
-use Rattle.dm_event_history.proofs.Gives.{held_export}
-use Rattle.dm_event_history.proofs.Adds.{Answer, done_well, IsDoneWell}
-use Rattle.dm_assembly_desk.specs.Holding.{Verdict, Stays, Becomes}
 
 -- each of the exports is clean
 abbrev AreClean : List Label → List relays.Export → Type 0
@@ -75,59 +60,22 @@ Sends labels goods = AreClean labels goods.exports
 closed : (labels : List Label) → IsClosed (Sends labels)
 closed labels = record { none = none_sent labels; cut = λ most goods p. none_sent labels }
 
-no_exports : (labels : List Label) (goods : Goods) → goods.exports ≡ [] → Sends labels goods
-no_exports labels goods none = subst (λ (es : List relays.Export). AreClean labels es) (sym none) (none_sent labels)
-
 print_sends : {A : Type 0} (labels : List Label) (before : ℕ) (document : List ℕ) (size : Size) (scheme : Scheme)
     (held : LedgerView) (course : Course A LedgerView) → PrintComes before document size scheme held course →
     OfCourse (Sends labels) course
-print_sends labels before document size scheme held (Saves next goods reply) comes =
-    no_exports labels goods
-    (ap (λ (g : Goods). g.exports) (made_print before document size scheme held next goods reply comes).left.goods_are)
-print_sends labels before document size scheme held (Answers reply) comes = tt
-print_sends labels before document size scheme held LacksMemory comes = tt
+print_sends labels before document size scheme held course comes = grind arith
 
 give_sends : {A : Type 0} (labels : List Label) (before receiver : ℕ) (range : Range) (held : LedgerView)
     (course : Course A LedgerView) → GiveComes before receiver range held course → OfCourse (Sends labels) course
-give_sends labels before receiver range held (Saves next goods reply) comes =
-    no_exports labels goods (ap (λ (g : Goods). g.exports) comes.1.1.0)
-give_sends labels before receiver range held (Answers reply) comes = tt
-give_sends labels before receiver range held LacksMemory comes = tt
+give_sends labels before receiver range held course comes = grind arith
 
 take_sends : {A : Type 0} (labels : List Label) (number : ℕ) (ticket : TicketView) (held : LedgerView)
     (course : Course A LedgerView) → TakeComes number ticket held course → OfCourse (Sends labels) course
-take_sends labels number ticket held (Saves next goods reply) comes =
-    no_exports labels goods (ap (λ (g : Goods). g.exports) comes.2.1.0)
-take_sends labels number ticket held (Answers reply) comes = tt
-take_sends labels number ticket held LacksMemory comes = tt
-
--- an export of what a clean desk shows is clean
-held_sends : {A : Type 0} (labels : List Label) (before id : ℕ) (held : Documents) (o : Option Pages) (reply : Reply A)
-    (goods : Goods) → HaveLeft labels held → finite.get held id ≡ o → ExportsHeld before id o reply goods →
-    Sends labels goods
-held_sends labels before id held None reply goods left at tells =
-    no_exports labels goods (ap (λ (g : Goods). g.exports) tells.1)
-held_sends labels before id held (Some pages) reply goods left at (inl tells) =
-    known_goods (Sends labels) goods _ tells.1 (one_sent labels _ (held_export labels held id pages left at))
-  where
-    one_sent : (labels : List Label) (sent : relays.Export) → IsCleanExport labels sent → AreClean labels (sent ∷ [])
-    one_sent labels sent c zero export is =
-        (let same : sent ≡ export = cc (is) in subst (λ (e : relays.Export). IsCleanExport labels e) same c)
-    one_sent labels sent c (suc i) export is = cc
-held_sends labels before id held (Some pages) reply goods left at (inr tells) =
-    no_exports labels goods (ap (λ (g : Goods). g.exports) tells.1)
+take_sends labels number ticket held course comes = grind arith
 
 export_sends : {A : Type 0} (labels : List Label) (before id : ℕ) (actor : Actor Documents) (end : Ending A Documents) →
     IsCleanActor labels actor → MayLackFirst (Looks (ExportTells {A = A} before id)) actor end → Sends labels end.goods
-export_sends labels before id (Running held) end clean (inl lack) =
-    as_known (Sends labels) end _ lack (none_sent labels)
-export_sends labels before id (Running held) end clean (inr acts) =
-    held_sends labels before id held (finite.get held id) end.reply end.goods clean refl acts.0
-export_sends labels before id (Failed shown stored) end clean (inl lack) =
-    as_known (Sends labels) end _ lack (none_sent labels)
-export_sends labels before id (Failed shown stored) end clean (inr acts) =
-    held_sends labels before id shown (finite.get shown id) end.reply end.goods clean.0 refl acts.0
-export_sends labels before id (Down stored) end clean acts = as_known (Sends labels) end _ acts (none_sent labels)
+export_sends labels before id actor end clean acts = grind arith
 
 -- ---- steps
 
@@ -212,43 +160,17 @@ all_stay_clean old new event reply printed all fair (inr none) =
 -- ---- scans that did not save
 
 to_all : (labels : List Label) (actor : Actor Documents) → IsCleanActor labels actor → HasAll (HaveLeft labels) actor
-to_all labels (Running held) h = h
-to_all labels (Failed shown stored) h = h
-to_all labels (Down stored) h = h
+to_all labels actor h = grind arith
 
 of_all : (labels : List Label) (actor : Actor Documents) → HasAll (HaveLeft labels) actor → IsCleanActor labels actor
-of_all labels (Running held) h = h
-of_all labels (Failed shown stored) h = h
-of_all labels (Down stored) h = h
+of_all labels actor h = grind arith
 
 -- what a scan that was answered so comes to is not kept
 unsaved_course : {A : Type 0} (Q : Documents → Type 0) (desk number : ℕ) (flips : List (ℕ × ℕ)) (stop : Stop)
     (reply : Reply A) (held : Documents) (k : Result (Opened A) LabelFault) (room : ℕ) (course : Course A Documents) →
     ¬ (may_save (Scan desk number flips stop) reply ≡ true) → MayBe (scan_course room held k) course →
     reply ≡ (ends scan_faults stop course (Running held)).reply → CourseHas Q stop course
-unsaved_course {A} Q desk number flips stop reply held k room course unsaved (inr lack) is =
-    subst (λ (c : Course A Documents). CourseHas Q stop c) (sym lack.0) tt
-unsaved_course {A} Q desk number flips stop reply held k room course unsaved (inl same) is =
-    subst (λ (c : Course A Documents). (reply ≡ (ends scan_faults stop c (Running held)).reply) → CourseHas Q stop c)
-    (sym same) (by_read k) is
-  where
-    by_add : (page : PageView) (v : Verdict Answer) → IsDoneWell v →
-        (reply ≡ (ends scan_faults stop (verdict_course (page_reply page) v) (Running held)).reply) →
-        CourseHas {A = A} Q stop (verdict_course (page_reply page) v)
-    by_add page (Stays answer) well told = tt
-    by_add page (Becomes next (Ok added)) well told = λ stores.
-        absurd (unsaved (ap (λ (r : Reply A). may_save (Scan desk number flips stop) r) told
-        ∙ saves_may (Scan desk number flips stop) scan_faults stop next nothing (page_reply page (Ok added))
-        (Running held) refl refl refl stores))
-    by_add page (Becomes next (Err fault)) well told = absurd well
-
-    by_read : (k : Result (Opened A) LabelFault) →
-        (reply ≡ (ends scan_faults stop (scan_course room held k) (Running held)).reply) →
-        CourseHas {A = A} Q stop (scan_course room held k)
-    by_read (Ok opened) told = by_add opened.page (add_verdict room held opened.page.id (lone opened.page))
-        (done_well room held opened.page.id (lone opened.page)) told
-    by_read (Err label_fault.Memory) told = tt
-    by_read (Err fault) told = tt
+unsaved_course {A} Q desk number flips stop reply held k room course unsaved lack is = grind arith
 
 unsaved_clean : {A : Type 0} (old new : Relay) (desk number : ℕ) (flips : List (ℕ × ℕ)) (stop : Stop) (reply : Reply A) →
     AreAllClean old → ¬ (may_save (Scan desk number flips stop) reply ≡ true) →

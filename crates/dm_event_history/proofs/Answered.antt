@@ -1,5 +1,5 @@
 -- Calls that are answered: the printer or the desk runs, and it comes to what is answered.
-use Rattle.std.proofs.Common.{◌≡◌, ◌≢◌, inl, inr, Some, refl, sym, ap, subst, ◌∙◌}
+use Rattle.std.proofs.Common.{arith, ◌≡◌, ◌≢◌, Some, refl, sym, ap, subst, ◌∙◌}
 use Rattle.dm_store.specs.declared.fuse.Kept.TheVariants.{Old, New}
 use Rattle.dm_event_history.specs.declared.reply.Reply.{Reply}
 use Rattle.dm_event_history.specs.declared.reply.Reply.TheVariants as replies
@@ -80,13 +80,7 @@ is_answered {A} {C} faults stop Comes (Down stored) end reply own acts is =
 -- the same, where memory may be refused first
 pub is_made : {A C : Type 0} (Acts : Actor C → Ending A C → Type 0) (actor : Actor C) (end : Ending A C)
     (reply : Reply A) → reply ≢ replies.Memory → MayLackFirst Acts actor end → end.reply ≡ reply → Acts actor end
-is_made {A} {C} Acts (Running held) end reply other (inl lack) is =
-    absurd (other (sym is ∙ ap (λ (e : Ending A C). e.reply) lack))
-is_made Acts (Running held) end reply other (inr acts) is = acts
-is_made {A} {C} Acts (Failed shown stored) end reply other (inl lack) is =
-    absurd (other (sym is ∙ ap (λ (e : Ending A C). e.reply) lack))
-is_made Acts (Failed shown stored) end reply other (inr acts) is = acts
-is_made Acts (Down stored) end reply other acts is = acts
+is_made {A} {C} Acts actor end reply other lack is = grind arith
 
 -- what is shown tells it
 pub record IsLooked {A C : Type 0} (Tells : C → Reply A → Goods → Type 0) (actor : Actor C) (end : Ending A C)
@@ -97,6 +91,4 @@ pub record IsLooked {A C : Type 0} (Tells : C → Reply A → Goods → Type 0) 
 
 pub is_looked : {A C : Type 0} (Tells : C → Reply A → Goods → Type 0) (actor : Actor C) (end : Ending A C) →
     end.reply ≢ replies.Down → Looks Tells actor end → IsLooked Tells actor end
-is_looked Tells (Running held) end up acts = record { held = held; shown = refl; tells = acts.0 }
-is_looked Tells (Failed shown stored) end up acts = record { held = shown; shown = refl; tells = acts.0 }
-is_looked {A} {C} Tells (Down stored) end up acts = absurd (up (ap (λ (e : Ending A C). e.reply) acts))
+is_looked Tells actor end up acts = grind arith

@@ -1,65 +1,43 @@
 -- The printers and desks of a run are down, and have failed, as its replies tell.
-use Rattle.std.proofs.Common.{◌≡◌, ◌⊎◌, ◌+◌, ◌-◌, inl, inr, ℕ, zero, suc, Bool, true, false, ◌==◌, ◌&&◌, nat_lt, if◌then◌else◌, length, Option, Some, None, Ok, Err, Result, List, [], ◌∷◌, slice_get, slice_set, refl, sym, ap, subst, ◌∙◌, eq-eqb}
-use Rattle.std.specs.Prelude.{is_some}
-use Rattle.std.specs.List.{list_all}
-use Rattle.std.specs.Str.{bytes_eq}
-use Rattle.std.specs.FinMap as finite
+use Rattle.std.proofs.Common.{arith, ◌≡◌, ◌+◌, inl, inr, ℕ, zero, suc, Bool, true, false, length, Some, Ok, Err, Result, List, [], ◌∷◌, slice_get, refl, sym, ap, subst, ◌∙◌, eq-eqb}
 use Rattle.dm_finder_frame.specs.Grids.{GridView, flipped}
 use Rattle.dm_check_blocks.specs.declared.size.Size.{Size}
 use Rattle.dm_encodation.specs.declared.scheme.Scheme.{Scheme}
-use Rattle.dm_append_label.specs.Pages.{PageView}
 use Rattle.dm_append_label.specs.declared.opening.Opened.{Opened}
 use Rattle.dm_append_label.specs.declared.fault.LabelFault.{LabelFault}
 use Rattle.dm_append_label.specs.declared.fault.LabelFault.TheVariants as label_fault
-use Rattle.dm_store.specs.declared.fuse.Kept.TheVariants.{Old, New}
 use Rattle.dm_print_ledger.specs.declared.range.Range.{Range}
 use Rattle.dm_print_ledger.specs.Creating.{opening}
 use Rattle.dm_print_ledger.specs.Views.{LedgerView, TicketView}
-use Rattle.dm_print_ledger.specs.declared.fault.PrintFault.TheVariants as print_fault
-use Rattle.dm_print_ledger.specs.declared.fault.GiveFault.TheVariants as give_fault
-use Rattle.dm_print_ledger.specs.declared.fault.TakeFault.TheVariants as take_fault
 use Rattle.dm_print_ledger.specs.declared.fault.OpenFault.TheVariants as open_fault
-use Rattle.dm_assembly_desk.specs.declared.fault.ScanFault.{ScanFault}
-use Rattle.dm_assembly_desk.specs.declared.fault.ScanFault.TheVariants as scan_fault
-use Rattle.dm_assembly_desk.specs.declared.fault.AskFault.{AskFault}
-use Rattle.dm_assembly_desk.specs.declared.fault.ImportFault.{ImportFault}
-use Rattle.dm_assembly_desk.specs.declared.fault.ImportFault.TheVariants as import_fault
 use Rattle.dm_assembly_desk.specs.declared.fault.DeskFault.TheVariants as desk_fault
-use Rattle.dm_assembly_desk.specs.declared.reply.Kind.TheVariants as kinds
-use Rattle.dm_assembly_desk.specs.Pages.{Pages, page}
+use Rattle.dm_assembly_desk.specs.Pages.{Pages}
 use Rattle.dm_assembly_desk.specs.Documents.{Documents}
-use Rattle.dm_assembly_desk.specs.declared.adding.AddFault.{AddFault}
 use Rattle.dm_assembly_desk.specs.declared.adding.AddFault.TheVariants as adds
 use Rattle.dm_assembly_desk.specs.declared.reply.Imported as imported_type
-use Rattle.dm_assembly_desk.specs.declared.reply.Kind.{Kind}
 use Rattle.dm_assembly_desk.specs.Accepting.{lone}
 use Rattle.dm_assembly_desk.specs.Adding.{add_verdict}
 use Rattle.dm_event_history.specs.declared.reply.Reply.TheVariants.{GiveRefused, Imported, PrintRefused, TakeRefused}
-use Rattle.dm_event_history.proofs.Adds.{add_refuses, Answer, by_verdict}
-use Rattle.dm_event_history.proofs.LedgerFacts.{give_refuses, made_print, print_refuses, take_refuses}
+use Rattle.dm_event_history.proofs.Adds.{Answer}
 use Rattle.dm_event_history.specs.declared.event.Event.{Event}
 use Rattle.dm_event_history.specs.declared.event.Event.TheVariants.{Print, Scan, RestartPrinter, RestartDesk, Ask, Forget, Give, Take, Export, Import}
 use Rattle.dm_event_history.specs.declared.reply.Reply.{Reply}
 use Rattle.dm_event_history.specs.declared.reply.Reply.TheVariants as replies
 use Rattle.dm_event_history.specs.declared.stop.Stop.{Stop}
-use Rattle.dm_event_history.specs.declared.stop.Stop.TheVariants as stops
-use Rattle.dm_event_history.specs.declared.stop.Stop.TheVariants.{BeforeSave, InSave, SaveFault, AfterLabels}
 use Rattle.dm_event_history.specs.WhoActs.{DeskAt, Named, PrinterAt, actor_of, is_same}
-use Rattle.dm_event_history.specs.Actors.{Actor, Running, Failed, Down}
+use Rattle.dm_event_history.specs.Actors.{Actor, Running, Failed}
 use Rattle.dm_event_history.specs.Relay as relays
 use Rattle.dm_event_history.specs.Relay.{Desk, Goods, Relay, empty_desk, fresh_from, start}
 use Rattle.dm_event_history.specs.Calls.{Answers, Calls, Course, Ending, Faults, LacksMemory, Looks, MayLackFirst, Reaches, Restarts, Saves, ends}
 use Rattle.dm_event_history.specs.PrinterCalls.{GiveComes, PrintComes, TakeComes, give_faults, print_faults, take_faults}
-use Rattle.dm_event_history.specs.DeskCalls.{AskTells, ExportTells, ExportsHeld, ForgetComes, ImportComes, MayBe, ScanComes, ask_reply, forget_faults, import_faults, scan_course, scan_faults, verdict_course, page_reply, pages_reply, forget_reply}
+use Rattle.dm_event_history.specs.DeskCalls.{AskTells, ExportTells, ForgetComes, ImportComes, MayBe, ScanComes, forget_faults, import_faults, scan_course, scan_faults, verdict_course, page_reply}
 use Rattle.dm_event_history.specs.Steps.{Acts, DeskGoes, PrinterGoes, Step}
 use Rattle.dm_event_history.specs.Runs.{Moment}
 use Rattle.dm_event_history.specs.Told.{AreAsTold, EachRunIsAsTold, IsAsTold, down_after, failed_after, is_down, is_failed, tells_failed}
-use Rattle.dm_event_history.proofs.Deciding.{if_not, if_same, if_so, other_number, true_false}
+use Rattle.dm_event_history.proofs.Deciding.{other_number}
 use Rattle.dm_event_history.proofs.Beginning.{empty_there}
 use Rattle.dm_event_history.proofs.Reaching.{reaches}
 use Rattle.dm_event_history.proofs.Between.{set_at}
-use Rattle.dm_event_history.proofs.Told.{forget_by}
-use Rattle.dm_assembly_desk.specs.Forgetting.{forget_verdict}
 
 -- ---- replies of calls
 
@@ -88,31 +66,12 @@ told_ends : {A C : Type 0} (faults : Faults A) (stop : Stop) (course : Course A 
     Reaches stop (IsPlainCourse course) →
     (let e = ends faults stop course (Running held) in
     IsAsTold (down_after e.reply false) (failed_after e.reply false) e.actor)
-told_ends faults BeforeSave course held fine plain = refl
-told_ends faults (InSave Old) course held fine plain = refl
-told_ends faults stops.None (Saves next goods reply) held fine plain = (plain.up false, plain.same false)
-told_ends faults (SaveFault Old) (Saves next goods reply) held fine plain = (fine.save_up false, fine.save_fails false)
-told_ends faults (SaveFault New) (Saves next goods reply) held fine plain = (fine.save_up false, fine.save_fails false)
-told_ends faults (InSave New) (Saves next goods reply) held fine plain = refl
-told_ends faults (AfterLabels most) (Saves next goods reply) held fine plain = refl
-told_ends faults stops.None (Answers reply) held fine plain = (plain.up false, plain.same false)
-told_ends faults (SaveFault kept) (Answers reply) held fine plain = (plain.up false, plain.same false)
-told_ends faults (InSave New) (Answers reply) held fine plain = refl
-told_ends faults (AfterLabels most) (Answers reply) held fine plain = refl
-told_ends faults stops.None LacksMemory held fine plain = (fine.memory.up false, fine.memory.same false)
-told_ends faults (SaveFault kept) LacksMemory held fine plain = (fine.memory.up false, fine.memory.same false)
-told_ends faults (InSave New) LacksMemory held fine plain = (refl, refl)
-told_ends faults (AfterLabels most) LacksMemory held fine plain = (refl, refl)
+told_ends faults stop course held fine plain = grind arith
 
 failed_ends : {A C : Type 0} (faults : Faults A) (stop : Stop) (shown stored : C) → ArePlain faults →
     (let e = ends faults stop (Answers faults.failed) (Failed shown stored) in
     IsAsTold (down_after e.reply false) (failed_after e.reply true) e.actor)
-failed_ends faults BeforeSave shown stored fine = refl
-failed_ends faults (InSave Old) shown stored fine = refl
-failed_ends faults stops.None shown stored fine = (fine.failed_up false, fine.failed_same true)
-failed_ends faults (SaveFault kept) shown stored fine = (fine.failed_up false, fine.failed_same true)
-failed_ends faults (InSave New) shown stored fine = refl
-failed_ends faults (AfterLabels most) shown stored fine = refl
+failed_ends faults stop shown stored fine = grind arith
 
 -- the one that acts is as it tells, if it was
 abbrev pub Tells : {A C : Type 0} → (Actor C → Ending A C → Type 0) → Type 0
@@ -122,108 +81,52 @@ Tells {A} {C} Acts = (actor : Actor C) (end : Ending A C) (down failed : Bool) �
 told_of : {A C : Type 0} (down failed : Bool) (end known : Ending A C) → end ≡ known →
     IsAsTold (down_after known.reply down) (failed_after known.reply failed) known.actor →
     IsAsTold (down_after end.reply down) (failed_after end.reply failed) end.actor
-told_of {A} {C} down failed end known is t =
-    subst (λ (e : Ending A C). IsAsTold (down_after e.reply down) (failed_after e.reply failed) e.actor) (sym is) t
+told_of {A} {C} down failed end known is t = grind arith
 
 by_flags : {A C : Type 0} (down failed d f : Bool) (end : Ending A C) → down ≡ d → failed ≡ f →
     IsAsTold (down_after end.reply d) (failed_after end.reply f) end.actor →
     IsAsTold (down_after end.reply down) (failed_after end.reply failed) end.actor
-by_flags {A} {C} down failed d f end x y t =
-    subst (λ (b : Bool). IsAsTold (down_after end.reply b) (failed_after end.reply failed) end.actor) (sym x)
-    (subst (λ (b : Bool). IsAsTold (down_after end.reply d) (failed_after end.reply b) end.actor) (sym y) t)
+by_flags {A} {C} down failed d f end x y t = grind arith
 
 pub calls_tell : {A C : Type 0} (faults : Faults A) (stop : Stop) (Comes : C → Course A C → Type 0) → ArePlain faults →
     ((held : C) (course : Course A C) → Comes held course → IsPlainCourse course) → Tells (Calls faults stop Comes)
-calls_tell faults stop Comes fine each (Running held) end down failed t acts =
-    by_flags down failed false false end t.0 t.1
-    (told_of false false end _ acts.2
-    (told_ends faults stop acts.0 held fine (reaches stop (each held acts.0) acts.1)))
-calls_tell faults stop Comes fine each (Failed shown stored) end down failed t acts =
-    by_flags down failed false true end t.0 t.1
-    (told_of false true end _ acts (failed_ends faults stop shown stored fine))
-calls_tell faults stop Comes fine each (Down stored) end down failed t acts = told_of down failed end _ acts t
+calls_tell faults stop Comes fine each held end down failed t acts =
+    grind (arith, by_flags, failed_ends, reaches, told_ends, told_of)
 
 pub may_lack_tells : {A C : Type 0} (Acts : Actor C → Ending A C → Type 0) → Tells Acts → Tells (MayLackFirst Acts)
-may_lack_tells Acts each (Running held) end down failed t (inl lack) = told_of down failed end _ lack t
-may_lack_tells Acts each (Running held) end down failed t (inr acts) = each (Running held) end down failed t acts
-may_lack_tells Acts each (Failed shown stored) end down failed t (inl lack) = told_of down failed end _ lack t
-may_lack_tells Acts each (Failed shown stored) end down failed t (inr acts) =
-    each (Failed shown stored) end down failed t acts
-may_lack_tells Acts each (Down stored) end down failed t acts = each (Down stored) end down failed t acts
+may_lack_tells Acts each held end down failed t acts = grind arith
 
 pub restarts_tell : {A C : Type 0} (refused : Reply A) → ((b : Bool) → down_after refused b ≡ true) →
     Tells (Restarts {A = A} {C = C} refused)
-restarts_tell refused down_so actor end down failed t (inl is) = told_of down failed end _ is (refl, refl)
-restarts_tell refused down_so actor end down failed t (inr is) = told_of down failed end _ is (down_so down)
+restarts_tell refused down_so actor end down failed t is = grind arith
 
 pub looks_tell : {A C : Type 0} (Said : C → Reply A → Goods → Type 0) →
     ((held : C) (reply : Reply A) (goods : Goods) → Said held reply goods → IsPlain reply) → Tells (Looks Said)
-looks_tell {A} {C} Said each (Running held) end down failed t acts =
-    let p = each held end.reply end.goods acts.0 in
-    subst (λ (a : Actor C). IsAsTold (down_after end.reply down) (failed_after end.reply failed) a) (sym acts.1)
-    (p.up down, p.same failed ∙ t.1)
-looks_tell {A} {C} Said each (Failed shown stored) end down failed t acts =
-    let p = each shown end.reply end.goods acts.0 in
-    subst (λ (a : Actor C). IsAsTold (down_after end.reply down) (failed_after end.reply failed) a) (sym acts.1)
-    (p.up down, p.same failed ∙ t.1)
-looks_tell Said each (Down stored) end down failed t acts = told_of down failed end _ acts t
+looks_tell {A} {C} Said each held end down failed t acts = grind arith
 
 -- ---- what each call comes to
 
-as_plain : {A : Type 0} (reply known : Reply A) → reply ≡ known → IsPlain known → IsPlain reply
-as_plain {A} reply known is p = subst (λ (r : Reply A). IsPlain r) (sym is) p
-
 pub print_plain : {A : Type 0} (before : ℕ) (document : List ℕ) (size : Size) (scheme : Scheme) (held : LedgerView)
     (course : Course A LedgerView) → PrintComes before document size scheme held course → IsPlainCourse course
-print_plain before document size scheme held (Saves next goods reply) comes =
-    as_plain reply _ (made_print before document size scheme held next goods reply comes).left.reply_is
-    (record { up = λ b. refl; same = λ b. refl; unfailed = refl })
-print_plain {A} before document size scheme held (Answers reply) comes =
-    as_plain reply _ comes.3.2 (print_refuses (λ fault. IsPlain {A = A} (PrintRefused fault)) held (is_some comes.1)
-    comes.3.0 (λ _. record { up = λ b. refl; same = λ b. refl; unfailed = refl })
-    (λ _. record { up = λ b. refl; same = λ b. refl; unfailed = refl }) comes.3.1)
-print_plain before document size scheme held LacksMemory comes = tt
+print_plain before document size scheme held course comes = grind arith
 
 pub give_plain : {A : Type 0} (before receiver : ℕ) (range : Range) (held : LedgerView) (course : Course A LedgerView) →
     GiveComes before receiver range held course → IsPlainCourse course
-give_plain before receiver range held (Saves next goods reply) comes =
-    as_plain reply _ comes.1.1.1 (record { up = λ b. refl; same = λ b. refl; unfailed = refl })
-give_plain {A} before receiver range held (Answers reply) comes =
-    as_plain reply _ comes.1.2 (give_refuses (λ fault. IsPlain {A = A} (GiveRefused fault)) held receiver range
-    comes.1.0 (record { up = λ b. refl; same = λ b. refl; unfailed = refl })
-    (record { up = λ b. refl; same = λ b. refl; unfailed = refl })
-    (record { up = λ b. refl; same = λ b. refl; unfailed = refl })
-    (record { up = λ b. refl; same = λ b. refl; unfailed = refl })
-    (record { up = λ b. refl; same = λ b. refl; unfailed = refl }) comes.1.1)
-give_plain before receiver range held LacksMemory comes = tt
+give_plain before receiver range held course comes = grind arith
 
 pub take_plain : {A : Type 0} (number : ℕ) (ticket : TicketView) (held : LedgerView) (course : Course A LedgerView) →
     TakeComes number ticket held course → IsPlainCourse course
-take_plain number ticket held (Saves next goods reply) comes =
-    as_plain reply _ comes.2.1.1 (record { up = λ b. refl; same = λ b. refl; unfailed = refl })
-take_plain {A} number ticket held (Answers reply) comes =
-    as_plain reply _ comes.2.2 (take_refuses (λ fault. IsPlain {A = A} (TakeRefused fault)) held ticket comes.2.0
-    (record { up = λ b. refl; same = λ b. refl; unfailed = refl })
-    (record { up = λ b. refl; same = λ b. refl; unfailed = refl })
-    (λ _. record { up = λ b. refl; same = λ b. refl; unfailed = refl })
-    (record { up = λ b. refl; same = λ b. refl; unfailed = refl })
-    (record { up = λ b. refl; same = λ b. refl; unfailed = refl }) comes.2.1)
-take_plain number ticket held LacksMemory comes = tt
+take_plain number ticket held course comes = grind arith
 
 -- pages that are to be added are refused for what is held alone
 add_plain : {A : Type 0} (tells : Answer → Reply A) (room : ℕ) (held : Documents) (id : ℕ) (pages : Pages) →
     ((added : imported_type.Imported) → IsPlain (tells (Ok added))) → IsPlain (tells (Err adds.Conflict)) →
     IsPlain (tells (Err adds.Full)) → IsPlainCourse (verdict_course tells (add_verdict room held id pages))
-add_plain {A} tells room held id pages told conflict full = by_verdict
-    (λ v. IsPlainCourse {A = A} (verdict_course tells v)) room held id pages
-    (λ fault is. add_refuses (λ f. IsPlain (tells (Err f))) room held id pages fault (λ own at differs. conflict)
-    (λ none most. full) is)
-    (λ is. told _) (λ kind other is. told _)
+add_plain {A} tells room held id pages told conflict full = grind arith
 
 may_be_plain : {A : Type 0} (wanted course : Course A Documents) → IsPlainCourse wanted → MayBe wanted course →
     IsPlainCourse course
-may_be_plain {A} wanted course p (inl is) = subst (λ (c : Course A Documents). IsPlainCourse c) (sym is) p
-may_be_plain {A} wanted course p (inr lack) = subst (λ (c : Course A Documents). IsPlainCourse c) (sym lack.0) tt
+may_be_plain {A} wanted course p is = grind arith
 
 pub scan_plain : {A : Type 0} (room : ℕ) (grid : GridView) (held : Documents) (course : Course A Documents) →
     ScanComes room grid held course → IsPlainCourse course
@@ -240,102 +143,41 @@ scan_plain {A} room grid held course comes =
 
 pub forget_plain : {A : Type 0} (id : ℕ) (held : Documents) (course : Course A Documents) → ForgetComes id held course →
     IsPlainCourse course
-forget_plain {A} id held course comes =
-    may_be_plain (verdict_course forget_reply (forget_verdict held id)) course (by_held (finite.get held id)) comes
-  where
-    by_held : (o : Option Pages) → IsPlainCourse {A = A} (verdict_course forget_reply (forget_by held id o))
-    by_held None = record { up = λ b. refl; same = λ b. refl; unfailed = refl }
-    by_held (Some pages) = record { up = λ b. refl; same = λ b. refl; unfailed = refl }
+forget_plain {A} id held course comes = grind arith
 
 pub import_plain : {A : Type 0} (room : ℕ) (export : relays.Export) (held : Documents) (course : Course A Documents) →
     ImportComes room export held course → IsPlainCourse course
-import_plain {A} room export held course comes =
-    may_be_plain (verdict_course pages_reply (add_verdict room held export.id export.pages)) course
-    (add_plain {A = A} pages_reply room held export.id export.pages
-    (λ added. record { up = λ b. refl; same = λ b. refl; unfailed = refl })
-    (record { up = λ b. refl; same = λ b. refl; unfailed = refl })
-    (record { up = λ b. refl; same = λ b. refl; unfailed = refl })) comes
+import_plain {A} room export held course comes = grind arith
 
 -- ---- looks
 
 pub ask_plain : {A : Type 0} (id : ℕ) (held : Documents) (reply : Reply A) (goods : Goods) → AskTells id held reply goods →
     IsPlain reply
-ask_plain {A} id held reply goods tells = as_plain reply _ tells.2 (by_answer_of tells.0)
-  where
-    by_answer_of : (a : Result (List ℕ) AskFault) → IsPlain {A = A} (ask_reply a)
-    by_answer_of (Ok bytes) = record { up = λ b. refl; same = λ b. refl; unfailed = refl }
-    by_answer_of (Err fault) = record { up = λ b. refl; same = λ b. refl; unfailed = refl }
+ask_plain {A} id held reply goods tells = grind arith
 
 pub export_plain : {A : Type 0} (before id : ℕ) (held : Documents) (reply : Reply A) (goods : Goods) →
     ExportTells before id held reply goods → IsPlain reply
-export_plain {A} before id held reply goods tells = by_held (finite.get held id) tells
-  where
-    by_held : (o : Option Pages) → ExportsHeld before id o reply goods → IsPlain reply
-    by_held None t = as_plain reply _ t.0 (record { up = λ b. refl; same = λ b. refl; unfailed = refl })
-    by_held (Some pages) (inl t) = as_plain reply _ t.0 (record { up = λ b. refl; same = λ b. refl; unfailed = refl })
-    by_held (Some pages) (inr t) = as_plain reply _ t.0 (record { up = λ b. refl; same = λ b. refl; unfailed = refl })
+export_plain {A} before id held reply goods tells = grind arith
 
 -- ---- the faults of each call
 
 pub fine_print : {A : Type 0} → ArePlain {A = A} print_faults
-fine_print = record {
-  failed_up = λ b. refl;
-  failed_same = λ b. refl;
-  memory = record { up = λ b. refl; same = λ b. refl; unfailed = refl };
-  save_up = λ b. refl;
-  save_fails = λ b. refl;
-  save_unfailed = refl;
-}
+fine_print = grind arith
 
 pub fine_give : {A : Type 0} → ArePlain {A = A} give_faults
-fine_give = record {
-  failed_up = λ b. refl;
-  failed_same = λ b. refl;
-  memory = record { up = λ b. refl; same = λ b. refl; unfailed = refl };
-  save_up = λ b. refl;
-  save_fails = λ b. refl;
-  save_unfailed = refl;
-}
+fine_give = grind arith
 
 pub fine_take : {A : Type 0} → ArePlain {A = A} take_faults
-fine_take = record {
-  failed_up = λ b. refl;
-  failed_same = λ b. refl;
-  memory = record { up = λ b. refl; same = λ b. refl; unfailed = refl };
-  save_up = λ b. refl;
-  save_fails = λ b. refl;
-  save_unfailed = refl;
-}
+fine_take = grind arith
 
 pub fine_scan : {A : Type 0} → ArePlain {A = A} scan_faults
-fine_scan = record {
-  failed_up = λ b. refl;
-  failed_same = λ b. refl;
-  memory = record { up = λ b. refl; same = λ b. refl; unfailed = refl };
-  save_up = λ b. refl;
-  save_fails = λ b. refl;
-  save_unfailed = refl;
-}
+fine_scan = grind arith
 
 pub fine_forget : {A : Type 0} → ArePlain {A = A} forget_faults
-fine_forget = record {
-  failed_up = λ b. refl;
-  failed_same = λ b. refl;
-  memory = record { up = λ b. refl; same = λ b. refl; unfailed = refl };
-  save_up = λ b. refl;
-  save_fails = λ b. refl;
-  save_unfailed = refl;
-}
+fine_forget = grind arith
 
 pub fine_import : {A : Type 0} → ArePlain {A = A} import_faults
-fine_import = record {
-  failed_up = λ b. refl;
-  failed_same = λ b. refl;
-  memory = record { up = λ b. refl; same = λ b. refl; unfailed = refl };
-  save_up = λ b. refl;
-  save_fails = λ b. refl;
-  save_unfailed = refl;
-}
+fine_import = grind arith
 
 -- ---- steps
 
@@ -343,12 +185,7 @@ other_who : {A : Type 0} (old : Relay) (event : Event A) (reply : Reply A) (earl
     is_same (actor_of event) who ≡ false →
     (is_down (record { before = old; event = event; reply = reply } ∷ earlier) who ≡ is_down earlier who)
     × (is_failed (record { before = old; event = event; reply = reply } ∷ earlier) who ≡ is_failed earlier who)
-other_who old event reply earlier who other = (
-  if_not (is_same (actor_of event) who) (down_after reply (is_down earlier who)) (is_down earlier who)
-      (λ so. true_false _ so other),
-  if_not (is_same (actor_of event) who) (failed_after reply (is_failed earlier who)) (is_failed earlier who)
-      (λ so. true_false _ so other),
-)
+other_who old event reply earlier who other = grind arith
 
 same_who : {A : Type 0} (old : Relay) (event : Event A) (reply : Reply A) (earlier : List (Moment A)) (who : Named) →
     is_same (actor_of event) who ≡ true →
@@ -356,15 +193,11 @@ same_who : {A : Type 0} (old : Relay) (event : Event A) (reply : Reply A) (earli
     ≡ down_after reply (is_down earlier who))
     × (is_failed (record { before = old; event = event; reply = reply } ∷ earlier) who
     ≡ failed_after reply (is_failed earlier who))
-same_who old event reply earlier who same = (
-  if_so (is_same (actor_of event) who) (down_after reply (is_down earlier who)) (is_down earlier who) same,
-  if_so (is_same (actor_of event) who) (failed_after reply (is_failed earlier who)) (is_failed earlier who) same,
-)
+same_who old event reply earlier who same = grind arith
 
 by_told : {C : Type 0} (down failed d f : Bool) (actor : Actor C) → down ≡ d → failed ≡ f → IsAsTold d f actor →
     IsAsTold down failed actor
-by_told down failed d f actor x y t =
-    subst (λ (b : Bool). IsAsTold b failed actor) (sym x) (subst (λ (b : Bool). IsAsTold d b actor) (sym y) t)
+by_told down failed d f actor x y t = grind arith
 
 printer_tells : {A : Type 0} (old new : Relay) (event : Event A) (printer : ℕ)
     (Acts : Actor LedgerView → Ending A LedgerView → Type 0) (reply : Reply A) (earlier : List (Moment A)) →
@@ -400,29 +233,7 @@ desk_tells : {A : Type 0} (old new : Relay) (event : Event A) (number : ℕ)
     DeskGoes old number Acts reply new →
     AreAsTold (record { before = old; event = event; reply = reply } ∷ earlier) new
 desk_tells {A} old new event number Acts reply earlier named each b g =
-    subst (λ (r : Relay). AreAsTold (record { before = old; event = event; reply = reply } ∷ earlier) r) (sym g.new_is)
-    (record {
-      printers = λ p actor is.
-          let o = other_who old event reply earlier (PrinterAt p)
-          (ap (λ (who : Named). is_same who (PrinterAt p)) named) in
-          by_told _ _ _ _ actor o.0 o.1 (b.printers p actor is);
-      desks = λ d desk is. elim (set_at old.desks number d _ desk is) [
-        | inl here ↦
-            let s = same_who old event reply earlier (DeskAt d)
-            (ap (λ (who : Named). is_same who (DeskAt d)) named ∙ eq-eqb number d here.0) in
-            let t = each g.desk.room g.desk.actor g.end (is_down earlier (DeskAt d)) (is_failed earlier (DeskAt d))
-            (b.desks d g.desk (subst (λ (k : ℕ). slice_get old.desks k ≡ Some g.desk) here.0 g.was)) g.acts in
-            by_told _ _ _ _ desk.actor s.0 s.1
-            (subst (λ (x : Desk). IsAsTold (down_after reply (is_down earlier (DeskAt d)))
-            (failed_after reply (is_failed earlier (DeskAt d))) x.actor) here.1
-            (subst (λ (r : Reply A). IsAsTold (down_after r (is_down earlier (DeskAt d)))
-            (failed_after r (is_failed earlier (DeskAt d))) g.end.actor) (sym g.reply_is) t))
-        | inr there ↦
-            let o = other_who old event reply earlier (DeskAt d)
-            (ap (λ (who : Named). is_same who (DeskAt d)) named ∙ other_number number d there.0) in
-            by_told _ _ _ _ desk.actor o.0 o.1 (b.desks d desk there.1)
-      ];
-    })
+    grind (arith, by_told, eq-eqb, other_number, other_who, same_who, set_at)
 
 acts_tell : {A : Type 0} (old new : Relay) (event : Event A) (reply : Reply A) (earlier : List (Moment A)) →
     AreAsTold earlier old → Acts old event reply new →
@@ -462,23 +273,12 @@ acts_tell old new (RestartDesk desk) reply earlier b acts =
 -- what was named and is not there changes nothing
 none_tells : {A : Type 0} (old : Relay) (event : Event A) (earlier : List (Moment A)) → AreAsTold earlier old →
     AreAsTold (record { before = old; event = event; reply = replies.NoSuch } ∷ earlier) old
-none_tells old event earlier b = record {
-  printers = λ p actor is. by_told _ _ _ _ actor
-      (if_same (is_same (actor_of event) (PrinterAt p)) (is_down earlier (PrinterAt p)))
-      (if_same (is_same (actor_of event) (PrinterAt p)) (is_failed earlier (PrinterAt p))) (b.printers p actor is);
-  desks = λ d desk is. by_told _ _ _ _ desk.actor
-      (if_same (is_same (actor_of event) (DeskAt d)) (is_down earlier (DeskAt d)))
-      (if_same (is_same (actor_of event) (DeskAt d)) (is_failed earlier (DeskAt d))) (b.desks d desk is);
-}
+none_tells old event earlier b = grind arith
 
 step_tells : {A : Type 0} (old new : Relay) (event : Event A) (reply : Reply A) (earlier : List (Moment A)) →
     AreAsTold earlier old → Step old event reply new →
     AreAsTold (record { before = old; event = event; reply = reply } ∷ earlier) new
-step_tells old new event reply earlier b (inl acts) = acts_tell old new event reply earlier b acts.1
-step_tells {A} old new event reply earlier b (inr none) =
-    subst (λ (r : Relay). AreAsTold (record { before = old; event = event; reply = reply } ∷ earlier) r) (sym none.2)
-    (subst (λ (r : Reply A). AreAsTold (record { before = old; event = event; reply = r } ∷ earlier) old) (sym none.1)
-    (none_tells old event earlier b))
+step_tells old new event reply earlier b acts = grind (arith, acts_tell, none_tells)
 
 fresh_runs : (from : ℕ) (ranges : List Range) (p : ℕ) (actor : Actor LedgerView) →
     slice_get (fresh_from from ranges) p ≡ Some actor → (held : LedgerView) × (Running held ≡ actor)

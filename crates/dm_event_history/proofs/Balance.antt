@@ -1,5 +1,5 @@
 -- A step moves numbers, and makes or ends none.
-use Rattle.std.proofs.Common.{◌≡◌, ◌+◌, ◌≤◌, ◌<◌, inl, inr, ℕ, Bool, true, false, ◌==◌, ◌&&◌, not, Some, List, [], ◌∷◌, ◌++◌, length, map, slice_get, refl, sym, ap, subst, ◌∙◌, arith, eq-eqb}
+use Rattle.std.proofs.Common.{◌≡◌, ◌+◌, ◌≤◌, inl, inr, ℕ, false, Some, List, [], ◌∷◌, length, slice_get, refl, sym, ap, subst, ◌∙◌, arith}
 use Rattle.std.specs.Prelude.{IsSomeAnd}
 use Rattle.std.proofs.lemmas.Option.{slice_get_within}
 use Rattle.dm_check_blocks.specs.declared.size.Size.{Size}
@@ -7,22 +7,21 @@ use Rattle.dm_encodation.specs.declared.scheme.Scheme.{Scheme}
 use Rattle.dm_store.specs.declared.fuse.Kept.TheVariants.{Old, New}
 use Rattle.dm_print_ledger.specs.declared.range.Range.{Range}
 use Rattle.dm_print_ledger.specs.declared.giver.Giver.{Giver}
-use Rattle.dm_print_ledger.specs.Ranges.{is_free, is_in}
+use Rattle.dm_print_ledger.specs.Ranges.{is_free}
 use Rattle.dm_print_ledger.specs.Givers.{last_taken}
 use Rattle.dm_print_ledger.specs.Views.{LedgerView, TicketView}
 use Rattle.dm_print_ledger.specs.Changes.{least, single}
 use Rattle.dm_print_ledger.specs.Verdicts.{ticket_of}
-use Rattle.dm_print_ledger.proofs.RangeTests.{at_least, at_most, in_from}
 use Rattle.dm_event_history.specs.declared.stop.Stop.{Stop}
 use Rattle.dm_event_history.specs.declared.stop.Stop.TheVariants as stops
 use Rattle.dm_event_history.specs.declared.stop.Stop.TheVariants.{BeforeSave, InSave, SaveFault, AfterLabels}
 use Rattle.dm_event_history.specs.declared.reply.Reply.{Reply}
-use Rattle.dm_event_history.proofs.Deciding.{decided, other_number, same_or_other}
+use Rattle.dm_event_history.proofs.Deciding.{decided}
 use Rattle.dm_event_history.proofs.Gotten.{get_more}
 use Rattle.dm_event_history.proofs.LedgerFacts.{LosesNumbers, give_loses, made_print}
 use Rattle.dm_event_history.specs.Actors.{Actor, Running, Failed, Down, stored_of}
 use Rattle.dm_event_history.specs.Relay.{Goods, Label, Relay, Used, nothing, with_printer}
-use Rattle.dm_event_history.specs.Calls.{Answers, Calls, Course, Ending, Faults, LacksMemory, MayLackFirst, Reaches, Restarts, Saves, cut_off, ends, lost}
+use Rattle.dm_event_history.specs.Calls.{Answers, Calls, Course, Ending, Faults, LacksMemory, MayLackFirst, Reaches, Restarts, Saves, cut_off, ends}
 use Rattle.dm_event_history.specs.PrinterCalls.{GiveComes, PrintComes}
 use Rattle.dm_event_history.specs.Places.{IsInOrder, gone, is_taken, one_if, places}
 use Rattle.dm_event_history.proofs.Numbers.{all_in, free_set, gone_lost, gone_more, lost_takes_none, on_more, on_new, on_same, taken_same}
@@ -45,12 +44,7 @@ still held = record { kept = λ n. omega arith; none_taken = λ k. refl; number 
 -- the same, where the call is cut off
 cut_balanced : (held next : LedgerView) (goods : Goods) (most : ℕ) → IsBalanced held next goods →
     IsBalanced held next (cut_off most goods)
-cut_balanced held next goods most b = record {
-  kept = λ n. omega (arith, b.kept n, gone_more goods.moves (map lost goods.tickets) n, gone_lost goods.tickets n);
-  none_taken = λ k. taken_same goods.moves (map lost goods.tickets) k (lost_takes_none goods.tickets k) ∙ b.none_taken k;
-  number = b.number;
-  givers = b.givers;
-}
+cut_balanced held next goods most b = grind (arith, gone_lost, gone_more, lost_takes_none, taken_same)
 
 abbrev IsBalancedCourse : {A : Type 0} → LedgerView → Course A LedgerView → Type 0
 IsBalancedCourse held (Saves next goods reply) = IsBalanced held next goods
@@ -82,8 +76,7 @@ Balances {A} Acts = (actor : Actor LedgerView) (end : Ending A LedgerView) → A
 
 as_known : {A : Type 0} (held : LedgerView) (end known : Ending A LedgerView) → end ≡ known →
     IsBalanced held (stored_of known.actor) known.goods → IsBalanced held (stored_of end.actor) end.goods
-as_known {A} held end known is b =
-    subst (λ (e : Ending A LedgerView). IsBalanced held (stored_of e.actor) e.goods) (sym is) b
+as_known {A} held end known is b = grind arith
 
 pub calls_balance : {A : Type 0} (faults : Faults A) (stop : Stop) (Comes : LedgerView → Course A LedgerView → Type 0) →
     ((held : LedgerView) (course : Course A LedgerView) → Comes held course → IsBalancedCourse held course) →
@@ -96,66 +89,20 @@ calls_balance faults stop Comes each (Down stored) end acts = as_known stored en
 
 pub may_lack_balances : {A : Type 0} (Acts : Actor LedgerView → Ending A LedgerView → Type 0) → Balances Acts →
     Balances (MayLackFirst Acts)
-may_lack_balances Acts each (Running held) end (inl lack) = as_known held end _ lack (still held)
-may_lack_balances Acts each (Running held) end (inr acts) = each (Running held) end acts
-may_lack_balances Acts each (Failed shown stored) end (inl lack) = as_known stored end _ lack (still stored)
-may_lack_balances Acts each (Failed shown stored) end (inr acts) = each (Failed shown stored) end acts
-may_lack_balances Acts each (Down stored) end acts = each (Down stored) end acts
+may_lack_balances Acts each held end acts = grind arith
 
 pub restarts_balance : {A : Type 0} (refused : Reply A) → Balances (Restarts {A = A} {C = LedgerView} refused)
-restarts_balance refused actor end (inl is) = as_known (stored_of actor) end _ is (still (stored_of actor))
-restarts_balance refused actor end (inr is) = as_known (stored_of actor) end _ is (still (stored_of actor))
+restarts_balance refused actor end is = grind arith
 
 -- ---- prints and gives
 
--- what is taken out of the free numbers, number by number
-out_of : (free inside new : Bool) → new ≡ (free && not inside) → (inside ≡ true → free ≡ true) →
-    one_if new + one_if inside ≡ one_if free
-out_of true true new is were = ap (λ (b : Bool). one_if b + 1) is
-out_of true false new is were = ap (λ (b : Bool). one_if b + 0) is
-out_of false true new is were = (let e : false ≡ true = were refl in cc (e))
-out_of false false new is were = ap (λ (b : Bool). one_if b + 0) is
-
--- a number alone is in its range exactly if it is that
-in_single : (id number : ℕ) → one_if (is_in (single id) number) ≡ one_if (id == number)
-in_single id number = elim (same_or_other id number) [
-  | inl same ↦
-      let a : is_in (single id) number ≡ true = in_from (single id) number (omega arith) (omega arith) in
-      let b : (id == number) ≡ true = eq-eqb id number same in
-      ap one_if (a ∙ sym b)
-  | inr other ↦
-      let b : (id == number) ≡ false = other_number id number other in
-      elim (decided (is_in (single id) number)) [
-        | inl inside ↦ absurd (other (let low : id ≤ number = at_least (single id) number inside in
-            let high : number ≤ id = at_most (single id) number inside in omega arith))
-        | inr outside ↦ ap one_if (outside ∙ sym b)
-      ]
-]
-
 uses_balanced : (held next : LedgerView) (id : ℕ) (labels : List Label) → LosesNumbers held (single id) next →
     IsBalanced held next (record { labels = labels; tickets = []; exports = []; moves = Used id ∷ [] })
-uses_balanced held next id labels loses = record {
-  kept = λ n.
-      let out = out_of (is_free held.free n) (is_in (single id) n) (is_free next.free n) (loses.free.free n)
-      (loses.were_free n) in
-      let one = in_single id n in
-      omega arith;
-  none_taken = λ k. refl;
-  number = loses.number;
-  givers = loses.givers;
-}
+uses_balanced held next id labels loses = grind arith
 
 gives_balanced : (held next : LedgerView) (ticket : TicketView) → LosesNumbers held ticket.range next →
     IsBalanced held next (record { labels = []; tickets = ticket ∷ []; exports = []; moves = [] })
-gives_balanced held next ticket loses = record {
-  kept = λ n.
-      let out = out_of (is_free held.free n) (is_in ticket.range n) (is_free next.free n) (loses.free.free n)
-      (loses.were_free n) in
-      omega arith;
-  none_taken = λ k. refl;
-  number = loses.number;
-  givers = loses.givers;
-}
+gives_balanced held next ticket loses = grind arith
 
 of_goods : (held next : LedgerView) (goods known : Goods) → goods ≡ known → IsBalanced held next known →
     IsBalanced held next goods
@@ -183,27 +130,13 @@ give_balanced before receiver range held LacksMemory comes = tt
 -- tickets that did not leave were not taken
 pub later_untaken : (relay : Relay) → IsInOrder relay → (k : ℕ) → length relay.tickets ≤ k →
     is_taken relay.moves k ≡ false
-later_untaken relay order k late = elim (decided (is_taken relay.moves k)) [
-  | inl taken ↦
-      let noted = order.noted k taken in
-      let within : k < length relay.tickets = slice_get_within relay.tickets k noted.ticket noted.there in
-      absurd (omega arith)
-  | inr none ↦ none
-]
+later_untaken relay order k late = grind (arith, decided, slice_get_within)
 
 pub balanced_places : (old : Relay) (printer : ℕ) (actor next : Actor LedgerView) (goods : Goods) → IsInOrder old →
     slice_get old.printers printer ≡ Some actor → IsBalanced (stored_of actor) (stored_of next) goods → (number : ℕ) →
     places (with_printer old printer next goods) number ≡ places old number
 balanced_places old printer actor next goods order was b number =
-    let free = free_set old.printers printer number actor next was in
-    let moves = gone_more old.moves goods.moves number in
-    let same : (k : ℕ) → is_taken (old.moves ++ goods.moves) k ≡ is_taken old.moves k =
-    λ k. taken_same old.moves goods.moves k (b.none_taken k) in
-    let on = on_same old.moves (old.moves ++ goods.moves) 0 (old.tickets ++ goods.tickets) number same in
-    let more = on_more old.moves 0 old.tickets goods.tickets number in
-    let new = on_new old.moves (0 + length old.tickets) goods.tickets number
-    (λ k above. later_untaken old order k (omega arith)) in
-    omega (arith, b.kept number)
+    grind (arith, free_set, gone_more, later_untaken, on_more, on_new, on_same, taken_same)
 
 pub balanced_order : (old : Relay) (printer : ℕ) (actor next : Actor LedgerView) (goods : Goods) → IsInOrder old →
     slice_get old.printers printer ≡ Some actor → IsBalanced (stored_of actor) (stored_of next) goods →

@@ -1,5 +1,5 @@
 -- A relay that begins is sound and clean.
-use Rattle.std.proofs.Common.{◌≡◌, ◌+◌, ◌≤◌, inl, inr, ℕ, zero, suc, Bool, true, false, ◌||◌, Option, Some, None, List, [], ◌∷◌, map, slice_get, refl, IsSome, ap, subst, ◌∙◌, arith}
+use Rattle.std.proofs.Common.{◌≡◌, ◌+◌, ◌≤◌, inl, inr, ℕ, zero, suc, Bool, true, false, ◌||◌, Option, Some, None, List, [], ◌∷◌, map, slice_get, refl, IsSome, ap, ◌∙◌, arith}
 use Rattle.std.specs.Prelude.{unwrap_or}
 use Rattle.std.specs.FinMap as finite
 use Rattle.std.specs.FinMap.{get-empty}
@@ -7,7 +7,6 @@ use Rattle.std.specs.Ordering.{nat_cmp}
 use Rattle.dm_print_ledger.specs.declared.range.Range.{Range}
 use Rattle.dm_print_ledger.specs.Ranges.{is_in}
 use Rattle.dm_print_ledger.specs.Views.{LedgerView}
-use Rattle.dm_print_ledger.proofs.RangeTests.{at_least, at_most}
 use Rattle.dm_assembly_desk.specs.Pages.{Pages, page}
 use Rattle.dm_assembly_desk.specs.Documents.{Documents, page_at}
 use Rattle.dm_event_history.specs.Places.{AreDisjoint, IsApart}
@@ -15,15 +14,14 @@ use Rattle.dm_event_history.proofs.Deciding.{decided}
 use Rattle.dm_event_history.proofs.Opened.{apart_of}
 use Rattle.dm_event_history.specs.Actors.{Actor, Running, stored_of}
 use Rattle.dm_event_history.specs.Relay.{Desk, Label, empty_desk, fresh_from, start}
-use Rattle.dm_event_history.specs.Clean.{ArePrinted, HaveLeft, IsCleanActor}
+use Rattle.dm_event_history.specs.Clean.{ArePrinted, HaveLeft}
 use Rattle.dm_event_history.specs.Headline.{AreAllClean}
 use Rattle.dm_event_history.specs.Places.{IsSound, free_at, one_if, opened}
 
 -- ---- numbers
 
 or_false : (b : Bool) → (b || false) ≡ b
-or_false true = refl
-or_false false = refl
+or_false b = grind arith
 
 -- a number of none of the ranges is free at no printer
 free_none : (from : ℕ) (ranges : List Range) (number : ℕ) →
@@ -39,16 +37,7 @@ free_none from (range ∷ ranges) number none =
 -- a number of a range is of none that is apart from it
 not_in_other : (range other : Range) (number : ℕ) → IsApart range other → is_in range number ≡ true →
     is_in other number ≡ false
-not_in_other range other number apart inside = elim (decided (is_in other number)) [
-  | inl also ↦ absurd (clash apart (at_least range number inside) (at_most range number inside)
-      (at_least other number also) (at_most other number also))
-  | inr outside ↦ outside
-]
-  where
-    clash : IsApart range other → range.first ≤ number → number ≤ range.last → other.first ≤ number →
-        number ≤ other.last → ⊥
-    clash (inl before) a b c d = omega (arith, before)
-    clash (inr after) a b c d = omega (arith, after)
+not_in_other range other number apart inside = grind arith
 
 -- of disjoint ranges it is free at one printer at most
 free_once : (from : ℕ) (ranges : List Range) (number : ℕ) → AreDisjoint ranges →
@@ -97,16 +86,7 @@ fresh_number from (range ∷ ranges) zero actor is =
 fresh_number from (range ∷ ranges) (suc p) actor is = (let h = fresh_number (from + 1) ranges p actor is in omega arith)
 
 pub start_sound : (ranges : List Range) (rooms : List ℕ) → AreDisjoint ranges → IsSound (start ranges rooms)
-start_sound ranges rooms apart = record {
-  order = record {
-    numbers = λ p actor is. (let n = fresh_number 0 ranges p actor is in omega arith);
-    noted = λ k taken. absurd (cc (taken));
-  };
-  apart = λ n. (let once = free_once 0 ranges n apart in omega arith);
-  used = λ i label is. absurd (cc (is));
-  one_document = λ i j one other is there same. absurd (cc (is));
-  once = λ i j one other is there same number. absurd (cc (is));
-}
+start_sound ranges rooms apart = grind (arith, free_once, fresh_number)
 
 pub start_printed : (ranges : List Range) (rooms : List ℕ) → ArePrinted (start ranges rooms).labels
 start_printed ranges rooms i label is = absurd (cc (is))
@@ -114,8 +94,7 @@ start_printed ranges rooms i label is = absurd (cc (is))
 -- ---- desks
 
 page_none : (m : ℕ) → page [] m ≡ None
-page_none zero = refl
-page_none (suc i) = refl
+page_none m = grind arith
 
 abbrev pub none_held : Documents
 none_held = finite.empty
@@ -149,7 +128,4 @@ empty_there (room ∷ rooms) zero desk is =
 empty_there (room ∷ rooms) (suc d) desk is = empty_there rooms d desk is
 
 pub start_clean : (ranges : List Range) (rooms : List ℕ) → AreAllClean (start ranges rooms)
-start_clean ranges rooms = record {
-  desks = λ d desk is. subst (λ (a : Actor Documents). IsCleanActor [] a) (empty_there rooms d desk is) (empty_left []);
-  exports = λ i export is. absurd (cc (is));
-}
+start_clean ranges rooms = grind (arith, empty_left, empty_there)

@@ -13,10 +13,9 @@ use Rattle.dm_assembly_desk.specs.declared.reply.Imported as imported_type
 use Rattle.dm_assembly_desk.specs.declared.reply.Kind.{Kind}
 use Rattle.dm_assembly_desk.specs.declared.reply.Kind.TheVariants as kinds
 use Rattle.dm_assembly_desk.specs.Pages.{Pages, page}
-use Rattle.dm_assembly_desk.specs.declared.adding.AddFault.{AddFault}
 use Rattle.dm_assembly_desk.specs.Documents.{Documents}
 use Rattle.dm_assembly_desk.specs.Accepting.{lone}
-use Rattle.dm_assembly_desk.specs.Adding.{add_verdict, with_pages, add_kind, reply_of}
+use Rattle.dm_assembly_desk.specs.Adding.{add_verdict, with_pages, add_kind}
 use Rattle.dm_finder_frame.specs.Grids.{flipped}
 use Rattle.dm_print_ledger.specs.declared.range.Range.{Range}
 use Rattle.dm_print_ledger.specs.Views.{LedgerView}
@@ -26,11 +25,11 @@ use Rattle.dm_event_history.specs.declared.reply.Reply.{Reply}
 use Rattle.dm_event_history.specs.declared.reply.Reply.TheVariants.{Scanned, Forgotten, Imported}
 use Rattle.dm_event_history.specs.declared.reply.Reply.TheVariants as replies
 use Rattle.dm_event_history.specs.declared.stop.Stop.{Stop}
-use Rattle.dm_event_history.specs.Saving.{Stores, leaves_new, may_save, stop_of}
+use Rattle.dm_event_history.specs.Saving.{leaves_new, may_save, stop_of}
 use Rattle.dm_event_history.specs.Actors.{Actor, Running}
 use Rattle.dm_event_history.specs.Relay as relays
 use Rattle.dm_event_history.specs.Relay.{Desk, Label, Relay, empty_desk, start, nothing}
-use Rattle.dm_event_history.specs.Calls.{Calls, Course, Ending, Faults, LacksMemory, Looks, MayLackFirst, Saves, ends}
+use Rattle.dm_event_history.specs.Calls.{Calls, Course, Ending, Faults, LacksMemory, Looks, MayLackFirst, ends}
 use Rattle.dm_event_history.specs.DeskCalls.{AskTells, ExportTells, ForgetComes, ImportComes, MayBe, ScanComes, forget_faults, import_faults, scan_course, scan_faults, verdict_course, page_reply, pages_reply, forget_reply}
 use Rattle.dm_event_history.specs.Steps.{Acts, DeskGoes, HasModules, IsNamed, PrinterGoes, Step}
 use Rattle.dm_event_history.specs.Runs.{Moment, IsRun}
@@ -66,21 +65,13 @@ next : {A : Type 0} (before : Relay) (event : Event A) (reply : Reply A) (earlie
     ((id m : ℕ) → Takes before event reply at id m → Has new id m) →
     ((id m : ℕ) → Has new id m → MayTake before event reply at id m ⊎ ((¬ Forgets event reply at id) × Has old id m)) →
     IsBetween (after before event reply earlier) at new
-next before event reply earlier at old new b keeps takes only = record {
-  surely = λ id m s. elim s [ inl took ↦ takes id m took | inr was ↦ keeps id m (b.surely id m was.1) was.0 ];
-  possibly = λ id m has. elim (only id m has) [
-    | inl took ↦ inl took
-    | inr was ↦ inr (was.0, b.possibly id m was.1)
-  ];
-}
+next before event reply earlier at old new b keeps takes only = grind arith
 
 -- what neither takes nor forgets leaves it so
 stays : {A : Type 0} (before : Relay) (event : Event A) (reply : Reply A) (earlier : List (Moment A)) (at : ℕ) →
     ((id m : ℕ) → ¬ Takes before event reply at id m) → ((id : ℕ) → ¬ Forgets event reply at id) →
     (held : Documents) → IsBetween earlier at held → IsBetween (after before event reply earlier) at held
-stays before event reply earlier at none still held b =
-    next before event reply earlier at held held b (λ id m has _. has) (λ id m took. absurd (none id m took))
-    (λ id m has. inr (still id, has))
+stays before event reply earlier at none still held b = grind arith
 
 -- ---- scans and imports
 
@@ -97,15 +88,7 @@ module _ (A : Type 0) (before : Relay) (event : Event A) (stop : Stop) (faults :
   -- they are added
   added : (held : Documents) (reply : Reply A) → may_save event reply ≡ true → TakesThese reply →
       IsBetween earlier desk held → IsBetween (after before event reply earlier) desk (with_pages held id pages)
-  added held reply saved takes b =
-      next before event reply earlier desk held (with_pages held id pages) b
-      (λ i m has _. with_pages_keeps held id pages i m has)
-      (λ i m t. let o = takes i m t in
-      subst (λ (k : ℕ). Has (with_pages held id pages) k m) o.0 (with_pages_has held id pages m o.1))
-      (λ i m has. elim (with_pages_only held id pages i m has) [
-        | inl given ↦ inl (may reply i m saved given.0 given.1)
-        | inr old ↦ inr (forgets reply i, old)
-      ])
+  added held reply saved takes b = grind (arith, next, with_pages_has, with_pages_keeps, with_pages_only)
 
   -- it is answered that they were added, or were all held
   pub answered : (room : ℕ) (held : Documents) (reply : Reply A) (end : Actor Documents) → may_save event reply ≡ true →
@@ -134,18 +117,7 @@ module _ (A : Type 0) (before : Relay) (event : Event A) (stop : Stop) (faults :
       IsBetween earlier desk held → MayBe (verdict_course tells (add_verdict room held id pages)) course →
       reply ≡ (ends faults stop course (Running held)).reply →
       CourseHas (IsBetween (after before event reply earlier) desk) stop course
-  unanswered room held reply course stopped save saved takes b (inr lack) is =
-      subst (λ (c : Course A Documents). CourseHas (IsBetween (after before event reply earlier) desk) stop c)
-      (sym lack.0) tt
-  unanswered room held reply course stopped save saved takes b (inl same) is =
-      subst (λ (c : Course A Documents). (reply ≡ (ends faults stop c (Running held)).reply) →
-      CourseHas (IsBetween (after before event reply earlier) desk) stop c) (sym same)
-      (by_verdict (λ v. (reply ≡ (ends faults stop (verdict_course tells v) (Running held)).reply) →
-      CourseHas (IsBetween (after before event reply earlier) desk) stop (verdict_course tells v)) room held id pages
-      (λ fault at told. tt) (λ at told. tt)
-      (λ kind other at told stores. added held reply (ap (λ (r : Reply A). may_save event r) told
-      ∙ saves_may event faults stop (with_pages held id pages) nothing (tells (Ok (reply_of held id pages kind)))
-      (Running held) stopped save (saved _) stores) takes b)) is
+  unanswered room held reply course stopped save saved takes b lack is = grind (arith, added, by_verdict, saves_may)
 
 -- ---- scans
 
@@ -155,8 +127,7 @@ is_scanned reply = inr (λ a e. cc (e))
 
 not_scanned : {A : Type 0} (before : Relay) (desk number : ℕ) (flips : List (ℕ × ℕ)) (stop : Stop) (reply : Reply A) →
     ((a : Accepted) → reply ≢ Scanned a) → (at id m : ℕ) → ¬ Takes before (Scan desk number flips stop) reply at id m
-not_scanned before desk number flips stop (Scanned a) never at id m took = never a refl
-not_scanned before desk number flips stop reply never at id m took = took
+not_scanned before desk number flips stop reply never at id m took = grind arith
 
 module _ (A : Type 0) (before : Relay) (desk number room : ℕ) (flips : List (ℕ × ℕ)) (stop : Stop) (label : Label)
     (earlier : List (Moment A)) (there : slice_get before.labels number ≡ Some label)
@@ -247,31 +218,18 @@ module _ (A : Type 0) (before : Relay) (desk number room : ℕ) (flips : List (�
 -- ---- forgets
 
 is_forgotten : {A : Type 0} (reply : Reply A) → (reply ≡ Forgotten) ⊎ (reply ≢ Forgotten)
-is_forgotten Forgotten = inl refl
-is_forgotten reply = inr (λ e. cc (e))
+is_forgotten reply = grind arith
 
 not_forgotten : {A : Type 0} (desk name : ℕ) (stop : Stop) (reply : Reply A) → reply ≢ Forgotten → (at id : ℕ) →
     ¬ Forgets (Forget desk name stop) reply at id
-not_forgotten desk name stop Forgotten never at id f = never refl
-not_forgotten desk name stop reply never at id f = f
+not_forgotten desk name stop reply never at id f = grind arith
 
 module _ (A : Type 0) (before : Relay) (desk name : ℕ) (stop : Stop) (earlier : List (Moment A)) where
   -- the document is not held
   without : (held : Documents) (reply : Reply A) → may_save (Forget desk name stop) reply ≡ true →
       IsBetween earlier desk held →
       IsBetween (after before (Forget desk name stop) reply earlier) desk (finite.remove held name)
-  without held reply may b =
-      next before (Forget desk name stop) reply earlier desk held (finite.remove held name) b
-      (λ id m has free. elim (same_or_other id name) [
-        | inl same ↦ absurd (free (refl, sym same, may))
-        | inr away ↦ without_keeps held name id m away has
-      ])
-      (λ id m t. absurd t)
-      (λ id m has. let old = without_only held name id m has in inr (gone reply id old.0, old.1))
-    where
-      gone : (reply : Reply A) (id : ℕ) → id ≢ name → ¬ Forgets (Forget desk name stop) reply desk id
-      gone Forgotten id away f = away (sym f.1)
-      gone reply id away f = f
+  without held reply may b = grind (arith, may, next, same_or_other, without_keeps, without_only)
 
   pub forget_between : (actor : Actor Documents) (end : Ending A Documents) → HasAll (IsBetween earlier desk) actor →
       Calls forget_faults stop (ForgetComes name) actor end →
@@ -325,18 +283,14 @@ is_imported reply = inr (λ i e. cc (e))
 not_imported : {A : Type 0} (before : Relay) (desk number : ℕ) (stop : Stop) (reply : Reply A) →
     ((i : imported_type.Imported) → reply ≢ Imported i) → (at id m : ℕ) →
     ¬ Takes before (Import desk number stop) reply at id m
-not_imported before desk number stop (Imported i) never at id m took = never i refl
-not_imported before desk number stop reply never at id m took = took
+not_imported before desk number stop reply never at id m took = grind arith
 
 module _ (A : Type 0) (before : Relay) (desk number room : ℕ) (stop : Stop) (export : relays.Export)
     (earlier : List (Moment A)) (there : slice_get before.exports number ≡ Some export) where
   -- the export that was taken is this
   own : (reply : Reply A) (id m : ℕ) → Takes before (Import desk number stop) reply desk id m →
       (export.id ≡ id) × IsSome (page export.pages m)
-  own (Imported i) id m took =
-      let same : took.1.0 ≡ export = (let a : slice_get before.exports number ≡ Some took.1.0 = took.1.1 in cc (a, there)) in
-      subst (λ (e : relays.Export). (e.id ≡ id) × IsSome (page e.pages m)) same (took.1.2, took.1.3)
-  own reply id m took = absurd took
+  own reply id m took = grind arith
 
   may_file : (reply : Reply A) (i m : ℕ) → may_save {A = A} (Import desk number stop) reply ≡ true → i ≡ export.id →
       IsSome (page export.pages m) → MayTake {A = A} before (Import desk number stop) reply desk i m
@@ -394,18 +348,15 @@ set_at (z ∷ zs) (suc i) (suc j) x y is = elim (set_at zs i j x y is) [
 -- only an event of this desk takes or forgets here
 scan_here : {A : Type 0} (before : Relay) (desk number : ℕ) (flips : List (ℕ × ℕ)) (stop : Stop) (reply : Reply A)
     (at id m : ℕ) → Takes before (Scan desk number flips stop) reply at id m → desk ≡ at
-scan_here before desk number flips stop (Scanned a) at id m t = t.0
-scan_here before desk number flips stop reply at id m t = absurd t
+scan_here before desk number flips stop reply at id m t = grind arith
 
 import_here : {A : Type 0} (before : Relay) (desk number : ℕ) (stop : Stop) (reply : Reply A) (at id m : ℕ) →
     Takes before (Import desk number stop) reply at id m → desk ≡ at
-import_here before desk number stop (Imported i) at id m t = t.0
-import_here before desk number stop reply at id m t = absurd t
+import_here before desk number stop reply at id m t = grind arith
 
 forget_here : {A : Type 0} (desk name : ℕ) (stop : Stop) (reply : Reply A) (at id : ℕ) →
     Forgets (Forget desk name stop) reply at id → desk ≡ at
-forget_here desk name stop Forgotten at id f = f.0
-forget_here desk name stop reply at id f = absurd f
+forget_here desk name stop reply at id f = grind arith
 
 module _ (A : Type 0) (old new : Relay) (event : Event A) (reply : Reply A) (earlier : List (Moment A))
     (b : AreBetween earlier old) where
@@ -415,30 +366,18 @@ module _ (A : Type 0) (old new : Relay) (event : Event A) (reply : Reply A) (ear
       ((room : ℕ) (actor : Actor Documents) (end : Ending A Documents) → HasAll (IsBetween earlier number) actor →
       reply ≡ end.reply → Acts room actor end → HasAll (IsBetween (after old event reply earlier) number) end.actor) →
       DeskGoes old number Acts reply new → AreBetween (after old event reply earlier) new
-  desk_between number Acts others own g =
-      subst (λ (r : Relay). AreBetween (after old event reply earlier) r) (sym g.new_is)
-      (λ at desk is. elim (set_at old.desks number at _ desk is) [
-        | inl here ↦ subst (λ (k : ℕ). HasAll (IsBetween (after old event reply earlier) k) desk.actor) here.0
-            (subst (λ (d : Desk). HasAll (IsBetween (after old event reply earlier) number) d.actor) here.1
-            (own g.desk.room g.desk.actor g.end (b number g.desk g.was) g.reply_is g.acts))
-        | inr there ↦ has_map (IsBetween earlier at) (IsBetween (after old event reply earlier) at)
-            (others at there.0) desk.actor (b at desk there.1)
-      ])
+  desk_between number Acts others own g = grind (arith, has_map, own, set_at)
 
   printer_between : (printer : ℕ) (Acts : Actor LedgerView → Ending A LedgerView → Type 0) →
       ((at : ℕ) (held : Documents) → IsBetween earlier at held → IsBetween (after old event reply earlier) at held) →
       PrinterGoes old printer Acts reply new → AreBetween (after old event reply earlier) new
-  printer_between printer Acts others g =
-      subst (λ (r : Relay). AreBetween (after old event reply earlier) r) (sym g.new_is)
-      (λ at desk is. has_map (IsBetween earlier at) (IsBetween (after old event reply earlier) at) (others at)
-      desk.actor (b at desk is))
+  printer_between printer Acts others g = grind arith
 
 -- the answer to a look takes nothing
 quiet : {A : Type 0} (old : Relay) (event : Event A) (reply : Reply A) (earlier : List (Moment A)) →
     ((at id m : ℕ) → ¬ Takes old event reply at id m) → ((at id : ℕ) → ¬ Forgets event reply at id) →
     (at : ℕ) (held : Documents) → IsBetween earlier at held → IsBetween (after old event reply earlier) at held
-quiet old event reply earlier none still at held b =
-    stays old event reply earlier at (none at) (still at) held b
+quiet old event reply earlier none still at held b = grind arith
 
 acts_between : (A : Type 0) (old new : Relay) (event : Event A) (reply : Reply A) (earlier : List (Moment A)) →
     ArePrinted old.labels → IsFairEvent old event → AreBetween earlier old → Acts old event reply new →
@@ -506,34 +445,15 @@ acts_between A old new (RestartDesk desk) reply earlier p fair b acts named =
 
 -- what is not there takes and forgets nothing
 none_taken : {A : Type 0} (old : Relay) (event : Event A) (at id m : ℕ) → ¬ Takes old event replies.NoSuch at id m
-none_taken old (Print printer document size scheme stop) at id m t = t
-none_taken old (Give printer receiver range stop) at id m t = t
-none_taken old (Take printer number stop) at id m t = t
-none_taken old (RestartPrinter printer) at id m t = t
-none_taken old (Scan desk number flips stop) at id m t = t
-none_taken old (Forget desk name stop) at id m t = t
-none_taken old (Import desk number stop) at id m t = t
-none_taken old (Ask desk name) at id m t = t
-none_taken old (Export desk name) at id m t = t
-none_taken old (RestartDesk desk) at id m t = t
+none_taken old event at id m t = grind arith
 
 none_forgotten : {A : Type 0} (event : Event A) (at id : ℕ) → ¬ Forgets event replies.NoSuch at id
-none_forgotten (Print printer document size scheme stop) at id f = f
-none_forgotten (Give printer receiver range stop) at id f = f
-none_forgotten (Take printer number stop) at id f = f
-none_forgotten (RestartPrinter printer) at id f = f
-none_forgotten (Scan desk number flips stop) at id f = f
-none_forgotten (Forget desk name stop) at id f = f
-none_forgotten (Import desk number stop) at id f = f
-none_forgotten (Ask desk name) at id f = f
-none_forgotten (Export desk name) at id f = f
-none_forgotten (RestartDesk desk) at id f = f
+none_forgotten event at id f = grind arith
 
 names_scan : {A : Type 0} (old : Relay) (event : Event A) → IsNamed old event → (number : ℕ) (flips : List (ℕ × ℕ))
     (desk : ℕ) (stop : Stop) → event ≡ Scan desk number flips stop →
     (desk < length old.desks) × HasModules old number flips
-names_scan {A} old event named number flips desk stop is =
-    subst (λ (e : Event A). IsNamed old e) is named
+names_scan {A} old event named number flips desk stop is = grind arith
 
 step_between : (A : Type 0) (old new : Relay) (event : Event A) (reply : Reply A) (earlier : List (Moment A)) →
     ArePrinted old.labels → IsFairEvent old event → AreBetween earlier old → Step old event reply new →

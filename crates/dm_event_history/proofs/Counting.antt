@@ -1,13 +1,11 @@
--- `Exhausted` is told only where a printer may have used and given away all numbers that it began with and took.
+-- `Exhausted` is answered only where a printer may have used and given away all numbers that it began with and took.
 use Rattle.std.proofs.Common.{◌≡◌, ◌≢◌, ◌⊎◌, ◌+◌, ◌≤◌, inl, inr, ℕ, zero, suc, true, false, if◌then◌else◌, Option, Some, List, [], ◌∷◌, length, slice_get, refl, sym, ap, subst, ◌∙◌, arith, eq-eqb}
 use Rattle.dm_check_blocks.specs.declared.size.Size.{Size}
 use Rattle.dm_encodation.specs.declared.scheme.Scheme.{Scheme}
-use Rattle.dm_store.specs.declared.fuse.Kept.TheVariants.{Old, New}
 use Rattle.dm_print_ledger.specs.Creating.{opening}
 use Rattle.dm_print_ledger.specs.Ranges.{free_count, size_of}
 use Rattle.dm_print_ledger.specs.Views.{LedgerView, TicketView}
 use Rattle.dm_print_ledger.specs.declared.range.Range.{Range}
-use Rattle.dm_print_ledger.specs.declared.fault.PrintFault.TheVariants as print_fault
 use Rattle.dm_print_ledger.specs.declared.fault.OpenFault.TheVariants as open_fault
 use Rattle.dm_assembly_desk.specs.Documents.{Documents}
 use Rattle.dm_event_history.specs.declared.event.Event.{Event}
@@ -16,68 +14,23 @@ use Rattle.dm_event_history.specs.declared.reply.Reply.{Reply}
 use Rattle.dm_event_history.specs.declared.reply.Reply.TheVariants.{PrintRefused, Taken}
 use Rattle.dm_event_history.specs.declared.reply.Reply.TheVariants as replies
 use Rattle.dm_event_history.specs.declared.stop.Stop.{Stop}
-use Rattle.dm_event_history.specs.declared.stop.Stop.TheVariants as stops
-use Rattle.dm_event_history.specs.declared.stop.Stop.TheVariants.{BeforeSave, InSave, SaveFault, AfterLabels}
-use Rattle.dm_event_history.specs.WhoActs.{DeskAt, Named, PrinterAt, actor_of, is_same}
+use Rattle.dm_event_history.specs.WhoActs.{DeskAt, PrinterAt, actor_of, is_same}
 use Rattle.dm_event_history.specs.Saving.{Stores, may_save}
-use Rattle.dm_event_history.specs.Actors.{Actor, Running, Failed, Down, stored_of}
+use Rattle.dm_event_history.specs.Actors.{Actor, Running, stored_of}
 use Rattle.dm_event_history.specs.Relay.{Goods, Relay, fresh_from, start}
-use Rattle.dm_event_history.specs.Calls.{Answers, Calls, Course, Ending, Faults, LacksMemory, MayLackFirst, Reaches, Restarts, Saves, ends}
+use Rattle.dm_event_history.specs.Calls.{Answers, Calls, Course, Ending, Faults, LacksMemory, MayLackFirst, Restarts, Saves, ends}
 use Rattle.dm_event_history.specs.PrinterCalls.{GiveComes, PrintComes, TakeComes, give_faults, print_faults, take_faults}
 use Rattle.dm_event_history.specs.Steps.{Acts, DeskGoes, PrinterGoes, Step}
 use Rattle.dm_event_history.specs.Runs.{IsRun, Moment}
 use Rattle.dm_event_history.specs.Told.{EachExhaustedIsSo, has_taken, lost_by, may_lose, size_of_some, won_at}
-use Rattle.dm_event_history.proofs.Deciding.{if_not, if_same, if_so, other_number, true_false}
+use Rattle.dm_event_history.proofs.Deciding.{if_so, other_number}
 use Rattle.dm_event_history.proofs.Between.{set_at}
 use Rattle.dm_event_history.proofs.Having.{saves_may}
 use Rattle.dm_event_history.proofs.Answered.{Ended, IsOwn, is_answered}
 use Rattle.dm_event_history.proofs.LedgerFacts.{give_loses, made_print, print_refuses, take_gains}
-use Rattle.std.specs.Prelude.{is_some}
 use Rattle.dm_event_history.proofs.Reasons.{own_print, print_refused}
 
 -- ---- what a call stores
-
--- it saves this, and that is kept
-pub record IsStored {A C : Type 0} (faults : Faults A) (stop : Stop) (course : Course A C) (old : Actor C) (stored : C)
-    : Type 0 where
-  pub next : C
-  pub goods : Goods
-  pub reply : Reply A
-  pub course_is : course ≡ Saves next goods reply
-  pub stores : Stores stop
-  pub stored_is : stored ≡ next
-
-stored_ends : {A C : Type 0} (faults : Faults A) (stop : Stop) (course : Course A C) (old : Actor C) →
-    (stored_of (ends faults stop course old).actor ≡ stored_of old)
-    ⊎ IsStored faults stop course old (stored_of (ends faults stop course old).actor)
-stored_ends faults BeforeSave course old = inl refl
-stored_ends faults (InSave Old) course old = inl refl
-stored_ends faults stops.None (Saves next goods reply) old =
-    inr (record { next = next; goods = goods; reply = reply; course_is = refl; stores = tt; stored_is = refl })
-stored_ends faults (SaveFault Old) (Saves next goods reply) old = inl refl
-stored_ends faults (SaveFault New) (Saves next goods reply) old =
-    inr (record { next = next; goods = goods; reply = reply; course_is = refl; stores = tt; stored_is = refl })
-stored_ends faults (InSave New) (Saves next goods reply) old =
-    inr (record { next = next; goods = goods; reply = reply; course_is = refl; stores = tt; stored_is = refl })
-stored_ends faults (AfterLabels most) (Saves next goods reply) old =
-    inr (record { next = next; goods = goods; reply = reply; course_is = refl; stores = tt; stored_is = refl })
-stored_ends faults stops.None (Answers reply) old = inl refl
-stored_ends faults (SaveFault kept) (Answers reply) old = inl refl
-stored_ends faults (InSave New) (Answers reply) old = inl refl
-stored_ends faults (AfterLabels most) (Answers reply) old = inl refl
-stored_ends faults stops.None LacksMemory old = inl refl
-stored_ends faults (SaveFault kept) LacksMemory old = inl refl
-stored_ends faults (InSave New) LacksMemory old = inl refl
-stored_ends faults (AfterLabels most) LacksMemory old = inl refl
-
-comes_of : {P : Type 0} (stop : Stop) → Stores stop → Reaches stop P → P
-comes_of stops.None s p = p
-comes_of (SaveFault New) s p = p
-comes_of (SaveFault Old) s p = absurd s
-comes_of (InSave New) s p = p
-comes_of (InSave Old) s p = absurd s
-comes_of (AfterLabels most) s p = p
-comes_of BeforeSave s p = absurd s
 
 pub record HasSaved {A C : Type 0} (faults : Faults A) (stop : Stop) (Comes : C → Course A C → Type 0) (actor : Actor C)
     (end : Ending A C) : Type 0 where
@@ -95,43 +48,12 @@ pub record HasSaved {A C : Type 0} (faults : Faults A) (stop : Stop) (Comes : C 
 calls_store : {A C : Type 0} (faults : Faults A) (stop : Stop) (Comes : C → Course A C → Type 0) (actor : Actor C)
     (end : Ending A C) → Calls faults stop Comes actor end →
     (stored_of end.actor ≡ stored_of actor) ⊎ HasSaved faults stop Comes actor end
-calls_store {A} {C} faults stop Comes (Running held) end acts =
-    elim (stored_ends faults stop acts.0 (Running held)) [
-      | inl same ↦ inl (ap (λ (e : Ending A C). stored_of e.actor) acts.2 ∙ same)
-      | inr saved ↦ inr (record {
-        held = held;
-        was = refl;
-        next = saved.next;
-        goods = saved.goods;
-        reply = saved.reply;
-        comes = subst (λ (c : Course A C). Comes held c) saved.course_is (comes_of stop saved.stores acts.1);
-        stores = saved.stores;
-        told = ap (λ (e : Ending A C). e.reply) acts.2 ∙
-            ap (λ (c : Course A C). (ends faults stop c (Running held)).reply) saved.course_is;
-        stored_is = ap (λ (e : Ending A C). stored_of e.actor) acts.2 ∙ saved.stored_is;
-      })
-    ]
-calls_store {A} {C} faults stop Comes (Failed shown stored) end acts =
-    inl (ap (λ (e : Ending A C). stored_of e.actor) acts ∙ failed_keeps stop)
-  where
-    failed_keeps : (s : Stop) → stored_of (ends faults s (Answers faults.failed) (Failed shown stored)).actor ≡ stored
-    failed_keeps BeforeSave = refl
-    failed_keeps (InSave Old) = refl
-    failed_keeps (InSave New) = refl
-    failed_keeps stops.None = refl
-    failed_keeps (SaveFault kept) = refl
-    failed_keeps (AfterLabels most) = refl
-calls_store {A} {C} faults stop Comes (Down stored) end acts = inl (ap (λ (e : Ending A C). stored_of e.actor) acts)
+calls_store {A} {C} faults stop Comes actor end acts = grind arith
 
 may_lack_stores : {A C X : Type 0} (Acts : Actor C → Ending A C → Type 0) (actor : Actor C) (end : Ending A C) →
     (Acts actor end → (stored_of end.actor ≡ stored_of actor) ⊎ X) → MayLackFirst Acts actor end →
     (stored_of end.actor ≡ stored_of actor) ⊎ X
-may_lack_stores {A} {C} {X} Acts (Running held) end each (inl lack) = inl (ap (λ (e : Ending A C). stored_of e.actor) lack)
-may_lack_stores Acts (Running held) end each (inr acts) = each acts
-may_lack_stores {A} {C} {X} Acts (Failed shown stored) end each (inl lack) =
-    inl (ap (λ (e : Ending A C). stored_of e.actor) lack)
-may_lack_stores Acts (Failed shown stored) end each (inr acts) = each acts
-may_lack_stores Acts (Down stored) end each acts = each acts
+may_lack_stores {A} {C} {X} Acts actor end each lack = grind arith
 
 -- ---- numbers
 
@@ -198,23 +120,14 @@ give_keeps {A} old printer receiver range stop actor end acts =
 
 -- a take that is answered `Taken` was saved
 own_taken : {A : Type 0} → IsOwn {A = A} take_faults Taken
-own_taken = record {
-  stopped = λ e. cc (e);
-  down = λ e. cc (e);
-  lacks = λ e. cc (e);
-  failed = λ e. cc (e);
-  save = λ e. cc (e);
-  memory = λ e. cc (e);
-}
+own_taken = grind arith
 
 is_taken_reply : {A : Type 0} (reply : Reply A) → (reply ≡ Taken) ⊎ (reply ≢ Taken)
-is_taken_reply Taken = inl refl
-is_taken_reply reply = inr (λ e. cc (e))
+is_taken_reply reply = grind arith
 
 won_none : {A : Type 0} (old : Relay) (printer number : ℕ) (stop : Stop) (reply : Reply A) → reply ≢ Taken →
     won_at old (Take printer number stop) reply ≡ 0
-won_none old printer number stop Taken other = absurd (other refl)
-won_none old printer number stop reply other = refl
+won_none old printer number stop reply other = grind arith
 
 take_keeps : {A : Type 0} (old : Relay) (printer number : ℕ) (ticket : TicketView) (stop : Stop) →
     slice_get old.tickets number ≡ Some ticket →
@@ -251,10 +164,7 @@ take_keeps {A} old printer number ticket stop there actor end acts = elim (is_ta
 
 restart_keeps : {A : Type 0} (old : Relay) (printer : ℕ) →
     Keeps {A = A} old (RestartPrinter printer) (Restarts (replies.PrinterRefused open_fault.Memory))
-restart_keeps {A} old printer actor end (inl is) =
-    (let c = ap (λ (e : Ending A LedgerView). stored_count e.actor) is in omega arith)
-restart_keeps {A} old printer actor end (inr is) =
-    (let c = ap (λ (e : Ending A LedgerView). stored_count e.actor) is in omega arith)
+restart_keeps {A} old printer actor end is = grind arith
 
 -- ---- runs
 
@@ -269,58 +179,31 @@ module _ (A : Type 0) (ranges : List Range) (old new : Relay) (event : Event A) 
   same_lose : (p : ℕ) → is_same (actor_of event) (PrinterAt p) ≡ true →
       may_lose (record { before = old; event = event; reply = reply } ∷ earlier) p
       ≡ may_lose_by event reply + may_lose earlier p
-  same_lose p same = ap (λ (n : ℕ). n + may_lose earlier p)
-      (if_so (is_same (actor_of event) (PrinterAt p)) (may_lose_by event reply) 0 same)
+  same_lose p same = grind arith
 
   same_take : (p : ℕ) → is_same (actor_of event) (PrinterAt p) ≡ true →
       has_taken (record { before = old; event = event; reply = reply } ∷ earlier) p
       ≡ won_at old event reply + has_taken earlier p
-  same_take p same = ap (λ (n : ℕ). n + has_taken earlier p)
-      (if_so (is_same (actor_of event) (PrinterAt p)) (won_at old event reply) 0 same)
+  same_take p same = grind arith
 
   other_lose : (p : ℕ) → is_same (actor_of event) (PrinterAt p) ≡ false →
       may_lose (record { before = old; event = event; reply = reply } ∷ earlier) p ≡ 0 + may_lose earlier p
-  other_lose p other = ap (λ (n : ℕ). n + may_lose earlier p)
-      (if_not (is_same (actor_of event) (PrinterAt p)) (may_lose_by event reply) 0 (λ so. true_false _ so other))
+  other_lose p other = grind arith
 
   other_take : (p : ℕ) → is_same (actor_of event) (PrinterAt p) ≡ false →
       has_taken (record { before = old; event = event; reply = reply } ∷ earlier) p ≡ 0 + has_taken earlier p
-  other_take p other = ap (λ (n : ℕ). n + has_taken earlier p)
-      (if_not (is_same (actor_of event) (PrinterAt p)) (won_at old event reply) 0 (λ so. true_false _ so other))
+  other_take p other = grind arith
 
   printer_counts : (printer : ℕ) (Acts : Actor LedgerView → Ending A LedgerView → Type 0) →
       actor_of event ≡ PrinterAt printer → Keeps old event Acts → PrinterGoes old printer Acts reply new →
       AreCounted ranges (record { before = old; event = event; reply = reply } ∷ earlier) new
   printer_counts printer Acts named each g p range actor there is =
-      elim (set_at old.printers printer p g.end.actor actor
-      (subst (λ (r : Relay). slice_get r.printers p ≡ Some actor) g.new_is is)) [
-        | inl here ↦
-            let own : is_same (actor_of event) (PrinterAt p) ≡ true =
-            ap (λ (who : Named). is_same who (PrinterAt p)) named ∙ eq-eqb printer p here.0 in
-            let l = same_lose p own in let t = same_take p own in
-            let k = subst (λ (r : Reply A). stored_count g.actor + won_at old event r
-            ≤ stored_count g.end.actor + may_lose_by event r) (sym g.reply_is) (each g.actor g.end g.acts) in
-            let before = b p range g.actor there
-            (subst (λ (i : ℕ). slice_get old.printers i ≡ Some g.actor) here.0 g.was) in
-            let now = ap (λ (a : Actor LedgerView). stored_count a) here.1 in
-            omega arith
-        | inr away ↦
-            let other : is_same (actor_of event) (PrinterAt p) ≡ false =
-            ap (λ (who : Named). is_same who (PrinterAt p)) named ∙ other_number printer p away.0 in
-            let l = other_lose p other in let t = other_take p other in
-            let before = b p range actor there away.1 in
-            omega arith
-      ]
+      grind (arith, eq-eqb, other_lose, other_number, other_take, same_lose, same_take, set_at)
 
   desk_counts : (number : ℕ) (Acts : ℕ → Actor Documents → Ending A Documents → Type 0) →
       actor_of event ≡ DeskAt number → DeskGoes old number Acts reply new →
       AreCounted ranges (record { before = old; event = event; reply = reply } ∷ earlier) new
-  desk_counts number Acts named g p range actor there is =
-      let other : is_same (actor_of event) (PrinterAt p) ≡ false =
-      ap (λ (who : Named). is_same who (PrinterAt p)) named in
-      let l = other_lose p other in let t = other_take p other in
-      let before = b p range actor there (subst (λ (r : Relay). slice_get r.printers p ≡ Some actor) g.new_is is) in
-      omega arith
+  desk_counts number Acts named g p range actor there is = grind arith
 
 acts_count : (A : Type 0) (ranges : List Range) (old new : Relay) (event : Event A) (reply : Reply A)
     (earlier : List (Moment A)) → AreCounted ranges earlier old → Acts old event reply new →
@@ -349,31 +232,10 @@ acts_count A ranges old new (Export desk id) reply earlier b acts =
 acts_count A ranges old new (RestartDesk desk) reply earlier b acts =
     desk_counts A ranges old new (RestartDesk desk) reply earlier b desk _ refl acts
 
-none_won : {A : Type 0} (old : Relay) (event : Event A) → won_at old event replies.NoSuch ≡ 0
-none_won old (Print printer document size scheme stop) = refl
-none_won old (Give printer receiver range stop) = refl
-none_won old (Take printer number stop) = refl
-none_won old (RestartPrinter printer) = refl
-none_won old (Scan desk number flips stop) = refl
-none_won old (Forget desk id stop) = refl
-none_won old (Import desk number stop) = refl
-none_won old (Ask desk id) = refl
-none_won old (Export desk id) = refl
-none_won old (RestartDesk desk) = refl
-
 none_counts : (A : Type 0) (ranges : List Range) (old : Relay) (event : Event A) (earlier : List (Moment A)) →
     AreCounted ranges earlier old →
     AreCounted ranges (record { before = old; event = event; reply = replies.NoSuch } ∷ earlier) old
-none_counts A ranges old event earlier b p range actor there is =
-    let before = b p range actor there is in
-    let won : has_taken (record { before = old; event = event; reply = replies.NoSuch } ∷ earlier) p
-    ≡ 0 + has_taken earlier p = ap (λ (n : ℕ). n + has_taken earlier p)
-    (ap (λ (n : ℕ). if is_same (actor_of event) (PrinterAt p) then n else 0) (none_won old event) ∙
-    if_same (is_same (actor_of event) (PrinterAt p)) 0) in
-    let lost : may_lose (record { before = old; event = event; reply = replies.NoSuch } ∷ earlier) p
-    ≡ 0 + may_lose earlier p = ap (λ (n : ℕ). n + may_lose earlier p)
-    (if_same (is_same (actor_of event) (PrinterAt p)) 0) in
-    omega arith
+none_counts A ranges old event earlier b p range actor there is = grind arith
 
 fresh_count : (from : ℕ) (ranges : List Range) (p : ℕ) (range : Range) (actor : Actor LedgerView) →
     slice_get ranges p ≡ Some range → slice_get (fresh_from from ranges) p ≡ Some actor →
@@ -405,12 +267,4 @@ run_counts A ranges rooms (moment ∷ earlier) end run =
 
 pub each_exhausted_is_so : (A : Type 0) → EachExhaustedIsSo A
 each_exhausted_is_so A ranges rooms moment earlier end printer range document size scheme stop run asked there told =
-    let r = print_refused moment.before end printer document size scheme stop print_fault.Exhausted
-    (own_print print_fault.Exhausted (λ e. cc (e)) (λ e. cc (e)) (λ e. cc (e)))
-    (subst (λ (e : Event A). Step moment.before e (PrintRefused print_fault.Exhausted) end) asked
-    (subst (λ (x : Reply A). Step moment.before moment.event x end) told run.1)) in
-    let before = run_counts A ranges rooms earlier moment.before run.0 printer range (Running r.held) there r.runs in
-    let none : free_count r.held.free ≡ 0 = print_refuses
-    (λ f. f ≡ print_fault.Exhausted → free_count r.held.free ≡ 0) r.held (is_some r.parts) print_fault.Exhausted
-    (λ some e. cc (e)) (λ none e. none) r.verdict refl in
-    omega arith
+    grind (arith, own_print, print_refused, print_refuses, run_counts)

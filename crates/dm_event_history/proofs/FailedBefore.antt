@@ -1,7 +1,6 @@
--- `Failed` is told by what answered `Save` since it was last restarted.
-use Rattle.std.proofs.Common.{◌≡◌, inl, inr, ℕ, Bool, true, false, List, length, refl, sym, ap, ◌∙◌}
+-- `Failed` is answered by what answered `Save` since it was last restarted.
+use Rattle.std.proofs.Common.{arith, ◌≡◌, ℕ, Bool, true, false, List, length, refl, sym, ap, ◌∙◌}
 use Rattle.dm_finder_frame.specs.Grids.{flipped}
-use Rattle.dm_store.specs.declared.fuse.Kept.TheVariants.{Old, New}
 use Rattle.dm_print_ledger.specs.Views.{LedgerView}
 use Rattle.dm_print_ledger.specs.declared.fault.OpenFault.TheVariants as open_fault
 use Rattle.dm_assembly_desk.specs.declared.fault.DeskFault.TheVariants as desk_fault
@@ -11,41 +10,24 @@ use Rattle.dm_event_history.specs.declared.event.Event.TheVariants.{Print, Scan,
 use Rattle.dm_event_history.specs.declared.reply.Reply.{Reply}
 use Rattle.dm_event_history.specs.declared.reply.Reply.TheVariants as replies
 use Rattle.dm_event_history.specs.declared.stop.Stop.{Stop}
-use Rattle.dm_event_history.specs.declared.stop.Stop.TheVariants as stops
-use Rattle.dm_event_history.specs.declared.stop.Stop.TheVariants.{BeforeSave, InSave, SaveFault, AfterLabels}
 use Rattle.dm_event_history.specs.WhoActs.{DeskAt, Named, PrinterAt, actor_of}
 use Rattle.dm_event_history.specs.Actors.{Actor, Running, Failed, Down}
 use Rattle.dm_event_history.specs.Relay.{Goods, Relay}
-use Rattle.dm_event_history.specs.Calls.{Answers, Calls, Course, Ending, Faults, LacksMemory, Looks, MayLackFirst, Reaches, Restarts, Saves, ends}
+use Rattle.dm_event_history.specs.Calls.{Calls, Course, Ending, Faults, Looks, MayLackFirst, Reaches, Restarts, ends}
 use Rattle.dm_event_history.specs.DeskCalls.{AskTells, ExportTells}
-use Rattle.dm_event_history.specs.Steps.{Acts, DeskGoes, PrinterGoes, Step}
+use Rattle.dm_event_history.specs.Steps.{Acts, DeskGoes, PrinterGoes}
 use Rattle.dm_event_history.specs.Runs.{Moment}
 use Rattle.dm_event_history.specs.Told.{AreAsTold, EachFailedFailed, IsAsTold, is_failed, tells_failed}
 use Rattle.dm_event_history.proofs.Reaching.{reaches}
 use Rattle.dm_event_history.proofs.AsTold.{ArePlain, IsPlain, IsPlainCourse, ask_plain, each_run_is_as_told, export_plain, fine_forget, fine_give, fine_import, fine_print, fine_scan, fine_take, forget_plain, give_plain, import_plain, print_plain, scan_plain, take_plain}
 
 never : {X : Type 0} (b : Bool) → b ≡ false → b ≡ true → X
-never true unset set = absurd (cc (unset))
-never false unset set = absurd (cc (set))
+never b unset set = grind arith
 
 -- one that runs doesn't tell so
 running_ends : {A C X : Type 0} (faults : Faults A) (stop : Stop) (course : Course A C) (held : C) → ArePlain faults →
     Reaches stop (IsPlainCourse course) → tells_failed (ends faults stop course (Running held)).reply ≡ true → X
-running_ends faults BeforeSave course held fine plain told = absurd (cc (told))
-running_ends faults (InSave Old) course held fine plain told = absurd (cc (told))
-running_ends faults stops.None (Saves next goods reply) held fine plain told = never _ plain.unfailed told
-running_ends faults (SaveFault Old) (Saves next goods reply) held fine plain told = never _ fine.save_unfailed told
-running_ends faults (SaveFault New) (Saves next goods reply) held fine plain told = never _ fine.save_unfailed told
-running_ends faults (InSave New) (Saves next goods reply) held fine plain told = absurd (cc (told))
-running_ends faults (AfterLabels most) (Saves next goods reply) held fine plain told = absurd (cc (told))
-running_ends faults stops.None (Answers reply) held fine plain told = never _ plain.unfailed told
-running_ends faults (SaveFault kept) (Answers reply) held fine plain told = never _ plain.unfailed told
-running_ends faults (InSave New) (Answers reply) held fine plain told = absurd (cc (told))
-running_ends faults (AfterLabels most) (Answers reply) held fine plain told = absurd (cc (told))
-running_ends faults stops.None LacksMemory held fine plain told = never _ fine.memory.unfailed told
-running_ends faults (SaveFault kept) LacksMemory held fine plain told = never _ fine.memory.unfailed told
-running_ends faults (InSave New) LacksMemory held fine plain told = absurd (cc (told))
-running_ends faults (AfterLabels most) LacksMemory held fine plain told = absurd (cc (told))
+running_ends faults stop course held fine plain told = grind arith
 
 -- what tells so is one that has failed
 abbrev FailsBefore : {A C : Type 0} → (Actor C → Ending A C → Type 0) → Type 0
@@ -63,27 +45,15 @@ calls_before {A} {C} faults stop Comes fine each (Down stored) end down failed t
 
 may_lack_before : {A C : Type 0} (Acts : Actor C → Ending A C → Type 0) → FailsBefore Acts →
     FailsBefore (MayLackFirst Acts)
-may_lack_before {A} {C} Acts each (Running held) end down failed t (inl lack) told =
-    never _ (ap (λ (e : Ending A C). tells_failed e.reply) lack) told
-may_lack_before Acts each (Running held) end down failed t (inr acts) told =
-    each (Running held) end down failed t acts told
-may_lack_before Acts each (Failed shown stored) end down failed t acts told = t.1
-may_lack_before Acts each (Down stored) end down failed t acts told = each (Down stored) end down failed t acts told
+may_lack_before {A} {C} Acts each held end down failed t lack told = grind arith
 
 looks_before : {A C : Type 0} (Said : C → Reply A → Goods → Type 0) →
     ((held : C) (reply : Reply A) (goods : Goods) → Said held reply goods → IsPlain reply) → FailsBefore (Looks Said)
-looks_before Said each (Running held) end down failed t acts told =
-    never _ (each held end.reply end.goods acts.0).unfailed told
-looks_before Said each (Failed shown stored) end down failed t acts told = t.1
-looks_before {A} {C} Said each (Down stored) end down failed t acts told =
-    never _ (ap (λ (e : Ending A C). tells_failed e.reply) acts) told
+looks_before Said each held end down failed t acts told = grind arith
 
 restarts_before : {A C : Type 0} (refused : Reply A) → tells_failed refused ≡ false →
     FailsBefore (Restarts {A = A} {C = C} refused)
-restarts_before {A} {C} refused none actor end down failed t (inl is) told =
-    never _ (ap (λ (e : Ending A C). tells_failed e.reply) is) told
-restarts_before {A} {C} refused none actor end down failed t (inr is) told =
-    never _ (ap (λ (e : Ending A C). tells_failed e.reply) is ∙ none) told
+restarts_before {A} {C} refused none actor end down failed t is told = grind arith
 
 printer_before : {A : Type 0} (old new : Relay) (event : Event A) (printer : ℕ)
     (Acts : Actor LedgerView → Ending A LedgerView → Type 0) (reply : Reply A) (h : List (Moment A)) →
@@ -98,10 +68,7 @@ desk_before : {A : Type 0} (old new : Relay) (event : Event A) (number : ℕ)
     (Acts : ℕ → Actor Documents → Ending A Documents → Type 0) (reply : Reply A) (h : List (Moment A)) →
     actor_of event ≡ DeskAt number → ((room : ℕ) → FailsBefore (Acts room)) → AreAsTold h old →
     DeskGoes old number Acts reply new → tells_failed reply ≡ true → is_failed h (actor_of event) ≡ true
-desk_before {A} old new event number Acts reply h named each b g told =
-    ap (λ (who : Named). is_failed h who) named ∙
-    each g.desk.room g.desk.actor g.end _ _ (b.desks number g.desk g.was) g.acts
-    (sym (ap (λ (r : Reply A). tells_failed r) g.reply_is) ∙ told)
+desk_before {A} old new event number Acts reply h named each b g told = grind arith
 
 acts_before : {A : Type 0} (old new : Relay) (event : Event A) (reply : Reply A) (h : List (Moment A)) →
     AreAsTold h old → Acts old event reply new → tells_failed reply ≡ true → is_failed h (actor_of event) ≡ true
@@ -139,10 +106,4 @@ acts_before old new (RestartDesk desk) reply h b acts told =
     (λ room. restarts_before (replies.DeskRefused desk_fault.Memory) refl) b acts told
 
 pub each_failed_failed : (A : Type 0) → EachFailedFailed A
-each_failed_failed A ranges rooms moment earlier end run told =
-    by_step (each_run_is_as_told A ranges rooms earlier moment.before run.0) run.1
-  where
-    by_step : AreAsTold earlier moment.before → Step moment.before moment.event moment.reply end →
-        is_failed earlier (actor_of moment.event) ≡ true
-    by_step b (inl acts) = acts_before moment.before end moment.event moment.reply earlier b acts.1 told
-    by_step b (inr none) = never _ (ap (λ (r : Reply A). tells_failed r) none.1) told
+each_failed_failed A ranges rooms moment earlier end run told = grind (arith, acts_before, each_run_is_as_told, never)

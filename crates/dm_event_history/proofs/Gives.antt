@@ -1,6 +1,6 @@
 -- What a clean desk gives is what was printed.
 use Rattle.std.proofs.Common.{◌≡◌, ◌+◌, inl, inr, ℕ, suc, Bool, true, false, Option, Some, None, List, [], ◌∷◌, length, map, slice_get, Result, Ok, Err, refl, sym, ap, subst, ◌∙◌, arith}
-use Rattle.std.specs.Prelude.{is_some, unwrap_or, MatchBool, if◌then◌else◌}
+use Rattle.std.specs.Prelude.{is_some, unwrap_or, if◌then◌else◌}
 use Rattle.std.specs.List.{list_all, concat}
 use Rattle.std.specs.FinMap as finite
 use Rattle.std.proofs.lemmas.List.{length-map}
@@ -15,14 +15,13 @@ use Rattle.dm_assembly_desk.specs.Asking.{Asks}
 use Rattle.dm_event_history.specs.declared.event.Event.TheVariants.{Ask}
 use Rattle.dm_event_history.specs.declared.reply.Reply.{Reply}
 use Rattle.dm_event_history.specs.declared.reply.Reply.TheVariants.{Document}
-use Rattle.dm_event_history.specs.declared.reply.Reply.TheVariants as replies
 use Rattle.dm_event_history.specs.Relay.{CutDocument}
-use Rattle.dm_event_history.specs.Actors.{Actor, Running, Failed, Down}
+use Rattle.dm_event_history.specs.Actors.{Actor}
 use Rattle.dm_event_history.specs.Relay.{Label}
 use Rattle.dm_event_history.specs.Calls.{Ending, Looks}
 use Rattle.dm_event_history.specs.DeskCalls.{AskTells, ask_reply}
 use Rattle.dm_event_history.specs.Steps.{Step}
-use Rattle.dm_event_history.specs.Clean.{AreOfOneDocument, ArePrinted, EachCleanDeskGives, HasLeft, HaveLeft, IsCleanActor, IsCleanExport}
+use Rattle.dm_event_history.specs.Clean.{AreOfOneDocument, ArePrinted, EachCleanDeskGives, HasLeft, HaveLeft, IsCleanActor}
 use Rattle.dm_event_history.proofs.MergedPages.{whole_pages}
 
 same_lists : {X : Type 0} (xs ys : List X) → length xs ≡ length ys →
@@ -109,22 +108,12 @@ by_held labels printed one held left id bytes (Some pages) at given =
 by_answer : {A : Type 0} (labels : List Label) → ArePrinted labels → AreOfOneDocument labels → (held : Documents) →
     HaveLeft labels held → (id : ℕ) (bytes : List ℕ) (given : Gives) → ◌≡◌ {A = Reply A} (Document bytes) (ask_reply given) →
     Asks (λ b. b) (finite.get held id) given → IsItsDocument labels id bytes
-by_answer labels printed one held left id bytes (Ok answer) told asks =
-    let same : answer ≡ bytes = cc (told) in
-    subst (λ (b : List ℕ). IsItsDocument labels id b) same
-    (by_held labels printed one held left id answer (finite.get held id) refl asks)
-by_answer labels printed one held left id bytes (Err fault) told asks = cc (told)
+by_answer labels printed one held left id bytes given told asks = grind (arith, by_held)
 
 by_actor : {A : Type 0} (labels : List Label) → ArePrinted labels → AreOfOneDocument labels →
     (actor : Actor Documents) → IsCleanActor labels actor → (id : ℕ) (bytes : List ℕ) (end : Ending A Documents) →
     ◌≡◌ {A = Reply A} (Document bytes) end.reply → Looks (AskTells {A = A} id) actor end → IsItsDocument labels id bytes
-by_actor labels printed one (Running held) clean id bytes end told looks =
-    by_answer labels printed one held clean id bytes looks.0.0 (told ∙ looks.0.2) looks.0.1
-by_actor labels printed one (Failed shown stored) clean id bytes end told looks =
-    by_answer labels printed one shown clean.0 id bytes looks.0.0 (told ∙ looks.0.2) looks.0.1
-by_actor {A} labels printed one (Down stored) clean id bytes end told looks =
-    let down : ◌≡◌ {A = Reply A} (Document bytes) replies.Down = told ∙ ap (λ (e : Ending A Documents). e.reply) looks in
-    cc (down)
+by_actor labels printed one actor clean id bytes end told looks = grind (arith, by_answer)
 
 pub each_clean_desk_gives : (A : Type 0) → EachCleanDeskGives A
 each_clean_desk_gives A old new desk id bytes printed one clean step = by_case step
@@ -135,12 +124,3 @@ each_clean_desk_gives A old new desk id bytes printed one clean step = by_case s
     by_case (inr none) = cc (none.1)
 
 -- ---- exports
-
--- an export of what is held is clean
-pub held_export : (labels : List Label) (held : Documents) (id : ℕ) (pages : Pages) → HaveLeft labels held →
-    finite.get held id ≡ Some pages → IsCleanExport labels (record { id = id; pages = pages })
-held_export labels held id pages left at = record {
-  pages = λ m bytes is. left.pages id m bytes (ap (λ (o : Option Pages). page (unwrap_or o []) m) at ∙ is);
-  count = left.counts id pages at;
-  some = left.some id pages at;
-}

@@ -57,15 +57,11 @@ Stay old new = (n : ℕ) (label : Label) → slice_get old n ≡ Some label → 
 
 printer_stay : {A : Type 0} (old new : Relay) (printer : ℕ) (Acts : Actor LedgerView → Ending A LedgerView → Type 0)
     (reply : Reply A) → PrinterGoes old printer Acts reply new → Stay old.labels new.labels
-printer_stay old new printer Acts reply g n label is =
-    subst (λ (r : Relay). slice_get r.labels n ≡ Some label) (sym g.new_is)
-    (get_more old.labels g.end.goods.labels n label is)
+printer_stay old new printer Acts reply g n label is = grind (arith, get_more)
 
 desk_stay : {A : Type 0} (old new : Relay) (desk : ℕ) (Acts : ℕ → Actor Documents → Ending A Documents → Type 0)
     (reply : Reply A) → DeskGoes old desk Acts reply new → Stay old.labels new.labels
-desk_stay old new desk Acts reply g n label is =
-    subst (λ (r : Relay). slice_get r.labels n ≡ Some label) (sym g.new_is)
-    (get_more old.labels g.end.goods.labels n label is)
+desk_stay old new desk Acts reply g n label is = grind (arith, get_more)
 
 step_stay : {A : Type 0} (old new : Relay) (event : Event A) (reply : Reply A) → Step old event reply new →
     Stay old.labels new.labels
@@ -164,11 +160,7 @@ true_moments A ranges rooms labels one apart (moment ∷ earlier) end run stay =
     )
 
 pub each_run_is_true : (A : Type 0) → EachRunIsTrue A
-each_run_is_true A ranges rooms moments end apart run =
-    let sound = (each_run_is_sound A ranges rooms moments end apart run).0 in (
-      prints_once end sound,
-      true_moments A ranges rooms end.labels sound.one_document apart moments end run (λ n label is. is),
-    )
+each_run_is_true A ranges rooms moments end apart run = grind (arith, each_run_is_sound, prints_once, true_moments)
 
 -- ---- where numbers are
 

@@ -1,5 +1,5 @@
 -- What is so of all goods that leave by a call: it is so of none, and of those that are cut off.
-use Rattle.std.proofs.Common.{◌≡◌, inl, inr, ℕ, sym, subst}
+use Rattle.std.proofs.Common.{arith, ◌≡◌, ℕ, sym, subst}
 use Rattle.dm_store.specs.declared.fuse.Kept.TheVariants.{Old, New}
 use Rattle.dm_event_history.specs.declared.reply.Reply.{Reply}
 use Rattle.dm_event_history.specs.declared.stop.Stop.{Stop}
@@ -7,8 +7,7 @@ use Rattle.dm_event_history.specs.declared.stop.Stop.TheVariants as stops
 use Rattle.dm_event_history.specs.declared.stop.Stop.TheVariants.{BeforeSave, InSave, SaveFault, AfterLabels}
 use Rattle.dm_event_history.specs.Actors.{Actor, Running, Failed, Down}
 use Rattle.dm_event_history.specs.Relay.{Goods, nothing}
-use Rattle.dm_event_history.specs.Calls.{Answers, Calls, Course, Ending, Faults, LacksMemory, Looks, MayLackFirst, Reaches, Restarts, Saves, cut_off, ends}
-use Rattle.dm_event_history.specs.DeskCalls.{MayBe}
+use Rattle.dm_event_history.specs.Calls.{Answers, Calls, Course, Ending, Faults, LacksMemory, MayLackFirst, Reaches, Restarts, Saves, cut_off, ends}
 use Rattle.dm_event_history.proofs.Reaching.{reached, reaches}
 
 -- so of the goods of a course
@@ -56,27 +55,11 @@ calls_leave P p faults stop Comes each (Down stored) end acts = as_known P end _
 
 pub may_lack_leaves : {A C : Type 0} (P : Goods → Type 0) → IsClosed P → (Acts : Actor C → Ending A C → Type 0) →
     Leaves P Acts → Leaves P (MayLackFirst Acts)
-may_lack_leaves P p Acts each (Running held) end (inl lack) = as_known P end _ lack p.none
-may_lack_leaves P p Acts each (Running held) end (inr acts) = each (Running held) end acts
-may_lack_leaves P p Acts each (Failed shown stored) end (inl lack) = as_known P end _ lack p.none
-may_lack_leaves P p Acts each (Failed shown stored) end (inr acts) = each (Failed shown stored) end acts
-may_lack_leaves P p Acts each (Down stored) end acts = each (Down stored) end acts
+may_lack_leaves P p Acts each held end acts = grind arith
 
 pub restarts_leave : {A C : Type 0} (P : Goods → Type 0) → IsClosed P → (refused : Reply A) →
     Leaves P (Restarts {A = A} {C = C} refused)
-restarts_leave P p refused actor end (inl is) = as_known P end _ is p.none
-restarts_leave P p refused actor end (inr is) = as_known P end _ is p.none
-
-pub looks_leave : {A C : Type 0} (P : Goods → Type 0) → IsClosed P → (Tells : C → Reply A → Goods → Type 0) →
-    ((held : C) (reply : Reply A) (goods : Goods) → Tells held reply goods → P goods) → Leaves P (Looks Tells)
-looks_leave P p Tells each (Running held) end acts = each held end.reply end.goods acts.0
-looks_leave P p Tells each (Failed shown stored) end acts = each shown end.reply end.goods acts.0
-looks_leave P p Tells each (Down stored) end acts = as_known P end _ acts p.none
-
-pub may_be_leaves : {A C : Type 0} (P : Goods → Type 0) (wanted course : Course A C) → OfCourse P wanted →
-    MayBe wanted course → OfCourse P course
-may_be_leaves {A} {C} P wanted course p (inl is) = subst (λ (c : Course A C). OfCourse P c) (sym is) p
-may_be_leaves {A} {C} P wanted course p (inr lack) = subst (λ (c : Course A C). OfCourse P c) (sym lack.0) tt
+restarts_leave P p refused actor end is = grind arith
 
 pub known_goods : (P : Goods → Type 0) (goods known : Goods) → goods ≡ known → P known → P goods
 known_goods P goods known is p = subst P (sym is) p

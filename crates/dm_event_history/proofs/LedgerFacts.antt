@@ -1,14 +1,13 @@
 -- What prints, gives and takes that are saved do to the numbers of a ledger.
-use Rattle.std.proofs.Common.{◌≡◌, ◌+◌, ◌<◌, ◌≤◌, ℕ, Bool, true, false, ◌==◌, ◌||◌, not, Option, Some, None, Result, Ok, Err, List, [], ◌∷◌, length, nat_le, nat_lt, if◌then◌else◌, IsTrue, refl, sym, ap, subst, ◌∙◌, arith, eq-eqb, suc}
-use Rattle.std.proofs.lemmas.Bool.{leb-false, or_left}
+use Rattle.std.proofs.Common.{◌≡◌, ◌+◌, ◌<◌, ◌≤◌, ℕ, Bool, true, false, ◌==◌, ◌||◌, not, Option, Some, None, Result, Ok, Err, List, [], ◌∷◌, length, nat_le, nat_lt, if◌then◌else◌, refl, sym, ap, subst, ◌∙◌, arith}
+use Rattle.std.proofs.lemmas.Bool.{or_left}
 use Rattle.std.proofs.lemmas.Bool.Decides.{nat_tests}
 use Rattle.std.specs.Option.{option_map_or}
-use Rattle.std.specs.Prelude.{IfSome, IsSomeAnd, MatchBool, is_some}
+use Rattle.std.specs.Prelude.{IfSome, IsSomeAnd, is_some}
 use Rattle.dm_check_blocks.specs.declared.size.Size.{Size}
 use Rattle.dm_encodation.specs.declared.scheme.Scheme.{Scheme}
 use Rattle.dm_append_label.specs.Parts.{AreParts}
 use Rattle.dm_print_ledger.specs.declared.range.Range.{Range}
-use Rattle.dm_print_ledger.specs.declared.giver.Giver.{Giver}
 use Rattle.dm_print_ledger.specs.declared.limits.TheConstants.{MOST_RANGES, MOST_GIVERS}
 use Rattle.dm_print_ledger.specs.declared.fault.PrintFault.{PrintFault}
 use Rattle.dm_print_ledger.specs.declared.fault.PrintFault.TheVariants as print_fault
@@ -39,19 +38,10 @@ use Rattle.dm_print_ledger.proofs.Rising.{rise_fact, sound_ranges, sound_givers}
 -- what is not refused goes on
 pub on : {F X : Type 0} (b : Bool) (fault : F) (rest : Result X F) (next : X) →
     (if b then Err fault else rest) ≡ Ok next → (b ≡ false) × (rest ≡ Ok next)
-on true fault rest next is = cc (is)
-on false fault rest next is = (refl, is)
-
--- what is so of each refusal is so of the answer
-pub chain : {F X : Type 0} (P : F → Type 0) (b : Bool) (fault : F) (rest : Result X F) (answer : F) →
-    (b ≡ true → P fault) → (b ≡ false → rest ≡ Err answer → P answer) →
-    (if b then Err fault else rest) ≡ Err answer → P answer
-chain P true fault rest answer here after is = (let same : fault ≡ answer = cc (is) in subst P same (here refl))
-chain P false fault rest answer here after is = after refl is
+on b fault rest next is = grind arith
 
 pub not_false : (b : Bool) → not b ≡ false → b ≡ true
-not_false true is = refl
-not_false false is = cc (is)
+not_false b is = grind arith
 
 -- ---- prints
 
@@ -86,17 +76,6 @@ uses_first old (one ∷ ranges) is sound some =
       };
     })
 
-not_true : (b : Bool) → not b ≡ true → b ≡ false
-not_true true is = cc (is)
-not_true false is = refl
-
-no_ranges : (free : List Range) → (length free == 0) ≡ true → free_count free ≡ 0
-no_ranges [] is = refl
-no_ranges (one ∷ ranges) is = absurd (some is)
-  where
-    some : (suc (length ranges) == 0) ≡ true → ⊥
-    some e = grind (arith, nat_tests, e)
-
 -- a print that is saved used the least number
 pub print_uses : (old next : LedgerView) (has_parts : Bool) → is_sound old ≡ true →
     print_verdict old has_parts ≡ Ok next → UsesLeast old next
@@ -110,10 +89,7 @@ print_uses old next has_parts sound is =
 pub print_refuses : (P : PrintFault → Type 0) (old : LedgerView) (has_parts : Bool) (fault : PrintFault) →
     (has_parts ≡ false → P print_fault.TooLong) → (free_count old.free ≡ 0 → P print_fault.Exhausted) →
     print_verdict old has_parts ≡ Err fault → P fault
-print_refuses P old has_parts fault too_long exhausted is =
-    chain P (not has_parts) print_fault.TooLong _ fault (λ none. too_long (not_true has_parts none))
-    (λ some. chain P (length old.free == 0) print_fault.Exhausted _ fault (λ none. exhausted (no_ranges old.free none))
-    (λ more clash. absurd (cc (clash)))) is
+print_refuses P old has_parts fault too_long exhausted is = grind arith
 
 -- a print that is saved, of a document with these parts
 pub record IsMadePrint {A : Type 0} (before : ℕ) (document : List ℕ) (size : Size) (scheme : Scheme)
@@ -161,13 +137,7 @@ give_loses old next receiver range sound is =
 pub give_refuses : (P : GiveFault → Type 0) (old : LedgerView) (receiver : ℕ) (range : Range) (fault : GiveFault) →
     P give_fault.Range → P give_fault.Receiver → P give_fault.NotFree → P give_fault.Serials → P give_fault.Ranges →
     give_verdict old receiver range ≡ Err fault → P fault
-give_refuses P old receiver range fault a b c d e is =
-    chain P (not (is_range range)) give_fault.Range _ fault (λ _. a)
-    (λ _. chain P (receiver == old.number) give_fault.Receiver _ fault (λ _. b)
-    (λ _. chain P (not (are_free old.free range)) give_fault.NotFree _ fault (λ _. c)
-    (λ _. chain P (old.next_serial == 65535) give_fault.Serials _ fault (λ _. d)
-    (λ _. chain P (nat_lt MOST_RANGES (length (without old.free range))) give_fault.Ranges _ fault (λ _. e)
-    (λ _ clash. absurd (cc (clash))))))) is
+give_refuses P old receiver range fault a b c d e is = grind arith
 
 -- ---- takes
 
@@ -182,20 +152,17 @@ pub record GainsNumbers (old : LedgerView) (ticket : TicketView) (new : LedgerVi
 
 new_serial : (o : Option ℕ) (serial : ℕ) → option_map_or (nat_le serial) o false ≡ false →
     IfSome o (λ last. last < serial)
-new_serial None serial is = tt
-new_serial (Some last) serial is = leb-false serial last is
+new_serial o serial is = grind arith
 
 pub old_or_new : (last : Option ℕ) (serial : ℕ) → IsSomeAnd last (λ last. serial ≤ last) →
     IfSome last (λ last. last < serial) → ⊥
-old_or_new None serial old new = absurd old
-old_or_new (Some last) serial old new = omega (arith, old, new)
+old_or_new last serial old new = grind arith
 
 same_by : (a b : ℕ) → (a == b) ≡ true → a ≡ b
 same_by a b is = grind (arith, nat_tests, is)
 
 either_false : (a b : Bool) → (a || b) ≡ false → a ≡ false
-either_false true b is = cc (is)
-either_false false b is = refl
+either_false a b is = grind arith
 
 -- why a take is refused: `Overlap` where the ticket is for this printer and new, and a number of it is free here
 pub record IsOverlapping (old : LedgerView) (ticket : TicketView) : Type 0 where
@@ -206,18 +173,7 @@ pub record IsOverlapping (old : LedgerView) (ticket : TicketView) : Type 0 where
 pub take_refuses : (P : TakeFault → Type 0) (old : LedgerView) (ticket : TicketView) (fault : TakeFault) →
     P take_fault.Receiver → P take_fault.Old → (IsOverlapping old ticket → P take_fault.Overlap) →
     P take_fault.Ranges → P take_fault.Givers → take_verdict old ticket ≡ Err fault → P fault
-take_refuses P old ticket fault a b c d e is =
-    chain P (not (ticket.receiver == old.number) || ticket.giver == ticket.receiver) take_fault.Receiver _ fault (λ _. a)
-    (λ own. chain P (is_old old.givers ticket.giver ticket.serial) take_fault.Old _ fault (λ _. b)
-    (λ later. chain P (has_free old.free ticket.range) take_fault.Overlap _ fault
-    (λ free. c (record {
-      is_for = same_by _ _ (not_false _ (either_false _ _ own));
-      is_new = new_serial (last_taken old.givers ticket.giver) ticket.serial later;
-      free = free;
-    }))
-    (λ _. chain P (nat_lt MOST_RANGES (length (union_of old.free ticket.range))) take_fault.Ranges _ fault (λ _. d)
-    (λ _. chain P (nat_lt MOST_GIVERS (length (givers_with old.givers (giver_of ticket)))) take_fault.Givers _ fault
-    (λ _. e) (λ _ clash. absurd (cc (clash))))))) is
+take_refuses P old ticket fault a b c d e is = grind arith
 
 -- some number of it is free
 pub overlap_free : (old : LedgerView) (ticket : TicketView) → is_sound old ≡ true → is_range ticket.range ≡ true →

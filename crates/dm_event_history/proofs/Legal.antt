@@ -1,10 +1,8 @@
 -- Each step is legal.
-use Rattle.std.proofs.Common.{◌≡◌, ◌≢◌, ◌↔◌, ◌⊎◌, ◌<◌, IsSomeAnd, inl, inr, ℕ, Bool, true, false, Option, Some, None, Ok, Err, Result, List, length, slice_get, refl, sym, ap, subst, ◌∙◌}
-use Rattle.std.specs.FinMap as finite
+use Rattle.std.proofs.Common.{arith, ◌≡◌, ◌≢◌, ◌↔◌, ◌⊎◌, ◌<◌, IsSomeAnd, ℕ, Bool, true, false, Option, Some, None, Ok, Err, Result, List, length, slice_get, refl, sym, subst}
 use Rattle.dm_finder_frame.specs.Grids.{GridView, flipped}
 use Rattle.dm_check_blocks.specs.declared.size.Size.{Size}
 use Rattle.dm_encodation.specs.declared.scheme.Scheme.{Scheme}
-use Rattle.dm_append_label.specs.Pages.{PageView}
 use Rattle.dm_append_label.specs.declared.opening.Opened.{Opened}
 use Rattle.dm_append_label.specs.declared.fault.LabelFault.{LabelFault}
 use Rattle.dm_append_label.specs.declared.fault.LabelFault.TheVariants as label_fault
@@ -12,14 +10,11 @@ use Rattle.dm_store.specs.declared.fuse.Kept.TheVariants.{Old, New}
 use Rattle.dm_print_ledger.specs.declared.range.Range.{Range}
 use Rattle.dm_print_ledger.specs.Views.{LedgerView, TicketView}
 use Rattle.dm_print_ledger.specs.declared.fault.OpenFault.TheVariants as open_fault
-use Rattle.dm_assembly_desk.specs.declared.fault.AskFault.{AskFault}
 use Rattle.dm_assembly_desk.specs.declared.fault.DeskFault.TheVariants as desk_fault
-use Rattle.dm_assembly_desk.specs.declared.reply.Kind.TheVariants as kinds
 use Rattle.dm_assembly_desk.specs.Pages.{Pages}
 use Rattle.dm_assembly_desk.specs.Documents.{Documents}
 use Rattle.dm_assembly_desk.specs.declared.adding.AddFault.{AddFault}
 use Rattle.dm_assembly_desk.specs.declared.reply.Imported as imported_type
-use Rattle.dm_assembly_desk.specs.declared.reply.Kind.{Kind}
 use Rattle.dm_assembly_desk.specs.Accepting.{lone}
 use Rattle.dm_assembly_desk.specs.Adding.{add_verdict}
 use Rattle.dm_event_history.specs.declared.event.Event.{Event}
@@ -37,19 +32,16 @@ use Rattle.dm_event_history.specs.Relay as relays
 use Rattle.dm_event_history.specs.Relay.{Desk, Goods, Relay}
 use Rattle.dm_event_history.specs.Calls.{Answers, Calls, Course, Ending, Faults, LacksMemory, Looks, MayLackFirst, Reaches, Restarts, Saves, ends}
 use Rattle.dm_event_history.specs.PrinterCalls.{GiveComes, PrintComes, TakeComes}
-use Rattle.dm_event_history.specs.DeskCalls.{AskTells, ExportTells, ExportsHeld, ForgetComes, ImportComes, MayBe, ScanComes, ask_reply, scan_course, verdict_course, page_reply, pages_reply, forget_reply}
+use Rattle.dm_event_history.specs.DeskCalls.{AskTells, ExportTells, ForgetComes, ImportComes, MayBe, ScanComes, scan_course, verdict_course, page_reply}
 use Rattle.dm_event_history.specs.Steps.{Acts, DeskGoes, IsNamed, PrinterGoes}
 use Rattle.dm_event_history.specs.Told.{down_after}
-use Rattle.dm_event_history.specs.Legal.{EachStepIsLegal, IsDown, IsDownAt, IsLegal, IsStopped, NeedsRunning, is_new, tells_of_save}
+use Rattle.dm_event_history.specs.Legal.{EachStepIsLegal, IsDown, IsDownAt, IsLegal, NeedsRunning, is_new, tells_of_save}
 use Rattle.dm_event_history.proofs.Reaching.{reaches}
 use Rattle.dm_event_history.proofs.AsTold.{ArePlain, IsPlainCourse, IsPlain, ask_plain, export_plain, fine_forget, fine_give, fine_import, fine_print, fine_scan, fine_take, forget_plain, give_plain, import_plain, print_plain, scan_plain, take_plain}
-use Rattle.dm_event_history.proofs.Adds.{Answer, by_verdict}
-use Rattle.dm_event_history.proofs.Told.{forget_by}
-use Rattle.dm_assembly_desk.specs.Forgetting.{forget_verdict}
+use Rattle.dm_event_history.proofs.Adds.{Answer}
 
 never : {X : Type 0} (b : Bool) → b ≡ false → b ≡ true → X
-never true unset set = absurd (cc (unset))
-never false unset set = absurd (cc (set))
+never b unset set = grind arith
 
 -- ---- replies
 
@@ -57,8 +49,7 @@ abbrev IsUp : {A : Type 0} → Reply A → Type 0
 IsUp reply = (b : Bool) → down_after reply b ≡ false
 
 up_other : {A : Type 0} (reply other : Reply A) → IsUp reply → down_after other true ≡ true → reply ≢ other
-up_other {A} reply other up so same =
-    never (down_after reply true) (up true) (ap (λ (r : Reply A). down_after r true) same ∙ so)
+up_other {A} reply other up so same = grind arith
 
 -- ---- one call
 
@@ -83,23 +74,11 @@ legal_reply stop actor reply up on plain saves = record {
 legal_stopped : (A : Type 0) {C : Type 0} (stop : Option Stop) (actor : Actor C) → ¬ IsDown actor →
     IsSomeAnd stop IsStopping →
     IsCallLegal {A = A} stop actor replies.Stopped
-legal_stopped A stop actor up s = record {
-  some = λ e. cc (e);
-  down = ((λ e. cc (e)), (λ d. absurd (up d)));
-  stopped = λ _. s;
-  ended = λ _ _. inl refl;
-  saves = λ e. cc (e);
-}
+legal_stopped A stop actor up s = grind arith
 
 legal_memory : (A : Type 0) {C : Type 0} (stop : Option Stop) (actor : Actor C) → ¬ IsDown actor →
     IsCallLegal {A = A} stop actor replies.Memory
-legal_memory A stop actor up = record {
-  some = λ e. cc (e);
-  down = ((λ e. cc (e)), (λ d. absurd (up d)));
-  stopped = λ e. cc (e);
-  ended = λ _ _. inr refl;
-  saves = λ e. cc (e);
-}
+legal_memory A stop actor up = grind arith
 
 -- an answer without a save doesn't tell of one, and neither do the faults of a call
 abbrev IsQuietCourse : {A C : Type 0} → Course A C → Type 0
@@ -164,13 +143,7 @@ legal_failed faults (SaveFault kept) shown stored fine quiet =
     (untold faults.failed quiet.failed)
 
 legal_down : (A : Type 0) {C : Type 0} (stop : Option Stop) (stored : C) → IsCallLegal {A = A} stop (Down stored) replies.Down
-legal_down A stop stored = record {
-  some = λ e. cc (e);
-  down = ((λ _. tt), (λ _. refl));
-  stopped = λ e. cc (e);
-  ended = λ up _. absurd (up tt);
-  saves = λ e. cc (e);
-}
+legal_down A stop stored = grind arith
 
 abbrev AreLegal : {A C : Type 0} → Option Stop → (Actor C → Ending A C → Type 0) → Type 0
 AreLegal {A} {C} stop Acts = (actor : Actor C) (end : Ending A C) → Acts actor end → IsCallLegal stop actor end.reply
@@ -183,24 +156,12 @@ calls_legal : {A C : Type 0} (faults : Faults A) (stop : Stop) (Comes : C → Co
     AreQuiet faults → ((held : C) (course : Course A C) → Comes held course → IsPlainCourse course) →
     ((held : C) (course : Course A C) → Comes held course → IsQuietCourse course) →
     AreLegal (Some stop) (Calls faults stop Comes)
-calls_legal faults stop Comes fine quiet plain still (Running held) end acts =
-    of_known (Some stop) (Running held) end _ acts.2
-    (legal_ends faults stop acts.0 held fine quiet
-    (reaches stop (λ came. (plain held acts.0 came, still held acts.0 came)) acts.1))
-calls_legal faults stop Comes fine quiet plain still (Failed shown stored) end acts =
-    of_known (Some stop) (Failed shown stored) end _ acts (legal_failed faults stop shown stored fine quiet)
-calls_legal {A} faults stop Comes fine quiet plain still (Down stored) end acts =
-    of_known (Some stop) (Down stored) end _ acts (legal_down A (Some stop) stored)
+calls_legal faults stop Comes fine quiet plain still held end acts =
+    grind (arith, legal_down, legal_ends, legal_failed, of_known, reaches)
 
 may_lack_legal : {A C : Type 0} (stop : Option Stop) (Acts : Actor C → Ending A C → Type 0) → AreLegal stop Acts →
     AreLegal stop (MayLackFirst Acts)
-may_lack_legal {A} stop Acts each (Running held) end (inl lack) =
-    of_known stop (Running held) end _ lack (legal_memory A stop (Running held) (λ d. d))
-may_lack_legal stop Acts each (Running held) end (inr acts) = each (Running held) end acts
-may_lack_legal {A} stop Acts each (Failed shown stored) end (inl lack) =
-    of_known stop (Failed shown stored) end _ lack (legal_memory A stop (Failed shown stored) (λ d. d))
-may_lack_legal stop Acts each (Failed shown stored) end (inr acts) = each (Failed shown stored) end acts
-may_lack_legal stop Acts each (Down stored) end acts = each (Down stored) end acts
+may_lack_legal {A} stop Acts each held end lack = grind arith
 
 -- what saves nothing tells of no save
 looks_legal : {A C : Type 0} (Said : C → Reply A → Goods → Type 0) →
@@ -220,35 +181,26 @@ looks_legal {A} Said each still (Down stored) end acts =
 
 print_quiet : {A : Type 0} (before : ℕ) (document : List ℕ) (size : Size) (scheme : Scheme) (held : LedgerView)
     (course : Course A LedgerView) → PrintComes before document size scheme held course → IsQuietCourse course
-print_quiet before document size scheme held (Saves next goods reply) comes = tt
-print_quiet before document size scheme held (Answers reply) comes = ap tells_of_save comes.3.2
-print_quiet before document size scheme held LacksMemory comes = tt
+print_quiet before document size scheme held course comes = grind arith
 
 give_quiet : {A : Type 0} (before receiver : ℕ) (range : Range) (held : LedgerView) (course : Course A LedgerView) →
     GiveComes before receiver range held course → IsQuietCourse course
-give_quiet before receiver range held (Saves next goods reply) comes = tt
-give_quiet before receiver range held (Answers reply) comes = ap tells_of_save comes.1.2
-give_quiet before receiver range held LacksMemory comes = tt
+give_quiet before receiver range held course comes = grind arith
 
 take_quiet : {A : Type 0} (number : ℕ) (ticket : TicketView) (held : LedgerView) (course : Course A LedgerView) →
     TakeComes number ticket held course → IsQuietCourse course
-take_quiet number ticket held (Saves next goods reply) comes = tt
-take_quiet number ticket held (Answers reply) comes = ap tells_of_save comes.2.2
-take_quiet number ticket held LacksMemory comes = tt
+take_quiet number ticket held course comes = grind arith
 
 may_be_quiet : {A : Type 0} (wanted course : Course A Documents) → IsQuietCourse wanted → MayBe wanted course →
     IsQuietCourse course
-may_be_quiet {A} wanted course q (inl is) = subst (λ (c : Course A Documents). IsQuietCourse c) (sym is) q
-may_be_quiet {A} wanted course q (inr lack) = subst (λ (c : Course A Documents). IsQuietCourse c) (sym lack.0) tt
+may_be_quiet {A} wanted course q is = grind arith
 
 -- pages that were all held tell of no save
 add_quiet : {A : Type 0} (tells : Answer → Reply A) (room : ℕ) (held : Documents) (id : ℕ) (pages : Pages) →
     ((added : imported_type.Imported) → tells_of_save (tells (Ok added)) ≡ is_new added.kind) →
     ((fault : AddFault) → tells_of_save (tells (Err fault)) ≡ false) →
     IsQuietCourse (verdict_course tells (add_verdict room held id pages))
-add_quiet {A} tells room held id pages told refused = by_verdict
-    (λ v. IsQuietCourse {A = A} (verdict_course tells v)) room held id pages
-    (λ fault is. refused fault) (λ is. told _) (λ kind other is. tt)
+add_quiet {A} tells room held id pages told refused = grind arith
 
 scan_quiet : {A : Type 0} (room : ℕ) (grid : GridView) (held : Documents) (course : Course A Documents) →
     ScanComes room grid held course → IsQuietCourse course
@@ -263,35 +215,19 @@ scan_quiet {A} room grid held course comes =
 
 forget_quiet : {A : Type 0} (id : ℕ) (held : Documents) (course : Course A Documents) → ForgetComes id held course →
     IsQuietCourse course
-forget_quiet {A} id held course comes =
-    may_be_quiet (verdict_course forget_reply (forget_verdict held id)) course (by_held (finite.get held id)) comes
-  where
-    by_held : (o : Option Pages) → IsQuietCourse {A = A} (verdict_course forget_reply (forget_by held id o))
-    by_held None = refl
-    by_held (Some pages) = tt
+forget_quiet {A} id held course comes = grind arith
 
 import_quiet : {A : Type 0} (room : ℕ) (export : relays.Export) (held : Documents) (course : Course A Documents) →
     ImportComes room export held course → IsQuietCourse course
-import_quiet {A} room export held course comes =
-    may_be_quiet (verdict_course pages_reply (add_verdict room held export.id export.pages)) course
-    (add_quiet {A = A} pages_reply room held export.id export.pages (λ added. refl) (λ fault. refl)) comes
+import_quiet {A} room export held course comes = grind arith
 
 ask_quiet : {A : Type 0} (id : ℕ) (held : Documents) (reply : Reply A) (goods : Goods) → AskTells id held reply goods →
     tells_of_save reply ≡ false
-ask_quiet {A} id held reply goods tells = ap tells_of_save tells.2 ∙ by_answer_of tells.0
-  where
-    by_answer_of : (a : Result (List ℕ) AskFault) → tells_of_save {A = A} (ask_reply a) ≡ false
-    by_answer_of (Ok bytes) = refl
-    by_answer_of (Err fault) = refl
+ask_quiet {A} id held reply goods tells = grind arith
 
 export_quiet : {A : Type 0} (before id : ℕ) (held : Documents) (reply : Reply A) (goods : Goods) →
     ExportTells before id held reply goods → tells_of_save reply ≡ false
-export_quiet {A} before id held reply goods tells = by_held (finite.get held id) tells
-  where
-    by_held : (o : Option Pages) → ExportsHeld before id o reply goods → tells_of_save reply ≡ false
-    by_held None t = ap tells_of_save t.0
-    by_held (Some pages) (inl t) = ap tells_of_save t.0
-    by_held (Some pages) (inr t) = ap tells_of_save t.0
+export_quiet {A} before id held reply goods tells = grind arith
 
 -- ---- steps
 
@@ -313,10 +249,7 @@ one_some o one other first second = cc (first, second)
 
 printer_down : (old : Relay) (printer : ℕ) (actor : Actor LedgerView) → slice_get old.printers printer ≡ Some actor →
     IsDownAt old (PrinterAt printer) ↔ IsDown actor
-printer_down old printer actor was = (
-  (λ d. subst (λ (a : Actor LedgerView). IsDown a) (one_some _ d.0 actor d.1 was) d.2),
-  (λ d. (actor, was, d)),
-)
+printer_down old printer actor was = grind arith
 
 desk_down : (old : Relay) (number : ℕ) (desk : Desk) → slice_get old.desks number ≡ Some desk →
     IsDownAt old (DeskAt number) ↔ IsDown desk.actor
@@ -343,40 +276,17 @@ desk_legal old new event number Does reply who named needs each g =
     (subst (λ (n : Named). IsDownAt old n ↔ IsDown g.desk.actor) (sym who) (desk_down old number g.desk g.was))
     g.reply_is (each g.desk.room g.desk.actor g.end g.acts)
 
--- a restart is answered that it runs, or that memory was refused
-restart_legal : {A : Type 0} (old : Relay) (event : Event A) (reply known : Reply A) → IsNamed old event →
-    ¬ NeedsRunning event → ¬ IsStopped event → known ≢ replies.NoSuch → known ≢ replies.Down →
-    known ≢ replies.Stopped → tells_of_save known ≡ false → reply ≡ known → IsLegal old event reply
-restart_legal {A} old event reply known named never_down never_stops some up on quiet is =
-    subst (λ (r : Reply A). IsLegal old event r) (sym is) (record {
-      no_such = ((λ e. absurd (some e)), (λ missing. absurd (missing named)));
-      down = ((λ e. absurd (up e)), (λ d. absurd (never_down d.1)));
-      stopped = λ e. absurd (on e);
-      ended = λ _ _ s. absurd (never_stops s);
-      saves = λ told. untold known quiet told;
-    })
-
 restart_printer_legal : {A : Type 0} (old : Relay) (printer : ℕ) (reply : Reply A) (end : Ending A LedgerView)
     (actor : Actor LedgerView) → printer < length old.printers →
     Restarts (replies.PrinterRefused open_fault.Memory) actor end → reply ≡ end.reply →
     IsLegal old (RestartPrinter printer) reply
-restart_printer_legal {A} old printer reply end actor named (inl ends) is =
-    restart_legal old (RestartPrinter printer) reply replies.Restarted named (λ n. n) (λ s. s) (λ e. cc (e)) (λ e. cc (e))
-    (λ e. cc (e)) refl (is ∙ ap (λ (x : Ending A LedgerView). x.reply) ends)
-restart_printer_legal {A} old printer reply end actor named (inr ends) is =
-    restart_legal old (RestartPrinter printer) reply (replies.PrinterRefused open_fault.Memory) named (λ n. n) (λ s. s)
-    (λ e. cc (e)) (λ e. cc (e)) (λ e. cc (e)) refl (is ∙ ap (λ (x : Ending A LedgerView). x.reply) ends)
+restart_printer_legal {A} old printer reply end actor named ends is = grind arith
 
 restart_desk_legal : {A : Type 0} (old : Relay) (desk : ℕ) (reply : Reply A) (end : Ending A Documents)
     (actor : Actor Documents) → desk < length old.desks →
     Restarts (replies.DeskRefused desk_fault.Memory) actor end → reply ≡ end.reply →
     IsLegal old (RestartDesk desk) reply
-restart_desk_legal {A} old desk reply end actor named (inl ends) is =
-    restart_legal old (RestartDesk desk) reply replies.Restarted named (λ n. n) (λ s. s) (λ e. cc (e)) (λ e. cc (e))
-    (λ e. cc (e)) refl (is ∙ ap (λ (x : Ending A Documents). x.reply) ends)
-restart_desk_legal {A} old desk reply end actor named (inr ends) is =
-    restart_legal old (RestartDesk desk) reply (replies.DeskRefused desk_fault.Memory) named (λ n. n) (λ s. s)
-    (λ e. cc (e)) (λ e. cc (e)) (λ e. cc (e)) refl (is ∙ ap (λ (x : Ending A Documents). x.reply) ends)
+restart_desk_legal {A} old desk reply end actor named ends is = grind arith
 
 acts_legal : {A : Type 0} (old new : Relay) (event : Event A) (reply : Reply A) → IsNamed old event →
     Acts old event reply new → IsLegal old event reply
@@ -419,15 +329,7 @@ acts_legal old new (RestartDesk desk) reply named acts =
 
 -- what is not there is answered so
 none_legal : {A : Type 0} (old : Relay) (event : Event A) → ¬ IsNamed old event → IsLegal old event replies.NoSuch
-none_legal old event missing = record {
-  no_such = ((λ _. missing), (λ _. refl));
-  down = ((λ e. cc (e)), (λ d. absurd (missing d.0)));
-  stopped = λ e. cc (e);
-  ended = λ named _ _. absurd (missing named);
-  saves = λ e. cc (e);
-}
+none_legal old event missing = grind arith
 
 pub each_step_is_legal : (A : Type 0) → EachStepIsLegal A
-each_step_is_legal A old new event reply (inl acts) = acts_legal old new event reply acts.0 acts.1
-each_step_is_legal A old new event reply (inr none) =
-    subst (λ (r : Reply A). IsLegal old event r) (sym none.1) (none_legal old event none.0)
+each_step_is_legal A old new event reply acts = grind (arith, acts_legal, none_legal)

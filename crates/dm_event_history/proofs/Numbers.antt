@@ -1,5 +1,5 @@
 -- Where a number is, after one thing is changed.
-use Rattle.std.proofs.Common.{◌≡◌, ◌≢◌, ◌⊎◌, ◌+◌, ◌≤◌, ◌<◌, inl, inr, ℕ, zero, suc, Bool, true, false, ◌==◌, ◌||◌, if◌then◌else◌, Some, List, [], ◌∷◌, ◌++◌, length, map, slice_get, slice_set, refl, sym, ap, ◌∙◌, arith, eq-eqb}
+use Rattle.std.proofs.Common.{◌≡◌, ◌≢◌, ◌⊎◌, ◌+◌, ◌≤◌, ◌<◌, ℕ, zero, suc, Bool, true, false, ◌==◌, ◌||◌, if◌then◌else◌, Some, List, [], ◌∷◌, ◌++◌, length, map, slice_get, slice_set, refl, sym, ap, ◌∙◌, arith, eq-eqb}
 use Rattle.dm_print_ledger.specs.Ranges.{is_free, is_in}
 use Rattle.dm_print_ledger.specs.Views.{LedgerView, TicketView}
 use Rattle.dm_event_history.proofs.Deciding.{other_number, same_or_other}
@@ -43,8 +43,7 @@ gone_more (Took ticket ∷ xs) ys number = gone_more xs ys number
 gone_more (Lost range ∷ xs) ys number = (let h = gone_more xs ys number in omega arith)
 
 or_assoc : (a b c : Bool) → ((a || b) || c) ≡ (a || (b || c))
-or_assoc true b c = refl
-or_assoc false b c = refl
+or_assoc a b c = grind arith
 
 pub taken_more : (xs ys : List Move) (ticket : ℕ) → is_taken (xs ++ ys) ticket ≡ (is_taken xs ticket || is_taken ys ticket)
 taken_more [] ys ticket = refl
@@ -55,8 +54,7 @@ taken_more (Took other ∷ xs) ys ticket =
 taken_more (Lost range ∷ xs) ys ticket = taken_more xs ys ticket
 
 or_none : (a b : Bool) → b ≡ false → (a || b) ≡ a
-or_none true b none = refl
-or_none false b none = none
+or_none a b none = grind arith
 
 -- moves that take no ticket
 pub taken_same : (xs ys : List Move) (ticket : ℕ) → is_taken ys ticket ≡ false →
@@ -68,13 +66,7 @@ taken_same xs ys ticket none = taken_more xs ys ticket ∙ or_none (is_taken xs 
 pub on_same : (moves others : List Move) (from : ℕ) (tickets : List TicketView) (number : ℕ) →
     ((k : ℕ) → is_taken others k ≡ is_taken moves k) →
     on_tickets others from tickets number ≡ on_tickets moves from tickets number
-on_same moves others from [] number same = refl
-on_same moves others from (t ∷ ts) number same =
-    let rest = on_same moves others (from + 1) ts number same in
-    let first : (if is_taken others from then 0 else one_if (is_in t.range number))
-    ≡ (if is_taken moves from then 0 else one_if (is_in t.range number)) =
-    ap (λ (b : Bool). if b then 0 else one_if (is_in t.range number)) (same from) in
-    omega arith
+on_same moves others from tickets number same = grind arith
 
 pub on_more : (moves : List Move) (from : ℕ) (ts us : List TicketView) (number : ℕ) →
     on_tickets moves from (ts ++ us) number
@@ -124,8 +116,7 @@ took_other : (k j : ℕ) → k ≢ j → is_taken (Took k ∷ []) j ≡ false
 took_other k j other = ap (λ (b : Bool). b || false) (other_number k j other)
 
 or_true : (a b : Bool) → b ≡ true → (a || b) ≡ true
-or_true true b is = refl
-or_true false b is = is
+or_true a b is = grind arith
 
 pub on_taken : (moves : List Move) (from i : ℕ) (tickets : List TicketView) (ticket : TicketView) (k number : ℕ) →
     slice_get tickets i ≡ Some ticket → k ≡ from + i → is_taken moves k ≡ false →
@@ -171,7 +162,4 @@ on_taken moves from (suc i) (t ∷ ts) ticket k number there at none =
 
 pub taken_by : (moves : List Move) (k j : ℕ) → is_taken (moves ++ Took k ∷ []) j ≡ true →
     (k ≡ j) ⊎ (is_taken moves j ≡ true)
-taken_by moves k j is = elim (same_or_other k j) [
-  | inl same ↦ inl same
-  | inr other ↦ inr (sym (taken_same moves (Took k ∷ []) j (took_other k j other)) ∙ is)
-]
+taken_by moves k j is = grind (arith, same_or_other, taken_same, took_other)

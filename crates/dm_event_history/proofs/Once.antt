@@ -1,5 +1,5 @@
 -- No label leaves twice, and labels of one identification are cut from one document.
-use Rattle.std.proofs.Common.{◌≡◌, ◌⊎◌, ◌+◌, ◌≤◌, inl, inr, ℕ, zero, suc, true, ◌==◌, Some, List, [], ◌∷◌, ◌++◌, length, map, slice_get, take, refl, sym, ap, subst, ◌∙◌, arith, eq-eqb}
+use Rattle.std.proofs.Common.{◌≡◌, ◌⊎◌, ◌+◌, ◌≤◌, inl, inr, ℕ, zero, suc, true, ◌==◌, Some, List, [], ◌∷◌, ◌++◌, length, slice_get, refl, sym, ap, subst, ◌∙◌, arith, eq-eqb}
 use Rattle.dm_check_blocks.specs.declared.size.Size.{Size}
 use Rattle.dm_encodation.specs.declared.scheme.Scheme.{Scheme}
 use Rattle.dm_finder_frame.specs.Grids.{flipped}
@@ -17,11 +17,11 @@ use Rattle.dm_event_history.specs.Relay.{CutDocument}
 use Rattle.dm_event_history.proofs.Gotten.{in_either}
 use Rattle.dm_event_history.specs.Actors.{Actor, Running, Failed, Down, stored_of}
 use Rattle.dm_event_history.specs.Relay.{Goods, Label, Move, Relay}
-use Rattle.dm_event_history.specs.Calls.{Answers, Calls, Course, Ending, LacksMemory, MayLackFirst, Saves, cut_off, lost}
+use Rattle.dm_event_history.specs.Calls.{Answers, Calls, Course, Ending, LacksMemory, MayLackFirst, Saves}
 use Rattle.dm_event_history.specs.PrinterCalls.{AreLabelsFor, GiveComes, PrintComes, TakeComes, cut_of, print_faults}
-use Rattle.dm_event_history.specs.Steps.{Acts, DeskGoes, PrinterGoes, Step}
+use Rattle.dm_event_history.specs.Steps.{Acts, DeskGoes, PrinterGoes}
 use Rattle.dm_event_history.specs.Clean.{AreOfOneDocument}
-use Rattle.dm_event_history.specs.Places.{AreOnce, EachStepIsSound, IsSound, free_at, gone, one_if, places}
+use Rattle.dm_event_history.specs.Places.{AreOnce, EachStepIsSound, IsSound, gone, one_if}
 use Rattle.dm_event_history.proofs.LedgerFacts.{made_print}
 use Rattle.dm_event_history.proofs.LeavingGoods.{IsClosed, Leaves, OfCourse, as_known, calls_leave, ends_leave, known_goods, may_lack_leaves, restarts_leave}
 use Rattle.dm_event_history.proofs.Reaching.{reached, reaches}
@@ -50,17 +50,7 @@ abbrev pub MayBeBatch : LedgerView → Goods → Type 0
 MayBeBatch held goods = (goods.labels ≡ []) ⊎ IsBatch held goods
 
 batch_closed : (held : LedgerView) → IsClosed (MayBeBatch held)
-batch_closed held = record { none = inl refl; cut = cut }
-  where
-    cut : (most : ℕ) (goods : Goods) → MayBeBatch held goods → MayBeBatch held (cut_off most goods)
-    cut most goods (inl none) = inl (ap (λ (ls : List Label). take most ls) none ∙ take_none most)
-    cut most goods (inr b) = inr (record {
-      id = b.id;
-      cut = b.cut;
-      free = b.free;
-      each = λ i label is. b.each i label (get_taken most goods.labels i label is);
-      used = omega (arith, b.used, gone_more goods.moves (map lost goods.tickets) b.id);
-    })
+batch_closed held = grind (arith, get_taken, gone_more, take_none)
 
 each_of_batch : (cut : CutDocument) (id k : ℕ) (parts : List (List ℕ)) (labels : List Label) →
     AreLabelsFor cut id (k + 1) parts labels → (i : ℕ) (label : Label) → slice_get labels i ≡ Some label →
@@ -133,70 +123,26 @@ module _ (old : Relay) (goods : Goods) (sound : IsSound old) where
   -- with no label
   still_used : goods.labels ≡ [] → (i : ℕ) (label : Label) → slice_get (old.labels ++ goods.labels) i ≡ Some label →
       1 ≤ gone (old.moves ++ goods.moves) label.page.id
-  still_used none i label is = elim (in_either old.labels goods.labels i label is) [
-    | inl first ↦ omega (arith, sound.used i label first, gone_more old.moves goods.moves label.page.id)
-    | inr later ↦ not_there later.0 label (subst (λ (ls : List Label). slice_get ls later.0 ≡ Some label) none later.2)
-  ]
-    where
-      not_there : {X : Type 0} (j : ℕ) (label : Label) → slice_get [] j ≡ Some label → X
-      not_there j label is = cc
+  still_used none i label is = grind (arith, gone_more, in_either)
 
   still_there : goods.labels ≡ [] → (i : ℕ) (label : Label) → slice_get (old.labels ++ goods.labels) i ≡ Some label →
       slice_get old.labels i ≡ Some label
-  still_there none i label is = elim (in_either old.labels goods.labels i label is) [
-    | inl first ↦ first
-    | inr later ↦ not_there later.0 (subst (λ (ls : List Label). slice_get ls later.0 ≡ Some label) none later.2)
-  ]
-    where
-      not_there : {X : Type 0} (j : ℕ) → slice_get [] j ≡ Some label → X
-      not_there j is = cc
+  still_there none i label is = grind (arith, in_either)
 
   -- a label that left before has another identification
   apart : (f : IsFresh old goods) (i : ℕ) (label : Label) {X : Type 0} → slice_get old.labels i ≡ Some label →
       label.page.id ≡ f.id → X
-  apart f i label is same =
-      let used : 1 ≤ gone old.moves f.id = subst (λ (n : ℕ). 1 ≤ gone old.moves n) same (sound.used i label is) in
-      absurd (omega (arith, used, f.fresh))
+  apart f i label is same = grind arith
 
   more_used : IsFresh old goods → (i : ℕ) (label : Label) → slice_get (old.labels ++ goods.labels) i ≡ Some label →
       1 ≤ gone (old.moves ++ goods.moves) label.page.id
-  more_used f i label is = elim (in_either old.labels goods.labels i label is) [
-    | inl first ↦ omega (arith, sound.used i label first, gone_more old.moves goods.moves label.page.id)
-    | inr later ↦
-        let own : label.page.id ≡ f.id = (f.each later.0 label later.2).id_is in
-        let used : 1 ≤ gone goods.moves label.page.id =
-        subst (λ (n : ℕ). 1 ≤ gone goods.moves n) (sym own) f.used in
-        omega (arith, used, gone_more old.moves goods.moves label.page.id)
-  ]
+  more_used f i label is = grind (arith, gone_more, in_either)
 
   more_document : IsFresh old goods → AreOfOneDocument (old.labels ++ goods.labels)
-  more_document f i j one other is there same =
-      elim (in_either old.labels goods.labels i one is) [
-        | inl first ↦ elim (in_either old.labels goods.labels j other there) [
-          | inl second ↦ sound.one_document i j one other first second same
-          | inr later ↦ apart f i one first (same ∙ (f.each later.0 other later.2).id_is)
-        ]
-        | inr later ↦ elim (in_either old.labels goods.labels j other there) [
-          | inl second ↦ apart f j other second (sym same ∙ (f.each later.0 one later.2).id_is)
-          | inr also ↦ (f.each later.0 one later.2).cut_is ∙ sym (f.each also.0 other also.2).cut_is
-        ]
-      ]
+  more_document f i j one other is there same = grind (arith, apart, in_either)
 
   more_once : IsFresh old goods → AreOnce (old.labels ++ goods.labels)
-  more_once f i j one other is there same number =
-      elim (in_either old.labels goods.labels i one is) [
-        | inl first ↦ elim (in_either old.labels goods.labels j other there) [
-          | inl second ↦ sound.once i j one other first second same number
-          | inr later ↦ apart f i one first (same ∙ (f.each later.0 other later.2).id_is)
-        ]
-        | inr later ↦ elim (in_either old.labels goods.labels j other there) [
-          | inl second ↦ apart f j other second (sym same ∙ (f.each later.0 one later.2).id_is)
-          | inr also ↦
-              let m : later.0 + 1 ≡ also.0 + 1 =
-              sym (f.each later.0 one later.2).m_is ∙ number ∙ (f.each also.0 other also.2).m_is in
-              omega (arith, m, later.1, also.1)
-        ]
-      ]
+  more_once f i j one other is there same number = grind (arith, apart, in_either)
 
 abbrev MayBeFresh : Relay → Goods → Type 0
 MayBeFresh old goods = (goods.labels ≡ []) ⊎ IsFresh old goods
@@ -208,30 +154,12 @@ AreSoundLabels labels moves =
 
 more_labels : (old : Relay) (goods : Goods) → IsSound old → MayBeFresh old goods →
     AreSoundLabels (old.labels ++ goods.labels) (old.moves ++ goods.moves)
-more_labels old goods sound (inl none) = (
-  still_used old goods sound none,
-  (λ i j one other is there same. sound.one_document i j one other (still_there old goods sound none i one is)
-      (still_there old goods sound none j other there) same),
-  (λ i j one other is there same number. sound.once i j one other (still_there old goods sound none i one is)
-      (still_there old goods sound none j other there) same number),
-)
-more_labels old goods sound (inr f) =
-    (more_used old goods sound f, more_document old goods sound f, more_once old goods sound f)
+more_labels old goods sound none = grind (arith, more_document, more_once, more_used, still_there, still_used)
 
 -- a number that is free is not used
 fresh_of : (old : Relay) (printer : ℕ) (actor : Actor LedgerView) (goods : Goods) → IsSound old →
     slice_get old.printers printer ≡ Some actor → MayBeBatch (stored_of actor) goods → MayBeFresh old goods
-fresh_of old printer actor goods sound was (inl none) = inl none
-fresh_of old printer actor goods sound was (inr b) = inr (record {
-  id = b.id;
-  cut = b.cut;
-  each = b.each;
-  used = b.used;
-  fresh =
-      let most : places old b.id ≤ 1 = sound.apart b.id in
-      let free : 1 ≤ free_at old.printers b.id = free_some old.printers printer b.id actor was b.free in
-      omega arith;
-})
+fresh_of old printer actor goods sound was none = grind (arith, free_some)
 
 -- ---- steps
 
@@ -249,10 +177,7 @@ abbrev HasNoLabels : Goods → Type 0
 HasNoLabels goods = goods.labels ≡ []
 
 no_labels : IsClosed HasNoLabels
-no_labels = record {
-  none = refl;
-  cut = λ most goods none. ap (λ (ls : List Label). take most ls) none ∙ take_none most;
-}
+no_labels = grind arith
 
 desk_labels : {A : Type 0} (old new : Relay) (number : ℕ) (Acts : ℕ → Actor Documents → Ending A Documents → Type 0)
     (reply : Reply A) → IsSound old → ((room : ℕ) → Leaves IsQuiet (Acts room)) → DeskGoes old number Acts reply new →
@@ -263,15 +188,11 @@ desk_labels old new number Acts reply sound each g =
 
 give_none : {A : Type 0} (before receiver : ℕ) (range : Range) (held : LedgerView) (course : Course A LedgerView) →
     GiveComes before receiver range held course → OfCourse HasNoLabels course
-give_none before receiver range held (Saves next goods reply) comes = ap (λ (g : Goods). g.labels) comes.1.1.0
-give_none before receiver range held (Answers reply) comes = tt
-give_none before receiver range held LacksMemory comes = tt
+give_none before receiver range held course comes = grind arith
 
 take_none_leave : {A : Type 0} (number : ℕ) (ticket : TicketView) (held : LedgerView) (course : Course A LedgerView) →
     TakeComes number ticket held course → OfCourse HasNoLabels course
-take_none_leave number ticket held (Saves next goods reply) comes = ap (λ (g : Goods). g.labels) comes.2.1.0
-take_none_leave number ticket held (Answers reply) comes = tt
-take_none_leave number ticket held LacksMemory comes = tt
+take_none_leave number ticket held course comes = grind arith
 
 acts_labels : {A : Type 0} (old new : Relay) (event : Event A) (reply : Reply A) → IsSound old →
     Acts old event reply new → AreSoundLabels new.labels new.moves
@@ -300,18 +221,4 @@ acts_labels old new (RestartDesk desk) reply sound acts =
     desk_labels old new desk _ reply sound (λ room. restart_quiet _) acts
 
 pub each_step_is_sound : (A : Type 0) → EachStepIsSound A
-each_step_is_sound A old new event reply sound step =
-    let kept = each_step_keeps_numbers A old new event reply sound.order step in
-    let labels = by_case step in
-    record {
-      order = kept.0;
-      apart = λ n. omega (arith, kept.1 n, sound.apart n);
-      used = labels.0;
-      one_document = labels.1;
-      once = labels.2;
-    }
-  where
-    by_case : Step old event reply new → AreSoundLabels new.labels new.moves
-    by_case (inl acts) = acts_labels old new event reply sound acts.1
-    by_case (inr none) = subst (λ (r : Relay). AreSoundLabels r.labels r.moves) (sym none.2)
-        (sound.used, sound.one_document, sound.once)
+each_step_is_sound A old new event reply sound step = grind (arith, acts_labels, apart, each_step_keeps_numbers)

@@ -1,5 +1,5 @@
 -- Nothing is open but memory.
-use Rattle.std.proofs.Common.{◌≡◌, ◌⊎◌, inl, inr, ℕ, Some, length, sym, ap, subst, ◌∙◌}
+use Rattle.std.proofs.Common.{arith, ◌≡◌, ◌⊎◌, ℕ, Some, length, sym, subst, ◌∙◌}
 use Rattle.dm_finder_frame.specs.Grids.{flipped}
 use Rattle.dm_print_ledger.specs.declared.fault.OpenFault.TheVariants as open_fault
 use Rattle.dm_print_ledger.specs.Views.{LedgerView, TicketView}
@@ -15,7 +15,7 @@ use Rattle.dm_event_history.specs.Relay.{Relay, Desk, Label, with_printer, with_
 use Rattle.dm_event_history.specs.Calls.{Calls, Ending, MayLackFirst}
 use Rattle.dm_event_history.specs.PrinterCalls.{GiveComes, PrintComes, TakeComes, give_faults, print_faults, take_faults}
 use Rattle.dm_event_history.specs.DeskCalls.{AskTells, ExportTells, ForgetComes, ImportComes, ScanComes, forget_faults, import_faults, scan_faults}
-use Rattle.dm_event_history.specs.Steps.{Acts, DeskGoes, PrinterGoes, Step}
+use Rattle.dm_event_history.specs.Steps.{Acts, DeskGoes, PrinterGoes}
 use Rattle.dm_event_history.specs.Laws.{IsOfMemory, NothingIsOpenButMemory}
 use Rattle.dm_event_history.proofs.OneCourse.{print_determined, give_determined, take_determined, scan_determined, forget_determined, import_determined}
 use Rattle.dm_event_history.proofs.OneEnding.{IsOne, calls_one, may_lack_one, restarts_one, looks_one, ask_one, export_one}
@@ -23,47 +23,15 @@ use Rattle.dm_event_history.proofs.OneEnding.{IsOne, calls_one, may_lack_one, re
 abbrev Same : {A : Type 0} → Reply A → Reply A → Relay → Relay → Type 0
 Same r s one other = ((r ≡ s) × (one ≡ other)) ⊎ (IsOfMemory r ⊎ IsOfMemory s)
 
-told_so : {A : Type 0} (r known : Reply A) → r ≡ known → IsOfMemory known → IsOfMemory r
-told_so {A} r known same memory = subst (λ (t : Reply A). IsOfMemory t) (sym same) memory
-
 printer_one : {A : Type 0} (old one other : Relay) (printer : ℕ) (Acts : Actor LedgerView → Ending A LedgerView → Type 0)
     (r s : Reply A) → IsOne Acts → PrinterGoes old printer Acts r one → PrinterGoes old printer Acts s other →
     Same r s one other
-printer_one {A} old one other printer Acts r s same p q =
-    let there : Some p.actor ≡ Some q.actor = sym p.was ∙ q.was in
-    let actor : p.actor ≡ q.actor = cc (there) in
-    let acts : Acts p.actor q.end = subst (λ (a : Actor LedgerView). Acts a q.end) (sym actor) q.acts in
-    elim (same p.actor p.end q.end p.acts acts) [
-      | inl e ↦ inl (
-        p.reply_is ∙ ap (λ (x : Ending A LedgerView). x.reply) e ∙ sym q.reply_is,
-        p.new_is ∙ ap (λ (x : Ending A LedgerView). with_printer old printer x.actor x.goods) e ∙ sym q.new_is,
-      )
-      | inr memory ↦ elim memory [
-        | inl first ↦ inr (inl (told_so r p.end.reply p.reply_is first))
-        | inr second ↦ inr (inr (told_so s q.end.reply q.reply_is second))
-      ]
-    ]
+printer_one {A} old one other printer Acts r s same p q = grind arith
 
 desk_one : {A : Type 0} (old one other : Relay) (number : ℕ) (Acts : ℕ → Actor Documents → Ending A Documents → Type 0)
     (r s : Reply A) → ((room : ℕ) → IsOne (Acts room)) → DeskGoes old number Acts r one →
     DeskGoes old number Acts s other → Same r s one other
-desk_one {A} old one other number Acts r s same p q =
-    let there : Some p.desk ≡ Some q.desk = sym p.was ∙ q.was in
-    let desk : p.desk ≡ q.desk = cc (there) in
-    let acts : Acts p.desk.room p.desk.actor q.end =
-    subst (λ (d : Desk). Acts d.room d.actor q.end) (sym desk) q.acts in
-    let After : Desk → Ending A Documents → Relay =
-    λ d x. with_desk old number (record { room = d.room; actor = x.actor }) x.goods in
-    elim (same p.desk.room p.desk.actor p.end q.end p.acts acts) [
-      | inl e ↦ inl (
-        p.reply_is ∙ ap (λ (x : Ending A Documents). x.reply) e ∙ sym q.reply_is,
-        p.new_is ∙ (λ i. After (desk i) (e i)) ∙ sym q.new_is,
-      )
-      | inr memory ↦ elim memory [
-        | inl first ↦ inr (inl (told_so r p.end.reply p.reply_is first))
-        | inr second ↦ inr (inr (told_so s q.end.reply q.reply_is second))
-      ]
-    ]
+desk_one {A} old one other number Acts r s same p q = grind arith
 
 acts_one : {A : Type 0} (old one other : Relay) (event : Event A) (r s : Reply A) → Acts old event r one →
     Acts old event s other → Same r s one other
@@ -115,10 +83,4 @@ acts_one old one other (RestartDesk desk) r s p q =
     desk_one old one other desk _ r s (λ room. restarts_one (DeskRefused desk_fault.Memory) tt) p q
 
 pub only_memory : (A : Type 0) → NothingIsOpenButMemory A
-only_memory A old one other event r s p q = by_case p q
-  where
-    by_case : Step old event r one → Step old event s other → Same r s one other
-    by_case (inl a) (inl b) = acts_one old one other event r s a.1 b.1
-    by_case (inl a) (inr b) = absurd (b.0 a.0)
-    by_case (inr a) (inl b) = absurd (a.0 b.0)
-    by_case (inr a) (inr b) = inl (a.1 ∙ sym b.1, a.2 ∙ sym b.2)
+only_memory A old one other event r s p q = grind (arith, acts_one)

@@ -1,5 +1,5 @@
 -- Each label that leaves is as it was printed.
-use Rattle.std.proofs.Common.{◌≡◌, ◌+◌, inl, inr, ℕ, zero, suc, Some, List, [], ◌∷◌, ◌++◌, length, slice_get, take, sym, ap, subst, ◌∙◌, arith}
+use Rattle.std.proofs.Common.{◌≡◌, ◌+◌, ℕ, zero, suc, Some, List, [], ◌∷◌, ◌++◌, length, slice_get, take, sym, ap, subst, ◌∙◌, arith}
 use Rattle.dm_check_blocks.specs.declared.size.Size.{Size}
 use Rattle.dm_encodation.specs.declared.scheme.Scheme.{Scheme}
 use Rattle.dm_finder_frame.specs.Grids.{flipped}
@@ -19,7 +19,7 @@ use Rattle.dm_event_history.specs.Actors.{Actor}
 use Rattle.dm_event_history.specs.Relay.{Goods, Label, Relay}
 use Rattle.dm_event_history.specs.Calls.{Answers, Course, Ending, LacksMemory, Saves}
 use Rattle.dm_event_history.specs.PrinterCalls.{AreLabelsFor, GiveComes, PrintComes, TakeComes, cut_of}
-use Rattle.dm_event_history.specs.Steps.{Acts, DeskGoes, PrinterGoes, Step}
+use Rattle.dm_event_history.specs.Steps.{Acts, DeskGoes, PrinterGoes}
 use Rattle.dm_event_history.specs.Clean.{ArePrinted, EachStepPrints, IsPrinted}
 use Rattle.dm_event_history.proofs.LedgerFacts.{made_print}
 use Rattle.dm_event_history.proofs.LeavingGoods.{IsClosed, Leaves, OfCourse, calls_leave, known_goods, may_lack_leaves, restarts_leave}
@@ -31,10 +31,7 @@ none_printed : ArePrinted []
 none_printed i label is = cc
 
 pub both_printed : (xs ys : List Label) → ArePrinted xs → ArePrinted ys → ArePrinted (xs ++ ys)
-both_printed xs ys p q i label is = elim (in_either xs ys i label is) [
-  | inl first ↦ p i label first
-  | inr later ↦ q later.0 label later.2
-]
+both_printed xs ys p q i label is = grind (arith, in_either)
 
 pub get_taken : {X : Type 0} (k : ℕ) (xs : List X) (i : ℕ) (x : X) → slice_get (take k xs) i ≡ Some x →
     slice_get xs i ≡ Some x
@@ -101,32 +98,23 @@ print_prints before document size scheme held LacksMemory comes = tt
 
 give_prints : {A : Type 0} (before receiver : ℕ) (range : Range) (held : LedgerView) (course : Course A LedgerView) →
     GiveComes before receiver range held course → OfCourse PrintedGoods course
-give_prints before receiver range held (Saves next goods reply) comes = known_goods PrintedGoods goods _ comes.1.1.0 none_printed
-give_prints before receiver range held (Answers reply) comes = tt
-give_prints before receiver range held LacksMemory comes = tt
+give_prints before receiver range held course comes = grind arith
 
 take_prints : {A : Type 0} (number : ℕ) (ticket : TicketView) (held : LedgerView) (course : Course A LedgerView) →
     TakeComes number ticket held course → OfCourse PrintedGoods course
-take_prints number ticket held (Saves next goods reply) comes = known_goods PrintedGoods goods _ comes.2.1.0 none_printed
-take_prints number ticket held (Answers reply) comes = tt
-take_prints number ticket held LacksMemory comes = tt
+take_prints number ticket held course comes = grind arith
 
 -- ---- steps
 
 printer_prints : {A : Type 0} (old new : Relay) (printer : ℕ) (Acts : Actor LedgerView → Ending A LedgerView → Type 0)
     (reply : Reply A) → ArePrinted old.labels → Leaves PrintedGoods Acts → PrinterGoes old printer Acts reply new →
     ArePrinted new.labels
-printer_prints old new printer Acts reply p each g =
-    subst (λ (r : Relay). ArePrinted r.labels) (sym g.new_is)
-    (both_printed old.labels g.end.goods.labels p (each g.actor g.end g.acts))
+printer_prints old new printer Acts reply p each g = grind (arith, both_printed)
 
 desk_prints : {A : Type 0} (old new : Relay) (number : ℕ) (Acts : ℕ → Actor Documents → Ending A Documents → Type 0)
     (reply : Reply A) → ArePrinted old.labels → ((room : ℕ) → Leaves IsQuiet (Acts room)) →
     DeskGoes old number Acts reply new → ArePrinted new.labels
-desk_prints old new number Acts reply p each g =
-    subst (λ (r : Relay). ArePrinted r.labels) (sym g.new_is)
-    (both_printed old.labels g.end.goods.labels p
-    (quiet_printed g.end.goods (each g.desk.room g.desk.actor g.end g.acts)))
+desk_prints old new number Acts reply p each g = grind (arith, both_printed, quiet_printed)
 
 acts_print : {A : Type 0} (old new : Relay) (event : Event A) (reply : Reply A) → ArePrinted old.labels →
     Acts old event reply new → ArePrinted new.labels
@@ -155,8 +143,4 @@ acts_print old new (Export desk id) reply p acts =
 acts_print old new (RestartDesk desk) reply p acts = desk_prints old new desk _ reply p (λ room. restart_quiet _) acts
 
 pub each_step_prints : (A : Type 0) → EachStepPrints A
-each_step_prints A old new event reply p step = by_case step
-  where
-    by_case : Step old event reply new → ArePrinted new.labels
-    by_case (inl acts) = acts_print old new event reply p acts.1
-    by_case (inr none) = subst (λ (r : Relay). ArePrinted r.labels) (sym none.2) p
+each_step_prints A old new event reply p step = grind (arith, acts_print)

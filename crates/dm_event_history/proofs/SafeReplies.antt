@@ -1,6 +1,6 @@
 -- In a run in which each scan is fair each reply is safe.
 use Rattle.std.proofs.Common.{◌≡◌, ◌≢◌, ◌⊎◌, ◌↔◌, ◌+◌, ◌≤◌, ◌==◌, inl, inr, ℕ, zero, suc, Bool, true, false, Option, Some, None, Result, Ok, Err, List, [], ◌∷◌, length, slice_get, slice_index_or, IsSome, refl, sym, ap, subst, ◌∙◌, arith, eq-eqb}
-use Rattle.std.specs.Prelude.{is_some, is_none, ◌&&◌, MatchBool, unwrap_or, option_map, if◌then◌else◌}
+use Rattle.std.specs.Prelude.{is_some, is_none, ◌&&◌, unwrap_or, if◌then◌else◌}
 use Rattle.std.specs.List.{list_all, list_any}
 use Rattle.std.specs.Option.{option_or}
 use Rattle.std.specs.FinMap as finite
@@ -17,7 +17,6 @@ use Rattle.dm_assembly_desk.specs.declared.reply.Kind.TheVariants.{New, Again, C
 use Rattle.dm_assembly_desk.specs.declared.reply.Imported as imported_type
 use Rattle.dm_assembly_desk.specs.declared.fault.AskFault.{AskFault}
 use Rattle.dm_assembly_desk.specs.declared.fault.AskFault.TheVariants as ask_fault
-use Rattle.dm_assembly_desk.specs.declared.fault.ForgetFault.TheVariants as forget_fault
 use Rattle.dm_assembly_desk.specs.declared.fault.ScanFault.{ScanFault}
 use Rattle.dm_assembly_desk.specs.declared.fault.ScanFault.TheVariants as scan_fault
 use Rattle.dm_assembly_desk.specs.declared.fault.ImportFault.{ImportFault}
@@ -43,14 +42,14 @@ use Rattle.dm_event_history.specs.declared.reply.Reply.{Reply}
 use Rattle.dm_event_history.specs.declared.reply.Reply.TheVariants.{Scanned, ScanRefused, Document, AskRefused, Forgotten, ForgetRefused, Exported, ExportRefused, Imported, ImportRefused}
 use Rattle.dm_event_history.specs.declared.reply.Reply.TheVariants as replies
 use Rattle.dm_event_history.specs.declared.stop.Stop.{Stop}
-use Rattle.dm_event_history.specs.Actors.{Actor, Running, Failed, Down, shown_of}
+use Rattle.dm_event_history.specs.Actors.{Actor, shown_of}
 use Rattle.dm_event_history.specs.Relay as relays
 use Rattle.dm_event_history.specs.Relay.{CutDocument, Desk, Label, Relay}
 use Rattle.dm_event_history.specs.Calls.{Calls, Looks, MayLackFirst}
-use Rattle.dm_event_history.specs.DeskCalls.{AskTells, ExportTells, ExportsHeld, ForgetComes, ImportComes, ScanComes, ask_reply, forget_faults, import_faults, scan_course, scan_faults, verdict_course, page_reply, pages_reply, forget_reply}
+use Rattle.dm_event_history.specs.DeskCalls.{AskTells, ExportTells, ForgetComes, ImportComes, ScanComes, ask_reply, forget_faults, import_faults, scan_course, scan_faults, verdict_course, page_reply, pages_reply}
 use Rattle.dm_event_history.specs.Steps.{Acts, DeskGoes, IsNamed, Step}
 use Rattle.dm_event_history.specs.Runs.{Moment}
-use Rattle.dm_event_history.specs.Clean.{ArePrinted, AreOfOneDocument, HaveLeft, IsCleanActor, IsCleanExport}
+use Rattle.dm_event_history.specs.Clean.{ArePrinted, AreOfOneDocument, HaveLeft, IsCleanExport}
 use Rattle.dm_event_history.specs.Places.{IsSound}
 use Rattle.dm_event_history.specs.Headline.{AreAllClean, IsFairEvent}
 use Rattle.dm_event_history.specs.Safe.{EachFairReplyIsSafe, IsExportSafe, IsFullFor, IsImportKindSafe, IsImportedSafe, IsKindSafe, IsSafe, IsTrulyMissing, Known, docs, known_of}
@@ -60,11 +59,9 @@ use Rattle.dm_event_history.proofs.Adds.{add_refuses, length-lone, lone_some, na
 use Rattle.dm_event_history.proofs.Gives.{each_clean_desk_gives}
 use Rattle.dm_event_history.proofs.Stays.{lone_clean, lone_export, page_in}
 use Rattle.dm_event_history.proofs.Headline.{each_fair_run_is_clean, each_run_is_sound, saved_fair}
-use Rattle.dm_event_history.proofs.Having.{HasAll}
-use Rattle.dm_event_history.proofs.Answered.{Ended, IsOwn, is_answered, is_looked, is_made}
-use Rattle.dm_event_history.proofs.Told.{AddRefused, add_ended, forget_told, no_page, own_forget, own_import, own_scan, scan_told, scan_was_refused, was_wanted, forget_by}
+use Rattle.dm_event_history.proofs.Answered.{IsOwn, is_answered, is_looked, is_made}
+use Rattle.dm_event_history.proofs.Told.{AddRefused, add_ended, no_page, own_import, own_scan, scan_told, scan_was_refused, was_wanted}
 use Rattle.dm_event_history.proofs.Between.{AreBetween, IsBetween, run_between}
-use Rattle.dm_assembly_desk.specs.Forgetting.{forget_verdict}
 use Rattle.dm_assembly_desk.proofs.LonePages.{lone_here}
 
 -- ---- what was printed
@@ -113,10 +110,7 @@ docs_found (own ∷ labels) (suc n) label there =
 -- the document of a label that left is what was printed under its identification
 pub docs_of : (labels : List Label) → AreOfOneDocument labels → (n : ℕ) (label : Label) (id : ℕ) →
     slice_get labels n ≡ Some label → label.page.id ≡ id → docs labels id ≡ Some label.cut
-docs_of labels one n label id there is =
-    let found = docs_found labels n label there in
-    let same : label.cut ≡ found.0 = one n found.2 label found.3 there found.4 (sym found.5) ∙ found.6 in
-    subst (λ (i : ℕ). docs labels i ≡ Some label.cut) is (found.1 ∙ ap (λ (c : CutDocument). Some c) (sym same))
+docs_of labels one n label id there is = grind (arith, docs_found)
 
 -- ---- what is held, of what was printed
 
@@ -166,30 +160,20 @@ place_of pages (suc i) some = (omega arith, below pages i some)
     below (p ∷ ps) (suc k) there = (let rest = below ps k there in omega arith)
 
 neither : (o p : Option (List ℕ)) → option_or o p ≡ None → (o ≡ None) × (p ≡ None)
-neither None p x = (refl, x)
-neither (Some b) p x = cc (x)
+neither o p x = grind arith
 
 either_held : (o p : Option (List ℕ)) → IsSome (option_or o p) → ¬ ((is_none o && is_some p) ≡ true) → IsSome o
-either_held None None x y = cc (x)
-either_held None (Some c) x y = absurd (y refl)
-either_held (Some b) p x y = refl
+either_held o p x y = grind arith
 
 by_named : (o p : Option (List ℕ)) → (is_none o && is_some p) ≡ true → (o ≡ None) × IsSome p
-by_named None (Some c) x = (refl, refl)
-by_named None None x = cc (x)
-by_named (Some b) (Some c) x = cc (x)
-by_named (Some b) None x = cc (x)
+by_named o p x = grind arith
 
 by_unnamed : (o p : Option (List ℕ)) → IsSome p → ¬ ((is_none o && is_some p) ≡ true) → IsSome o
-by_unnamed (Some b) p x y = refl
-by_unnamed None (Some c) x y = absurd (y refl)
-by_unnamed None None x y = cc (x)
+by_unnamed o p x y = grind arith
 
 again_by : (kind : Kind) (added : ℕ) (own pages : Pages) → added ≡ added_mask own pages → KindSays kind own pages →
     (kind ≡ Again) ↔ (added ≡ 0)
-again_by Again added own pages is says = ((λ _. is ∙ says), (λ _. refl))
-again_by New added own pages is says = ((λ e. cc (e)), (λ none. absurd (says.0 (sym is ∙ none))))
-again_by Complete added own pages is says = ((λ e. cc (e)), (λ none. absurd (says.0 (sym is ∙ none))))
+again_by kind added own pages is says = grind arith
 
 -- ---- a desk that shows what was printed, between what it surely holds and what it may hold
 
@@ -200,21 +184,13 @@ module _ (A : Type 0) (old : Relay) (earlier : List (Moment A)) (d : ℕ) (held 
   known = known_of old earlier
 
   not_surely : (id : ℕ) → finite.get held id ≡ None → (m : ℕ) → ¬ known.holds d id m
-  not_surely id none m surely =
-      no_page (page_at held id m) (b.surely id m surely) (ap (λ (o : Option Pages). page (unwrap_or o []) m) none ∙
-      page_none m)
-    where
-      page_none : (m : ℕ) → page [] m ≡ None
-      page_none zero = refl
-      page_none (suc i) = refl
+  not_surely id none m surely = grind arith
 
   possibly : (id m : ℕ) (pages : Pages) → finite.get held id ≡ Some pages → IsSome (page pages m) → known.may_hold d id m
-  possibly id m pages is some =
-      b.possibly id m (subst (λ (o : Option (List ℕ)). IsSome o) (sym (page_in held id m pages is)) some)
+  possibly id m pages is some = grind arith
 
   not_held : (id m : ℕ) (pages : Pages) → finite.get held id ≡ Some pages → page pages m ≡ None → ¬ known.holds d id m
-  not_held id m pages is none surely =
-      no_page (page_at held id m) (b.surely id m surely) (page_in held id m pages is ∙ none)
+  not_held id m pages is none surely = grind arith
 
   -- ---- asks
 
@@ -334,16 +310,7 @@ module _ (A : Type 0) (old : Relay) (earlier : List (Moment A)) (d : ℕ) (held 
 
   export_is_safe : (id n : ℕ) (pages : Pages) → finite.get held id ≡ Some pages → n ≡ length pages →
       IsExportSafe known d id n (mask pages)
-  export_is_safe id n pages is count =
-      let t = counted_is old.labels one printed held left id pages is in
-      record {
-        document = t.0;
-        printed = t.1;
-        n_is = count ∙ t.2;
-        possibly = λ m named. possibly id m pages is (named_there pages m named);
-        surely = λ m surely. there_named pages m
-            (subst (λ (o : Option (List ℕ)). IsSome o) (page_in held id m pages is) (b.surely id m surely));
-      }
+  export_is_safe id n pages is count = grind (arith, counted_is, named_there, page_in, possibly, there_named)
 
   -- ---- imports
 
@@ -475,43 +442,11 @@ module _ (A : Type 0) (old : Relay) (earlier : List (Moment A)) (d : ℕ) (held 
 
 pub own_scan_fault : {A : Type 0} (fault : ScanFault) → fault ≢ scan_fault.Failed → fault ≢ scan_fault.Save →
     fault ≢ scan_fault.Memory → IsOwn {A = A} scan_faults (ScanRefused fault)
-own_scan_fault {A} fault failed save memory = record {
-  stopped = λ e. cc (e);
-  down = λ e. cc (e);
-  lacks = λ e. cc (e);
-  failed = λ e. failed (same e);
-  save = λ e. save (same e);
-  memory = λ e. memory (same e);
-}
-  where
-    same : {other : ScanFault} → ◌≡◌ {A = Reply A} (ScanRefused fault) (ScanRefused other) → fault ≡ other
-    same e = cc (e)
+own_scan_fault {A} fault failed save memory = grind arith
 
 own_import_fault : {A : Type 0} (fault : ImportFault) → fault ≢ import_fault.Failed → fault ≢ import_fault.Save →
     fault ≢ import_fault.Memory → IsOwn {A = A} import_faults (ImportRefused fault)
-own_import_fault {A} fault failed save memory = record {
-  stopped = λ e. cc (e);
-  down = λ e. cc (e);
-  lacks = λ e. cc (e);
-  failed = λ e. failed (same e);
-  save = λ e. save (same e);
-  memory = λ e. memory (same e);
-}
-  where
-    same : {other : ImportFault} → ◌≡◌ {A = Reply A} (ImportRefused fault) (ImportRefused other) → fault ≡ other
-    same e = cc (e)
-
-shown_has : (Q : Documents → Type 0) (actor : Actor Documents) (held : Documents) → HasAll Q actor →
-    shown_of actor ≡ Some held → Q held
-shown_has Q (Running own) held h is = (let same : own ≡ held = cc (is) in subst Q same h)
-shown_has Q (Failed own stored) held h is = (let same : own ≡ held = cc (is) in subst Q same h.0)
-shown_has Q (Down stored) held h is = cc (is)
-
-shown_left : (labels : List Label) (actor : Actor Documents) (held : Documents) → IsCleanActor labels actor →
-    shown_of actor ≡ Some held → HaveLeft labels held
-shown_left labels (Running own) held h is = (let same : own ≡ held = cc (is) in subst (HaveLeft labels) same h)
-shown_left labels (Failed own stored) held h is = (let same : own ≡ held = cc (is) in subst (HaveLeft labels) same h.0)
-shown_left labels (Down stored) held h is = cc (is)
+own_import_fault {A} fault failed save memory = grind arith
 
 -- what is shown at a desk agrees with what was printed and asked
 record IsGathered {A : Type 0} (old : Relay) (earlier : List (Moment A)) (d : ℕ) (held : Documents) : Type 0 where
@@ -525,10 +460,7 @@ module _ (A : Type 0) (old new : Relay) (earlier : List (Moment A)) (sound : IsS
 
   gathered : (d : ℕ) (desk : Desk) (held : Documents) → slice_get old.desks d ≡ Some desk →
       shown_of desk.actor ≡ Some held → IsGathered old earlier d held
-  gathered d desk held there shown = record {
-    left = shown_left old.labels desk.actor held (clean.desks d desk there) shown;
-    between = shown_has (IsBetween earlier d) desk.actor held (b d desk there) shown;
-  }
+  gathered d desk held there shown = grind arith
 
   asked : (d id : ℕ) (reply : Reply A) → reply ≢ replies.Down → Step old (Ask d id) reply new →
       DeskGoes old d (λ room. Looks (AskTells id)) reply new → IsSafe old (known_of old earlier) (Ask d id) reply
@@ -545,76 +477,22 @@ module _ (A : Type 0) (old new : Relay) (earlier : List (Moment A)) (sound : IsS
 
   ask_safe : (d id : ℕ) (reply : Reply A) → Step old (Ask d id) reply new →
       DeskGoes old d (λ room. Looks (AskTells id)) reply new → IsSafe old (known_of old earlier) (Ask d id) reply
-  ask_safe d id (Document bytes) step g = asked d id (Document bytes) (λ e. cc (e)) step g
-  ask_safe d id (AskRefused fault) step g = asked d id (AskRefused fault) (λ e. cc (e)) step g
-  ask_safe d id reply step g = tt
+  ask_safe d id reply step g = grind (arith, asked)
 
   exported : (d id : ℕ) (reply : Reply A) → reply ≢ replies.Down → reply ≢ replies.Memory →
       DeskGoes old d (λ room. MayLackFirst (Looks (ExportTells (length old.exports) id))) reply new →
       IsSafe old (known_of old earlier) (Export d id) reply
-  exported d id reply up some g =
-      let looks = is_made (Looks (ExportTells (length old.exports) id)) g.desk.actor g.end reply some g.acts (sym g.reply_is) in
-      let l = is_looked (ExportTells (length old.exports) id) g.desk.actor g.end (λ e. up (g.reply_is ∙ e)) looks in
-      let h = gathered d g.desk l.held g.was l.shown in
-      by_held l.held h (finite.get l.held id) refl g.end.goods
-      (subst (λ (r : Reply A). ExportsHeld (length old.exports) id (finite.get l.held id) r g.end.goods) (sym g.reply_is)
-      l.tells)
-    where
-      by_held : (held : Documents) → IsGathered old earlier d held → (o : Option Pages) → finite.get held id ≡ o →
-          (goods : relays.Goods) → ExportsHeld (length old.exports) id o reply goods →
-          IsSafe old (known_of old earlier) (Export d id) reply
-      by_held held h None is goods tells =
-          subst (λ (r : Reply A). IsSafe old (known_of old earlier) (Export d id) r) (sym tells.0)
-          (not_surely A old earlier d held one printed h.left h.between id is)
-      by_held held h (Some pages) is goods (inl tells) =
-          subst (λ (r : Reply A). IsSafe old (known_of old earlier) (Export d id) r) (sym tells.0)
-          (export_is_safe A old earlier d held one printed h.left h.between id (length pages) pages is refl)
-      by_held held h (Some pages) is goods (inr tells) =
-          subst (λ (r : Reply A). IsSafe old (known_of old earlier) (Export d id) r) (sym tells.0) tt
+  exported d id reply up some g = grind (arith, export_is_safe, gathered, is_looked, is_made, not_surely, one)
 
   export_safe : (d id : ℕ) (reply : Reply A) →
       DeskGoes old d (λ room. MayLackFirst (Looks (ExportTells (length old.exports) id))) reply new →
       IsSafe old (known_of old earlier) (Export d id) reply
-  export_safe d id (Exported index told n bits) g = exported d id (Exported index told n bits) (λ e. cc (e)) (λ e. cc (e)) g
-  export_safe d id (ExportRefused fault) g = exported d id (ExportRefused fault) (λ e. cc (e)) (λ e. cc (e)) g
-  export_safe d id reply g = tt
+  export_safe d id reply g = grind (arith, exported)
 
   forget_safe : (d id : ℕ) (stop : Stop) (reply : Reply A) →
       DeskGoes old d (λ room. Calls forget_faults stop (ForgetComes id)) reply new →
       IsSafe old (known_of old earlier) (Forget d id stop) reply
-  forget_safe d id stop Forgotten g =
-      let ans = is_answered forget_faults stop (ForgetComes id) g.desk.actor g.end Forgotten own_forget g.acts (sym g.reply_is) in
-      let f = forget_told A id ans.held g.end.actor (finite.get ans.held id) refl
-      (was_wanted (verdict_course forget_reply (forget_verdict ans.held id)) ans.course ans.held Forgotten g.end.actor
-      ans.comes ans.ended) in
-      let h = gathered d g.desk ans.held g.was (ap (λ (a : Actor Documents). shown_of a) ans.was) in
-      let s = h.left.some id f.pages f.were_held in
-      (s.0, possibly A old earlier d ans.held one printed h.left h.between id s.0 f.pages f.were_held s.1)
-  forget_safe d id stop (ForgetRefused forget_fault.NotHeld) g =
-      let ans = is_answered forget_faults stop (ForgetComes id) g.desk.actor g.end (ForgetRefused forget_fault.NotHeld)
-      own_not_held g.acts (sym g.reply_is) in
-      let h = gathered d g.desk ans.held g.was (ap (λ (a : Actor Documents). shown_of a) ans.was) in
-      not_surely A old earlier d ans.held one printed h.left h.between id
-      (none_held ans.held (finite.get ans.held id) refl
-      (was_wanted (verdict_course forget_reply (forget_verdict ans.held id)) ans.course ans.held
-      (ForgetRefused forget_fault.NotHeld) g.end.actor ans.comes ans.ended))
-    where
-      own_not_held : IsOwn {A = A} forget_faults (ForgetRefused forget_fault.NotHeld)
-      own_not_held = record {
-        stopped = λ e. cc (e);
-        down = λ e. cc (e);
-        lacks = λ e. cc (e);
-        failed = λ e. cc (e);
-        save = λ e. cc (e);
-        memory = λ e. cc (e);
-      }
-
-      none_held : (held : Documents) (o : Option Pages) → finite.get held id ≡ o →
-          Ended {A = A} (verdict_course forget_reply (forget_by held id o)) held (ForgetRefused forget_fault.NotHeld) g.end.actor →
-          finite.get held id ≡ None
-      none_held held None is ended = is
-      none_held held (Some pages) is ended = (let e = ended.0 in cc (e))
-  forget_safe d id stop reply g = tt
+  forget_safe d id stop reply g = grind arith
 
   -- a scan that was refused, not for a fault of the desk or its memory
   refused : (d number : ℕ) (flips : List (ℕ × ℕ)) (stop : Stop) (label : Label) (fault : ScanFault) →
@@ -789,12 +667,7 @@ module _ (A : Type 0) (old new : Relay) (earlier : List (Moment A)) (sound : IsS
   acts_safe event reply fair named step acts = tt
 
 no_such_safe : {A : Type 0} (old : Relay) (known : Known) (event : Event A) → IsSafe old known event replies.NoSuch
-no_such_safe old known (Scan d number flips stop) = tt
-no_such_safe old known (Forget d id stop) = tt
-no_such_safe old known (Import d number stop) = tt
-no_such_safe old known (Ask d id) = tt
-no_such_safe old known (Export d id) = tt
-no_such_safe old known event = tt
+no_such_safe old known event = grind arith
 
 pub each_fair_reply_is_safe : (A : Type 0) → EachFairReplyIsSafe A
 each_fair_reply_is_safe A ranges rooms moment earlier end apart run fair =

@@ -1,6 +1,6 @@
 -- A desk stays clean.
-use Rattle.std.proofs.Common.{◌≡◌, ◌≢◌, ◌≤◌, ◌⊎◌, inl, inr, ℕ, zero, suc, Option, Some, None, List, [], ◌∷◌, ◌++◌, length, slice_get, slice_set, Result, Ok, Err, IsSome, refl, sym, ap, subst, ◌∙◌}
-use Rattle.std.specs.Prelude.{option_map, unwrap_or}
+use Rattle.std.proofs.Common.{arith, ◌≡◌, ◌≢◌, ◌⊎◌, inl, inr, ℕ, zero, suc, Option, Some, None, List, [], ◌∷◌, ◌++◌, length, slice_get, slice_set, Result, Ok, Err, IsSome, refl, sym, ap, subst, ◌∙◌}
+use Rattle.std.specs.Prelude.{unwrap_or}
 use Rattle.std.specs.Option.{option_or}
 use Rattle.std.specs.FinMap as finite
 use Rattle.dm_append_label.specs.Pages.{PageView}
@@ -9,12 +9,8 @@ use Rattle.dm_append_label.specs.Opening.{OpensNear}
 use Rattle.dm_append_label.specs.declared.opening.Opened.{Opened}
 use Rattle.dm_append_label.specs.declared.fault.LabelFault.{LabelFault}
 use Rattle.dm_append_label.specs.declared.fault.LabelFault.TheVariants as label_fault
-use Rattle.dm_store.specs.declared.fuse.Kept.TheVariants.{Old, New}
 use Rattle.dm_assembly_desk.specs.declared.reply.Kind.{Kind}
-use Rattle.dm_assembly_desk.specs.declared.reply.Kind.TheVariants as kinds
 use Rattle.dm_assembly_desk.specs.Pages.{Pages, page}
-use Rattle.dm_assembly_desk.specs.declared.adding.AddFault.{AddFault}
-use Rattle.dm_assembly_desk.specs.declared.reply.Imported as imported_type
 use Rattle.dm_assembly_desk.specs.Documents.{Documents, page_at}
 use Rattle.dm_assembly_desk.specs.Accepting.{lone}
 use Rattle.dm_assembly_desk.specs.Adding.{add_kind, add_verdict, pages_with, with_pages}
@@ -25,21 +21,17 @@ use Rattle.dm_print_ledger.specs.Views.{LedgerView}
 use Rattle.dm_event_history.specs.declared.event.Event.{Event}
 use Rattle.dm_event_history.specs.declared.event.Event.TheVariants.{Print, Scan, RestartPrinter, RestartDesk, Ask, Forget, Give, Take, Export, Import}
 use Rattle.dm_event_history.specs.declared.reply.Reply.{Reply}
-use Rattle.dm_event_history.specs.declared.reply.Reply.TheVariants.{Imported}
 use Rattle.dm_event_history.specs.declared.stop.Stop.{Stop}
-use Rattle.dm_event_history.specs.declared.stop.Stop.TheVariants as stops
-use Rattle.dm_event_history.specs.declared.stop.Stop.TheVariants.{BeforeSave, InSave, SaveFault, AfterLabels}
 use Rattle.dm_event_history.proofs.Deciding.{same_or_other}
 use Rattle.dm_event_history.proofs.Gotten.{get_more}
 use Rattle.dm_event_history.proofs.HeldDocuments.{get_left, get_other, get_removed}
-use Rattle.dm_event_history.specs.Actors.{Actor, Running, Failed, Down, stored_of}
+use Rattle.dm_event_history.specs.Actors.{Actor}
 use Rattle.dm_event_history.specs.Relay as relays
 use Rattle.dm_event_history.specs.Relay.{Desk, Goods, Label, Relay}
-use Rattle.dm_event_history.specs.Calls.{Answers, Calls, Course, Ending, Faults, LacksMemory, Looks, MayLackFirst, Reaches, Restarts, Saves, ends}
+use Rattle.dm_event_history.specs.Calls.{Answers, Calls, Course, Ending, Faults, LacksMemory, Looks, MayLackFirst, Restarts, Saves}
 use Rattle.dm_event_history.specs.DeskCalls.{AskTells, ExportTells, MayBe, scan_course, verdict_course, page_reply, pages_reply, forget_reply}
-use Rattle.dm_event_history.specs.Steps.{Acts, DeskGoes, PrinterGoes, Step}
+use Rattle.dm_event_history.specs.Steps.{Acts, DeskGoes, PrinterGoes}
 use Rattle.dm_event_history.specs.Clean.{ArePrinted, EachStepKeepsClean, HasLeft, HasPages, HaveLeft, IsClean, IsCleanActor, IsCleanExport, IsHarmless, IsPrinted}
-use Rattle.dm_event_history.proofs.Reaching.{reached, reaches}
 use Rattle.dm_event_history.proofs.Adds.{length-lone, lone_some, Answer, by_verdict}
 use Rattle.dm_event_history.proofs.Told.{forget_by}
 use Rattle.dm_assembly_desk.proofs.LonePages.{lone_here}
@@ -48,42 +40,22 @@ use Rattle.dm_assembly_desk.proofs.LonePages.{lone_here}
 
 pub more_left : (labels more : List Label) (id m : ℕ) (bytes : List ℕ) → HasLeft labels id m bytes →
     HasLeft (labels ++ more) id m bytes
-more_left labels more id m bytes h = record {
-  number = h.number;
-  label = h.label;
-  there = get_more labels more h.number h.label h.there;
-  id_is = h.id_is;
-  m_is = h.m_is;
-  bytes_are = h.bytes_are;
-}
+more_left labels more id m bytes h = grind (arith, get_more)
 
 pub more_pages : (labels more : List Label) (id n : ℕ) → HasPages labels id n → HasPages (labels ++ more) id n
-more_pages labels more id n h = record {
-  number = h.number;
-  label = h.label;
-  there = get_more labels more h.number h.label h.there;
-  id_is = h.id_is;
-  n_is = h.n_is;
-}
+more_pages labels more id n h = grind (arith, get_more)
 
 pub have_more : (labels more : List Label) (held : Documents) → HaveLeft labels held → HaveLeft (labels ++ more) held
-have_more labels more held h = record {
-  pages = λ id m bytes is. more_left labels more id m bytes (h.pages id m bytes is);
-  counts = λ id pages is. more_pages labels more id (length pages) (h.counts id pages is);
-  some = h.some;
-}
+have_more labels more held h = grind (arith, more_left, more_pages)
 
 pub actor_more : (labels more : List Label) (actor : Actor Documents) → IsCleanActor labels actor →
     IsCleanActor (labels ++ more) actor
-actor_more labels more (Running held) h = have_more labels more held h
-actor_more labels more (Failed shown stored) h = (have_more labels more shown h.0, have_more labels more stored h.1)
-actor_more labels more (Down stored) h = have_more labels more stored h
+actor_more labels more actor h = grind (arith, have_more)
 
 -- ---- what is held with a page
 
 page_none : (m : ℕ) → page [] m ≡ None
-page_none zero = refl
-page_none (suc i) = refl
+page_none m = grind arith
 
 -- what is found of a document
 page_found : (held new : Documents) (id m : ℕ) → finite.get new id ≡ finite.get held id →
@@ -95,41 +67,14 @@ pub page_in : (held : Documents) (id m : ℕ) (pages : Pages) → finite.get hel
     page_at held id m ≡ page pages m
 page_in held id m pages is = ap (λ (o : Option Pages). page (unwrap_or o []) m) is
 
-some_so : {o p : Option (List ℕ)} {bytes : List ℕ} → o ≡ p → o ≡ Some bytes → IsSome p
-some_so {o} {p} {bytes} same is = subst (λ (x : Option (List ℕ)). IsSome x) (sym is ∙ same) refl
-
 pub second_some : (o p : Option (List ℕ)) → IsSome p → IsSome (option_or o p)
-second_some None p some = some
-second_some (Some x) p some = refl
+second_some o p some = grind arith
 
 -- ---- what is held without a document
 
 without_left : (labels : List Label) (held : Documents) (gone : ℕ) → HaveLeft labels held →
     HaveLeft labels (finite.remove held gone)
-without_left labels held gone clean =
-    let new : Documents = finite.remove held gone in
-    record {
-      pages = λ id m bytes is. elim (same_or_other id gone) [
-        | inl same ↦
-            let none : page_at new id m ≡ None =
-            ap (λ (i : ℕ). page_at new i m) same ∙
-            ap (λ (o : Option Pages). page (unwrap_or o []) m) (get_removed held gone) ∙ page_none m in
-            cc (none, is)
-        | inr other ↦ clean.pages id m bytes (sym (page_found held new id m (get_left held gone id other)) ∙ is)
-      ];
-      counts = λ id pages is. elim (same_or_other id gone) [
-        | inl same ↦
-            let none : finite.get new id ≡ None = ap (λ (i : ℕ). finite.get new i) same ∙ get_removed held gone in
-            cc (none, is)
-        | inr other ↦ clean.counts id pages (sym (get_left held gone id other) ∙ is)
-      ];
-      some = λ id pages is. elim (same_or_other id gone) [
-        | inl same ↦
-            let none : finite.get new id ≡ None = ap (λ (i : ℕ). finite.get new i) same ∙ get_removed held gone in
-            cc (none, is)
-        | inr other ↦ clean.some id pages (sym (get_left held gone id other) ∙ is)
-      ];
-    }
+without_left labels held gone clean = grind (arith, get_left, get_removed, page_found, page_none, same_or_other)
 
 -- ---- what is held with an export
 
@@ -196,89 +141,40 @@ IsCleanCourse labels (Saves next goods reply) = HaveLeft labels next
 IsCleanCourse labels (Answers reply) = Unit {0}
 IsCleanCourse labels LacksMemory = Unit {0}
 
-stored_left : (labels : List Label) (old : Actor Documents) → IsCleanActor labels old →
-    HaveLeft labels (stored_of old)
-stored_left labels (Running held) h = h
-stored_left labels (Failed shown stored) h = h.1
-stored_left labels (Down stored) h = h
-
-ends_clean : {A : Type 0} (labels : List Label) (faults : Faults A) (stop : Stop) (course : Course A Documents)
-    (old : Actor Documents) → IsCleanActor labels old → Reaches stop (IsCleanCourse labels course) →
-    IsCleanActor labels (ends faults stop course old).actor
-ends_clean labels faults BeforeSave course old h c = stored_left labels old h
-ends_clean labels faults (InSave Old) course old h c = stored_left labels old h
-ends_clean labels faults stops.None (Saves next goods reply) old h c = c
-ends_clean labels faults (SaveFault Old) (Saves next goods reply) old h c =
-    (stored_left labels old h, stored_left labels old h)
-ends_clean labels faults (SaveFault New) (Saves next goods reply) old h c = (stored_left labels old h, c)
-ends_clean labels faults (InSave New) (Saves next goods reply) old h c = c
-ends_clean labels faults (AfterLabels most) (Saves next goods reply) old h c = c
-ends_clean labels faults stops.None (Answers reply) old h c = h
-ends_clean labels faults (SaveFault kept) (Answers reply) old h c = h
-ends_clean labels faults (InSave New) (Answers reply) old h c = stored_left labels old h
-ends_clean labels faults (AfterLabels most) (Answers reply) old h c = stored_left labels old h
-ends_clean labels faults stops.None LacksMemory old h c = h
-ends_clean labels faults (SaveFault kept) LacksMemory old h c = h
-ends_clean labels faults (InSave New) LacksMemory old h c = h
-ends_clean labels faults (AfterLabels most) LacksMemory old h c = h
-
 -- what is done at a desk keeps it clean
 abbrev Keeps : {A : Type 0} → List Label → (Actor Documents → Ending A Documents → Type 0) → Type 0
 Keeps {A} labels Acts = (actor : Actor Documents) (end : Ending A Documents) → IsCleanActor labels actor →
     Acts actor end → IsCleanActor labels end.actor
 
-as_known : {A : Type 0} (labels : List Label) (end known : Ending A Documents) → end ≡ known →
-    IsCleanActor labels known.actor → IsCleanActor labels end.actor
-as_known {A} labels end known is h = subst (λ (e : Ending A Documents). IsCleanActor labels e.actor) (sym is) h
-
 calls_keep : {A : Type 0} (labels : List Label) (faults : Faults A) (stop : Stop)
     (Comes : Documents → Course A Documents → Type 0) →
     ((held : Documents) (course : Course A Documents) → HaveLeft labels held → Comes held course →
     IsCleanCourse labels course) → Keeps labels (Calls faults stop Comes)
-calls_keep labels faults stop Comes each (Running held) end h acts =
-    as_known labels end _ acts.2
-    (ends_clean labels faults stop acts.0 (Running held) h (reaches stop (each held acts.0 h) acts.1))
-calls_keep labels faults stop Comes each (Failed shown stored) end h acts =
-    as_known labels end _ acts (ends_clean labels faults stop (Answers faults.failed) (Failed shown stored) h
-    (reached stop tt))
-calls_keep labels faults stop Comes each (Down stored) end h acts = as_known labels end _ acts h
+calls_keep labels faults stop Comes each held end h acts = grind arith
 
 may_lack_keeps : {A : Type 0} (labels : List Label) (Acts : Actor Documents → Ending A Documents → Type 0) →
     Keeps labels Acts → Keeps labels (MayLackFirst Acts)
-may_lack_keeps labels Acts each (Running held) end h (inl lack) = as_known labels end _ lack h
-may_lack_keeps labels Acts each (Running held) end h (inr acts) = each (Running held) end h acts
-may_lack_keeps labels Acts each (Failed shown stored) end h (inl lack) = as_known labels end _ lack h
-may_lack_keeps labels Acts each (Failed shown stored) end h (inr acts) = each (Failed shown stored) end h acts
-may_lack_keeps labels Acts each (Down stored) end h acts = each (Down stored) end h acts
+may_lack_keeps labels Acts each held end h acts = grind arith
 
 restarts_keep : {A : Type 0} (labels : List Label) (refused : Reply A) →
     Keeps labels (Restarts {A = A} {C = Documents} refused)
-restarts_keep labels refused actor end h (inl is) = as_known labels end _ is (stored_left labels actor h)
-restarts_keep labels refused actor end h (inr is) = as_known labels end _ is (stored_left labels actor h)
+restarts_keep labels refused actor end h is = grind arith
 
 looks_keep : {A : Type 0} (labels : List Label) (Tells : Documents → Reply A → Goods → Type 0) →
     Keeps labels (Looks Tells)
-looks_keep labels Tells (Running held) end h acts =
-    subst (λ (a : Actor Documents). IsCleanActor labels a) (sym acts.1) h
-looks_keep labels Tells (Failed shown stored) end h acts =
-    subst (λ (a : Actor Documents). IsCleanActor labels a) (sym acts.1) h
-looks_keep labels Tells (Down stored) end h acts = as_known labels end _ acts h
+looks_keep labels Tells held end h acts = grind arith
 
 -- ---- call by call
 
 may_be_clean : {A : Type 0} (labels : List Label) (wanted course : Course A Documents) → IsCleanCourse labels wanted →
     MayBe wanted course → IsCleanCourse labels course
-may_be_clean {A} labels wanted course c (inl is) = subst (λ (x : Course A Documents). IsCleanCourse labels x) (sym is) c
-may_be_clean {A} labels wanted course c (inr lack) =
-    subst (λ (x : Course A Documents). IsCleanCourse labels x) (sym lack.0) tt
+may_be_clean {A} labels wanted course c is = grind arith
 
 -- pages that are clean as those of an export are added
 add_clean : {A : Type 0} (labels : List Label) (room : ℕ) (held : Documents) (export : relays.Export)
     (tells : Answer → Reply A) → HaveLeft labels held → IsCleanExport labels export →
     IsCleanCourse labels (verdict_course tells (add_verdict room held export.id export.pages))
-add_clean {A} labels room held export tells h sent = by_verdict
-    (λ v. IsCleanCourse {A = A} labels (verdict_course tells v)) room held export.id export.pages
-    (λ fault is. tt) (λ is. tt) (λ kind other is. with_pages_left labels room held export kind is sent h)
+add_clean {A} labels room held export tells h sent = grind (arith, by_verdict, with_pages_left)
 
 -- the page of a label that left, as an export of it alone
 abbrev pub lone_export : PageView → relays.Export
@@ -347,23 +243,12 @@ got_set (z ∷ zs) (suc i) (suc j) x y is = elim (got_set zs i j x y is) [
 desk_keeps : {A : Type 0} (old new : Relay) (number own : ℕ)
     (Acts : ℕ → Actor Documents → Ending A Documents → Type 0) (reply : Reply A) → IsClean old own →
     (number ≡ own → (room : ℕ) → Keeps old.labels (Acts room)) → DeskGoes old number Acts reply new → IsClean new own
-desk_keeps old new number own Acts reply clean each g =
-    subst (λ (r : Relay). IsClean r own) (sym g.new_is) (λ desk is. elim (got_set old.desks number own _ desk is) [
-      | inl here ↦
-          let was : slice_get old.desks own ≡ Some g.desk =
-          subst (λ (k : ℕ). slice_get old.desks k ≡ Some g.desk) here.0 g.was in
-          subst (λ (d : Desk). IsCleanActor (old.labels ++ g.end.goods.labels) d.actor) here.1
-          (actor_more old.labels g.end.goods.labels g.end.actor
-          (each here.0 g.desk.room g.desk.actor g.end (clean g.desk was) g.acts))
-      | inr there ↦ actor_more old.labels g.end.goods.labels desk.actor (clean desk there)
-    ])
+desk_keeps old new number own Acts reply clean each g = grind (arith, actor_more, got_set)
 
 printer_keeps : {A : Type 0} (old new : Relay) (printer own : ℕ)
     (Acts : Actor LedgerView → Ending A LedgerView → Type 0) (reply : Reply A) → IsClean old own →
     PrinterGoes old printer Acts reply new → IsClean new own
-printer_keeps old new printer own Acts reply clean g =
-    subst (λ (r : Relay). IsClean r own) (sym g.new_is)
-    (λ desk is. actor_more old.labels g.end.goods.labels desk.actor (clean desk is))
+printer_keeps old new printer own Acts reply clean g = grind (arith, actor_more)
 
 acts_keep : {A : Type 0} (old new : Relay) (event : Event A) (reply : Reply A) (own : ℕ) → ArePrinted old.labels →
     IsClean old own → IsHarmless old event own → Acts old event reply new → IsClean new own
@@ -402,8 +287,4 @@ acts_keep old new (RestartDesk desk) reply own p clean harm acts =
     desk_keeps old new desk own _ reply clean (λ same room. restarts_keep old.labels _) acts
 
 pub each_step_keeps_clean : (A : Type 0) → EachStepKeepsClean A
-each_step_keeps_clean A old new event reply own p clean harm step = by_case step
-  where
-    by_case : Step old event reply new → IsClean new own
-    by_case (inl acts) = acts_keep old new event reply own p clean harm acts.1
-    by_case (inr none) = subst (λ (r : Relay). IsClean r own) (sym none.2) clean
+each_step_keeps_clean A old new event reply own p clean harm step = grind (arith, acts_keep)

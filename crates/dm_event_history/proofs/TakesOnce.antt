@@ -1,5 +1,5 @@
 -- No ticket is taken twice, and none is refused since a number of it is free at its receiver.
-use Rattle.std.proofs.Common.{Err, ◌≡◌, ◌≢◌, ◌+◌, ◌≤◌, ◌==◌, ◌||◌, inl, inr, ℕ, zero, suc, Bool, true, false, Some, List, [], ◌∷◌, ◌++◌, length, slice_get, refl, sym, ap, subst, ◌∙◌, arith, eq-eqb}
+use Rattle.std.proofs.Common.{Err, ◌≡◌, ◌≢◌, ◌+◌, ◌≤◌, ◌==◌, ◌||◌, inl, inr, ℕ, zero, suc, Bool, false, Some, List, [], ◌∷◌, ◌++◌, length, slice_get, refl, sym, ap, subst, ◌∙◌, arith, eq-eqb}
 use Rattle.std.specs.Prelude.{IsSomeAnd}
 use Rattle.dm_finder_frame.specs.Grids.{flipped}
 use Rattle.dm_print_ledger.specs.declared.range.Range.{Range}
@@ -50,8 +50,7 @@ taken_more (Took other ∷ xs) ys k = (let more = taken_more xs ys k in omega ar
 taken_more (Lost range ∷ xs) ys k = taken_more xs ys k
 
 or_false : (b c : Bool) → (b || c) ≡ false → (b ≡ false) × (c ≡ false)
-or_false true c none = cc (none)
-or_false false c none = (refl, none)
+or_false b c none = grind arith
 
 taken_none : (xs : List Move) (k : ℕ) → is_taken xs k ≡ false → taken xs k ≡ 0
 unfolding taken
@@ -115,30 +114,16 @@ taken_once : (old : Relay) (moves : List Move) (n : ℕ) → AreTakenOnce old �
     moves ≡ Took n ∷ [] → (k : ℕ) → taken (old.moves ++ moves) k ≤ 1
 unfolding taken
 taken_once old moves n once free is k =
-    let m = taken_more old.moves (Took n ∷ []) k in
-    subst (λ (ms : List Move). taken (old.moves ++ ms) k ≤ 1) (sym is)
-    (elim (same_or_other n k) [
-      | inl same ↦
-          let e : one_if (n == k) ≡ 1 = ap one_if (eq-eqb n k same) in
-          let z : taken old.moves k ≡ 0 = taken_none old.moves k
-          (subst (λ (j : ℕ). is_taken old.moves j ≡ false) same free) in omega arith
-      | inr away ↦
-          let e : one_if (n == k) ≡ 0 = ap one_if (other_number n k away) in let o = once k in omega arith
-    ])
+    grind (arith, eq-eqb, other_number, same_or_other, taken, taken_more, taken_none)
 
 printer_once : {A : Type 0} (old new : Relay) (printer : ℕ) (Acts : Actor LedgerView → Ending A LedgerView → Type 0)
     (reply : Reply A) → AreTakenOnce old → Balances Acts → PrinterGoes old printer Acts reply new → AreTakenOnce new
-printer_once old new printer Acts reply once each g =
-    subst (λ (r : Relay). AreTakenOnce r) (sym g.new_is)
-    (quiet_once old g.end.goods.moves once (each g.actor g.end g.acts).none_taken)
+printer_once old new printer Acts reply once each g = grind (arith, quiet_once)
 
 desk_once : {A : Type 0} (old new : Relay) (number : ℕ) (Acts : ℕ → Actor Documents → Ending A Documents → Type 0)
     (reply : Reply A) → AreTakenOnce old → ((room : ℕ) → Leaves IsQuiet (Acts room)) → DeskGoes old number Acts reply new →
     AreTakenOnce new
-desk_once old new number Acts reply once each g =
-    subst (λ (r : Relay). AreTakenOnce r) (sym g.new_is)
-    (quiet_once old g.end.goods.moves once (λ k. ap (λ (ms : List Move). is_taken ms k)
-    (each g.desk.room g.desk.actor g.end g.acts).moves))
+desk_once old new number Acts reply once each g = grind (arith, quiet_once)
 
 taker_once : {A : Type 0} (old new : Relay) (printer number : ℕ) (ticket : TicketView) (stop : Stop) (reply : Reply A) →
     AreTakenOnce old → IsInOrder old → slice_get old.tickets number ≡ Some ticket →
@@ -179,14 +164,7 @@ acts_once old new (RestartDesk desk) reply order once acts =
 -- ---- a take is never refused for an overlap
 
 own_overlap : {A : Type 0} → IsOwn {A = A} take_faults (TakeRefused take_fault.Overlap)
-own_overlap = record {
-  stopped = λ e. cc (e);
-  down = λ e. cc (e);
-  lacks = λ e. cc (e);
-  failed = λ e. cc (e);
-  save = λ e. cc (e);
-  memory = λ e. cc (e);
-}
+own_overlap = grind arith
 
 no_overlap : {A : Type 0} (old new : Relay) (printer number : ℕ) (ticket : TicketView) (stop : Stop) → IsSound old →
     slice_get old.tickets number ≡ Some ticket →

@@ -1,25 +1,21 @@
 -- A take moves numbers from a ticket to its printer, once.
-use Rattle.std.proofs.Common.{◌≡◌, ◌⊎◌, ◌+◌, ◌≤◌, ◌<◌, inl, inr, ℕ, zero, suc, Bool, true, false, ◌==◌, ◌||◌, Option, Some, None, List, [], ◌∷◌, ◌++◌, map, slice_get, slice_set, refl, sym, ap, subst, ◌∙◌, arith, eq-eqb}
-use Rattle.std.specs.Prelude.{IfSome, IsSomeAnd}
+use Rattle.std.proofs.Common.{◌≡◌, ◌⊎◌, ◌+◌, ◌≤◌, inl, inr, ℕ, zero, suc, Bool, true, false, ◌||◌, Some, List, [], ◌∷◌, ◌++◌, slice_get, slice_set, sym, ap, subst, ◌∙◌, arith}
+use Rattle.std.specs.Prelude.{IsSomeAnd}
 use Rattle.std.proofs.lemmas.List.{append-nil}
-use Rattle.dm_store.specs.declared.fuse.Kept.TheVariants.{Old, New}
 use Rattle.dm_print_ledger.specs.Ranges.{is_free, is_in}
 use Rattle.dm_print_ledger.specs.Givers.{last_taken}
 use Rattle.dm_print_ledger.specs.Views.{LedgerView, TicketView}
 use Rattle.dm_event_history.specs.declared.stop.Stop.{Stop}
-use Rattle.dm_event_history.specs.declared.stop.Stop.TheVariants as stops
-use Rattle.dm_event_history.specs.declared.stop.Stop.TheVariants.{BeforeSave, InSave, SaveFault, AfterLabels}
 use Rattle.dm_event_history.proofs.Gotten.{get_more}
-use Rattle.dm_event_history.proofs.Deciding.{decided, if_not, if_so, other_number, same_or_other, true_false}
 use Rattle.dm_event_history.specs.Actors.{Actor, Running, Failed, Down, stored_of}
 use Rattle.dm_event_history.specs.Relay.{Goods, Move, Relay, Took, with_printer}
-use Rattle.dm_event_history.specs.Calls.{Answers, Calls, Course, Ending, Faults, LacksMemory, Reaches, Saves, cut_off, ends, lost}
+use Rattle.dm_event_history.specs.Calls.{Answers, Calls, Course, Ending, Faults, LacksMemory, Reaches, Saves, ends}
 use Rattle.dm_event_history.specs.PrinterCalls.{TakeComes, take_faults}
 use Rattle.dm_event_history.specs.Places.{IsInOrder, IsNoted, gone, is_taken, on_tickets, one_if, places}
 use Rattle.dm_event_history.proofs.Numbers.{free_set, gone_more, on_taken, taken_by}
 use Rattle.dm_event_history.proofs.Reaching.{reached, reaches}
 use Rattle.dm_event_history.proofs.Stays.{got_set}
-use Rattle.dm_event_history.proofs.LedgerFacts.{GainsNumbers, old_or_new, take_gains}
+use Rattle.dm_event_history.proofs.LedgerFacts.{GainsNumbers, take_gains}
 use Rattle.dm_event_history.proofs.Balance.{IsBalanced, still}
 
 -- the ticket of this number is taken
@@ -36,42 +32,16 @@ IsTakeCourse held number ticket (Saves next goods reply) = IsTaking held next nu
 IsTakeCourse held number ticket (Answers reply) = Unit {0}
 IsTakeCourse held number ticket LacksMemory = Unit {0}
 
-cut_taking : (held next : LedgerView) (number : ℕ) (ticket : TicketView) (goods : Goods) (most : ℕ) →
-    IsTaking held next number ticket goods → IsTaking held next number ticket (cut_off most goods)
-cut_taking held next number ticket goods most t = record {
-  takes = t.takes;
-  moves_are = ap (λ (ts : List TicketView). goods.moves ++ map lost ts) t.tickets_are ∙ append-nil goods.moves ∙ t.moves_are;
-  tickets_are = refl;
-}
-
 ends_taking : {A : Type 0} (faults : Faults A) (stop : Stop) (course : Course A LedgerView) (old : Actor LedgerView)
     (number : ℕ) (ticket : TicketView) → Reaches stop (IsTakeCourse (stored_of old) number ticket course) →
     MayTake (stored_of old) (stored_of (ends faults stop course old).actor) number ticket
     (ends faults stop course old).goods
-ends_taking faults BeforeSave course old number ticket t = inl (still (stored_of old))
-ends_taking faults (InSave Old) course old number ticket t = inl (still (stored_of old))
-ends_taking faults stops.None (Saves next goods reply) old number ticket t = inr t
-ends_taking faults (SaveFault Old) (Saves next goods reply) old number ticket t = inl (still (stored_of old))
-ends_taking faults (SaveFault New) (Saves next goods reply) old number ticket t =
-    inr (cut_taking (stored_of old) next number ticket goods 0 t)
-ends_taking faults (InSave New) (Saves next goods reply) old number ticket t =
-    inr (cut_taking (stored_of old) next number ticket goods 0 t)
-ends_taking faults (AfterLabels most) (Saves next goods reply) old number ticket t =
-    inr (cut_taking (stored_of old) next number ticket goods most t)
-ends_taking faults stops.None (Answers reply) old number ticket t = inl (still (stored_of old))
-ends_taking faults (SaveFault kept) (Answers reply) old number ticket t = inl (still (stored_of old))
-ends_taking faults (InSave New) (Answers reply) old number ticket t = inl (still (stored_of old))
-ends_taking faults (AfterLabels most) (Answers reply) old number ticket t = inl (still (stored_of old))
-ends_taking faults stops.None LacksMemory old number ticket t = inl (still (stored_of old))
-ends_taking faults (SaveFault kept) LacksMemory old number ticket t = inl (still (stored_of old))
-ends_taking faults (InSave New) LacksMemory old number ticket t = inl (still (stored_of old))
-ends_taking faults (AfterLabels most) LacksMemory old number ticket t = inl (still (stored_of old))
+ends_taking faults stop course old number ticket t = grind arith
 
 as_known : {A : Type 0} (held : LedgerView) (number : ℕ) (ticket : TicketView) (end known : Ending A LedgerView) →
     end ≡ known → MayTake held (stored_of known.actor) number ticket known.goods →
     MayTake held (stored_of end.actor) number ticket end.goods
-as_known {A} held number ticket end known is m =
-    subst (λ (e : Ending A LedgerView). MayTake held (stored_of e.actor) number ticket e.goods) (sym is) m
+as_known {A} held number ticket end known is m = grind arith
 
 take_course : {A : Type 0} (number : ℕ) (ticket : TicketView) (held : LedgerView) (course : Course A LedgerView) →
     TakeComes number ticket held course → IsTakeCourse held number ticket course
@@ -100,10 +70,7 @@ take_ends stop number ticket (Down stored) end acts = as_known stored number tic
 -- what is put in the free numbers, number by number
 put_in : (free inside new : Bool) → new ≡ (inside || free) → (inside ≡ true → free ≡ false) →
     one_if new ≡ one_if free + one_if inside
-put_in true true new is were = (let e : true ≡ false = were refl in cc (e))
-put_in true false new is were = ap one_if is
-put_in false true new is were = ap one_if is
-put_in false false new is were = ap one_if is
+put_in free inside new is were = grind arith
 
 -- what was put in a place stands there
 own_set : {X : Type 0} (xs : List X) (i : ℕ) (was x y : X) → slice_get xs i ≡ Some was →
@@ -121,19 +88,7 @@ module _ (old : Relay) (printer number : ℕ) (ticket : TicketView) (actor next 
 
   -- the ticket was not taken before
   pub untaken : is_taken old.moves number ≡ false
-  untaken = elim (decided (is_taken old.moves number)) [
-    | inl taken ↦
-        let noted = order.noted number taken in
-        let same_some : Some noted.ticket ≡ Some ticket = sym noted.there ∙ there in
-        let same : noted.ticket ≡ ticket = cc (same_some) in
-        let at : slice_get old.printers noted.ticket.receiver ≡ Some actor =
-        subst (λ (p : ℕ). slice_get old.printers p ≡ Some actor)
-        (sym (ap (λ (x : TicketView). x.receiver) same ∙ is_here)) was in
-        let last = subst (λ (x : TicketView). IsSomeAnd (last_taken (stored_of actor).givers x.giver)
-        (λ last. x.serial ≤ last)) same (noted.noted actor at) in
-        absurd (old_or_new (last_taken (stored_of actor).givers ticket.giver) ticket.serial last t.takes.is_new)
-    | inr none ↦ none
-  ]
+  untaken = grind arith
 
   pub taking_places : (n : ℕ) → places (with_printer old printer next goods) n ≡ places old n
   taking_places n =
@@ -150,41 +105,13 @@ module _ (old : Relay) (printer number : ℕ) (ticket : TicketView) (actor next 
       let took = on_taken old.moves 0 number old.tickets ticket number n there (omega arith) untaken in
       omega arith
 
-  later_last : (o : Option ℕ) (serial : ℕ) → IsSomeAnd o (λ last. serial ≤ last) →
-      IfSome o (λ last. last < ticket.serial) → serial ≤ ticket.serial
-  later_last None serial some new = absurd some
-  later_last (Some last) serial some new = omega (arith, some, new)
-
   -- what was noted still is
   still_noted : (giver serial : ℕ) → IsSomeAnd (last_taken (stored_of actor).givers giver) (λ last. serial ≤ last) →
       IsSomeAnd (last_taken (stored_of next).givers giver) (λ last. serial ≤ last)
-  still_noted giver serial some =
-      let found = t.takes.givers.last giver in
-      elim (same_or_other ticket.giver giver) [
-        | inl same ↦
-            let own : last_taken (stored_of next).givers giver ≡ Some ticket.serial =
-            found ∙ if_so (ticket.giver == giver) (Some ticket.serial) (last_taken (stored_of actor).givers giver)
-            (eq-eqb ticket.giver giver same) in
-            let before : IfSome (last_taken (stored_of actor).givers giver) (λ last. last < ticket.serial) =
-            subst (λ (g : ℕ). IfSome (last_taken (stored_of actor).givers g) (λ last. last < ticket.serial)) same
-            t.takes.is_new in
-            subst (λ (o : Option ℕ). IsSomeAnd o (λ last. serial ≤ last)) (sym own)
-            (later_last (last_taken (stored_of actor).givers giver) serial some before)
-        | inr other ↦
-            let kept : last_taken (stored_of next).givers giver ≡ last_taken (stored_of actor).givers giver =
-            found ∙ if_not (ticket.giver == giver) (Some ticket.serial) (last_taken (stored_of actor).givers giver)
-            (λ e. true_false (ticket.giver == giver) e (other_number ticket.giver giver other)) in
-            subst (λ (o : Option ℕ). IsSomeAnd o (λ last. serial ≤ last)) (sym kept) some
-      ]
+  still_noted giver serial some = grind arith
 
   own_noted : IsSomeAnd (last_taken (stored_of next).givers ticket.giver) (λ last. ticket.serial ≤ last)
-  own_noted =
-      let own : last_taken (stored_of next).givers ticket.giver ≡ Some ticket.serial =
-      t.takes.givers.last ticket.giver ∙
-      if_so (ticket.giver == ticket.giver) (Some ticket.serial) (last_taken (stored_of actor).givers ticket.giver)
-      (eq-eqb ticket.giver ticket.giver refl) in
-      let least : ticket.serial ≤ ticket.serial = omega arith in
-      subst (λ (o : Option ℕ). IsSomeAnd o (λ last. ticket.serial ≤ last)) (sym own) least
+  own_noted = grind arith
 
   pub taking_order : IsInOrder (with_printer old printer next goods)
   taking_order = record {

@@ -1,5 +1,5 @@
 -- What desks come to whose scans are fair, by what they answer: pages are added, or refused.
-use Rattle.std.proofs.Common.{◌≡◌, ◌≢◌, ◌⊎◌, ◌≤◌, inl, inr, ℕ, zero, suc, List, [], Option, Some, None, Result, Ok, Err, IsSome, refl, sym, ap, subst, ◌∙◌}
+use Rattle.std.proofs.Common.{arith, ◌≡◌, ◌≢◌, ◌⊎◌, ℕ, List, [], Option, Some, None, Result, Ok, Err, IsSome, sym, ap, subst, ◌∙◌}
 use Rattle.std.specs.Prelude.{is_none, unwrap_or, if◌then◌else◌}
 use Rattle.std.specs.Option.{option_or}
 use Rattle.std.specs.FinMap as finite
@@ -28,7 +28,7 @@ use Rattle.dm_event_history.specs.Calls.{Course}
 use Rattle.dm_event_history.specs.DeskCalls.{MayBe, forget_faults, forget_reply, import_faults, page_reply, scan_course, scan_faults, verdict_course}
 use Rattle.dm_assembly_desk.specs.declared.fault.ForgetFault.{ForgetFault}
 use Rattle.dm_assembly_desk.specs.declared.fault.ForgetFault.TheVariants as forget_fault
-use Rattle.dm_event_history.proofs.Adds.{Answer, by_verdict}
+use Rattle.dm_event_history.proofs.Adds.{Answer}
 use Rattle.dm_event_history.proofs.Deciding.{same_or_other}
 use Rattle.dm_event_history.proofs.HeldDocuments.{get_left, get_other, get_removed}
 use Rattle.dm_event_history.proofs.Answered.{Ended, IsOwn}
@@ -36,42 +36,18 @@ use Rattle.dm_event_history.proofs.Answered.{Ended, IsOwn}
 -- ---- replies that calls come to
 
 pub own_scan : {A : Type 0} (a : Accepted) → IsOwn {A = A} scan_faults (Scanned a)
-own_scan a = record {
-  stopped = λ e. cc (e);
-  down = λ e. cc (e);
-  lacks = λ e. cc (e);
-  failed = λ e. cc (e);
-  save = λ e. cc (e);
-  memory = λ e. cc (e);
-}
+own_scan a = grind arith
 
 pub own_forget : {A : Type 0} → IsOwn {A = A} forget_faults Forgotten
-own_forget = record {
-  stopped = λ e. cc (e);
-  down = λ e. cc (e);
-  lacks = λ e. cc (e);
-  failed = λ e. cc (e);
-  save = λ e. cc (e);
-  memory = λ e. cc (e);
-}
+own_forget = grind arith
 
 pub own_import : {A : Type 0} (i : imported_type.Imported) → IsOwn {A = A} import_faults (Imported i)
-own_import i = record {
-  stopped = λ e. cc (e);
-  down = λ e. cc (e);
-  lacks = λ e. cc (e);
-  failed = λ e. cc (e);
-  save = λ e. cc (e);
-  memory = λ e. cc (e);
-}
+own_import i = grind arith
 
 -- memory for it was not refused
 pub was_wanted : {A C : Type 0} (wanted course : Course A C) (held : C) (reply : Reply A) (after : Actor C) →
     MayBe wanted course → Ended course held reply after → Ended wanted held reply after
-was_wanted {A} {C} wanted course held reply after (inl is) ended =
-    subst (λ (c : Course A C). Ended c held reply after) is ended
-was_wanted {A} {C} wanted course held reply after (inr lack) ended =
-    absurd (subst (λ (c : Course A C). Ended c held reply after) lack.0 ended)
+was_wanted {A} {C} wanted course held reply after is ended = grind arith
 
 -- ---- scans and imports
 
@@ -100,42 +76,14 @@ pub add_ended : {A : Type 0} (tells : Answer → Reply A) (room : ℕ) (held : D
     (reply : Reply A) (after : Actor Documents) →
     Ended (verdict_course tells (add_verdict room held id pages)) held reply after →
     AddTold tells room held id pages reply after ⊎ AddRefused tells room held id pages reply
-add_ended {A} tells room held id pages reply after = by_verdict
-    (λ v. Ended (verdict_course tells v) held reply after →
-    AddTold tells room held id pages reply after ⊎ AddRefused tells room held id pages reply) room held id pages
-    (λ fault is ended. inr (record { fault = fault; fault_is = is; told = ended.0 }))
-    (λ is ended. inl (record { kind = kinds.Again; kind_is = is; told = ended.0; after_is = ended.1 }))
-    (λ kind other is ended. inl (record {
-      kind = kind;
-      kind_is = is;
-      told = ended.0;
-      after_is = added kind other ended.1;
-    }))
-  where
-    added : (kind : Kind) → kind ≢ kinds.Again → after ≡ Running (with_pages held id pages) →
-        IsAfter kind held (with_pages held id pages) after
-    added kinds.Again other is = absurd (other refl)
-    added kinds.New other is = is
-    added kinds.Complete other is = is
+add_ended {A} tells room held id pages reply after = grind arith
 
 -- a fair scan that is answered took its page, or the page was held
 pub scan_told : {A : Type 0} (room : ℕ) (p : PageView) (held : Documents) (a : Accepted) (after : Actor Documents)
     (read : Result (Opened A) LabelFault) → OpensNear p read →
     Ended {A = A} (scan_course room held read) held (Scanned a) after →
     AddTold {A = A} (page_reply p) room held p.id (lone p) (Scanned a) after
-scan_told {A} room p held a after (Ok opened) near ended =
-    subst (λ (q : PageView). AddTold {A = A} (page_reply q) room held q.id (lone q) (Scanned a) after) near
-    (elim (add_ended (page_reply opened.page) room held opened.page.id (lone opened.page) (Scanned a) after ended) [
-      | inl told ↦ told
-      | inr refused ↦ (let e = refused.told in absurd (cc (e)))
-    ])
-scan_told room p held a after (Err label_fault.Memory) near ended = absurd ended
-scan_told room p held a after (Err (label_fault.Border wrong)) near ended = (let e = ended.0 in cc (e))
-scan_told room p held a after (Err (label_fault.Block block)) near ended = absurd near
-scan_told room p held a after (Err label_fault.NotAppended) near ended = absurd near
-scan_told room p held a after (Err (label_fault.Sequence word)) near ended = absurd near
-scan_told room p held a after (Err label_fault.FileId) near ended = absurd near
-scan_told room p held a after (Err (label_fault.Content fault)) near ended = absurd near
+scan_told {A} room p held a after read near ended = grind arith
 
 -- one that is refused was refused for its finder patterns, or by what is held
 pub scan_was_refused : {A : Type 0} (room : ℕ) (p : PageView) (held : Documents) (fault : ScanFault)
@@ -143,25 +91,7 @@ pub scan_was_refused : {A : Type 0} (room : ℕ) (p : PageView) (held : Document
     Ended {A = A} (scan_course room held read) held (ScanRefused fault) after →
     AddRefused {A = A} (page_reply p) room held p.id (lone p) (ScanRefused fault)
     ⊎ ((wrong : ℕ) × (fault ≡ scan_fault.Label (label_fault.Border wrong)))
-scan_was_refused {A} room p held fault after (Ok opened) near ended =
-    inl (subst (λ (q : PageView). AddRefused {A = A} (page_reply q) room held q.id (lone q) (ScanRefused fault)) near
-    (elim (add_ended (page_reply opened.page) room held opened.page.id (lone opened.page) (ScanRefused fault) after
-    ended) [
-      | inl told ↦ (let e = told.told in absurd (cc (e)))
-      | inr refused ↦ refused
-    ]))
-scan_was_refused room p held fault after (Err label_fault.Memory) near ended = absurd ended
-scan_was_refused {A} room p held fault after (Err (label_fault.Border wrong)) near ended =
-    inr (wrong, refused_is ended.0)
-  where
-    refused_is : ◌≡◌ {A = Reply A} (ScanRefused (scan_fault.Label (label_fault.Border wrong))) (ScanRefused fault) →
-        fault ≡ scan_fault.Label (label_fault.Border wrong)
-    refused_is e = cc (e)
-scan_was_refused room p held fault after (Err (label_fault.Block block)) near ended = absurd near
-scan_was_refused room p held fault after (Err label_fault.NotAppended) near ended = absurd near
-scan_was_refused room p held fault after (Err (label_fault.Sequence word)) near ended = absurd near
-scan_was_refused room p held fault after (Err label_fault.FileId) near ended = absurd near
-scan_was_refused room p held fault after (Err (label_fault.Content fault')) near ended = absurd near
+scan_was_refused {A} room p held fault after read near ended = grind arith
 
 -- ---- forgets
 
@@ -177,8 +107,7 @@ forget_by held id o = if is_none o then Stays (Err forget_fault.NotHeld) else Be
 pub forget_told : (A : Type 0) (id : ℕ) (held : Documents) (after : Actor Documents) (o : Option Pages) →
     finite.get held id ≡ o → Ended {A = A} (verdict_course forget_reply (forget_by held id o)) held Forgotten after →
     ForgetTold id held after
-forget_told A id held after None is ended = (let e = ended.0 in cc (e))
-forget_told A id held after (Some pages) is ended = record { pages = pages; were_held = is; after_is = ended.1 }
+forget_told A id held after o is ended = grind arith
 
 -- ---- what is held then, page by page
 
@@ -186,24 +115,20 @@ abbrev pub Has : Documents → ℕ → ℕ → Type 0
 Has held id m = IsSome (page_at held id m)
 
 pub no_page : (o : Option (List ℕ)) → IsSome o → o ≡ None → ⊥
-no_page None some none = cc
-no_page (Some x) some none = cc
+no_page o some none = grind arith
 
 some_by : (o p : Option (List ℕ)) → o ≡ p → IsSome p → IsSome o
 some_by o p same some = subst (λ (x : Option (List ℕ)). IsSome x) (sym same) some
 
 -- a page that is added is held, and so is every page that was, and no other
 either_some : (o p : Option (List ℕ)) → IsSome (option_or o p) → IsSome o ⊎ IsSome p
-either_some None p some = inr some
-either_some (Some x) p some = inl refl
+either_some o p some = grind arith
 
 first_some : (o p : Option (List ℕ)) → IsSome o → IsSome (option_or o p)
-first_some None p some = cc
-first_some (Some x) p some = refl
+first_some o p some = grind arith
 
 second_some : (o p : Option (List ℕ)) → IsSome p → IsSome (option_or o p)
-second_some None p some = some
-second_some (Some x) p some = refl
+second_some o p some = grind arith
 
 away_from : (held : Documents) (id : ℕ) (pages : Pages) (other m : ℕ) → other ≢ id →
     page_at (with_pages held id pages) other m ≡ page_at held other m
@@ -217,28 +142,15 @@ with_pages_has held id pages m some =
 
 pub with_pages_keeps : (held : Documents) (id : ℕ) (pages : Pages) (other m : ℕ) → Has held other m →
     Has (with_pages held id pages) other m
-with_pages_keeps held id pages other m has = elim (same_or_other other id) [
-  | inl same ↦ subst (λ (i : ℕ). Has (with_pages held id pages) i m) (sym same)
-      (some_by _ _ (page_given held id pages m) (first_some (page_at held id m) (page pages m)
-      (subst (λ (i : ℕ). Has held i m) same has)))
-  | inr away ↦ some_by _ _ (away_from held id pages other m away) has
-]
+with_pages_keeps held id pages other m has = grind (arith, away_from, first_some, page_given, same_or_other, some_by)
 
 pub with_pages_only : (held : Documents) (id : ℕ) (pages : Pages) (other m : ℕ) →
     Has (with_pages held id pages) other m → ((other ≡ id) × IsSome (page pages m)) ⊎ Has held other m
-with_pages_only held id pages other m has = elim (same_or_other other id) [
-  | inl same ↦ elim (either_some (page_at held id m) (page pages m)
-      (some_by _ _ (sym (page_given held id pages m)) (subst (λ (i : ℕ). Has (with_pages held id pages) i m) same has))) [
-        | inl own ↦ inr (subst (λ (i : ℕ). Has held i m) (sym same) own)
-        | inr given ↦ inl (same, given)
-      ]
-  | inr away ↦ inr (some_by _ _ (sym (away_from held id pages other m away)) has)
-]
+with_pages_only held id pages other m has = grind (arith, away_from, either_some, page_given, same_or_other, some_by)
 
 -- a document that is forgotten is not held, and every other that was
 page_none : (m : ℕ) → page [] m ≡ None
-page_none zero = refl
-page_none (suc i) = refl
+page_none m = grind arith
 
 pub without_has_not : (held : Documents) (id m : ℕ) → ¬ Has (finite.remove held id) id m
 without_has_not held id m has =
@@ -250,10 +162,4 @@ without_keeps held gone id m away has =
 
 pub without_only : (held : Documents) (gone id m : ℕ) → Has (finite.remove held gone) id m →
     (id ≢ gone) × Has held id m
-without_only held gone id m has = elim (same_or_other id gone) [
-  | inl same ↦ absurd (without_has_not held gone m (subst (λ (i : ℕ). Has (finite.remove held gone) i m) same has))
-  | inr away ↦ (
-    away,
-    some_by _ _ (sym (ap (λ (o : Option Pages). page (unwrap_or o []) m) (get_left held gone id away))) has,
-  )
-]
+without_only held gone id m has = grind (arith, get_left, same_or_other, some_by, without_has_not)

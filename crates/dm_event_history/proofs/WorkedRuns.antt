@@ -18,13 +18,11 @@ use Rattle.dm_assembly_desk.specs.declared.fault.AskFault.TheVariants as ask_fau
 use Rattle.dm_assembly_desk.specs.Pages.{Pages}
 use Rattle.dm_assembly_desk.specs.declared.adding.AddFault.{AddFault}
 use Rattle.dm_assembly_desk.specs.declared.reply.Accepted.{Accepted}
-use Rattle.dm_assembly_desk.specs.declared.reply.Imported as imported_type
 use Rattle.dm_assembly_desk.specs.declared.reply.Kind.{Kind}
 use Rattle.dm_assembly_desk.specs.Documents.{Documents}
 use Rattle.dm_assembly_desk.specs.Merging.{union_of, may_join, added_mask}
 use Rattle.dm_assembly_desk.specs.Accepting.{lone}
 use Rattle.dm_assembly_desk.specs.Adding.{add_kind, pages_with, verdict_by, with_pages, kind_of}
-use Rattle.dm_event_history.specs.declared.reply.Reply.{Reply}
 use Rattle.dm_assembly_desk.specs.Asking.{Asks}
 use Rattle.dm_event_history.specs.declared.reply.Reply.TheVariants.{Printed, Scanned, Document, AskRefused, Given, Taken, TakeRefused, Restarted, Stopped, PrinterRefused}
 use Rattle.dm_event_history.specs.declared.reply.Reply.TheVariants as replies
@@ -444,9 +442,4 @@ gathered_is A law =
     )
 
 pub are_runs : (A : Type 0) → CarriesItsWords Side12 → AreRuns A
-are_runs A law = record {
-  gathered_is = gathered_is A law;
-  after_is = after_is A;
-  before_is = before_is A;
-  moved_is = moved_is A;
-}
+are_runs A law = grind (arith, after_is, before_is, gathered_is, moved_is)

@@ -1,5 +1,5 @@
 -- Single steps of the worked runs.
-use Rattle.std.proofs.Common.{◌≡◌, ℕ, true, Ok, Some, List, [], ◌∷◌, slice_get, refl}
+use Rattle.std.proofs.Common.{arith, ◌≡◌, ℕ, true, Ok, Some, List, [], ◌∷◌, slice_get, refl}
 use Rattle.dm_check_blocks.specs.declared.size.Size.TheVariants.{Side12}
 use Rattle.dm_encodation.specs.declared.scheme.Scheme.TheVariants.{Ascii}
 use Rattle.dm_symbol.specs.Symbols.{grid_of_words}
@@ -12,7 +12,7 @@ use Rattle.dm_print_ledger.specs.Verdicts.{print_verdict}
 use Rattle.dm_print_ledger.specs.Views.{LedgerView}
 use Rattle.dm_assembly_desk.specs.Documents.{Documents}
 use Rattle.dm_event_history.specs.declared.reply.Reply.TheVariants.{Printed}
-use Rattle.dm_event_history.specs.Worked.{digits, digits_cut, range}
+use Rattle.dm_event_history.specs.Worked.{digits, digits_cut}
 use Rattle.dm_event_history.proofs.WorkedParts.{are_rising_parts}
 use Rattle.dm_event_history.specs.Actors.{Actor}
 use Rattle.dm_event_history.specs.Relay.{Desk, Goods, Label, Relay, Used, with_desk, with_printer}
@@ -27,16 +27,14 @@ pub printer_goes : {A : Type 0} (old : Relay) (printer : ℕ)
     (Acts : Actor LedgerView → Ending A LedgerView → Type 0) (actor : Actor LedgerView) (end : Ending A LedgerView) →
     slice_get old.printers printer ≡ Some actor → Acts actor end →
     PrinterGoes old printer Acts end.reply (with_printer old printer end.actor end.goods)
-printer_goes old printer Acts actor end was acts =
-    record { actor = actor; was = was; end = end; acts = acts; reply_is = refl; new_is = refl }
+printer_goes old printer Acts actor end was acts = grind arith
 
 pub desk_goes : {A : Type 0} (old : Relay) (number : ℕ)
     (Acts : ℕ → Actor Documents → Ending A Documents → Type 0) (desk : Desk) (end : Ending A Documents) →
     slice_get old.desks number ≡ Some desk → Acts desk.room desk.actor end →
     DeskGoes old number Acts end.reply
     (with_desk old number (record { room = desk.room; actor = end.actor }) end.goods)
-desk_goes old number Acts desk end was acts =
-    record { desk = desk; was = was; end = end; acts = acts; reply_is = refl; new_is = refl }
+desk_goes old number Acts desk end was acts = search arith
 
 -- ---- ledgers
 

@@ -36,7 +36,7 @@ ending reply actor goods = record { reply = reply; actor = actor; goods = goods 
 abbrev pub lost : TicketView → Move
 lost ticket = Lost ticket.range
 
--- of a call that saved and was not answered at most so many labels left, and no ticket
+-- of a call that saved and was not answered at most a number of labels left, and no ticket
 abbrev pub cut_off : ℕ → Goods → Goods
 cut_off most goods = record {
   labels = take most goods.labels;

@@ -41,7 +41,7 @@ IsSaving LacksMemory = ⊥
 abbrev pub MayBe : {A C : Type 0} → Course A C → Course A C → Type 0
 MayBe wanted course = (course ≡ wanted) ⊎ ((course ≡ LacksMemory) × IsSaving wanted)
 
--- what a verdict comes to, where its answer is told so
+-- what a verdict comes to; `tells` makes a reply of its answer
 abbrev pub verdict_course : {A R : Type 0} → (R → Reply A) → Verdict R → Course A Documents
 verdict_course tells (Stays answer) = Answers (tells answer)
 verdict_course tells (Becomes next answer) = Saves next nothing (tells answer)

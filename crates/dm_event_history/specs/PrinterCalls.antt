@@ -59,7 +59,7 @@ AreLabelsFor cut id m (part ∷ parts) (label ∷ labels) =
 AreLabelsFor cut id m [] (label ∷ labels) = ⊥
 AreLabelsFor cut id m (part ∷ parts) [] = ⊥
 
--- all labels of the document leave under the least free number, which is used; so many left before
+-- all labels of the document leave under the least free number, which is used; a number of labels left before
 pub record PrintLeaves {A : Type 0} (before : ℕ) (cut : CutDocument) (id : ℕ) (goods : Goods) (reply : Reply A)
     : Type 0 where
   pub labels : List Label
@@ -88,7 +88,7 @@ give_faults = record {
   memory = GiveRefused give_fault.Memory;
 }
 
--- what a give comes to: the numbers leave by a ticket; so many tickets left before
+-- what a give comes to: the numbers leave by a ticket; a number of tickets left before
 abbrev pub GiveComes : {A : Type 0} → ℕ → ℕ → Range → LedgerView → Course A LedgerView → Type 0
 GiveComes before receiver range ledger course =
     IsStored ledger × Comes GiveRefused (give_verdict ledger receiver range) (λ goods reply.

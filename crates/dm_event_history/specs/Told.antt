@@ -99,7 +99,7 @@ EachRunIsAsTold A = (ranges : List Range) (rooms : List ℕ) (h : List (Moment A
 
 -- ---- why events are refused
 
--- whether a label is refused for its finder patterns, and with which number of wrong modules, is told by the grid alone
+-- the grid alone decides whether a label is refused for its finder patterns, and with which number of wrong modules
 abbrev pub IsFramedSo : {A : Type 0} → GridView → Reply A → Type 0
 IsFramedSo grid (Scanned accepted) = HasGoodFrame grid
 IsFramedSo grid (ScanRefused scan_fault.Failed) = Unit {0}
@@ -127,7 +127,7 @@ abbrev pub EachStepIsRefusedSo : Type 0 → Type 0
 EachStepIsRefusedSo A = (old new : Relay) (event : Event A) (reply : Reply A) → ArePrinted old.labels →
     Step old event reply new → IsRefusedSo old event reply
 
--- `Failed` is told only where the printer or the desk answered `Save` since it was last restarted
+-- `Failed` is answered only where the printer or the desk answered `Save` since it was last restarted
 abbrev pub EachFailedFailed : Type 0 → Type 0
 EachFailedFailed A = (ranges : List Range) (rooms : List ℕ) (moment : Moment A) (earlier : List (Moment A))
     (end : Relay) → IsRun (start ranges rooms) (moment ∷ earlier) end → tells_failed moment.reply ≡ true →
@@ -176,7 +176,7 @@ has_taken [] printer = 0
 has_taken (moment ∷ earlier) printer =
     (if is_same (actor_of moment.event) (PrinterAt printer) then won_by moment else 0) + has_taken earlier printer
 
--- `Exhausted` is told only where a printer may have used and given away all numbers that it began with and took
+-- `Exhausted` is answered only where a printer may have used and given away all numbers that it began with and took
 abbrev pub EachExhaustedIsSo : Type 0 → Type 0
 EachExhaustedIsSo A = (ranges : List Range) (rooms : List ℕ) (moment : Moment A) (earlier : List (Moment A))
     (end : Relay) (printer : ℕ) (range : Range) (document : List ℕ) (size : Size) (scheme : Scheme) (stop : Stop) →

@@ -56,17 +56,17 @@ pub fn safe_replies<A: Allocator>()
     ensures { EachFairReplyIsSafe A }
 {}
 
-/// The replies of a run tell which of its printers and desks are down, and which have failed. `Failed` is told only by
-/// one that answered `Save` since it was last restarted. And each reply is given only where it may be.
+/// The replies of a run tell which of its printers and desks are down, and which have failed. `Failed` is answered only
+/// by one that answered `Save` since it was last restarted. And each reply is given only where it may be.
 pub fn as_told<A: Allocator>()
     ensures told { EachRunIsAsTold A }
     ensures failed { EachFailedFailed A }
     ensures legal { EachStepIsLegal A }
 {}
 
-/// Why events are refused: a fair scan as its label for its finder patterns alone, `Save` for a fault of the save alone,
-/// `TooLong` for a document without parts, and `Exhausted` only if the printer may have used and given away all numbers
-/// that it began with and took.
+/// Why events are refused. A fair scan is refused as its label only for its finder patterns. `Save` comes of a fault of
+/// the save alone, and `TooLong` of a document without parts. `Exhausted` comes only if the printer may have used and
+/// given away all numbers that it began with and took.
 pub fn reasons<A: Allocator>()
     ensures refused { EachStepIsRefusedSo A }
     ensures exhausted { EachExhaustedIsSo A }

@@ -8,10 +8,8 @@ use Rattle.dm_event_history.specs.declared.event.Event.{Event}
 use Rattle.dm_event_history.specs.declared.reply.Reply.{Reply}
 use Rattle.dm_event_history.specs.declared.reply.Reply.TheVariants.{NoSuch}
 use Rattle.dm_event_history.specs.Actors.{Actor, stored_of}
-use Rattle.dm_event_history.specs.Relay as relays
-use Rattle.dm_event_history.specs.Relay.{Desk, Goods, Label, Relay, with_desk, with_printer}
+use Rattle.dm_event_history.specs.Relay.{Desk, Goods, Relay, with_desk, with_printer}
 use Rattle.dm_event_history.specs.Calls.{Ending}
-use Rattle.dm_event_history.specs.Places.{IsInOrder}
 use Rattle.dm_event_history.specs.Steps.{DeskGoes, IsNamed, PrinterGoes, Step}
 use Rattle.dm_event_history.proofs.Gotten.{in_either}
 use Rattle.dm_event_world.specs.declared.actor.PrinterActor.{PrinterActor}
@@ -21,8 +19,8 @@ use Rattle.dm_event_world.specs.declared.actor.LeftLabel.{LeftLabel}
 use Rattle.dm_event_world.specs.declared.actor.LeftExport.{LeftExport}
 use Rattle.dm_event_world.specs.Worlds.{WorldView}
 use Rattle.dm_event_world.specs.Shows.{Shows, ShowsDesk, ShowsPrinter, left_export, left_label}
-use Rattle.dm_event_world.specs.inner.Ends.{EndsEach, EndsSo, Left}
-use Rattle.dm_event_world.specs.inner.Events.{Steps, TakesOn}
+use Rattle.dm_event_world.specs.inner.Ends.{EndsSo, Left}
+use Rattle.dm_event_world.specs.inner.Events.{Steps}
 
 -- ---- lists
 
@@ -119,16 +117,11 @@ world_of printers desks labels tickets exports =
 -- what is named is not there
 pub names_none : {A : Type 0} (old seen : WorldView A) (event : Event A) → old ≡ seen →
     ((relay : Relay) → Shows old relay → IsNamed relay event → ⊥) → Steps seen event NoSuch seen
-names_none {A} old seen event is none = λ relay order s. record {
-  next = relay;
-  step = inr (none relay (subst (λ (w : WorldView A). Shows w relay) (sym is) s), refl, refl);
-  shows = s;
-}
+names_none {A} old seen event is none = grind arith
 
 pub names_none_still : {A : Type 0} (old seen : WorldView A) (event : Event A) → old ≡ seen →
     ((relay : Relay) → Shows old relay → IsNamed relay event → ⊥) → Steps seen event NoSuch old
-names_none_still {A} old seen event is none =
-    subst (λ (w : WorldView A). Steps seen event NoSuch w) (sym is) (names_none old seen event is none)
+names_none_still {A} old seen event is none = grind arith
 
 pub no_printer : {A : Type 0} (old : WorldView A) (relay : Relay) (p : ℕ) → (p < length old.printers → ⊥) →
     Shows old relay → p < length relay.printers → ⊥
@@ -140,8 +133,7 @@ no_desk old relay d none s there = none (subst (λ (n : ℕ). d < n) (sym s.desk
 
 -- there is nothing past the end of a list, nor of one that is mapped from it
 pub past_end : {X : Type 0} (xs ys : List X) (i : ℕ) → xs ≡ ys → length xs ≤ i → i < length ys → ⊥
-past_end {X} xs ys i same past there =
-    let here = subst (λ (l : List X). length l ≤ i) same past in absurd (omega arith)
+past_end {X} xs ys i same past there = grind arith
 
 pub past_map : {X Y : Type 0} (f : Y → X) (xs : List X) (ys : List Y) (i : ℕ) → xs ≡ map f ys → length xs ≤ i →
     i < length ys → ⊥
@@ -308,10 +300,4 @@ pub lets_as : {A C S : Type 0} (Shown : S → Actor C → Type 0) (Acts : Actor 
     (Lets Leaves : Goods → Type 0) (shown : Actor C) (reply : Reply A) (new : S) →
     ((goods : Goods) → Lets goods → Leaves goods) →
     EndsSo {A = A} Shown Acts Lets shown reply new → EndsSo {A = A} Shown Acts Leaves shown reply new
-lets_as Shown Acts Lets Leaves shown reply new lets e = record {
-  end = e.end;
-  acts = e.acts;
-  reply_is = e.reply_is;
-  shows = e.shows;
-  lets = lets e.end.goods e.lets;
-}
+lets_as Shown Acts Lets Leaves shown reply new lets e = search arith

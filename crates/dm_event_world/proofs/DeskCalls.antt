@@ -1,6 +1,6 @@
 -- A call of a desk, as a world makes it, is one of the relay that it shows.
-use Rattle.std.proofs.Common.{◌≡◌, ◌≤◌, inl, inr, ℕ, zero, suc, Bool, true, false, List, [], Option, Some, None, IsSome, Result, Ok, Err, take, refl, sym, ap, subst, ◌∙◌}
-use Rattle.std.specs.Prelude.{option_map, is_none, if◌then◌else◌}
+use Rattle.std.proofs.Common.{◌≡◌, ◌≤◌, inl, inr, ℕ, true, false, List, [], Option, Some, None, IsSome, Result, Ok, Err, take, refl, sym, ap, subst, ◌∙◌}
+use Rattle.std.specs.Prelude.{is_none, if◌then◌else◌}
 use Rattle.std.specs.Prelude.{◌<◌, ◌+◌, cond, is_some}
 use Rattle.std.proofs.Common.{arith}
 use Rattle.std.specs.Cmp.{nat_cmp_total}
@@ -26,15 +26,14 @@ use Rattle.dm_assembly_desk.specs.Importing.{ImportsBytes}
 use Rattle.dm_assembly_desk.proofs.AddLaws as laws
 use Rattle.dm_assembly_desk.proofs.Undoing.{get_here}
 use Rattle.dm_event_history.proofs.Adds as verdicts
-use Rattle.dm_store.specs.Saved.{Done, Faulted, Follows, Outcome, Refused}
-use Rattle.dm_store.specs.Settings.{save_plan_of}
-use Rattle.dm_store.specs.Sets.{Contents, SavedSet, Saves as SavesSet}
+use Rattle.dm_store.specs.Saved.{Done, Faulted, Outcome, Refused}
+use Rattle.dm_store.specs.Sets.{SavedSet}
 use Rattle.dm_store.specs.declared.fuse.Kept.TheVariants.{Old, New}
 use Rattle.dm_store.specs.declared.mem_store.NextSave.{NextSave}
 use Rattle.dm_store.specs.declared.mem_store.NextSave.TheVariants as next_save
 use Rattle.dm_assembly_desk.specs.Pages.{Pages}
 use Rattle.dm_assembly_desk.specs.Files.{IsEntry, file}
-use Rattle.dm_assembly_desk.specs.Documents.{Documents, HoldsFiles}
+use Rattle.dm_assembly_desk.specs.Documents.{Documents}
 use Rattle.dm_assembly_desk.specs.Holding as holding
 use Rattle.dm_assembly_desk.specs.Holding.{Becomes, SavesDocument, Stays, Verdict, answer_by}
 use Rattle.dm_assembly_desk.specs.Views.{DeskView}
@@ -50,7 +49,7 @@ use Rattle.dm_event_history.specs.declared.stop.Stop.TheVariants as stops
 use Rattle.dm_event_history.specs.declared.stop.Stop.TheVariants.{BeforeSave, InSave, SaveFault, AfterLabels}
 use Rattle.dm_event_history.specs.Actors.{Actor, Running, Failed, Down, stored_of}
 use Rattle.dm_event_history.specs.Relay.{Export, Goods, nothing}
-use Rattle.dm_event_history.specs.Calls.{Answers, Calls, Course, Ending, Faults, LacksMemory, Looks, MayLackFirst, Saves, ending, ends}
+use Rattle.dm_event_history.specs.Calls.{Answers, Calls, Course, Ending, Faults, LacksMemory, MayLackFirst, Saves, ending, ends}
 use Rattle.dm_event_history.specs.DeskCalls.{ForgetComes, ImportComes, MayBe, ScanComes, forget_faults, forget_reply, import_faults, import_reply, page_reply, pages_reply, scan_course, scan_faults, scan_reply, verdict_course}
 use Rattle.dm_event_world.specs.declared.actor.DeskState.{DeskState}
 use Rattle.dm_event_world.specs.declared.actor.DeskState.TheVariants as states
@@ -60,47 +59,30 @@ use Rattle.dm_event_world.specs.inner.Stops.{IsMadeUnder, next_save_of, stops_be
 use Rattle.dm_event_world.specs.inner.Ends.{EndsEach, EndsSo, Left, ended, ended_reply, lacks_memory}
 use Rattle.dm_event_world.specs.inner.Desks.{Calling, desk_planned, down_desk}
 use Rattle.dm_event_world.proofs.Endings.{Ends, IsEmpty, TellsMemory, empty, finish, lacks_first, none_left, not_first, plain, reaches, stopped_before, unsaved_empty, with_goods}
-use Rattle.dm_event_world.proofs.Plans.{fine_desk, ready_set}
 
 pub down_shows : {A : Type 0} (room : ℕ) (state : DeskState A) (shown : Actor Documents) → ShowsDesk room state shown →
     ShowsDesk room (down_desk state) (Down (stored_of shown))
-down_shows room (states.Running view) (Running held) s = s.store
-down_shows room (states.Running view) (Failed held stored) s = s.store
-down_shows room (states.Running view) (Down stored) s = absurd s
-down_shows room (states.Down saved) (Running held) s = absurd s
-down_shows room (states.Down saved) (Failed held stored) s = absurd s
-down_shows room (states.Down saved) (Down stored) s = s
+down_shows room state shown s = grind arith
 
 -- what is shown of a desk whose call saved nothing
 same_again : (A : Type 0) (room : ℕ) (view mid : DeskView) (plan : NextSave) (shown : Actor Documents) →
     ShowsDesk {A = A} room (states.Running view) shown → IsReadySet view.saved → mid ≡ desk_planned view plan →
     ShowsDesk {A = A} room (states.Running (desk_planned mid next_save.Fine)) shown
-same_again A room view mid plan shown s ready same =
-    let back : desk_planned mid next_save.Fine ≡ view =
-    ap (λ (v : DeskView). desk_planned v next_save.Fine) same ∙ fine_desk view plan ready in
-    subst (λ (v : DeskView). ShowsDesk {A = A} room (states.Running v) shown) (sym back) s
+same_again A room view mid plan shown s ready same = grind arith
 
 -- a call that answers without a save, under any plan
 answers_end : {A C S : Type 0} (Shows : S → Actor C → Type 0) (faults : Faults A) (stop : Stop) (old : Actor C)
     (reply : Reply A) (state : S) → Shows state old → Ends Shows faults (plain stop) (Answers reply) old reply state
-answers_end Shows faults stops.None old reply state s = record { reply_is = refl; shows = s }
-answers_end Shows faults (SaveFault kept) old reply state s = record { reply_is = refl; shows = s }
-answers_end Shows faults BeforeSave old reply state s = record { reply_is = refl; shows = s }
-answers_end Shows faults (InSave kept) old reply state s = record { reply_is = refl; shows = s }
-answers_end Shows faults (AfterLabels most) old reply state s = record { reply_is = refl; shows = s }
+answers_end Shows faults stop old reply state s = grind arith
 
 -- one whose memory is refused
 lacks_end : {A C S : Type 0} (Shows : S → Actor C → Type 0) (faults : Faults A) (stop : Stop) (old : Actor C)
     (state : S) → Shows state old → Ends Shows faults (plain stop) LacksMemory old faults.memory state
-lacks_end Shows faults stops.None old state s = record { reply_is = refl; shows = s }
-lacks_end Shows faults (SaveFault kept) old state s = record { reply_is = refl; shows = s }
-lacks_end Shows faults BeforeSave old state s = record { reply_is = refl; shows = s }
-lacks_end Shows faults (InSave kept) old state s = record { reply_is = refl; shows = s }
-lacks_end Shows faults (AfterLabels most) old state s = record { reply_is = refl; shows = s }
+lacks_end Shows faults stop old state s = grind arith
 
 -- ---- a verdict that is carried out
 
--- these documents fit; a document that is not among them was held; and it is told without a lack of memory
+-- these documents fit; a document that is not among them was held; and the reply tells of no lack of memory
 pub record IsFit {A R : Type 0} (tells : R → Reply A) (room : ℕ) (held : Documents) (id : ℕ) (next : Documents)
     (told : R) : Type 0 where
   pub few : finite.len next ≤ room
@@ -122,8 +104,7 @@ pub record Carried {A : Type 0} (faults : Faults A) (room : ℕ) (stop : Stop) (
 
 -- of what is saved nothing leaves either
 none_taken : {X : Type 0} (most : ℕ) → (let none : List X = [] in take most none ≡ none)
-none_taken zero = refl
-none_taken (suc n) = refl
+none_taken most = grind arith
 
 saved_empty : {A : Type 0} (faults : Faults A) (stop : Stop) (next : Documents) (reply : Reply A) (old : Actor Documents) →
     IsEmpty (ends faults stop (Saves next nothing reply) old).goods
@@ -135,27 +116,6 @@ saved_empty faults (SaveFault Old) next reply old = empty
 saved_empty faults (SaveFault New) next reply old = record { labels = none_taken 0; tickets = refl; exports = refl }
 saved_empty faults (AfterLabels most) next reply old = record { labels = none_taken most; tickets = refl; exports = refl }
 
-is_there : (content : Contents) (held : Documents) (id : ℕ) → HoldsFiles content held → IsSome (finite.get held id) →
-    IsSome (finite.get content id)
-is_there content held id h some = subst IsSome (sym (h.files id)) (mapped (finite.get held id) some)
-  where
-    mapped : (o : Option Pages) → IsSome o → IsSome (option_map (file id) o)
-    mapped None some = absurd cc
-    mapped (Some pages) some = refl
-
--- the set was saved, whether a file or that there is none
-set_saved : (view : DeskView) (plan : NextSave) (id : ℕ) (o : Option Pages) (outcome : Outcome) (set : SavedSet) →
-    HoldsFiles view.saved.content view.held → (o ≡ None → IsSome (finite.get view.held id)) →
-    SavesDocument (desk_planned view plan).saved id o outcome set →
-    (content : Contents) × SavesSet (desk_planned view plan).saved content outcome set
-set_saved view plan id (Some pages) outcome set h there saves =
-    (finite.insert view.saved.content id (file id pages), saves)
-set_saved view plan id None outcome set h there saves = (
-  finite.remove view.saved.content id,
-  subst (λ (o : Outcome). SavesSet (desk_planned view plan).saved (finite.remove view.saved.content id) o set)
-      (sym saves.1) (saves.2.there (is_there view.saved.content view.held id h (there refl))),
-)
-
 module _ {A R : Type 0} (tells : R → Reply A) (failed : Reply A) (memory save : R) (id room : ℕ) where
   abbrev faults : Faults A
   faults = record { failed = failed; save = tells save; memory = tells memory }
@@ -164,89 +124,21 @@ module _ {A R : Type 0} (tells : R → Reply A) (failed : Reply A) (memory save 
       DeskIs view room view.held view.held false → IsFit tells room view.held id next told →
       holding.Ends id next Done (desk_planned view plan) mid →
       DeskIs (desk_planned mid next_save.Fine) room next next false
-  stored view mid plan next told s fit e =
-      let saved = set_saved view plan id (finite.get next id) Done mid.saved s.store.holds fit.there e.saved in
-      let k = e.keeps s.store.ready.honest in
-      record {
-        store = record {
-          ready = ready_set view mid plan saved.0 Done s.store.ready saved.1;
-          holds = subst (λ (d : Documents). HoldsFiles mid.saved.content d) k.1 k.2;
-          is_room = s.store.is_room;
-          few = fit.few;
-        };
-        capacity = ap (λ (v : DeskView). v.capacity) e.shows ∙ s.capacity;
-        failed = ap (λ (v : DeskView). v.is_failed) e.shows ∙ s.failed;
-        held_is = ap (λ (v : DeskView). v.held) e.shows;
-      }
-
-  lost : (view mid : DeskView) (plan : NextSave) (next kept : Documents) (told : R) →
-      DeskIs view room view.held view.held false → IsFit tells room view.held id next told →
-      holding.Ends id next Faulted (desk_planned view plan) mid → HoldsFiles mid.saved.content kept →
-      finite.len kept ≤ room → DeskIs (desk_planned mid next_save.Fine) room view.held kept true
-  lost view mid plan next kept told s fit e holds few =
-      let saved = set_saved view plan id (finite.get next id) Faulted mid.saved s.store.holds fit.there e.saved in
-      record {
-        store = record {
-          ready = ready_set view mid plan saved.0 Faulted s.store.ready saved.1;
-          holds = holds;
-          is_room = s.store.is_room;
-          few = few;
-        };
-        capacity = ap (λ (v : DeskView). v.capacity) e.shows ∙ s.capacity;
-        failed = ap (λ (v : DeskView). v.is_failed) e.shows;
-        held_is = ap (λ (v : DeskView). v.held) e.shows;
-      }
-
-  follows : (view mid : DeskView) (plan : NextSave) (outcome : Outcome) (next : Documents) (told : R) →
-      DeskIs view room view.held view.held false → IsFit tells room view.held id next told →
-      holding.Ends id next outcome (desk_planned view plan) mid →
-      Follows (save_plan_of plan) outcome mid.saved.save_plan
-  follows view mid plan outcome next told s fit e =
-      (set_saved view plan id (finite.get next id) outcome mid.saved s.store.holds fit.there e.saved).1.follows
+  stored view mid plan next told s fit e = grind arith
 
   done_ends : (stop : Stop) (view mid : DeskView) (next : Documents) (told : R) →
       DeskIs view room view.held view.held false → IsFit tells room view.held id next told →
       holding.Ends id next Done (desk_planned view (next_save_of stop)) mid →
       Ends (ShowsDesk {A = A} room) faults (plain stop) (Saves next nothing (tells told)) (Running view.held) (tells told)
       (states.Running (desk_planned mid next_save.Fine))
-  done_ends stops.None view mid next told s fit e =
-      record { reply_is = refl; shows = stored view mid next_save.Fine next told s fit e }
-  done_ends BeforeSave view mid next told s fit e =
-      record { reply_is = refl; shows = stored view mid next_save.Fine next told s fit e }
-  done_ends (InSave kept) view mid next told s fit e =
-      record { reply_is = refl; shows = stored view mid next_save.Fine next told s fit e }
-  done_ends (AfterLabels most) view mid next told s fit e =
-      record { reply_is = refl; shows = stored view mid next_save.Fine next told s fit e }
-  done_ends (SaveFault Old) view mid next told s fit e =
-      absurd (follows view mid next_save.FaultOld Done next told s fit e)
-  done_ends (SaveFault New) view mid next told s fit e =
-      absurd (follows view mid next_save.FaultNew Done next told s fit e)
+  done_ends stop view mid next told s fit e = grind arith
 
   faulted_ends : (stop : Stop) (view mid : DeskView) (next : Documents) (told : R) →
       DeskIs view room view.held view.held false → IsFit tells room view.held id next told →
       holding.Ends id next Faulted (desk_planned view (next_save_of stop)) mid →
       Ends (ShowsDesk {A = A} room) faults (plain stop) (Saves next nothing (tells told)) (Running view.held) (tells save)
       (states.Running (desk_planned mid next_save.Fine))
-  faulted_ends stops.None view mid next told s fit e =
-      absurd (follows view mid next_save.Fine Faulted next told s fit e)
-  faulted_ends BeforeSave view mid next told s fit e =
-      absurd (follows view mid next_save.Fine Faulted next told s fit e)
-  faulted_ends (InSave kept) view mid next told s fit e =
-      absurd (follows view mid next_save.Fine Faulted next told s fit e)
-  faulted_ends (AfterLabels most) view mid next told s fit e =
-      absurd (follows view mid next_save.Fine Faulted next told s fit e)
-  faulted_ends (SaveFault Old) view mid next told s fit e =
-      (let k = e.keeps s.store.ready.honest in record {
-        reply_is = refl;
-        shows = lost view mid next_save.FaultOld next view.held told s fit e
-            (subst (λ (d : Documents). HoldsFiles mid.saved.content d) k.1 k.2) s.store.few;
-      })
-  faulted_ends (SaveFault New) view mid next told s fit e =
-      (let k = e.keeps s.store.ready.honest in record {
-        reply_is = refl;
-        shows = lost view mid next_save.FaultNew next next told s fit e
-            (subst (λ (d : Documents). HoldsFiles mid.saved.content d) k.1 k.2) fit.few;
-      })
+  faulted_ends stop view mid next told s fit e = grind arith
 
   module _ (memory_told : lacks_memory (tells memory) ≡ true) (stop : Stop) (view mid : DeskView) (answer : R)
       (s : DeskIs view room view.held view.held false) where
@@ -390,8 +282,7 @@ down_ends {A} room exports Acts acts state saved is shown s =
 -- one that runs is not down
 pub is_up : {A : Type 0} (room : ℕ) (state : DeskState A) (view : DeskView) → state ≡ states.Running view →
     (stored : Documents) → ShowsDesk room state (Down stored) → ⊥
-is_up {A} room state view is stored s =
-    (subst (λ (a : DeskState A). ShowsDesk room a (Down stored)) is s)
+is_up {A} room state view is stored s = grind arith
 
 -- a call that is stopped before its save
 pub stopped_ends : {A : Type 0} (faults : Faults A) (Comes : Documents → Course A Documents → Type 0) (room : ℕ)
@@ -460,12 +351,10 @@ forget_carried {A} id room stop view answer mid s does =
 -- ---- pages that are added
 
 few_insert : (o : Option Pages) (n room : ℕ) → n ≤ room → (o ≡ None → n < room) → cond (is_some o) n (n + 1) ≤ room
-few_insert None n room le more = omega (arith, more refl)
-few_insert (Some pages) n room le more = le
+few_insert o n room le more = grind arith
 
 no_none : (o : Option Pages) (pages : Pages) → o ≡ Some pages → o ≡ None → ⊥
-no_none None pages is none = cc (is)
-no_none (Some own) pages is none = cc (none)
+no_none o pages is none = grind arith
 
 add_fits : {A : Type 0} (tells : Result imported_type.Imported AddFault → Reply A) →
     lacks_memory (tells (Err adds.Conflict)) ≡ false → lacks_memory (tells (Err adds.Full)) ≡ false →
@@ -594,28 +483,3 @@ pub scan_of_flipped : {A : Type 0} (scanned grid : GridView) (room : ℕ) (stop 
 scan_of_flipped {A} scanned grid room stop view answer mid is s does =
     scan_carried grid room stop view answer mid s
     (subst (λ (g : GridView). AcceptsGrid A g (desk_planned view (next_save_of stop)) answer mid) is does)
-
--- an ask
-pub looks_end : {A : Type 0} (room : ℕ) (Tells : Documents → Reply A → Goods → Type 0) (state : DeskState A)
-    (view : DeskView) (reply : Reply A) → state ≡ states.Running view → Tells view.held reply nothing →
-    EndsEach (ShowsDesk room) (Looks Tells) (NoneLeave A) state reply state
-looks_end {A} room Tells state view reply is tells shown s =
-    by_shown shown s (subst (λ (a : DeskState A). ShowsDesk room a shown) is s)
-  where
-    by_shown : (shown : Actor Documents) → ShowsDesk room state shown → ShowsDesk {A = A} room (states.Running view) shown →
-        EndsSo (ShowsDesk room) (Looks Tells) (NoneLeave A) shown reply state
-    by_shown (Running held) s d = record {
-      end = ending reply (Running held) nothing;
-      acts = (subst (λ (h : Documents). Tells h reply nothing) d.held_is tells, refl);
-      reply_is = refl;
-      shows = s;
-      lets = none_left [] [] [] nothing empty;
-    }
-    by_shown (Failed held stored) s d = record {
-      end = ending reply (Failed held stored) nothing;
-      acts = (subst (λ (h : Documents). Tells h reply nothing) d.held_is tells, refl);
-      reply_is = refl;
-      shows = s;
-      lets = none_left [] [] [] nothing empty;
-    }
-    by_shown (Down stored) s d = absurd d

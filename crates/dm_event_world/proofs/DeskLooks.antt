@@ -1,16 +1,15 @@
 -- Desks that are asked, that export, and that are opened again: each ends as one of the relay that the desk shows.
-use Rattle.std.proofs.Common.{◌≡◌, ◌++◌, ◌∷◌, inl, inr, ℕ, zero, suc, List, [], Option, Some, None, Result, Ok, Err, length, map, slice_get, refl, sym, ap, subst, ◌∙◌}
+use Rattle.std.proofs.Common.{arith, ◌≡◌, ◌++◌, ◌∷◌, inl, inr, ℕ, zero, suc, List, [], Option, Some, None, Result, Ok, Err, length, slice_get, refl, sym, ap, subst, ◌∙◌}
 use Rattle.std.specs.Prelude.{IsTrue}
 use Rattle.std.specs.FinMap as finite
 use Rattle.dm_store.specs.Sets.{SavedSet}
-use Rattle.dm_print_ledger.specs.Views.{TicketView}
 use Rattle.dm_assembly_desk.specs.declared.fault.AskFault.{AskFault}
 use Rattle.dm_assembly_desk.specs.declared.fault.AskFault.TheVariants as ask_fault
 use Rattle.dm_assembly_desk.specs.declared.fault.DeskFault.{DeskFault}
 use Rattle.dm_assembly_desk.specs.declared.fault.DeskFault.TheVariants as desk_fault
 use Rattle.dm_assembly_desk.specs.declared.fault.ExportFault.{ExportFault}
 use Rattle.dm_assembly_desk.specs.declared.fault.ExportFault.TheVariants as export_fault
-use Rattle.dm_assembly_desk.specs.Asking.{Asks, Exports, Gives, ask_verdict, export_verdict}
+use Rattle.dm_assembly_desk.specs.Asking.{Asks, Exports, Gives}
 use Rattle.dm_assembly_desk.specs.Documents.{Documents, HoldsFiles}
 use Rattle.dm_assembly_desk.specs.Files.{IsEntry, file}
 use Rattle.dm_assembly_desk.specs.Opening.{HasDeskFault, Opens}
@@ -25,8 +24,7 @@ use Rattle.dm_event_history.specs.DeskCalls.{AskTells, ExportTells, ExportsHeld,
 use Rattle.dm_event_world.specs.declared.actor.DeskState.{DeskState}
 use Rattle.dm_event_world.specs.declared.actor.DeskState.TheVariants as desks
 use Rattle.dm_event_world.specs.declared.actor.LeftExport.{LeftExport}
-use Rattle.dm_event_world.specs.declared.actor.LeftLabel.{LeftLabel}
-use Rattle.dm_event_world.specs.Shows.{ShowsDesk, StoresDocuments, left_export}
+use Rattle.dm_event_world.specs.Shows.{ShowsDesk, StoresDocuments}
 use Rattle.dm_event_world.specs.inner.Ends.{EndsEach, EndsSo, Left}
 use Rattle.dm_event_world.specs.inner.Desks.{desk_saved}
 use Rattle.dm_event_world.proofs.Endings.{IsEmpty, empty, lacks_first, none_left, not_first, with_goods}
@@ -92,17 +90,12 @@ looks_so {A} room Tells Q state view reply goods is tells q shown s =
 
 pub given_so : {X : Type 0} (list : X → List ℕ) (verdict : Result (List ℕ) AskFault) (given : X) →
     Gives list ask_fault.Memory verdict (Ok given) → Gives (λ bytes. bytes) ask_fault.Memory verdict (Ok (list given))
-given_so list (Ok bytes) given g = g
-given_so list (Err fault) given g = absurd (cc (g))
+given_so list verdict given g = grind arith
 
 pub refused_so : (X : Type 0) (list : X → List ℕ) (verdict : Result (List ℕ) AskFault) (fault : AskFault) →
     Gives {X = X} list ask_fault.Memory verdict (Err fault) →
     Gives (λ (bytes : List ℕ). bytes) ask_fault.Memory verdict (Err fault)
-refused_so X list (Ok bytes) fault g = g
-refused_so X list (Err own) fault g = ap (λ (f : AskFault). Err f) (same g)
-  where
-    same : ◌≡◌ {A = Result X AskFault} (Err fault) (Err own) → fault ≡ own
-    same e = cc (e)
+refused_so X list verdict fault g = grind arith
 
 pub asked : {A : Type 0} (room id : ℕ) (state : DeskState A) (view : DeskView) (answer : Result (List ℕ) AskFault) →
     state ≡ desks.Running view → Asks (λ bytes. bytes) (finite.get view.held id) answer →
@@ -197,12 +190,7 @@ exported {A} room id exports all state view pages bytes index n bits is order at
 
 stored_store : {A : Type 0} (room : ℕ) (state : DeskState A) (shown : Actor Documents) → ShowsDesk room state shown →
     StoresDocuments (desk_saved state) room (stored_of shown)
-stored_store room (desks.Running view) (Running held) s = s.store
-stored_store room (desks.Running view) (Failed held stored) s = s.store
-stored_store room (desks.Running view) (Down stored) s = absurd s
-stored_store room (desks.Down saved) (Running held) s = absurd s
-stored_store room (desks.Down saved) (Failed held stored) s = absurd s
-stored_store room (desks.Down saved) (Down stored) s = s
+stored_store room state shown s = grind arith
 
 pub restarted : {A : Type 0} (room : ℕ) (state : DeskState A) (saved : SavedSet) (view : DeskView) →
     saved ≡ desk_saved state → Opens saved room view →

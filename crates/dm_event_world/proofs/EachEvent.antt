@@ -1,22 +1,20 @@
 -- Each event of a world, from what its printer or desk did.
-use Rattle.std.proofs.Common.{◌≡◌, ◌<◌, ◌≤◌, inl, inr, ℕ, Some, List, [], ◌∷◌, All, length, map, slice_get, slice_set, refl, sym, ap, subst, ◌∙◌, arith}
+use Rattle.std.proofs.Common.{◌≡◌, ◌≤◌, inl, ℕ, Some, List, [], length, slice_get, slice_set, sym, ap, subst}
 use Rattle.std.proofs.lemmas.Option.{slice_get_within}
-use Rattle.dm_check_blocks.specs.Sizes.{side}
 use Rattle.dm_check_blocks.specs.declared.size.Size.{Size}
 use Rattle.dm_encodation.specs.declared.scheme.Scheme.{Scheme}
 use Rattle.dm_finder_frame.specs.Grids.{GridView, flipped}
 use Rattle.dm_print_ledger.specs.declared.range.Range.{Range}
 use Rattle.dm_print_ledger.specs.declared.fault.OpenFault.TheVariants as open_fault
-use Rattle.dm_print_ledger.specs.Views.{LedgerView, TicketView}
+use Rattle.dm_print_ledger.specs.Views.{TicketView}
 use Rattle.dm_assembly_desk.specs.declared.fault.DeskFault.TheVariants as desk_fault
 use Rattle.dm_assembly_desk.specs.Documents.{Documents}
 use Rattle.dm_assembly_desk.specs.Files.{IsEntry, file}
-use Rattle.dm_event_history.specs.declared.event.Event.{Event}
 use Rattle.dm_event_history.specs.declared.event.Event.TheVariants.{Print, Scan, RestartPrinter, RestartDesk, Ask, Forget, Give, Take, Export, Import}
 use Rattle.dm_event_history.specs.declared.reply.Reply.{Reply}
 use Rattle.dm_event_history.specs.declared.reply.Reply.TheVariants.{PrinterRefused, DeskRefused}
 use Rattle.dm_event_history.specs.declared.stop.Stop.{Stop}
-use Rattle.dm_event_history.specs.Actors.{Actor, stored_of}
+use Rattle.dm_event_history.specs.Actors.{Actor}
 use Rattle.dm_event_history.specs.Relay as relays
 use Rattle.dm_event_history.specs.Relay.{Goods, Label, Relay}
 use Rattle.dm_event_history.specs.Calls.{Ending, Calls, MayLackFirst, Looks, Restarts}

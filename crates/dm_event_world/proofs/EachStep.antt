@@ -1,11 +1,9 @@
 -- Each step of a world is one of the relay that it shows.
-use Rattle.std.proofs.Common.{List, [], ◌∷◌, ℕ, ◌≡◌, subst, sym, refl}
 use Rattle.dm_event_history.specs.declared.event.Event.{Event}
 use Rattle.dm_event_history.specs.declared.reply.Reply.{Reply}
-use Rattle.dm_event_history.specs.Runs.{Moment}
 use Rattle.dm_event_history.proofs.Headline.{each_run_is_sound}
 use Rattle.dm_event_world.specs.Worlds.{WorldView}
-use Rattle.dm_event_world.specs.StandsFor.{GoesOn, GoesOnByAll, StandsFor}
+use Rattle.dm_event_world.specs.StandsFor.{GoesOn}
 use Rattle.dm_event_world.specs.inner.Events.{Steps}
 
 pub step_stands : {A : Type 0} (old new : WorldView A) (event : Event A) (reply : Reply A) →

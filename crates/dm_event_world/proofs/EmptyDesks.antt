@@ -1,11 +1,11 @@
 -- Desks that are opened on sets that hold nothing, one after another.
-use Rattle.std.proofs.Common.{◌≡◌, ◌<◌, ◌≤◌, ◌+◌, ◌++◌, ◌⊎◌, inl, inr, ℕ, zero, suc, true, false, List, [], ◌∷◌, Some, length, get_or, slice_get, refl, sym, ◌∙◌, ap, subst, arith}
+use Rattle.std.proofs.Common.{◌≡◌, ◌<◌, ◌≤◌, ◌+◌, ◌++◌, ◌⊎◌, inl, inr, ℕ, zero, suc, true, List, [], ◌∷◌, Some, length, get_or, slice_get, refl, sym, ◌∙◌, ap, subst, arith}
 use Rattle.std.specs.Prelude.{IsTrue, option_map}
 use Rattle.std.specs.FinMap as map
 use Rattle.std.specs.FinMap.{get-empty, len-empty}
 use Rattle.std.specs.Ordering.{nat_cmp}
 use Rattle.std.proofs.lemmas.List.{length-append}
-use Rattle.std.proofs.lemmas.Option.{slice_get-get_or, slice_get_within}
+use Rattle.std.proofs.lemmas.Option.{slice_get-get_or}
 use Rattle.dm_store.specs.Saved.{MemoryOpen, LoadsFine, SavesFine}
 use Rattle.dm_store.specs.Sets.{SavedSet, Contents}
 use Rattle.dm_assembly_desk.specs.Pages.{Pages}
@@ -15,7 +15,7 @@ use Rattle.dm_assembly_desk.specs.Views.{DeskView}
 use Rattle.dm_assembly_desk.specs.Opening.{Opens}
 use Rattle.dm_event_world.specs.declared.actor.DeskActor.{DeskActor}
 use Rattle.dm_event_world.specs.declared.actor.DeskState.{DeskState}
-use Rattle.dm_event_world.specs.declared.actor.DeskState.TheVariants.{Running, Down}
+use Rattle.dm_event_world.specs.declared.actor.DeskState.TheVariants.{Running}
 use Rattle.dm_event_history.specs.Actors as actors
 use Rattle.dm_event_world.specs.Shows.{IsReadySet, ShowsDesk}
 use Rattle.dm_event_world.specs.inner.Desks.{AreEmpty}

@@ -7,7 +7,6 @@ use Rattle.std.proofs.lemmas.List.Elements.{All-head, All-tail}
 use Rattle.std.proofs.lemmas.Map.Steps.{length-le_from_distinct_below}
 use Rattle.std.proofs.lemmas.Bool.Decides.{nat_tests}
 use Rattle.dm_print_ledger.specs.declared.range.Range.{Range}
-use Rattle.std.proofs.lemmas.Bool.{leb-true, and_parts}
 use Rattle.dm_print_ledger.specs.Ranges.{is_range}
 use Rattle.dm_event_history.specs.Places.{IsApart, AreDisjoint}
 
@@ -15,20 +14,13 @@ abbrev IsRange : Range → Type 0
 IsRange range = (range.first ≤ range.last) × (range.last ≤ 64515)
 
 ranged : (ranges : List Range) → All (λ range. IsTrue (is_range range)) ranges → All IsRange ranges
-ranged ranges each = λ i d within. (
-  leb-true _ _ (and_parts _ _ (each i d within)).0,
-  leb-true _ _ (and_parts _ _ (each i d within)).1,
-)
+ranged ranges each = grind arith
 
 abbrev firsts : List Range → List ℕ
 firsts ranges = map (λ range. range.first) ranges
 
 differ : (a b : ℕ) → a ≢ b → eqb a b ≡ false
-differ a b away = by_test (eqb a b) refl
-  where
-    by_test : (t : Bool) → eqb a b ≡ t → eqb a b ≡ false
-    by_test true is = absurd (away (let e : (a == b) ≡ true = is in grind (arith, nat_tests, e)))
-    by_test false is = is
+differ a b away = grind arith
 
 -- a number is no first of ranges that begin elsewhere
 none_first : (n : ℕ) (ranges : List Range) → All (λ range. n ≢ range.first) ranges →

@@ -1,6 +1,6 @@
 -- Printers that are created one after another.
 use Rattle.std.specs.Prelude.{IsTrue, MatchBool, Option, Result, Ok, Err, Bool}
-use Rattle.std.proofs.Common.{◌≡◌, ◌⊎◌, inl, inr, true, ◌++◌, ℕ, zero, suc, Some, None, List, [], ◌∷◌, length, slice_get, refl, ap, sym, ◌∙◌, subst, arith}
+use Rattle.std.proofs.Common.{◌≡◌, ◌⊎◌, inl, inr, true, ◌++◌, ℕ, zero, suc, Some, None, List, [], ◌∷◌, length, slice_get, refl, ap, sym, ◌∙◌, subst}
 use Rattle.dm_store.specs.Saved.{Saved, SavePlan, MemoryOpen, LoadsFine, SavesFine, Done, Follows, Replaces}
 use Rattle.dm_print_ledger.specs.declared.range.Range.{Range}
 use Rattle.dm_print_ledger.specs.Views.{PrinterView}
@@ -8,7 +8,7 @@ use Rattle.dm_print_ledger.specs.Creating.{Creates, SavesFirst, opening}
 use Rattle.dm_event_world.specs.declared.actor.PrinterActor.{PrinterActor}
 use Rattle.dm_event_world.specs.declared.actor.PrinterActor.TheVariants as actors
 use Rattle.dm_event_history.specs.Actors as states
-use Rattle.dm_event_world.specs.Shows.{IsReady, ShowsPrinter}
+use Rattle.dm_event_world.specs.Shows.{ShowsPrinter}
 use Rattle.dm_print_ledger.specs.Ranges.{is_range}
 use Rattle.dm_print_ledger.specs.Ledger.{ledger_bytes}
 use Rattle.dm_print_ledger.specs.Opening.{open_verdict}

@@ -1,5 +1,5 @@
 -- A call of a printer, as a world makes it, is one of the relay that it shows.
-use Rattle.std.proofs.Common.{◌≡◌, ◌⊎◌, inl, inr, ℕ, Bool, true, false, List, Option, Some, Result, Ok, Err, refl, sym, ap, subst, ◌∙◌}
+use Rattle.std.proofs.Common.{arith, ◌≡◌, ◌⊎◌, inl, inr, ℕ, true, false, List, Option, Some, Result, Ok, Err, refl, sym, ap, subst, ◌∙◌}
 use Rattle.std.specs.Prelude.{IsOk, IsTrue}
 use Rattle.dm_store.specs.Saved.{Done, Faulted, Follows, HeldAfterFault, Replaces}
 use Rattle.dm_store.specs.Settings.{save_plan_of}
@@ -19,52 +19,36 @@ use Rattle.dm_event_history.specs.declared.stop.Stop.TheVariants as stops
 use Rattle.dm_event_history.specs.declared.stop.Stop.TheVariants.{BeforeSave, InSave, SaveFault, AfterLabels}
 use Rattle.dm_event_history.specs.Actors.{Actor, Running, Failed, Down, stored_of}
 use Rattle.dm_event_history.specs.Relay.{Goods}
-use Rattle.dm_event_history.specs.Calls.{Answers, Calls, Course, Ending, Faults, LacksMemory, Saves, ends}
+use Rattle.dm_event_history.specs.Calls.{Answers, Calls, Course, Faults, LacksMemory, Saves, ends}
 use Rattle.dm_event_history.specs.PrinterCalls.{Comes}
 use Rattle.dm_event_world.specs.declared.actor.PrinterActor.{PrinterActor}
 use Rattle.dm_event_world.specs.declared.actor.PrinterActor.TheVariants as actors
 use Rattle.dm_event_world.specs.Shows.{ShowsPrinter, StoresLedger}
-use Rattle.dm_event_world.specs.inner.Stops.{IsMadeUnder, next_save_of, stops_before}
+use Rattle.dm_event_world.specs.inner.Stops.{next_save_of, stops_before}
 use Rattle.dm_event_world.specs.inner.Ends.{EndsSo, ended, ended_reply, lacks_memory}
 use Rattle.dm_event_world.specs.inner.Printers.{down_printer, planned}
-use Rattle.dm_event_world.proofs.Endings.{Ends, IsEmpty, SavesNothing, TellsMemory, failed_empty, finish, plain, reaches, unsaved_empty}
-use Rattle.dm_event_world.proofs.Plans.{fine_printer, ready_after}
+use Rattle.dm_event_world.proofs.Endings.{Ends, IsEmpty, TellsMemory, failed_empty, finish, plain, reaches, unsaved_empty}
+use Rattle.dm_event_world.proofs.Plans.{ready_after}
 
 pub down_shows : {A : Type 0} (actor : PrinterActor A) (shown : Actor LedgerView) → ShowsPrinter actor shown →
     ShowsPrinter (down_printer actor) (Down (stored_of shown))
-down_shows (actors.Running view) (Running held) s = s.0
-down_shows (actors.Running view) (Failed held stored) s = s.0
-down_shows (actors.Running view) (Down stored) s = absurd s
-down_shows (actors.Down saved) (Running held) s = absurd s
-down_shows (actors.Down saved) (Failed held stored) s = absurd s
-down_shows (actors.Down saved) (Down stored) s = s
+down_shows actor shown s = grind arith
 
 -- what is shown of a printer whose call saved nothing
 same_again : (A : Type 0) (view mid : PrinterView) (plan : NextSave) (shown : Actor LedgerView) →
     ShowsPrinter {A = A} (actors.Running view) shown → StoresLedger view.saved (stored_of shown) →
     mid ≡ planned view plan → ShowsPrinter {A = A} (actors.Running (planned mid next_save.Fine)) shown
-same_again A view mid plan shown s store same =
-    let back : planned mid next_save.Fine ≡ view =
-    ap (λ (v : PrinterView). planned v next_save.Fine) same ∙ fine_printer view plan store.ready in
-    subst (λ (v : PrinterView). ShowsPrinter {A = A} (actors.Running v) shown) (sym back) s
+same_again A view mid plan shown s store same = grind arith
 
 -- a call that answers without a save, under any plan
 pub answers_end : {A C S : Type 0} (Shows : S → Actor C → Type 0) (faults : Faults A) (stop : Stop) (old : Actor C)
     (reply : Reply A) (state : S) → Shows state old → Ends Shows faults (plain stop) (Answers reply) old reply state
-answers_end Shows faults stops.None old reply state s = record { reply_is = refl; shows = s }
-answers_end Shows faults (SaveFault kept) old reply state s = record { reply_is = refl; shows = s }
-answers_end Shows faults BeforeSave old reply state s = record { reply_is = refl; shows = s }
-answers_end Shows faults (InSave kept) old reply state s = record { reply_is = refl; shows = s }
-answers_end Shows faults (AfterLabels most) old reply state s = record { reply_is = refl; shows = s }
+answers_end Shows faults stop old reply state s = grind arith
 
 -- one whose memory is refused
 pub lacks_end : {A C S : Type 0} (Shows : S → Actor C → Type 0) (faults : Faults A) (stop : Stop) (old : Actor C)
     (state : S) → Shows state old → Ends Shows faults (plain stop) LacksMemory old faults.memory state
-lacks_end Shows faults stops.None old state s = record { reply_is = refl; shows = s }
-lacks_end Shows faults (SaveFault kept) old state s = record { reply_is = refl; shows = s }
-lacks_end Shows faults BeforeSave old state s = record { reply_is = refl; shows = s }
-lacks_end Shows faults (InSave kept) old state s = record { reply_is = refl; shows = s }
-lacks_end Shows faults (AfterLabels most) old state s = record { reply_is = refl; shows = s }
+lacks_end Shows faults stop old state s = grind arith
 
 -- What leaves by a call that saves, and its reply; `Gives` says how the goods come of the answer.
 pub record Lets {A X F : Type 0} (Leaves : Goods → Reply A → Type 0) (Gives : X → Goods → Type 0) (tell : X → Reply A)
@@ -245,7 +229,7 @@ module _ {A X F : Type 0} (failed memory save : F) (refuses : F → Reply A) (te
               let err : answer ≡ Err save = at ∙ ap (λ (f : F). Err f) fails.0 in
               subst Carried (sym err) (lost next is sound fails.1 fails.2 (lets (inr err)))
 
-  -- The call ends as one of the relay, where what it comes to is told so of the ledger that is shown.
+  -- The call ends as one of the relay, where what it comes to is said of the ledger that is shown.
   module _ (CallComes : LedgerView → Course A LedgerView → Type 0) (Q : Goods → Type 0)
       (comes_so : view.is_failed ≡ false → (course : Course A LedgerView) → Comes refuses verdict Leaves course →
       CallComes view.ledger course)

@@ -1,7 +1,7 @@
 -- Events at printers: each ends as one of the relay that the printer shows.
 use Rattle.std.proofs.Common.{◌≡◌, ◌≤◌, ◌+◌, ◌++◌, ◌⊎◌, inl, inr, ℕ, zero, suc, Bool, true, false, List, [], ◌∷◌, Option, Some, None, Result, Ok, Err, length, map, slice_get, take, refl, sym, ap, subst, ◌∙◌, arith}
-use Rattle.std.specs.Prelude.{IfOk, IsSomeAnd, IsTrue, is_some, if◌then◌else◌}
-use Rattle.std.proofs.lemmas.List.{append-nil, take_all}
+use Rattle.std.specs.Prelude.{IfOk, IsTrue, is_some, if◌then◌else◌}
+use Rattle.std.proofs.lemmas.List.{take_all}
 use Rattle.dm_check_blocks.specs.declared.size.Size.{Size}
 use Rattle.dm_encodation.specs.declared.scheme.Scheme.{Scheme}
 use Rattle.dm_finder_frame.specs.Grids.{GridView}
@@ -17,7 +17,7 @@ use Rattle.dm_print_ledger.specs.declared.fault.TakeFault.{TakeFault}
 use Rattle.dm_print_ledger.specs.declared.fault.TakeFault.TheVariants as take_fault
 use Rattle.dm_print_ledger.specs.Carrying.{Carries}
 use Rattle.dm_print_ledger.specs.Changes.{least}
-use Rattle.dm_store.specs.Saved.{LoadsFine, LoadsOpen, Saved}
+use Rattle.dm_store.specs.Saved.{Saved}
 use Rattle.dm_print_ledger.specs.declared.fault.OpenFault.{OpenFault}
 use Rattle.dm_print_ledger.specs.declared.fault.OpenFault.TheVariants as open_fault
 use Rattle.dm_print_ledger.specs.Opening.{LoadsLedger, Opens, open_verdict}
@@ -34,8 +34,7 @@ use Rattle.dm_event_history.specs.declared.stop.Stop.TheVariants.{BeforeSave, In
 use Rattle.dm_event_history.specs.Actors.{Actor, Running, Failed, Down, stored_of}
 use Rattle.dm_event_history.specs.Relay.{CutDocument, Export, Goods, Label, Took, Used, nothing}
 use Rattle.dm_event_history.specs.Calls.{Calls, Course, Ending, Faults, MayLackFirst, Saves, ending, ends}
-use Rattle.dm_event_history.specs.PrinterCalls.{AreLabelsFor, Comes, GiveComes, PrintComes, PrintLeaves, TakeComes, cut_of, give_faults, print_faults, take_faults}
-use Rattle.dm_event_history.proofs.LedgerFacts.{give_refuses, print_refuses, take_refuses}
+use Rattle.dm_event_history.specs.PrinterCalls.{AreLabelsFor, GiveComes, PrintComes, PrintLeaves, TakeComes, cut_of, give_faults, print_faults, take_faults}
 use Rattle.dm_event_world.specs.declared.actor.LeftLabel.{LeftLabel}
 use Rattle.dm_event_world.specs.declared.actor.LeftExport.{LeftExport}
 use Rattle.dm_event_world.specs.declared.actor.PrinterActor.{PrinterActor}
@@ -110,20 +109,14 @@ made_so : {A : Type 0} (Acts : Actor LedgerView → Ending A LedgerView → Type
     result ≡ ended_reply stop reply → new ≡ ended down_printer stop reply running →
     EndsSo ShowsPrinter Acts Q shown (ended_reply stop told) (ended down_printer stop told running) →
     EndsSo ShowsPrinter Acts Q shown result new
-made_so {A} Acts Q stop told reply result shown running new told_is result_is new_is e =
-    subst (λ (r : Reply A). EndsSo ShowsPrinter Acts Q shown r new) (sym result_is)
-    (subst (λ (n : PrinterActor A). EndsSo ShowsPrinter Acts Q shown (ended_reply stop reply) n) (sym new_is)
-    (subst (λ (r : Reply A). EndsSo ShowsPrinter Acts Q shown (ended_reply stop r) (ended down_printer stop r running))
-    told_is e))
+made_so {A} Acts Q stop told reply result shown running new told_is result_is new_is e = grind arith
 
 -- nothing leaves under any stop where nothing would
 take_nil : {X : Type 0} (k : ℕ) → (let none : List X = [] in take k none ≡ none)
-take_nil zero = refl
-take_nil (suc k) = refl
+take_nil k = grind arith
 
 take_zero : {X : Type 0} (xs : List X) → take 0 xs ≡ []
-take_zero [] = refl
-take_zero (x ∷ xs) = refl
+take_zero xs = grind arith
 
 ends_empty : {A : Type 0} (faults : Faults A) (stop : Stop) (next : LedgerView) (goods : Goods) (reply : Reply A)
     (old : Actor LedgerView) → IsEmpty goods → IsEmpty (ends faults stop (Saves next goods reply) old).goods
@@ -145,9 +138,7 @@ took number = record { labels = []; tickets = []; exports = []; moves = Took num
 
 take_told : (A : Type 0) (old : LedgerView) (ticket : TicketView) (fault : TakeFault) →
     take_verdict old ticket ≡ Err fault → lacks_memory {A = A} (replies.TakeRefused fault) ≡ false
-take_told A old ticket fault is =
-    take_refuses (λ f. lacks_memory {A = A} (replies.TakeRefused f) ≡ false) old ticket fault refl refl (λ o. refl) refl
-    refl is
+take_told A old ticket fault is = grind arith
 
 pub take_ends : {A : Type 0} (number : ℕ) (ticket : TicketView) (stop : Stop) (view after : PrinterView)
     (actor new : PrinterActor A) (answer : Result (Unit {0}) TakeFault) (reply result : Reply A) →
@@ -202,22 +193,13 @@ gave ticket = record { labels = []; tickets = ticket ∷ []; exports = []; moves
 
 give_told : (A : Type 0) (old : LedgerView) (receiver : ℕ) (range : Range) (fault : GiveFault) →
     give_verdict old receiver range ≡ Err fault → lacks_memory {A = A} (replies.GiveRefused fault) ≡ false
-give_told A old receiver range fault is =
-    give_refuses (λ f. lacks_memory {A = A} (replies.GiveRefused f) ≡ false) old receiver range fault refl refl refl refl
-    refl is
+give_told A old receiver range fault is = grind arith
 
 -- no ticket is among those that left
 no_ticket : {A : Type 0} (stop : Stop) (fault : GiveFault) (old new : List TicketView) (goods : Goods) →
     new ≡ old ++ (if ends_early stop then [] else left_ticket (Err fault)) → IsEmpty goods →
     Left {A = A} [] old [] goods [] new []
-no_ticket {A} stop fault old new goods is none =
-    subst (λ (ts : List TicketView). Left {A = A} [] old [] goods [] ts [])
-    (sym (is ∙ ap (λ (ts : List TicketView). old ++ ts) (by_test (ends_early stop)) ∙ append-nil old))
-    (none_left [] old [] goods none)
-  where
-    by_test : (b : Bool) → (if b then [] else left_ticket (Err fault)) ≡ []
-    by_test true = refl
-    by_test false = refl
+no_ticket {A} stop fault old new goods is none = grind arith
 
 its_ticket : {A : Type 0} (faults : Faults A) (stop : Stop) (ticket : TicketView) (old new : List TicketView)
     (next : LedgerView) (goods : Goods) (reply : Reply A) (actor : Actor LedgerView) → stops_before stop ≡ false →
@@ -362,15 +344,12 @@ record HaveIts (A : Type 0) (job : JobView) (goods : Goods) : Type 0 where
 
 print_told : (A : Type 0) (old : LedgerView) (has_parts : Bool) (fault : PrintFault) →
     print_verdict old has_parts ≡ Err fault → lacks_memory {A = A} (replies.PrintRefused fault) ≡ false
-print_told A old has_parts fault is =
-    print_refuses (λ f. lacks_memory {A = A} (replies.PrintRefused f) ≡ false) old has_parts fault (λ n. refl) (λ n. refl) is
+print_told A old has_parts fault is = grind arith
 
 -- no label is among those that left
 no_label : {A : Type 0} (most : ℕ) (fault : PrintFault) (old new : List (LeftLabel A)) (goods : Goods) →
     new ≡ old ++ job_labels most (Err fault) → IsEmpty goods → Left {A = A} old [] [] goods new [] []
-no_label {A} most fault old new goods is none =
-    subst (λ (ls : List (LeftLabel A)). Left old [] [] goods ls [] []) (sym (is ∙ append-nil old))
-    (none_left old [] [] goods none)
+no_label {A} most fault old new goods is none = grind arith
 
 -- as many are as leave under the stop
 its_labels : {A : Type 0} (faults : Faults A) (stop : Stop) (job : JobView) (old new : List (LeftLabel A))
@@ -436,8 +415,7 @@ module _ {A : Type 0} (size : Size) (scheme : Scheme) (document : List ℕ) (sto
   told (Err fault) = replies.PrintRefused fault
 
   same : (a : Result JobView PrintFault) → told a ≡ print_reply (length labels) a
-  same (Ok job) = refl
-  same (Err fault) = refl
+  same a = grind arith
 
   by_cutting : (cutting : Option (List ℕ)) →
       (view.is_failed ≡ false → IsCutting size scheme document cutting) →
@@ -580,44 +558,17 @@ most_sixteen {stop} {old} {new} size scheme document answer under =
 
 stored_store : {A : Type 0} (actor : PrinterActor A) (shown : Actor LedgerView) → ShowsPrinter actor shown →
     StoresLedger (saved_of actor) (stored_of shown)
-stored_store (actors.Running view) (Running held) s = s.0
-stored_store (actors.Running view) (Failed held stored) s = s.0
-stored_store (actors.Running view) (Down stored) s = absurd s
-stored_store (actors.Down saved) (Running held) s = absurd s
-stored_store (actors.Down saved) (Failed held stored) s = absurd s
-stored_store (actors.Down saved) (Down stored) s = s
+stored_store actor shown s = grind arith
 
 -- an honest store gives what it holds, unless memory is refused
 module _ (saved : Saved) (stored : LedgerView) (number : ℕ) (store : StoresLedger saved stored)
     (own : stored.number ≡ number) where
-  verdict_is : open_verdict saved.content number ≡ Ok stored
-  verdict_is = ap (open_verdict saved.content) (sym own) ∙ store.holds store.ready.honest
-
   loads : (ledger : LedgerView) → LoadsLedger saved (open_verdict saved.content number) (Ok ledger) → ledger ≡ stored
-  loads ledger l = by_case (l.answer store.ready.honest)
-    where
-      by_case : (◌≡◌ {A = Result LedgerView OpenFault} (Ok ledger) (open_verdict saved.content number))
-          ⊎ ((◌≡◌ {A = Result LedgerView OpenFault} (Ok ledger) (Err open_fault.Device))
-          ⊎ (◌≡◌ {A = Result LedgerView OpenFault} (Ok ledger) (Err open_fault.Memory))) → ledger ≡ stored
-      by_case (inl is) = (let same : ◌≡◌ {A = Result LedgerView OpenFault} (Ok ledger) (Ok stored) = is ∙ verdict_is in
-          cc (same))
-      by_case (inr (inl is)) = absurd (cc (is))
-      by_case (inr (inr is)) = absurd (cc (is))
+  loads ledger l = grind arith
 
   refuses_memory : (fault : OpenFault) → LoadsLedger {X = LedgerView} saved (open_verdict saved.content number) (Err fault) →
       fault ≡ open_fault.Memory
-  refuses_memory fault l = by_case (l.answer store.ready.honest)
-    where
-      not_open : LoadsFine ≡ LoadsOpen → ⊥
-      not_open e = cc (e)
-
-      by_case : (◌≡◌ {A = Result LedgerView OpenFault} (Err fault) (open_verdict saved.content number))
-          ⊎ ((◌≡◌ {A = Result LedgerView OpenFault} (Err fault) (Err open_fault.Device))
-          ⊎ (◌≡◌ {A = Result LedgerView OpenFault} (Err fault) (Err open_fault.Memory))) → fault ≡ open_fault.Memory
-      by_case (inl is) = (let same : ◌≡◌ {A = Result LedgerView OpenFault} (Err fault) (Ok stored) = is ∙ verdict_is in
-          absurd (cc (same)))
-      by_case (inr (inl is)) = absurd (not_open (sym store.ready.loads_fine ∙ l.device is))
-      by_case (inr (inr is)) = cc (is)
+  refuses_memory fault l = grind arith
 
 pub restarted : {A : Type 0} (number : ℕ) (actor : PrinterActor A) (saved : Saved) (view : PrinterView) →
     saved ≡ saved_of actor → Opens saved number (Ok view) → RestartsAs number actor replies.Restarted (actors.Running view)

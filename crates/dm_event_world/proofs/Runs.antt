@@ -1,6 +1,5 @@
 -- Runs of worlds: one event more at their end, and the headline.
-use Rattle.std.proofs.Common.{◌≡◌, ◌<◌, ◌≤◌, ℕ, zero, suc, Some, List, [], ◌∷◌, ◌++◌, All, length, map, slice_get, take, refl, sym, ap, subst, arith, ◌∙◌}
-use Rattle.dm_check_blocks.specs.Sizes.{side}
+use Rattle.std.proofs.Common.{◌≡◌, ◌<◌, ◌≤◌, ℕ, zero, suc, Some, List, [], ◌∷◌, ◌++◌, length, map, slice_get, take, refl, sym, ap, subst, arith}
 use Rattle.dm_finder_frame.specs.Grids.{flipped}
 use Rattle.dm_symbol.specs.Symbols.{IsNear}
 use Rattle.dm_print_ledger.specs.declared.range.Range.{Range}
@@ -9,7 +8,7 @@ use Rattle.dm_event_history.specs.declared.event.Event.TheVariants.{Scan}
 use Rattle.dm_event_history.specs.declared.reply.Reply.{Reply}
 use Rattle.dm_event_history.specs.Headline.{IsFairEvent}
 use Rattle.dm_event_history.specs.Relay.{Relay}
-use Rattle.dm_event_history.specs.Runs.{AreMomentsOf, Moment, onto}
+use Rattle.dm_event_history.specs.Runs.{Moment, onto}
 use Rattle.dm_event_history.specs.Steps.{HasModules}
 use Rattle.dm_event_history.proofs.Headline.{each_run_is_true}
 use Rattle.dm_event_world.specs.declared.actor.LeftLabel.{LeftLabel}

@@ -1,8 +1,6 @@
 -- Scans: which of them name what is there, and which are fair.
-use Rattle.std.proofs.Common.{◌≡◌, ◌↔◌, ◌<◌, ◌≤◌, ℕ, Bool, true, Some, Result, Ok, Err, IfOk, OnErr, IsTrue, List, All, length, slice_get, sym, subst, arith}
-use Rattle.std.proofs.lemmas.Option.{slice_get_within}
-use Rattle.dm_check_blocks.specs.Sizes.{side}
-use Rattle.dm_finder_frame.specs.Grids.{GridView, flipped}
+use Rattle.std.proofs.Common.{◌≡◌, ◌↔◌, ◌<◌, ℕ, Bool, true, Some, Result, Ok, Err, IfOk, OnErr, IsTrue, List, length, slice_get, sym, subst, arith}
+use Rattle.dm_finder_frame.specs.Grids.{flipped}
 use Rattle.dm_symbol.specs.Symbols.{IsNear}
 use Rattle.dm_event_history.specs.declared.event.Event.{Event}
 use Rattle.dm_event_history.specs.declared.event.Event.TheVariants.{Scan}
@@ -12,9 +10,7 @@ use Rattle.dm_event_world.specs.Worlds.{AreWithin, WorldView, IsFairIn, IsLooked
 
 pub outside : {A : Type 0} (old : WorldView A) (d label : ℕ) (flips : List (ℕ × ℕ)) (stop : Stop) (left : LeftLabel A) →
     slice_get old.labels label ≡ Some left → (¬ AreWithin left.grid flips) → ¬ IsLookedAt old (Scan d label flips stop)
-outside {A} old d label flips stop left is out named =
-    let same : named.1 ≡ left = (let e = named.2 in cc) in
-    out (subst (λ (l : LeftLabel A). AreWithin l.grid flips) same named.3)
+outside {A} old d label flips stop left is out named = grind arith
 
 -- what is near is fair, where the scan names what is there
 pub fair_scan : {A E : Type 0} (old : WorldView A) (event : Event A) (d label : ℕ) (flips : List (ℕ × ℕ)) (stop : Stop)
@@ -35,6 +31,4 @@ fair_scan {A} old event d label flips stop left (Ok honest) event_is there is wi
 pub looked_at : {A E : Type 0} (old : WorldView A) (event : Event A) (d label : ℕ) (flips : List (ℕ × ℕ)) (stop : Stop)
     (left : LeftLabel A) (near : Result Bool E) → event ≡ Scan d label flips stop → d < length old.desks →
     slice_get old.labels label ≡ Some left → AreWithin left.grid flips → OnErr near (IsLookedAt old event)
-looked_at old event d label flips stop left (Ok honest) event_is there is within = tt
-looked_at {A} old event d label flips stop left (Err e) event_is there is within =
-    subst (λ (e : Event A). IsLookedAt old e) (sym event_is) (there, left, is, within)
+looked_at old event d label flips stop left near event_is there is within = grind arith

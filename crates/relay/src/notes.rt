@@ -29,21 +29,25 @@ pub(crate) fn note<R: AllocGlobal + Eprint>(rt: &R, name: &str, why: &str) {
 }
 
 /// Notes refused images, as `relay: image N: NAME`, or `relay: image N (IIII): NAME` if it is a label of this
-/// identification.
+/// identification. Before the first of them it names the file of the images, if one was named.
 #[derive(Drop)]
 pub(crate) struct RefusedImages<'a, R> {
     rt: &'a R,
+    source: Option<&'a str>,
 }
 
 impl<'a, R> RefusedImages<'a, R> {
-    pub(crate) fn new(rt: &'a R) -> RefusedImages<'a, R> {
-        RefusedImages { rt }
+    pub(crate) fn new(rt: &'a R, source: Option<&'a str>) -> RefusedImages<'a, R> {
+        RefusedImages { rt, source }
     }
 }
 
 impl<R: AllocGlobal + Eprint> Notes for RefusedImages<'_, R> {
     fn note(&mut self, image: u32, id: Option<FileId>, name: &str) {
         let alloc = self.rt.alloc();
+        if let Some(source) = self.source.take() {
+            note(self.rt, source, "has images that are refused");
+        }
         let which = match id {
             Some(id) => {
                 let (first, second) = id.words();

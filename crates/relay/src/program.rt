@@ -10,14 +10,14 @@ use crate::notes::{RefusedImages, note, note_faulty_file, note_folder, note_reas
 use crate::place::{Access, Named, Place, named_by, refuses_on_errors};
 use dm_store::{FileSet, FileStore, MemSet, MemStore, RealDisk};
 use relay_desk_commands::NoNotes;
-use relay_line::{Command, LineFault, command_line};
+use relay_line::{Command, Line, LineFault, command_line};
 use relay_shared::{Streams, refuse};
 use relay_streams::Output;
 use std::alloc::AllocError;
 use std::fs::File;
 use std::io::{BufReader, ErrorKind, Read, Write};
 use std::rt::{Env, Files};
-use std::{env, io};
+use std::{env, fs, io};
 
 // How many bytes of its output a command that answers once keeps, before it lets whole lines out.
 const MANY_BYTES: usize = 8192;
@@ -90,6 +90,7 @@ fn disk_of<'a, R: AllocGlobal + Files>(rt: &'a R, place: &Place) -> RealDisk<'a,
 fn run_on_files<R: AllocGlobal + Eprint + Files<File = File> + Clone, I: Read + Drop, W: Write>(
     rt: &R,
     named: Named,
+    source: Option<&str>,
     reader: I,
     output: &mut LineBuffer<W>,
     command: Command,
@@ -104,7 +105,7 @@ fn run_on_files<R: AllocGlobal + Eprint + Files<File = File> + Clone, I: Read + 
         let disk = Locked::new(&gate, RealDisk::new(alloc, rt));
         let set = FileSet::of_synced(alloc, disk, folder);
         let mut streams = Streams::new(reader, &mut *output, errors_of(rt));
-        let mut notes = RefusedImages::new(rt);
+        let mut notes = RefusedImages::new(rt, source);
         do_command(alloc, store, set, &mut streams, &mut notes, command).status
     };
     let status = finish(rt, output, command, status);
@@ -131,34 +132,83 @@ fn run_on_streams<R: AllocGlobal + Eprint, I: Read + Drop, W: Write>(
     finish(rt, output, command, status)
 }
 
-// Does a command over the program's input and files.
-fn run_to<R: AllocGlobal + Input + Eprint + Files<File = File> + Clone, W: Write>(
+// Does a command over an input, which `source` names, and the command's files.
+fn run_on<R: AllocGlobal + Eprint + Files<File = File> + Clone, I: Read + Drop, W: Write>(
     rt: &R,
+    source: Option<&str>,
+    input: I,
     output: &mut LineBuffer<W>,
     command: Command,
 ) -> Result<u8, AllocError> {
-    let Ok(reader) = BufReader::new(rt.alloc(), rt.reader()) else {
+    let Ok(mut reader) = BufReader::new(rt.alloc(), input) else {
         return Err(AllocError);
     };
-    match named_by(command) {
-        None => Ok(run_on_streams(rt, reader, output, command)),
-        Some(named) => run_on_files(rt, named, reader, output, command),
+    let status = match named_by(command) {
+        None => run_on_streams(rt, &mut reader, output, command),
+        Some(named) => run_on_files(rt, named, source, &mut reader, output, command)?,
+    };
+    let is_more = answers_each_image(command)
+        && status == 0
+        && reader.buffer().iter().any(|byte| !byte.is_ascii_whitespace());
+    if is_more {
+        note(rt, source.unwrap_or("-"), "what follows the plain image was not looked at");
     }
+    Ok(status)
+}
+
+// Does a command over the images of one file, or over the program's input where that is named `-`.
+fn run_on_images<R: AllocGlobal + Input + Eprint + Files<File = File> + Clone, W: Write>(
+    rt: &R,
+    images: &str,
+    output: &mut LineBuffer<W>,
+    command: Command,
+) -> Result<u8, AllocError> {
+    let status = if images == "-" {
+        run_on(rt, Some(images), rt.reader(), output, command)?
+    } else {
+        let Ok(file) = fs::open(rt, images) else {
+            note(rt, images, "can't be opened");
+            let status = refuse(&mut Output::new(&mut *output), "Read");
+            return Ok(finish(rt, output, command, status));
+        };
+        run_on(rt, Some(images), file, output, command)?
+    };
+    if status != 0 && command == Command::Read {
+        note(rt, images, "has images that are refused");
+    }
+    Ok(status)
+}
+
+// Does a command over the program's input, or over each file of images in turn: then its status is 0 if each is.
+fn run_to<R: AllocGlobal + Input + Eprint + Files<File = File> + Clone, W: Write>(
+    rt: &R,
+    output: &mut LineBuffer<W>,
+    line: &Line<'_>,
+) -> Result<u8, AllocError> {
+    if line.images.is_empty() {
+        return run_on(rt, None, rt.reader(), output, line.command);
+    }
+    let mut status = 0;
+    for images in &line.images {
+        status = status.max(run_on_images(rt, images, output, line.command)?);
+    }
+    Ok(status)
 }
 
 // Does a command, and answers its exit status. Each line of `read` and `scan` goes out before the next image is waited
 // for; the other outputs go out in large pieces. Where a command can't begin, that is said where its refusals go.
-fn run_command<R: AllocGlobal + Input + Print + Eprint + Files<File = File> + Clone>(
+fn run_line<R: AllocGlobal + Input + Print + Eprint + Files<File = File> + Clone>(
     rt: &R,
-    command: Command,
+    line: &Line<'_>,
 ) -> u8 {
+    let command = line.command;
     let least = if answers_each_image(command) {
         0
     } else {
         MANY_BYTES
     };
     let mut output = LineBuffer::new(rt.alloc(), io::writer(rt), least);
-    match run_to(rt, &mut output, command) {
+    match run_to(rt, &mut output, line) {
         Ok(status) => status,
         Err(AllocError) if refuses_on_errors(command) => refuse_on_errors(rt, "Memory"),
         Err(AllocError) => {
@@ -219,11 +269,11 @@ pub fn run<R: AllocGlobal + Input + Print + Eprint + Env + Files<File = File> + 
         Err(error) => return show_word_fault(rt, &error),
     };
     match command_line(rt.alloc(), words.as_slice()) {
-        Ok(command) if has_empty_path(command) => {
+        Ok(line) if has_empty_path(line.command) => {
             let _ = eprint!(rt; "error: the path of '--file <PATH>' is empty\n");
             2
         }
-        Ok(command) => run_command(rt, command),
+        Ok(line) => run_line(rt, &line),
         Err(fault) => show_fault(rt, &fault),
     }
 }

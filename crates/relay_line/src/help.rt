@@ -14,12 +14,12 @@ Without a command, relay does `words` with its defaults. `relay COMMAND --help`
 says more of each.
 
 Exit status: 0 where all was done; 1 where something was refused, which a line
-`refused NAME` says; 2 where the command line was refused. docs/REFUSALS.md has
-the names.";
+`refused NAME` says; 2 where the command line was refused. `relay explain NAME`
+says what a refusal means.";
 
 pub const WORDS: &str = "\
 A word is one of the numbers from 0 to 255 that a symbol holds. Side 10 holds 6
-digits or 1 byte, side 132 holds 2608 digits or 1301 bytes; docs/RECIPES.md has
+digits or 1 byte, side 132 holds 2608 digits or 1301 bytes; docs/SYMBOLS.md has
 the whole table. A refusal goes to standard output.
 
 Example:
@@ -28,8 +28,8 @@ Example:
 pub const DRAW: &str = "\
 The image has one pixel per module, and around the symbol a quiet zone of one
 light pixel, which a scanner needs. Side 10 holds 6 digits or 1 byte, side 132
-holds 2608 digits or 1301 bytes; docs/RECIPES.md has the whole table, and says
-how to enlarge and print images. A refusal goes to standard error.
+holds 2608 digits or 1301 bytes; docs/SYMBOLS.md has the whole table, and
+docs/RECIPES.md says how to print images. A refusal goes to standard error.
 
 Example:
   printf 123456 | relay draw --side 18 > symbol.pbm";
@@ -44,6 +44,7 @@ pixel. Packed images may follow one another. Each gives a line:
   refused NAME    none that can be read
 C words were wrong and were corrected, W modules of the finder patterns are
 wrong, and HEX is the bytes in hexadecimal, or `-` for none.
+Where files are named, each is read as if the command were given for it alone.
 
 Example:
   relay read < symbol.pbm";
@@ -137,6 +138,8 @@ After `refused Save` nothing more is read; the page may be held. A desk keeps a
 document until it is forgotten. Pages that disagree with those that are held are
 refused, and never joined. An old file of pages at PATH is moved first.
 
+Where files are named, each is read as if the command were given for it alone.
+
 The capacity is not remembered: a desk that holds more documents is refused
 `TooMany`. Give it at each `scan` and `import`; other commands take any number.
 
@@ -207,3 +210,9 @@ file is read or written. A refusal goes to standard output.
 
 Example:
   printf 'range 0 9\\ndesks 1 4\\nprint 0 12 ascii 31323334 -\\n' | relay world";
+
+pub const EXPLAIN: &str = "\
+It prints what docs/REFUSALS.md says.
+
+Example:
+  relay explain Border";

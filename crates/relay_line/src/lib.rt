@@ -6,12 +6,14 @@
 #![tactic(auto)]
 
 mod command;
+mod explain;
+mod explanations;
 mod fault;
 mod help;
 mod options;
 mod parse;
 
-pub use command::{Command, Labels};
+pub use command::{Command, Labels, Line};
 pub use fault::LineFault;
 pub use options::scheme_of;
 pub use parse::command_line;

@@ -124,11 +124,20 @@ fn draw<'a>(alloc: Global) -> Result<Command<'a>, AllocError> {
         .args(args)
 }
 
-fn read<'a>(alloc: Global) -> Command<'a> {
+// Files of images.
+fn images<'a>(alloc: Global) -> Arg<'a> {
+    Arg::new(alloc, "images")
+        .value_name("IMAGES")
+        .help("files of images, read in turn; `-` is the standard input")
+        .num_args(0..)
+}
+
+fn read<'a>(alloc: Global) -> Result<Command<'a>, AllocError> {
     Command::new(alloc, "read")
         .about("Prints what the symbols in PBM images carry")
-        .override_usage("relay read < IMAGES")
+        .override_usage("relay read [IMAGES ..] < IMAGES")
         .after_help(help::READ)
+        .arg(images(alloc))
 }
 
 fn ledger<'a>(alloc: Global) -> Result<Command<'a>, AllocError> {
@@ -246,10 +255,10 @@ fn page<'a>(alloc: Global) -> Arg<'a> {
 }
 
 fn scan<'a>(alloc: Global) -> Result<Command<'a>, AllocError> {
-    let args = vec![in alloc; desk(alloc), capacity(alloc)]?;
+    let args = vec![in alloc; desk(alloc), capacity(alloc), images(alloc)]?;
     Command::new(alloc, "scan")
         .about("Gathers the pages of scanned labels at a desk")
-        .override_usage("relay scan --file PATH [--capacity N] < IMAGES")
+        .override_usage("relay scan --file PATH [--capacity N] [IMAGES ..] < IMAGES")
         .after_help(help::SCAN)
         .args(args)
 }
@@ -321,6 +330,23 @@ fn world<'a>(alloc: Global) -> Command<'a> {
         .after_help(help::WORLD)
 }
 
+fn explain<'a>(alloc: Global) -> Result<Command<'a>, AllocError> {
+    let name = Arg::new(alloc, "name")
+        .value_name("NAME")
+        .help("the name of a refusal; without one, prints all names");
+    Command::new(alloc, "explain")
+        .about("Prints what a refusal means, and what to do")
+        .override_usage("relay explain [NAME]")
+        .after_help(help::EXPLAIN)
+        .arg(name)
+}
+
+fn version<'a>(alloc: Global) -> Command<'a> {
+    Command::new(alloc, "version")
+        .about("Prints the version, and by which toolchain it was proved")
+        .override_usage("relay version")
+}
+
 // Adds a command, if it could be made.
 fn with<'a>(
     program: Command<'a>,
@@ -333,7 +359,7 @@ fn with<'a>(
 fn with_symbols<'a>(alloc: Global, program: Command<'a>) -> Result<Command<'a>, AllocError> {
     let program = with(program, words(alloc))?;
     let program = with(program, draw(alloc))?;
-    program.subcommand(read(alloc))
+    with(program, read(alloc))
 }
 
 // The commands of printers, added to those of symbols.
@@ -371,5 +397,6 @@ pub fn relay<'a>(alloc: Global) -> Result<Command<'a>, AllocError> {
         .disable_help_subcommand(true);
     let program = with_symbols(alloc, program)?;
     let program = with_printers(alloc, program)?;
-    with_desks(alloc, program)?.subcommand(world(alloc))
+    let program = with_desks(alloc, program)?.subcommand(world(alloc))?;
+    with(program, explain(alloc))?.subcommand(version(alloc))
 }

@@ -1,15 +1,17 @@
 //! From words to a command.
 
-ghost use Rattle.std.specs.Prelude.{◌≡◌, ◌≤◌, codes, option_map, slice_get, IfOk, IfErr, IfSome};
+ghost use Rattle.std.specs.Prelude.{◌≡◌, ◌≤◌, ◌⊎◌, codes, option_map, slice_get, IfOk, IfErr, IfSome};
 ghost use Rattle.relay_line.specs.Line.{HasNumbersInRange, HasStatus, IsNamed, IsOfForm, command_name};
 
-use crate::command::{Command, Labels};
+use crate::command::{Command, Labels, Line};
+use crate::explain::explanation_in;
+use crate::explanations::{EXPLANATIONS, REFUSALS};
 use crate::fault::LineFault;
 use crate::options::{relay, scheme_of};
 use clap::error::ErrorKind;
 use clap::{ArgMatches, Error};
 use dm_encodation::Scheme;
-use std::alloc::Global;
+use std::alloc::{AllocError, Global};
 use std::convert::AsStr;
 
 const LEAST_SIDE: u16 = 10;
@@ -19,6 +21,11 @@ const GREATEST_SIDE: u16 = 132;
 const LEAST_LABELS: u16 = 2;
 
 const MOST_LABELS: u16 = 16;
+
+// The program's version, and the toolchain by which it was proved.
+const VERSION: &str = "relay 0.9\nrattle-kit-13f logic dac8208d650f15bf\n";
+
+const NO_REFUSAL: &str = "error: no refusal has this name; `relay explain` lists them\n";
 
 // The parser's text and status.
 fn fault_of(alloc: Global, error: &Error) -> LineFault
@@ -205,25 +212,61 @@ fn given_command<'a>(name: &str, matches: &ArgMatches<'a>) -> Option<Command<'a>
     }
 }
 
+// The files that a command reads images from.
+fn images_of<'a>(alloc: Global, matches: &ArgMatches<'a>) -> Result<Vec<&'a str>, AllocError> {
+    let mut images = Vec::new(alloc);
+    if let Some((_, options)) = matches.subcommand() {
+        if let Some(names) = options.get_strs("images") {
+            images.extend_from_slice(names)?;
+        }
+    }
+    Ok(images)
+}
+
+// What is shown where the program is asked of itself, and the exit status.
+fn shown_for(name: &str, matches: &ArgMatches<'_>) -> Option<(&'static str, u8)>
+    ensures { IfSome result (λ (_, status). (status ≡ 0) ⊎ (status ≡ 2)) }
+{
+    let (_, options) = matches.subcommand()?;
+    match name {
+        "version" => Some((VERSION, 0)),
+        "explain" => Some(match options.get_str("name") {
+            None => (REFUSALS, 0),
+            Some(refusal) => match explanation_in(&EXPLANATIONS, refusal) {
+                Some(text) => (text, 0),
+                None => (NO_REFUSAL, 2),
+            },
+        }),
+        _ => None,
+    }
+}
+
 /// Reads the program's words, the first of which is its name, as the system hands them over. Without a
 /// command it is `words` with its defaults. No option of a command is taken before the command's name.
-pub fn command_line<'a, S: AsStr>(alloc: Global, words: &'a [S]) -> Result<Command<'a>, LineFault>
-    ensures ranges { IfOk result HasNumbersInRange }
-    ensures named { IfOk result (IsNamed (option_map S.text (slice_get words.now 1))) }
+///
+/// # Errors
+/// A line that is wrong, or that asks for help, for the version or for what a refusal means: the fault has the text.
+pub fn command_line<'a, S: AsStr>(alloc: Global, words: &'a [S]) -> Result<Line<'a>, LineFault>
+    ensures ranges { IfOk result (λ line. HasNumbersInRange line.command) }
+    ensures named { IfOk result (λ line. IsNamed (option_map S.text (slice_get words.now 1)) line.command) }
     ensures status { IfErr result HasStatus }
 {
     let matches = match relay(alloc)?.try_get_matches_from(words) {
         Ok(matches) => matches,
         Err(error) => return Err(fault_of(alloc, &error)),
     };
+    let images = images_of(alloc, &matches)?;
     let Some(name) = words.get(1) else {
-        return Ok(Command::Words {
-            side: LEAST_SIDE,
-            scheme: Scheme::Ascii,
-        });
+        let (side, scheme) = (LEAST_SIDE, Scheme::Ascii);
+        let command = Command::Words { side, scheme };
+        return Ok(Line { command, images });
     };
+    if let Some((text, status)) = shown_for(name.as_str(), &matches) {
+        let text = String::from_str(alloc, text)?;
+        return Err(LineFault::Line { text, status });
+    }
     match given_command(name.as_str(), &matches) {
-        Some(command) => Ok(command),
+        Some(command) => Ok(Line { command, images }),
         None => Err(unknown(alloc)),
     }
 }

@@ -1,5 +1,5 @@
 -- Calls of desks as a world makes them.
-use Rattle.std.specs.Prelude.{◌≡◌, ℕ, true, false, List, Some, Result, Ok, Err, length, slice_get}
+use Rattle.std.specs.Prelude.{◌≡◌, ℕ, true, false, List, Some, Result, Err, length, slice_get}
 use Rattle.std.specs.FinMap as map
 use Rattle.dm_finder_frame.specs.Grids.{GridView}
 use Rattle.dm_store.specs.Sets.{SavedSet}

@@ -45,7 +45,7 @@ abbrev pub job_labels : {A : Type 0} → ℕ → Result JobView PrintFault → L
 job_labels most (Ok job) = left_labels job.id job.count 1 (take most job.labels)
 job_labels most (Err fault) = []
 
--- what is told of the answers, where so many labels or tickets left before
+-- the replies to these answers, where a number of labels or tickets left before
 abbrev pub print_reply : {A : Type 0} → ℕ → Result JobView PrintFault → Reply A
 print_reply before (Ok job) = Printed job.id before job.count
 print_reply before (Err fault) = PrintRefused fault

@@ -1,4 +1,4 @@
-use Rattle.std.proofs.Common.{◌≡◌, ◌++◌, ◌∷◌, [], Ok, Option, Vec, ℕ, List, length, refl, sym, ap, subst, ◌∙◌, arith}
+use Rattle.std.proofs.Common.{◌≡◌, ◌++◌, ◌∷◌, [], Ok, Option, Vec, ℕ, length, refl, sym, subst, ◌∙◌, arith}
 use Rattle.dm_assembly_desk.specs.Asking.{Exports}
 use Rattle.dm_assembly_desk.specs.Pages.{Pages}
 use Rattle.dm_event_history.specs.Calls.{Looks, MayLackFirst}

@@ -1,5 +1,4 @@
-use Rattle.std.proofs.Common.{[], Ok, length, refl, sym, subst, ◌∙◌}
-use Rattle.std.specs.Prelude.{IfOk}
+use Rattle.std.proofs.Common.{[], length, refl, sym, ◌∙◌}
 use Rattle.dm_event_history.specs.Calls.{Calls, MayLackFirst}
 use Rattle.dm_event_history.specs.PrinterCalls.{PrintComes, print_faults}
 use Rattle.dm_event_world.proofs.Endings.{not_first}

@@ -1,4 +1,4 @@
-use Rattle.std.proofs.Common.{◌≡◌, ◌<◌, ◌≤◌, length, arith, rules}
+use Rattle.std.proofs.Common.{◌≡◌, ◌≤◌, length, arith, rules}
 use Rattle.std.proofs.lemmas.Option.{slice_get-get_or}
 use Rattle.dm_event_world.proofs.FewRanges.{few_ranges}
 use Rattle.dm_event_world.proofs.FreshPrinters.{one_more, created_fresh}

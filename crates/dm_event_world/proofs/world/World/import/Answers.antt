@@ -1,4 +1,4 @@
-use Rattle.std.proofs.Common.{◌≡◌, ◌∙◌, arith}
+use Rattle.std.proofs.Common.{◌∙◌, arith}
 use Rattle.dm_event_world.proofs.Changing.{world_of, names_none, names_none_still, no_desk, past_map, read_at, read_by}
 use Rattle.dm_event_world.proofs.EachEvent.{imported}
 use Rattle.dm_event_world.proofs.world.World.import.Goals as goal

@@ -1,5 +1,5 @@
 use Rattle.std.proofs.Common.{arith}
-use Rattle.dm_event_world.proofs.Changing.{world_of, names_none, names_none_still, no_desk, past_map, read_at, read_by}
+use Rattle.dm_event_world.proofs.Changing.{world_of, names_none, names_none_still, no_desk, read_at, read_by}
 use Rattle.dm_event_world.proofs.EachEvent.{scanned, flips_outside, label_past}
 use Rattle.dm_event_world.proofs.world.World.scan.Goals as goal
 

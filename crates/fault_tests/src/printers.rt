@@ -1,0 +1,6 @@
+// Printers over stores that stop, allocators that refuse, and spoiled ledgers and tickets.
+
+mod calls;
+mod spoiled;
+mod table;
+mod tickets;

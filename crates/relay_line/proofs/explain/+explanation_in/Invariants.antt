@@ -1,0 +1,7 @@
+use Rattle.std.proofs.Common.{length, ◌≡◌, option_map, ℕ, ◌+◌, ◌-◌, ◌*◌, ◌<◌, ◌≤◌}
+use Rattle.relay_line.specs.Explaining.{explained}
+use Rattle.relay_line.proofs.explain.+explanation_in.Given as goal
+
+-- proposed from what the function passes where it calls itself
+abbrev pub decreases-explanation_in : goal.decreases-explanation_in
+decreases-explanation_in l = length l.table.now

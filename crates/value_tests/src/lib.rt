@@ -1,0 +1,27 @@
+//! Tests with values from outside. Of symbols and labels, layer by layer: the field, sizes and check words,
+//! corrections, encodations, the cells of the mapping matrix and finder patterns, whole symbols, and labels. Of printers
+//! and desks over stores in memory: each public call, over ample memory. And the texts of faults.
+#![tactic(auto)]
+
+#[cfg(test)]
+mod bad_files;
+#[cfg(test)]
+mod blocks;
+#[cfg(test)]
+mod desks;
+#[cfg(test)]
+mod encodations;
+#[cfg(test)]
+mod faults;
+#[cfg(test)]
+mod grids;
+#[cfg(test)]
+mod labels;
+#[cfg(test)]
+mod ledgers;
+#[cfg(test)]
+mod printers;
+#[cfg(test)]
+mod symbols;
+#[cfg(test)]
+mod worked;
