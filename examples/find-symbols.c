@@ -15,8 +15,8 @@
 #include <stdio.h>
 #include <stdlib.h>
 
-enum { MOST = 1024, SECONDS = 60, SCALES = 2, LEAST = 12 };
-struct place { double x, y, reach; int sampled; };
+enum { MOST = 1024, SECONDS = 30, LEAST = 12 };
+struct place { double x, y, reach, module; int sampled; };
 static struct place places[MOST];
 static int count;
 
@@ -123,7 +123,8 @@ static void take(DmtxDecode *decode, DmtxRegion *region, double scale) {
     DmtxVector2 at = {0.5, 0.5}, end = {1, 0.5};
     dmtxMatrix3VMultiplyBy(&at, region->fit2raw);
     dmtxMatrix3VMultiplyBy(&end, region->fit2raw);
-    struct place new = {at.X / scale, at.Y / scale, hypot(end.X - at.X, end.Y - at.Y) / scale, 1};
+    double reach = hypot(end.X - at.X, end.Y - at.Y) / scale;
+    struct place new = {at.X / scale, at.Y / scale, reach, 2 * reach / side, 1};
     if (known(new)) {
         decodes(decode, region);
         return;
@@ -154,9 +155,9 @@ static void take(DmtxDecode *decode, DmtxRegion *region, double scale) {
     }
 }
 
-/* Samples the symbols of a picture that is enlarged, with brightnesses between its pixels. */
-static void look(struct pam *in, tuple **rows, int scale) {
-    int width = in->width * scale, height = in->height * scale;
+/* Samples the symbols of a picture that is reduced or enlarged, with brightnesses between its pixels. */
+static void look(struct pam *in, tuple **rows, double scale) {
+    int width = (int)(in->width * scale), height = (int)(in->height * scale);
     unsigned char *pixels = malloc((size_t)width * height);
     for (int y = 0; y < height; y++) {
         for (int x = 0; x < width; x++) {
@@ -172,8 +173,6 @@ static void look(struct pam *in, tuple **rows, int scale) {
     }
     DmtxImage *image = dmtxImageCreate(pixels, width, height, DmtxPack8bppK);
     DmtxDecode *decode = dmtxDecodeCreate(image, 1);
-    if (getenv("ET")) dmtxDecodeSetProp(decode, DmtxPropEdgeThresh, atoi(getenv("ET")));
-    if (getenv("SG")) dmtxDecodeSetProp(decode, DmtxPropScanGap, atoi(getenv("SG")));
     DmtxTime limit = dmtxTimeAdd(dmtxTimeNow(), SECONDS * 1000);
     for (DmtxRegion *region; (region = dmtxRegionFindNext(decode, &limit)) != NULL;) {
         take(decode, region, scale);
@@ -196,13 +195,19 @@ int main(int words, char **word) {
         struct pam in;
         tuple **rows = pnm_readpam(pictures, &in, PAM_STRUCT_SIZE(tuple_type));
         count = 0;
-        for (int scale = 1; scale <= (getenv("SC") ? atoi(getenv("SC")) : SCALES); scale++) {
-            look(&in, rows, scale);
+        look(&in, rows, 0.5);
+        look(&in, rows, 1);
+        int small = count == 0;
+        for (int i = 0; i < count; i++) {
+            small |= places[i].module < 5 || !places[i].sampled;
+        }
+        if (small) {
+            look(&in, rows, 2);
         }
         for (int i = 0; i < count; i++) {
             if (places[i].sampled) {
                 found++;
-            } else if (!known((struct place){places[i].x, places[i].y, 0, 1})) {
+            } else if (!known((struct place){places[i].x, places[i].y, 0, 0, 1})) {
                 fprintf(stderr, "find-symbols: not sampled: at %.0f, %.0f\n", places[i].x, in.height - places[i].y);
                 lost++;
             }

@@ -149,9 +149,16 @@ fn run_on<R: AllocGlobal + Eprint + Files<File = File> + Clone, I: Read + Drop, 
     };
     let is_more = answers_each_image(command)
         && status == 0
-        && reader.buffer().iter().any(|byte| !byte.is_ascii_whitespace());
+        && reader
+            .buffer()
+            .iter()
+            .any(|byte| !byte.is_ascii_whitespace());
     if is_more {
-        note(rt, source.unwrap_or("-"), "what follows the plain image was not looked at");
+        note(
+            rt,
+            source.unwrap_or("-"),
+            "what follows the plain image was not looked at",
+        );
     }
     Ok(status)
 }

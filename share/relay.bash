@@ -1,0 +1,30 @@
+# Completions of relay for bash: commands, then the options of the command, and names of files.
+_relay() {
+    local words word=${COMP_WORDS[COMP_CWORD]}
+    case ${COMP_WORDS[1]} in
+    words) words='--help --scheme --side' ;;
+    draw) words='--help --plain --scheme --side' ;;
+    read) words='--help' ;;
+    ledger) words='--file --first --help --last --number' ;;
+    plan) words='--help --scheme' ;;
+    print) words='--file --help --labels --number --scheme --side' ;;
+    give) words='--file --first --help --last --number --to' ;;
+    ticket) words='--help --ticket' ;;
+    take) words='--file --help --number --ticket' ;;
+    left) words='--file --help' ;;
+    scan) words='--capacity --file --help' ;;
+    deliver) words='--file --help --id' ;;
+    forget) words='--file --help --id' ;;
+    export) words='--file --help --id' ;;
+    import) words='--capacity --file --help' ;;
+    held) words='--file --help --id' ;;
+    copy) words='--file --help --id --page --scheme --side' ;;
+    world) words='--help' ;;
+    explain) words='--help' ;;
+    version) words='--help' ;;
+    *) words='words draw read ledger plan print give ticket take left scan deliver forget export import held copy world explain version --help' ;;
+    esac
+    [ "$COMP_CWORD" = 1 ] && words='words draw read ledger plan print give ticket take left scan deliver forget export import held copy world explain version --help'
+    mapfile -t COMPREPLY < <(compgen -W "$words" -- "$word")
+}
+complete -o default -F _relay relay
