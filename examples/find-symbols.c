@@ -6,6 +6,7 @@
  * Pictures are PBM, PGM or PPM, one after another: grey, turned, and a little smoothed, with dark symbols. Each symbol
  * wants two modules of white around it, better four, and four pixels per module. A symbol that is found but can't be
  * sampled is not guessed at: a line on standard error names its place, and the status is 1, as where nothing is found.
+ * Large symbols in noise take long: each picture is looked at three times at most, for at most SECONDS each.
  *
  *     cc -O2 -o find-symbols examples/find-symbols.c -ldmtx -lnetpbm -lm      (Debian: libdmtx-dev, libnetpbm-dev)
  */
@@ -18,7 +19,7 @@
 enum { MOST = 1024, SECONDS = 30, LEAST = 12 };
 struct place { double x, y, reach, module; int sampled; };
 static struct place places[MOST];
-static int count;
+static int count;   /* of the places of this picture */
 
 /* Whether a module of a symbol with data regions of side h - 2 is 1 dark, 0 light, or -1 data; rows count from the top. */
 static int frame(int row, int column, int h) {
@@ -54,8 +55,8 @@ static double contrast(DmtxDecode *decode, DmtxRegion *region, int side, int h, 
     return sum[0] / n[0] - sum[1] / n[1];
 }
 
-/* Moves the corners, by less and less, to where the frame has the most contrast, which is answered. */
-static double fit(DmtxDecode *decode, DmtxRegion *region, int side, int h, double *middle) {
+/* Moves the corners, by less and less, to where the frame has the most contrast. */
+static void fit(DmtxDecode *decode, DmtxRegion *region, int side, int h, double *middle) {
     DmtxVector2 corner[4] = {{0, 0}, {1, 0}, {1, 1}, {0, 1}};
     for (int i = 0; i < 4; i++) {
         dmtxMatrix3VMultiplyBy(&corner[i], region->fit2raw);
@@ -78,7 +79,7 @@ static double fit(DmtxDecode *decode, DmtxRegion *region, int side, int h, doubl
         }
     }
     dmtxRegionUpdateCorners(decode, region, corner[0], corner[1], corner[2], corner[3]);
-    return contrast(decode, region, side, h, middle);
+    contrast(decode, region, side, h, middle);
 }
 
 /* Whether a place is one of those found before, of which a sampled one is known only by a sampled one. */
@@ -99,7 +100,8 @@ static int decodes(DmtxDecode *decode, DmtxRegion *region) {
 }
 
 /* Samples a region's modules, inside a quiet zone; answers how many of the frame's modules are wrong, in sixteenths. */
-static int modules_of(DmtxDecode *decode, DmtxRegion *region, int side, int h, double middle, unsigned char dark[160][160]) {
+static int modules_of(DmtxDecode *decode, DmtxRegion *region, int side, int h, double middle, unsigned char dark[160][160])
+{
     int wrong = 0, all = 0;
     for (int row = 0; row < side; row++) {
         for (int column = 0; column < side; column++) {
@@ -131,7 +133,8 @@ static void take(DmtxDecode *decode, DmtxRegion *region, double scale) {
     }
     double middle;
     unsigned char dark[160][160] = {{0}};
-    if (count == MOST || contrast(decode, region, side, h, &middle) < LEAST || modules_of(decode, region, side, h, middle, dark) > 3) {
+    if (count == MOST || contrast(decode, region, side, h, &middle) < LEAST ||
+        modules_of(decode, region, side, h, middle, dark) > 3) {
         return;
     }
     fit(decode, region, side, h, &middle);
@@ -195,7 +198,7 @@ int main(int words, char **word) {
         struct pam in;
         tuple **rows = pnm_readpam(pictures, &in, PAM_STRUCT_SIZE(tuple_type));
         count = 0;
-        look(&in, rows, 0.5);
+        look(&in, rows, 0.5);   /* a symbol that is found is not looked for again: first where this is quick */
         look(&in, rows, 1);
         int small = count == 0;
         for (int i = 0; i < count; i++) {

@@ -1,26 +1,27 @@
 //! A machine with a disk in memory, which all stores of a command share, and which stops after a number of calls.
 
-use dm_store::{Disk, DiskFault, Folders, FuseDisk, Kept, LoadFault, MemDisk};
+use dm_store::{Disk, DiskFault, Folders, Kept, LoadFault, MemDisk};
 use std::alloc::Global;
 use std::cell::RefCell;
+use test_helpers::StoppingDisk;
 
 /// The disk of a machine that stops.
 #[derive(Drop)]
 pub struct Machine {
-    disk: RefCell<FuseDisk<MemDisk>>,
+    disk: RefCell<StoppingDisk>,
 }
 
 impl Machine {
     /// A machine that stops at the call of its disk after the first `passes`.
-    pub fn new(disk: MemDisk, passes: u32, kept: Kept) -> Machine {
+    pub fn new(alloc: Global, disk: MemDisk, passes: u32, kept: Kept) -> Machine {
         Machine {
-            disk: RefCell::new(FuseDisk::new(disk, passes, kept)),
+            disk: RefCell::new(StoppingDisk::new(alloc, disk, passes, kept)),
         }
     }
 
     /// A machine that does not stop.
-    pub fn whole(disk: MemDisk) -> Machine {
-        Machine::new(disk, u32::MAX, Kept::Old)
+    pub fn whole(alloc: Global, disk: MemDisk) -> Machine {
+        Machine::new(alloc, disk, u32::MAX, Kept::Old)
     }
 
     /// Its disk, lent to a store.
@@ -37,7 +38,7 @@ impl Machine {
 /// The disk of a machine, which several stores have. It claims nothing, since no contract sees into a cell.
 #[derive(Drop)]
 pub struct MachineDisk<'a> {
-    disk: &'a RefCell<FuseDisk<MemDisk>>,
+    disk: &'a RefCell<StoppingDisk>,
 }
 
 impl Disk for MachineDisk<'_> {
@@ -46,8 +47,6 @@ impl Disk for MachineDisk<'_> {
     type Memory = Global;
 
     ghost state = { λ _. unclaimed };
-
-    ghost leaves_seen = { λ _ _ _. tt };
 
     fn read(&mut self, name: &str, limit: usize) -> Result<Option<Vec<u8>>, LoadFault> {
         match self.disk.try_borrow_mut() {

@@ -32,7 +32,7 @@ struct Case {
 
 // A disk on which the commands are done, or nothing where one is refused.
 fn disk_after(alloc: Global, calls: &[MachineCall]) -> Result<Option<MemDisk>, AllocError> {
-    let machine = Machine::whole(MemDisk::new(alloc));
+    let machine = Machine::whole(alloc, MemDisk::new(alloc));
     for one in calls {
         if make_call(alloc, &machine, *one)?.status != 0 {
             return Ok(None);
@@ -65,7 +65,7 @@ fn ends_well(ended: &MachineEnd, case: &Case) -> bool {
 
 // After how many of the saves these files stand, as each look says: bit i for i of them.
 fn saves_in(alloc: Global, files: &Files, looks: &[Look]) -> Result<u8, AllocError> {
-    let machine = Machine::whole(files.on_a_disk(alloc)?);
+    let machine = Machine::whole(alloc, files.on_a_disk(alloc)?);
     let mut saves = u8::MAX;
     for look in looks {
         let ended = make_call(alloc, &machine, look.call)?;
@@ -92,7 +92,7 @@ fn stop(
         return Ok(None);
     };
     let old = Files::found_on(alloc, &mut disk)?;
-    let machine = Machine::new(disk, passes, kept);
+    let machine = Machine::new(alloc, disk, passes, kept);
     let ended = make_call(alloc, &machine, case.call)?;
     if !ends_well(&ended, case) {
         return Ok(None);

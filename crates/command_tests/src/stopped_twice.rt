@@ -17,21 +17,21 @@ const MOVE: MachineCall = MachineCall::Import(OTHER);
 
 // A disk that has the old file.
 fn old_disk(alloc: Global) -> Result<MemDisk, AllocError> {
-    let machine = Machine::whole(MemDisk::new(alloc));
+    let machine = Machine::whole(alloc, MemDisk::new(alloc));
     let _ = make_call(alloc, &machine, MachineCall::Joint)?;
     Ok(machine.into_disk())
 }
 
 // The disk after the command, which is stopped after this many calls.
 fn disk_after(alloc: Global, disk: MemDisk, passes: u32) -> Result<MemDisk, AllocError> {
-    let machine = Machine::new(disk, passes, Kept::Old);
+    let machine = Machine::new(alloc, disk, passes, Kept::Old);
     let _ = make_call(alloc, &machine, MOVE)?;
     Ok(machine.into_disk())
 }
 
 // Whether both documents of the old file are found among these files.
 fn has_both(alloc: Global, files: &Files) -> Result<bool, AllocError> {
-    let machine = Machine::whole(files.on_a_disk(alloc)?);
+    let machine = Machine::whole(alloc, files.on_a_disk(alloc)?);
     let first = make_call(alloc, &machine, MachineCall::Import(BOTH))?;
     let other = make_call(alloc, &machine, MOVE)?;
     Ok(first.lines.as_slice() == ADDED_FIRST && other.lines.as_slice() == OTHER_IS_HELD)

@@ -181,8 +181,7 @@ no_plan SavesOpen = refl
 pub not_begun : (s : SavedSet) (content : Contents) → Saves s content Refused s
 not_begun s content = record {
   same_honesty = refl;
-  same_durability = refl;
-  same_memory_plan = refl;
+  same_memory = refl;
   same_load_plan = refl;
   follows = no_plan s.save_plan;
   done = λ e. absurd cc;

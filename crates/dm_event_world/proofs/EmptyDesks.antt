@@ -6,7 +6,7 @@ use Rattle.std.specs.FinMap.{get-empty, len-empty}
 use Rattle.std.specs.Ordering.{nat_cmp}
 use Rattle.std.proofs.lemmas.List.{length-append}
 use Rattle.std.proofs.lemmas.Option.{slice_get-get_or}
-use Rattle.dm_store.specs.Saved.{MemoryOpen, LoadsFine, SavesFine}
+use Rattle.dm_store.specs.Saved.{LoadsFine, SavesFine}
 use Rattle.dm_store.specs.Sets.{SavedSet, Contents}
 use Rattle.dm_assembly_desk.specs.Pages.{Pages}
 use Rattle.dm_assembly_desk.specs.Files.{file}
@@ -29,8 +29,7 @@ abbrev pub empty_set : SavedSet
 empty_set = record {
   content = map.empty;
   is_honest = true;
-  is_durable = true;
-  memory_plan = MemoryOpen;
+  may_lack_memory = true;
   load_plan = LoadsFine;
   save_plan = SavesFine;
 }

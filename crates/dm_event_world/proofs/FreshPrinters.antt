@@ -1,7 +1,7 @@
 -- Printers that are created one after another.
 use Rattle.std.specs.Prelude.{IsTrue, MatchBool, Option, Result, Ok, Err, Bool}
 use Rattle.std.proofs.Common.{◌≡◌, ◌⊎◌, inl, inr, true, ◌++◌, ℕ, zero, suc, Some, None, List, [], ◌∷◌, length, slice_get, refl, ap, sym, ◌∙◌, subst}
-use Rattle.dm_store.specs.Saved.{Saved, SavePlan, MemoryOpen, LoadsFine, SavesFine, Done, Follows, Replaces}
+use Rattle.dm_store.specs.Saved.{Saved, SavePlan, LoadsFine, SavesFine, Done, Follows, Replaces}
 use Rattle.dm_print_ledger.specs.declared.range.Range.{Range}
 use Rattle.dm_print_ledger.specs.Views.{PrinterView}
 use Rattle.dm_print_ledger.specs.Creating.{Creates, SavesFirst, opening}
@@ -57,8 +57,7 @@ abbrev pub empty_store : Saved
 empty_store = record {
   content = None;
   is_honest = true;
-  is_durable = true;
-  memory_plan = MemoryOpen;
+  may_lack_memory = true;
   load_plan = LoadsFine;
   save_plan = SavesFine;
 }

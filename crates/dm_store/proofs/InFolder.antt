@@ -12,8 +12,7 @@ use Rattle.dm_store.specs.declared.set.RemoveFault.TheVariants as removing
 use Rattle.dm_store.specs.Sets.{ListsKeys, LoadsKey, Saves, SavesKey, ReplacesKey, RemovesKey, outcome_of_remove}
 use Rattle.dm_store.specs.Disk.{DiskState, Content, Keeps, KeepsAll, Reads, SavesFile, RemovesFile, draft_of}
 use Rattle.dm_store.specs.Folder.{contents_in, key_path, found_in, set_in}
-use Rattle.dm_store.specs.HeldIsLeft.{held_at, found_is}
-use Rattle.dm_store.proofs.Held.{held_same, held_kept, held_replaced, held_removed}
+use Rattle.dm_store.proofs.Held.{held_at, found_is, held_same, held_kept, held_replaced, held_removed}
 use Rattle.dm_store.proofs.Names.{names_apart, draft_apart}
 
 told : (is_honest : Bool) (content other : Content) → (IsTrue is_honest → content ≡ other) →
@@ -21,7 +20,7 @@ told : (is_honest : Bool) (content other : Content) → (IsTrue is_honest → co
 told true content other same = same refl
 told false content other same = refl
 
-module _ (old new : DiskState) (folder : List ℕ) (honesty : new.is_honest ≡ old.is_honest) (is_synced : Bool)
+module _ (old new : DiskState) (folder : List ℕ) (honesty : new.is_honest ≡ old.is_honest)
   where
     found_same : (key : ℕ)
         → (IsTrue old.is_honest → new.seen (key_path folder key) ≡ old.seen (key_path folder key)) →
@@ -32,24 +31,23 @@ module _ (old new : DiskState) (folder : List ℕ) (honesty : new.is_honest ≡ 
     new_honest : IsTrue old.is_honest → IsTrue new.is_honest
     new_honest honest = honesty ∙ honest
 
-    alike : contents_in new folder ≡ contents_in old folder → set_in is_synced new folder ≡ set_in is_synced old folder
+    alike : contents_in new folder ≡ contents_in old folder → set_in new folder ≡ set_in old folder
     alike same = λ i. record {
       content = same i;
       is_honest = honesty i;
-      is_durable = is_synced;
-      memory_plan = (set_in is_synced old folder).memory_plan;
-      load_plan = (set_in is_synced old folder).load_plan;
-      save_plan = (set_in is_synced old folder).save_plan;
+      may_lack_memory = true;
+      load_plan = (set_in old folder).load_plan;
+      save_plan = (set_in old folder).save_plan;
     }
 
     -- a disk that keeps each name keeps the set
-    pub set_kept : KeepsAll old new → set_in is_synced new folder ≡ set_in is_synced old folder
+    pub set_kept : KeepsAll old new → set_in new folder ≡ set_in old folder
     set_kept kept = alike (held_same (found_in old folder) (found_in new folder) (2 ^ 16)
         (λ key lt. found_same key (λ _. (kept (key_path folder key)).seen)))
 
     pub set_loads : {V : Type 0} (bytes : V → List ℕ) (key limit : ℕ) (answer : Result (Option V) LoadFault) →
         key < 2 ^ 16 → KeepsAll old new → (IsTrue old.is_honest → Reads bytes old (key_path folder key) limit answer) →
-        LoadsKey bytes (set_in is_synced old folder) key limit answer (set_in is_synced new folder)
+        LoadsKey bytes (set_in old folder) key limit answer (set_in new folder)
     set_loads bytes key limit answer lt kept reads = record {
       same = set_kept kept;
       saved = λ honest.
@@ -92,11 +90,10 @@ module _ (old new : DiskState) (folder : List ℕ) (honesty : new.is_honest ≡ 
         → (IsErrOf answer replacing.Memory → KeepsAll old new)
         → (IsTrue old.is_honest
         → SavesFile old (key_path folder key) (draft_of (key_path folder key)) bytes answer new)
-        → SavesKey (set_in is_synced old folder) key bytes answer (set_in is_synced new folder)
+        → SavesKey (set_in old folder) key bytes answer (set_in new folder)
     saves_replaced key bytes (Ok done) lt refused saves = record {
       same_honesty = honesty;
-      same_durability = refl;
-      same_memory_plan = refl;
+      same_memory = refl;
       same_load_plan = refl;
       follows = refl;
       done = λ _ honest. replaced key bytes lt honest ((saves honest).done refl)
@@ -106,8 +103,7 @@ module _ (old new : DiskState) (folder : List ℕ) (honesty : new.is_honest ≡ 
     }
     saves_replaced key bytes (Err replacing.Device) lt refused saves = record {
       same_honesty = honesty;
-      same_durability = refl;
-      same_memory_plan = refl;
+      same_memory = refl;
       same_load_plan = refl;
       follows = refl;
       done = λ is. cc;
@@ -118,8 +114,7 @@ module _ (old new : DiskState) (folder : List ℕ) (honesty : new.is_honest ≡ 
     }
     saves_replaced key bytes (Err replacing.Memory) lt refused saves = record {
       same_honesty = honesty;
-      same_durability = refl;
-      same_memory_plan = refl;
+      same_memory = refl;
       same_load_plan = refl;
       follows = refl;
       done = λ is. cc;
@@ -131,19 +126,18 @@ module _ (old new : DiskState) (folder : List ℕ) (honesty : new.is_honest ≡ 
         → (IsErrOf answer replacing.Memory → KeepsAll old new)
         → (IsTrue old.is_honest
         → SavesFile old (key_path folder key) (draft_of (key_path folder key)) bytes answer new)
-        → ReplacesKey (set_in is_synced old folder) key bytes answer (set_in is_synced new folder)
+        → ReplacesKey (set_in old folder) key bytes answer (set_in new folder)
     set_replaces key bytes answer lt refused saves =
         record { saves = saves_replaced key bytes answer lt refused saves; memory = λ _. refl }
 
     saves_removed : (key : ℕ) (answer : Result (Unit {0}) RemoveFault) → key < 2 ^ 16
         → (IsErr answer → answer ≡ Err removing.Device)
         → (IsTrue old.is_honest → RemovesFile old (key_path folder key) answer new) →
-        Saves (set_in is_synced old folder) (remove (contents_in old folder) key) (outcome_of_remove answer)
-        (set_in is_synced new folder)
+        Saves (set_in old folder) (remove (contents_in old folder) key) (outcome_of_remove answer)
+        (set_in new folder)
     saves_removed key (Ok done) lt device removes = record {
       same_honesty = honesty;
-      same_durability = refl;
-      same_memory_plan = refl;
+      same_memory = refl;
       same_load_plan = refl;
       follows = refl;
       done = λ _ honest. removed key lt honest ((removes honest).removes.done refl)
@@ -153,8 +147,7 @@ module _ (old new : DiskState) (folder : List ℕ) (honesty : new.is_honest ≡ 
     }
     saves_removed key (Err removing.Device) lt device removes = record {
       same_honesty = honesty;
-      same_durability = refl;
-      same_memory_plan = refl;
+      same_memory = refl;
       same_load_plan = refl;
       follows = refl;
       done = λ is. cc;
@@ -184,7 +177,7 @@ module _ (old new : DiskState) (folder : List ℕ) (honesty : new.is_honest ≡ 
     pub set_removes : (key : ℕ) (answer : Result (Unit {0}) RemoveFault) → key < 2 ^ 16
         → (IsErr answer → answer ≡ Err removing.Device)
         → (IsTrue old.is_honest → RemovesFile old (key_path folder key) answer new)
-        → RemovesKey (set_in is_synced old folder) key answer (set_in is_synced new folder)
+        → RemovesKey (set_in old folder) key answer (set_in new folder)
     set_removes key answer lt device removes = record {
       there = λ _. saves_removed key answer lt device removes;
       absent = λ none. let before = sym (held_at (found_in old folder) (2 ^ 16) key lt) ∙ none in
@@ -197,7 +190,7 @@ module _ (old new : DiskState) (folder : List ℕ) (honesty : new.is_honest ≡ 
     pub set_lists : {V : Type 0} (keys : V → List ℕ) (limit : ℕ) (answer : Result V LoadFault) → KeepsAll old new
         → (IsTrue old.is_honest
         → IfOk answer (λ listed. keys listed ≡ take (limit + 1) (map.keys (contents_in old folder))))
-        → ListsKeys keys (set_in is_synced old folder) limit answer (set_in is_synced new folder)
+        → ListsKeys keys (set_in old folder) limit answer (set_in new folder)
     set_lists keys limit answer kept lists =
         record { same = set_kept kept; saved = lists; device = λ _. refl; memory = λ _. refl }
 

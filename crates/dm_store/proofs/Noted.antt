@@ -1,18 +1,16 @@
--- A sync of an entry, or of a folder, that is noted meets the contract of a disk.
-use Rattle.std.proofs.Common.{◌≡◌, ℕ, List, ◌∷◌, ◌++◌, length, Some, None, Result, Ok, Bool, true, false, refl, sym, ap, subst, String, Err}
-use Rattle.std.proofs.lemmas.List.{take_at}
+-- A sync of an entry that is noted meets the contract of a disk.
+use Rattle.std.proofs.Common.{◌≡◌, ℕ, List, ◌∷◌, Some, None, Result, Ok, Bool, true, false, refl, sym, ap, subst, String, Err}
 use Rattle.std.proofs.lemmas.Slice.Eq.{bytes_eq-Decides}
-use Rattle.std.specs.Prelude.{codes, OnOk, OnErr, if◌then◌else◌}
+use Rattle.std.specs.Prelude.{OnOk, OnErr, if◌then◌else◌}
 use Rattle.std.specs.Str.{bytes_eq}
 use Rattle.std.specs.String.{string_bytes}
 use Rattle.dm_store.specs.declared.disk.DiskFault.{DiskFault}
 use Rattle.dm_store.proofs.Saving.{not_both}
 use Rattle.dm_store.specs.declared.mem_disk.DiskCall.{DiskCall}
-use Rattle.dm_store.specs.declared.mem_disk.DiskCall.TheVariants.{SyncedEntry, SyncedFolder}
+use Rattle.dm_store.specs.declared.mem_disk.DiskCall.TheVariants.{SyncedEntry}
 use Rattle.dm_store.specs.Disk.{Content, Keeps, SyncsEntry}
-use Rattle.dm_store.specs.DiskCalls.{seen_after, synced_after, begins_with, content_eq, leaves_after, disk_after}
-use Rattle.dm_store.specs.Folder.{SettlesFolder, key_name, key_path}
-use Rattle.dm_store.specs.SeenIsLeft.{leaves_seen}
+use Rattle.dm_store.specs.DiskCalls.{seen_after, synced_after, content_eq, leaves_after, disk_after}
+use Rattle.dm_store.proofs.SeenIsLeft.{leaves_seen}
 
 same_content : (a b : Content) → content_eq a b ≡ true → a ≡ b
 same_content None None is = refl
@@ -49,39 +47,15 @@ entry_kept calls n each = record {
       (synced_after calls each) calls each content leaves;
 }
 
-folder_kept : {A : Type 0} (calls : List (DiskCall A)) (start : String A) (each : List ℕ) →
-    Keeps (disk_after calls) each (disk_after (SyncedFolder start ∷ calls))
-folder_kept calls start each = record {
-  seen = refl;
-  synced = λ on. on;
-  left = λ content leaves. left_before (begins_with each (string_bytes start))
-      (synced_after calls each) calls each content leaves;
-}
-
--- what keeps a name is noted, or nothing is
-kept_if_noted : {A : Type 0} (calls later : List (DiskCall A)) (call : DiskCall A) (each : List ℕ)
-    (answer : Result (Unit {0}) DiskFault) → Keeps (disk_after calls) each (disk_after (call ∷ calls))
-    → OnOk answer (later ≡ call ∷ calls) → OnErr answer (later ≡ calls) →
-    Keeps (disk_after calls) each (disk_after later)
-kept_if_noted {A} calls later call each (Ok done) keeps ok err =
-    subst (λ (es : List (DiskCall A)). Keeps (disk_after calls) each (disk_after es)) (sym ok) keeps
-kept_if_noted {A} calls later call each (Err fault) keeps ok err =
-    subst (λ (es : List (DiskCall A)). Keeps (disk_after calls) each (disk_after es)) (sym err)
-    (record { seen = refl; synced = λ on. on; left = λ content leaves. leaves })
-
 pub noted_kept : {A : Type 0} (calls later : List (DiskCall A)) (n : String A) (each : List ℕ)
     (answer : Result (Unit {0}) DiskFault)
     → OnOk answer (later ≡ SyncedEntry n ∷ calls) → OnErr answer (later ≡ calls) →
     Keeps (disk_after calls) each (disk_after later)
-noted_kept calls later n each answer =
-    kept_if_noted calls later (SyncedEntry n) each answer (entry_kept calls n each)
-
-pub noted_folder_kept : {A : Type 0} (calls later : List (DiskCall A)) (start : String A) (each : List ℕ)
-    (answer : Result (Unit {0}) DiskFault)
-    → OnOk answer (later ≡ SyncedFolder start ∷ calls) → OnErr answer (later ≡ calls) →
-    Keeps (disk_after calls) each (disk_after later)
-noted_folder_kept calls later start each answer =
-    kept_if_noted calls later (SyncedFolder start) each answer (folder_kept calls start each)
+noted_kept {A} calls later n each (Ok done) ok err =
+    subst (λ (es : List (DiskCall A)). Keeps (disk_after calls) each (disk_after es)) (sym ok) (entry_kept calls n each)
+noted_kept {A} calls later n each (Err fault) ok err =
+    subst (λ (es : List (DiskCall A)). Keeps (disk_after calls) each (disk_after es)) (sym err)
+    (record { seen = refl; synced = λ on. on; left = λ content leaves. leaves })
 
 pub noted_entry : {A : Type 0} (calls later : List (DiskCall A)) (n : String A) (name : List ℕ)
     (answer : Result (Unit {0}) DiskFault) → string_bytes n ≡ name
@@ -94,19 +68,3 @@ noted_entry {A} calls later n name (Ok done) is ok = record {
 }
 noted_entry {A} calls later n name (Err fault) is ok =
     record { done = λ done. absurd (not_both {T = Unit {0}} {F = DiskFault} (Err fault) refl done) }
-
--- a name in a folder begins as its path and a slash
-begins : (start rest : List ℕ) → begins_with (start ++ rest) start ≡ true
-begins start rest = (bytes_eq-Decides start _).1 (sym (take_at start rest (length start) refl))
-
-pub noted_folder : {A : Type 0} (calls later : List (DiskCall A)) (start : String A) (folder : List ℕ)
-    (answer : Result (Unit {0}) DiskFault) → string_bytes start ≡ folder ++ codes "/"
-    → OnOk answer (later ≡ SyncedFolder start ∷ calls)
-    → SettlesFolder (disk_after calls) folder answer (disk_after later)
-noted_folder {A} calls later start folder (Ok done) is ok = λ _ key below on content leaves.
-    let path = key_path folder key in
-    let here = subst (λ (es : List (DiskCall A)). leaves_after es path content ≡ true) ok leaves in
-    left_after (begins_with path (string_bytes start)) (synced_after calls path) calls path content
-    (subst (λ (s : List ℕ). begins_with path s ≡ true) (sym is) (begins (folder ++ codes "/") (key_name key))) on here
-noted_folder {A} calls later start folder (Err fault) is ok =
-    λ done. absurd (not_both {T = Unit {0}} {F = DiskFault} (Err fault) refl done)

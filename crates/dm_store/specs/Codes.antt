@@ -4,18 +4,10 @@ use Rattle.std.specs.Prelude.{◌≡◌, refl, ℕ, Bool, false, true, Option, L
 use Rattle.std.specs.Ordering.{nat_cmp}
 use Rattle.std.specs.FinMap as map
 use Rattle.std.specs.Coded.{Coded, code_by, coded×, coded_ℕ, coded_bool, coded_list, coded_option}
-use Rattle.dm_store.specs.Saved.{MemoryPlan, MemoryFine, MemoryOpen, LoadPlan, LoadsFine, LoadsOpen, SavePlan, SavesFine, FaultOld, FaultNew, SavesOpen, Saved}
+use Rattle.dm_store.specs.Saved.{LoadPlan, LoadsFine, LoadsOpen, SavePlan, SavesFine, FaultOld, FaultNew, SavesOpen, Saved}
 use Rattle.dm_store.specs.Sets.{Contents, SavedSet}
 
 -- a plan as truth values, and back
-abbrev pub memory_bit : MemoryPlan → Bool
-memory_bit MemoryFine = false
-memory_bit MemoryOpen = true
-
-abbrev pub memory_of : Bool → MemoryPlan
-memory_of false = MemoryFine
-memory_of true = MemoryOpen
-
 abbrev pub load_bit : LoadPlan → Bool
 load_bit LoadsFine = false
 load_bit LoadsOpen = true
@@ -36,10 +28,6 @@ save_of (false, true) = FaultOld
 save_of (true, false) = FaultNew
 save_of (true, true) = SavesOpen
 
-same_memory : (p : MemoryPlan) → memory_of (memory_bit p) ≡ p
-same_memory MemoryFine = refl
-same_memory MemoryOpen = refl
-
 same_load : (p : LoadPlan) → load_of (load_bit p) ≡ p
 same_load LoadsFine = refl
 same_load LoadsOpen = refl
@@ -52,33 +40,22 @@ same_save SavesOpen = refl
 
 -- the parts of a store or a set whose content is of type X
 abbrev pub Parts : Type 0 → Type 0
-Parts X = X × (Bool × (Bool × (Bool × (Bool × (Bool × Bool)))))
+Parts X = X × (Bool × (Bool × (Bool × (Bool × Bool))))
 
 abbrev pub parts_code : {X : Type 0} → Coded X → Coded (Parts X)
 parts_code content =
-    coded× content (coded× coded_bool (coded× coded_bool
-    (coded× coded_bool (coded× coded_bool (coded× coded_bool coded_bool)))))
+    coded× content (coded× coded_bool (coded× coded_bool (coded× coded_bool (coded× coded_bool coded_bool))))
 
 abbrev pub saved_parts : Saved → Parts (Option (List ℕ))
-saved_parts s = (
-  s.content,
-  (
-    s.is_honest,
-    (
-      s.is_durable,
-      (memory_bit s.memory_plan, (load_bit s.load_plan, save_bits s.save_plan)),
-    ),
-  ),
-)
+saved_parts s = (s.content, (s.is_honest, (s.may_lack_memory, (load_bit s.load_plan, save_bits s.save_plan))))
 
 abbrev pub saved_whole : Parts (Option (List ℕ)) → Saved
 saved_whole p = record {
   content = p.0;
   is_honest = p.1.0;
-  is_durable = p.1.1.0;
-  memory_plan = memory_of p.1.1.1.0;
-  load_plan = load_of p.1.1.1.1.0;
-  save_plan = save_of p.1.1.1.1.1;
+  may_lack_memory = p.1.1.0;
+  load_plan = load_of p.1.1.1.0;
+  save_plan = save_of p.1.1.1.1;
 }
 
 pub saved_whole-parts : (s : Saved) → saved_whole (saved_parts s) ≡ s
@@ -86,8 +63,7 @@ saved_whole-parts s = λ i.
     record {
       content = s.content;
       is_honest = s.is_honest;
-      is_durable = s.is_durable;
-      memory_plan = same_memory s.memory_plan i;
+      may_lack_memory = s.may_lack_memory;
       load_plan = same_load s.load_plan i;
       save_plan = same_save s.save_plan i;
     }
@@ -99,25 +75,15 @@ saved_code =
     saved_whole-parts
 
 abbrev pub set_parts : SavedSet → Parts Contents
-set_parts s = (
-  s.content,
-  (
-    s.is_honest,
-    (
-      s.is_durable,
-      (memory_bit s.memory_plan, (load_bit s.load_plan, save_bits s.save_plan)),
-    ),
-  ),
-)
+set_parts s = (s.content, (s.is_honest, (s.may_lack_memory, (load_bit s.load_plan, save_bits s.save_plan))))
 
 abbrev pub set_whole : Parts Contents → SavedSet
 set_whole p = record {
   content = p.0;
   is_honest = p.1.0;
-  is_durable = p.1.1.0;
-  memory_plan = memory_of p.1.1.1.0;
-  load_plan = load_of p.1.1.1.1.0;
-  save_plan = save_of p.1.1.1.1.1;
+  may_lack_memory = p.1.1.0;
+  load_plan = load_of p.1.1.1.0;
+  save_plan = save_of p.1.1.1.1;
 }
 
 pub set_whole-parts : (s : SavedSet) → set_whole (set_parts s) ≡ s
@@ -125,8 +91,7 @@ set_whole-parts s = λ i.
     record {
       content = s.content;
       is_honest = s.is_honest;
-      is_durable = s.is_durable;
-      memory_plan = same_memory s.memory_plan i;
+      may_lack_memory = s.may_lack_memory;
       load_plan = same_load s.load_plan i;
       save_plan = same_save s.save_plan i;
     }

@@ -1,10 +1,10 @@
 -- A disk in memory as the list of its calls that were done, the newest first. A stop may leave there all that the
 -- contract of disks allows after these calls; a reader finds no more and no less than they left.
-use Rattle.std.specs.Prelude.{ℕ, Bool, true, false, ◌||◌, List, [], ◌∷◌, Some, None, is_none, IsTrue, if◌then◌else◌, length, take}
+use Rattle.std.specs.Prelude.{ℕ, Bool, true, false, ◌||◌, List, [], ◌∷◌, Some, None, is_none, IsTrue, if◌then◌else◌}
 use Rattle.std.specs.Str.{bytes_eq}
 use Rattle.std.specs.String.{string_bytes}
 use Rattle.dm_store.specs.declared.mem_disk.DiskCall.{DiskCall}
-use Rattle.dm_store.specs.declared.mem_disk.DiskCall.TheVariants.{Wrote, Synced, Renamed, Removed, SyncedEntry, SyncedFolder}
+use Rattle.dm_store.specs.declared.mem_disk.DiskCall.TheVariants.{Wrote, Synced, Renamed, Removed, SyncedEntry}
 use Rattle.dm_store.specs.Disk.{DiskState, Content}
 
 -- what a reader finds
@@ -19,7 +19,6 @@ seen_after (Renamed from to ∷ before) name =
 seen_after (Removed removed ∷ before) name =
     if bytes_eq (string_bytes removed) name then None else seen_after before name
 seen_after (SyncedEntry synced ∷ before) name = seen_after before name
-seen_after (SyncedFolder start ∷ before) name = seen_after before name
 
 -- whether the bytes of the file are on the disk
 abbrev pub synced_after : {A : Type 0} → List (DiskCall A) → List ℕ → Bool
@@ -33,17 +32,12 @@ synced_after (Renamed from to ∷ before) name =
 synced_after (Removed removed ∷ before) name =
     if bytes_eq (string_bytes removed) name then true else synced_after before name
 synced_after (SyncedEntry synced ∷ before) name = synced_after before name
-synced_after (SyncedFolder start ∷ before) name = synced_after before name
 
 abbrev pub content_eq : Content → Content → Bool
 content_eq None None = true
 content_eq None (Some bytes) = false
 content_eq (Some bytes) None = false
 content_eq (Some bytes) (Some others) = bytes_eq bytes others
-
--- whether a name begins so
-abbrev pub begins_with : List ℕ → List ℕ → Bool
-begins_with name start = bytes_eq start (take (length start) name)
 
 -- Whether a stop may leave this content: anything under a name that was written to, and under one that got a file whose
 -- bytes are not on the disk.
@@ -61,11 +55,6 @@ leaves_after (Removed removed ∷ before) name content =
     leaves_after before name content || (if bytes_eq (string_bytes removed) name then is_none content else false)
 leaves_after (SyncedEntry synced ∷ before) name content =
     if bytes_eq (string_bytes synced) name
-    then (if synced_after before name then content_eq content (seen_after before name)
-    else leaves_after before name content)
-    else leaves_after before name content
-leaves_after (SyncedFolder start ∷ before) name content =
-    if begins_with name (string_bytes start)
     then (if synced_after before name then content_eq content (seen_after before name)
     else leaves_after before name content)
     else leaves_after before name content

@@ -1,8 +1,8 @@
 -- The files of a set in a folder of a disk: the name of each key's file, and what the set holds.
-use Rattle.std.specs.Prelude.{◌≡◌, ◌<◌, ◌/◌, ◌%◌, ◌^◌, ◌++◌, ℕ, zero, suc, Bool, false, List, [], ◌∷◌, codes, None, Some, if◌then◌else◌, Result, IsOk}
+use Rattle.std.specs.Prelude.{◌≡◌, ◌<◌, ◌/◌, ◌%◌, ◌^◌, ◌++◌, ℕ, zero, suc, false, true, List, [], ◌∷◌, codes, None, Some, if◌then◌else◌, Result, IsOk}
 use Rattle.std.specs.Fmt.{digit_glyph}
 use Rattle.std.specs.FinMap as map
-use Rattle.dm_store.specs.Saved.{MemoryOpen, LoadsOpen, SavesOpen}
+use Rattle.dm_store.specs.Saved.{LoadsOpen, SavesOpen}
 use Rattle.dm_store.specs.Sets.{Contents, SavedSet}
 use Rattle.dm_store.specs.Disk.{DiskState, Content}
 use Rattle.dm_store.specs.declared.disk.DiskFault.{DiskFault}
@@ -45,14 +45,12 @@ found_in disk folder key = if disk.is_honest then disk.seen (key_path folder key
 abbrev pub contents_in : DiskState → List ℕ → Contents
 contents_in disk folder = held_below (found_in disk folder) (2 ^ 16)
 
--- A set holds what is found in its folder. It is honest if its disk is, durable if the bytes of its keys' files are on
--- the disk, and each of its calls may fail.
-abbrev pub set_in : Bool → DiskState → List ℕ → SavedSet
-set_in is_synced disk folder = record {
+-- A set holds what is found in its folder. It is honest if its disk is, and each of its calls may fail.
+abbrev pub set_in : DiskState → List ℕ → SavedSet
+set_in disk folder = record {
   content = contents_in disk folder;
   is_honest = disk.is_honest;
-  is_durable = is_synced;
-  memory_plan = MemoryOpen;
+  may_lack_memory = true;
   load_plan = LoadsOpen;
   save_plan = SavesOpen;
 }

@@ -2,15 +2,10 @@ pub mod Saved
 pub mod Sets
 pub mod Settings
 pub mod Codes
-pub mod Turns
 pub mod Fused
 pub mod Lending
 pub mod Unclaimed
 pub mod Disk
 pub mod DiskCalls
 pub mod Filed
-pub mod SeenIsLeft
 pub mod Folder
-pub mod Left
-pub mod HeldIsLeft
-pub mod inner

@@ -5,12 +5,6 @@ use Rattle.dm_store.specs.declared.store.LoadFault.TheVariants as loading
 use Rattle.dm_store.specs.declared.store.ReplaceFault.{ReplaceFault}
 use Rattle.dm_store.specs.declared.store.ReplaceFault.TheVariants as replacing
 
--- What calls may do for lack of memory: none of them is refused for it, or each of them may be. The stores here are all
--- of the second kind; the first binds what is written over any store.
-pub data MemoryPlan : Type 0 where
-  MemoryFine : MemoryPlan
-  MemoryOpen : MemoryPlan
-
 -- what loads may do: none of them meets a device fault, or each of them may
 pub data LoadPlan : Type 0 where
   LoadsFine : LoadPlan
@@ -30,13 +24,12 @@ pub data Outcome : Type 0 where
   Faulted : Outcome
   Refused : Outcome
 
--- What a store holds; whether it is honest: it holds what it was given to hold; whether it is durable: the laws of what
--- a stop of the machine may leave of it (`Left`) hold, if it is honest; and its plans.
+-- What a store holds; whether it is honest: it holds what it was given to hold; whether its calls may be refused for
+-- lack of memory, as those of each store here may; and its plans.
 pub record Saved : Type 0 where
   pub content : Option (List ℕ)
   pub is_honest : Bool
-  pub is_durable : Bool
-  pub memory_plan : MemoryPlan
+  pub may_lack_memory : Bool
   pub load_plan : LoadPlan
   pub save_plan : SavePlan
 
@@ -47,7 +40,7 @@ pub record Loads {V : Type 0} (bytes : V → List ℕ)
   pub saved : IsTrue old.is_honest
       → IfOk answer (λ loaded. option_map bytes loaded ≡ option_map (take (limit + 1)) old.content)
   pub device : IsErrOf answer loading.Device → old.load_plan ≡ LoadsOpen
-  pub memory : IsErrOf answer loading.Memory → old.memory_plan ≡ MemoryOpen
+  pub memory : IsErrOf answer loading.Memory → IsTrue old.may_lack_memory
 
 -- how a replace ended
 abbrev pub outcome_of : Result (Unit {0}) ReplaceFault → Outcome
@@ -83,12 +76,11 @@ HeldAfterFault SavesOpen old new held = (held ≡ old) ⊎ (held ≡ new)
 pub record Replaces
     (old : Saved) (bytes : List ℕ) (answer : Result (Unit {0}) ReplaceFault) (new : Saved) : Type 0 where
   pub same_honesty : new.is_honest ≡ old.is_honest
-  pub same_durability : new.is_durable ≡ old.is_durable
-  pub same_memory_plan : new.memory_plan ≡ old.memory_plan
+  pub same_memory : new.may_lack_memory ≡ old.may_lack_memory
   pub same_load_plan : new.load_plan ≡ old.load_plan
   pub follows : Follows old.save_plan (outcome_of answer) new.save_plan
   pub done : outcome_of answer ≡ Done → IsTrue old.is_honest → new.content ≡ Some bytes
   pub refused : outcome_of answer ≡ Refused → new ≡ old
-  pub memory : outcome_of answer ≡ Refused → old.memory_plan ≡ MemoryOpen
+  pub memory : outcome_of answer ≡ Refused → IsTrue old.may_lack_memory
   pub faulted : outcome_of answer ≡ Faulted → IsTrue old.is_honest
       → HeldAfterFault old.save_plan old.content (Some bytes) new.content

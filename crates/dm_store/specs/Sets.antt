@@ -8,19 +8,18 @@ use Rattle.dm_store.specs.declared.store.ReplaceFault.{ReplaceFault}
 use Rattle.dm_store.specs.declared.store.ReplaceFault.TheVariants as replacing
 use Rattle.dm_store.specs.declared.set.RemoveFault.{RemoveFault}
 use Rattle.dm_store.specs.declared.set.RemoveFault.TheVariants as removing
-use Rattle.dm_store.specs.Saved.{MemoryPlan, MemoryOpen, LoadPlan, LoadsOpen, SavePlan, SavesOpen, Outcome, Done, Faulted, Refused, outcome_of, Follows, HeldAfterFault}
+use Rattle.dm_store.specs.Saved.{LoadPlan, LoadsOpen, SavePlan, SavesOpen, Outcome, Done, Faulted, Refused, outcome_of, Follows, HeldAfterFault}
 
 -- the saved bytes of each key that has any
 abbrev pub Contents : Type 0
 Contents = map.FinMap nat_cmp (List ℕ)
 
--- what a set holds, whether it is honest and durable, and its plans: one for memory, one for loads of bytes and of
--- keys, one for the next save
+-- what a set holds, whether it is honest, whether its calls may be refused for lack of memory, and its plans: one for
+-- loads of bytes and of keys, one for the next save
 pub record SavedSet : Type 0 where
   pub content : Contents
   pub is_honest : Bool
-  pub is_durable : Bool
-  pub memory_plan : MemoryPlan
+  pub may_lack_memory : Bool
   pub load_plan : LoadPlan
   pub save_plan : SavePlan
 
@@ -30,7 +29,7 @@ pub record ListsKeys {V : Type 0} (keys : V → List ℕ)
   pub same : new ≡ old
   pub saved : IsTrue old.is_honest → IfOk answer (λ listed. keys listed ≡ take (limit + 1) (map.keys old.content))
   pub device : IsErrOf answer loading.Device → old.load_plan ≡ LoadsOpen
-  pub memory : IsErrOf answer loading.Memory → old.memory_plan ≡ MemoryOpen
+  pub memory : IsErrOf answer loading.Memory → IsTrue old.may_lack_memory
 
 -- The set before and after a load of this key, and its answer. `bytes` gives the list in what was loaded.
 pub record LoadsKey {V : Type 0} (bytes : V → List ℕ)
@@ -39,13 +38,12 @@ pub record LoadsKey {V : Type 0} (bytes : V → List ℕ)
   pub saved : IsTrue old.is_honest
       → IfOk answer (λ loaded. option_map bytes loaded ≡ option_map (take (limit + 1)) (map.get old.content key))
   pub device : IsErrOf answer loading.Device → old.load_plan ≡ LoadsOpen
-  pub memory : IsErrOf answer loading.Memory → old.memory_plan ≡ MemoryOpen
+  pub memory : IsErrOf answer loading.Memory → IsTrue old.may_lack_memory
 
 -- the set before and after a save that is to leave this content, and how it ended
 pub record Saves (old : SavedSet) (content : Contents) (outcome : Outcome) (new : SavedSet) : Type 0 where
   pub same_honesty : new.is_honest ≡ old.is_honest
-  pub same_durability : new.is_durable ≡ old.is_durable
-  pub same_memory_plan : new.memory_plan ≡ old.memory_plan
+  pub same_memory : new.may_lack_memory ≡ old.may_lack_memory
   pub same_load_plan : new.load_plan ≡ old.load_plan
   pub follows : Follows old.save_plan outcome new.save_plan
   pub done : outcome ≡ Done → IsTrue old.is_honest → new.content ≡ content
@@ -60,7 +58,7 @@ SavesKey old key bytes answer new = Saves old (map.insert old.content key bytes)
 pub record ReplacesKey (old : SavedSet) (key : ℕ) (bytes : List ℕ) (answer : Result (Unit {0}) ReplaceFault)
     (new : SavedSet) : Type 0 where
   pub saves : SavesKey old key bytes answer new
-  pub memory : IsErrOf answer replacing.Memory → old.memory_plan ≡ MemoryOpen
+  pub memory : IsErrOf answer replacing.Memory → IsTrue old.may_lack_memory
 
 -- how a remove ended
 abbrev pub outcome_of_remove : Result (Unit {0}) RemoveFault → Outcome
@@ -76,4 +74,4 @@ pub record RemovesKey
   pub absent : map.get old.content key ≡ None → new ≡ old
   pub absent_done : map.get old.content key ≡ None → IsErr answer
       → (answer ≡ Err removing.Device) × (old.save_plan ≡ SavesOpen)
-  pub memory : IsErrOf answer removing.Memory → old.memory_plan ≡ MemoryOpen
+  pub memory : IsErrOf answer removing.Memory → IsTrue old.may_lack_memory

@@ -86,10 +86,6 @@ pub trait Disk: Drop {
     {
         self.sync_entry(name)
     }
-
-    /// A stop may leave what a reader finds.
-    ghost leaves_seen: { (disk : Self) (name : List ℕ) → IsTrue (state disk).is_honest
-        → (state disk).may_leave name ((state disk).seen name) };
 }
 
 /// The calls that a set in a folder needs beside those of its files.

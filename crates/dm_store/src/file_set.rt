@@ -30,58 +30,38 @@ use std::marker::Model;
 /// the first `replace` makes it (but not the folders that it lies in). Each `replace` brings the folder's own entry to
 /// the disk first, and each `remove` that of the key, also if no file has it; `keys` brings those of all keys there. A
 /// `remove` that lacks memory for the path of the key's file is a device fault, since it can't say whether that file is
-/// there. A set that was made by [`FileSet::of_synced`] is durable, and one that was made by [`FileSet::new`] isn't.
+/// there.
 #[derive(Drop)]
 pub struct FileSet<D: Folders, A: Allocator + Copy = Global> {
     alloc: A,
     disk: D,
     folder: String<A>,
-    is_synced: bool,
 }
 
 impl<D: Folders, A: Allocator + Copy> Model for FileSet<D, A> {
     ghost use Rattle.std.specs.String.{string_bytes};
     ghost use Rattle.dm_store.specs.Filed.{Filed};
-    ghost use Rattle.dm_store.specs.Left.{AreOnDisk};
 
     ghost Value = { Filed D };
 
-    ghost view = { λ f. record { disk = f.disk; path = string_bytes f.folder; is_synced = f.is_synced } };
-
-    ghost invariant = { λ f. AreOnDisk f.is_synced (D.state f.disk) (string_bytes f.folder) };
+    ghost view = { λ f. record { disk = f.disk; path = string_bytes f.folder } };
 }
 
 impl<D: Folders, A: Allocator + Copy> FileSet<D, A> {
-    ghost use Rattle.dm_store.specs.Left.{AreOnDisk};
-
     /// A set in the folder `folder` of the disk, which need not be there. It takes no memory, and makes no call.
     pub fn new(alloc: A, disk: D, folder: String<A>) -> FileSet<D, A>
-        ensures { result ≡ record { disk = disk; path = string_bytes folder; is_synced = false } }
+        ensures { result ≡ record { disk = disk; path = string_bytes folder } }
     {
         FileSet {
             alloc,
             disk,
             folder,
-            is_synced: false,
         }
     }
 
-    /// The same, of a folder in which the bytes of each key's file that is there are on the disk, as those that a save
-    /// put there are. Such a set is durable.
-    pub fn of_synced(alloc: A, disk: D, folder: String<A>) -> FileSet<D, A>
-        requires on_disk { IsTrue (D.state disk).is_honest
-            → (key : ℕ) → key < 2 ^ 16 → (D.state disk).is_synced (key_path (string_bytes folder) key) }
-        ensures { result ≡ record { disk = disk; path = string_bytes folder; is_synced = true } }
-    {
-        let mut set = FileSet::new(alloc, disk, folder);
-        set.is_synced = true;
-        set
-    }
-
-    /// The disk, as the calls left it. The bytes of the files of a synced set's keys are still on it.
+    /// The disk, as the calls left it.
     pub fn into_disk(self) -> D
-        ensures disk { result ≡ self.disk }
-        ensures on_disk { AreOnDisk self.is_synced (D.state result) self.path }
+        ensures { result ≡ self.disk }
     {
         self.disk
     }
@@ -183,34 +163,16 @@ impl<D: Folders, A: Allocator + Copy> StoreSet for FileSet<D, A> {
     ghost use Rattle.dm_store.specs.Folder.{set_in};
     ghost use Rattle.std.specs.Prelude.{Some, None};
     ghost use Rattle.std.specs.FinMap as map;
-    ghost use Rattle.dm_store.specs.Saved.{outcome_of};
-    ghost use Rattle.dm_store.specs.Sets.{outcome_of_remove};
-    ghost use Rattle.dm_store.specs.HeldIsLeft.{held_is_left};
-    ghost use Rattle.dm_store.specs.Left.{
-      IsDurableSet,
-      SetLeavesNoMore,
-      LoadKeyLeaves,
-      SaveKeyLeaves,
-      left_in,
-    };
 
     type Memory = D::Memory;
 
-    ghost state = { λ f. set_in f.is_synced (D.state f.disk) f.path };
-
-    ghost left = { λ f. left_in (D.state f.disk) f.path };
-
-    ghost leaves_held = { λ f. held_is_left f.is_synced (D.state f.disk) f.path (D.leaves_seen f.disk) };
+    ghost state = { λ f. set_in (D.state f.disk) f.path };
 
     fn keys(&mut self, limit: usize) -> Result<Vec<u16, D::Memory>, LoadFault>
         ensures lists { ListsKeys (λ keys. keys.items)
-            (set_in self.old.is_synced (D.state self.old.disk) self.old.path) limit result
-            (set_in self.new.is_synced (D.state self.new.disk) self.new.path) }
-        ensures leaves { IsDurableSet (set_in self.old.is_synced (D.state self.old.disk) self.old.path)
-            → SetLeavesNoMore (left_in (D.state self.old.disk) self.old.path)
-            (left_in (D.state self.new.disk) self.new.path) }
+            (set_in (D.state self.old.disk) self.old.path) limit result
+            (set_in (D.state self.new.disk) self.new.path) }
         ensures folder { self.new.path ≡ self.old.path }
-        ensures synced { self.new.is_synced ≡ self.old.is_synced }
         ensures kept { KeepsAll (D.state self.old.disk) (D.state self.new.disk) }
         // No stop takes back a file of the folder, if its bytes are on the disk, as those of a save are.
         ensures settles { IsTrue (D.state self.old.disk).is_honest → IsOk result → (key : ℕ) → key < 2 ^ 16
@@ -222,12 +184,9 @@ impl<D: Folders, A: Allocator + Copy> StoreSet for FileSet<D, A> {
 
     fn load(&mut self, key: u16, limit: usize) -> Result<Option<Vec<u8, D::Memory>>, LoadFault>
         ensures loads { LoadsKey (λ bytes. bytes.items)
-            (set_in self.old.is_synced (D.state self.old.disk) self.old.path) key limit result
-            (set_in self.new.is_synced (D.state self.new.disk) self.new.path) }
-        ensures leaves { LoadKeyLeaves (set_in self.old.is_synced (D.state self.old.disk) self.old.path)
-            (left_in (D.state self.old.disk) self.old.path) key result (left_in (D.state self.new.disk) self.new.path) }
+            (set_in (D.state self.old.disk) self.old.path) key limit result
+            (set_in (D.state self.new.disk) self.new.path) }
         ensures folder { self.new.path ≡ self.old.path }
-        ensures synced { self.new.is_synced ≡ self.old.is_synced }
         ensures kept { KeepsAll (D.state self.old.disk) (D.state self.new.disk) }
         // No stop takes back what is loaded, if the file's bytes are on the disk, as those of a save are.
         ensures settles { IsTrue (D.state self.old.disk).is_honest
@@ -239,13 +198,9 @@ impl<D: Folders, A: Allocator + Copy> StoreSet for FileSet<D, A> {
     }
 
     fn replace(&mut self, key: u16, bytes: &[u8]) -> Result<(), ReplaceFault>
-        ensures replaces { ReplacesKey (set_in self.old.is_synced (D.state self.old.disk) self.old.path) key bytes.now
-            result (set_in self.new.is_synced (D.state self.new.disk) self.new.path) }
-        ensures leaves { SaveKeyLeaves (set_in self.old.is_synced (D.state self.old.disk) self.old.path)
-            (left_in (D.state self.old.disk) self.old.path) key (Some bytes.now) (outcome_of result)
-            (left_in (D.state self.new.disk) self.new.path) }
+        ensures replaces { ReplacesKey (set_in (D.state self.old.disk) self.old.path) key bytes.now
+            result (set_in (D.state self.new.disk) self.new.path) }
         ensures folder { self.new.path ≡ self.old.path }
-        ensures synced { self.new.is_synced ≡ self.old.is_synced }
         ensures refused { IsErrOf result ReplaceFault.Memory
             → KeepsAll (D.state self.old.disk) (D.state self.new.disk) }
         // Whenever the machine stops, in this save or after it, the old content of the key is left or the new, and the
@@ -260,13 +215,9 @@ impl<D: Folders, A: Allocator + Copy> StoreSet for FileSet<D, A> {
     }
 
     fn remove(&mut self, key: u16) -> Result<(), RemoveFault>
-        ensures removes { RemovesKey (set_in self.old.is_synced (D.state self.old.disk) self.old.path) key result
-            (set_in self.new.is_synced (D.state self.new.disk) self.new.path) }
-        ensures leaves { SaveKeyLeaves (set_in self.old.is_synced (D.state self.old.disk) self.old.path)
-            (left_in (D.state self.old.disk) self.old.path) key None (outcome_of_remove result)
-            (left_in (D.state self.new.disk) self.new.path) }
+        ensures removes { RemovesKey (set_in (D.state self.old.disk) self.old.path) key result
+            (set_in (D.state self.new.disk) self.new.path) }
         ensures folder { self.new.path ≡ self.old.path }
-        ensures synced { self.new.is_synced ≡ self.old.is_synced }
         // It is never refused for lack of memory.
         ensures device { IsErr result → result ≡ Err RemoveFault.Device }
         // Whenever the machine stops, in this remove or after it, the old content of the key is left or none, and none

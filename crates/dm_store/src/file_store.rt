@@ -1,6 +1,6 @@
 //! A store in a file of a disk.
 
-ghost use Rattle.std.specs.Prelude.{◌≡◌, ◌≢◌, ◌++◌, ℕ, List, Some, IfOk, IsErrOf, IsSome, codes, IsTrue, true, false};
+ghost use Rattle.std.specs.Prelude.{◌≡◌, ◌≢◌, ℕ, List, Some, IfOk, IsErrOf, IsSome, IsTrue};
 ghost use Rattle.std.specs.String.{string_bytes};
 ghost use Rattle.dm_store.specs.Disk.{
   KeepsAll,
@@ -26,58 +26,34 @@ use std::marker::Model;
 ///
 /// A `load` syncs the folder before it answers, so that no stop takes back what it gives of a file whose bytes are on
 /// the disk, as those of a save are. It does not sync the bytes: those of a file that somebody else put there, and did
-/// not sync, a stop may take back. So a store that was made by [`FileStore::of_synced`] is durable, and one that was
-/// made by [`FileStore::new`] isn't. A load answers `None` if the file or its folder isn't there.
+/// not sync, a stop may take back. A load answers `None` if the file or its folder isn't there.
 #[derive(Drop)]
 pub struct FileStore<D: Disk, A: Allocator + Copy = Global> {
     alloc: A,
     disk: D,
     path: String<A>,
-    is_synced: bool,
 }
 
 impl<D: Disk, A: Allocator + Copy> Model for FileStore<D, A> {
     ghost use Rattle.std.specs.String.{string_bytes};
     ghost use Rattle.dm_store.specs.Filed.{Filed};
-    ghost use Rattle.dm_store.specs.Left.{IsOnDisk};
 
     ghost Value = { Filed D };
 
-    ghost view = { λ f. record { disk = f.disk; path = string_bytes f.path; is_synced = f.is_synced } };
-
-    ghost invariant = { λ f. IsOnDisk f.is_synced (D.state f.disk) (string_bytes f.path) };
+    ghost view = { λ f. record { disk = f.disk; path = string_bytes f.path } };
 }
 
 impl<D: Disk, A: Allocator + Copy> FileStore<D, A> {
-    ghost use Rattle.dm_store.specs.Left.{IsOnDisk};
-
     /// A store in the file at `path` of the disk, which need not be there. It takes no memory, and makes no call.
     pub fn new(alloc: A, disk: D, path: String<A>) -> FileStore<D, A>
-        ensures { result ≡ record { disk = disk; path = string_bytes path; is_synced = false } }
+        ensures { result ≡ record { disk = disk; path = string_bytes path } }
     {
-        FileStore {
-            alloc,
-            disk,
-            path,
-            is_synced: false,
-        }
+        FileStore { alloc, disk, path }
     }
 
-    /// The same, of a file whose bytes are on the disk if it is there, as those that a save put there are. Such a
-    /// store is durable: whenever the machine stops, what a load gave stays, and so does what was saved.
-    pub fn of_synced(alloc: A, disk: D, path: String<A>) -> FileStore<D, A>
-        requires on_disk { IsTrue (D.state disk).is_honest → (D.state disk).is_synced (string_bytes path) }
-        ensures { result ≡ record { disk = disk; path = string_bytes path; is_synced = true } }
-    {
-        let mut store = FileStore::new(alloc, disk, path);
-        store.is_synced = true;
-        store
-    }
-
-    /// The disk, as the calls left it. The bytes of a synced store's file are still on it.
+    /// The disk, as the calls left it.
     pub fn into_disk(self) -> D
-        ensures disk { result ≡ self.disk }
-        ensures on_disk { IsOnDisk self.is_synced (D.state result) self.path }
+        ensures { result ≡ self.disk }
     {
         self.disk
     }
@@ -155,29 +131,19 @@ pub(crate) fn load_settled<D: Disk>(
 }
 
 impl<D: Disk, A: Allocator + Copy> Store for FileStore<D, A> {
-    ghost use Rattle.dm_store.specs.Saved.{Loads, Replaces};
-    ghost use Rattle.dm_store.specs.Disk.{IsSettled};
+    ghost use Rattle.dm_store.specs.Saved.{Loads, Replaces, SavesOpen, HeldAfterFault};
+    ghost use Rattle.dm_store.specs.Disk.{IsSettled, Content};
     ghost use Rattle.dm_store.specs.Filed.{saved_under};
-    ghost use Rattle.dm_store.specs.Left.{LoadLeaves, SaveLeaves};
-    ghost use Rattle.dm_store.specs.Saved.{outcome_of};
 
     type Memory = D::Memory;
 
-    ghost state = { λ f. saved_under f.is_synced (D.state f.disk) f.path };
-
-    ghost left = { λ f. (D.state f.disk).may_leave f.path };
-
-    ghost leaves_held = { λ f durable. D.leaves_seen f.disk f.path durable.0 };
+    ghost state = { λ f. saved_under (D.state f.disk) f.path };
 
     fn load(&mut self, limit: usize) -> Result<Option<Vec<u8, D::Memory>>, LoadFault>
         ensures loads { Loads (λ bytes. bytes.items)
-            (saved_under self.old.is_synced (D.state self.old.disk) self.old.path) limit result
-            (saved_under self.new.is_synced (D.state self.new.disk) self.new.path) }
-        ensures leaves { LoadLeaves (saved_under self.old.is_synced (D.state self.old.disk) self.old.path)
-            ((D.state self.old.disk).may_leave self.old.path) result
-            ((D.state self.new.disk).may_leave self.new.path) }
+            (saved_under (D.state self.old.disk) self.old.path) limit result
+            (saved_under (D.state self.new.disk) self.new.path) }
         ensures path { self.new.path ≡ self.old.path }
-        ensures synced { self.new.is_synced ≡ self.old.is_synced }
         ensures kept { KeepsAll (D.state self.old.disk) (D.state self.new.disk) }
         // No stop takes back what is loaded, if the file's bytes are on the disk, as those of a save are.
         ensures settles { IsTrue (D.state self.old.disk).is_honest
@@ -188,13 +154,9 @@ impl<D: Disk, A: Allocator + Copy> Store for FileStore<D, A> {
     }
 
     fn replace(&mut self, bytes: &[u8]) -> Result<(), ReplaceFault>
-        ensures replaces { Replaces (saved_under self.old.is_synced (D.state self.old.disk) self.old.path) bytes.now
-            result (saved_under self.new.is_synced (D.state self.new.disk) self.new.path) }
-        ensures leaves { SaveLeaves (saved_under self.old.is_synced (D.state self.old.disk) self.old.path)
-            ((D.state self.old.disk).may_leave self.old.path) bytes.now (outcome_of result)
-            ((D.state self.new.disk).may_leave self.new.path) }
+        ensures replaces { Replaces (saved_under (D.state self.old.disk) self.old.path) bytes.now
+            result (saved_under (D.state self.new.disk) self.new.path) }
         ensures path { self.new.path ≡ self.old.path }
-        ensures synced { self.new.is_synced ≡ self.old.is_synced }
         ensures refused { IsErrOf result ReplaceFault.Memory
             → KeepsAll (D.state self.old.disk) (D.state self.new.disk) }
         // Whenever the machine stops, in this save or after it, the old content is left or the new, and the new once it
@@ -202,6 +164,10 @@ impl<D: Disk, A: Allocator + Copy> Store for FileStore<D, A> {
         ensures saves { IsTrue (D.state self.old.disk).is_honest
             → SavesFile (D.state self.old.disk) self.old.path (draft_of self.old.path) bytes.now result
             (D.state self.new.disk) }
+        // If no stop would have taken back what a reader found, a stop leaves what a store under an open plan may hold.
+        ensures old_or_new { IsTrue (D.state self.old.disk).is_honest → IsSettled (D.state self.old.disk) self.old.path
+            → (content : Content) → (D.state self.new.disk).may_leave self.old.path content
+            → HeldAfterFault SavesOpen ((D.state self.old.disk).seen self.old.path) (Some bytes.now) content }
     {
         let Ok(new_path) = new_path_of(self.alloc, self.path.as_str()) else {
             return Err(ReplaceFault::Memory);

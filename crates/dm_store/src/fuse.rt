@@ -1,7 +1,11 @@
-//! What a fuse does with a call: the first calls pass, and each later one is stopped.
+//! A store, or a set of stores, behind a fuse: its first calls pass, and each later one is stopped.
 
-ghost use Rattle.std.specs.Prelude.{◌≡◌, Some, None};
-ghost use Rattle.dm_store.specs.Turns.{turn_of_load, turn_of_save, after_call};
+ghost use Rattle.std.specs.Prelude.{◌≡◌, Some, IsTrue, IsNone, ◌↔◌};
+ghost use Rattle.dm_store.specs.Fused.{turn_of_load, turn_of_save, after_call};
+
+use crate::set::{RemoveFault, StoreSet};
+use crate::store::{LoadFault, ReplaceFault, Store};
+use std::marker::Model;
 
 /// What the first call that a fuse stops leaves, where that call is a save.
 #[derive(Clone, Copy, Debug, PartialEq, Eq)]
@@ -14,7 +18,7 @@ pub enum Kept {
 
 /// What a fuse does with a call.
 #[derive(Clone, Copy)]
-pub(crate) enum Turn {
+enum Turn {
     /// The call goes to the store within, and its answer comes back.
     Passes,
     /// The call goes to the store within, and a device fault is answered in place of `Ok`.
@@ -23,25 +27,59 @@ pub(crate) enum Turn {
     Stopped,
 }
 
-// How many calls still pass, or `None` once a call came after the last of these; and what that call leaves.
-#[derive(Clone, Copy)]
-pub(crate) struct Fuse {
-    pub(crate) left: Option<u32>,
-    pub(crate) kept: Kept,
+/// A store or a set of stores that stops: its first calls go to the one within, and each later call answers a device
+/// fault and leaves the one within alone. With [`Kept::New`] the first later call, if it is a replace or a remove, is
+/// made there and answers a device fault in place of `Ok`.
+#[derive(Drop)]
+pub struct Fuse<S> {
+    inner: S,
+    // How many calls still pass, or `None` once a call came after the last of these.
+    left: Option<u32>,
+    kept: Kept,
 }
 
-impl Fuse {
-    pub(crate) fn new(passes: u32, kept: Kept) -> Fuse
-        ensures { result ≡ record { left = Some passes; kept = kept } }
+/// A store behind a fuse.
+pub type FuseStore<S> = Fuse<S>;
+
+/// A set of stores behind a fuse.
+pub type FuseSet<S> = Fuse<S>;
+
+impl<S> Model for Fuse<S> {
+    ghost use Rattle.dm_store.specs.Fused.{Fused};
+
+    ghost Value = { Fused S };
+
+    ghost view = { λ f. record { inner = f.inner; left = f.left; kept = f.kept } };
+}
+
+impl<S> Fuse<S> {
+    /// A fuse that lets `passes` calls through to `inner`. It takes no memory.
+    pub fn new(inner: S, passes: u32, kept: Kept) -> Fuse<S>
+        ensures { result ≡ record { inner = inner; left = Some passes; kept = kept } }
     {
         Fuse {
+            inner,
             left: Some(passes),
             kept,
         }
     }
 
+    /// Whether a call came after those that pass.
+    pub fn spent(&self) -> bool
+        ensures { IsTrue result ↔ IsNone self.now.left }
+    {
+        self.left.is_none()
+    }
+
+    /// The one within, as the calls left it.
+    pub fn into_inner(self) -> S
+        ensures { result ≡ self.inner }
+    {
+        self.inner
+    }
+
     // Counts a call that changes nothing in the store.
-    pub(crate) fn take_load(&mut self) -> Turn
+    fn take_load(&mut self) -> Turn
         ensures turn { result ≡ turn_of_load self.old.left }
         ensures counts { self.new ≡ record self.old { left = after_call self.old.left } }
     {
@@ -59,7 +97,7 @@ impl Fuse {
     }
 
     // Counts a call that replaces or removes.
-    pub(crate) fn take_save(&mut self) -> Turn
+    fn take_save(&mut self) -> Turn
         ensures turn { result ≡ turn_of_save self.old.left self.old.kept }
         ensures counts { self.new ≡ record self.old { left = after_call self.old.left } }
     {
@@ -69,6 +107,137 @@ impl Fuse {
                 Turn::Made
             }
             _ => self.take_load(),
+        }
+    }
+}
+
+impl<S: Store> Store for Fuse<S> {
+    ghost use Rattle.std.specs.Prelude.{Err};
+    ghost use Rattle.dm_store.specs.Saved.{Loads, Replaces};
+    ghost use Rattle.dm_store.specs.Fused.{with_open_plans, IsMadeAndStopped};
+
+    type Memory = S::Memory;
+
+    ghost state = { λ fused. with_open_plans (S.state fused.inner) };
+
+    fn load(&mut self, limit: usize) -> Result<Option<Vec<u8, S::Memory>>, LoadFault>
+        ensures loads { Loads (λ bytes. bytes.items) (with_open_plans (S.state self.old.inner)) limit result
+            (with_open_plans (S.state self.new.inner)) }
+        ensures passes { turn_of_load self.old.left ≡ Turn.Passes
+            → Loads (λ bytes. bytes.items) (S.state self.old.inner) limit result (S.state self.new.inner) }
+        ensures stopped { turn_of_load self.old.left ≡ Turn.Stopped
+            → (result ≡ Err LoadFault.Device) × (self.new.inner ≡ self.old.inner) }
+        ensures counts { self.new ≡ record self.old { inner = self.new.inner; left = after_call self.old.left } }
+    {
+        match self.take_load() {
+            Turn::Passes => self.inner.load(limit),
+            Turn::Made | Turn::Stopped => Err(LoadFault::Device),
+        }
+    }
+
+    fn replace(&mut self, bytes: &[u8]) -> Result<(), ReplaceFault>
+        ensures replaces { Replaces (with_open_plans (S.state self.old.inner)) bytes.now result
+            (with_open_plans (S.state self.new.inner)) }
+        ensures passes { turn_of_save self.old.left self.old.kept ≡ Turn.Passes
+            → Replaces (S.state self.old.inner) bytes.now result (S.state self.new.inner) }
+        ensures made { turn_of_save self.old.left self.old.kept ≡ Turn.Made
+            → IsMadeAndStopped ReplaceFault.Device
+            (λ made. Replaces (S.state self.old.inner) bytes.now made (S.state self.new.inner)) result }
+        ensures stopped { turn_of_save self.old.left self.old.kept ≡ Turn.Stopped
+            → (result ≡ Err ReplaceFault.Device) × (self.new.inner ≡ self.old.inner) }
+        ensures counts { self.new ≡ record self.old { inner = self.new.inner; left = after_call self.old.left } }
+    {
+        match self.take_save() {
+            Turn::Passes => self.inner.replace(bytes),
+            Turn::Made => match self.inner.replace(bytes) {
+                Ok(()) => Err(ReplaceFault::Device),
+                Err(fault) => Err(fault),
+            },
+            Turn::Stopped => Err(ReplaceFault::Device),
+        }
+    }
+}
+
+impl<S: StoreSet> StoreSet for Fuse<S> {
+    ghost use Rattle.std.specs.Prelude.{Err};
+    ghost use Rattle.dm_store.specs.Sets.{ListsKeys, LoadsKey, ReplacesKey, RemovesKey};
+    ghost use Rattle.dm_store.specs.Fused.{set_with_open_plans, IsMadeAndStopped};
+
+    type Memory = S::Memory;
+
+    ghost state = { λ fused. set_with_open_plans (S.state fused.inner) };
+
+    fn keys(&mut self, limit: usize) -> Result<Vec<u16, S::Memory>, LoadFault>
+        ensures lists { ListsKeys (λ keys. keys.items) (set_with_open_plans (S.state self.old.inner)) limit result
+            (set_with_open_plans (S.state self.new.inner)) }
+        ensures passes { turn_of_load self.old.left ≡ Turn.Passes
+            → ListsKeys (λ keys. keys.items) (S.state self.old.inner) limit result (S.state self.new.inner) }
+        ensures stopped { turn_of_load self.old.left ≡ Turn.Stopped
+            → (result ≡ Err LoadFault.Device) × (self.new.inner ≡ self.old.inner) }
+        ensures counts { self.new ≡ record self.old { inner = self.new.inner; left = after_call self.old.left } }
+    {
+        match self.take_load() {
+            Turn::Passes => self.inner.keys(limit),
+            Turn::Made | Turn::Stopped => Err(LoadFault::Device),
+        }
+    }
+
+    fn load(&mut self, key: u16, limit: usize) -> Result<Option<Vec<u8, S::Memory>>, LoadFault>
+        ensures loads { LoadsKey (λ bytes. bytes.items) (set_with_open_plans (S.state self.old.inner)) key limit result
+            (set_with_open_plans (S.state self.new.inner)) }
+        ensures passes { turn_of_load self.old.left ≡ Turn.Passes
+            → LoadsKey (λ bytes. bytes.items) (S.state self.old.inner) key limit result (S.state self.new.inner) }
+        ensures stopped { turn_of_load self.old.left ≡ Turn.Stopped
+            → (result ≡ Err LoadFault.Device) × (self.new.inner ≡ self.old.inner) }
+        ensures counts { self.new ≡ record self.old { inner = self.new.inner; left = after_call self.old.left } }
+    {
+        match self.take_load() {
+            Turn::Passes => self.inner.load(key, limit),
+            Turn::Made | Turn::Stopped => Err(LoadFault::Device),
+        }
+    }
+
+    fn replace(&mut self, key: u16, bytes: &[u8]) -> Result<(), ReplaceFault>
+        ensures replaces { ReplacesKey (set_with_open_plans (S.state self.old.inner)) key bytes.now result
+            (set_with_open_plans (S.state self.new.inner)) }
+        ensures passes { turn_of_save self.old.left self.old.kept ≡ Turn.Passes
+            → ReplacesKey (S.state self.old.inner) key bytes.now result (S.state self.new.inner) }
+        ensures made { turn_of_save self.old.left self.old.kept ≡ Turn.Made
+            → IsMadeAndStopped ReplaceFault.Device
+            (λ made. ReplacesKey (S.state self.old.inner) key bytes.now made (S.state self.new.inner)) result }
+        ensures stopped { turn_of_save self.old.left self.old.kept ≡ Turn.Stopped
+            → (result ≡ Err ReplaceFault.Device) × (self.new.inner ≡ self.old.inner) }
+        ensures counts { self.new ≡ record self.old { inner = self.new.inner; left = after_call self.old.left } }
+    {
+        match self.take_save() {
+            Turn::Passes => self.inner.replace(key, bytes),
+            Turn::Made => match self.inner.replace(key, bytes) {
+                Ok(()) => Err(ReplaceFault::Device),
+                Err(fault) => Err(fault),
+            },
+            Turn::Stopped => Err(ReplaceFault::Device),
+        }
+    }
+
+    fn remove(&mut self, key: u16) -> Result<(), RemoveFault>
+        ensures removes { RemovesKey (set_with_open_plans (S.state self.old.inner)) key result
+            (set_with_open_plans (S.state self.new.inner)) }
+        ensures passes { turn_of_save self.old.left self.old.kept ≡ Turn.Passes
+            → RemovesKey (S.state self.old.inner) key result (S.state self.new.inner) }
+        ensures made { turn_of_save self.old.left self.old.kept ≡ Turn.Made
+            → IsMadeAndStopped RemoveFault.Device
+            (λ made. RemovesKey (S.state self.old.inner) key made (S.state self.new.inner)) result }
+        ensures stopped { turn_of_save self.old.left self.old.kept ≡ Turn.Stopped
+            → (result ≡ Err RemoveFault.Device) × (self.new.inner ≡ self.old.inner) }
+        ensures counts { self.new ≡ record self.old { inner = self.new.inner; left = after_call self.old.left } }
+    {
+        match self.take_save() {
+            Turn::Passes => self.inner.remove(key),
+            Turn::Made => match self.inner.remove(key) {
+                Ok(()) => Err(RemoveFault::Device),
+                Err(fault) => Err(fault),
+            },
+            Turn::Stopped => Err(RemoveFault::Device),
         }
     }
 }

@@ -1,32 +1,29 @@
 //! Places for saved bytes: one list of bytes, or one for each key; in memory, in files, and behind a fuse.
 //!
-//! What saves is generic over [`Store`] or [`StoreSet`]. Contracts see of each what it holds, whether it is honest and
-//! durable, what its loads may do, and what its next save does. Proved of each store and set here:
+//! What saves is generic over [`Store`] or [`StoreSet`]. Contracts see of each what it holds, whether it is honest, what
+//! its loads may do, and what its next save does. Proved of each store and set here:
 //!
 //! - A load changes nothing. Of an honest store it gives the content, cut after `limit + 1` bytes or keys. It meets a
 //!   device fault only where loads may.
 //! - After a save that answers `Ok` an honest store holds the new content. After `Memory` nothing has changed. After
 //!   `Device` it holds the old or the new content, as its plan for the save said. An honest set changes no other key.
-//! - No call changes the honesty, the durability or what loads may do.
-//! - Of a durable store a stop of the machine leaves, after a load that gave bytes or a save that is done, only these.
-//!   During a save, or after one that failed, it leaves what it might have left before, or the new bytes.
+//! - No call changes the honesty or what loads may do.
 //!
-//! [`MemStore`] and [`MemSet`] are honest, and meet a device fault exactly where they were set to. [`FuseStore`] and
-//! [`FuseSet`] stop after a number of calls, over any store or set. [`KeyMap`] is the map that a set in memory is made
-//! of.
+//! [`MemStore`] and [`MemSet`] are honest, and meet a device fault exactly where they were set to. A [`Fuse`] stops a
+//! store or a set after a number of calls. [`KeyMap`] is the map that a set in memory is made of.
 //!
 //! [`FileStore`] is a store in a file of a [`Disk`], whose contract (`specs/Disk.antt`) says what a reader finds and
 //! what a stop of the machine may leave. Proved over every disk that keeps it: the store is honest if the disk is;
 //! whenever the machine stops in a save, the file holds the old or the new bytes, whole, and the new ones once the
-//! save has answered `Ok` ([`save_until_stop`] says it of a stop at each call); a save touches no file but its own and
-//! the draft beside it; and no stop takes back what a load gave of a file whose bytes are on the disk, as those of a
-//! save are. [`FileSet`] is a set in a folder of a disk that has the calls of [`Folders`], and the same is proved of
+//! save has answered `Ok`; a save touches no file but its own and the draft beside it; and no stop takes back what a
+//! load gave of a file whose bytes are on the disk, as those of a save are. So a stop leaves what a store under an open
+//! plan may hold. [`FileSet`] is a set in a folder of a disk that has the calls of [`Folders`], and the same is proved of
 //! the file of each key; a remove leaves the old bytes or none, and none once it has answered `Ok`.
 //!
-//! [`MemDisk`] is a disk in memory, with folders, of which a stop may leave whatever the contract allows after calls
-//! that were done; a call that fails changes nothing there. [`FuseDisk`] is one that stops after a number of calls.
-//! [`RealDisk`] is the system's own files: it claims nothing. That its few lines do what the contract says is trusted,
-//! and tested; so is the sync by which a folder that was made is kept, which no clause speaks of.
+//! [`MemDisk`] is a disk in memory, of which a stop may leave whatever the contract allows after calls that were done; a
+//! call that fails changes nothing there. [`RealDisk`] is the system's own files: it claims nothing. That its few lines
+//! do what the contract says is trusted, and tested; so is the sync by which a folder that was made is kept, which no
+//! clause speaks of.
 #![tactic(auto)]
 
 mod disk;
@@ -34,32 +31,23 @@ mod file_set;
 mod file_store;
 mod files;
 mod fuse;
-mod fuse_disk;
-mod fuse_set;
-mod fuse_store;
 mod key_files;
 mod key_map;
 mod mem_disk;
-mod mem_folder;
 mod mem_set;
 mod mem_store;
 mod real_disk;
 mod set;
-mod stopped_save;
 mod store;
 
 pub use disk::{Disk, DiskFault, Folders};
 pub use file_set::FileSet;
 pub use file_store::FileStore;
-pub use fuse::Kept;
-pub use fuse_disk::FuseDisk;
-pub use fuse_set::FuseSet;
-pub use fuse_store::FuseStore;
+pub use fuse::{Fuse, FuseSet, FuseStore, Kept};
 pub use key_map::KeyMap;
 pub use mem_disk::{DiskCall, MemDisk};
 pub use mem_set::MemSet;
 pub use mem_store::{MemStore, NextSave};
 pub use real_disk::RealDisk;
 pub use set::{RemoveFault, StoreSet};
-pub use stopped_save::save_until_stop;
 pub use store::{LoadFault, ReplaceFault, Store};

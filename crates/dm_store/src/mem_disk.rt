@@ -2,7 +2,7 @@
 
 ghost use Rattle.std.specs.Prelude.{◌≡◌, ◌∷◌, [], option_map, IfOk, OnOk, OnErr, IsErrOf};
 ghost use Rattle.std.specs.String.{string_bytes};
-ghost use Rattle.dm_store.specs.DiskCalls.{seen_after, synced_after, begins_with, content_eq, leaves_after};
+ghost use Rattle.dm_store.specs.DiskCalls.{seen_after, synced_after, content_eq, leaves_after};
 
 use crate::disk::{Disk, DiskFault};
 use crate::mem_store::copy_of;
@@ -22,8 +22,6 @@ pub enum DiskCall<A: Allocator = Global> {
     Removed(String<A>),
     /// A name's entry was brought to the disk.
     SyncedEntry(String<A>),
-    /// So were the entries of all names that begin so.
-    SyncedFolder(String<A>),
 }
 
 /// A disk in memory, which is empty at first. It keeps the calls that were done, the newest first. A stop may leave
@@ -31,12 +29,12 @@ pub enum DiskCall<A: Allocator = Global> {
 /// more: here it changes nothing. And after a rename nothing has the file's old name here.
 #[derive(Drop)]
 pub struct MemDisk<A: Allocator + Copy = Global> {
-    pub(crate) alloc: A,
-    pub(crate) calls: Vec<DiskCall<A>, A>,
+    alloc: A,
+    calls: Vec<DiskCall<A>, A>,
 }
 
 // What a reader finds under the name.
-pub(crate) fn seen_in<'a, A: Allocator>(calls: &'a [DiskCall<A>], name: &str) -> Option<&'a [u8]>
+fn seen_in<'a, A: Allocator>(calls: &'a [DiskCall<A>], name: &str) -> Option<&'a [u8]>
     ensures { option_map (λ bytes. bytes.now) result ≡ seen_after calls.now name.now }
 {
     let [call, before @ ..] = calls else {
@@ -66,9 +64,7 @@ pub(crate) fn seen_in<'a, A: Allocator>(calls: &'a [DiskCall<A>], name: &str) ->
                 seen_in(before, name)
             }
         }
-        DiskCall::Synced(_) | DiskCall::SyncedEntry(_) | DiskCall::SyncedFolder(_) => {
-            seen_in(before, name)
-        }
+        DiskCall::Synced(_) | DiskCall::SyncedEntry(_) => seen_in(before, name),
     }
 }
 
@@ -91,7 +87,7 @@ fn is_synced_in<A: Allocator>(calls: &[DiskCall<A>], name: &str) -> bool
                 is_synced_in(before, name)
             }
         }
-        DiskCall::SyncedEntry(_) | DiskCall::SyncedFolder(_) => is_synced_in(before, name),
+        DiskCall::SyncedEntry(_) => is_synced_in(before, name),
     }
 }
 
@@ -104,12 +100,6 @@ fn is_same(content: Option<&[u8]>, other: Option<&[u8]>) -> bool
         (Some(bytes), Some(others)) => bytes == others,
         _ => false,
     }
-}
-
-fn begins(name: &[u8], start: &[u8]) -> bool
-    ensures { result ≡ begins_with name.now start.now }
-{
-    name.starts_with(start)
 }
 
 // Whether a stop may leave this content under the name.
@@ -146,21 +136,11 @@ fn may_leave_in<A: Allocator>(calls: &[DiskCall<A>], name: &str, content: Option
                 may_leave_in(before, name, content)
             }
         }
-        DiskCall::SyncedFolder(start) => {
-            if begins(name.as_bytes(), start.as_bytes()) && is_synced_in(before, name) {
-                is_same(content, seen_in(before, name))
-            } else {
-                may_leave_in(before, name, content)
-            }
-        }
     }
 }
 
 // Keeps a call that is done.
-pub(crate) fn note<A: Allocator>(
-    calls: &mut Vec<DiskCall<A>, A>,
-    call: DiskCall<A>,
-) -> Result<(), DiskFault>
+fn note<A: Allocator>(calls: &mut Vec<DiskCall<A>, A>, call: DiskCall<A>) -> Result<(), DiskFault>
     ensures ok { OnOk result (calls.new.items ≡ call ∷ calls.old.items) }
     ensures err { OnErr result (calls.new.items ≡ calls.old.items) }
 {
@@ -202,13 +182,10 @@ impl<A: Allocator + Copy> MemDisk<A> {
 
 impl<A: Allocator + Copy> Disk for MemDisk<A> {
     ghost use Rattle.dm_store.specs.DiskCalls.{disk_after};
-    ghost use Rattle.dm_store.specs.SeenIsLeft.{leaves_seen as seen_is_left};
 
     type Memory = A;
 
     ghost state = { λ d. disk_after d.calls.items };
-
-    ghost leaves_seen = { λ d name _. seen_is_left d.calls.items name };
 
     fn read(&mut self, name: &str, limit: usize) -> Result<Option<Vec<u8, A>>, LoadFault> {
         let Some(bytes) = seen_in(&self.calls, name) else {

@@ -50,7 +50,6 @@ pub struct MemSet<A: Allocator + Copy = Global> {
 
 impl<A: Allocator + Copy> Model for MemSet<A> {
     ghost use Rattle.std.specs.Prelude.{true};
-    ghost use Rattle.dm_store.specs.Saved.{MemoryOpen};
     ghost use Rattle.dm_store.specs.Sets.{SavedSet};
     ghost use Rattle.dm_store.specs.Codes.{saved_set_code};
     ghost use Rattle.dm_store.specs.Settings.{load_plan_of, save_plan_of};
@@ -62,15 +61,14 @@ impl<A: Allocator + Copy> Model for MemSet<A> {
     ghost view = { λ m. record {
       content = m.held;
       is_honest = true;
-      is_durable = true;
-      memory_plan = MemoryOpen;
+      may_lack_memory = true;
       load_plan = load_plan_of m.fails_loads;
       save_plan = save_plan_of m.next_save;
     } };
 }
 
 impl<A: Allocator + Copy> MemSet<A> {
-    ghost use Rattle.dm_store.specs.Saved.{MemoryOpen, LoadsFine, SavesFine};
+    ghost use Rattle.dm_store.specs.Saved.{LoadsFine, SavesFine};
     ghost use Rattle.dm_store.specs.Settings.{load_plan_of, save_plan_of};
 
     /// A set that holds nothing. It takes no memory.
@@ -78,8 +76,7 @@ impl<A: Allocator + Copy> MemSet<A> {
         ensures { result ≡ record {
           content = map.empty;
           is_honest = true;
-          is_durable = true;
-          memory_plan = MemoryOpen;
+          may_lack_memory = true;
           load_plan = LoadsFine;
           save_plan = SavesFine;
         } }
@@ -118,63 +115,14 @@ impl<A: Allocator + Copy> MemSet<A> {
     }
 }
 
-impl<A: Allocator + Copy> MemSet<A> {
-    ghost use Rattle.std.specs.Prelude.{◌≢◌, Err, IsTrue};
-    ghost use Rattle.dm_store.specs.Sets.{ReplacesKey, RemovesKey};
-
-    // Puts the bytes in place of those saved under a key.
-    fn put(&mut self, key: u16, bytes: &[u8]) -> Result<(), ReplaceFault>
-        ensures honest { IsTrue self.old.is_honest }
-        ensures replaces { ReplacesKey self.old key bytes.now result self.new }
-    {
-        let Ok(copy) = Vec::from_slice(self.alloc, bytes) else {
-            return Err(ReplaceFault::Memory);
-        };
-        if self.next_save != NextSave::FaultOld {
-            let saved = SavedBytes::new(copy);
-            if self.held.insert(key, saved).is_err() {
-                return Err(ReplaceFault::Memory);
-            }
-        }
-        match mem::replace(&mut self.next_save, NextSave::Fine) {
-            NextSave::Fine => Ok(()),
-            NextSave::FaultOld | NextSave::FaultNew => Err(ReplaceFault::Device),
-        }
-    }
-
-    // Takes away what is saved under a key. It takes no memory.
-    fn take_away(&mut self, key: u16) -> Result<(), RemoveFault>
-        ensures honest { IsTrue self.old.is_honest }
-        ensures removes { RemovesKey self.old key result self.new }
-        ensures memory { result ≢ Err RemoveFault.Memory }
-    {
-        if self.held.get(key).is_none() {
-            return Ok(());
-        }
-        let next = mem::replace(&mut self.next_save, NextSave::Fine);
-        if next != NextSave::FaultOld {
-            self.held.remove(key);
-        }
-        match next {
-            NextSave::Fine => Ok(()),
-            NextSave::FaultOld | NextSave::FaultNew => Err(RemoveFault::Device),
-        }
-    }
-}
-
 impl<A: Allocator + Copy> StoreSet for MemSet<A> {
     ghost use Rattle.dm_store.specs.Saved.{LoadsOpen};
-    ghost use Rattle.std.specs.Prelude.{◌≢◌, refl, Err, None};
-    ghost use Rattle.dm_store.specs.Sets.{ListsKeys, LoadsKey, RemovesKey, outcome_of_remove};
-    ghost use Rattle.dm_store.specs.Left.{SaveKeyLeaves, set_left_as_held};
+    ghost use Rattle.std.specs.Prelude.{◌≢◌, Err};
+    ghost use Rattle.dm_store.specs.Sets.{ListsKeys, LoadsKey, RemovesKey};
 
     type Memory = A;
 
     ghost state = { λ set. set };
-
-    ghost left = { λ set. set_left_as_held set.content };
-
-    ghost leaves_held = { λ _ _ _ _. refl };
 
     fn keys(&mut self, limit: usize) -> Result<Vec<u16, A>, LoadFault>
         ensures lists { ListsKeys (λ keys. keys.items) self.old limit result self.new }
@@ -208,16 +156,36 @@ impl<A: Allocator + Copy> StoreSet for MemSet<A> {
     }
 
     fn replace(&mut self, key: u16, bytes: &[u8]) -> Result<(), ReplaceFault> {
-        self.put(key, bytes)
+        let Ok(copy) = Vec::from_slice(self.alloc, bytes) else {
+            return Err(ReplaceFault::Memory);
+        };
+        if self.next_save != NextSave::FaultOld {
+            let saved = SavedBytes::new(copy);
+            if self.held.insert(key, saved).is_err() {
+                return Err(ReplaceFault::Memory);
+            }
+        }
+        match mem::replace(&mut self.next_save, NextSave::Fine) {
+            NextSave::Fine => Ok(()),
+            NextSave::FaultOld | NextSave::FaultNew => Err(ReplaceFault::Device),
+        }
     }
 
     fn remove(&mut self, key: u16) -> Result<(), RemoveFault>
         ensures removes { RemovesKey self.old key result self.new }
-        ensures leaves { SaveKeyLeaves self.old (set_left_as_held self.old.content) key None
-            (outcome_of_remove result) (set_left_as_held self.new.content) }
         // It takes no memory.
         ensures memory { result ≢ Err RemoveFault.Memory }
     {
-        self.take_away(key)
+        if self.held.get(key).is_none() {
+            return Ok(());
+        }
+        let next = mem::replace(&mut self.next_save, NextSave::Fine);
+        if next != NextSave::FaultOld {
+            self.held.remove(key);
+        }
+        match next {
+            NextSave::Fine => Ok(()),
+            NextSave::FaultOld | NextSave::FaultNew => Err(RemoveFault::Device),
+        }
     }
 }

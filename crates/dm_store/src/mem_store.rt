@@ -19,7 +19,7 @@ pub enum NextSave {
 }
 
 /// A store in memory, which is honest and meets a device fault exactly where it was set to. Its calls may be refused
-/// for lack of memory. It stands for a perfect device: a stop of the machine is taken to leave what it holds.
+/// for lack of memory.
 #[derive(Drop)]
 pub struct MemStore<A: Allocator + Copy = Global> {
     alloc: A,
@@ -30,7 +30,7 @@ pub struct MemStore<A: Allocator + Copy = Global> {
 
 impl<A: Allocator + Copy> Model for MemStore<A> {
     ghost use Rattle.std.specs.Prelude.{true, option_map};
-    ghost use Rattle.dm_store.specs.Saved.{Saved, MemoryOpen};
+    ghost use Rattle.dm_store.specs.Saved.{Saved};
     ghost use Rattle.dm_store.specs.Codes.{saved_code};
     ghost use Rattle.dm_store.specs.Settings.{load_plan_of, save_plan_of};
 
@@ -41,15 +41,14 @@ impl<A: Allocator + Copy> Model for MemStore<A> {
     ghost view = { λ m. record {
       content = option_map (λ bytes. bytes.items) m.held;
       is_honest = true;
-      is_durable = true;
-      memory_plan = MemoryOpen;
+      may_lack_memory = true;
       load_plan = load_plan_of m.fails_loads;
       save_plan = save_plan_of m.next_save;
     } };
 }
 
 impl<A: Allocator + Copy> MemStore<A> {
-    ghost use Rattle.dm_store.specs.Saved.{MemoryOpen, LoadsFine, SavesFine};
+    ghost use Rattle.dm_store.specs.Saved.{LoadsFine, SavesFine};
     ghost use Rattle.dm_store.specs.Settings.{load_plan_of, save_plan_of};
 
     /// A store that holds nothing. It takes no memory.
@@ -57,8 +56,7 @@ impl<A: Allocator + Copy> MemStore<A> {
         ensures { result ≡ record {
           content = None;
           is_honest = true;
-          is_durable = true;
-          memory_plan = MemoryOpen;
+          may_lack_memory = true;
           load_plan = LoadsFine;
           save_plan = SavesFine;
         } }
@@ -76,8 +74,7 @@ impl<A: Allocator + Copy> MemStore<A> {
         ensures { result ≡ record {
           content = Some bytes.items;
           is_honest = true;
-          is_durable = true;
-          memory_plan = MemoryOpen;
+          may_lack_memory = true;
           load_plan = LoadsFine;
           save_plan = SavesFine;
         } }
@@ -133,16 +130,10 @@ pub(crate) fn copy_of<A: Allocator + Copy>(
 
 impl<A: Allocator + Copy> Store for MemStore<A> {
     ghost use Rattle.dm_store.specs.Saved.{Loads, LoadsOpen};
-    ghost use Rattle.std.specs.Prelude.{refl};
-    ghost use Rattle.dm_store.specs.Left.{left_as_held};
 
     type Memory = A;
 
     ghost state = { λ store. store };
-
-    ghost left = { λ store. left_as_held store.content };
-
-    ghost leaves_held = { λ _ _. refl };
 
     fn load(&mut self, limit: usize) -> Result<Option<Vec<u8, A>>, LoadFault>
         ensures loads { Loads (λ bytes. bytes.items) self.old limit result self.new }

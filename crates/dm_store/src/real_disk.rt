@@ -137,8 +137,6 @@ impl<R: Files, A: Allocator + Copy> Disk for RealDisk<'_, R, A> {
 
     ghost state = { λ _. unclaimed };
 
-    ghost leaves_seen = { λ _ _ _. tt };
-
     fn read(&mut self, name: &str, limit: usize) -> Result<Option<Vec<u8, A>>, LoadFault> {
         self.written = None;
         load_file(self.alloc, self.runtime, name, limit)

@@ -19,45 +19,27 @@ pub enum RemoveFault {
 
 /// A place for one list of bytes under each key.
 pub trait StoreSet: Drop {
-    ghost use Rattle.std.specs.Prelude.{◌<◌, ◌^◌, ℕ, Some, None};
-    ghost use Rattle.std.specs.FinMap as map;
-    ghost use Rattle.dm_store.specs.Saved.{outcome_of};
-    ghost use Rattle.dm_store.specs.Sets.{SavedSet, ListsKeys, LoadsKey, ReplacesKey, RemovesKey, outcome_of_remove};
-    ghost use Rattle.dm_store.specs.Disk.{Content};
-    ghost use Rattle.dm_store.specs.Left.{IsDurableSet, SetLeavesNoMore, LoadKeyLeaves, SaveKeyLeaves};
+    ghost use Rattle.dm_store.specs.Sets.{SavedSet, ListsKeys, LoadsKey, ReplacesKey, RemovesKey};
 
     /// What the keys and the bytes that a load gives are allocated in.
     type Memory: Allocator;
 
-    /// What it holds, whether it is honest and durable, and its plans.
+    /// What it holds, whether it is honest, and its plans.
     ghost state: { Self → SavedSet };
-
-    /// What a stop of the machine may leave under each key, if it is durable.
-    ghost left: { Self → ℕ → Content → Type 0 };
 
     /// The keys under which bytes are saved, rising: all, or the first `limit + 1` where there are more.
     fn keys(&mut self, limit: usize) -> Result<Vec<u16, Self::Memory>, LoadFault>
-        ensures lists { ListsKeys (λ keys. keys.items) (state self.old) limit result (state self.new) }
-        ensures leaves { IsDurableSet (state self.old) → SetLeavesNoMore (left self.old) (left self.new) };
+        ensures lists { ListsKeys (λ keys. keys.items) (state self.old) limit result (state self.new) };
 
     /// The bytes saved under a key, or their first `limit + 1` where they are longer, or `None` where nothing is saved.
     fn load(&mut self, key: u16, limit: usize) -> Result<Option<Vec<u8, Self::Memory>>, LoadFault>
-        ensures loads { LoadsKey (λ bytes. bytes.items) (state self.old) key limit result (state self.new) }
-        ensures leaves { LoadKeyLeaves (state self.old) (left self.old) key result (left self.new) };
+        ensures loads { LoadsKey (λ bytes. bytes.items) (state self.old) key limit result (state self.new) };
 
     /// Puts the bytes in place of those saved under a key, if any.
     fn replace(&mut self, key: u16, bytes: &[u8]) -> Result<(), ReplaceFault>
-        ensures replaces { ReplacesKey (state self.old) key bytes.now result (state self.new) }
-        ensures leaves { SaveKeyLeaves (state self.old) (left self.old) key (Some bytes.now) (outcome_of result)
-            (left self.new) };
+        ensures replaces { ReplacesKey (state self.old) key bytes.now result (state self.new) };
 
     /// Takes away what is saved under a key.
     fn remove(&mut self, key: u16) -> Result<(), RemoveFault>
-        ensures removes { RemovesKey (state self.old) key result (state self.new) }
-        ensures leaves { SaveKeyLeaves (state self.old) (left self.old) key None (outcome_of_remove result)
-            (left self.new) };
-
-    /// A stop may leave what a durable set holds.
-    ghost leaves_held: { (set : Self) → IsDurableSet (state set) → (key : ℕ) → key < 2 ^ 16
-        → left set key (map.get (state set).content key) };
+        ensures removes { RemovesKey (state self.old) key result (state self.new) };
 }

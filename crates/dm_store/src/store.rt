@@ -29,29 +29,19 @@ pub enum ReplaceFault {
 
 /// A place for one list of bytes.
 pub trait Store: Drop {
-    ghost use Rattle.dm_store.specs.Saved.{Saved, Loads, Replaces, outcome_of};
-    ghost use Rattle.dm_store.specs.Disk.{Content};
-    ghost use Rattle.dm_store.specs.Left.{IsDurable, LoadLeaves, SaveLeaves};
+    ghost use Rattle.dm_store.specs.Saved.{Saved, Loads, Replaces};
 
     /// What the bytes that a load gives are allocated in.
     type Memory: Allocator;
 
-    /// What it holds, whether it is honest and durable, and its plans.
+    /// What it holds, whether it is honest, and its plans.
     ghost state: { Self → Saved };
-
-    /// What a stop of the machine may leave of it, if it is durable.
-    ghost left: { Self → Content → Type 0 };
 
     /// The saved bytes, or their first `limit + 1` where they are longer, or `None` where nothing is saved.
     fn load(&mut self, limit: usize) -> Result<Option<Vec<u8, Self::Memory>>, LoadFault>
-        ensures loads { Loads (λ bytes. bytes.items) (state self.old) limit result (state self.new) }
-        ensures leaves { LoadLeaves (state self.old) (left self.old) result (left self.new) };
+        ensures loads { Loads (λ bytes. bytes.items) (state self.old) limit result (state self.new) };
 
     /// Puts the bytes in place of the saved ones.
     fn replace(&mut self, bytes: &[u8]) -> Result<(), ReplaceFault>
-        ensures replaces { Replaces (state self.old) bytes.now result (state self.new) }
-        ensures leaves { SaveLeaves (state self.old) (left self.old) bytes.now (outcome_of result) (left self.new) };
-
-    /// A stop may leave what a durable store holds.
-    ghost leaves_held: { (store : Self) → IsDurable (state store) → left store (state store).content };
+        ensures replaces { Replaces (state self.old) bytes.now result (state self.new) };
 }

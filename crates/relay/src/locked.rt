@@ -222,8 +222,6 @@ impl<R: AllocGlobal + Files<File = File>, D: Disk> Disk for Locked<'_, R, D> {
 
     ghost state = { λ locked. D.state locked.within };
 
-    ghost leaves_seen = { λ locked. D.leaves_seen locked.within };
-
     fn read(&mut self, name: &str, limit: usize) -> Result<Option<Vec<u8, D::Memory>>, LoadFault> {
         if !self.gate.may_load(name) {
             return Err(LoadFault::Device);

@@ -101,9 +101,9 @@ fn run_on_files<R: AllocGlobal + Eprint + Files<File = File> + Clone, I: Read + 
     let gate = Gate::new(rt, &place);
     let status = {
         let disk = Locked::new(&gate, disk_of(rt, &place));
-        let store = FileStore::of_synced(alloc, disk, file);
+        let store = FileStore::new(alloc, disk, file);
         let disk = Locked::new(&gate, RealDisk::new(alloc, rt));
-        let set = FileSet::of_synced(alloc, disk, folder);
+        let set = FileSet::new(alloc, disk, folder);
         let mut streams = Streams::new(reader, &mut *output, errors_of(rt));
         let mut notes = RefusedImages::new(rt, source);
         do_command(alloc, store, set, &mut streams, &mut notes, command).status

@@ -1,12 +1,11 @@
 //! What a stop of the machine leaves on the worst disk that the definitions allow: of a save, after a load, and of four
 //! ways to save that are wrong.
 
-use dm_store::{
-    Disk, DiskFault, FileStore, FuseDisk, Kept, MemDisk, ReplaceFault, Store, save_until_stop,
-};
+use dm_store::{Disk, DiskFault, FileStore, Kept, MemDisk, ReplaceFault, Store};
 use std::alloc::{AllocError, Global};
 use std::process::Abort;
 use std::test::Fail;
+use test_helpers::StoppingDisk;
 
 // Which contents a stop may leave in the file: the old one, the new one, and any other, as a part of the new one or
 // nothing.
@@ -92,7 +91,10 @@ fn a_stop_leaves_the_old_or_the_new(rt: HostRuntime) -> Result<(), Fail> {
     for (passes, kept, wanted) in STOPS.iter() {
         let disk = disk_with_old(&rt, rt.alloc())?;
         let path = String::from_str(rt.alloc(), "ledger")?;
-        let (answer, disk) = save_until_stop(rt.alloc(), disk, *passes, *kept, path, b"new");
+        let stopping = StoppingDisk::new(rt.alloc(), disk, *passes, *kept);
+        let mut store = FileStore::new(rt.alloc(), stopping, path);
+        let answer = store.replace(b"new");
+        let disk = store.into_disk().into_inner();
         let is_done = *passes == 4;
         assert!(rt;
             answer
@@ -158,7 +160,7 @@ const WRONG: &[(Wrong, u32, bool, Leaves)] = &[
 fn a_stop_spoils_a_wrong_save(rt: HostRuntime) -> Result<(), Fail> {
     for (wrong, passes, is_done, wanted) in WRONG.iter() {
         let disk = disk_with_old(&rt, rt.alloc())?;
-        let mut stopping = FuseDisk::new(disk, *passes, Kept::Old);
+        let mut stopping = StoppingDisk::new(rt.alloc(), disk, *passes, Kept::Old);
         assert!(rt; save_wrong(&mut stopping, *wrong).is_ok() == *is_done);
         assert!(rt; what_is_left(&stopping.into_inner()) == Some(*wanted));
     }

@@ -1,5 +1,5 @@
 //! What tests share: an allocator that refuses one allocation, copies of bytes with one byte spoiled, readers and
-//! writers that fail, are interrupted or never end, and a look at the text of a fault.
+//! writers that fail, are interrupted or never end, a look at the text of a fault, and a disk whose machine stops.
 //!
 //! Proved: each call returns and is safe, and [`Refusing`] is an allocator, so that what owns memory of it owns memory
 //! of the allocator within. What else the comments say has no contract:
@@ -11,9 +11,11 @@ mod interrupted;
 mod refusing;
 mod saying;
 mod spoiling;
+mod stopping_disk;
 
 pub use failing::{EndlessReader, FailingReader, FailingWriter};
 pub use interrupted::{InterruptedReader, InterruptedWriter};
 pub use refusing::Refusing;
 pub use saying::says;
 pub use spoiling::{count, spoiled};
+pub use stopping_disk::StoppingDisk;

@@ -1,16 +1,10 @@
-use Rattle.dm_store.proofs.Leaving.{load_leaves}
 use Rattle.dm_store.proofs.InFolder.{set_loads}
 use Rattle.dm_store.proofs.file_set.FileSetStoreSet.load.Goals as goal
 
 pub returns-clause-loads : goal.returns-clause-loads
 returns-clause-loads g c = rw (← c.self.view_is) (rw c.as_str.ensures.value at
-    (set_loads _ _ _ c.load_key.ensures.honesty c.self.inside.is_synced _ _ _ _ c.ranges.key.fits
+    (set_loads _ _ _ c.load_key.ensures.honesty _ _ _ _ c.ranges.key.fits
     c.load_key.ensures.kept c.load_key.ensures.reads))
 
 pub returns-clause-kept : goal.returns-clause-kept
 returns-clause-kept g c = rw (← c.self.view_is) c.load_key.ensures.kept
-
-pub returns-clause-leaves : goal.returns-clause-leaves
-returns-clause-leaves g c = rw (← c.self.view_is) (rw c.as_str.ensures.value at
-    (load_leaves _ _ _ c.load_key.ensures.honesty c.self.inside.is_synced _ _ c.ranges.key.fits c.load_key.ensures.kept
-    c.load_key.ensures.settles (rw c.as_str.ensures.value c.self.invariant)))

@@ -1,22 +1,12 @@
-use Rattle.dm_store.proofs.Leaving.{remove_leaves, removed_on_disk}
 use Rattle.dm_store.proofs.InFolder.{remove_keeps, set_removes}
 use Rattle.dm_store.proofs.file_set.FileSetStoreSet.remove.Goals as goal
 
 pub returns-clause-removes : goal.returns-clause-removes
 returns-clause-removes g c = rw (← c.self.view_is) (rw c.as_str.ensures.value at
-    (set_removes _ _ _ c.remove_key.ensures.honesty c.self.inside.is_synced _ _ c.ranges.key.fits
+    (set_removes _ _ _ c.remove_key.ensures.honesty _ _ c.ranges.key.fits
     c.remove_key.ensures.device c.remove_key.ensures.removes))
 
 pub returns-clause-others : goal.returns-clause-others
 returns-clause-others g c = rw (← c.self.view_is) (rw c.as_str.ensures.value at
-    (remove_keeps _ _ _ c.remove_key.ensures.honesty c.self.inside.is_synced _ c.remove_key.result c.ranges.key.fits
+    (remove_keeps _ _ _ c.remove_key.ensures.honesty _ c.remove_key.result c.ranges.key.fits
     c.remove_key.ensures.removes))
-
-pub returns-clause-leaves : goal.returns-clause-leaves
-returns-clause-leaves g c = rw (← c.self.view_is) (rw c.as_str.ensures.value at
-    (remove_leaves _ _ _ c.remove_key.ensures.honesty c.self.inside.is_synced _ _ c.ranges.key.fits
-    c.remove_key.ensures.device c.remove_key.ensures.removes))
-
-pub invariant_of-self : goal.invariant_of-self
-invariant_of-self g c = removed_on_disk _ _ _ c.remove_key.ensures.honesty _ _ _ c.ranges.key.fits
-    (rw c.as_str.ensures.value at c.remove_key.ensures.removes) c.self.invariant

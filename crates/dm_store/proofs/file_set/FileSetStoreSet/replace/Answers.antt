@@ -1,10 +1,9 @@
-use Rattle.dm_store.proofs.Leaving.{replace_leaves, replaced_on_disk}
 use Rattle.dm_store.proofs.InFolder.{replace_keeps, set_replaces}
 use Rattle.dm_store.proofs.file_set.FileSetStoreSet.replace.Goals as goal
 
 pub returns-clause-replaces : goal.returns-clause-replaces
 returns-clause-replaces g c = rw (← c.self.view_is) (rw c.as_str.ensures.value at
-    (set_replaces _ _ _ c.replace_key.ensures.honesty c.self.inside.is_synced _ _ _ c.ranges.key.fits
+    (set_replaces _ _ _ c.replace_key.ensures.honesty _ _ _ c.ranges.key.fits
     c.replace_key.ensures.refused c.replace_key.ensures.saves))
 
 pub returns-clause-refused : goal.returns-clause-refused
@@ -12,14 +11,5 @@ returns-clause-refused g c = rw (← c.self.view_is) c.replace_key.ensures.refus
 
 pub returns-clause-others : goal.returns-clause-others
 returns-clause-others g c = rw (← c.self.view_is) (rw c.as_str.ensures.value at
-    (replace_keeps _ _ _ c.replace_key.ensures.honesty c.self.inside.is_synced _ _ c.replace_key.result
+    (replace_keeps _ _ _ c.replace_key.ensures.honesty _ _ c.replace_key.result
     c.ranges.key.fits c.replace_key.ensures.saves))
-
-pub returns-clause-leaves : goal.returns-clause-leaves
-returns-clause-leaves g c = rw (← c.self.view_is) (rw c.as_str.ensures.value at
-    (replace_leaves _ _ _ c.replace_key.ensures.honesty c.self.inside.is_synced _ _ _ c.ranges.key.fits
-    c.replace_key.ensures.refused c.replace_key.ensures.saves))
-
-pub invariant_of-self : goal.invariant_of-self
-invariant_of-self g c = replaced_on_disk _ _ _ c.replace_key.ensures.honesty _ _ _ _ c.ranges.key.fits
-    (rw c.as_str.ensures.value at c.replace_key.ensures.saves) c.self.invariant

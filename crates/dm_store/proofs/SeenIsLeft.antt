@@ -1,13 +1,12 @@
--- On a disk in memory a stop may leave what a reader finds: the proof that its `impl` owes the contract of disks.
--- Nothing here says what a disk does.
+-- On a disk in memory a stop may leave what a reader finds.
 use Rattle.std.specs.Prelude.{◌≡◌, refl, ℕ, Bool, true, false, ◌||◌, List, [], ◌∷◌, Some, None, is_none, if◌then◌else◌}
 use Rattle.std.specs.Str.{bytes_eq}
 use Rattle.std.specs.String.{string_bytes}
 use Rattle.std.proofs.lemmas.Slice.Eq.{bytes_eq-Decides}
 use Rattle.dm_store.specs.declared.mem_disk.DiskCall.{DiskCall}
-use Rattle.dm_store.specs.declared.mem_disk.DiskCall.TheVariants.{Wrote, Synced, Renamed, Removed, SyncedEntry, SyncedFolder}
+use Rattle.dm_store.specs.declared.mem_disk.DiskCall.TheVariants.{Wrote, Synced, Renamed, Removed, SyncedEntry}
 use Rattle.dm_store.specs.Disk.{Content}
-use Rattle.dm_store.specs.DiskCalls.{seen_after, synced_after, begins_with, content_eq, leaves_after}
+use Rattle.dm_store.specs.DiskCalls.{seen_after, synced_after, content_eq, leaves_after}
 
 content_eq-same : (content : Content) → content_eq content content ≡ true
 content_eq-same None = refl
@@ -68,8 +67,3 @@ leaves_seen {A} (SyncedEntry synced ∷ before) name =
     let on = either (synced_after before name) (content_eq seen seen) (leaves_after before name seen)
     (content_eq-same seen) (leaves_seen before name) in
     either (bytes_eq (string_bytes synced) name) _ _ on (leaves_seen before name)
-leaves_seen {A} (SyncedFolder start ∷ before) name =
-    let seen = seen_after before name in
-    let on = either (synced_after before name) (content_eq seen seen) (leaves_after before name seen)
-    (content_eq-same seen) (leaves_seen before name) in
-    either (begins_with name (string_bytes start)) _ _ on (leaves_seen before name)
