@@ -1,7 +1,8 @@
 //! The files on a disk, and those that a stop may leave there.
 
-use dm_store::{Disk, MemDisk};
+use dm_store::Disk;
 use std::alloc::{AllocError, Global};
+use test_helpers::MemDisk;
 
 /// The bytes of a file, or none where no file is.
 pub type Content = Option<Vec<u8>>;

@@ -1,9 +1,9 @@
 //! A machine with a disk in memory, which all stores of a command share, and which stops after a number of calls.
 
-use dm_store::{Disk, DiskFault, Folders, Kept, LoadFault, MemDisk};
+use dm_store::{Disk, DiskFault, Folders, Kept, LoadFault};
 use std::alloc::Global;
 use std::cell::RefCell;
-use test_helpers::StoppingDisk;
+use test_helpers::{MemDisk, StoppingDisk};
 
 /// The disk of a machine that stops.
 #[derive(Drop)]

@@ -6,10 +6,11 @@ use crate::calls::{LABEL, LABELS};
 use crate::left_files::{Files, LeftFiles};
 use crate::machine::Machine;
 use crate::machine_calls::{MachineCall, MachineEnd, make_call};
-use dm_store::{Kept, MemDisk};
+use dm_store::Kept;
 use std::alloc::{AllocError, Global};
 use std::process::Abort;
 use std::test::Fail;
+use test_helpers::MemDisk;
 
 // More calls of the disk than a command makes.
 const MOST_CALLS: u32 = 40;

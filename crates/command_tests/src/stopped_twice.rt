@@ -5,9 +5,10 @@ use crate::left_files::{Files, LeftFiles};
 use crate::machine::Machine;
 use crate::machine_calls::{MachineCall, make_call};
 use crate::stopped_machine::{ADDED_FIRST, BOTH, OTHER, OTHER_IS_HELD};
-use dm_store::{Kept, MemDisk};
+use dm_store::Kept;
 use std::alloc::{AllocError, Global};
 use std::test::Fail;
+use test_helpers::MemDisk;
 
 // More calls of the disk than the command makes.
 const MOST_CALLS: u32 = 24;

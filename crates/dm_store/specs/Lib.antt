@@ -6,6 +6,5 @@ pub mod Fused
 pub mod Lending
 pub mod Unclaimed
 pub mod Disk
-pub mod DiskCalls
 pub mod Filed
 pub mod Folder

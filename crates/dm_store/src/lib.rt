@@ -20,10 +20,8 @@
 //! plan may hold. [`FileSet`] is a set in a folder of a disk that has the calls of [`Folders`], and the same is proved of
 //! the file of each key; a remove leaves the old bytes or none, and none once it has answered `Ok`.
 //!
-//! [`MemDisk`] is a disk in memory, of which a stop may leave whatever the contract allows after calls that were done; a
-//! call that fails changes nothing there. [`RealDisk`] is the system's own files: it claims nothing. That its few lines
-//! do what the contract says is trusted, and tested; so is the sync by which a folder that was made is kept, which no
-//! clause speaks of.
+//! [`RealDisk`] is the system's own files: it claims nothing. That its few lines do what the contract says is trusted,
+//! and tested; so is the sync by which a folder that was made is kept, which no clause speaks of.
 #![tactic(auto)]
 
 mod disk;
@@ -33,7 +31,6 @@ mod files;
 mod fuse;
 mod key_files;
 mod key_map;
-mod mem_disk;
 mod mem_set;
 mod mem_store;
 mod real_disk;
@@ -45,7 +42,6 @@ pub use file_set::FileSet;
 pub use file_store::FileStore;
 pub use fuse::{Fuse, FuseSet, FuseStore, Kept};
 pub use key_map::KeyMap;
-pub use mem_disk::{DiskCall, MemDisk};
 pub use mem_set::MemSet;
 pub use mem_store::{MemStore, NextSave};
 pub use real_disk::RealDisk;

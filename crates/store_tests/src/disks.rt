@@ -1,11 +1,11 @@
 //! What a stop of the machine leaves on the worst disk that the definitions allow: of a save, after a load, and of four
 //! ways to save that are wrong.
 
-use dm_store::{Disk, DiskFault, FileStore, Kept, MemDisk, ReplaceFault, Store};
+use dm_store::{Disk, DiskFault, FileStore, Kept, ReplaceFault, Store};
 use std::alloc::{AllocError, Global};
 use std::process::Abort;
 use std::test::Fail;
-use test_helpers::StoppingDisk;
+use test_helpers::{MemDisk, StoppingDisk};
 
 // Which contents a stop may leave in the file: the old one, the new one, and any other, as a part of the new one or
 // nothing.

@@ -1,2 +1,4 @@
 pub mod Steps
 mod Fields
+mod SeenIsLeft
+mod Noted

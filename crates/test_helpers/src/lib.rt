@@ -2,12 +2,14 @@
 //! writers that fail, are interrupted or never end, a look at the text of a fault, and a disk whose machine stops.
 //!
 //! Proved: each call returns and is safe, and [`Refusing`] is an allocator, so that what owns memory of it owns memory
-//! of the allocator within. What else the comments say has no contract:
-//! `stream_and_image_tests` shows it.
+//! of the allocator within. [`MemDisk`] is proved to be an honest disk, of which a stop may leave whatever the contract of
+//! disks allows after calls that were done; a call that fails changes nothing there. What else the comments say has no
+//! contract: `stream_and_image_tests` shows it.
 #![tactic(auto)]
 
 mod failing;
 mod interrupted;
+mod mem_disk;
 mod refusing;
 mod saying;
 mod spoiling;
@@ -15,6 +17,7 @@ mod stopping_disk;
 
 pub use failing::{EndlessReader, FailingReader, FailingWriter};
 pub use interrupted::{InterruptedReader, InterruptedWriter};
+pub use mem_disk::{DiskCall, MemDisk};
 pub use refusing::Refusing;
 pub use saying::says;
 pub use spoiling::{count, spoiled};

@@ -1,6 +1,7 @@
 //! A disk in memory whose machine stops.
 
-use dm_store::{Disk, DiskFault, Folders, Kept, LoadFault, MemDisk};
+use crate::mem_disk::MemDisk;
+use dm_store::{Disk, DiskFault, Folders, Kept, LoadFault};
 use std::alloc::{AllocError, Global};
 
 // A folder has files of the keys below this.

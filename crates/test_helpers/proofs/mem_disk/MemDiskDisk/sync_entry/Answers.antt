@@ -1,5 +1,5 @@
-use Rattle.dm_store.proofs.Noted.{noted_entry, noted_kept}
-use Rattle.dm_store.proofs.mem_disk.MemDiskDisk.sync_entry.Goals as goal
+use Rattle.test_helpers.proofs.Noted.{noted_entry, noted_kept}
+use Rattle.test_helpers.proofs.mem_disk.MemDiskDisk.sync_entry.Goals as goal
 
 pub returns-clause-syncs : goal.returns-clause-syncs
 returns-clause-syncs g c = λ _. noted_entry _ _ _ _ c.note.result c.in_ok-synced.ensures c.note.ensures.ok

@@ -1,16 +1,15 @@
 -- A sync of an entry that is noted meets the contract of a disk.
 use Rattle.std.proofs.Common.{◌≡◌, ℕ, List, ◌∷◌, Some, None, Result, Ok, Bool, true, false, refl, sym, ap, subst, String, Err}
 use Rattle.std.proofs.lemmas.Slice.Eq.{bytes_eq-Decides}
-use Rattle.std.specs.Prelude.{OnOk, OnErr, if◌then◌else◌}
+use Rattle.std.specs.Prelude.{IsOk, OnOk, OnErr, if◌then◌else◌}
 use Rattle.std.specs.Str.{bytes_eq}
 use Rattle.std.specs.String.{string_bytes}
 use Rattle.dm_store.specs.declared.disk.DiskFault.{DiskFault}
-use Rattle.dm_store.proofs.Saving.{not_both}
-use Rattle.dm_store.specs.declared.mem_disk.DiskCall.{DiskCall}
-use Rattle.dm_store.specs.declared.mem_disk.DiskCall.TheVariants.{SyncedEntry}
+use Rattle.test_helpers.specs.declared.mem_disk.DiskCall.{DiskCall}
+use Rattle.test_helpers.specs.declared.mem_disk.DiskCall.TheVariants.{SyncedEntry}
 use Rattle.dm_store.specs.Disk.{Content, Keeps, SyncsEntry}
-use Rattle.dm_store.specs.DiskCalls.{seen_after, synced_after, content_eq, leaves_after, disk_after}
-use Rattle.dm_store.proofs.SeenIsLeft.{leaves_seen}
+use Rattle.test_helpers.specs.DiskCalls.{seen_after, synced_after, content_eq, leaves_after, disk_after}
+use Rattle.test_helpers.proofs.SeenIsLeft.{leaves_seen}
 
 same_content : (a b : Content) → content_eq a b ≡ true → a ≡ b
 same_content None None is = refl
@@ -57,6 +56,9 @@ noted_kept {A} calls later n each (Err fault) ok err =
     subst (λ (es : List (DiskCall A)). Keeps (disk_after calls) each (disk_after es)) (sym err)
     (record { seen = refl; synced = λ on. on; left = λ content leaves. leaves })
 
+not_ok : (fault : DiskFault) → IsOk {T = Unit {0}} {E = DiskFault} (Err fault) → ⊥
+not_ok fault ok = cc
+
 pub noted_entry : {A : Type 0} (calls later : List (DiskCall A)) (n : String A) (name : List ℕ)
     (answer : Result (Unit {0}) DiskFault) → string_bytes n ≡ name
     → OnOk answer (later ≡ SyncedEntry n ∷ calls) → SyncsEntry (disk_after calls) name answer (disk_after later)
@@ -67,4 +69,4 @@ noted_entry {A} calls later n name (Ok done) is ok = record {
       ((bytes_eq-Decides (string_bytes n) name).1 is) on here;
 }
 noted_entry {A} calls later n name (Err fault) is ok =
-    record { done = λ done. absurd (not_both {T = Unit {0}} {F = DiskFault} (Err fault) refl done) }
+    record { done = λ done. absurd (not_ok fault done) }

@@ -3,10 +3,10 @@ use Rattle.std.specs.Prelude.{◌≡◌, refl, ℕ, Bool, true, false, ◌||◌,
 use Rattle.std.specs.Str.{bytes_eq}
 use Rattle.std.specs.String.{string_bytes}
 use Rattle.std.proofs.lemmas.Slice.Eq.{bytes_eq-Decides}
-use Rattle.dm_store.specs.declared.mem_disk.DiskCall.{DiskCall}
-use Rattle.dm_store.specs.declared.mem_disk.DiskCall.TheVariants.{Wrote, Synced, Renamed, Removed, SyncedEntry}
+use Rattle.test_helpers.specs.declared.mem_disk.DiskCall.{DiskCall}
+use Rattle.test_helpers.specs.declared.mem_disk.DiskCall.TheVariants.{Wrote, Synced, Renamed, Removed, SyncedEntry}
 use Rattle.dm_store.specs.Disk.{Content}
-use Rattle.dm_store.specs.DiskCalls.{seen_after, synced_after, content_eq, leaves_after}
+use Rattle.test_helpers.specs.DiskCalls.{seen_after, synced_after, content_eq, leaves_after}
 
 content_eq-same : (content : Content) → content_eq content content ≡ true
 content_eq-same None = refl

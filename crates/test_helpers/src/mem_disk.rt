@@ -1,12 +1,10 @@
 //! A disk in memory.
 
-ghost use Rattle.std.specs.Prelude.{◌≡◌, ◌∷◌, [], option_map, IfOk, OnOk, OnErr, IsErrOf};
+ghost use Rattle.std.specs.Prelude.{◌≡◌, ◌+◌, take, ◌∷◌, [], option_map, IfOk, OnOk, OnErr, IsErrOf};
 ghost use Rattle.std.specs.String.{string_bytes};
-ghost use Rattle.dm_store.specs.DiskCalls.{seen_after, synced_after, content_eq, leaves_after};
+ghost use Rattle.test_helpers.specs.DiskCalls.{seen_after, synced_after, content_eq, leaves_after};
 
-use crate::disk::{Disk, DiskFault};
-use crate::mem_store::copy_of;
-use crate::store::LoadFault;
+use dm_store::{Disk, DiskFault, LoadFault};
 use std::alloc::{AllocError, Allocator, Global};
 
 /// A call of a disk that was done.
@@ -139,6 +137,18 @@ fn may_leave_in<A: Allocator>(calls: &[DiskCall<A>], name: &str, content: Option
     }
 }
 
+// A copy of the bytes, or of the first `limit + 1` where they are longer.
+fn copy_of<A: Allocator>(alloc: A, bytes: &[u8], limit: usize) -> Result<Vec<u8, A>, AllocError>
+    ensures { IfOk result (λ copy. copy.items ≡ take (limit + 1) bytes.now) }
+{
+    let shown = if limit < bytes.len() {
+        &bytes[..limit + 1]
+    } else {
+        bytes
+    };
+    Vec::from_slice(alloc, shown)
+}
+
 // Keeps a call that is done.
 fn note<A: Allocator>(calls: &mut Vec<DiskCall<A>, A>, call: DiskCall<A>) -> Result<(), DiskFault>
     ensures ok { OnOk result (calls.new.items ≡ call ∷ calls.old.items) }
@@ -181,7 +191,7 @@ impl<A: Allocator + Copy> MemDisk<A> {
 }
 
 impl<A: Allocator + Copy> Disk for MemDisk<A> {
-    ghost use Rattle.dm_store.specs.DiskCalls.{disk_after};
+    ghost use Rattle.test_helpers.specs.DiskCalls.{disk_after};
 
     type Memory = A;
 
