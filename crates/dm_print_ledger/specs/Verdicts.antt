@@ -1,5 +1,4 @@
--- What a print, a range given and a ticket taken make of a ledger, or the first refusal that applies; and the calls,
--- which carry that out.
+-- What a print, a range given and a ticket taken make of a ledger, or its first refusal; and calls that carry it out.
 use Rattle.std.specs.Prelude.{◌≡◌, ℕ, ◌+◌, ◌||◌, not, length, Result, Ok, Err, IfOk, ◌==◌, nat_lt, if◌then◌else◌, Bool}
 use Rattle.dm_print_ledger.specs.declared.range.Range.{Range}
 use Rattle.dm_print_ledger.specs.declared.giver.Giver.{Giver}
