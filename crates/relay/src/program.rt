@@ -86,6 +86,24 @@ fn disk_of<'a, R: AllocGlobal + Files>(rt: &'a R, place: &Place) -> RealDisk<'a,
     }
 }
 
+// Does a command over the files at a place, behind a gate.
+fn do_on_files<R: AllocGlobal + Eprint + Files<File = File> + Clone, I: Read + Drop, W: Write>(
+    rt: &R,
+    gate: &Gate<'_, R>,
+    place: &Place,
+    notes: &mut RefusedImages<'_, R>,
+    streams: &mut Streams<I, W, LineBuffer<ErrorWriter<'_, R>>>,
+    command: Command,
+) -> Result<u8, AllocError> {
+    let alloc = rt.alloc();
+    let (file, folder) = (place.file.clone()?, place.folder.clone()?);
+    let disk = Locked::new(gate, disk_of(rt, place));
+    let store = FileStore::new(alloc, disk, file);
+    let disk = Locked::new(gate, RealDisk::new(alloc, rt));
+    let set = FileSet::new(alloc, disk, folder);
+    Ok(do_command(alloc, store, set, streams, notes, command).status)
+}
+
 // Does a command over its files, lets its output out, and only then lets other programs come.
 fn run_on_files<R: AllocGlobal + Eprint + Files<File = File> + Clone, I: Read + Drop, W: Write>(
     rt: &R,
@@ -95,18 +113,12 @@ fn run_on_files<R: AllocGlobal + Eprint + Files<File = File> + Clone, I: Read + 
     output: &mut LineBuffer<W>,
     command: Command,
 ) -> Result<u8, AllocError> {
-    let alloc = rt.alloc();
     let place = Place::of(rt, named)?;
-    let (file, folder) = (place.file.clone()?, place.folder.clone()?);
     let gate = Gate::new(rt, &place);
     let status = {
-        let disk = Locked::new(&gate, disk_of(rt, &place));
-        let store = FileStore::new(alloc, disk, file);
-        let disk = Locked::new(&gate, RealDisk::new(alloc, rt));
-        let set = FileSet::new(alloc, disk, folder);
         let mut streams = Streams::new(reader, &mut *output, errors_of(rt));
         let mut notes = RefusedImages::new(rt, source);
-        do_command(alloc, store, set, &mut streams, &mut notes, command).status
+        do_on_files(rt, &gate, &place, &mut notes, &mut streams, command)?
     };
     let status = finish(rt, output, command, status);
     if status != 0 || gate.reason.get().is_some() {
