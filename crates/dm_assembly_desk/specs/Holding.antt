@@ -2,8 +2,8 @@
 -- saves the file of one of them first; or it answers, and nothing changes.
 use Rattle.std.specs.Prelude.{◌≡◌, ℕ, true, Option, Some, None, Result, IsTrue}
 use Rattle.std.specs.FinMap as map
-use Rattle.dm_store.specs.Saved.{SavePlan, HeldAfterFault, Outcome, Done, Faulted, Refused}
-use Rattle.dm_store.specs.Sets.{SavedSet, Saves, RemovesKey, outcome_of_remove}
+use Rattle.dm_store.specs.Saved.{SavePlan, HeldAfterFault, Outcome, Done, Faulted, Refused, Saves}
+use Rattle.dm_store.specs.Sets.{SavedSet, RemovesKey, outcome_of_remove}
 use Rattle.dm_store.specs.declared.set.RemoveFault.{RemoveFault}
 use Rattle.dm_assembly_desk.specs.Pages.{Pages}
 use Rattle.dm_assembly_desk.specs.Files.{file}

@@ -9,7 +9,8 @@ use Rattle.dm_store.specs.declared.store.ReplaceFault.{ReplaceFault}
 use Rattle.dm_store.specs.declared.store.ReplaceFault.TheVariants as replacing
 use Rattle.dm_store.specs.declared.set.RemoveFault.{RemoveFault}
 use Rattle.dm_store.specs.declared.set.RemoveFault.TheVariants as removing
-use Rattle.dm_store.specs.Sets.{ListsKeys, LoadsKey, Saves, SavesKey, ReplacesKey, RemovesKey, outcome_of_remove}
+use Rattle.dm_store.specs.Sets.{ListsKeys, LoadsKey, SavesKey, RemovesKey, outcome_of_remove}
+use Rattle.dm_store.specs.Saved.{Saves}
 use Rattle.dm_store.specs.Disk.{DiskState, Content, Keeps, KeepsAll, Reads, SavesFile, RemovesFile, draft_of}
 use Rattle.dm_store.specs.Folder.{contents_in, key_path, found_in, set_in}
 use Rattle.dm_store.proofs.Held.{held_at, found_is, held_same, held_kept, held_replaced, held_removed}
@@ -86,12 +87,12 @@ module _ (old new : DiskState) (folder : List ℕ) (honesty : new.is_honest ≡ 
     unchanged key now others = held_kept (found_in old folder) (found_in new folder) (2 ^ 16) key
         (found_same key (λ _. now)) others
 
-    saves_replaced : (key : ℕ) (bytes : List ℕ) (answer : Result (Unit {0}) ReplaceFault) → key < 2 ^ 16
+    pub set_replaces : (key : ℕ) (bytes : List ℕ) (answer : Result (Unit {0}) ReplaceFault) → key < 2 ^ 16
         → (IsErrOf answer replacing.Memory → KeepsAll old new)
         → (IsTrue old.is_honest
         → SavesFile old (key_path folder key) (draft_of (key_path folder key)) bytes answer new)
         → SavesKey (set_in old folder) key bytes answer (set_in new folder)
-    saves_replaced key bytes (Ok done) lt refused saves = record {
+    set_replaces key bytes (Ok done) lt refused saves = record {
       same_honesty = honesty;
       same_memory = refl;
       same_load_plan = refl;
@@ -101,7 +102,7 @@ module _ (old new : DiskState) (folder : List ℕ) (honesty : new.is_honest ≡ 
       refused = λ is. cc;
       faulted = λ is. cc;
     }
-    saves_replaced key bytes (Err replacing.Device) lt refused saves = record {
+    set_replaces key bytes (Err replacing.Device) lt refused saves = record {
       same_honesty = honesty;
       same_memory = refl;
       same_load_plan = refl;
@@ -112,7 +113,7 @@ module _ (old new : DiskState) (folder : List ℕ) (honesty : new.is_honest ≡ 
           ⊎_elim (λ before. inl (unchanged key before others))
           (λ after. inr (replaced key bytes lt honest after others)) ((saves honest).failed refl);
     }
-    saves_replaced key bytes (Err replacing.Memory) lt refused saves = record {
+    set_replaces key bytes (Err replacing.Memory) lt refused saves = record {
       same_honesty = honesty;
       same_memory = refl;
       same_load_plan = refl;
@@ -121,14 +122,6 @@ module _ (old new : DiskState) (folder : List ℕ) (honesty : new.is_honest ≡ 
       refused = λ _. set_kept (refused refl);
       faulted = λ is. cc;
     }
-
-    pub set_replaces : (key : ℕ) (bytes : List ℕ) (answer : Result (Unit {0}) ReplaceFault) → key < 2 ^ 16
-        → (IsErrOf answer replacing.Memory → KeepsAll old new)
-        → (IsTrue old.is_honest
-        → SavesFile old (key_path folder key) (draft_of (key_path folder key)) bytes answer new)
-        → ReplacesKey (set_in old folder) key bytes answer (set_in new folder)
-    set_replaces key bytes answer lt refused saves =
-        record { saves = saves_replaced key bytes answer lt refused saves; memory = λ _. refl }
 
     saves_removed : (key : ℕ) (answer : Result (Unit {0}) RemoveFault) → key < 2 ^ 16
         → (IsErr answer → answer ≡ Err removing.Device)

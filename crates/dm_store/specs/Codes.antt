@@ -4,8 +4,8 @@ use Rattle.std.specs.Prelude.{◌≡◌, refl, ℕ, Bool, false, true, Option, L
 use Rattle.std.specs.Ordering.{nat_cmp}
 use Rattle.std.specs.FinMap as map
 use Rattle.std.specs.Coded.{Coded, code_by, coded×, coded_ℕ, coded_bool, coded_list, coded_option}
-use Rattle.dm_store.specs.Saved.{LoadPlan, LoadsFine, LoadsOpen, SavePlan, SavesFine, FaultOld, FaultNew, SavesOpen, Saved}
-use Rattle.dm_store.specs.Sets.{Contents, SavedSet}
+use Rattle.dm_store.specs.Saved.{LoadPlan, LoadsFine, LoadsOpen, SavePlan, SavesFine, FaultOld, FaultNew, SavesOpen, Saved, SavedIn}
+use Rattle.dm_store.specs.Sets.{SavedSet}
 
 -- a plan as truth values, and back
 abbrev pub load_bit : LoadPlan → Bool
@@ -42,14 +42,10 @@ same_save SavesOpen = refl
 abbrev pub Parts : Type 0 → Type 0
 Parts X = X × (Bool × (Bool × (Bool × (Bool × Bool))))
 
-abbrev pub parts_code : {X : Type 0} → Coded X → Coded (Parts X)
-parts_code content =
-    coded× content (coded× coded_bool (coded× coded_bool (coded× coded_bool (coded× coded_bool coded_bool))))
-
-abbrev pub saved_parts : Saved → Parts (Option (List ℕ))
+abbrev pub saved_parts : {X : Type 0} → SavedIn X → Parts X
 saved_parts s = (s.content, (s.is_honest, (s.may_lack_memory, (load_bit s.load_plan, save_bits s.save_plan))))
 
-abbrev pub saved_whole : Parts (Option (List ℕ)) → Saved
+abbrev pub saved_whole : {X : Type 0} → Parts X → SavedIn X
 saved_whole p = record {
   content = p.0;
   is_honest = p.1.0;
@@ -58,7 +54,7 @@ saved_whole p = record {
   save_plan = save_of p.1.1.1.1;
 }
 
-pub saved_whole-parts : (s : Saved) → saved_whole (saved_parts s) ≡ s
+pub saved_whole-parts : {X : Type 0} (s : SavedIn X) → saved_whole (saved_parts s) ≡ s
 saved_whole-parts s = λ i.
     record {
       content = s.content;
@@ -68,36 +64,14 @@ saved_whole-parts s = λ i.
       save_plan = same_save s.save_plan i;
     }
 
--- the code of a store
+-- the code of a store or a set, by that of its content
+abbrev pub saved_in_code : {X : Type 0} → Coded X → Coded (SavedIn X)
+saved_in_code {X} content =
+    code_by (Parts X) (coded× content (coded× coded_bool (coded× coded_bool (coded× coded_bool (coded× coded_bool coded_bool)))))
+    saved_parts saved_whole saved_whole-parts
+
 abbrev pub saved_code : Coded Saved
-saved_code =
-    code_by (Parts (Option (List ℕ))) (parts_code (coded_option (coded_list coded_ℕ))) saved_parts saved_whole
-    saved_whole-parts
+saved_code = saved_in_code (coded_option (coded_list coded_ℕ))
 
-abbrev pub set_parts : SavedSet → Parts Contents
-set_parts s = (s.content, (s.is_honest, (s.may_lack_memory, (load_bit s.load_plan, save_bits s.save_plan))))
-
-abbrev pub set_whole : Parts Contents → SavedSet
-set_whole p = record {
-  content = p.0;
-  is_honest = p.1.0;
-  may_lack_memory = p.1.1.0;
-  load_plan = load_of p.1.1.1.0;
-  save_plan = save_of p.1.1.1.1;
-}
-
-pub set_whole-parts : (s : SavedSet) → set_whole (set_parts s) ≡ s
-set_whole-parts s = λ i.
-    record {
-      content = s.content;
-      is_honest = s.is_honest;
-      may_lack_memory = s.may_lack_memory;
-      load_plan = same_load s.load_plan i;
-      save_plan = same_save s.save_plan i;
-    }
-
--- the code of a set
 abbrev pub saved_set_code : Coded SavedSet
-saved_set_code =
-    code_by (Parts Contents) (parts_code (map.code {R = nat_cmp} coded_ℕ (coded_list coded_ℕ))) set_parts set_whole
-    set_whole-parts
+saved_set_code = saved_in_code (map.code {R = nat_cmp} coded_ℕ (coded_list coded_ℕ))

@@ -4,8 +4,7 @@ use Rattle.dm_store.specs.declared.fuse.Kept.{Kept}
 use Rattle.dm_store.specs.declared.fuse.Kept.TheVariants.{Old, New}
 use Rattle.dm_store.specs.declared.fuse.Turn.{Turn}
 use Rattle.dm_store.specs.declared.fuse.Turn.TheVariants.{Passes, Made, Stopped}
-use Rattle.dm_store.specs.Saved.{Saved, LoadsOpen, SavesOpen}
-use Rattle.dm_store.specs.Sets.{SavedSet}
+use Rattle.dm_store.specs.Saved.{SavedIn, LoadsOpen, SavesOpen}
 
 -- The store or the set within; how many calls still pass, or None once a call came after the last of these; and what
 -- the first call after them leaves, if it saves.
@@ -14,23 +13,9 @@ pub record Fused (S : Type 0) : Type 0 where
   pub left : Option ℕ
   pub kept : Kept
 
--- a store behind a fuse holds what the store within holds, lacks memory as that does, and each call may fail
-abbrev pub with_open_plans : Saved → Saved
-with_open_plans store = record store { load_plan = LoadsOpen; save_plan = SavesOpen }
-
--- the same for a set
-abbrev pub set_with_open_plans : SavedSet → SavedSet
-set_with_open_plans set = record set { load_plan = LoadsOpen; save_plan = SavesOpen }
-
--- the answer of a save that is made and then stopped: a device fault in place of Ok, and any fault as it is
-abbrev pub stopped_answer : {F : Type 0} → F → Result (Unit {0}) F → Result (Unit {0}) F
-stopped_answer device (Ok _) = Err device
-stopped_answer device (Err fault) = Err fault
-
--- `Ends made` holds of some answer of the store within, and this is what becomes of that answer
-abbrev pub IsMadeAndStopped : {F : Type 0} → F → (Result (Unit {0}) F → Type 0) → Result (Unit {0}) F → Type 0
-IsMadeAndStopped {F} device Ends answer =
-    (made : Result (Unit {0}) F) × ((answer ≡ stopped_answer device made) × Ends made)
+-- a store or a set behind a fuse holds what the one within holds, lacks memory as that does, and each call may fail
+abbrev pub with_open_plans : {X : Type 0} → SavedIn X → SavedIn X
+with_open_plans saved = record saved { load_plan = LoadsOpen; save_plan = SavesOpen }
 
 -- What a fuse does with a load, or with a call for the keys, from how many calls still pass.
 abbrev pub turn_of_load : Option ℕ → Turn
@@ -50,3 +35,16 @@ abbrev pub after_call : Option ℕ → Option ℕ
 after_call (Some (suc n)) = Some n
 after_call (Some zero) = None
 after_call None = None
+
+-- the answer of a call that is made and then stopped: a device fault in place of Ok, and any fault as it is
+abbrev pub stopped_answer : {T F : Type 0} → F → Result T F → Result T F
+stopped_answer device (Ok _) = Err device
+stopped_answer device (Err fault) = Err fault
+
+-- By its turn a call is made of the one within, and that answers; or it is made and then stopped; or the one within is
+-- left alone.
+abbrev pub Goes : {S T F : Type 0} → Turn → F → (Result T F → S → Type 0) → S → Result T F → S → Type 0
+Goes Passes device Does old answer new = Does answer new
+Goes {S} {T} {F} Made device Does old answer new =
+    (made : Result T F) × (answer ≡ stopped_answer device made) × Does made new
+Goes Stopped device Does old answer new = (answer ≡ Err device) × (new ≡ old)

@@ -24,23 +24,32 @@ pub data Outcome : Type 0 where
   Faulted : Outcome
   Refused : Outcome
 
--- What a store holds; whether it is honest: it holds what it was given to hold; whether its calls may be refused for
--- lack of memory, as those of each store here may; and its plans.
-pub record Saved : Type 0 where
-  pub content : Option (List ℕ)
+-- What a store or a set holds, of type X; whether it is honest: it holds what it was given to hold; whether its calls may
+-- be refused for lack of memory, as those of each one here may; and its plans: one for loads, one for the next save.
+pub record SavedIn (X : Type 0) : Type 0 where
+  pub content : X
   pub is_honest : Bool
   pub may_lack_memory : Bool
   pub load_plan : LoadPlan
   pub save_plan : SavePlan
 
--- The store before and after a load under this limit, and its answer. `bytes` gives the list in what was loaded.
-pub record Loads {V : Type 0} (bytes : V → List ℕ)
-    (old : Saved) (limit : ℕ) (answer : Result (Option V) LoadFault) (new : Saved) : Type 0 where
+-- a store holds one list of bytes, or none
+abbrev pub Saved : Type 0
+Saved = SavedIn (Option (List ℕ))
+
+-- Before and after a load, and its answer. `seen` gives what contracts see of what was loaded: of one that is honest,
+-- this.
+pub record Gives {X V W : Type 0} (seen : V → W) (old : SavedIn X) (wanted : W) (answer : Result V LoadFault)
+    (new : SavedIn X) : Type 0 where
   pub same : new ≡ old
-  pub saved : IsTrue old.is_honest
-      → IfOk answer (λ loaded. option_map bytes loaded ≡ option_map (take (limit + 1)) old.content)
+  pub saved : IsTrue old.is_honest → IfOk answer (λ given. seen given ≡ wanted)
   pub device : IsErrOf answer loading.Device → old.load_plan ≡ LoadsOpen
   pub memory : IsErrOf answer loading.Memory → IsTrue old.may_lack_memory
+
+-- The store before and after a load under this limit, and its answer. `bytes` gives the list in what was loaded.
+abbrev pub Loads : {V : Type 0} → (V → List ℕ) → Saved → ℕ → Result (Option V) LoadFault → Saved → Type 0
+Loads bytes old limit answer new =
+    Gives (option_map bytes) old (option_map (take (limit + 1)) old.content) answer new
 
 -- how a replace ended
 abbrev pub outcome_of : Result (Unit {0}) ReplaceFault → Outcome
@@ -72,15 +81,20 @@ HeldAfterFault FaultNew old new held = held ≡ new
 HeldAfterFault SavesFine old new held = (held ≡ old) ⊎ (held ≡ new)
 HeldAfterFault SavesOpen old new held = (held ≡ old) ⊎ (held ≡ new)
 
--- the store before and after a replace by these bytes, and its answer
-pub record Replaces
-    (old : Saved) (bytes : List ℕ) (answer : Result (Unit {0}) ReplaceFault) (new : Saved) : Type 0 where
+-- before and after a save that is to leave this content, and how it ended
+pub record Saves {X : Type 0} (old : SavedIn X) (content : X) (outcome : Outcome) (new : SavedIn X) : Type 0 where
   pub same_honesty : new.is_honest ≡ old.is_honest
   pub same_memory : new.may_lack_memory ≡ old.may_lack_memory
   pub same_load_plan : new.load_plan ≡ old.load_plan
-  pub follows : Follows old.save_plan (outcome_of answer) new.save_plan
-  pub done : outcome_of answer ≡ Done → IsTrue old.is_honest → new.content ≡ Some bytes
-  pub refused : outcome_of answer ≡ Refused → new ≡ old
-  pub memory : outcome_of answer ≡ Refused → IsTrue old.may_lack_memory
-  pub faulted : outcome_of answer ≡ Faulted → IsTrue old.is_honest
-      → HeldAfterFault old.save_plan old.content (Some bytes) new.content
+  pub follows : Follows old.save_plan outcome new.save_plan
+  pub done : outcome ≡ Done → IsTrue old.is_honest → new.content ≡ content
+  pub refused : outcome ≡ Refused → new ≡ old
+  pub faulted : outcome ≡ Faulted → IsTrue old.is_honest → HeldAfterFault old.save_plan old.content content new.content
+
+-- the store before and after a replace by these bytes, and its answer
+abbrev pub Replaces : Saved → List ℕ → Result (Unit {0}) ReplaceFault → Saved → Type 0
+Replaces old bytes answer new = Saves old (Some bytes) (outcome_of answer) new
+
+-- a call was refused for lack of memory only if those of this store or set may be
+abbrev pub MayLackMemory : {X : Type 0} → SavedIn X → Result (Unit {0}) ReplaceFault → Type 0
+MayLackMemory saved answer = IsErrOf answer replacing.Memory → IsTrue saved.may_lack_memory

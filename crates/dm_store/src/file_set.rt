@@ -1,7 +1,6 @@
 //! A set of stores in a folder of a disk, with a file for each key.
 
 ghost use Rattle.std.specs.Prelude.{◌≡◌, ◌<◌, ◌≢◌, ◌^◌, ◌+◌, take, ℕ, Err, IsErr, IfOk, IsOk, IsErrOf, IsSome, IsTrue, true, false};
-ghost use Rattle.std.specs.String.{string_bytes};
 ghost use Rattle.dm_store.specs.Disk.{
   Keeps,
   KeepsAll,
@@ -16,56 +15,12 @@ ghost use Rattle.dm_store.specs.Folder.{contents_in, key_path};
 
 use crate::disk::{Disk, DiskFault, Folders};
 use crate::file_store::{load_settled, remove_file, replace_file};
+use crate::filed::Filed;
 use crate::files::new_path_of;
 use crate::key_files::path_of;
 use crate::set::{RemoveFault, StoreSet};
 use crate::store::{LoadFault, ReplaceFault};
-use std::alloc::{Allocator, Global};
-use std::marker::Model;
-
-/// A set of stores in a folder of a disk, which is honest if the disk is.
-///
-/// The file of a key has the key as its name, in four lower-case hexadecimal digits, and is replaced as that of a
-/// [`FileStore`](crate::FileStore). Files of other names are not looked at. A folder that isn't there has no keys, and
-/// the first `replace` makes it (but not the folders that it lies in). Each `replace` brings the folder's own entry to
-/// the disk first, and each `remove` that of the key, also if no file has it; `keys` brings those of all keys there. A
-/// `remove` that lacks memory for the path of the key's file is a device fault, since it can't say whether that file is
-/// there.
-#[derive(Drop)]
-pub struct FileSet<D: Folders, A: Allocator + Copy = Global> {
-    alloc: A,
-    disk: D,
-    folder: String<A>,
-}
-
-impl<D: Folders, A: Allocator + Copy> Model for FileSet<D, A> {
-    ghost use Rattle.std.specs.String.{string_bytes};
-    ghost use Rattle.dm_store.specs.Filed.{Filed};
-
-    ghost Value = { Filed D };
-
-    ghost view = { λ f. record { disk = f.disk; path = string_bytes f.folder } };
-}
-
-impl<D: Folders, A: Allocator + Copy> FileSet<D, A> {
-    /// A set in the folder `folder` of the disk, which need not be there. It takes no memory, and makes no call.
-    pub fn new(alloc: A, disk: D, folder: String<A>) -> FileSet<D, A>
-        ensures { result ≡ record { disk = disk; path = string_bytes folder } }
-    {
-        FileSet {
-            alloc,
-            disk,
-            folder,
-        }
-    }
-
-    /// The disk, as the calls left it.
-    pub fn into_disk(self) -> D
-        ensures { result ≡ self.disk }
-    {
-        self.disk
-    }
-}
+use std::alloc::Allocator;
 
 // The keys that have a file in a folder, whose entries are on the disk then.
 fn settled_keys<D: Folders>(
@@ -158,9 +113,10 @@ fn load_key<D: Disk, A: Allocator + Copy>(
     load_settled(disk, path.as_str(), limit)
 }
 
-impl<D: Folders, A: Allocator + Copy> StoreSet for FileSet<D, A> {
-    ghost use Rattle.dm_store.specs.Sets.{ListsKeys, LoadsKey, ReplacesKey, RemovesKey};
+impl<D: Folders, A: Allocator + Copy> StoreSet for Filed<D, A> {
+    ghost use Rattle.dm_store.specs.Sets.{ListsKeys, LoadsKey, SavesKey, RemovesKey};
     ghost use Rattle.dm_store.specs.Folder.{set_in};
+    ghost use Rattle.dm_store.specs.Saved.{MayLackMemory};
     ghost use Rattle.std.specs.Prelude.{Some, None};
     ghost use Rattle.std.specs.FinMap as map;
 
@@ -179,7 +135,7 @@ impl<D: Folders, A: Allocator + Copy> StoreSet for FileSet<D, A> {
             → (D.state self.old.disk).is_synced (key_path self.old.path key)
             → IsSettled (D.state self.new.disk) (key_path self.new.path key) }
     {
-        settled_keys(&mut self.disk, self.folder.as_str(), limit)
+        settled_keys(&mut self.disk, self.path.as_str(), limit)
     }
 
     fn load(&mut self, key: u16, limit: usize) -> Result<Option<Vec<u8, D::Memory>>, LoadFault>
@@ -194,12 +150,13 @@ impl<D: Folders, A: Allocator + Copy> StoreSet for FileSet<D, A> {
             → IfOk result (λ loaded.
             IsSome loaded → IsSettled (D.state self.new.disk) (key_path self.new.path key)) }
     {
-        load_key(self.alloc, &mut self.disk, self.folder.as_str(), key, limit)
+        load_key(self.alloc, &mut self.disk, self.path.as_str(), key, limit)
     }
 
     fn replace(&mut self, key: u16, bytes: &[u8]) -> Result<(), ReplaceFault>
-        ensures replaces { ReplacesKey (set_in (D.state self.old.disk) self.old.path) key bytes.now
+        ensures replaces { SavesKey (set_in (D.state self.old.disk) self.old.path) key bytes.now
             result (set_in (D.state self.new.disk) self.new.path) }
+        ensures memory { MayLackMemory (set_in (D.state self.old.disk) self.old.path) result }
         ensures folder { self.new.path ≡ self.old.path }
         ensures refused { IsErrOf result ReplaceFault.Memory
             → KeepsAll (D.state self.old.disk) (D.state self.new.disk) }
@@ -211,7 +168,7 @@ impl<D: Folders, A: Allocator + Copy> StoreSet for FileSet<D, A> {
         ensures others { IsTrue (D.state self.old.disk).is_honest → (other : ℕ) → other < 2 ^ 16 → other ≢ key
             → Keeps (D.state self.old.disk) (key_path self.old.path other) (D.state self.new.disk) }
     {
-        replace_key(self.alloc, &mut self.disk, self.folder.as_str(), key, bytes)
+        replace_key(self.alloc, &mut self.disk, self.path.as_str(), key, bytes)
     }
 
     fn remove(&mut self, key: u16) -> Result<(), RemoveFault>
@@ -227,6 +184,6 @@ impl<D: Folders, A: Allocator + Copy> StoreSet for FileSet<D, A> {
         ensures others { IsTrue (D.state self.old.disk).is_honest → (other : ℕ) → other < 2 ^ 16 → other ≢ key
             → Keeps (D.state self.old.disk) (key_path self.old.path other) (D.state self.new.disk) }
     {
-        remove_key(self.alloc, &mut self.disk, self.folder.as_str(), key)
+        remove_key(self.alloc, &mut self.disk, self.path.as_str(), key)
     }
 }

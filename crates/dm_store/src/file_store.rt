@@ -1,7 +1,6 @@
 //! A store in a file of a disk.
 
 ghost use Rattle.std.specs.Prelude.{◌≡◌, ◌≢◌, ℕ, List, Some, IfOk, IsErrOf, IsSome, IsTrue};
-ghost use Rattle.std.specs.String.{string_bytes};
 ghost use Rattle.dm_store.specs.Disk.{
   KeepsAll,
   Reads,
@@ -12,52 +11,10 @@ ghost use Rattle.dm_store.specs.Disk.{
 };
 
 use crate::disk::{Disk, DiskFault};
+use crate::filed::Filed;
 use crate::files::new_path_of;
 use crate::store::{LoadFault, ReplaceFault, Store};
-use std::alloc::{Allocator, Global};
-use std::marker::Model;
-
-/// A store in the file at a path of a disk, which is honest if the disk is.
-///
-/// A `replace` writes the bytes to the file `PATH.new`, syncs it, renames it to `PATH`, and syncs the folder. So
-/// whenever the machine stops the file holds the old or the new bytes, and the new ones once the `replace` is done.
-/// The file `PATH.new` is made anew: what is there, as a link or what a stop has left, is never read or written. So
-/// `PATH` is a plain file after a `replace`, which makes no folder. No third file is touched.
-///
-/// A `load` syncs the folder before it answers, so that no stop takes back what it gives of a file whose bytes are on
-/// the disk, as those of a save are. It does not sync the bytes: those of a file that somebody else put there, and did
-/// not sync, a stop may take back. A load answers `None` if the file or its folder isn't there.
-#[derive(Drop)]
-pub struct FileStore<D: Disk, A: Allocator + Copy = Global> {
-    alloc: A,
-    disk: D,
-    path: String<A>,
-}
-
-impl<D: Disk, A: Allocator + Copy> Model for FileStore<D, A> {
-    ghost use Rattle.std.specs.String.{string_bytes};
-    ghost use Rattle.dm_store.specs.Filed.{Filed};
-
-    ghost Value = { Filed D };
-
-    ghost view = { λ f. record { disk = f.disk; path = string_bytes f.path } };
-}
-
-impl<D: Disk, A: Allocator + Copy> FileStore<D, A> {
-    /// A store in the file at `path` of the disk, which need not be there. It takes no memory, and makes no call.
-    pub fn new(alloc: A, disk: D, path: String<A>) -> FileStore<D, A>
-        ensures { result ≡ record { disk = disk; path = string_bytes path } }
-    {
-        FileStore { alloc, disk, path }
-    }
-
-    /// The disk, as the calls left it.
-    pub fn into_disk(self) -> D
-        ensures { result ≡ self.disk }
-    {
-        self.disk
-    }
-}
+use std::alloc::Allocator;
 
 // Puts the file at `new_path`, which was just written, in the place of the file at `path`.
 fn put_in_place<D: Disk>(disk: &mut D, path: &str, new_path: &str) -> Result<(), DiskFault>
@@ -130,8 +87,8 @@ pub(crate) fn load_settled<D: Disk>(
     }
 }
 
-impl<D: Disk, A: Allocator + Copy> Store for FileStore<D, A> {
-    ghost use Rattle.dm_store.specs.Saved.{Loads, Replaces, SavesOpen, HeldAfterFault};
+impl<D: Disk, A: Allocator + Copy> Store for Filed<D, A> {
+    ghost use Rattle.dm_store.specs.Saved.{Loads, Replaces, MayLackMemory, SavesOpen, HeldAfterFault};
     ghost use Rattle.dm_store.specs.Disk.{IsSettled, Content};
     ghost use Rattle.dm_store.specs.Filed.{saved_under};
 
@@ -156,6 +113,7 @@ impl<D: Disk, A: Allocator + Copy> Store for FileStore<D, A> {
     fn replace(&mut self, bytes: &[u8]) -> Result<(), ReplaceFault>
         ensures replaces { Replaces (saved_under (D.state self.old.disk) self.old.path) bytes.now
             result (saved_under (D.state self.new.disk) self.new.path) }
+        ensures memory { MayLackMemory (saved_under (D.state self.old.disk) self.old.path) result }
         ensures path { self.new.path ≡ self.old.path }
         ensures refused { IsErrOf result ReplaceFault.Memory
             → KeepsAll (D.state self.old.disk) (D.state self.new.disk) }

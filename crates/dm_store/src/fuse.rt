@@ -112,9 +112,8 @@ impl<S> Fuse<S> {
 }
 
 impl<S: Store> Store for Fuse<S> {
-    ghost use Rattle.std.specs.Prelude.{Err};
-    ghost use Rattle.dm_store.specs.Saved.{Loads, Replaces};
-    ghost use Rattle.dm_store.specs.Fused.{with_open_plans, IsMadeAndStopped};
+    ghost use Rattle.dm_store.specs.Saved.{Loads, Replaces, MayLackMemory};
+    ghost use Rattle.dm_store.specs.Fused.{with_open_plans, Goes};
 
     type Memory = S::Memory;
 
@@ -123,10 +122,9 @@ impl<S: Store> Store for Fuse<S> {
     fn load(&mut self, limit: usize) -> Result<Option<Vec<u8, S::Memory>>, LoadFault>
         ensures loads { Loads (λ bytes. bytes.items) (with_open_plans (S.state self.old.inner)) limit result
             (with_open_plans (S.state self.new.inner)) }
-        ensures passes { turn_of_load self.old.left ≡ Turn.Passes
-            → Loads (λ bytes. bytes.items) (S.state self.old.inner) limit result (S.state self.new.inner) }
-        ensures stopped { turn_of_load self.old.left ≡ Turn.Stopped
-            → (result ≡ Err LoadFault.Device) × (self.new.inner ≡ self.old.inner) }
+        ensures goes { Goes (turn_of_load self.old.left) LoadFault.Device
+            (λ answer inner. Loads (λ bytes. bytes.items) (S.state self.old.inner) limit answer (S.state inner))
+            self.old.inner result self.new.inner }
         ensures counts { self.new ≡ record self.old { inner = self.new.inner; left = after_call self.old.left } }
     {
         match self.take_load() {
@@ -138,42 +136,38 @@ impl<S: Store> Store for Fuse<S> {
     fn replace(&mut self, bytes: &[u8]) -> Result<(), ReplaceFault>
         ensures replaces { Replaces (with_open_plans (S.state self.old.inner)) bytes.now result
             (with_open_plans (S.state self.new.inner)) }
-        ensures passes { turn_of_save self.old.left self.old.kept ≡ Turn.Passes
-            → Replaces (S.state self.old.inner) bytes.now result (S.state self.new.inner) }
-        ensures made { turn_of_save self.old.left self.old.kept ≡ Turn.Made
-            → IsMadeAndStopped ReplaceFault.Device
-            (λ made. Replaces (S.state self.old.inner) bytes.now made (S.state self.new.inner)) result }
-        ensures stopped { turn_of_save self.old.left self.old.kept ≡ Turn.Stopped
-            → (result ≡ Err ReplaceFault.Device) × (self.new.inner ≡ self.old.inner) }
+        ensures memory { MayLackMemory (with_open_plans (S.state self.old.inner)) result }
+        ensures goes { Goes (turn_of_save self.old.left self.old.kept) ReplaceFault.Device
+            (λ answer inner. Replaces (S.state self.old.inner) bytes.now answer (S.state inner))
+            self.old.inner result self.new.inner }
         ensures counts { self.new ≡ record self.old { inner = self.new.inner; left = after_call self.old.left } }
     {
         match self.take_save() {
             Turn::Passes => self.inner.replace(bytes),
-            Turn::Made => match self.inner.replace(bytes) {
-                Ok(()) => Err(ReplaceFault::Device),
-                Err(fault) => Err(fault),
-            },
+            Turn::Made => {
+                self.inner.replace(bytes)?;
+                Err(ReplaceFault::Device)
+            }
             Turn::Stopped => Err(ReplaceFault::Device),
         }
     }
 }
 
 impl<S: StoreSet> StoreSet for Fuse<S> {
-    ghost use Rattle.std.specs.Prelude.{Err};
-    ghost use Rattle.dm_store.specs.Sets.{ListsKeys, LoadsKey, ReplacesKey, RemovesKey};
-    ghost use Rattle.dm_store.specs.Fused.{set_with_open_plans, IsMadeAndStopped};
+    ghost use Rattle.dm_store.specs.Saved.{MayLackMemory};
+    ghost use Rattle.dm_store.specs.Sets.{ListsKeys, LoadsKey, SavesKey, RemovesKey};
+    ghost use Rattle.dm_store.specs.Fused.{with_open_plans, Goes};
 
     type Memory = S::Memory;
 
-    ghost state = { λ fused. set_with_open_plans (S.state fused.inner) };
+    ghost state = { λ fused. with_open_plans (S.state fused.inner) };
 
     fn keys(&mut self, limit: usize) -> Result<Vec<u16, S::Memory>, LoadFault>
-        ensures lists { ListsKeys (λ keys. keys.items) (set_with_open_plans (S.state self.old.inner)) limit result
-            (set_with_open_plans (S.state self.new.inner)) }
-        ensures passes { turn_of_load self.old.left ≡ Turn.Passes
-            → ListsKeys (λ keys. keys.items) (S.state self.old.inner) limit result (S.state self.new.inner) }
-        ensures stopped { turn_of_load self.old.left ≡ Turn.Stopped
-            → (result ≡ Err LoadFault.Device) × (self.new.inner ≡ self.old.inner) }
+        ensures lists { ListsKeys (λ keys. keys.items) (with_open_plans (S.state self.old.inner)) limit result
+            (with_open_plans (S.state self.new.inner)) }
+        ensures goes { Goes (turn_of_load self.old.left) LoadFault.Device
+            (λ answer inner. ListsKeys (λ keys. keys.items) (S.state self.old.inner) limit answer (S.state inner))
+            self.old.inner result self.new.inner }
         ensures counts { self.new ≡ record self.old { inner = self.new.inner; left = after_call self.old.left } }
     {
         match self.take_load() {
@@ -183,12 +177,11 @@ impl<S: StoreSet> StoreSet for Fuse<S> {
     }
 
     fn load(&mut self, key: u16, limit: usize) -> Result<Option<Vec<u8, S::Memory>>, LoadFault>
-        ensures loads { LoadsKey (λ bytes. bytes.items) (set_with_open_plans (S.state self.old.inner)) key limit result
-            (set_with_open_plans (S.state self.new.inner)) }
-        ensures passes { turn_of_load self.old.left ≡ Turn.Passes
-            → LoadsKey (λ bytes. bytes.items) (S.state self.old.inner) key limit result (S.state self.new.inner) }
-        ensures stopped { turn_of_load self.old.left ≡ Turn.Stopped
-            → (result ≡ Err LoadFault.Device) × (self.new.inner ≡ self.old.inner) }
+        ensures loads { LoadsKey (λ bytes. bytes.items) (with_open_plans (S.state self.old.inner)) key limit result
+            (with_open_plans (S.state self.new.inner)) }
+        ensures goes { Goes (turn_of_load self.old.left) LoadFault.Device
+            (λ answer inner. LoadsKey (λ bytes. bytes.items) (S.state self.old.inner) key limit answer (S.state inner))
+            self.old.inner result self.new.inner }
         ensures counts { self.new ≡ record self.old { inner = self.new.inner; left = after_call self.old.left } }
     {
         match self.take_load() {
@@ -198,45 +191,38 @@ impl<S: StoreSet> StoreSet for Fuse<S> {
     }
 
     fn replace(&mut self, key: u16, bytes: &[u8]) -> Result<(), ReplaceFault>
-        ensures replaces { ReplacesKey (set_with_open_plans (S.state self.old.inner)) key bytes.now result
-            (set_with_open_plans (S.state self.new.inner)) }
-        ensures passes { turn_of_save self.old.left self.old.kept ≡ Turn.Passes
-            → ReplacesKey (S.state self.old.inner) key bytes.now result (S.state self.new.inner) }
-        ensures made { turn_of_save self.old.left self.old.kept ≡ Turn.Made
-            → IsMadeAndStopped ReplaceFault.Device
-            (λ made. ReplacesKey (S.state self.old.inner) key bytes.now made (S.state self.new.inner)) result }
-        ensures stopped { turn_of_save self.old.left self.old.kept ≡ Turn.Stopped
-            → (result ≡ Err ReplaceFault.Device) × (self.new.inner ≡ self.old.inner) }
+        ensures replaces { SavesKey (with_open_plans (S.state self.old.inner)) key bytes.now result
+            (with_open_plans (S.state self.new.inner)) }
+        ensures memory { MayLackMemory (with_open_plans (S.state self.old.inner)) result }
+        ensures goes { Goes (turn_of_save self.old.left self.old.kept) ReplaceFault.Device
+            (λ answer inner. SavesKey (S.state self.old.inner) key bytes.now answer (S.state inner))
+            self.old.inner result self.new.inner }
         ensures counts { self.new ≡ record self.old { inner = self.new.inner; left = after_call self.old.left } }
     {
         match self.take_save() {
             Turn::Passes => self.inner.replace(key, bytes),
-            Turn::Made => match self.inner.replace(key, bytes) {
-                Ok(()) => Err(ReplaceFault::Device),
-                Err(fault) => Err(fault),
-            },
+            Turn::Made => {
+                self.inner.replace(key, bytes)?;
+                Err(ReplaceFault::Device)
+            }
             Turn::Stopped => Err(ReplaceFault::Device),
         }
     }
 
     fn remove(&mut self, key: u16) -> Result<(), RemoveFault>
-        ensures removes { RemovesKey (set_with_open_plans (S.state self.old.inner)) key result
-            (set_with_open_plans (S.state self.new.inner)) }
-        ensures passes { turn_of_save self.old.left self.old.kept ≡ Turn.Passes
-            → RemovesKey (S.state self.old.inner) key result (S.state self.new.inner) }
-        ensures made { turn_of_save self.old.left self.old.kept ≡ Turn.Made
-            → IsMadeAndStopped RemoveFault.Device
-            (λ made. RemovesKey (S.state self.old.inner) key made (S.state self.new.inner)) result }
-        ensures stopped { turn_of_save self.old.left self.old.kept ≡ Turn.Stopped
-            → (result ≡ Err RemoveFault.Device) × (self.new.inner ≡ self.old.inner) }
+        ensures removes { RemovesKey (with_open_plans (S.state self.old.inner)) key result
+            (with_open_plans (S.state self.new.inner)) }
+        ensures goes { Goes (turn_of_save self.old.left self.old.kept) RemoveFault.Device
+            (λ answer inner. RemovesKey (S.state self.old.inner) key answer (S.state inner))
+            self.old.inner result self.new.inner }
         ensures counts { self.new ≡ record self.old { inner = self.new.inner; left = after_call self.old.left } }
     {
         match self.take_save() {
             Turn::Passes => self.inner.remove(key),
-            Turn::Made => match self.inner.remove(key) {
-                Ok(()) => Err(RemoveFault::Device),
-                Err(fault) => Err(fault),
-            },
+            Turn::Made => {
+                self.inner.remove(key)?;
+                Err(RemoveFault::Device)
+            }
             Turn::Stopped => Err(RemoveFault::Device),
         }
     }

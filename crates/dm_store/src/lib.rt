@@ -27,6 +27,7 @@
 mod disk;
 mod file_set;
 mod file_store;
+mod filed;
 mod files;
 mod fuse;
 mod key_files;
@@ -38,8 +39,7 @@ mod set;
 mod store;
 
 pub use disk::{Disk, DiskFault, Folders};
-pub use file_set::FileSet;
-pub use file_store::FileStore;
+pub use filed::{FileSet, FileStore, Filed};
 pub use fuse::{Fuse, FuseSet, FuseStore, Kept};
 pub use key_map::KeyMap;
 pub use mem_set::MemSet;

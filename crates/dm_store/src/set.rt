@@ -19,7 +19,8 @@ pub enum RemoveFault {
 
 /// A place for one list of bytes under each key.
 pub trait StoreSet: Drop {
-    ghost use Rattle.dm_store.specs.Sets.{SavedSet, ListsKeys, LoadsKey, ReplacesKey, RemovesKey};
+    ghost use Rattle.dm_store.specs.Saved.{MayLackMemory};
+    ghost use Rattle.dm_store.specs.Sets.{SavedSet, ListsKeys, LoadsKey, SavesKey, RemovesKey};
 
     /// What the keys and the bytes that a load gives are allocated in.
     type Memory: Allocator;
@@ -37,7 +38,8 @@ pub trait StoreSet: Drop {
 
     /// Puts the bytes in place of those saved under a key, if any.
     fn replace(&mut self, key: u16, bytes: &[u8]) -> Result<(), ReplaceFault>
-        ensures replaces { ReplacesKey (state self.old) key bytes.now result (state self.new) };
+        ensures replaces { SavesKey (state self.old) key bytes.now result (state self.new) }
+        ensures memory { MayLackMemory (state self.old) result };
 
     /// Takes away what is saved under a key.
     fn remove(&mut self, key: u16) -> Result<(), RemoveFault>

@@ -29,7 +29,7 @@ pub enum ReplaceFault {
 
 /// A place for one list of bytes.
 pub trait Store: Drop {
-    ghost use Rattle.dm_store.specs.Saved.{Saved, Loads, Replaces};
+    ghost use Rattle.dm_store.specs.Saved.{Saved, Loads, Replaces, MayLackMemory};
 
     /// What the bytes that a load gives are allocated in.
     type Memory: Allocator;
@@ -43,5 +43,6 @@ pub trait Store: Drop {
 
     /// Puts the bytes in place of the saved ones.
     fn replace(&mut self, bytes: &[u8]) -> Result<(), ReplaceFault>
-        ensures replaces { Replaces (state self.old) bytes.now result (state self.new) };
+        ensures replaces { Replaces (state self.old) bytes.now result (state self.new) }
+        ensures memory { MayLackMemory (state self.old) result };
 }

@@ -10,7 +10,7 @@ use crate::notes::{RefusedImages, note, note_faulty_file, note_folder, note_reas
 use crate::place::{Access, Named, Place, named_by, refuses_on_errors};
 use dm_store::{FileSet, FileStore, MemSet, MemStore, RealDisk};
 use relay_desk_commands::NoNotes;
-use relay_line::{Command, Line, LineFault, command_line};
+use relay_line::{Command, LineFault, command_line, image_files};
 use relay_shared::{Streams, refuse};
 use relay_streams::Output;
 use std::alloc::AllocError;
@@ -202,14 +202,20 @@ fn run_on_images<R: AllocGlobal + Input + Eprint + Files<File = File> + Clone, W
 fn run_to<R: AllocGlobal + Input + Eprint + Files<File = File> + Clone, W: Write>(
     rt: &R,
     output: &mut LineBuffer<W>,
-    line: &Line<'_>,
+    words: &[String],
+    command: Command,
 ) -> Result<u8, AllocError> {
-    if line.images.is_empty() {
-        return run_on(rt, None, rt.reader(), output, line.command);
+    let files = if answers_each_image(command) {
+        image_files(rt.alloc(), words)?
+    } else {
+        Vec::new(rt.alloc())
+    };
+    if files.is_empty() {
+        return run_on(rt, None, rt.reader(), output, command);
     }
     let mut status = 0;
-    for images in &line.images {
-        status = status.max(run_on_images(rt, images, output, line.command)?);
+    for images in &files {
+        status = status.max(run_on_images(rt, images, output, command)?);
     }
     Ok(status)
 }
@@ -218,16 +224,16 @@ fn run_to<R: AllocGlobal + Input + Eprint + Files<File = File> + Clone, W: Write
 // for; the other outputs go out in large pieces. Where a command can't begin, that is said where its refusals go.
 fn run_line<R: AllocGlobal + Input + Print + Eprint + Files<File = File> + Clone>(
     rt: &R,
-    line: &Line<'_>,
+    words: &[String],
+    command: Command,
 ) -> u8 {
-    let command = line.command;
     let least = if answers_each_image(command) {
         0
     } else {
         MANY_BYTES
     };
     let mut output = LineBuffer::new(rt.alloc(), io::writer(rt), least);
-    match run_to(rt, &mut output, line) {
+    match run_to(rt, &mut output, words, command) {
         Ok(status) => status,
         Err(AllocError) if refuses_on_errors(command) => refuse_on_errors(rt, "Memory"),
         Err(AllocError) => {
@@ -288,11 +294,11 @@ pub fn run<R: AllocGlobal + Input + Print + Eprint + Env + Files<File = File> + 
         Err(error) => return show_word_fault(rt, &error),
     };
     match command_line(rt.alloc(), words.as_slice()) {
-        Ok(line) if has_empty_path(line.command) => {
+        Ok(command) if has_empty_path(command) => {
             let _ = eprint!(rt; "error: the path of '--file <PATH>' is empty\n");
             2
         }
-        Ok(line) => run_line(rt, &line),
+        Ok(command) => run_line(rt, words.as_slice(), command),
         Err(fault) => show_fault(rt, &fault),
     }
 }

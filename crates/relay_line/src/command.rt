@@ -108,10 +108,3 @@ pub enum Command<'a> {
     /// Plays a world of printers and desks by a script.
     World,
 }
-
-/// What a line asks for: a command, and the files whose images it reads in turn, or none where it reads its input.
-#[derive(Debug, PartialEq, Eq, Drop)]
-pub struct Line<'a> {
-    pub command: Command<'a>,
-    pub images: Vec<&'a str>,
-}

@@ -13,7 +13,7 @@ mod help;
 mod options;
 mod parse;
 
-pub use command::{Command, Labels, Line};
+pub use command::{Command, Labels};
 pub use fault::LineFault;
 pub use options::scheme_of;
-pub use parse::command_line;
+pub use parse::{command_line, image_files};

@@ -3,7 +3,7 @@
 ghost use Rattle.std.specs.Prelude.{◌≡◌, ◌≤◌, ◌⊎◌, codes, option_map, slice_get, IfOk, IfErr, IfSome};
 ghost use Rattle.relay_line.specs.Line.{HasNumbersInRange, HasStatus, IsNamed, IsOfForm, command_name};
 
-use crate::command::{Command, Labels, Line};
+use crate::command::{Command, Labels};
 use crate::explain::explanation_in;
 use crate::explanations::{EXPLANATIONS, REFUSALS};
 use crate::fault::LineFault;
@@ -212,17 +212,6 @@ fn given_command<'a>(name: &str, matches: &ArgMatches<'a>) -> Option<Command<'a>
     }
 }
 
-// The files that a command reads images from.
-fn images_of<'a>(alloc: Global, matches: &ArgMatches<'a>) -> Result<Vec<&'a str>, AllocError> {
-    let mut images = Vec::new(alloc);
-    if let Some((_, options)) = matches.subcommand() {
-        if let Some(names) = options.get_strs("images") {
-            images.extend_from_slice(names)?;
-        }
-    }
-    Ok(images)
-}
-
 // What is shown where the program is asked of itself, and the exit status.
 fn shown_for(name: &str, matches: &ArgMatches<'_>) -> Option<(&'static str, u8)>
     ensures { IfSome result (λ (_, status). (status ≡ 0) ⊎ (status ≡ 2)) }
@@ -246,27 +235,46 @@ fn shown_for(name: &str, matches: &ArgMatches<'_>) -> Option<(&'static str, u8)>
 ///
 /// # Errors
 /// A line that is wrong, or that asks for help, for the version or for what a refusal means: the fault has the text.
-pub fn command_line<'a, S: AsStr>(alloc: Global, words: &'a [S]) -> Result<Line<'a>, LineFault>
-    ensures ranges { IfOk result (λ line. HasNumbersInRange line.command) }
-    ensures named { IfOk result (λ line. IsNamed (option_map S.text (slice_get words.now 1)) line.command) }
+pub fn command_line<'a, S: AsStr>(alloc: Global, words: &'a [S]) -> Result<Command<'a>, LineFault>
+    ensures ranges { IfOk result HasNumbersInRange }
+    ensures named { IfOk result (IsNamed (option_map S.text (slice_get words.now 1))) }
     ensures status { IfErr result HasStatus }
 {
     let matches = match relay(alloc)?.try_get_matches_from(words) {
         Ok(matches) => matches,
         Err(error) => return Err(fault_of(alloc, &error)),
     };
-    let images = images_of(alloc, &matches)?;
     let Some(name) = words.get(1) else {
         let (side, scheme) = (LEAST_SIDE, Scheme::Ascii);
-        let command = Command::Words { side, scheme };
-        return Ok(Line { command, images });
+        return Ok(Command::Words { side, scheme });
     };
     if let Some((text, status)) = shown_for(name.as_str(), &matches) {
         let text = String::from_str(alloc, text)?;
         return Err(LineFault::Line { text, status });
     }
     match given_command(name.as_str(), &matches) {
-        Some(command) => Ok(Line { command, images }),
+        Some(command) => Ok(command),
         None => Err(unknown(alloc)),
     }
+}
+
+/// The files that `read` or `scan` takes images from, in turn, or none where it takes them from its input. The words are
+/// those of a line that `command_line` has taken.
+///
+/// # Errors
+/// Memory was refused.
+pub fn image_files<'a, S: AsStr>(
+    alloc: Global,
+    words: &'a [S],
+) -> Result<Vec<&'a str>, AllocError> {
+    let Ok(matches) = relay(alloc)?.try_get_matches_from(words) else {
+        return Err(AllocError);
+    };
+    let mut files = Vec::new(alloc);
+    if let Some((_, options)) = matches.subcommand()
+        && let Some(names) = options.get_strs("images")
+    {
+        files.extend_from_slice(names)?;
+    }
+    Ok(files)
 }

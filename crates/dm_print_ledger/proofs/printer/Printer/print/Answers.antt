@@ -15,7 +15,12 @@ returns-then-self g c =
     record {
       cutting = None;
       is_cutting = λ running. both c.args.self.now.is_failed failed running;
-      carries = search rules;
+      carries = record {
+        in_order = subst IsInOrder c.self.view_is c.self.invariant;
+        failed = λ _. (refl, refl);
+        refused = λ running. both c.args.self.now.is_failed failed running;
+        saves = λ running. both c.args.self.now.is_failed failed running;
+      };
       made = tt;
       lost = λ is. absurd cc;
     }

@@ -1,5 +1,5 @@
 use Rattle.dm_store.proofs.InFolder.{replace_keeps, set_replaces}
-use Rattle.dm_store.proofs.file_set.FileSetStoreSet.replace.Goals as goal
+use Rattle.dm_store.proofs.file_set.FiledStoreSet.replace.Goals as goal
 
 pub returns-clause-replaces : goal.returns-clause-replaces
 returns-clause-replaces g c = rw (← c.self.view_is) (rw c.as_str.ensures.value at

@@ -1,5 +1,5 @@
 use Rattle.dm_store.proofs.InFolder.{remove_keeps, set_removes}
-use Rattle.dm_store.proofs.file_set.FileSetStoreSet.remove.Goals as goal
+use Rattle.dm_store.proofs.file_set.FiledStoreSet.remove.Goals as goal
 
 pub returns-clause-removes : goal.returns-clause-removes
 returns-clause-removes g c = rw (← c.self.view_is) (rw c.as_str.ensures.value at

@@ -1,5 +1,5 @@
 use Rattle.dm_store.proofs.InFolder.{set_loads}
-use Rattle.dm_store.proofs.file_set.FileSetStoreSet.load.Goals as goal
+use Rattle.dm_store.proofs.file_set.FiledStoreSet.load.Goals as goal
 
 pub returns-clause-loads : goal.returns-clause-loads
 returns-clause-loads g c = rw (← c.self.view_is) (rw c.as_str.ensures.value at
