@@ -16,9 +16,6 @@ pub record BeginsWithDigits (bytes : List ℕ) : Type 0 where
   pub tens : (48 ≤ get_or bytes 0 0) × (get_or bytes 0 0 ≤ 57)
   pub ones : (48 ≤ get_or bytes 1 0) × (get_or bytes 1 0 ≤ 57)
 
-digit_range : (b : ℕ) → is_ascii_digit b ≡ true → (48 ≤ b) × (b ≤ 57)
-digit_range b e = let both = and_parts _ _ e in (leb-true _ _ both.0, leb-true _ _ both.1)
-
 pub begins : (bytes : List ℕ) → has_digits bytes ≡ true → BeginsWithDigits bytes
 begins bytes e = grind arith
 
@@ -77,9 +74,6 @@ length-ascii (b ∷ []) = (some_words b).1
 length-ascii (b ∷ c ∷ bs) = grind (arith, length-ascii bs, length-ascii (c ∷ bs))
 
 -- ---- one byte more at the end
-
-one_word : (b : ℕ) → is_ascii_digit b ≡ true → length (ascii_byte b) ≡ 1
-one_word b e = let r = digit_range b e in rw (lt-ltb b 128 (omega arith)) refl
 
 both_or_not : (b : Bool) → (b ≡ true) ⊎ (b ≡ false)
 both_or_not b = grind arith

@@ -25,9 +25,6 @@ use Rattle.dm_encodation.proofs.ReadingToReads.{InMode, advance, state_255-value
 use Rattle.dm_encodation.proofs.ReadsToReading.{bind_is, randomised-append, length-randomised}
 use Rattle.dm_encodation.proofs.StuckToReading.{fnc1_is, fnc1_from, values_fail, second_tail, second_set, append_below, ok_err, moved, moved_back}
 
-same_error : {B E : Type 0} (d f : E) (r : Result B E) → r ≡ Err d → r ≡ Err f → d ≡ f
-same_error d f r a b = cc
-
 bind_err : {A B E : Type 0} (r : Result A E) (g : A → Result B E) (f : E) → (r >>= g) ≡ Err f →
     (r ≡ Err f) ⊎ ((x : A) × (r ≡ Ok x) × (g x ≡ Err f))
 bind_err {A} {B} {E} r g f e = grind arith

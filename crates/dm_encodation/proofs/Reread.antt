@@ -64,13 +64,6 @@ pub decided_fault : (p : ℕ) (words : List ℕ) (f : DecodeFault) → ((i : ℕ
     reading Ascii p words ≡ Err f → StuckOnly p words f
 decided_fault p words f fits e = stuck_only (stuck_from p words f (below_256 words fits) e)
 
-pub collected_fault : (p : ℕ) (words : List ℕ) (f : DecodeFault) → ((i : ℕ) → get_or words i 0 < 256) →
-    Fails f (reading Ascii p words) → f ≢ Memory → StuckOnly p words f
-collected_fault p words Memory fits g = λ ne. absurd (ne refl)
-collected_fault p words (Unsupported at w) fits g = λ ne. decided_fault p words (Unsupported at w) fits g
-collected_fault p words (Reserved at w) fits g = λ ne. decided_fault p words (Reserved at w) fits g
-collected_fault p words (Cut at) fits g = λ ne. decided_fault p words (Cut at) fits g
-
 pub bytes_from : (n : ℕ) (words : List ℕ) → ((i : ℕ) → get_or words i 0 < 256) → (i : ℕ) →
     get_or (drop n words) i 0 < 256
 bytes_from n words fits i = rw get_or-drop (fits (n + i))

@@ -100,10 +100,6 @@ run_length-open t bytes b ne = grind (arith, length_push, take_all, greatest_bef
 
 -- ---- a counter of a run
 
-pub counts_run_none : (t : Letters) (c : RunCounter) → c.values ≡ 0 → c.run ≡ 0 → CountsAscii [] c.after →
-    CountsRun t [] c
-counts_run_none t c e f h = grind arith
-
 pub counts_run_whole : (t : Letters) (c d : RunCounter) (b : ℕ) → d.values ≡ c.values + length (values_of t b) →
     d.values % 3 ≡ 0 → d.run ≡ d.values → CountsAscii [] d.after
     → (bytes : List ℕ) → CountsRun t bytes c → CountsRun t (bytes ++ b ∷ []) d

@@ -32,9 +32,6 @@ reading_fault m p w ws f e = ap (λ (s : Stepped). s >>= λ n. prepend n.1 (read
 bounds : (w : ℕ) → IsUnsupported w → (232 ≤ w) × (w ≤ 241) × (w ≢ 235) × (w ≢ 239)
 bounds w given = grind arith
 
-latch_is : (t : Letters) → (latch t ≡ 230) ⊎ (latch t ≡ 239)
-latch_is t = grind arith
-
 is_unsupported : {p w : ℕ} {r : Stepped} → AsciiStep p w r → IsUnsupported w → r ≡ Err (Unsupported p w)
 is_unsupported {p} {w} {r} given u = grind arith
 
@@ -57,9 +54,6 @@ bytes_short (w ∷ ws) (suc n) q at lt = let e : suc n - 1 ≡ n = omega arith i
 fnc1_at : (t : Letters) (up : Bool) → value_step t (record { upper = up; set = Second }) 27 ≡ Err Fnc1
 unfolding value_step
 fnc1_at t up = refl
-
-never_fnc1 : (up : Bool) (o : Option ℕ) → character_ended up o ≡ Err Fnc1 → ⊥
-never_fnc1 up o e = grind arith
 
 pub ok_err : {A E : Type 0} (x : A) (f : E) → Ok x ≡ Err f → ⊥
 ok_err x f e = cc

@@ -6,9 +6,6 @@ use Rattle.dm_encodation.specs.Written.{run_length, run_and_rest}
 use Rattle.dm_encodation.proofs.RunWords.{run_none, run_parts, run_alone}
 use Rattle.dm_encodation.proofs.run.push_run.Goals as goal
 
-and_false : (b : Bool) → false ≡ (b && false)
-and_false b = grind arith
-
 -- a run of no bytes, of some bytes and of all bytes of a text
 no_run : (n m : ℕ) → n ≡ 0 → false ≡ (ltb 0 n && eqb n m)
 no_run n m e = rw e refl
