@@ -14,7 +14,6 @@ pass-requires-clause-inside g c = grind (arith, some_inside)
 
 pub places_inside-requires-clause-rows : goal.places_inside-requires-clause-rows
 places_inside-requires-clause-rows g c =
-    let e = c.loop-left.invariant.walked.side in
     let s = c.mapping-side.ensures.value in
     let r = c.pass.ensures.rows in grind arith
 
