@@ -37,20 +37,11 @@ open_stays (b ∷ d) e =
 
 pub closed_none : (d : List ℕ) → signs_from false d ≡ [] → in_comment false d ≡ false → d ≡ []
 closed_none [] e c = refl
-closed_none (b ∷ d) e c =
-    elim (is_hidden false b) as (λ h. cond h (signs_from true d) (b ∷ signs_from false d) ≡ [] →
-    in_comment h d ≡ false → b ∷ d ≡ []) [
-      | true ↦ λ f k. let o = open_stays d f in cc
-      | false ↦ λ f k. cc
-    ] e c
+closed_none (b ∷ d) e c = grind (arith, open_stays)
 
 pub signs_after : (a d : List ℕ) → in_comment false a ≡ false
     → (signs (a ++ d) ≡ signs a ++ signs d) × (in_comment false (a ++ d) ≡ in_comment false d)
-signs_after a d c = (
-  signs-append false a d ∙ ap (λ v. signs a ++ signs_from v d) c,
-  in_comment-append false a d
-      ∙ ap (λ v. in_comment v d) c,
-)
+signs_after a d c = grind (arith, signs-append, in_comment-append)
 
 pub done_walk : (body : List ℕ) (w h : ℕ) → IsHeaderBody body w h
     → walk (Some AfterMagic) (signs body) ≡ Some (Done (min w 1025) (min h 1025))
@@ -82,25 +73,17 @@ same_rows : (n : ℕ) (a b : List (List ℕ)) → AllByRecursion (λ r. length r
 same_rows n [] [] p q l e = refl
 same_rows n [] (v ∷ b) p q l e = absurd (omega arith)
 same_rows n (u ∷ a) [] p q l e = absurd (omega arith)
-same_rows n (u ∷ a) (v ∷ b) p q l e =
-    let one = p.0 in
-    let two = q.0 in
-    let m = same_fronts u v (concat a) (concat b) (one ∙ sym two) e in
-    let rest = same_rows n a b p.1 q.1 (omega arith) m.1 in cc (m.0, rest)
+same_rows n (u ∷ a) (v ∷ b) p q l e = grind (arith, same_fronts, same_rows n a b p.1 q.1 (omega arith) (same_fronts u v
+    (concat a) (concat b) (p.0 ∙ sym q.0) e).1)
 
 one_packed : (a b x y : List ℕ) (w h : ℕ) (p q : List Bool) → IsPackedRaster a w h p → IsPackedRaster b w h q
     → a ++ x ≡ b ++ y → (a ≡ b) × (p ≡ q)
 one_packed a b x y w h p q r s e =
-    let m = same_fronts a b x y (length-packed a w h p r ∙ sym (length-packed b w h q s)) e in
-    let rows = same_rows (stride w) r.rows s.rows r.each s.each (r.count ∙ sym s.count) (sym r.raster_is ∙ m.0 ∙
-    s.raster_is) in
-    (m.0, r.pixels_are ∙ ap (flat_map (row_of w)) rows ∙ sym s.pixels_are)
+    grind (arith, length-packed a w h p r, same_rows (stride w) r.rows s.rows r.each s.each (r.count ∙ sym s.count) (sym
+    r.raster_is ∙ (same_fronts a b x y (length-packed a w h p r ∙ sym (length-packed b w h q s)) e).0 ∙ s.raster_is))
 
 same_digit : (p q : Bool) → digit_of p ≡ digit_of q → p ≡ q
-same_digit true true e = refl
-same_digit true false e = absurd (omega arith)
-same_digit false true e = absurd (omega arith)
-same_digit false false e = refl
+same_digit p q e = grind arith
 
 same_digits : (p q : List Bool) → map digit_of p ≡ map digit_of q → p ≡ q
 same_digits [] [] e = refl
@@ -118,10 +101,7 @@ length-digits (x ∷ p) = ap suc (length-digits p)
 -- the last of a list after a front that isn't all of it
 pub last_after : (a d f : List ℕ) (z : ℕ) → a ++ d ≡ f ++ z ∷ [] → 0 < length d → (g : List ℕ) × (d ≡ g ++ z ∷ [])
 last_after [] d f z e n = (f, e)
-last_after (u ∷ a) d [] z e n =
-    let t : a ++ d ≡ [] = cc in
-    let l : length (a ++ d) ≡ 0 = ap length t in
-    absurd (omega (arith, length-append a d))
+last_after (u ∷ a) d [] z e n = grind (arith, length-append a d)
 last_after (u ∷ a) d (v ∷ f) z e n = let t : a ++ d ≡ f ++ z ∷ [] = cc in last_after a d f z t n
 
 -- a byte outside of a comment at the end is a sign
@@ -131,15 +111,7 @@ shown_last h z c = ap (λ v. cond v [] (z ∷ [])) c
 digits_after : (d g : List ℕ) (p : Bool) → d ≡ g ++ digit_of p ∷ [] → in_comment false d ≡ false
     → 0 < length (filter is_pixel_digit (signs d))
 digits_after d g p e c =
-    let inside = in_comment false g in
-    let shut : in_comment inside (digit_of p ∷ []) ≡ false = sym (in_comment-append false g (digit_of p ∷ []))
-    ∙ ap (in_comment false) (sym e) ∙ c in
-    let text : signs d ≡ signs g ++ digit_of p ∷ [] = ap signs e ∙ signs-append false g (digit_of p ∷ [])
-    ∙ ap (λ t. signs g ++ t) (shown_last inside (digit_of p) shut) in
-    let kept : filter is_pixel_digit (signs d) ≡ filter is_pixel_digit (signs g) ++ digit_of p ∷ [] =
-    ap (filter is_pixel_digit) text ∙ filter-append is_pixel_digit (signs g) (digit_of p ∷ [])
-    ∙ ap (λ t. filter is_pixel_digit (signs g) ++ t) (digit_kept p) in
-    rw kept (simp length-append (omega arith))
+    grind (arith, in_comment-append, signs-append, shown_last, filter-append, digit_kept, length-append)
 
 pub no_more : (d : List ℕ) → (0 < length d → ⊥) → d ≡ []
 no_more [] n = refl
@@ -177,8 +149,7 @@ one_plain a b x y count p q r s e =
 
 one_raster : (plain : Bool) (a b x y : List ℕ) (w h : ℕ) (p q : List Bool) → IsRaster plain a w h p
     → IsRaster plain b w h q → a ++ x ≡ b ++ y → (a ≡ b) × (p ≡ q)
-one_raster true a b x y w h p q r s e = one_plain a b x y (w * h) p q r s e
-one_raster false a b x y w h p q r s e = one_packed a b x y w h p q r s e
+one_raster plain a b x y w h p q r s e = grind (arith, one_plain, one_packed)
 
 pub one_header : (a b x y : List ℕ) (w h w' h' : ℕ) → IsHeaderBody a w h → IsHeaderBody b w' h' → a ++ x ≡ b ++ y
     → (a ≡ b) × (min w 1025 ≡ min w' 1025) × (min h 1025 ≡ min h' 1025)
@@ -191,10 +162,7 @@ one_header a b x y w h w' h' p q e =
     ]
 
 pub one_magic : (p q : Bool) (x y : List ℕ) → magic p ++ x ≡ magic q ++ y → (p ≡ q) × (x ≡ y)
-one_magic true true x y e = (refl, cc)
-one_magic false false x y e = (refl, cc)
-one_magic true false x y e = let h : ◌≡◌ {A = ℕ} 49 52 = cc in absurd (omega arith)
-one_magic false true x y e = let h : ◌≡◌ {A = ℕ} 52 49 = cc in absurd (omega arith)
+one_magic p q x y e = grind arith
 
 -- pictures with the same fields
 pub same_picture : (p q : Picture) → p.width ≡ q.width → p.height ≡ q.height → p.pixels ≡ q.pixels →

@@ -75,46 +75,28 @@ length-concat n (r ∷ rows) h = let e = length-concat n rows h.1 in let f = h.0
 pub length-packed : (raster : List ℕ) (width height : ℕ) (pixels : List Bool) →
     IsPackedRaster raster width height pixels
     → length raster ≡ height * stride width
-length-packed raster width height pixels p = ap length p.raster_is ∙ length-concat (stride width) p.rows p.each
-    ∙ ap (λ n. n * stride width) p.count
+length-packed raster width height pixels p = grind (arith, length-concat)
 
 pub part_of : (row height n part : ℕ) → row < height → part < n → row * n + part < height * n
-part_of row height n part h p = let h' : row + 1 ≤ height = omega arith in let m :
-    (row + 1) * n ≤ height * n = mul-le-mul_right n h' in grind arith
+part_of row height n part h p = grind arith
 
 -- one more sign of a plain raster
 pub white_more : (text : List ℕ) (s : ℕ) (pixels : List Bool) → ShowsPixels text pixels → is_white s ≡ true
     → ShowsPixels (text ++ s ∷ []) pixels
-white_more text s pixels p h =
-    let sign : is_plain_sign s ≡ true = rw h refl in
-    let other : is_pixel_digit s ≡ false = grind (arith, nat_tests) in
-    record {
-      allowed = list_all-append is_plain_sign text (s ∷ []) ∙ rw (p.allowed, sign) refl;
-      digits = filter-append is_pixel_digit text (s ∷ [])
-          ∙ ap (λ t. filter is_pixel_digit text ++ cond t (s ∷ []) []) other ∙ append-nil (filter is_pixel_digit text) ∙
-          p.digits;
-    }
+white_more text s pixels p h = grind (arith, nat_tests, list_all-append, filter-append, append-nil)
 
 digit_allowed : (pixel : Bool) → list_all is_plain_sign (digit_of pixel ∷ []) ≡ true
-digit_allowed true = refl
-digit_allowed false = refl
+digit_allowed pixel = grind arith
 
 pub digit_kept : (pixel : Bool) → filter is_pixel_digit (digit_of pixel ∷ []) ≡ digit_of pixel ∷ []
-digit_kept true = refl
-digit_kept false = refl
+digit_kept pixel = grind arith
 
 pub digit_more : (text : List ℕ) (pixel : Bool) (pixels : List Bool) → ShowsPixels text pixels
     → ShowsPixels (text ++ digit_of pixel ∷ []) (pixels ++ pixel ∷ [])
-digit_more text pixel pixels p = record {
-  allowed = list_all-append is_plain_sign text (digit_of pixel ∷ []) ∙ rw p.allowed (digit_allowed pixel);
-  digits = filter-append is_pixel_digit text (digit_of pixel ∷ []) ∙
-      ap (λ t. filter is_pixel_digit text ++ t) (digit_kept pixel)
-      ∙ ap (λ t. t ++ digit_of pixel ∷ []) p.digits ∙ sym (map-append digit_of pixels (pixel ∷ []));
-}
+digit_more text pixel pixels p = grind (arith, list_all-append, digit_allowed, filter-append, digit_kept, map-append)
 
 or_false : (a b : Bool) → a ≡ false → b ≡ false → (a || b) ≡ false
-or_false true b p q = p
-or_false false b p q = q
+or_false a b p q = grind arith
 
 pub other_sign : (s : ℕ) → is_white s ≡ false → is_pixel_digit s ≡ false → is_plain_sign s ≡ false
 other_sign s w d = or_false (is_white s) (is_pixel_digit s) w d
