@@ -85,24 +85,16 @@ new_row g w rows pixels modules whole ew hrow em fits before c hc =
     let r = rows + 1 in
     let start = r * w + 1 in
     let size : length modules ≡ n = ap length em ∙ row_size g rows whole hrow in
-    let light : get_or pixels (r * w + c) false ≡ false = before.drawn r c (omega arith) hc
-    ∙ not_reached r (rows + 1) (pixel_with_quiet_zone g r c) (omega arith) in
-    ⊎_elim (λ (h : c < 1). over_below start n pixels modules (r * w + c) (omega arith) (omega arith) ∙ light ∙
-    sym (left g r c h))
+    let light : get_or pixels (r * w + c) false ≡ false = grind arith in
+    ⊎_elim (λ (h : c < 1). grind (arith, over_below, left))
     (λ (h : 1 ≤ c).
     ⊎_elim (λ (l : c < n + 1).
     let k = c - 1 in
     let place : r * w + c ≡ start + k = omega arith in
     let column : k + 1 ≡ c = omega arith in
     let below : k < n = omega arith in
-    let row : (rows + 1) * n ≡ rows * n + n = omega arith in
-    ap (λ (x : ℕ). get_or (over start n pixels modules) x false) place
-    ∙ over_within start n pixels modules k (omega arith) (omega (arith, size))
-    ∙ ap (λ (xs : List Bool). get_or xs k false) em
-    ∙ get_or-between g.modules (rows * n) ((rows + 1) * n) k false (omega (arith, row))
-    ∙ sym (within g rows k hrow below) ∙ ap (λ (x : ℕ). pixel_with_quiet_zone g r x) column)
-    (λ (l : n + 1 ≤ c). over_above start n pixels modules (r * w + c) (omega arith) size (omega arith) ∙ light ∙
-    sym (right g r c l))
+    let row : (rows + 1) * n ≡ rows * n + n = omega arith in grind (arith, over_within, get_or-between, within))
+    (λ (l : n + 1 ≤ c). grind (arith, over_above, right))
     (cases_lt c (n + 1)))
     (cases_lt c 1)
 
@@ -123,24 +115,9 @@ row_drawn g w rows pixels new modules whole ew hrow em en before =
       count = ap length en ∙ length-over start n pixels modules (omega arith) size ∙ count;
       drawn = λ r c hr hc.
           ap (λ (xs : List Bool). at xs (r * w + c)) en
-          ∙ ⊎_elim (λ (h : r < rows + 1).
-          let above : (r + 1) * w ≤ (rows + 1) * w = mul-le-mul_right w (let l : r + 1 ≤ rows + 1 = omega arith in l) in
-          over_below start n pixels modules (r * w + c) (omega arith) (omega arith) ∙ before.drawn r c hr hc
-          ∙ reached r (rows + 1) (pixel_with_quiet_zone g r c) h
-          ∙ sym (reached r (rows + 1 + 1) (pixel_with_quiet_zone g r c) (omega arith)))
+          ∙ ⊎_elim (λ (h : r < rows + 1). grind (arith, mul-le-mul_right, over_below, reached))
           (λ (h : rows + 1 ≤ r).
-          ⊎_elim (λ (l : r < rows + 2).
-          let here : r ≡ rows + 1 = omega arith in
-          ap (λ (x : ℕ). at (over start n pixels modules) (x * w + c)) here
-          ∙ new_row g w rows pixels modules whole ew hrow em fits before c hc
-          ∙ ap (λ (x : ℕ). pixel_with_quiet_zone g x c) (sym here)
-          ∙ sym (reached r (rows + 1 + 1) (pixel_with_quiet_zone g r c) (omega arith)))
-          (λ (l : rows + 2 ≤ r).
-          let below : (rows + 2) * w ≤ r * w = mul-le-mul_right w l in
-          over_above start n pixels modules (r * w + c) (omega arith) size (omega arith) ∙ before.drawn r c hr hc
-          ∙ not_reached r (rows + 1) (pixel_with_quiet_zone g r c) h
-          ∙ sym (not_reached r (rows + 1 + 1) (pixel_with_quiet_zone g r c) (omega arith)))
-          (cases_lt r (rows + 2)))
+              search (arith, ⊎_elim, new_row, reached, mul-le-mul_right, over_above, not_reached, cases_lt))
           (cases_lt r (rows + 1));
     }
 
@@ -158,11 +135,4 @@ drawn_pixels g w rows pixels ew er drawn =
     fill_by_all (λ i. pixel_with_quiet_zone g (i / (g.side + 2)) (i % (g.side + 2))) pixels
     ((g.side + 2) * (g.side + 2)) false
     (drawn.count ∙ ap (λ n. n * n) ew)
-    (λ k h.
-    let r = k / (g.side + 2) in
-    let c = k % (g.side + 2) in
-    let column : c < g.side + 2 = mod-lt k (omega arith) in
-    let row : r < g.side + 2 = (div-lt_iff_lt-mul (omega arith)).1 h in
-    let is : r * (g.side + 2) + c ≡ k = let e = mod-add-div k (g.side + 2) in omega (arith, e) in
-    ap (λ i. get_or pixels i false) (sym is) ∙ ap (λ n. get_or pixels (r * n + c) false) (sym ew)
-    ∙ all_drawn g w rows pixels ew er drawn r c (omega (arith, ew)) (omega (arith, ew)))
+    (λ k h. grind (arith, mod-lt, div-lt_iff_lt-mul, mod-add-div, all_drawn))

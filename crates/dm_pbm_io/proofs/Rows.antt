@@ -36,11 +36,7 @@ row_more width at b row n room =
     let long : length (flat_map bits row) ≡ 8 * at = length-bits row ∙ ap (λ k. 8 * k) n in
     let whole : row_of width row ≡ flat_map bits row = take_all width (flat_map bits row) (omega arith) in
     let parts : width ≡ length (flat_map bits row) + (width - 8 * at) = omega arith in
-    ap (take width) (flat_map-append bits row (b ∷ []) ∙ ap (λ r. flat_map bits row ++ r) (bits_single b))
-    ∙ ap (λ k. take k (flat_map bits row ++ bits b)) parts
-    ∙ take-append-add (flat_map bits row) (bits b) (width - 8 * at)
-    ∙ ap (λ r. flat_map bits row ++ r) (sym (take_min (width - 8 * at) (bits b)))
-    ∙ ap (λ r. r ++ take (min (width - 8 * at) 8) (bits b)) (sym whole)
+        grind (arith, flat_map-append, bits_single, take-append-add, take_min)
 
 pub length-row_of : (width : ℕ) (row : List ℕ) → length row ≡ stride width → length (row_of width row) ≡ width
 length-row_of width row n = let e = length-bits row in simp length-take (omega arith)
@@ -60,11 +56,8 @@ packed_more raster row width height pixels p n = record {
   rows = p.rows ++ row ∷ [];
   count = let e = p.count in simp length-append (omega arith);
   each = all-append (λ r. length r ≡ stride width) p.rows row p.each n;
-  raster_is = sym (concat-append p.rows (row ∷ []) ∙ ap (λ r. concat p.rows ++ r) (append-nil row) ∙
-      ap (λ r. r ++ row) (sym p.raster_is));
-  pixels_are = sym (flat_map-append (row_of width) p.rows (row ∷ [])
-      ∙ ap (λ r. flat_map (row_of width) p.rows ++ r) (append-nil (row_of width row)) ∙
-      ap (λ r. r ++ row_of width row) (sym p.pixels_are));
+  raster_is = grind (arith, concat-append, append-nil);
+  pixels_are = grind (arith, flat_map-append, append-nil);
 }
 
 length-concat : (n : ℕ) (rows : List (List ℕ)) → AllByRecursion (λ r. length r ≡ n) rows →

@@ -17,8 +17,7 @@ pub takes-trans : (a b c : InputView) (bs cs : List ℕ) → Takes a b bs → Ta
 takes-trans a b c bs cs p q =
     record {
       consumed = Consumes-trans a.remaining b.remaining c.remaining bs cs p.consumed q.consumed;
-      kept = q.kept ∙
-          p.kept;
+      kept = cc;
     }
 
 -- what the source remembers is not changed by what was taken before
@@ -82,8 +81,7 @@ pub adds-trans : (a b c : OutputView) (bs cs : List ℕ) → Adds a b bs → Add
 adds-trans a b c bs cs p q =
     record {
       appended = Appends-trans a.contents b.contents c.contents bs cs p.appended q.appended;
-      kept = q.kept ∙
-          p.kept;
+      kept = cc;
     }
 
 -- first some text, and then the rest of the whole, if it was written
