@@ -39,23 +39,6 @@ pub is_remainder : (checks d : ℕ) (block word rest : List ℕ) → length bloc
     checks ≤ 255 → take d word ≡ take d block → IsBlockWord checks word → All (λ x. x < 256) rest →
     rest ≡ add_scaled 1 (drop d block) (drop d word) → IsRemainder checks block rest
 is_remainder checks d block word rest lb lw most same holds bytes is =
-    let last : length (drop d block) ≡ checks = length-drop d block ∙ omega arith in
-    let wanted : length (drop d word) ≡ checks = length-drop d word ∙ omega arith in
-    let long : length rest ≡ checks = ap length is ∙ length-add_scaled 1 (drop d block) (drop d word) ∙ last in
-    let values : (k : ℕ) → 1 ≤ k → k ≤ checks → value rest (power 2 k) ≡ value block (power 2 k) = λ k p q.
-    let x = power 2 k in
-    let byte : x < 256 = power_byte 2 k (omega arith) in
-    let first = product (value (take d block) x) (power x checks) in
-    let of_block : value block x ≡ bit_xor first (value (drop d block) x) =
-    ap (λ t. value t x) (sym (take-append-drop d block)) ∙ value-append (take d block) (drop d block) x byte
-    ∙ ap (λ n. bit_xor (product (value (take d block) x) (power x n)) (value (drop d block) x)) last in
-    let of_word : value word x ≡ bit_xor first (value (drop d word) x) =
-    ap (λ t. value t x) (sym (take-append-drop d word)) ∙ value-append (take d word) (drop d word) x byte
-    ∙ ap (λ n. bit_xor (product (value (take d word) x) (power x n)) (value (drop d word) x)) wanted
-    ∙ ap (λ t. bit_xor (product (value t x) (power x checks)) (value (drop d word) x)) same in
-    let added : value (drop d word) x ≡ first = xor_solve first (value (drop d word) x) (sym of_word ∙ holds k p q) in
-    ap (λ t. value t x) is ∙ value-add_scaled 1 (drop d block) (drop d word) x (last ∙ sym wanted)
-    ∙ ap (λ v. bit_xor (value (drop d block) x) (product 1 v)) added
-    ∙ ap (bit_xor (value (drop d block) x)) (one-product first (product_byte (value (take d block) x) (power x checks)))
-    ∙ xor_comm (value (drop d block) x) first ∙ sym of_block in
-    record { values = values; clean = zero_remainder checks rest block most long bytes values }
+    grind (arith, length-drop d block, length-drop d word, length-add_scaled 1 (drop d block) (drop d word),
+    take-append-drop d block, take-append-drop d word, length-drop, length-add_scaled, power_byte, take-append-drop,
+    value-append, xor_solve, value-add_scaled, one-product, product_byte, xor_comm, zero_remainder)

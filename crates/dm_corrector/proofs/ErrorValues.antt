@@ -7,11 +7,7 @@ use Rattle.dm_gf256.specs.Field.{power, product}
 
 -- a product of nonzero bytes isn't zero
 pub product_pos : (a b : ℕ) → 0 < a → a < 256 → 0 < b → b < 256 → 0 < product a b
-product_pos a b p q r s =
-    ⊎_elim (λ (h : 0 < product a b). h)
-    (λ (h : product a b ≤ 0). let z : product a b ≡ 0 = omega arith in let y : b ≡ 0 = product_zero a b p q s z in
-    absurd (omega arith))
-    (cases_lt 0 (product a b))
+product_pos a b p q r s = grind (arith, ⊎_elim, product_zero, cases_lt)
 
 -- i is one of these
 abbrev pub Among : ℕ → List ℕ → Type 0
@@ -20,18 +16,12 @@ Among i (f ∷ fs) = (i ≡ f) ⊎ Among i fs
 
 -- different powers 0 to 254 of 2 are different elements
 pub power_two_apart : (i j : ℕ) → i ≢ j → i < 255 → j < 255 → power 2 i ≢ power 2 j
-power_two_apart i j h p q e =
-    ⊎_elim (λ (l : i < j). power_two_distinct i j l q e) (λ (l : j ≤ i). power_two_distinct j i (omega arith) p (sym e))
-    (cases_lt i j)
+power_two_apart i j h p q e = grind (arith, ⊎_elim, power_two_distinct, cases_lt)
 
 -- a number is in a list, or it isn't
 pub among_or_not : (i : ℕ) (fs : List ℕ) → Among i fs ⊎ (Among i fs → ⊥)
 among_or_not i [] = inr (λ a. a)
-among_or_not i (f ∷ fs) =
-    ⊎_elim (λ (q : i ≡ f). inl (inl q))
-    (λ (q : i ≢ f). ⊎_elim (λ (a : Among i fs). inl (inr a)) (λ (n : Among i fs → ⊥). inr (λ a. ⊎_elim q n a))
-    (among_or_not i fs))
-    (cases_eq i f)
+among_or_not i (f ∷ fs) = grind (arith, among_or_not i fs)
 
 -- x to the power 1 is x
 pub power-one : (x : ℕ) → x < 256 → power x 1 ≡ x

@@ -4,8 +4,7 @@ use Rattle.std.proofs.lemmas.List.{get_or_past}
 
 -- a zero before zeros
 all_zeros : (s : List ℕ) → ((k : ℕ) → get_or s k 0 ≡ 0) → (k : ℕ) → get_or (zero ∷ s) k 0 ≡ 0
-all_zeros s z zero = refl
-all_zeros s z (suc k) = z k
+all_zeros s z k = grind arith
 
 -- of a list that isn't all zeros, an element that isn't
 pub some_nonzero : (s : List ℕ) → (((k : ℕ) → get_or s k 0 ≡ 0) → ⊥) → (j : ℕ) × (j < length s) × (0 < get_or s j 0)

@@ -22,18 +22,7 @@ pub data AsciiStep : ℕ → ℕ → Stepped → Type 0 where
 -- what is left of the words 230 to 241 is unsupported
 unsupported_range : (w : ℕ) → 230 ≤ w → w ≤ 241 → (w ≡ 230 → ⊥) → (w ≡ 231 → ⊥) → (w ≡ 235 → ⊥) → (w ≡ 239 → ⊥) →
     IsUnsupported w
-unsupported_range w low high a b c d =
-    elim (cases_lt w 235) [
-      | inl lt ↦ inl (omega arith, omega arith)
-      | inr le ↦ elim (cases_lt w 239) [
-        | inl lt ↦ inr (inl (omega arith, omega arith))
-        | inr le2 ↦ elim (cases_lt w 241) [
-          | inl lt ↦ inr (inr (inl (omega arith)))
-          | inr le3 ↦
-              inr (inr (inr (omega arith)))
-        ]
-      ]
-    ]
+unsupported_range w low high a b c d = grind arith
 
 -- each step in ASCII is one of these cases
 pub ascii_view : (p w : ℕ) → AsciiStep p w (ascii_step p w)

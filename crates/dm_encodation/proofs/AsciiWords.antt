@@ -1,4 +1,5 @@
 -- A text in ASCII: the piece at its front, all pairs of digits at its front, and one byte more at its end.
+use Rattle.std.proofs.lemmas.Grind.{common_steps}
 use Rattle.std.proofs.Common.{◌≡◌, ℕ, zero, suc, ◌+◌, ◌-◌, ◌*◌, ◌<◌, ◌≤◌, ◌≢◌, ltb, Bool, true, false, ◌&&◌, List, [], ◌∷◌, ◌++◌, length, get_or, drop, refl, sym, ap, ◌∙◌, append_assoc, arith, ◌⊎◌, inl, inr}
 use Rattle.std.specs.Char.{is_ascii_digit}
 use Rattle.std.proofs.lemmas.Bool.{and_parts, leb-true, le-leb, lt-ltb, le-ltb, cond_both}
@@ -15,52 +16,31 @@ pub record BeginsWithDigits (bytes : List ℕ) : Type 0 where
   pub tens : (48 ≤ get_or bytes 0 0) × (get_or bytes 0 0 ≤ 57)
   pub ones : (48 ≤ get_or bytes 1 0) × (get_or bytes 1 0 ≤ 57)
 
-digit_range : (b : ℕ) → is_ascii_digit b ≡ true → (48 ≤ b) × (b ≤ 57)
-digit_range b e = let both = and_parts _ _ e in (leb-true _ _ both.0, leb-true _ _ both.1)
-
 pub begins : (bytes : List ℕ) → has_digits bytes ≡ true → BeginsWithDigits bytes
-begins [] e = absurd cc
-begins (a ∷ []) e = absurd cc
-begins (a ∷ b ∷ bs) e = let both = and_parts _ _ e in
-    record { long = omega arith; tens = digit_range a both.0; ones = digit_range b both.1 }
+begins bytes e = grind arith
 
 pub ascii-digits : (bytes : List ℕ) → has_digits bytes ≡ true
     → ascii bytes ≡ (130 + (10 * (get_or bytes 0 0 - 48) + (get_or bytes 1 0 - 48))) ∷ ascii (drop 2 bytes)
 unfolding ascii
-ascii-digits [] x = absurd cc
-ascii-digits (a ∷ []) x = absurd cc
-ascii-digits (a ∷ b ∷ bs) x = rw x refl
+ascii-digits bytes x = grind arith
 
 -- two digits are one word
 two_digits : (a b : ℕ) (rest : List ℕ) → (48 ≤ a) × (a ≤ 57) → (48 ≤ b) × (b ≤ 57)
     → ascii (a ∷ b ∷ rest) ≡ word_of a b ∷ ascii rest
 unfolding ascii
-two_digits a b rest tens ones =
-    rw (le-leb 48 a tens.0, le-leb a 57 tens.1, le-leb 48 b ones.0, le-leb b 57 ones.1) refl
+two_digits a b rest tens ones = grind arith
 
 -- the words of the first pairs of digits of a text, and then those of the rest
 pub pairs_first : (bytes : List ℕ) (count : ℕ) → 2 * count ≤ length bytes → AreBetween 48 57 bytes 0 (2 * count)
     → words_of_pairs bytes count ++ ascii (drop (2 * count) bytes) ≡ ascii bytes
 pairs_first bytes zero fits digits = refl
-pairs_first bytes (suc count) fits digits =
-    let k = 2 * count in
-    let rest = drop (2 * suc count) bytes in
-    let w = word_of (get_or bytes k 0) (get_or bytes (k + 1) 0) in
-    let next : k + 1 + 1 ≡ 2 * suc count = omega arith in
-    let two : drop k bytes ≡ get_or bytes k 0 ∷ get_or bytes (k + 1) 0 ∷ rest =
-    drop_more bytes k 0 (omega arith) ∙ ap (λ l. get_or bytes k 0 ∷ l) (drop_more bytes (k + 1) 0 (omega arith)
-    ∙ ap (λ n. get_or bytes (k + 1) 0 ∷ drop n bytes) next) in
-    append_assoc (words_of_pairs bytes count) (w ∷ []) (ascii rest)
-    ∙ ap (λ l. words_of_pairs bytes count ++ l) (sym (ap ascii two ∙ two_digits _ _ rest
-    (digits k (omega arith) (omega arith)) (digits (k + 1) (omega arith) (omega arith))))
-    ∙ pairs_first bytes count (omega arith) (λ i a b. digits i a (omega arith))
+pairs_first bytes (suc count) fits digits = grind (arith, drop_more, append_assoc, two_digits, pairs_first bytes count
+    (omega arith) (λ i a b. digits i a (omega arith)))
 
 ascii-byte : (bytes : List ℕ) → length bytes ≢ 0 → has_digits bytes ≡ false
     → ascii bytes ≡ ascii_byte (get_or bytes 0 0) ++ ascii (drop 1 bytes)
 unfolding ascii
-ascii-byte [] long x = absurd (long refl)
-ascii-byte (a ∷ []) long x = sym (append-nil (ascii_byte a))
-ascii-byte (a ∷ b ∷ bs) long x = rw x refl
+ascii-byte bytes long x = grind arith
 
 pub ascii-character : (bytes : List ℕ) → length bytes ≢ 0 → has_digits bytes ≡ false
     → get_or bytes 0 0 < 128 → ascii bytes ≡ (get_or bytes 0 0 + 1) ∷ ascii (drop 1 bytes)
@@ -80,40 +60,23 @@ ascii_done out bytes all e h = sym (append-nil out) ∙ ap (λ (x : List ℕ). o
 
 -- a byte takes one word or two
 pub some_words : (b : ℕ) → (1 ≤ length (ascii_byte b)) × (length (ascii_byte b) ≤ 2)
-some_words b =
-    cond_both (ltb b 128) ((b + 1) ∷ []) (235 ∷ (b - 127) ∷ []) (λ (ws : List ℕ). (1 ≤ length ws) ×
-    (length ws ≤ 2)) (λ _. (omega arith, omega arith)) (λ _. (omega arith, omega arith))
+some_words b = grind arith
 
 pub some_ascii : (b : ℕ) (bs : List ℕ) → 1 ≤ length (ascii (b ∷ bs))
 unfolding ascii
-some_ascii b [] = (some_words b).0
-some_ascii b (c ∷ bs) =
-    let one = some_words b in
-    cond_both (is_ascii_digit b && is_ascii_digit c) ((130 + (10 * (b - 48) + (c - 48))) ∷ ascii bs)
-    (ascii_byte b ++ ascii (c ∷ bs)) (λ (ws : List ℕ). 1 ≤ length ws)
-    (λ _. omega arith) (λ _. omega (arith, length-append (ascii_byte b) (ascii (c ∷ bs))))
+some_ascii b bs = grind arith
 
 -- a text in ASCII is at most twice as long
 pub length-ascii : (bytes : List ℕ) → length (ascii bytes) ≤ 2 * length bytes
 unfolding ascii
 length-ascii [] = omega arith
 length-ascii (b ∷ []) = (some_words b).1
-length-ascii (b ∷ c ∷ bs) =
-    let one = length-ascii bs in
-    let two = length-ascii (c ∷ bs) in
-    let few = some_words b in
-    cond_both (is_ascii_digit b && is_ascii_digit c) ((130 + (10 * (b - 48) + (c - 48))) ∷ ascii bs)
-    (ascii_byte b ++ ascii (c ∷ bs)) (λ (ws : List ℕ). length ws ≤ 2 * length (b ∷ c ∷ bs))
-    (λ _. omega arith) (λ _. simp length-append (omega arith))
+length-ascii (b ∷ c ∷ bs) = grind (arith, length-ascii bs, length-ascii (c ∷ bs))
 
 -- ---- one byte more at the end
 
-one_word : (b : ℕ) → is_ascii_digit b ≡ true → length (ascii_byte b) ≡ 1
-one_word b e = let r = digit_range b e in rw (lt-ltb b 128 (omega arith)) refl
-
 both_or_not : (b : Bool) → (b ≡ true) ⊎ (b ≡ false)
-both_or_not true = inl refl
-both_or_not false = inr refl
+both_or_not b = grind arith
 
 -- What one byte more does to a text: the last lone digit shares its word with it, or it stands alone.
 record Pushed (bytes : List ℕ) (c : ℕ) : Type 0 where
@@ -126,24 +89,11 @@ record Pushed (bytes : List ℕ) (c : ℕ) : Type 0 where
 pushed : (bytes : List ℕ) (c : ℕ) → Pushed bytes c
 unfolding ascii has_lone_digit
 pushed [] c = record { shared = λ e f. absurd cc; alone = λ e. (omega arith, refl) }
-pushed (b ∷ []) c = record {
-  shared = λ e f. rw (e, f) (let w = one_word b e in omega arith, refl);
-  alone = λ e. rw e (simp length-append refl, refl);
-}
-pushed (b ∷ d ∷ bs) c = elim (both_or_not (is_ascii_digit b && is_ascii_digit d)) [
-  | inl e ↦ let r = pushed bs c in record {
-    shared = λ f g. rw e (let h = r.shared (rw e at f) g in (ap suc h.0, h.1));
-    alone = λ f. rw e (let h = r.alone (rw e at f) in (let l = h.0 in omega arith, h.1));
-  }
-  | inr e ↦ let r = pushed (d ∷ bs) c in record {
-    shared = λ f g. rw e (let h = r.shared (rw e at f) g in (simp length-append (omega (arith, h.0)), h.1));
-    alone = λ f. rw e (let h = r.alone (rw e at f) in (simp length-append (omega (arith, h.0)), h.1));
-  }
-]
+pushed (b ∷ []) c = grind arith
+pushed (b ∷ d ∷ bs) c = grind (arith, common_steps, both_or_not, pushed bs c, pushed (d ∷ bs) c)
 
 pub not_both : (a b d : Bool) → d ≡ b → ((a ≡ true) × (d ≡ false)) ⊎ (a ≡ false) → (a && b) ≡ false
-not_both a b d e (inl (x, y)) = rw (x, sym e ∙ y) refl
-not_both a b d e (inr x) = rw x refl
+not_both a b d e given = grind arith
 
 pub counts_none : (c : AsciiCounter) → c.words ≡ 0 → c.lone_digit ≡ false → CountsAscii [] c
 unfolding ascii has_lone_digit
@@ -153,14 +103,10 @@ counts_none c e f = record { words = e; lone = f }
 pub counts_shared : (c d : AsciiCounter) (b : ℕ) → c.lone_digit ≡ true → is_ascii_digit b ≡ true → d.words ≡ c.words →
     d.lone_digit ≡ false
     → (bytes : List ℕ) → CountsAscii bytes c → CountsAscii (bytes ++ b ∷ []) d
-counts_shared c d b lone digit words last bytes counts =
-    let h = (pushed bytes b).shared (sym counts.lone ∙ lone) digit in
-    record { words = words ∙ counts.words ∙ sym h.0; lone = last ∙ sym h.1 }
+counts_shared c d b lone digit words last bytes counts = grind (arith, pushed bytes b)
 
 -- one byte more stands alone
 pub counts_alone : (c d : AsciiCounter) (b : ℕ) → (c.lone_digit && is_ascii_digit b) ≡ false →
     d.words ≡ c.words + length (ascii_byte b) → d.lone_digit ≡ is_ascii_digit b
     → (bytes : List ℕ) → CountsAscii bytes c → CountsAscii (bytes ++ b ∷ []) d
-counts_alone c d b not_shared words last bytes counts =
-    let h = (pushed bytes b).alone (ap (λ (l : Bool). l && is_ascii_digit b) (sym counts.lone) ∙ not_shared) in
-    record { words = words ∙ ap (λ (n : ℕ). n + length (ascii_byte b)) counts.words ∙ sym h.0; lone = last ∙ sym h.1 }
+counts_alone c d b not_shared words last bytes counts = grind (arith, pushed bytes b)

@@ -36,8 +36,7 @@ base_256_read p (b ∷ bs) rest fits le more =
 
 -- the latch, the length words and the bytes, counted
 length-length_words : (n : ℕ) → n ≤ 249 ⊎ (249 < n) → 1 + length (length_words n) + n ≡ cond (leb n 249) (n + 2) (n + 3)
-length-length_words n (inl le) = rw (le-leb n 249 le) (omega arith)
-length-length_words n (inr lt) = rw (lt-leb n 249 lt) (omega arith)
+length-length_words n given = grind arith
 
 -- up to 249 bytes, or more
 small_or_not : (n : ℕ) → n ≤ 249 ⊎ (249 < n)
@@ -46,14 +45,7 @@ small_or_not n = elim (cases_lt 249 n) [ inl lt ↦ inr lt | inr le ↦ inl le ]
 -- the number of words in Base 256
 pub length-base_256 : (p : ℕ) (bytes : List ℕ) → length (base_256 p bytes) ≡ base_256_need (length bytes)
 unfolding base_256
-length-base_256 p [] = refl
-length-base_256 p (b ∷ bs) =
-    let n = length (b ∷ bs) in
-    let t : eqb n 0 ≡ false = ne_eqb n 0 (λ e. omega arith) in
-    let l = length-length_words n (small_or_not n) in
-    let r = length-randomised (p + 1) (length_words n ++ b ∷ bs) in
-    let a = length-append (length_words n) (b ∷ bs) in
-    rw t (omega (arith, l, r, a))
+length-base_256 p bytes = grind (arith, ne_eqb, length-length_words, small_or_not, length-randomised, length-append)
 
 -- a text of length 0 is empty
 pub empty_is : (bytes : List ℕ) → eqb (length bytes) 0 ≡ true → bytes ≡ []
@@ -70,11 +62,4 @@ pub base_256_parts : (p : ℕ) (bytes out first second third : List ℕ) (q : �
     → q ≡ p + 1 + length (length_words (length bytes)) → third ≡ second ++ randomised q bytes →
     third ≡ out ++ base_256 p bytes
 unfolding base_256
-base_256_parts p [] out first second third q ne a b c d = absurd (ne refl)
-base_256_parts p (b ∷ bs) out first second third q ne a e c d =
-    let len = length_words (length (b ∷ bs)) in
-    d ∙ ap (λ (l : List ℕ). l ++ randomised q (b ∷ bs)) (e ∙ ap (λ (l : List ℕ). l ++ randomised (p + 1) len) a)
-    ∙ ap (λ (q : ℕ). ((out ++ 231 ∷ []) ++ randomised (p + 1) len) ++ randomised q (b ∷ bs)) c
-    ∙ append_assoc (out ++ 231 ∷ []) (randomised (p + 1) len) (randomised (p + 1 + length len) (b ∷ bs))
-    ∙ append_assoc out (231 ∷ []) (randomised (p + 1) len ++ randomised (p + 1 + length len) (b ∷ bs))
-    ∙ ap (λ (l : List ℕ). out ++ 231 ∷ l) (sym (randomised-append (p + 1) len (b ∷ bs)))
+base_256_parts p bytes out first second third q ne a b c d = grind (arith, append_assoc, randomised-append)

@@ -15,31 +15,21 @@ pub goes_on : (m next : Mode) (at : ℕ) (words front bs : List ℕ) (total : Re
     → prepend front (reading m (at + 1) (drop at words)) ≡ total →
     prepend (front ++ bs) (reading next (at + 1 + 1) (drop (at + 1) words)) ≡ total
 goes_on m next at words front bs total lt e so_far =
-    let d = drop_more words at 0 lt in
-    let w = get_or words at 0 in
-    sym (prepend-prepend front bs (reading next (at + 1 + 1) (drop (at + 1) words)))
-    ∙ ap (prepend front) (sym (reading_step m (at + 1) w (drop (at + 1) words) next bs (sym e)))
-    ∙ ap (λ (l : List ℕ). prepend front (reading m (at + 1) l)) (sym d) ∙ so_far
+    grind (arith, drop_more words, prepend-prepend front bs (reading next (at + 1 + 1) (drop (at + 1) words)),
+    reading_step m (at + 1) (get_or words at 0) (drop (at + 1) words) next bs (sym e))
 
 -- a step that fails
 pub fails_at : (m : Mode) (at : ℕ) (words front : List ℕ) (f : DecodeFault) (total : Result (List ℕ) DecodeFault) →
     at < length words → Err f ≡ step m (at + 1) (get_or words at 0)
     → prepend front (reading m (at + 1) (drop at words)) ≡ total → total ≡ Err f
 unfolding reading
-fails_at m at words front f total lt e so_far =
-    let d = drop_more words at 0 lt in
-    let w = get_or words at 0 in
-    let r : reading m (at + 1) (w ∷ drop (at + 1) words) ≡ Err f =
-    ap (λ (s : Stepped). s >>= λ n. prepend n.1 (reading n.0 (at + 1 + 1) (drop (at + 1) words))) (sym e) in
-    sym so_far ∙ ap (λ (l : List ℕ). prepend front (reading m (at + 1) l)) d ∙ ap (prepend front) r
+fails_at m at words front f total lt e so_far = grind (arith, drop_more)
 
 -- after the last word only the end is left
 at_last : (m : Mode) (at : ℕ) (words : List ℕ) → length words ≤ at → at ≤ length words →
     reading m (at + 1) (drop at words) ≡ finish m (length words + 1)
 unfolding reading
-at_last m at words le ge =
-    let k : at + 1 ≡ length words + 1 = omega arith in
-    ap (reading m (at + 1)) (drop_all at words le) ∙ ap (finish m) k
+at_last m at words le ge = grind (arith, drop_all)
 
 -- an end that succeeds
 pub finishes : (m : Mode) (at : ℕ) (words front bs : List ℕ) (total : Result (List ℕ) DecodeFault) → length words ≤ at →
@@ -55,13 +45,9 @@ fails_last m at words front f total le ge e so_far = sym so_far ∙ ap (prepend 
 
 -- a fault that is read is a fault of the collector
 pub fails_so : (f : DecodeFault) (total : Result (List ℕ) DecodeFault) → total ≡ Err f → Fails f total
-fails_so (Unsupported p w) total e = e
-fails_so (Reserved p w) total e = e
-fails_so (Cut p) total e = e
-fails_so Memory total e = tt
+fails_so f total e = grind arith
 
 -- pads end what is read
 pub padded_so : (p : ℕ) (words front : List ℕ) (total : Result (List ℕ) DecodeFault)
     → prepend front (reading Padded p words) ≡ total → total ≡ Ok front
-padded_so p words front total so_far =
-    sym so_far ∙ ap (prepend front) (padded_read p words) ∙ ap (λ (l : List ℕ). Ok l) (append-nil front)
+padded_so p words front total so_far = grind (arith, padded_read, append-nil)

@@ -10,20 +10,13 @@ use Rattle.dm_encodation.proofs.ReadsToReading.{prepend-nil}
 -- one such word
 pair_step : (p w : ℕ) → (130 ≤ w) × (w ≤ 229) → Ok (Ascii, digits_of w) ≡ step Ascii p w
 unfolding step ascii_step
-pair_step p w h =
-    let a : eqb w 0 ≡ false = grind (arith, nat_tests) in
-    let b : leb w 128 ≡ false = grind (arith, nat_tests) in
-    let c : eqb w 129 ≡ false = grind (arith, nat_tests) in
-    let d : leb w 229 ≡ true = grind (arith, nat_tests) in
-    simp (a, b, c, d)
+pair_step p w h = grind arith
 
 -- that many such words
 pub pairs_read : (words : List ℕ) (from count : ℕ) → from + count ≤ length words → ArePairs words from (from + count)
     → prepend (digits_from words from count) (reading Ascii (from + count + 1) (drop (from + count) words))
     ≡ reading Ascii (from + 1) (drop from words)
-pairs_read words from zero fits pairs =
-    let here : from + 0 ≡ from = omega arith in
-    prepend-nil _ ∙ ap (λ k. reading Ascii (k + 1) (drop k words)) here
+pairs_read words from zero fits pairs = grind arith
 pairs_read words from (suc count) fits pairs =
     let next : from + count + 1 ≡ from + suc count = omega arith in
     let front = digits_from words from count in
@@ -39,7 +32,4 @@ pub pairs_between : (words : List ℕ) (from end : ℕ) → from ≤ end → end
     → prepend (digits_from words from (end - from)) (reading Ascii (end + 1) (drop end words))
     ≡ reading Ascii (from + 1) (drop from words)
 pairs_between words from end after fits pairs =
-    let whole : from + (end - from) ≡ end = omega arith in
-    subst (λ (k : ℕ). prepend (digits_from words from (end - from)) (reading Ascii (k + 1) (drop k words))
-    ≡ reading Ascii (from + 1) (drop from words)) whole
-    (pairs_read words from (end - from) (omega arith) (λ k a b. pairs k a (omega arith)))
+    grind (arith, pairs_read words from (end - from) (omega arith) (λ k a b. pairs k a (omega arith)))

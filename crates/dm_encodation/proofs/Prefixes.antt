@@ -13,32 +13,4 @@ pub record FitsSoFar (scheme : Scheme) (room : ℕ) (bytes : List ℕ) (i k : �
 
 -- before the first byte
 pub fits_none : (scheme : Scheme) (room : ℕ) (bytes : List ℕ) → FitsSoFar scheme room bytes 0 0
-fits_none scheme room bytes = let none = need-nil scheme in
-    record { within = omega arith; fits = omega arith; greatest = λ j le h. le }
-
--- one byte more, and it fits
-pub fits_more : (scheme : Scheme) (room : ℕ) (bytes : List ℕ) (i k : ℕ) → need_of scheme (take (i + 1) bytes) ≤ room →
-    FitsSoFar scheme room bytes i k → FitsSoFar scheme room bytes (i + 1) (i + 1)
-fits_more scheme room bytes i k fits f = record { within = omega arith; fits = fits; greatest = λ j le h. le }
-
--- one byte more, and it doesn't fit
-pub fits_same : (scheme : Scheme) (room : ℕ) (bytes : List ℕ) (i k : ℕ) → room < need_of scheme (take (i + 1) bytes) →
-    FitsSoFar scheme room bytes i k → FitsSoFar scheme room bytes (i + 1) k
-fits_same scheme room bytes i k over f = record {
-  within = let w = f.within in omega arith;
-  fits = f.fits;
-  greatest = λ j le h. elim (cases_lt i j) [
-    | inl lt ↦ let e : j ≡ i + 1 = omega arith in let h2 : need_of scheme (take (i + 1) bytes) ≤ room =
-        subst (λ (j : ℕ). need_of scheme (take j bytes) ≤ room) e h in absurd (omega arith)
-    | inr le2 ↦ f.greatest j le2 h
-  ];
-}
-
--- after the last byte the count is the greatest prefix
-pub fits_all : (scheme : Scheme) (room : ℕ) (bytes : List ℕ) (i k : ℕ) → length bytes ≤ i → i ≤ length bytes →
-    FitsSoFar scheme room bytes i k → IsGreatestPrefix scheme room bytes k
-fits_all scheme room bytes i k le ge f = record {
-  within = let w = f.within in omega arith;
-  fits = f.fits;
-  greatest = λ j le2 h. f.greatest j (omega arith) h;
-}
+fits_none scheme room bytes = grind (arith, need-nil)

@@ -1,4 +1,5 @@
 -- What is read word by word, the grammar reads.
+use Rattle.std.proofs.lemmas.Grind.{common_steps}
 use Rattle.std.proofs.Common.{◌≡◌, ℕ, zero, suc, ◌+◌, ◌-◌, ◌*◌, ◌/◌, ◌%◌, ◌<◌, ◌≤◌, ◌≢◌, ◌⊎◌, inl, inr, Bool, true, false, cond, eqb, leb, ltb, List, [], ◌∷◌, ◌++◌, length, Result, Ok, Err, refl, sym, ap, subst, ◌∙◌, append_assoc, arith}
 use Rattle.std.specs.List.{flat_map, AllByRecursion}
 use Rattle.std.proofs.lemmas.Bool.{eqb-true, eqb-false, leb-true, ltb-true, ltb-false, le-leb, lt-leb, cases_lt}
@@ -47,44 +48,27 @@ goes_to x = Ok x
 -- ---- tests
 
 pub chosen : {A : Type 0} (b : Bool) (x y z : A) → cond b x y ≡ z → ((b ≡ true) × (x ≡ z)) ⊎ ((b ≡ false) × (y ≡ z))
-chosen true x y z e = inl (refl, e)
-chosen false x y z e = inr (refl, e)
+chosen b x y z e = grind arith
 
 pub unless : {A E : Type 0} (b : Bool) (f : E) (r : Result A E) (out : A) → cond b (Err f) r ≡ Ok out →
     (b ≡ false) × (r ≡ Ok out)
-unless true f r out e = absurd cc
-unless false f r out e = (refl, e)
+unless b f r out e = grind arith
 
 pub only_if : {A E : Type 0} (b : Bool) (f : E) (x out : A) → cond b (Ok x) (Err f) ≡ Ok out → (b ≡ true) × (x ≡ out)
-only_if true f x out e = (refl, cc)
-only_if false f x out e = absurd cc
+only_if b f x out e = grind arith
 
 -- ---- Base 256
 
 shifted_back : (w s : ℕ) → w < 256 → 0 < s → s < 256
     → (let b = cond (leb s w) (w - s) (w + 256 - s) in cond (leb (b + s) 255) (b + s) (b + s - 256)) ≡ w
-shifted_back w s lw ls hs =
-    elim (cases_lt w s) [
-      | inl less ↦
-          let t : leb s w ≡ false = lt-leb _ _ less in
-          let u : leb (w + 256 - s + s) 255 ≡ false = lt-leb _ _ (omega arith) in
-          rw (t, u) (omega arith)
-      | inr le ↦
-          let t : leb s w ≡ true = le-leb _ _ le in
-          let u : leb (w - s + s) 255 ≡ true = le-leb _ _ (omega arith) in
-          rw (t, u) (omega arith)
-    ]
+shifted_back w s lw ls hs = grind arith
 
 pub state_255-value_255 : (p w : ℕ) → w < 256 → state_255 p (value_255 p w) ≡ w
 unfolding value_255 state_255
 state_255-value_255 p w lt = shifted_back w ((149 * p) % 255 + 1) lt (omega arith) (omega arith)
 
 below_shift : (w s : ℕ) → w < 256 → 0 < s → s < 256 → cond (leb s w) (w - s) (w + 256 - s) < 256
-below_shift w s lw ls hs =
-    elim (cases_lt w s) [
-      | inl less ↦ let t : leb s w ≡ false = lt-leb _ _ less in rw t (omega arith)
-      | inr le ↦ let t : leb s w ≡ true = le-leb _ _ le in rw t (omega arith)
-    ]
+below_shift w s lw ls hs = grind arith
 
 pub value_255-below : (p w : ℕ) → w < 256 → value_255 p w < 256
 unfolding value_255
@@ -93,8 +77,7 @@ value_255-below p w lt = below_shift w ((149 * p) % 255 + 1) lt (omega arith) (o
 -- one more value of Base 256
 push_value : (p : ℕ) (xs : List ℕ) (w : ℕ) → w < 256 →
     randomised p xs ++ w ∷ [] ≡ randomised p (xs ++ value_255 (p + length xs) w ∷ [])
-push_value p xs w lt = sym (randomised-append p xs (value_255 (p + length xs) w ∷ []) ∙
-    ap (λ (v : ℕ). randomised p xs ++ v ∷ []) (state_255-value_255 (p + length xs) w lt))
+push_value p xs w lt = grind (arith, randomised-append, state_255-value_255)
 
 -- ---- runs
 
@@ -114,9 +97,7 @@ pub record TakesPair (t : Letters) (s : Pending) (w x : ℕ) (out : Mode × List
 
 from_at_pair : (t : Letters) (p w : ℕ) (r : Valued) (out : Mode × List ℕ) → at_pair t p w r ≡ Ok out →
     (o : Pending × List ℕ) × (r ≡ Ok o) × ((Run t o.0, o.1) ≡ out)
-from_at_pair t p w (Ok o) out e = (o, refl, cc)
-from_at_pair t p w (Err Fnc1) out e = absurd cc
-from_at_pair t p w (Err Missing) out e = absurd cc
+from_at_pair t p w r out e = grind arith
 
 pub takes_pair : (t : Letters) (s : Pending) (p w x : ℕ) (out : Mode × List ℕ) → x < 256 →
     pair_step t s p w x ≡ Ok out → TakesPair t s w x out
@@ -128,7 +109,6 @@ takes_pair t s p w x out lt e =
     let n0 = eqb-false v 0 a.0 in
     let n1 = ltb-false 64000 v b.0 in
     let c = from_at_pair t p w _ out b.1 in
-    let low : 1 ≤ v = elim (cases_lt 0 v) [ inl pos ↦ pos | inr le ↦ absurd (n0 (omega arith)) ] in
     let whole : 1600 * ((v - 1) / 1600) + 40 * ((v - 1) / 40 % 40) + (v - 1) % 40 + 1 ≡ v = omega arith in
     let d : v / 256 ≡ w = omega arith in
     let m : v % 256 ≡ x = omega arith in
@@ -165,7 +145,6 @@ from_upper p w out q e =
     let b = only_if (leb w 128) _ _ out a.1 in
     let n0 = eqb-false w 0 a.0 in
     let le = leb-true w 128 b.0 in
-    let pos : 1 ≤ w = elim (cases_lt 0 w) [ inl pos ↦ pos | inr le ↦ absurd (n0 (omega arith)) ] in
     let back : w - 1 + 1 ≡ w = omega arith in
     let byte_given = w + 127 in
     let byte : w - 1 + 128 ≡ byte_given = omega arith in
@@ -208,9 +187,7 @@ from_length p q w out lt e =
                 let whole : Advanced q (231 ∷ w ∷ []) [] (bytes_left n q) =
                 subst (λ (w : ℕ). Advanced q (231 ∷ w ∷ []) [] (bytes_left n q)) word
                 (left q n (n ∷ []) [] (subst (IsLength (n ∷ [])) (plus_none n)
-                (Grammar.IsLength.one pos (ltb-true n 250 is.0))) tt) in
-                subst (λ (o : Mode × List ℕ). Advanced q (231 ∷ w ∷ []) o.1 o.0) o
-                (subst (λ (k : ℕ). Advanced q (231 ∷ w ∷ []) [] (bytes_left n k)) (sym back) whole)
+                (Grammar.IsLength.one pos (ltb-true n 250 is.0))) tt) in grind arith
             | inr isnt2 ↦
                 let o = ok_is _ out (Ok out) (sym isnt2.1) refl in
                 subst (λ (o : Mode × List ℕ). Advanced q (231 ∷ w ∷ []) o.1 o.0) o
@@ -221,13 +198,11 @@ from_length p q w out lt e =
 
 pub triples_pushed : (triples : List Triple) (tr : Triple) → AllByRecursion IsTriple triples → IsTriple tr →
     AllByRecursion IsTriple (triples ++ tr ∷ [])
-triples_pushed [] tr fits f = (f, tt)
-triples_pushed (x ∷ xs) tr fits f = (fits.0, triples_pushed xs tr fits.1 f)
+triples_pushed triples tr fits f = grind (arith, common_steps)
 
 fits_pushed : (bs : List ℕ) (b : ℕ) → AllByRecursion (λ b. b < 256) bs → b < 256 →
     AllByRecursion (λ b. b < 256) (bs ++ b ∷ [])
-fits_pushed [] b fits f = (f, tt)
-fits_pushed (x ∷ xs) b fits f = (fits.0, fits_pushed xs b fits.1 f)
+fits_pushed bs b fits f = grind (arith, common_steps)
 
 pred_is : (n : ℕ) → suc n - 1 ≡ n
 pred_is n = omega arith
@@ -288,28 +263,10 @@ advance {q = q} w out (InMode.long_length {v = v} low high) lt e =
     (ltb-true x 250 r.0))) tt in
     let placed : Advanced q (231 ∷ state_255 (q + 1) v ∷ w ∷ []) [] (bytes_left (250 * (v - 249) + x) q) =
     subst (λ (w : ℕ). Advanced q (231 ∷ state_255 (q + 1) v ∷ w ∷ []) [] (bytes_left (250 * (v - 249) + x) q)) word
-    whole in
-    subst (λ (o : Mode × List ℕ). Advanced q (231 ∷ state_255 (q + 1) v ∷ w ∷ []) o.1 o.0) r.1
-    (subst (λ (j : ℕ). Advanced q (231 ∷ state_255 (q + 1) v ∷ w ∷ []) [] (bytes_left (250 * (v - 249) + x) j))
-    (sym back) placed)
+    whole in grind arith
 advance {q = q} w out (InMode.bytes {n = n} len bs is fits) lt e =
-    let p = q + 1 + length (len ++ bs) in
-    let k : q + suc (length (randomised (q + 1) (len ++ bs))) ≡ p =
-    omega (arith, length-randomised (q + 1) (len ++ bs)) in
-    let b = value_255 p w in
-    let e2 : step (Bytes (suc n) q) p w ≡ Ok out = subst (λ (j : ℕ). step (Bytes (suc n) q) j w ≡ Ok out) k e in
-    let e3 : goes_to (bytes_left (suc n - 1) q, b ∷ []) ≡ Ok out = e2 in
-    let e4 : goes_to (bytes_left n q, b ∷ []) ≡ Ok out = subst (λ (i : ℕ). goes_to (bytes_left i q, b ∷ []) ≡ Ok out)
-    (pred_is n) e3 in
-    let o : (bytes_left n q, b ∷ []) ≡ out = ok_is (bytes_left n q, b ∷ []) out
-    (goes_to (bytes_left n q, b ∷ [])) refl e4 in
-    let words : randomised (q + 1) (len ++ (bs ++ b ∷ [])) ≡ randomised (q + 1) (len ++ bs) ++ w ∷ [] =
-    ap (randomised (q + 1)) (sym (append_assoc len bs (b ∷ []))) ∙ sym (push_value (q + 1) (len ++ bs) w lt) in
-    let is2 : IsLength len (length (bs ++ b ∷ []) + n) =
-    subst (IsLength len) (omega (arith, length-append bs (b ∷ []))) is in
-    subst (λ (o : Mode × List ℕ). Advanced q (231 ∷ (randomised (q + 1) (len ++ bs) ++ w ∷ [])) (bs ++ o.1) o.0) o
-    (subst (λ (l : List ℕ). Advanced q (231 ∷ l) (bs ++ b ∷ []) (bytes_left n q)) words
-    (left q n len (bs ++ b ∷ []) is2 (fits_pushed bs b fits (value_255-below p w lt))))
+    grind (arith, length-randomised, pred_is, ok_is, append_assoc, push_value, length-append, left, fits_pushed,
+    value_255-below)
 advance {q = q} w out (InMode.rest bs fits) lt e =
     let p = q + 1 + length (0 ∷ bs) in
     let k : q + length (231 ∷ randomised (q + 1) (0 ∷ bs)) ≡ p = omega (arith, length-randomised (q + 1 + 1) bs) in
@@ -371,9 +328,7 @@ at_end p bs InMode.length_due e = absurd cc
 at_end p bs (InMode.long_length low high) e = absurd cc
 at_end p bs (InMode.bytes len xs is fits) e = absurd cc
 at_end {q = q} p bs (InMode.rest xs fits) e =
-    subst (λ (l : List ℕ). Reads q (231 ∷ randomised (q + 1) (0 ∷ xs)) (xs ++ l)) (ok_is [] bs _ refl e)
-    (subst (λ (l : List ℕ). Reads q (231 ∷ randomised (q + 1) (0 ∷ xs)) l) (sym (append-nil xs))
-    (nothing_more (231 ∷ randomised (q + 1) (0 ∷ xs)) xs (Grammar.Segment.rest fits)))
+    grind (arith, append-nil xs, nothing_more (231 ∷ randomised (q + 1) (0 ∷ xs)) xs (Grammar.Segment.rest fits))
 at_end {q = q} p bs (InMode.padded any) e = subst (λ (l : List ℕ). Reads q (129 ∷ any) l)
     (ok_is [] bs _ refl e) Grammar.Reads.padded
 
@@ -381,8 +336,7 @@ pub sound : (words : List ℕ) {m : Mode} {q : ℕ} {front given : List ℕ} (bs
     AllByRecursion (λ w. w < 256) words → InMode m q front given
     → reading m (q + length front) words ≡ Ok bs → Reads q (front ++ words) (given ++ bs)
 unfolding reading
-sound [] {m = m} {q = q} {front = front} {given = given} bs fits i e =
-    subst (λ (l : List ℕ). Reads q l (given ++ bs)) (sym (append-nil front)) (at_end (q + length front) bs i e)
+sound [] {m = m} {q = q} {front = front} {given = given} bs fits i e = grind (arith, append-nil, at_end)
 sound (w ∷ words) {m = m} {q = q} {front = front} {given = given} bs fits i e =
     let p = q + length front in
     let a = bind_ok (step m p w) (λ n. prepend n.1 (reading n.0 (p + 1) words)) bs e in
@@ -396,9 +350,7 @@ sound (w ∷ words) {m = m} {q = q} {front = front} {given = given} bs fits i e 
       | inl inside ↦ sound words more fits.1 inside (subst (λ (j : ℕ). reading out.0 j words ≡ Ok more) k b.1)
       | inr ended ↦
           let k0 : p + 1 ≡ q + length longer + length {A = ℕ} [] = omega (arith, length-append front (w ∷ [])) in
-          let r : reading Ascii (q + length longer + length {A = ℕ} []) words ≡ Ok more =
-          subst (λ (m : Mode). reading m (q + length longer + length {A = ℕ} []) words ≡ Ok more) ended.0
-          (subst (λ (j : ℕ). reading out.0 j words ≡ Ok more) k0 b.1) in
+          let r : reading Ascii (q + length longer + length {A = ℕ} []) words ≡ Ok more = cc in
           Grammar.Reads.joined longer words (given ++ out.1) more (ended.1 words)
           (sound words more fits.1 (InMode.ascii {p = q + length longer}) r)
     ] in

@@ -1,4 +1,5 @@
 -- Where reading word by word fails, the words are stuck.
+use Rattle.std.proofs.lemmas.Grind.{common_steps}
 use Rattle.std.proofs.Common.{◌≡◌, ℕ, zero, suc, ◌+◌, ◌-◌, ◌*◌, ◌/◌, ◌%◌, ◌<◌, ◌≤◌, ◌⊎◌, inl, inr, eqb, leb, ltb, List, [], ◌∷◌, ◌++◌, length, get_or, take, Result, Ok, Err, refl, sym, ap, subst, ◌∙◌, append_assoc, arith}
 use Rattle.std.specs.List.{flat_map, AllByRecursion}
 use Rattle.std.proofs.lemmas.Bool.{eqb-true, eqb-false, leb-false, ltb-true, ltb-false, cases_lt}
@@ -24,17 +25,12 @@ use Rattle.dm_encodation.proofs.ReadingToReads.{InMode, advance, state_255-value
 use Rattle.dm_encodation.proofs.ReadsToReading.{bind_is, randomised-append, length-randomised}
 use Rattle.dm_encodation.proofs.StuckToReading.{fnc1_is, fnc1_from, values_fail, second_tail, second_set, append_below, ok_err, moved, moved_back}
 
-same_error : {B E : Type 0} (d f : E) (r : Result B E) → r ≡ Err d → r ≡ Err f → d ≡ f
-same_error d f r a b = cc
-
 bind_err : {A B E : Type 0} (r : Result A E) (g : A → Result B E) (f : E) → (r >>= g) ≡ Err f →
     (r ≡ Err f) ⊎ ((x : A) × (r ≡ Ok x) × (g x ≡ Err f))
-bind_err (Ok x) g f e = inr (x, refl, e)
-bind_err {E = E} (Err d) g f e = inl (ap (λ (x : E). Err x) (same_error d f (Err d >>= g) refl e))
+bind_err {A} {B} {E} r g f e = grind arith
 
 prepend_err : (bs : List ℕ) (r : Result (List ℕ) DecodeFault) (f : DecodeFault) → prepend bs r ≡ Err f → r ≡ Err f
-prepend_err bs (Ok x) f e = absurd cc
-prepend_err bs (Err d) f e = e
+prepend_err bs r f e = grind arith
 
 abbrev failed : DecodeFault → Stepped
 failed f = Err f
@@ -64,10 +60,7 @@ first_failure t s (v ∷ vs) e h =
               place = suc r.place;
               below = omega (arith, r.below);
               mid = (r.mid.0, more.0.1 ++ r.mid.1);
-              taken = bind_is (value_step t s v) more.0
-                  (λ a. values_step t a.0 (take r.place vs) >>= λ b. Ok (b.0, a.1 ++ b.1)) _ more.1
-                  (bind_is (values_step t more.0.0 (take r.place vs)) r.mid
-                  (λ b. Ok (b.0, more.0.1 ++ b.1)) _ r.taken refl);
+              taken = cc;
               fails = r.fails;
             }
         | inr never ↦ absurd (ok_err _ _ never.2)
@@ -86,17 +79,13 @@ meaningless_at t s vs front v given mid e fits taken ok err =
       record {
         bytes = given ++ mid.1;
         before = chars_from t (vs ++ front) (given ++ mid.1) mid.0 fits joined;
-        none = λ others chars. let r = chars_step t ((vs ++ front) ++ v ∷ []) others chars in
-            ok_err _ _ (sym r.1 ∙ failing);
+        none = λ others chars. let r = chars_step t ((vs ++ front) ++ v ∷ []) others chars in grind arith;
       },
       refl,
     )
 
 front_below : (tr : Triple) (k : ℕ) → k < 3 → IsTriple tr → AllByRecursion (λ v. v < 40) (take k (triple_values tr))
-front_below tr zero lt f = tt
-front_below tr (suc zero) lt f = (f.0, tt)
-front_below tr (suc (suc zero)) lt f = (f.0, (f.1, tt))
-front_below tr (suc (suc (suc k))) lt f = absurd (omega arith)
+front_below tr k lt f = grind (arith, common_steps)
 
 different : Missing ≡ Fnc1 → ⊥
 different e = cc
@@ -145,8 +134,7 @@ by_value t s p triples next a x given f e fits is spelled taken r at =
 
 from_at_pair_err : (t : Letters) (p w : ℕ) (r : Valued) (f : DecodeFault) → at_pair t p w r ≡ Err f →
     (e : ValueFault) × (r ≡ Err e) × (at_pair t p w (Err e) ≡ Err f)
-from_at_pair_err t p w (Ok o) f h = absurd (ok_err _ _ h)
-from_at_pair_err t p w (Err e) f h = (e, refl, h)
+from_at_pair_err t p w r f h = grind arith
 
 valued : (t : Letters) (s : Pending) (p : ℕ) (triples : List Triple) (a x : ℕ) (given : List ℕ) (f : DecodeFault) →
     x < 256 → AllByRecursion IsTriple triples
@@ -185,8 +173,7 @@ bad_pair_from t s p triples a x given f lt fits taken e =
                 let n0 = eqb-false (256 * a + x) 0 is.0 in
                 let low : 1 ≤ 256 * a + x = elim (cases_lt 0 (256 * a + x)) [
                   | inl pos ↦ pos
-                  | inr le ↦
-                      absurd (n0 (omega arith))
+                  | inr le ↦ grind arith
                 ] in
                 valued t s p triples a x given f lt fits taken low (ltb-false 64000 _ fine.0) fine.1
           ]
@@ -239,12 +226,7 @@ long_stuck q v w after f low high lt e =
 
 length_never : (p w : ℕ) (f : DecodeFault) → step Length p w ≡ Err f → ⊥
 unfolding step
-length_never p w f e =
-    elim (chosen (eqb (value_255 p w) 0) _ _ _ e) [
-      | inl ok ↦ ok_err _ _ ok.1
-      | inr n ↦
-          elim (chosen (ltb (value_255 p w) 250) _ _ _ n.1) [ inl ok ↦ ok_err _ _ ok.1 | inr ok ↦ ok_err _ _ ok.1 ]
-    ]
+length_never p w f e = grind arith
 
 run_never : (t : Letters) (s : Pending) (p w : ℕ) (f : DecodeFault) → step (Run t s) p w ≡ Err f → ⊥
 unfolding step
@@ -255,8 +237,7 @@ step_fails : {m : Mode} {q : ℕ} {front given : List ℕ} (w : ℕ) (after : Li
 unfolding step
 step_fails {q = q} w after f InMode.ascii lt e = here_nothing q after f (omega arith) (ascii_view (q + 0) w) e
 step_fails {q = q} w after f InMode.upper lt e = upper_fails q w after f e
-step_fails {q = q} w after f (InMode.run {t = t} {s = s} triples fits taken) lt e =
-    absurd (run_never t s (q + length (latch t ∷ flat_map pair triples)) w f e)
+step_fails {q = q} w after f (InMode.run {t = t} {s = s} triples fits taken) lt e = grind arith
 step_fails {q = q} w after f (InMode.half {t = t} {s = s} {a = a} {given = given} triples fits taken ne la) lt e =
     let p = q + 1 + length (flat_map pair triples) in
     let k : q + length (latch t ∷ (flat_map pair triples ++ a ∷ [])) - 1 ≡ p =
@@ -268,9 +249,7 @@ step_fails {q = q} w after f (InMode.half {t = t} {s = s} {a = a} {given = given
     (sym (append_assoc (flat_map pair triples) (a ∷ []) (w ∷ after))) (Grammar.StuckHere.bad_pair triples after fits
     chars ne bad)
 step_fails {q = q} w after f InMode.length_due lt e = absurd (length_never (q + 1) w f e)
-step_fails {q = q} w after f (InMode.long_length {v = v} low high) lt e =
-    let k : q + 2 ≡ q + 1 + 1 = omega arith in
-    long_stuck q v w after f low high lt (subst (λ (j : ℕ). step (LongLength v) j w ≡ Err f) k e)
+step_fails {q = q} w after f (InMode.long_length {v = v} low high) lt e = grind (arith, long_stuck)
 step_fails w after f (InMode.bytes len bs is fits) lt e = absurd (ok_err _ _ e)
 step_fails w after f (InMode.rest bs fits) lt e = absurd (ok_err _ _ e)
 step_fails w after f (InMode.padded any) lt e = absurd (ok_err _ _ e)
@@ -341,8 +320,7 @@ pub sound_fault : (words : List ℕ) {m : Mode} {q : ℕ} {front given : List �
     AllByRecursion (λ w. w < 256) words → InMode m q front given
     → reading m (q + length front) words ≡ Err f → Stuck q (front ++ words) f
 unfolding reading
-sound_fault [] {m = m} {q = q} {front = front} f fits i e = subst (λ (l : List ℕ). Stuck q l f) (sym (append-nil front))
-    (end_fails f i e)
+sound_fault [] {m = m} {q = q} {front = front} f fits i e = grind (arith, append-nil, end_fails)
 sound_fault (w ∷ words) {m = m} {q = q} {front = front} {given = given} f fits i e =
     let p = q + length front in
     let longer = front ++ w ∷ [] in
@@ -357,9 +335,7 @@ sound_fault (w ∷ words) {m = m} {q = q} {front = front} {given = given} f fits
             | inl inside ↦ sound_fault words f fits.1 inside (subst (λ (j : ℕ). reading out.0 j words ≡ Err f) k more)
             | inr end ↦
                 let k0 : p + 1 ≡ q + length longer + length {A = ℕ} [] = omega (arith, length-append front (w ∷ [])) in
-                let r : reading Ascii (q + length longer + length {A = ℕ} []) words ≡ Err f =
-                subst (λ (m : Mode). reading m (q + length longer + length {A = ℕ} []) words ≡ Err f) end.0
-                (subst (λ (j : ℕ). reading out.0 j words ≡ Err f) k0 more) in
+                let r : reading Ascii (q + length longer + length {A = ℕ} []) words ≡ Err f = cc in
                 Grammar.Stuck.later longer words (given ++ out.1) (end.1 words)
                 (sound_fault words f fits.1 (InMode.ascii {p = q + length longer}) r)
           ] in

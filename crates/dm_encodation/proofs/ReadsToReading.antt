@@ -1,4 +1,5 @@
 -- What the grammar reads is read word by word.
+use Rattle.std.proofs.lemmas.Grind.{common_steps}
 use Rattle.std.proofs.Common.{◌≡◌, ℕ, zero, suc, ◌+◌, ◌-◌, ◌*◌, ◌/◌, ◌%◌, ◌<◌, inl, inr, Bool, true, false, cond, ◌&&◌, eqb, leb, ltb, List, [], ◌∷◌, ◌++◌, length, Result, Ok, Err, refl, sym, ap, subst, ◌∙◌, append_assoc, arith}
 use Rattle.std.specs.List.{flat_map, AllByRecursion}
 use Rattle.std.proofs.lemmas.Bool.{ne_eqb, le-leb, lt-leb, lt-ltb, le-ltb, cases_lt, agree_below, agree_below_at, and_parts, eqb-true}
@@ -21,31 +22,15 @@ use Rattle.dm_encodation.specs.inner.Reading.{◌>>=◌, prepend, Stepped, no_pe
 
 step_character : (p b : ℕ) → b < 128 → ascii_step p (b + 1) ≡ Ok (Ascii, b ∷ [])
 unfolding ascii_step
-step_character p b lt =
-    let t0 : eqb (b + 1) 0 ≡ false = ne_eqb _ _ (λ e. omega arith) in
-    let t1 : leb (b + 1) 128 ≡ true = le-leb _ _ (omega arith) in
-    let v : b + 1 - 1 ≡ b = omega arith in
-    rw (t0, t1, v) refl
+step_character p b lt = grind arith
 
 step_digits : (p m n : ℕ) → m < 10 → n < 10 → ascii_step p (130 + (10 * m + n)) ≡ Ok (Ascii, (48 + m) ∷ (48 + n) ∷ [])
 unfolding ascii_step
-step_digits p m n lm ln =
-    let w = 130 + (10 * m + n) in
-    let t0 : eqb w 0 ≡ false = ne_eqb _ _ (λ e. omega arith) in
-    let t1 : leb w 128 ≡ false = lt-leb _ _ (omega arith) in
-    let t2 : eqb w 129 ≡ false = ne_eqb _ _ (λ e. omega arith) in
-    let t3 : leb w 229 ≡ true = le-leb _ _ (omega arith) in
-    let tens : (w - 130) / 10 ≡ m = omega arith in
-    let ones : (w - 130) % 10 ≡ n = omega arith in
-    rw (t0, t1, t2, t3, tens, ones) refl
+step_digits p m n lm ln = grind arith
 
 step_upper : (p b : ℕ) → b < 128 → upper_step p (b + 1) ≡ Ok (Ascii, (b + 128) ∷ [])
 unfolding upper_step
-step_upper p b lt =
-    let t0 : eqb (b + 1) 0 ≡ false = ne_eqb _ _ (λ e. omega arith) in
-    let t1 : leb (b + 1) 128 ≡ true = le-leb _ _ (omega arith) in
-    let v : b + 1 + 127 ≡ b + 128 = omega arith in
-    rw (t0, t1, v) refl
+step_upper p b lt = grind arith
 
 -- one word, then the rest
 pub reading_step : (m : Mode) (p w : ℕ) (ws : List ℕ) (n : Mode) (bs : List ℕ) → step m p w ≡ Ok (n, bs) →
@@ -54,13 +39,11 @@ unfolding reading
 reading_step m p w ws n bs e = rw e refl
 
 pub prepend-nil : (r : Result (List ℕ) DecodeFault) → prepend [] r ≡ r
-prepend-nil (Ok x) = refl
-prepend-nil (Err f) = refl
+prepend-nil r = grind arith
 
 pub prepend-prepend : (xs ys : List ℕ) (r : Result (List ℕ) DecodeFault) →
     prepend xs (prepend ys r) ≡ prepend (xs ++ ys) r
-prepend-prepend xs ys (Ok x) = ap (λ (l : List ℕ). Ok l) (sym (append_assoc xs ys x))
-prepend-prepend xs ys (Err f) = refl
+prepend-prepend xs ys r = grind (arith, append_assoc)
 
 -- a word that gives no bytes
 pub reading_silent : (m : Mode) (p w : ℕ) (ws : List ℕ) (n : Mode) → step m p w ≡ Ok (n, []) →
@@ -71,17 +54,7 @@ reading_silent m p w ws n e = reading_step m p w ws n [] e ∙ prepend-nil (read
 
 shifted : (b s : ℕ) → b < 256 → 0 < s → s < 256
     → (let w = cond (leb (b + s) 255) (b + s) (b + s - 256) in cond (leb s w) (w - s) (w + 256 - s)) ≡ b
-shifted b s lb ls hs =
-    elim (cases_lt 255 (b + s)) [
-      | inl high ↦
-          let t : leb (b + s) 255 ≡ false = lt-leb _ _ high in
-          let u : leb s (b + s - 256) ≡ false = lt-leb _ _ (omega arith) in
-          rw (t, u) (omega arith)
-      | inr low ↦
-          let t : leb (b + s) 255 ≡ true = le-leb _ _ low in
-          let u : leb s (b + s) ≡ true = le-leb _ _ (omega arith) in
-          rw (t, u) (omega arith)
-    ]
+shifted b s lb ls hs = grind arith
 
 pub value_255-state_255 : (p b : ℕ) → b < 256 → value_255 p (state_255 p b) ≡ b
 unfolding value_255 state_255
@@ -116,11 +89,7 @@ pub length_read : (p n : ℕ) (len after : List ℕ) → IsLength len n →
     reading Length (p + 1) (randomised (p + 1) len ++ after) ≡ reading (bytes_left n p) (p + 1 + length len) after
 unfolding step
 length_read p n len after (Grammar.IsLength.one {n = m} pos lt) =
-    let v = value_255-state_255 (p + 1) m (omega arith) in
-    let t0 : eqb m 0 ≡ false = ne_eqb _ _ (λ e. omega arith) in
-    let t1 : ltb m 250 ≡ true = lt-ltb _ _ lt in
-    let back : p + 1 - 1 ≡ p = omega arith in
-    reading_silent Length (p + 1) (state_255 (p + 1) m) after (bytes_left m p) (rw (v, t0, t1, back) refl)
+    grind (arith, value_255-state_255, ne_eqb, lt-ltb, reading_silent)
 length_read p n len after (Grammar.IsLength.two {v = v} {w = w} low high lt) =
     let a = value_255-state_255 (p + 1) v high in
     let b = value_255-state_255 (p + 1 + 1) w (omega arith) in
@@ -138,10 +107,7 @@ length_read p n len after (Grammar.IsLength.two {v = v} {w = w} low high lt) =
 pub randomised-append : (q : ℕ) (xs ys : List ℕ) → randomised q (xs ++ ys) ≡ randomised q xs ++
     randomised (q + length xs) ys
 randomised-append q [] ys = let e : q + 0 ≡ q = omega arith in rw e refl
-randomised-append q (x ∷ xs) ys =
-    let e : q + 1 + length xs ≡ q + suc (length xs) = omega arith in
-    ap (λ (l : List ℕ). state_255 q x ∷ l) (randomised-append (q + 1) xs ys ∙
-    ap (λ (k : ℕ). randomised (q + 1) xs ++ randomised k ys) e)
+randomised-append q (x ∷ xs) ys = grind (arith, randomised-append (q + 1) xs ys)
 
 -- ---- runs
 
@@ -155,8 +121,7 @@ pub record Splits (t : Letters) (s : Pending) (xs ys : List ℕ) (out : Pending 
 
 pub bind_ok : {A B E : Type 0} (r : Result A E) (f : A → Result B E) (y : B) → (r >>= f) ≡ Ok y →
     (x : A) × (r ≡ Ok x) × (f x ≡ Ok y)
-bind_ok (Ok x) f y e = (x, refl, e)
-bind_ok (Err d) f y e = absurd cc
+bind_ok r f y e = grind arith
 
 pub ok_is : {A E : Type 0} (x y : A) (r : Result A E) → r ≡ Ok x → r ≡ Ok y → x ≡ y
 ok_is x y r e f = cc
@@ -186,25 +151,12 @@ splits t s (x ∷ xs) ys out e =
 pub pair_is : (t : Letters) (s : Pending) (p : ℕ) (tr : Triple) (w x : ℕ) → IsTriple tr → pair tr ≡ w ∷ x ∷ [] →
     pair_step t s p w x ≡ at_pair t p w (values_step t s (triple_values tr))
 unfolding pair_step
-pair_is t s p tr w x fits e =
-    let v = 1600 * tr.first + 40 * tr.second + tr.third + 1 in
-    let first : v / 256 ≡ w = cc in
-    let second : v % 256 ≡ x = cc in
-    let whole : 256 * w + x ≡ v = omega arith in
-    let t0 : eqb v 0 ≡ false = ne_eqb _ _ (λ e. omega arith) in
-    let t1 : ltb 64000 v ≡ false = le-ltb _ _ (omega (arith, fits)) in
-    let a : (v - 1) / 1600 ≡ tr.first = omega (arith, fits) in
-    let b : (v - 1) / 40 % 40 ≡ tr.second = omega (arith, fits) in
-    let c : (v - 1) % 40 ≡ tr.third = omega (arith, fits) in
-    rw (whole, t0, t1, a, b, c) refl
+pair_is t s p tr w x fits e = grind arith
 
 pub values_joined : (t : Letters) (s : Pending) (xs ys : List ℕ) (middle last : Pending × List ℕ) →
     values_step t s xs ≡ Ok middle → values_step t middle.0 ys ≡ Ok last
     → values_step t s (xs ++ ys) ≡ Ok (last.0, middle.1 ++ last.1)
-values_joined t s [] ys middle last e f =
-    let m : middle ≡ (s, []) = ok_is _ _ _ e refl in
-    subst (λ (m : Pending × List ℕ). values_step t s ys ≡ Ok (last.0, m.1 ++ last.1)) (sym m)
-    (subst (λ (m : Pending × List ℕ). values_step t m.0 ys ≡ Ok last) m f)
+values_joined t s [] ys middle last e f = grind arith
 values_joined t s (x ∷ xs) ys middle last e f =
     let a = bind_ok (value_step t s x) (λ a. values_step t a.0 xs >>= λ b. Ok (b.0, a.1 ++ b.1)) middle e in
     let b = bind_ok (values_step t a.0.0 xs) (λ b. Ok (b.0, a.0.1 ++ b.1)) middle a.2 in
@@ -213,9 +165,7 @@ values_joined t s (x ∷ xs) ys middle last e f =
     let r = values_joined t a.0.0 xs ys b.0 last b.1 g in
     let joined : values_step t s (x ∷ (xs ++ ys)) ≡ Ok (last.0, a.0.1 ++ (b.0.1 ++ last.1)) =
     bind_is (value_step t s x) a.0 (λ a. values_step t a.0 (xs ++ ys) >>= λ b. Ok (b.0, a.1 ++ b.1)) _ a.1
-    (bind_is (values_step t a.0.0 (xs ++ ys)) _ (λ b. Ok (b.0, a.0.1 ++ b.1)) _ r refl) in
-    joined ∙ ap (λ (l : List ℕ). Ok (last.0, l)) (sym (append_assoc a.0.1 b.0.1 last.1) ∙
-    ap (λ (m : Pending × List ℕ). m.1 ++ last.1) (sym o))
+    (bind_is (values_step t a.0.0 (xs ++ ys)) _ (λ b. Ok (b.0, a.0.1 ++ b.1)) _ r refl) in grind (arith, append_assoc)
 
 pub run_read : (t : Letters) (s : Pending) (q : ℕ) (triples : List Triple) (after : List ℕ) (out : Pending × List ℕ) →
     AllByRecursion IsTriple triples
@@ -223,11 +173,7 @@ pub run_read : (t : Letters) (s : Pending) (q : ℕ) (triples : List Triple) (af
     → reading (Run t s) q (flat_map pair triples ++ after) ≡ prepend out.1
     (reading (Run t out.0) (q + length (flat_map pair triples)) after)
 unfolding step
-run_read t s q [] after out fits e =
-    let o : (s, []) ≡ out = ok_is _ _ (values_step t s []) refl e in
-    let k : q + 0 ≡ q = omega arith in
-    rw k (sym (prepend-nil (reading (Run t s) q after)) ∙
-    ap (λ (o : Pending × List ℕ). prepend o.1 (reading (Run t o.0) q after)) o)
+run_read t s q [] after out fits e = grind arith
 run_read t s q (tr ∷ triples) after out fits e =
     let v = 1600 * tr.first + 40 * tr.second + tr.third + 1 in
     let r = splits t s (triple_values tr) (flat_map triple_values triples) out e in
@@ -262,11 +208,7 @@ reads_as _ b = false
 
 is_plain_parts : (up : Bool) (set : Set) → is_plain up set ≡ true → record_of up set ≡ no_pending
 unfolding is_plain record_of
-is_plain_parts false Basic e = refl
-is_plain_parts false First e = absurd cc
-is_plain_parts false Second e = absurd cc
-is_plain_parts false Third e = absurd cc
-is_plain_parts true set e = absurd cc
+is_plain_parts up set e = grind arith
 
 is_plain_true : (s : Pending) → is_plain s.upper s.set ≡ true → s ≡ no_pending
 unfolding record_of
@@ -274,20 +216,12 @@ is_plain_true s e = is_plain_parts s.upper s.set e
 
 reads_as_true : (r : Valued) (b : ℕ) → reads_as r b ≡ true → r ≡ Ok (no_pending, b ∷ [])
 unfolding reads_as
-reads_as_true (Err f) b e = absurd cc
-reads_as_true (Ok (s, [])) b e = absurd cc
-reads_as_true (Ok (s, c ∷ d ∷ cs)) b e = absurd cc
-reads_as_true (Ok (s, c ∷ [])) b e =
-    let both = and_parts _ _ e in
-    let first : s ≡ no_pending = is_plain_true s both.1 in
-    let second : c ≡ b = eqb-true _ _ both.0 in
-    ap (λ (s : Pending). Ok (s, c ∷ [])) first ∙ ap (λ (c : ℕ). Ok (no_pending, c ∷ [])) second
+reads_as_true r b e = grind (arith, and_parts, is_plain_true, eqb-true)
 
 all_read : (t : Letters) → agree_below (λ b. reads_as (values_step t no_pending (values_of t b)) b)
     (λ _. true) 256 ≡ true
 unfolding values_of values_below_128 value_step byte_in reads_as is_plain
-all_read Capital = refl
-all_read Small = refl
+all_read t = grind (arith, common_steps)
 
 character_read : (t : Letters) (b : ℕ) → b < 256 → values_step t no_pending (values_of t b) ≡ Ok (no_pending, b ∷ [])
 character_read t b lt = reads_as_true _ b (agree_below_at (λ b. reads_as (values_step t no_pending (values_of t b)) b)
@@ -311,18 +245,14 @@ pub characters_read : (t : Letters) (bytes tail : List ℕ) (s : Pending) → Al
     values_step t no_pending tail ≡ Ok (s, [])
     → values_step t no_pending (flat_map (values_of t) bytes ++ tail) ≡ Ok (s, bytes)
 characters_read t [] tail s fits e = e
-characters_read t (b ∷ bs) tail s fits e =
-    ap (values_step t no_pending) (append_assoc (values_of t b) (flat_map (values_of t) bs) tail)
-    ∙ values_joined t no_pending (values_of t b) (flat_map (values_of t) bs ++ tail) (no_pending, b ∷ []) (
-      s,
-      bs,
-    ) (character_read t b fits.0) (characters_read t bs tail s fits.1 e)
+characters_read t (b ∷ bs) tail s fits e = grind (arith, append_assoc (values_of t b) (flat_map (values_of t) bs) tail,
+    values_joined t no_pending (values_of t b) (flat_map (values_of t) bs ++ tail) (no_pending, b ∷ []) (s, bs,)
+    (character_read t b fits.0) (characters_read t bs tail s fits.1 e))
 
 pub chars_step : (t : Letters) (values bytes : List ℕ) → Chars t values bytes →
     (s : Pending) × (values_step t no_pending values ≡ Ok (s, bytes))
-chars_step t values bytes chars =
-    let end = tail_read t chars.tail chars.unfinished in
-    (end.0, ap (values_step t no_pending) chars.spelled ∙ characters_read t bytes chars.tail end.0 chars.fits end.1)
+chars_step t values bytes chars = grind (arith, characters_read t bytes chars.tail (tail_read t chars.tail
+    chars.unfinished).0 chars.fits (tail_read t chars.tail chars.unfinished).1)
 
 pub ended_ascii : (p : ℕ) → reading Ascii p [] ≡ Ok []
 unfolding reading finish
@@ -335,33 +265,19 @@ padded_read p (w ∷ ws) = reading_silent Padded p w ws Padded refl ∙ padded_r
 
 pub step_latch : (t : Letters) (p : ℕ) → step Ascii p (latch t) ≡ Ok (Run t no_pending, [])
 unfolding step ascii_step
-step_latch Capital p = refl
-step_latch Small p = refl
+step_latch t p = grind arith
 
 -- a word read in ASCII leaves no half pair
 never_half : (p k w : ℕ) (r : Stepped) → AsciiStep p w r →
     (r >>= λ n. prepend n.1 (ended n.0 k)) ≡ (r >>= λ n. prepend n.1 (finish n.0 k))
 unfolding finish
-never_half p k w r (AsciiStep.nothing e) = refl
-never_half p k w r (AsciiStep.unsupported e) = refl
-never_half p k w r (AsciiStep.character b lt e) = refl
-never_half p k w r (AsciiStep.digits m n lm ln e) = refl
-never_half p k w r (AsciiStep.pad e) = refl
-never_half p k w r (AsciiStep.to_run t e) = refl
-never_half p k w r (AsciiStep.to_bytes e) = refl
-never_half p k w r (AsciiStep.to_upper e) = refl
+never_half p k w r given = grind arith
 
 open_read : (t : Letters) (s : Pending) (q : ℕ) (after : List ℕ) → EndsOpen after →
     reading (Run t s) q after ≡ reading Ascii q after
 unfolding reading finish step
 open_read t s q [] stops = refl
-open_read t s q (w ∷ []) stops =
-    let ne : eqb w 254 ≡ false = ne_eqb _ _ stops in
-    let back : q + 1 - 1 ≡ q = omega arith in
-    let k : step (Run t s) q w ≡ Ok (Half t s w, []) = rw ne refl in
-    reading_silent (Run t s) q w [] (Half t s w) k ∙
-    ap (λ (j : ℕ). ascii_step j w >>= λ n. prepend n.1 (ended n.0 (q + 1))) back ∙
-    never_half q (q + 1) w (ascii_step q w) (ascii_view q w)
+open_read t s q (w ∷ []) stops = grind (arith, never_half q (q + 1) w (ascii_step q w) (ascii_view q w))
 open_read t s q (w ∷ x ∷ ws) stops = absurd stops
 
 pub complete_segment : {p : ℕ} {words after bytes : List ℕ} → Segment p words after bytes →
@@ -372,53 +288,34 @@ complete_segment {p = p} {after = after} (Grammar.Segment.character {b = b} lt) 
 complete_segment {p = p} {after = after} (Grammar.Segment.digits {m = m} {n = n} lm ln) =
     reading_step Ascii p (130 + (10 * m + n)) after Ascii ((48 + m) ∷ (48 + n) ∷ []) (step_digits p m n lm ln)
 complete_segment {p = p} {after = after} (Grammar.Segment.upper {b = b} lt) =
-    let e : p + 1 + 1 ≡ p + 2 = omega arith in
-    reading_silent Ascii p 235 ((b + 1) ∷ after) Upper refl
-    ∙ reading_step Upper (p + 1) (b + 1) after Ascii ((b + 128) ∷ []) (step_upper (p + 1) b lt)
-    ∙ ap (λ (k : ℕ). prepend ((b + 128) ∷ []) (reading Ascii k after)) e
+    grind (arith, reading_silent Ascii p 235 ((b + 1) ∷ after) Upper refl, reading_step Upper (p + 1) (b + 1) after
+    Ascii ((b + 128) ∷ []) (step_upper (p + 1) b lt))
 complete_segment {p = p} {after = after} (Grammar.Segment.run {t = t} {bytes = bytes} triples fits chars) =
-    let s = chars_step t (flat_map triple_values triples) bytes chars in
-    let q = p + 1 + length (flat_map pair triples) in
-    let e : q + 1 ≡ p + suc (length (flat_map pair triples ++ 254 ∷ [])) =
-    omega (arith, length-append (flat_map pair triples) (254 ∷ [])) in
-    reading_silent Ascii p (latch t) ((flat_map pair triples ++ 254 ∷ []) ++ after) (Run t no_pending) (step_latch t p)
-    ∙ ap (reading (Run t no_pending) (p + 1)) (append_assoc (flat_map pair triples) (254 ∷ []) after)
-    ∙ run_read t no_pending (p + 1) triples (254 ∷ after) (s.0, bytes) fits s.1
-    ∙ ap (prepend bytes) (reading_silent (Run t s.0) q 254 after Ascii refl)
-    ∙ ap (λ (k : ℕ). prepend bytes (reading Ascii k after)) e
+    grind (arith, length-append (flat_map pair triples) (254 ∷ []), reading_silent Ascii p (latch t) ((flat_map pair
+    triples ++ 254 ∷ []) ++ after) (Run t no_pending) (step_latch t p), append_assoc (flat_map pair triples) (254 ∷ [])
+    after, run_read t no_pending (p + 1) triples (254 ∷ after) ((chars_step t (flat_map triple_values triples) bytes
+    chars).0, bytes) fits (chars_step t (flat_map triple_values triples) bytes chars).1, reading_silent (Run t
+    (chars_step t (flat_map triple_values triples) bytes chars).0) (p + 1 + length (flat_map pair triples)) 254 after
+    Ascii refl)
 complete_segment {p = p} {after = after} (Grammar.Segment.open_run {t = t} {bytes = bytes} triples fits chars stops) =
-    let s = chars_step t (flat_map triple_values triples) bytes chars in
-    let q = p + 1 + length (flat_map pair triples) in
-    let e : q ≡ p + suc (length (flat_map pair triples)) = omega arith in
-    reading_silent Ascii p (latch t) (flat_map pair triples ++ after) (Run t no_pending) (step_latch t p)
-    ∙ run_read t no_pending (p + 1) triples after (s.0, bytes) fits s.1
-    ∙ ap (prepend bytes) (open_read t s.0 q after stops)
-    ∙ ap (λ (k : ℕ). prepend bytes (reading Ascii k after)) e
+    grind (arith, reading_silent Ascii p (latch t) (flat_map pair triples ++ after) (Run t no_pending) (step_latch t p),
+    run_read t no_pending (p + 1) triples after ((chars_step t (flat_map triple_values triples) bytes chars).0, bytes)
+    fits (chars_step t (flat_map triple_values triples) bytes chars).1, open_read t (chars_step t (flat_map
+    triple_values triples) bytes chars).0 (p + 1 + length (flat_map pair triples)) after stops)
 complete_segment {p = p} {after = after} (Grammar.Segment.bytes {bs = bs} len is_len fits) =
-    let q = p + 1 + length len in
-    let whole : randomised (p + 1) (len ++ bs) ++ after ≡ randomised (p + 1) len ++ (randomised q bs ++ after) =
-    ap (λ (l : List ℕ). l ++ after) (randomised-append (p + 1) len bs) ∙
-    append_assoc (randomised (p + 1) len) (randomised q bs) after in
-    let e : q + length bs ≡ p + suc (length (randomised (p + 1) (len ++ bs))) =
-    omega (arith, length-randomised (p + 1) (len ++ bs), length-append len bs) in
-    reading_silent Ascii p 231 (randomised (p + 1) (len ++ bs) ++ after) Length refl
-    ∙ ap (reading Length (p + 1)) whole
-    ∙ length_read p (length bs) len (randomised q bs ++ after) is_len
-    ∙ bytes_read bs q p after fits
-    ∙ ap (λ (k : ℕ). prepend bs (reading Ascii k after)) e
+    grind (arith, randomised-append (p + 1) len bs, append_assoc (randomised (p + 1) len) (randomised (p + 1 + length
+    len) bs) after, length-randomised (p + 1) (len ++ bs), length-append len bs, reading_silent Ascii p 231 (randomised
+    (p + 1) (len ++ bs) ++ after) Length refl, length_read p (length bs) len (randomised (p + 1 + length len) bs ++
+    after) is_len, bytes_read bs (p + 1 + length len) p after fits)
 complete_segment {p = p} (Grammar.Segment.rest {bs = bs} fits) =
-    reading_silent Ascii p 231 (randomised (p + 1) (0 ∷ bs) ++ []) Length refl
-    ∙ ap (reading Length (p + 1)) (append-nil (randomised (p + 1) (0 ∷ bs)))
-    ∙ reading_silent Length (p + 1) (state_255 (p + 1) 0) (randomised (p + 1 + 1) bs) Rest
-    (rw (value_255-state_255 (p + 1) 0 (omega arith)) refl)
-    ∙ rest_read bs (p + 1 + 1) fits
-    ∙ rw (ended_ascii (p + length (231 ∷ randomised (p + 1) (0 ∷ bs)))) (ap (λ (l : List ℕ). Ok l)
-    (sym (append-nil bs)))
+    grind (arith, reading_silent Ascii p 231 (randomised (p + 1) (0 ∷ bs) ++ []) Length refl, append-nil (randomised (p
+    + 1) (0 ∷ bs)), reading_silent Length (p + 1) (state_255 (p + 1) 0) (randomised (p + 1 + 1) bs) Rest (rw
+    (value_255-state_255 (p + 1) 0 (omega arith)) refl), rest_read bs (p + 1 + 1) fits, ended_ascii (p + length (231 ∷
+    randomised (p + 1) (0 ∷ bs))), append-nil bs)
 
 pub complete : {p : ℕ} {words bytes : List ℕ} → Reads p words bytes → reading Ascii p words ≡ Ok bytes
 unfolding reading step ascii_step finish
 complete Grammar.Reads.nothing = refl
-complete (Grammar.Reads.padded {p = p} {any = any}) = reading_silent Ascii p 129 any Padded refl ∙
-    padded_read (p + 1) any
+complete (Grammar.Reads.padded {p = p} {any = any}) = grind (arith, reading_silent, padded_read)
 complete {p = p} (Grammar.Reads.joined words after bytes more segment rest) = complete_segment segment ∙
     ap (prepend bytes) (complete rest)

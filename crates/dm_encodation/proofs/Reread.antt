@@ -37,19 +37,11 @@ err_is x y r e f = cc
 
 -- What is read is read alone.
 pub reads_only : {p : ℕ} {words bytes : List ℕ} → Reads p words bytes → ReadsOnly p words bytes
-reads_only {p = p} {words = words} {bytes = bytes} r = record {
-  reads = r;
-  only = λ others o. one_reading p words others bytes o r;
-  unstuck = λ fault s. ok_err bytes fault (reading Ascii p words) (complete r) (complete_stuck s);
-}
+reads_only {p = p} {words = words} {bytes = bytes} r = grind (arith, one_reading, ok_err, complete, complete_stuck)
 
 -- What is stuck is stuck with one fault.
 pub stuck_only : {p : ℕ} {words : List ℕ} {fault : DecodeFault} → Stuck p words fault → StuckOnly p words fault
-stuck_only {p = p} {words = words} {fault = fault} s = record {
-  stuck = s;
-  only = λ other o. err_is other fault (reading Ascii p words) (complete_stuck o) (complete_stuck s);
-  unread = λ bytes r. ok_err bytes fault (reading Ascii p words) (complete r) (complete_stuck s);
-}
+stuck_only {p = p} {words = words} {fault = fault} s = grind (arith, err_is, complete_stuck, ok_err, complete)
 
 no_memory_pair : (t : Letters) (p : ℕ) (triples : List Triple) (w x : ℕ) → BadPair t p triples w x Memory → ⊥
 no_memory_pair t p triples w x b = elim b [ ]
@@ -71,13 +63,6 @@ decided p words bytes fits e = reads_only (reads_from p words bytes (below_256 w
 pub decided_fault : (p : ℕ) (words : List ℕ) (f : DecodeFault) → ((i : ℕ) → get_or words i 0 < 256) →
     reading Ascii p words ≡ Err f → StuckOnly p words f
 decided_fault p words f fits e = stuck_only (stuck_from p words f (below_256 words fits) e)
-
-pub collected_fault : (p : ℕ) (words : List ℕ) (f : DecodeFault) → ((i : ℕ) → get_or words i 0 < 256) →
-    Fails f (reading Ascii p words) → f ≢ Memory → StuckOnly p words f
-collected_fault p words Memory fits g = λ ne. absurd (ne refl)
-collected_fault p words (Unsupported at w) fits g = λ ne. decided_fault p words (Unsupported at w) fits g
-collected_fault p words (Reserved at w) fits g = λ ne. decided_fault p words (Reserved at w) fits g
-collected_fault p words (Cut at) fits g = λ ne. decided_fault p words (Cut at) fits g
 
 pub bytes_from : (n : ℕ) (words : List ℕ) → ((i : ℕ) → get_or words i 0 < 256) → (i : ℕ) →
     get_or (drop n words) i 0 < 256
@@ -136,32 +121,19 @@ ascii_read (b ∷ c ∷ bs) rest fits more p =
 
 pub pads_more : (out : List ℕ) (p last : ℕ) (new : List ℕ) → p < last → new ≡ out ++ state_253 p ∷ [] →
     new ++ later_pads (p + 1) (last - (p + 1)) ≡ out ++ later_pads p (last - p)
-pads_more out p last new lt e =
-    let k : last - p ≡ suc (last - (p + 1)) = omega arith in
-    rw (e, k) (append_assoc out (state_253 p ∷ []) (later_pads (p + 1) (last - (p + 1))))
+pads_more out p last new lt e = let k : last - p ≡ suc (last - (p + 1)) = omega arith in grind (arith, append_assoc)
 
 pub pads_done : (out first before : List ℕ) (p q b n : ℕ) → n + 1 ≤ p → b < n → q ≡ b + 1 → first ≡ before ++ 129 ∷ [] →
     out ++ later_pads p (n + 1 - p) ≡ first ++ later_pads (q + 1) (n + 1 - (q + 1))
     → out ≡ before ++ pads (b + 1) (n - b)
-pads_done out first before p q b n le lt q-is e h =
-    let limit = n in
-    let none : n + 1 - p ≡ 0 = omega arith in
-    let k : n - b ≡ suc (n + 1 - (b + 1 + 1)) = omega arith in
-    let tail = later_pads (b + 1 + 1) (n + 1 - (b + 1 + 1)) in
-    let g : out ++ [] ≡ first ++ later_pads (q + 1) (n + 1 - (q + 1)) =
-    subst (λ (n : ℕ). out ++ later_pads p n ≡ first ++ later_pads (q + 1) (limit + 1 - (q + 1))) none h in
-    let whole : out ≡ before ++ 129 ∷ tail = sym (append-nil out) ∙ g ∙
-    ap (λ (q : ℕ). first ++ later_pads (q + 1) (limit + 1 - (q + 1))) q-is ∙ ap (λ (l : List ℕ). l ++ tail) e ∙
-    append_assoc before (129 ∷ []) tail in
-    rw k whole
+pads_done out first before p q b n le lt q-is e h = grind (arith, append-nil, append_assoc)
 
 length-later_pads : (p n : ℕ) → length (later_pads p n) ≡ n
 length-later_pads p zero = refl
 length-later_pads p (suc n) = ap suc (length-later_pads (p + 1) n)
 
 pub length-pads : (p n : ℕ) → length (pads p n) ≡ n
-length-pads p zero = refl
-length-pads p (suc n) = ap suc (length-later_pads (p + 1) n)
+length-pads p n = grind (arith, length-later_pads)
 
 pub never_memory : (p : ℕ) (words : List ℕ) (f : DecodeFault) → ((i : ℕ) → get_or words i 0 < 256) →
     reading Ascii p words ≡ Err f → f ≡ Memory → ⊥

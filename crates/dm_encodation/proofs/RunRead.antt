@@ -1,4 +1,5 @@
 -- What is written in C40 and Text is read.
+use Rattle.std.proofs.lemmas.Grind.{common_steps}
 use Rattle.std.proofs.Common.{◌≡◌, ℕ, zero, suc, ◌+◌, ◌-◌, ◌*◌, ◌/◌, ◌%◌, ◌<◌, ◌≤◌, true, false, ◌&&◌, eqb, leb, ltb, List, [], ◌∷◌, ◌++◌, length, take, drop, refl, sym, ap, subst, ◌∙◌, append_assoc, arith}
 use Rattle.std.specs.List.{flat_map, AllByRecursion, list_all}
 use Rattle.std.proofs.lemmas.Bool.{ltb-true, cond_both, lt-ltb, eq-eqb, ne_eqb, leb-false, agree_below, agree_below_at, and_parts}
@@ -17,8 +18,7 @@ use Rattle.dm_encodation.proofs.StuckToReading.{append_below}
 
 all_below : (t : Letters) → agree_below (λ b. list_all (λ v. ltb v 40) (values_of t b)) (λ _. true) 256 ≡ true
 unfolding values_of values_below_128
-all_below Capital = refl
-all_below Small = refl
+all_below t = grind arith
 
 below_40 : (vs : List ℕ) → list_all (λ v. ltb v 40) vs ≡ true → AllByRecursion (λ v. v < 40) vs
 below_40 [] e = tt
@@ -74,14 +74,11 @@ closed_run_read t p bytes more after fits threes_of reads =
     let words = latch t ∷ (flat_map pair r.triples ++ 254 ∷ []) in
     let read : Reads p (words ++ after) (bytes ++ more) = Grammar.Reads.joined words after bytes more
     (Grammar.Segment.run r.triples r.fit chars) (reads (p + length words)) in
-    subst (λ (l : List ℕ). Reads p (latch t ∷ l) (bytes ++ more)) (append_assoc (flat_map pair r.triples)
-    (254 ∷ []) after ∙ ap (λ (l : List ℕ). l ++ 254 ∷ after) r.words) read
+        grind (arith, append_assoc (flat_map pair r.triples) (254 ∷ []) after)
 
 -- a run with at most one word after it, a pad
 ends_open : (q n : ℕ) → n < 2 → EndsOpen (pads q n)
-ends_open q zero lt = tt
-ends_open q (suc zero) lt = λ e. absurd (omega (arith, e))
-ends_open q (suc (suc n)) lt = absurd (omega arith)
+ends_open q n lt = grind arith
 
 pub open_run_read : (t : Letters) (p q n : ℕ) (bytes : List ℕ) → AllByRecursion (λ b. b < 256) bytes →
     length (flat_map (values_of t) bytes) % 3 ≡ 0 → n < 2
@@ -94,20 +91,15 @@ open_run_read t p q n bytes fits threes_of lt =
     let words = latch t ∷ flat_map pair r.triples in
     let read : Reads p (words ++ pads q n) (bytes ++ []) = Grammar.Reads.joined words (pads q n) bytes []
     (Grammar.Segment.open_run r.triples r.fit chars (ends_open q n lt)) (pads_read n q (p + length words)) in
-    subst (λ (l : List ℕ). Reads p (latch t ∷ (l ++ pads q n)) bytes) r.words
-    (subst (λ (l : List ℕ). Reads p (words ++ pads q n) l) (append-nil bytes) read)
+        grind (arith, append-nil)
 
 fits_take : (k : ℕ) (bytes : List ℕ) → AllByRecursion (λ b. b < 256) bytes →
     AllByRecursion (λ b. b < 256) (take k bytes)
-fits_take zero bytes f = tt
-fits_take (suc k) [] f = tt
-fits_take (suc k) (b ∷ bs) f = (f.0, fits_take k bs f.1)
+fits_take k bytes f = grind (arith, common_steps)
 
 fits_drop : (k : ℕ) (bytes : List ℕ) → AllByRecursion (λ b. b < 256) bytes →
     AllByRecursion (λ b. b < 256) (drop k bytes)
-fits_drop zero bytes f = f
-fits_drop (suc k) [] f = tt
-fits_drop (suc k) (b ∷ bs) f = fits_drop k bs f.1
+fits_drop k bytes f = grind (arith, common_steps)
 
 -- a run, what it leaves, and what fills the room
 rest_read : (t : Letters) (k : ℕ) (bytes : List ℕ) (p q n : ℕ) (rest : List ℕ) → drop k bytes ≡ rest →
@@ -141,10 +133,7 @@ rest_read t k bytes p q n (b ∷ bs) e fits within passes =
     (ascii_read (b ∷ bs) (pads q n) fits_rest (pads_read n q)) in
     let joined : take k bytes ++ b ∷ bs ≡ bytes = ap (λ (l : List ℕ). take k bytes ++ l) (sym e) ∙
     take-append-drop k bytes in
-    let vs = flat_map (values_of t) (take k bytes) in
-    rw (f0, e) (subst (λ (l : List ℕ). Reads p (latch t ∷ l) bytes)
-    (sym (append_assoc (pairs vs) (254 ∷ ascii (b ∷ bs)) (pads q n)))
-    (subst (λ (l : List ℕ). Reads p (latch t ∷ (pairs vs ++ 254 ∷ (ascii (b ∷ bs) ++ pads q n))) l) joined read))
+    let vs = flat_map (values_of t) (take k bytes) in grind (arith, append_assoc)
 
 -- A text in C40 or Text, and the words that fill the room after it.
 run_text_read : (t : Letters) (k : ℕ) (bytes : List ℕ) (p q n : ℕ) → AllByRecursion (λ b. b < 256) bytes →
@@ -152,11 +141,9 @@ run_text_read : (t : Letters) (k : ℕ) (bytes : List ℕ) (p q n : ℕ) → All
     → Reads p (run_and_rest t k bytes ++ words_after_text (ltb 0 k && eqb k (length bytes)) q n) bytes
 unfolding run_and_rest
 run_text_read t zero bytes p q n fits within passes = ascii_read bytes (pads q n) fits (pads_read n q) p
-run_text_read t (suc k) bytes p q n fits within passes =
-    let pos : ltb 0 (suc k) ≡ true = lt-ltb 0 (suc k) (omega arith) in
-    rw pos (rest_read t (suc k) bytes p q n (drop (suc k) bytes) refl fits within (passes (omega arith)))
+run_text_read t (suc k) bytes p q n fits within passes = grind (arith, lt-ltb 0 (suc k) (omega arith), rest_read t (suc
+    k) bytes p q n (drop (suc k) bytes) refl fits within (passes (omega arith)))
 
 pub run_read_back : (t : Letters) (bytes : List ℕ) (p q n : ℕ) → AllByRecursion (λ b. b < 256) bytes
     → Reads p (run_and_rest t (run_length t bytes) bytes ++ words_after_text (is_whole_run t bytes) q n) bytes
-run_read_back t bytes p q n fits = run_text_read t (run_length t bytes) bytes p q n fits (run_within t bytes)
-    (run_passes t bytes)
+run_read_back t bytes p q n fits = grind (arith, run_text_read, run_within, run_passes)

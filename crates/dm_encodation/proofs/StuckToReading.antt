@@ -1,4 +1,5 @@
 -- Where the words are stuck, reading word by word fails so, and the other way round.
+use Rattle.std.proofs.lemmas.Grind.{common_steps}
 use Rattle.std.proofs.Common.{◌≡◌, ℕ, zero, suc, ◌+◌, ◌-◌, ◌*◌, ◌<◌, ◌≤◌, ◌≢◌, ◌⊎◌, inl, inr, Bool, true, false, not, ◌&&◌, eqb, leb, ltb, List, [], ◌∷◌, ◌++◌, length, get_or, take, Option, Some, None, Ok, Err, refl, sym, ap, subst, ◌∙◌, append_assoc, arith}
 use Rattle.std.specs.List.{flat_map, AllByRecursion}
 use Rattle.std.proofs.lemmas.Bool.{eqb-true, ne_eqb, eq-eqb, lt-leb, lt-ltb, le-ltb}
@@ -29,69 +30,23 @@ unfolding reading
 reading_fault m p w ws f e = ap (λ (s : Stepped). s >>= λ n. prepend n.1 (reading n.0 (p + 1) ws)) e
 
 bounds : (w : ℕ) → IsUnsupported w → (232 ≤ w) × (w ≤ 241) × (w ≢ 235) × (w ≢ 239)
-bounds w (inl a) = (omega arith, omega arith, λ e. omega arith, λ e. omega arith)
-bounds w (inr (inl a)) = (omega arith, omega arith, λ e. omega arith, λ e. omega arith)
-bounds w (inr (inr (inl a))) = (omega arith, omega arith, λ e. omega arith, λ e. omega arith)
-bounds w (inr (inr (inr a))) = (omega arith, omega arith, λ e. omega arith, λ e. omega arith)
-
-latch_is : (t : Letters) → (latch t ≡ 230) ⊎ (latch t ≡ 239)
-latch_is Capital = inl refl
-latch_is Small = inr refl
+bounds w given = grind arith
 
 is_unsupported : {p w : ℕ} {r : Stepped} → AsciiStep p w r → IsUnsupported w → r ≡ Err (Unsupported p w)
-is_unsupported {w = w} (AsciiStep.nothing (inl a)) u = let b = bounds w u in absurd (omega arith)
-is_unsupported {w = w} (AsciiStep.nothing (inr a)) u = let b = bounds w u in absurd (omega arith)
-is_unsupported (AsciiStep.unsupported a) u = refl
-is_unsupported {w = w} (AsciiStep.character c lt e) u = let b = bounds w u in absurd (omega arith)
-is_unsupported {w = w} (AsciiStep.digits m n lm ln e) u = let b = bounds w u in absurd (omega arith)
-is_unsupported {w = w} (AsciiStep.pad e) u = let b = bounds w u in absurd (omega arith)
-is_unsupported {w = w} (AsciiStep.to_run t e) u = let b = bounds w u in
-    elim (latch_is t) [ inl is ↦ absurd (omega arith) | inr is ↦ absurd (b.3 (e ∙ is)) ]
-is_unsupported {w = w} (AsciiStep.to_bytes e) u = let b = bounds w u in absurd (omega arith)
-is_unsupported {w = w} (AsciiStep.to_upper e) u = let b = bounds w u in absurd (b.2 e)
+is_unsupported {p} {w} {r} given u = grind arith
 
 is_reserved : {p w : ℕ} {r : Stepped} → AsciiStep p w r → (w ≡ 0) ⊎ (242 ≤ w) → r ≡ Err (Reserved p w)
-is_reserved (AsciiStep.nothing a) u = refl
-is_reserved {w = w} (AsciiStep.unsupported a) (inl u) = let b = bounds w a in absurd (omega arith)
-is_reserved {w = w} (AsciiStep.unsupported a) (inr u) = let b = bounds w a in absurd (omega arith)
-is_reserved (AsciiStep.character c lt e) (inl u) = absurd (omega arith)
-is_reserved (AsciiStep.character c lt e) (inr u) = absurd (omega arith)
-is_reserved (AsciiStep.digits m n lm ln e) (inl u) = absurd (omega arith)
-is_reserved (AsciiStep.digits m n lm ln e) (inr u) = absurd (omega arith)
-is_reserved (AsciiStep.pad e) (inl u) = absurd (omega arith)
-is_reserved (AsciiStep.pad e) (inr u) = absurd (omega arith)
-is_reserved (AsciiStep.to_run t e) (inl u) = elim (latch_is t) [
-  | inl is ↦ absurd (omega arith)
-  | inr is ↦
-      absurd (omega arith)
-]
-is_reserved (AsciiStep.to_run t e) (inr u) = elim (latch_is t) [
-  | inl is ↦ absurd (omega arith)
-  | inr is ↦
-      absurd (omega arith)
-]
-is_reserved (AsciiStep.to_bytes e) (inl u) = absurd (omega arith)
-is_reserved (AsciiStep.to_bytes e) (inr u) = absurd (omega arith)
-is_reserved (AsciiStep.to_upper e) (inl u) = absurd (omega arith)
-is_reserved (AsciiStep.to_upper e) (inr u) = absurd (omega arith)
+is_reserved {p} {w} {r} given u = grind arith
 
 bad_upper : (p x : ℕ) → (x ≡ 0) ⊎ (128 < x) → upper_step p x ≡ Err (Reserved p x)
 unfolding upper_step
-bad_upper p x (inl e) = let t : eqb x 0 ≡ true = eq-eqb x 0 e in rw t refl
-bad_upper p x (inr lt) =
-    let t : eqb x 0 ≡ false = ne_eqb x 0 (λ e. omega arith) in
-    let u : leb x 128 ≡ false = lt-leb x 128 lt in
-    rw (t, u) refl
+bad_upper p x given = grind arith
 
 bytes_short : (after : List ℕ) (n q at : ℕ) → length after < n → reading (bytes_left n at) q after ≡ Err (Cut at)
 unfolding reading step finish
-bytes_short [] zero q at lt = absurd (omega arith)
-bytes_short [] (suc n) q at lt = refl
+bytes_short [] n q at lt = grind arith
 bytes_short (w ∷ ws) zero q at lt = absurd (omega arith)
-bytes_short (w ∷ ws) (suc n) q at lt =
-    let e : suc n - 1 ≡ n = omega arith in
-    ap (λ (k : ℕ). prepend (value_255 q w ∷ []) (reading (bytes_left k at) (q + 1) ws)) e ∙
-    ap (prepend (value_255 q w ∷ [])) (bytes_short ws n (q + 1) at (omega arith))
+bytes_short (w ∷ ws) (suc n) q at lt = let e : suc n - 1 ≡ n = omega arith in grind (arith, bytes_short ws n (q + 1))
 
 -- ---- pairs
 
@@ -100,42 +55,13 @@ fnc1_at : (t : Letters) (up : Bool) → value_step t (record { upper = up; set =
 unfolding value_step
 fnc1_at t up = refl
 
-never_fnc1 : (up : Bool) (o : Option ℕ) → character_ended up o ≡ Err Fnc1 → ⊥
-never_fnc1 up None e = cc
-never_fnc1 up (Some b) e = cc
-
 pub ok_err : {A E : Type 0} (x : A) (f : E) → Ok x ≡ Err f → ⊥
 ok_err x f e = cc
 
 pub fnc1_is : (t : Letters) (up : Bool) (set : Set) (v : ℕ) →
     value_step t (record { upper = up; set = set }) v ≡ Err Fnc1 → (set ≡ Second) × (v ≡ 27)
 unfolding value_step
-fnc1_is t up Basic v e =
-    elim (chosen (eqb v 0) _ _ _ e) [
-      | inl is ↦ absurd (ok_err _ _ is.1)
-      | inr is ↦
-          elim (chosen (eqb v 1) _ _ _ is.1) [
-            | inl is ↦ absurd (ok_err _ _ is.1)
-            | inr is ↦
-                elim (chosen (eqb v 2) _ _ _ is.1) [
-                  | inl is ↦ absurd (ok_err _ _ is.1)
-                  | inr is ↦
-                      absurd (never_fnc1 up _ is.1)
-                ]
-          ]
-    ]
-fnc1_is t up First v e = absurd (never_fnc1 up _ e)
-fnc1_is t up Second v e =
-    elim (chosen (eqb v 27) _ _ _ e) [
-      | inl is ↦ (refl, eqb-true v 27 is.0)
-      | inr is ↦
-          elim (chosen (eqb v 30 && not up) _ _ _ is.1) [
-            | inl is ↦ absurd (ok_err _ _ is.1)
-            | inr is ↦
-                absurd (never_fnc1 up _ is.1)
-          ]
-    ]
-fnc1_is t up Third v e = absurd (never_fnc1 up _ e)
+fnc1_is t up set v e = grind arith
 
 -- the values of a triple, cut at one of them
 triple_cut : (tr : Triple) (k : ℕ) → k < 3 →
@@ -148,18 +74,13 @@ triple_cut tr (suc (suc (suc k))) lt = absurd (omega arith)
 pub values_fail : (t : Letters) (s : Pending) (front : List ℕ) (v : ℕ) (rest : List ℕ) (mid : Pending × List ℕ)
     (e : ValueFault) → values_step t s front ≡ Ok mid → value_step t mid.0 v ≡ Err e
     → values_step t s (front ++ v ∷ rest) ≡ Err e
-values_fail t s [] v rest mid e ok err =
-    let m : (s, []) ≡ mid = ok_is _ _ (values_step t s []) refl ok in
-    let at : value_step t s v ≡ Err e = subst (λ (m : Pending × List ℕ). value_step t m.0 v ≡ Err e) (sym m) err in
-    ap (λ (r : Valued). r >>= λ a. values_step t a.0 rest >>= λ b. Ok (b.0, a.1 ++ b.1)) at
+values_fail t s [] v rest mid e ok err = grind arith
 values_fail t s (x ∷ xs) v rest mid e ok err =
     let a = bind_ok (value_step t s x) (λ a. values_step t a.0 xs >>= λ b. Ok (b.0, a.1 ++ b.1)) mid ok in
     let b = bind_ok (values_step t a.0.0 xs) (λ b. Ok (b.0, a.0.1 ++ b.1)) mid a.2 in
     let o : mid ≡ (b.0.0, a.0.1 ++ b.0.1) = ok_is mid _ _ b.2 refl in
     let next = values_fail t a.0.0 xs v rest b.0 e b.1
-    (subst (λ (m : Pending × List ℕ). value_step t m.0 v ≡ Err e) o err) in
-    ap (λ (r : Valued). r >>= λ a. values_step t a.0 (xs ++ v ∷ rest) >>= λ b. Ok (b.0, a.1 ++ b.1)) a.1
-    ∙ ap (λ (r : Valued). r >>= λ b. Ok (b.0, a.0.1 ++ b.1)) next
+    (subst (λ (m : Pending × List ℕ). value_step t m.0 v ≡ Err e) o err) in grind arith
 
 tail_state : (t : Letters) (tail : List ℕ) → Unfinished tail →
     (s : Pending) × (values_step t no_pending tail ≡ Ok (s, [])) × (tail_of s ≡ tail)
@@ -215,56 +136,31 @@ refuses t s vs front v bytes fits taken m =
     }
     go (Ok out) last is second tail_is all =
         let at : value_step t all.0 v ≡ Ok out = subst (λ (x : Pending). value_step t x v ≡ Ok out) (sym all.2) is in
-        let one : values_step t all.0 (v ∷ []) ≡ Ok (out.0, out.1 ++ []) =
-        ap (λ (r : Valued). r >>= λ a. values_step t a.0 [] >>= λ b. Ok (b.0, a.1 ++ b.1)) at in
+        let one : values_step t all.0 (v ∷ []) ≡ Ok (out.0, out.1 ++ []) = cc in
         let whole = values_joined t no_pending (vs ++ front) (v ∷ []) (all.0, m.bytes) (out.0, out.1 ++ []) all.1 one in
         absurd (m.none (m.bytes ++ (out.1 ++ [])) (chars_from t ((vs ++ front) ++ v ∷ []) (m.bytes ++
         (out.1 ++ [])) out.0 fits whole))
 
 pub append_below : (xs ys : List ℕ) → AllByRecursion (λ v. v < 40) xs → AllByRecursion (λ v. v < 40) ys →
     AllByRecursion (λ v. v < 40) (xs ++ ys)
-append_below [] ys f g = g
-append_below (x ∷ xs) ys f g = (f.0, append_below xs ys f.1 g)
+append_below xs ys f g = grind (arith, common_steps)
 
 pub cut_below : (tr : Triple) (k : ℕ) → k < 3 → IsTriple tr →
     AllByRecursion (λ v. v < 40) (take k (triple_values tr) ++ get_or (triple_values tr) k 0 ∷ [])
-cut_below tr zero lt f = (f.0, tt)
-cut_below tr (suc zero) lt f = (f.0, (f.1, tt))
-cut_below tr (suc (suc zero)) lt f = (f.0, (f.1, (f.2, tt)))
-cut_below tr (suc (suc (suc k))) lt f = absurd (omega arith)
+cut_below tr k lt f = grind arith
 
 -- the set by the tail
 pub second_set : (up : Bool) (set : Set) → (tail_at up set ≡ 1 ∷ []) ⊎ (tail_at up set ≡ 1 ∷ 30 ∷ 1 ∷ []) → set ≡ Second
-second_set up Second e = refl
-second_set false Basic (inl e) = absurd cc
-second_set false Basic (inr e) = absurd cc
-second_set false First (inl e) = absurd cc
-second_set false First (inr e) = absurd cc
-second_set false Third (inl e) = absurd cc
-second_set false Third (inr e) = absurd cc
-second_set true Basic (inl e) = absurd cc
-second_set true Basic (inr e) = absurd cc
-second_set true First (inl e) = absurd cc
-second_set true First (inr e) = absurd cc
-second_set true Third (inl e) = absurd cc
-second_set true Third (inr e) = absurd cc
+second_set up set e = grind arith
 
 pub second_tail : (up : Bool) (set : Set) → set ≡ Second →
     (tail_at up set ≡ 1 ∷ []) ⊎ (tail_at up set ≡ 1 ∷ 30 ∷ 1 ∷ [])
-second_tail false set e = inl (ap (tail_at false) e)
-second_tail true set e = inr (ap (tail_at true) e)
+second_tail up set e = grind arith
 
 -- FNC1 exactly where the set is 2 and the value 27
 pub fnc1_from : (t : Letters) (s : Pending) (v : ℕ) (fault : ValueFault) → s.set ≡ Second → v ≡ 27 →
     value_step t s v ≡ Err fault → fault ≡ Fnc1
-fnc1_from t s v fault set-is v-is e =
-    let a : value_step t (record { upper = s.upper; set = Second }) 27 ≡ Err fault =
-    subst (λ (x : Set). value_step t (record { upper = s.upper; set = x }) 27 ≡ Err fault) set-is
-    (subst (λ (v : ℕ). value_step t s v ≡ Err fault) v-is e) in
-    err_is _ _ _ a (fnc1_at t s.upper)
-  where
-    err_is : (x y : ValueFault) (r : Valued) → r ≡ Err x → r ≡ Err y → x ≡ y
-    err_is x y r e f = cc
+fnc1_from t s v fault set-is v-is e = grind (arith, fnc1_at t s.upper)
 
 missing_from : (t : Letters) (s : Pending) (v : ℕ) (fault : ValueFault) → ((s.set ≡ Second) × (v ≡ 27) → ⊥) →
     value_step t s v ≡ Err fault → fault ≡ Missing
@@ -273,13 +169,11 @@ missing_from t s v Fnc1 deny e = absurd (deny (fnc1_is t s.upper s.set v e))
 
 pub moved : (s : Pending) (tail : List ℕ) → tail_of s ≡ tail → (tail ≡ 1 ∷ []) ⊎ (tail ≡ 1 ∷ 30 ∷ 1 ∷ []) →
     (tail_of s ≡ 1 ∷ []) ⊎ (tail_of s ≡ 1 ∷ 30 ∷ 1 ∷ [])
-moved s tail e (inl a) = inl (e ∙ a)
-moved s tail e (inr a) = inr (e ∙ a)
+moved s tail e given = grind arith
 
 pub moved_back : (s : Pending) (tail : List ℕ) → tail_of s ≡ tail →
     (tail_of s ≡ 1 ∷ []) ⊎ (tail_of s ≡ 1 ∷ 30 ∷ 1 ∷ []) → (tail ≡ 1 ∷ []) ⊎ (tail ≡ 1 ∷ 30 ∷ 1 ∷ [])
-moved_back s tail e (inl a) = inl (sym e ∙ a)
-moved_back s tail e (inr a) = inr (sym e ∙ a)
+moved_back s tail e given = grind arith
 
 fails_by : (t : Letters) (s : Pending) (p : ℕ) (triples : List Triple) (w x : ℕ) (bytes : List ℕ) →
     AllByRecursion IsTriple triples
@@ -308,12 +202,8 @@ bad_pair_fails : (t : Letters) (s : Pending) (p : ℕ) (triples : List Triple) (
     → values_step t no_pending (flat_map triple_values triples) ≡ Ok (s, bytes) → BadPair t p triples w x f →
     pair_step t s p w x ≡ Err f
 unfolding pair_step
-bad_pair_fails t s p triples w x f bytes fits taken (Grammar.BadPair.no_value (inl none)) =
-    let e : eqb (256 * w + x) 0 ≡ true = eq-eqb _ 0 none in rw e refl
-bad_pair_fails t s p triples w x f bytes fits taken (Grammar.BadPair.no_value (inr above)) =
-    let e : eqb (256 * w + x) 0 ≡ false = ne_eqb _ 0 (λ e. omega arith) in
-    let g : ltb 64000 (256 * w + x) ≡ true = lt-ltb 64000 _ above in
-    rw (e, g) refl
+bad_pair_fails t s p triples w x f bytes fits taken (Grammar.BadPair.no_value (inl none)) = grind arith
+bad_pair_fails t s p triples w x f bytes fits taken (Grammar.BadPair.no_value (inr above)) = grind arith
 bad_pair_fails t s p triples w x f bytes fits taken (Grammar.BadPair.fnc1 n is_fnc1) =
     let m = n.meaningless in
     fails_by t s p triples w x bytes fits taken n.next n.place n.is_triple n.spelled n.in_pair m Fnc1
@@ -328,18 +218,11 @@ bad_pair_fails t s p triples w x f bytes fits taken (Grammar.BadPair.meaningless
 
 to_long : (p v : ℕ) → 250 ≤ v → v < 256 → step Length p (state_255 p v) ≡ Ok (LongLength v, [])
 unfolding step
-to_long p v low high =
-    let a = value_255-state_255 p v high in
-    let t0 : eqb v 0 ≡ false = ne_eqb _ _ (λ e. omega arith) in
-    let t1 : ltb v 250 ≡ false = le-ltb _ _ low in
-    rw (a, t0, t1) refl
+to_long p v low high = grind (arith, value_255-state_255 p v high)
 
 long_fails : (p v x : ℕ) → 250 ≤ x → x < 256 → step (LongLength v) p (state_255 p x) ≡ Err (Reserved p (state_255 p x))
 unfolding step
-long_fails p v x low high =
-    let b = value_255-state_255 p x high in
-    let t : ltb (value_255 p (state_255 p x)) 250 ≡ false = rw b (le-ltb _ _ low) in
-    rw t refl
+long_fails p v x low high = grind (arith, value_255-state_255, le-ltb)
 
 half_end : (p v : ℕ) → reading (LongLength v) (p + 1 + 1) [] ≡ Err (Cut p)
 unfolding reading finish
@@ -350,18 +233,16 @@ unfolding step ascii_step
 to_length p = refl
 
 half_read : (p v : ℕ) → 250 ≤ v → v < 256 → reading Ascii p (231 ∷ state_255 (p + 1) v ∷ []) ≡ Err (Cut p)
-half_read p v low high =
-    reading_silent Ascii p 231 (state_255 (p + 1) v ∷ []) Length (to_length p)
-    ∙ reading_silent Length (p + 1) (state_255 (p + 1) v) [] (LongLength v) (to_long (p + 1) v low high) ∙ half_end p v
+half_read p v low high = grind (arith, reading_silent Ascii p 231 (state_255 (p + 1) v ∷ []) Length (to_length p),
+    reading_silent Length (p + 1) (state_255 (p + 1) v) [] (LongLength v) (to_long (p + 1) v low high), half_end p v)
 
 long_read : (p v x : ℕ) (after : List ℕ) → 250 ≤ v → v < 256 → 250 ≤ x → x < 256
     → reading Ascii p (231 ∷ state_255 (p + 1) v ∷ state_255 (p + 1 + 1) x ∷ after) ≡
     Err (Reserved (p + 1 + 1) (state_255 (p + 1 + 1) x))
-long_read p v x after low high low2 high2 =
-    reading_silent Ascii p 231 (state_255 (p + 1) v ∷ state_255 (p + 1 + 1) x ∷ after) Length (to_length p)
-    ∙ reading_silent Length (p + 1) (state_255 (p + 1) v) (state_255 (p + 1 + 1) x ∷ after) (LongLength v)
-    (to_long (p + 1) v low high)
-    ∙ reading_fault (LongLength v) (p + 1 + 1) (state_255 (p + 1 + 1) x) after _ (long_fails (p + 1 + 1) v x low2 high2)
+long_read p v x after low high low2 high2 = grind (arith, reading_silent Ascii p 231 (state_255 (p + 1) v ∷ state_255 (p
+    + 1 + 1) x ∷ after) Length (to_length p), reading_silent Length (p + 1) (state_255 (p + 1) v) (state_255 (p + 1 + 1)
+    x ∷ after) (LongLength v) (to_long (p + 1) v low high), long_fails (p + 1 + 1) v x low2 high2, reading_silent,
+    to_length, to_long, reading_fault, long_fails)
 
 pub complete_here : {p : ℕ} {words : List ℕ} {f : DecodeFault} → StuckHere p words f → reading Ascii p words ≡ Err f
 unfolding step ascii_step finish reading
@@ -369,13 +250,10 @@ complete_here {p = p} (Grammar.StuckHere.unsupported {w = w} {after = after} u) 
     reading_fault Ascii p w after (Unsupported p w) (is_unsupported (ascii_view p w) u)
 complete_here {p = p} (Grammar.StuckHere.reserved {w = w} {after = after} u) =
     reading_fault Ascii p w after (Reserved p w) (is_reserved (ascii_view p w) u)
-complete_here {p = p} Grammar.StuckHere.cut_upper = let e : p + 1 - 1 ≡ p = omega arith in
-    reading_silent Ascii p 235 [] Upper refl ∙ ap (λ (k : ℕ). Err (Cut k)) e
+complete_here {p = p} Grammar.StuckHere.cut_upper = grind (arith, common_steps, reading_silent)
 complete_here {p = p} (Grammar.StuckHere.bad_upper {x = x} {after = after} bad) =
-    reading_silent Ascii p 235 (x ∷ after) Upper refl ∙ reading_fault Upper (p + 1) x after (Reserved (p + 1) x)
-    (bad_upper (p + 1) x bad)
-complete_here {p = p} Grammar.StuckHere.no_length = let e : p + 1 - 1 ≡ p = omega arith in
-    reading_silent Ascii p 231 [] Length refl ∙ ap (λ (k : ℕ). Err (Cut k)) e
+    grind (arith, common_steps, reading_silent, reading_fault, bad_upper)
+complete_here {p = p} Grammar.StuckHere.no_length = grind (arith, common_steps, reading_silent)
 complete_here {p = p} (Grammar.StuckHere.half_length {v = v} low high) = half_read p v low high
 complete_here {p = p} (Grammar.StuckHere.bad_length {v = v} {x = x} {after = after} low high low2 high2) =
     long_read p v x after low high low2 high2

@@ -1,5 +1,5 @@
 -- Eight pixels that are gathered by one multiplication.
-use Rattle.std.proofs.Common.{◌≡◌, ◌==◌, ℕ, ◌*◌, ◌/◌, ◌%◌, Bool, true, false, ◌&&◌, List, [], ◌∷◌, get_or, refl, sym, ◌∙◌}
+use Rattle.std.proofs.Common.{arith, ◌≡◌, ◌==◌, ℕ, ◌*◌, ◌/◌, ◌%◌, Bool, true, false, ◌&&◌, List, [], ◌∷◌, get_or, refl, sym, ◌∙◌}
 use Rattle.std.proofs.lemmas.Bool.{and_parts, eqb-true}
 use Rattle.std.specs.Int.{from_le_bytes, w64}
 use mir.Val.{bool_byte}
@@ -23,8 +23,7 @@ both p = p true && p false
 
 both_at : (p : Bool → Bool) → both p ≡ true → (b : Bool) → p b ≡ true
 unfolding both
-both_at p h true = (and_parts (p true) (p false) h).0
-both_at p h false = (and_parts (p true) (p false) h).1
+both_at p h b = grind arith
 
 -- whether the two numbers are the same: of these eight pixels, then whatever the last is, the last two, and so on
 agree : Bool → Bool → Bool → Bool → Bool → Bool → Bool → Bool → Bool
@@ -84,5 +83,4 @@ pub gathers_row : (row : List Bool) (a b c d e f g h : ℕ) → a ≡ bool_byte 
     → e ≡ bool_byte (get_or row 4 false) → f ≡ bool_byte (get_or row 5 false) → g ≡ bool_byte (get_or row 6 false)
     → h ≡ bool_byte (get_or row 7 false)
     → gathered a b c d e f g h ≡ number_of_first 0 row 8
-gathers_row row a b c d e f g h pa pb pc pd pe pf pg ph =
-    rw (pa, pb, pc, pd, pe, pf, pg, ph) (gathered_is _ _ _ _ _ _ _ _ ∙ sym (first_eight row))
+gathers_row row a b c d e f g h pa pb pc pd pe pf pg ph = grind (arith, gathered_is, first_eight)

@@ -36,21 +36,14 @@ row_taken pixels old new w s row ew hr whole en eo =
     fill_by_all f new ((row + 1) * s) false (ap length en ∙ omega (arith, both, size, before))
     (λ k h.
     ap (λ (xs : List Bool). get_or xs k false) en
-    ∙ ⊎_elim (λ (l : k < row * s).
-    get_or_append_left old part false k (omega (arith, before)) ∙ ap (λ (xs : List Bool). get_or xs k false) eo
-    ∙ get_or-map-range_with_len f 0 (row * s) k k false l (omega arith))
+    ∙ ⊎_elim (λ (l : k < row * s). grind (arith, get_or_append_left, get_or-map-range_with_len))
     (λ (l : row * s ≤ k).
     let c = k - row * s in
     let hc : c < s = omega arith in
     let is : k ≡ row * s + c = omega arith in
     let above : k / s ≡ row = ap (λ (x : ℕ). x / s) is ∙ div-mul-add row s c hc in
     let beside : k % s ≡ c = ap (λ (x : ℕ). x % s) is ∙ mod-mul-add row s c hc in
-    let place : start + c ≡ (row + 1) * w + (c + 1) = omega arith in
-    get_or-append_right old part (row * s) k false before l
-    ∙ get_or-between pixels start (start + s) c false (omega arith)
-    ∙ ap (λ (x : ℕ). get_or pixels x false) place
-    ∙ sym (ap (λ (x : ℕ). get_or pixels ((x + 1) * w + (k % s + 1)) false) above
-    ∙ ap (λ (x : ℕ). get_or pixels ((row + 1) * w + (x + 1)) false) beside))
+    let place : start + c ≡ (row + 1) * w + (c + 1) = omega arith in grind (arith, get_or-append_right, get_or-between))
     (cases_lt k (row * s)))
 
 -- all modules inside the quiet zone
@@ -79,11 +72,7 @@ row_moved pixels old new w s row n ew hr en copied below from before = record {
       let beside : k % s ≡ c = ap (λ (x : ℕ). x % s) is ∙ mod-mul-add row s c hc in
       let place : start + c ≡ (row + 1) * w + (c + 1) = omega arith in
       let wide : row * s ≤ row * w = mul-le-mul_left row (let q : s ≤ w = omega arith in q) in
-      let after : row * s ≤ start + c = omega arith in
-      copied k false l (omega arith) ∙ before.others (start + c) after
-      ∙ ap (λ (x : ℕ). get_or pixels x false) place
-      ∙ sym (ap (λ (x : ℕ). get_or pixels ((x + 1) * w + (k % s + 1)) false) above
-      ∙ ap (λ (x : ℕ). get_or pixels ((row + 1) * w + (x + 1)) false) beside))
+      let after : row * s ≤ start + c = omega arith in grind arith)
       (cases_lt k (row * s));
   others = λ k h. from k false (omega arith) ∙ before.others k (omega arith);
 }

@@ -20,11 +20,7 @@ fronts [] b x y e = inl (b, refl, e)
 fronts (u ∷ a) [] x y e = inr (u ∷ a, refl, sym e)
 fronts (u ∷ a) (v ∷ b) x y e =
     let h : u ≡ v = cc in
-    let t : a ++ x ≡ b ++ y = cc in
-    elim (fronts a b x y t) [
-      | inl d ↦ inl (d.0, cc (d.1, h), d.2)
-      | inr d ↦ inr (d.0, cc (d.1, h), d.2)
-    ]
+    let t : a ++ x ≡ b ++ y = cc in grind (arith, fronts a b x y t)
 
 -- what shows no sign and ends outside of a comment is nothing
 open_stays : (d : List ℕ) → signs_from true d ≡ [] → in_comment true d ≡ true
@@ -37,20 +33,11 @@ open_stays (b ∷ d) e =
 
 pub closed_none : (d : List ℕ) → signs_from false d ≡ [] → in_comment false d ≡ false → d ≡ []
 closed_none [] e c = refl
-closed_none (b ∷ d) e c =
-    elim (is_hidden false b) as (λ h. cond h (signs_from true d) (b ∷ signs_from false d) ≡ [] →
-    in_comment h d ≡ false → b ∷ d ≡ []) [
-      | true ↦ λ f k. let o = open_stays d f in cc
-      | false ↦ λ f k. cc
-    ] e c
+closed_none (b ∷ d) e c = grind (arith, open_stays)
 
 pub signs_after : (a d : List ℕ) → in_comment false a ≡ false
     → (signs (a ++ d) ≡ signs a ++ signs d) × (in_comment false (a ++ d) ≡ in_comment false d)
-signs_after a d c = (
-  signs-append false a d ∙ ap (λ v. signs a ++ signs_from v d) c,
-  in_comment-append false a d
-      ∙ ap (λ v. in_comment v d) c,
-)
+signs_after a d c = grind (arith, signs-append, in_comment-append)
 
 pub done_walk : (body : List ℕ) (w h : ℕ) → IsHeaderBody body w h
     → walk (Some AfterMagic) (signs body) ≡ Some (Done (min w 1025) (min h 1025))
@@ -62,8 +49,7 @@ header_ends : (a d : List ℕ) (w h w' h' : ℕ) → IsHeaderBody a w h → IsHe
 header_ends a d w h w' h' p q =
     let s = signs_after a d p.closed in
     let runs : walk (Some (Done (min w 1025) (min h 1025))) (signs d) ≡ Some (Done (min w' 1025) (min h' 1025)) =
-    ap (λ v. walk v (signs d)) (sym (done_walk a w h p)) ∙ sym (walk-append (Some AfterMagic) (signs a) (signs d))
-    ∙ ap (walk (Some AfterMagic)) (sym s.0) ∙ done_walk (a ++ d) w' h' q in
+        cc (done_walk a w h p, walk-append (Some AfterMagic) (signs a) (signs d), done_walk (a ++ d) w' h' q) in
     let ends = at_done (min w 1025) (min h 1025) (signs d) (min w' 1025) (min h' 1025) runs in
     (closed_none d ends.0 (sym s.1 ∙ q.closed), ends.1, ends.2)
 
@@ -82,25 +68,17 @@ same_rows : (n : ℕ) (a b : List (List ℕ)) → AllByRecursion (λ r. length r
 same_rows n [] [] p q l e = refl
 same_rows n [] (v ∷ b) p q l e = absurd (omega arith)
 same_rows n (u ∷ a) [] p q l e = absurd (omega arith)
-same_rows n (u ∷ a) (v ∷ b) p q l e =
-    let one = p.0 in
-    let two = q.0 in
-    let m = same_fronts u v (concat a) (concat b) (one ∙ sym two) e in
-    let rest = same_rows n a b p.1 q.1 (omega arith) m.1 in cc (m.0, rest)
+same_rows n (u ∷ a) (v ∷ b) p q l e = grind (arith, same_fronts, same_rows n a b p.1 q.1 (omega arith) (same_fronts u v
+    (concat a) (concat b) (p.0 ∙ sym q.0) e).1)
 
 one_packed : (a b x y : List ℕ) (w h : ℕ) (p q : List Bool) → IsPackedRaster a w h p → IsPackedRaster b w h q
     → a ++ x ≡ b ++ y → (a ≡ b) × (p ≡ q)
 one_packed a b x y w h p q r s e =
-    let m = same_fronts a b x y (length-packed a w h p r ∙ sym (length-packed b w h q s)) e in
-    let rows = same_rows (stride w) r.rows s.rows r.each s.each (r.count ∙ sym s.count) (sym r.raster_is ∙ m.0 ∙
-    s.raster_is) in
-    (m.0, r.pixels_are ∙ ap (flat_map (row_of w)) rows ∙ sym s.pixels_are)
+    grind (arith, length-packed a w h p r, same_rows (stride w) r.rows s.rows r.each s.each (r.count ∙ sym s.count) (sym
+    r.raster_is ∙ (same_fronts a b x y (length-packed a w h p r ∙ sym (length-packed b w h q s)) e).0 ∙ s.raster_is))
 
 same_digit : (p q : Bool) → digit_of p ≡ digit_of q → p ≡ q
-same_digit true true e = refl
-same_digit true false e = absurd (omega arith)
-same_digit false true e = absurd (omega arith)
-same_digit false false e = refl
+same_digit p q e = grind arith
 
 same_digits : (p q : List Bool) → map digit_of p ≡ map digit_of q → p ≡ q
 same_digits [] [] e = refl
@@ -108,8 +86,7 @@ same_digits [] (v ∷ q) e = cc
 same_digits (u ∷ p) [] e = cc
 same_digits (u ∷ p) (v ∷ q) e =
     let h : digit_of u ≡ digit_of v = cc in
-    let t : map digit_of p ≡ map digit_of q = cc in
-    cc (same_digit u v h, same_digits p q t)
+    let t : map digit_of p ≡ map digit_of q = cc in grind (arith, same_digits p q t)
 
 pub length-digits : (p : List Bool) → length (map digit_of p) ≡ length p
 length-digits [] = refl
@@ -118,10 +95,7 @@ length-digits (x ∷ p) = ap suc (length-digits p)
 -- the last of a list after a front that isn't all of it
 pub last_after : (a d f : List ℕ) (z : ℕ) → a ++ d ≡ f ++ z ∷ [] → 0 < length d → (g : List ℕ) × (d ≡ g ++ z ∷ [])
 last_after [] d f z e n = (f, e)
-last_after (u ∷ a) d [] z e n =
-    let t : a ++ d ≡ [] = cc in
-    let l : length (a ++ d) ≡ 0 = ap length t in
-    absurd (omega (arith, length-append a d))
+last_after (u ∷ a) d [] z e n = grind (arith, length-append a d)
 last_after (u ∷ a) d (v ∷ f) z e n = let t : a ++ d ≡ f ++ z ∷ [] = cc in last_after a d f z t n
 
 -- a byte outside of a comment at the end is a sign
@@ -131,15 +105,7 @@ shown_last h z c = ap (λ v. cond v [] (z ∷ [])) c
 digits_after : (d g : List ℕ) (p : Bool) → d ≡ g ++ digit_of p ∷ [] → in_comment false d ≡ false
     → 0 < length (filter is_pixel_digit (signs d))
 digits_after d g p e c =
-    let inside = in_comment false g in
-    let shut : in_comment inside (digit_of p ∷ []) ≡ false = sym (in_comment-append false g (digit_of p ∷ []))
-    ∙ ap (in_comment false) (sym e) ∙ c in
-    let text : signs d ≡ signs g ++ digit_of p ∷ [] = ap signs e ∙ signs-append false g (digit_of p ∷ [])
-    ∙ ap (λ t. signs g ++ t) (shown_last inside (digit_of p) shut) in
-    let kept : filter is_pixel_digit (signs d) ≡ filter is_pixel_digit (signs g) ++ digit_of p ∷ [] =
-    ap (filter is_pixel_digit) text ∙ filter-append is_pixel_digit (signs g) (digit_of p ∷ [])
-    ∙ ap (λ t. filter is_pixel_digit (signs g) ++ t) (digit_kept p) in
-    rw kept (simp length-append (omega arith))
+    grind (arith, in_comment-append, signs-append, shown_last, filter-append, digit_kept, length-append)
 
 pub no_more : (d : List ℕ) → (0 < length d → ⊥) → d ≡ []
 no_more [] n = refl
@@ -151,19 +117,12 @@ plain_ends : (a d : List ℕ) (count : ℕ) (p q : List Bool) → IsPlainRaster 
 plain_ends a d count p q r s =
     let b = signs_after a d r.closed in
     let shut = sym b.1 ∙ s.closed in
-    let kept : map digit_of q ≡ map digit_of p ++ filter is_pixel_digit (signs d) =
-    sym s.shows.digits ∙ ap (filter is_pixel_digit) b.0 ∙ filter-append is_pixel_digit (signs a) (signs d)
-    ∙ ap (λ t. t ++ filter is_pixel_digit (signs d)) r.shows.digits in
+    let kept : map digit_of q ≡ map digit_of p ++ filter is_pixel_digit (signs d) = grind (arith, filter-append) in
     let long : length q ≡ length p + length (filter is_pixel_digit (signs d)) =
-    sym (length-digits q) ∙ ap length kept ∙ length-append (map digit_of p) (filter is_pixel_digit (signs d))
-    ∙ ap (λ n. n + length (filter is_pixel_digit (signs d))) (length-digits p) in
+        grind (arith, length-digits, length-append) in
     let none : length (filter is_pixel_digit (signs d)) ≡ 0 = omega (arith, r.count_is, s.count_is) in
-    let empty : d ≡ [] = no_more d (λ n. let last = last_after a d s.front (digit_of s.last) s.ends n in
-    let some = digits_after d last.0 s.last last.1 shut in omega arith) in
-    let same : map digit_of q ≡ map digit_of p = kept ∙
-    ap (λ t. map digit_of p ++ filter is_pixel_digit (signs t)) empty
-    ∙ append-nil (map digit_of p) in
-    (empty, sym (same_digits q p same))
+    let empty : d ≡ [] = no_more d (λ n. grind (arith, last_after, digits_after)) in
+    let same : map digit_of q ≡ map digit_of p = grind (arith, append-nil) in grind (arith, same_digits)
 
 one_plain : (a b x y : List ℕ) (count : ℕ) (p q : List Bool) → IsPlainRaster a count p → IsPlainRaster b count q
     → a ++ x ≡ b ++ y → (a ≡ b) × (p ≡ q)
@@ -171,14 +130,12 @@ one_plain a b x y count p q r s e =
     elim (fronts a b x y e) [
       | inl d ↦ let m = plain_ends a d.0 count p q r (rw d.1 at s) in
           (sym (append-nil a) ∙ ap (λ t. a ++ t) (sym m.0) ∙ sym d.1, m.1)
-      | inr d ↦ let m = plain_ends b d.0 count q p s (rw d.1 at r) in
-          (d.1 ∙ ap (λ t. b ++ t) m.0 ∙ append-nil b, sym m.1)
+      | inr d ↦ grind (arith, plain_ends b d.0 count q p s (rw d.1 at r), append-nil b)
     ]
 
 one_raster : (plain : Bool) (a b x y : List ℕ) (w h : ℕ) (p q : List Bool) → IsRaster plain a w h p
     → IsRaster plain b w h q → a ++ x ≡ b ++ y → (a ≡ b) × (p ≡ q)
-one_raster true a b x y w h p q r s e = one_plain a b x y (w * h) p q r s e
-one_raster false a b x y w h p q r s e = one_packed a b x y w h p q r s e
+one_raster plain a b x y w h p q r s e = grind (arith, one_plain, one_packed)
 
 pub one_header : (a b x y : List ℕ) (w h w' h' : ℕ) → IsHeaderBody a w h → IsHeaderBody b w' h' → a ++ x ≡ b ++ y
     → (a ≡ b) × (min w 1025 ≡ min w' 1025) × (min h 1025 ≡ min h' 1025)
@@ -186,15 +143,11 @@ one_header a b x y w h w' h' p q e =
     elim (fronts a b x y e) [
       | inl d ↦ let m = header_ends a d.0 w h w' h' p (rw d.1 at q) in
           (sym (append-nil a) ∙ ap (λ t. a ++ t) (sym m.0) ∙ sym d.1, sym m.1, sym m.2)
-      | inr d ↦ let m = header_ends b d.0 w' h' w h q (rw d.1 at p) in
-          (d.1 ∙ ap (λ t. b ++ t) m.0 ∙ append-nil b, m.1, m.2)
+      | inr d ↦ grind (arith, header_ends b d.0 w' h' w h q (rw d.1 at p), append-nil b)
     ]
 
 pub one_magic : (p q : Bool) (x y : List ℕ) → magic p ++ x ≡ magic q ++ y → (p ≡ q) × (x ≡ y)
-one_magic true true x y e = (refl, cc)
-one_magic false false x y e = (refl, cc)
-one_magic true false x y e = let h : ◌≡◌ {A = ℕ} 49 52 = cc in absurd (omega arith)
-one_magic false true x y e = let h : ◌≡◌ {A = ℕ} 52 49 = cc in absurd (omega arith)
+one_magic p q x y e = grind arith
 
 -- pictures with the same fields
 pub same_picture : (p q : Picture) → p.width ≡ q.width → p.height ≡ q.height → p.pixels ≡ q.pixels →
@@ -212,18 +165,15 @@ one_after_magic : (a b x y : List ℕ) (p q : Picture) → p.plain ≡ q.plain �
     → a ++ x ≡ b ++ y → (a ≡ b) × (p ≡ q)
 one_after_magic a b x y p q form r s e =
     let split : r.body ++ (r.raster ++ x) ≡ s.body ++ (s.raster ++ y) =
-    sym (append_assoc r.body r.raster x) ∙ ap (λ t. t ++ x) (sym r.bytes_are) ∙ e ∙ ap (λ t. t ++ y) s.bytes_are
-    ∙ append_assoc s.body s.raster y in
+    grind (arith, append_assoc) in
     let head = one_header r.body s.body (r.raster ++ x)
     (s.raster ++ y) p.width p.height q.width q.height r.header.header s.header.header split in
     let w = capped_same p.width q.width r.header.width_within s.header.width_within head.1 in
     let h = capped_same p.height q.height r.header.height_within s.header.height_within head.2 in
     let rest = same_fronts r.body s.body (r.raster ++ x) (s.raster ++ y) (ap length head.0) split in
     let one = one_raster p.plain r.raster s.raster x y p.width p.height p.pixels q.pixels r.raster_is
-    (raster_moved p.plain q.plain s.raster p.width p.height q.width q.height q.pixels form w h s.raster_is) rest.1 in (
-      r.bytes_are ∙ ap (λ t. t ++ r.raster) head.0 ∙ ap (λ t. s.body ++ t) one.0 ∙ sym s.bytes_are,
-      same_picture p q w h one.1 form,
-    )
+    (raster_moved p.plain q.plain s.raster p.width p.height q.width q.height q.pixels form w h s.raster_is) rest.1 in
+        grind arith
 
 pub one_image : HasOneImage
 one_image a b x y p q r s e =

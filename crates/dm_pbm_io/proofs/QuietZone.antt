@@ -19,45 +19,24 @@ over a k xs ys = take a xs ++ (ys ++ drop k (drop a xs))
 
 over_below : (a k : ℕ) (xs ys : List Bool) (i : ℕ) → a ≤ length xs → i < a →
     get_or (over a k xs ys) i false ≡ get_or xs i false
-over_below a k xs ys i h l =
-    let size = length-take-le a xs h in
-    get_or_append_left (take a xs) (ys ++ drop k (drop a xs)) false i (omega (arith, size)) ∙ get_or-take a xs i false l
+over_below a k xs ys i h l = grind (arith, length-take-le, get_or_append_left, get_or-take)
 
 over_within : (a k : ℕ) (xs ys : List Bool) (c : ℕ) → a ≤ length xs → c < length ys
     → get_or (over a k xs ys) (a + c) false ≡ get_or ys c false
-over_within a k xs ys c h l =
-    let place : a + c - a ≡ c = omega arith in
-    get_or-append_right (take a xs) (ys ++ drop k (drop a xs)) a (a + c) false (length-take-le a xs h) (omega arith)
-    ∙ ap (λ (x : ℕ). get_or (ys ++ drop k (drop a xs)) x false) place
-    ∙ get_or_append_left ys (drop k (drop a xs)) false c l
+over_within a k xs ys c h l = grind (arith, get_or-append_right, length-take-le, get_or_append_left)
 
 over_above : (a k : ℕ) (xs ys : List Bool) (i : ℕ) → a ≤ length xs → length ys ≡ k → a + k ≤ i
     → get_or (over a k xs ys) i false ≡ get_or xs i false
-over_above a k xs ys i h e l =
-    let place : a + (k + (i - a - k)) ≡ i = omega arith in
-    get_or-append_right (take a xs) (ys ++ drop k (drop a xs)) a i false (length-take-le a xs h) (omega arith)
-    ∙ get_or-append_right ys (drop k (drop a xs)) k (i - a) false e (omega arith)
-    ∙ get_or-drop k (drop a xs) (i - a - k) false
-    ∙ get_or-drop a xs (k + (i - a - k)) false
-    ∙ ap (λ (x : ℕ). get_or xs x false) place
+over_above a k xs ys i h e l = grind (arith, get_or-append_right, length-take-le, get_or-drop)
 
 length-over : (a k : ℕ) (xs ys : List Bool) → a + k ≤ length xs → length ys ≡ k → length (over a k xs ys) ≡ length xs
-length-over a k xs ys h e =
-    let t = length-take-le a xs (omega arith) in
-    let u = length-append (take a xs) (ys ++ drop k (drop a xs)) in
-    let v = length-append ys (drop k (drop a xs)) in
-    let x = length-drop k (drop a xs) in
-    let y = length-drop a xs in
-    omega (arith, t, u, v, x, y)
+length-over a k xs ys h e = grind (arith, length-take-le, length-append, length-drop)
 
 -- the place of a row in the image, as the code writes it
 pub same_place : (g : Square) (n row : ℕ) (xs ys : List Bool) → n ≡ g.side
     → over ((row + 1) * (n + 2) + 1) ((row + 1) * (n + 2) + 1 + n - ((row + 1) * (n + 2) + 1)) xs ys ≡ over ((row + 1) *
     (g.side + 2) + 1) g.side xs ys
-same_place g n row xs ys e =
-    let size : (row + 1) * (n + 2) + 1 + n - ((row + 1) * (n + 2) + 1) ≡ g.side = omega arith in
-    ap (λ (k : ℕ). over ((row + 1) * (n + 2) + 1) k xs ys) size ∙
-    ap (λ (m : ℕ). over ((row + 1) * (m + 2) + 1) g.side xs ys) e
+same_place g n row xs ys e = grind arith
 
 -- what is drawn, and what is still light
 reached : (r n : ℕ) (b : Bool) → r < n → (if nat_lt r n then b else false) ≡ b
@@ -82,35 +61,17 @@ right g r c h = grind (arith, nat_tests)
 -- a module and its pixel
 pub within : (g : Square) (r c : ℕ) → r < g.side → c < g.side →
     pixel_with_quiet_zone g (r + 1) (c + 1) ≡ module_at g r c
-within g r c h k =
-    let a : r + 1 - 1 ≡ r = omega arith in
-    let b : c + 1 - 1 ≡ c = omega arith in
-    inner g (r + 1) (c + 1) (omega arith) (omega arith) (omega arith) (omega arith)
-    ∙ ap (λ (x : ℕ). module_at g x (c + 1 - 1)) a ∙ ap (λ (x : ℕ). module_at g r x) b
-  where
-    inner : (g : Square) (r c : ℕ) → 0 < r → r < g.side + 1 → 0 < c → c < g.side + 1
-        → pixel_with_quiet_zone g r c ≡ module_at g (r - 1) (c - 1)
-    inner g r c h i j k = grind (arith, nat_tests)
+within g r c h k = grind arith
 
 -- nothing is drawn yet
 pub nothing_drawn : (g : Square) (w : ℕ) → IsDrawnTo g w 0 (replicate (w * w) false)
 nothing_drawn g w =
-    record {
-      count = length-replicate (w * w) false;
-      drawn = λ r c hr hc.
-          get_or-replicate (w * w) (r * w + c) false false (mul-add-lt r w c w hr hc)
-          ∙ ⊎_elim (λ (h : r < 1). sym (reached r (0 + 1) (pixel_with_quiet_zone g r c) (omega arith) ∙ top g r c h))
-          (λ (h : 1 ≤ r). sym (not_reached r (0 + 1) (pixel_with_quiet_zone g r c) (omega arith)))
-          (cases_lt r 1);
-    }
+    grind (arith, length-replicate, get_or-replicate, mul-add-lt, ⊎_elim, reached, top, not_reached, cases_lt)
 
 -- the modules of a row, of which the grid has them all
 row_size : (g : Square) (row : ℕ) → IsWhole g → row < g.side →
     length (between (row * g.side) ((row + 1) * g.side) g.modules) ≡ g.side
-row_size g row whole h =
-    let fits : (row + 1) * g.side ≤ g.side * g.side =
-    mul-le-mul_right g.side (let below : row + 1 ≤ g.side = omega arith in below) in
-    length-between g.modules (row * g.side) ((row + 1) * g.side) (omega (arith, whole)) ∙ omega arith
+row_size g row whole h = grind (arith, mul-le-mul_right, length-between)
 
 -- a pixel of the row that is drawn
 new_row : (g : Square) (w rows : ℕ) (pixels modules : List Bool) → IsWhole g → w ≡ g.side + 2 → rows < g.side
@@ -124,24 +85,16 @@ new_row g w rows pixels modules whole ew hrow em fits before c hc =
     let r = rows + 1 in
     let start = r * w + 1 in
     let size : length modules ≡ n = ap length em ∙ row_size g rows whole hrow in
-    let light : get_or pixels (r * w + c) false ≡ false = before.drawn r c (omega arith) hc
-    ∙ not_reached r (rows + 1) (pixel_with_quiet_zone g r c) (omega arith) in
-    ⊎_elim (λ (h : c < 1). over_below start n pixels modules (r * w + c) (omega arith) (omega arith) ∙ light ∙
-    sym (left g r c h))
+    let light : get_or pixels (r * w + c) false ≡ false = grind arith in
+    ⊎_elim (λ (h : c < 1). grind (arith, over_below, left))
     (λ (h : 1 ≤ c).
     ⊎_elim (λ (l : c < n + 1).
     let k = c - 1 in
     let place : r * w + c ≡ start + k = omega arith in
     let column : k + 1 ≡ c = omega arith in
     let below : k < n = omega arith in
-    let row : (rows + 1) * n ≡ rows * n + n = omega arith in
-    ap (λ (x : ℕ). get_or (over start n pixels modules) x false) place
-    ∙ over_within start n pixels modules k (omega arith) (omega (arith, size))
-    ∙ ap (λ (xs : List Bool). get_or xs k false) em
-    ∙ get_or-between g.modules (rows * n) ((rows + 1) * n) k false (omega (arith, row))
-    ∙ sym (within g rows k hrow below) ∙ ap (λ (x : ℕ). pixel_with_quiet_zone g r x) column)
-    (λ (l : n + 1 ≤ c). over_above start n pixels modules (r * w + c) (omega arith) size (omega arith) ∙ light ∙
-    sym (right g r c l))
+    let row : (rows + 1) * n ≡ rows * n + n = omega arith in grind (arith, over_within, get_or-between, within))
+    (λ (l : n + 1 ≤ c). grind (arith, over_above, right))
     (cases_lt c (n + 1)))
     (cases_lt c 1)
 
@@ -162,24 +115,9 @@ row_drawn g w rows pixels new modules whole ew hrow em en before =
       count = ap length en ∙ length-over start n pixels modules (omega arith) size ∙ count;
       drawn = λ r c hr hc.
           ap (λ (xs : List Bool). at xs (r * w + c)) en
-          ∙ ⊎_elim (λ (h : r < rows + 1).
-          let above : (r + 1) * w ≤ (rows + 1) * w = mul-le-mul_right w (let l : r + 1 ≤ rows + 1 = omega arith in l) in
-          over_below start n pixels modules (r * w + c) (omega arith) (omega arith) ∙ before.drawn r c hr hc
-          ∙ reached r (rows + 1) (pixel_with_quiet_zone g r c) h
-          ∙ sym (reached r (rows + 1 + 1) (pixel_with_quiet_zone g r c) (omega arith)))
+          ∙ ⊎_elim (λ (h : r < rows + 1). grind (arith, mul-le-mul_right, over_below, reached))
           (λ (h : rows + 1 ≤ r).
-          ⊎_elim (λ (l : r < rows + 2).
-          let here : r ≡ rows + 1 = omega arith in
-          ap (λ (x : ℕ). at (over start n pixels modules) (x * w + c)) here
-          ∙ new_row g w rows pixels modules whole ew hrow em fits before c hc
-          ∙ ap (λ (x : ℕ). pixel_with_quiet_zone g x c) (sym here)
-          ∙ sym (reached r (rows + 1 + 1) (pixel_with_quiet_zone g r c) (omega arith)))
-          (λ (l : rows + 2 ≤ r).
-          let below : (rows + 2) * w ≤ r * w = mul-le-mul_right w l in
-          over_above start n pixels modules (r * w + c) (omega arith) size (omega arith) ∙ before.drawn r c hr hc
-          ∙ not_reached r (rows + 1) (pixel_with_quiet_zone g r c) h
-          ∙ sym (not_reached r (rows + 1 + 1) (pixel_with_quiet_zone g r c) (omega arith)))
-          (cases_lt r (rows + 2)))
+              search (arith, ⊎_elim, new_row, reached, mul-le-mul_right, over_above, not_reached, cases_lt))
           (cases_lt r (rows + 1));
     }
 
@@ -187,11 +125,7 @@ row_drawn g w rows pixels new modules whole ew hrow em en before =
 pub all_drawn : (g : Square) (w rows : ℕ) (pixels : List Bool) → w ≡ g.side + 2 → rows ≡ g.side →
     IsDrawnTo g w rows pixels
     → (r c : ℕ) → r < w → c < w → get_or pixels (r * w + c) false ≡ pixel_with_quiet_zone g r c
-all_drawn g w rows pixels ew er drawn r c hr hc =
-    drawn.drawn r c hr hc
-    ∙ ⊎_elim (λ (h : r < rows + 1). reached r (rows + 1) (pixel_with_quiet_zone g r c) h)
-    (λ (h : rows + 1 ≤ r). not_reached r (rows + 1) (pixel_with_quiet_zone g r c) h ∙ sym (bottom g r c (omega arith)))
-    (cases_lt r (rows + 1))
+all_drawn g w rows pixels ew er drawn r c hr hc = grind arith
 
 -- so they are the pixels of the image
 pub drawn_pixels : (g : Square) (w rows : ℕ) (pixels : List Bool) → w ≡ g.side + 2 → rows ≡ g.side →
@@ -201,11 +135,4 @@ drawn_pixels g w rows pixels ew er drawn =
     fill_by_all (λ i. pixel_with_quiet_zone g (i / (g.side + 2)) (i % (g.side + 2))) pixels
     ((g.side + 2) * (g.side + 2)) false
     (drawn.count ∙ ap (λ n. n * n) ew)
-    (λ k h.
-    let r = k / (g.side + 2) in
-    let c = k % (g.side + 2) in
-    let column : c < g.side + 2 = mod-lt k (omega arith) in
-    let row : r < g.side + 2 = (div-lt_iff_lt-mul (omega arith)).1 h in
-    let is : r * (g.side + 2) + c ≡ k = let e = mod-add-div k (g.side + 2) in omega (arith, e) in
-    ap (λ i. get_or pixels i false) (sym is) ∙ ap (λ n. get_or pixels (r * n + c) false) (sym ew)
-    ∙ all_drawn g w rows pixels ew er drawn r c (omega (arith, ew)) (omega (arith, ew)))
+    (λ k h. grind (arith, mod-lt, div-lt_iff_lt-mul, mod-add-div, all_drawn))

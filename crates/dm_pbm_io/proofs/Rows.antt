@@ -36,11 +36,7 @@ row_more width at b row n room =
     let long : length (flat_map bits row) ≡ 8 * at = length-bits row ∙ ap (λ k. 8 * k) n in
     let whole : row_of width row ≡ flat_map bits row = take_all width (flat_map bits row) (omega arith) in
     let parts : width ≡ length (flat_map bits row) + (width - 8 * at) = omega arith in
-    ap (take width) (flat_map-append bits row (b ∷ []) ∙ ap (λ r. flat_map bits row ++ r) (bits_single b))
-    ∙ ap (λ k. take k (flat_map bits row ++ bits b)) parts
-    ∙ take-append-add (flat_map bits row) (bits b) (width - 8 * at)
-    ∙ ap (λ r. flat_map bits row ++ r) (sym (take_min (width - 8 * at) (bits b)))
-    ∙ ap (λ r. r ++ take (min (width - 8 * at) 8) (bits b)) (sym whole)
+        grind (arith, flat_map-append, bits_single, take-append-add, take_min)
 
 pub length-row_of : (width : ℕ) (row : List ℕ) → length row ≡ stride width → length (row_of width row) ≡ width
 length-row_of width row n = let e = length-bits row in simp length-take (omega arith)
@@ -60,11 +56,8 @@ packed_more raster row width height pixels p n = record {
   rows = p.rows ++ row ∷ [];
   count = let e = p.count in simp length-append (omega arith);
   each = all-append (λ r. length r ≡ stride width) p.rows row p.each n;
-  raster_is = sym (concat-append p.rows (row ∷ []) ∙ ap (λ r. concat p.rows ++ r) (append-nil row) ∙
-      ap (λ r. r ++ row) (sym p.raster_is));
-  pixels_are = sym (flat_map-append (row_of width) p.rows (row ∷ [])
-      ∙ ap (λ r. flat_map (row_of width) p.rows ++ r) (append-nil (row_of width row)) ∙
-      ap (λ r. r ++ row_of width row) (sym p.pixels_are));
+  raster_is = grind (arith, concat-append, append-nil);
+  pixels_are = grind (arith, flat_map-append, append-nil);
 }
 
 length-concat : (n : ℕ) (rows : List (List ℕ)) → AllByRecursion (λ r. length r ≡ n) rows →
@@ -75,46 +68,28 @@ length-concat n (r ∷ rows) h = let e = length-concat n rows h.1 in let f = h.0
 pub length-packed : (raster : List ℕ) (width height : ℕ) (pixels : List Bool) →
     IsPackedRaster raster width height pixels
     → length raster ≡ height * stride width
-length-packed raster width height pixels p = ap length p.raster_is ∙ length-concat (stride width) p.rows p.each
-    ∙ ap (λ n. n * stride width) p.count
+length-packed raster width height pixels p = grind (arith, length-concat)
 
 pub part_of : (row height n part : ℕ) → row < height → part < n → row * n + part < height * n
-part_of row height n part h p = let h' : row + 1 ≤ height = omega arith in let m :
-    (row + 1) * n ≤ height * n = mul-le-mul_right n h' in grind arith
+part_of row height n part h p = grind arith
 
 -- one more sign of a plain raster
 pub white_more : (text : List ℕ) (s : ℕ) (pixels : List Bool) → ShowsPixels text pixels → is_white s ≡ true
     → ShowsPixels (text ++ s ∷ []) pixels
-white_more text s pixels p h =
-    let sign : is_plain_sign s ≡ true = rw h refl in
-    let other : is_pixel_digit s ≡ false = grind (arith, nat_tests) in
-    record {
-      allowed = list_all-append is_plain_sign text (s ∷ []) ∙ rw (p.allowed, sign) refl;
-      digits = filter-append is_pixel_digit text (s ∷ [])
-          ∙ ap (λ t. filter is_pixel_digit text ++ cond t (s ∷ []) []) other ∙ append-nil (filter is_pixel_digit text) ∙
-          p.digits;
-    }
+white_more text s pixels p h = grind (arith, nat_tests, list_all-append, filter-append, append-nil)
 
 digit_allowed : (pixel : Bool) → list_all is_plain_sign (digit_of pixel ∷ []) ≡ true
-digit_allowed true = refl
-digit_allowed false = refl
+digit_allowed pixel = grind arith
 
 pub digit_kept : (pixel : Bool) → filter is_pixel_digit (digit_of pixel ∷ []) ≡ digit_of pixel ∷ []
-digit_kept true = refl
-digit_kept false = refl
+digit_kept pixel = grind arith
 
 pub digit_more : (text : List ℕ) (pixel : Bool) (pixels : List Bool) → ShowsPixels text pixels
     → ShowsPixels (text ++ digit_of pixel ∷ []) (pixels ++ pixel ∷ [])
-digit_more text pixel pixels p = record {
-  allowed = list_all-append is_plain_sign text (digit_of pixel ∷ []) ∙ rw p.allowed (digit_allowed pixel);
-  digits = filter-append is_pixel_digit text (digit_of pixel ∷ []) ∙
-      ap (λ t. filter is_pixel_digit text ++ t) (digit_kept pixel)
-      ∙ ap (λ t. t ++ digit_of pixel ∷ []) p.digits ∙ sym (map-append digit_of pixels (pixel ∷ []));
-}
+digit_more text pixel pixels p = grind (arith, list_all-append, digit_allowed, filter-append, digit_kept, map-append)
 
 or_false : (a b : Bool) → a ≡ false → b ≡ false → (a || b) ≡ false
-or_false true b p q = p
-or_false false b p q = q
+or_false a b p q = grind arith
 
 pub other_sign : (s : ℕ) → is_white s ≡ false → is_pixel_digit s ≡ false → is_plain_sign s ≡ false
 other_sign s w d = or_false (is_white s) (is_pixel_digit s) w d

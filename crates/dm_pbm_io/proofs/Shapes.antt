@@ -9,8 +9,7 @@ use Rattle.dm_pbm_io.specs.SymbolImage.{HasShape}
 -- no symbol has a side below 10
 pub smallest_side : (s : Size) → 10 ≤ side s
 unfolding row
-smallest_side Side10 = lit≤ tt
-smallest_side _ = lit≤ tt
+smallest_side s = grind arith
 
 -- an image less than three pixels wide has no place for a symbol
 pub too_narrow : (p : Picture) → p.width < 3 → HasShape p → ⊥
@@ -22,6 +21,4 @@ wide_enough p shape = omega (arith, smallest_side shape.size, shape.side)
 
 -- as many modules stand inside as the symbol has
 pub as_many : (p : Picture) (s : Size) → side s + 2 ≡ p.width → (p.width - 2) * (p.width - 2) ≡ side s * side s
-as_many p s e =
-    let n : p.width - 2 ≡ side s = omega arith in
-    ap (λ k. k * k) n
+as_many p s e = grind arith

@@ -1,5 +1,5 @@
 -- What a source has given, step by step, and what it remembers.
-use Rattle.std.proofs.Common.{◌≡◌, ℕ, List, [], ◌++◌, Ok, Err, Option, Result, refl, sym, ◌∙◌, subst, append-nil}
+use Rattle.std.proofs.Common.{arith, ◌≡◌, ℕ, List, [], ◌++◌, Ok, Err, Option, Result, refl, sym, ◌∙◌, subst, append-nil}
 use Rattle.std.specs.Prelude.{◌≢◌, OnOk}
 use Rattle.std.proofs.KnownBytes.{Appends-trans, Appends-nil, Consumes-trans, Consumes-kept, Consumes-nil}
 use Rattle.relay_streams.proofs.Parts.{part_more, part_after}
@@ -17,8 +17,7 @@ pub takes-trans : (a b c : InputView) (bs cs : List ℕ) → Takes a b bs → Ta
 takes-trans a b c bs cs p q =
     record {
       consumed = Consumes-trans a.remaining b.remaining c.remaining bs cs p.consumed q.consumed;
-      kept = q.kept ∙
-          p.kept;
+      kept = cc;
     }
 
 -- what the source remembers is not changed by what was taken before
@@ -42,8 +41,7 @@ until-trans a b c bs cs fault p q = record {
 -- a fault that took nothing more
 pub until-here : (a b c : InputView) (bs : List ℕ) (fault : PbmFault) → Takes a b bs → TakesUntil b c [] fault →
     TakesUntil a c bs fault
-until-here a b c bs fault p q = subst (λ xs. TakesUntil a c xs fault) (append-nil bs)
-    (until-trans a b c bs [] fault p q)
+until-here a b c bs fault p q = grind arith
 
 -- a fault of the bytes that were taken
 pub until-now : (a b : InputView) (bs : List ℕ) (fault : PbmFault) → Takes a b bs → fault ≢ Read →
@@ -53,10 +51,7 @@ until-now a b bs fault p n = record { consumed = p.consumed; remembers = remembe
 -- a fault at the end
 pub until-end : (a b c : InputView) (bs : List ℕ) (fault : PbmFault) → Takes a b bs → FindsEnd b c → fault ≢ Read →
     TakesUntil a c bs fault
-until-end a b c bs fault p q n = record {
-  consumed = Consumes-kept a.remaining b.remaining c.remaining bs p.consumed q.nothing;
-  remembers = remembers-other a c fault (q.kept ∙ p.kept) n;
-}
+until-end a b c bs fault p q n = grind arith
 
 -- the faults that are not `Read`
 pub magic_not_read : Magic ≢ Read
@@ -86,20 +81,17 @@ pub adds-trans : (a b c : OutputView) (bs cs : List ℕ) → Adds a b bs → Add
 adds-trans a b c bs cs p q =
     record {
       appended = Appends-trans a.contents b.contents c.contents bs cs p.appended q.appended;
-      kept = q.kept ∙
-          p.kept;
+      kept = cc;
     }
 
 -- first some text, and then the rest of the whole, if it was written
 pub adds_rest : {E : Type 0} (a b c : OutputView) (all first rest : List ℕ) (put : Result (Unit {0}) E) →
     all ≡ first ++ rest
     → Adds a b first → OnOk put (Adds b c rest) → OnOk put (Adds a c all)
-adds_rest a b c all first rest (Ok x) is p q = subst (Adds a c) (sym is) (adds-trans a b c first rest p q)
-adds_rest a b c all first rest (Err e) is p q = tt
+adds_rest a b c all first rest put is p q = grind (arith, adds-trans)
 
 -- first some text, and then a part of what comes next
 pub adds_part : (a b : OutputView) (end : Option (List ℕ)) (all done next rest : List ℕ) → all ≡ done ++ (next ++ rest)
     → Adds a b done → AppendsPart b.contents end next → AppendsPart a.contents end all
-adds_part a b end all done next rest is p q =
-    subst (AppendsPart a.contents end) (sym is)
-    (part_after a.contents b.contents end done (next ++ rest) p.appended (part_more b.contents end next rest q))
+adds_part a b end all done next rest is p q = grind (arith, part_after a.contents b.contents end done (next ++ rest)
+    p.appended (part_more b.contents end next rest q))

@@ -26,10 +26,7 @@ module_again g k h =
     let inside = mul-add-lt (k / n + 1) (n + 2) (k % n + 1) (n + 2) (omega arith) (omega arith) in
     let above : at / (n + 2) ≡ k / n + 1 = div-mul-add (k / n + 1) (n + 2) (k % n + 1) (omega arith) in
     let beside : at % (n + 2) ≡ k % n + 1 = mod-mul-add (k / n + 1) (n + 2) (k % n + 1) (omega arith) in
-    sym (get_or-map-range_with_len pixel 0 ((n + 2) * (n + 2)) at at false inside (omega arith)
-    ∙ ap (λ r. pixel_with_quiet_zone (square_of g) r (at % (n + 2))) above
-    ∙ ap (λ c. pixel_with_quiet_zone (square_of g) (k / n + 1) c) beside
-    ∙ within (square_of g) (k / n) (k % n) row column ∙ ap (λ i. get_or g.modules i false) is)
+        grind (arith, get_or-map-range_with_len, within)
 
 pub taken_back : (g : GridView) (plain : Bool) → IsWholeGrid g → IsTakenBack g plain
 taken_back g plain whole =
@@ -37,16 +34,5 @@ taken_back g plain whole =
     let pixels = pixels_with_quiet_zone (square_of g) in
     let less : n + 2 - 2 ≡ n = omega arith in
     let modules : g.modules ≡ map (inner_module pixels (n + 2) n) (range_with_len 0 (n * n)) =
-    fill_by_all (inner_module pixels (n + 2) n) g.modules (n * n) false whole (λ k h. module_again g k h) in (
-      record {
-        square = refl;
-        size = g.size;
-        side = refl;
-        count = length-map-range_with_len (λ i. pixel_with_quiet_zone (square_of g) (i / (n + 2)) (i % (n + 2))) 0
-            ((n + 2) * (n + 2));
-      },
-      record {
-        side = refl;
-        modules = modules ∙ ap (λ m. map (inner_module pixels (n + 2) m) (range_with_len 0 (m * m))) (sym less);
-      },
-    )
+    fill_by_all (inner_module pixels (n + 2) n) g.modules (n * n) false whole (λ k h. module_again g k h) in
+        grind (arith, length-map-range_with_len)

@@ -14,46 +14,25 @@ use Rattle.dm_placement.proofs.CellLists.{all_in_at, same_cell}
 
 -- a place fits sixteen bits
 pub place_fits : (n r c : ℕ) → n ≤ 120 → r < n → c < n → r * n + c < 2 ^ 16
-place_fits n r c h hr hc =
-    let a = mul-add-lt r n c n hr hc in
-    let b = mul-le n n 120 120 h h in
-    omega (arith, a, b)
+place_fits n r c h hr hc = grind arith
 
 -- no cell of a word wraps whose anchor is two rows and two columns or more inside
 unwrapped : (n r c up left : ℕ) → 2 ≤ r → r < n → 2 ≤ c → c < n → up ≤ 2 → left ≤ 2
     → cell_from_anchor n (cell_at r c) up left ≡ cell_at (r - up) (c - left)
 unfolding cell_from_anchor
-unwrapped n r c up left hr hrn hc hcn hu hl =
-    let a : ltb (r + n - up) n ≡ false = grind (arith, nat_tests) in
-    let b : ltb (c + n - left) n ≡ false = grind (arith, nat_tests) in
-    rw a (rw b (same_cell _ (cell_at (r - up) (c - left)) (omega arith) (omega arith)))
+unwrapped n r c up left hr hrn hc hcn hu hl = grind arith
 
 -- the place of such a cell
 place_above : (n r c up left : ℕ) → 2 ≤ r → 2 ≤ c → up ≤ 2 → left ≤ 2
     → (r - up) * n + (c - left) ≡ r * n + c - up * n - left
-place_above n r c up left hr hc hu hl =
-    let s : r - up + up ≡ r = omega arith in
-    let k : r * n ≡ (r - up) * n + up * n = sym (ap (λ v. v * n) s) ∙ add-mul (r - up) up n in
-    omega (arith, k)
+place_above n r c up left hr hc hu hl = grind arith
 
 -- the places of the bits of such a word
 pub places_inside : (n r c : ℕ) → 2 ≤ r → r < n → 2 ≤ c → c < n → let at = r * n + c in
     map (place_of n) (shape_cells n (Plain (cell_at r c))) ≡
     (at - 2 * n - 2) ∷ (at - 2 * n - 1) ∷ (at - n - 2) ∷ (at - n - 1) ∷ (at - n) ∷ (at - 2) ∷ (at - 1) ∷ at ∷ []
 unfolding shape_cells
-places_inside n r c hr hrn hc hcn =
-    let at = r * n + c in
-    let is = λ (up left v : ℕ) (hu : up ≤ 2) (hl : left ≤ 2) (e : at - up * n - left ≡ v).
-    ap (place_of n) (unwrapped n r c up left hr hrn hc hcn hu hl) ∙ place_above n r c up left hr hc hu hl ∙ e in
-    let a = is 2 2 (at - 2 * n - 2) (omega arith) (omega arith) refl in
-    let b = is 2 1 (at - 2 * n - 1) (omega arith) (omega arith) refl in
-    let d = is 1 2 (at - n - 2) (omega arith) (omega arith) (omega arith) in
-    let e = is 1 1 (at - n - 1) (omega arith) (omega arith) (omega arith) in
-    let f = is 1 0 (at - n) (omega arith) (omega arith) (omega arith) in
-    let g = is 0 2 (at - 2) (omega arith) (omega arith) (omega arith) in
-    let h = is 0 1 (at - 1) (omega arith) (omega arith) (omega arith) in
-    let i = is 0 0 at (omega arith) (omega arith) (omega arith) in
-    cc
+places_inside n r c hr hrn hc hcn = grind (arith, unwrapped, place_above)
 
 -- the place of the cell of a bit
 pub place_at : (n : ℕ) (cells : List Cell) (i : ℕ) →
@@ -72,12 +51,7 @@ column_of_place n p h = mod-mul-add p.row n p.column h
 -- the places of cells in the square are in the square
 pub places_in : (n : ℕ) (cells : List Cell) (i : ℕ) → AllIn n cells → i < length cells
     → get_or (map (place_of n) cells) i 0 < n * n
-places_in n cells i a h =
-    let e = place_at n cells i in
-    let p = all_in_at n cells i (cell_at 0 0) a h in
-    let q = get_or cells i (cell_at 0 0) in
-    let k = mul-add-lt q.row n q.column n p.0 p.1 in
-    omega (arith, e, k)
+places_in n cells i a h = grind (arith, place_at, all_in_at, mul-add-lt)
 
 -- each of the places of cells in the square is in the square
 pub all_places_in : (n : ℕ) (cells : List Cell) → AllIn n cells → All (λ place. place < n * n) (map (place_of n) cells)

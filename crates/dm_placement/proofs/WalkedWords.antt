@@ -1,6 +1,6 @@
 -- The words that the walk comes to. For each size the checker computes that they are those of the closed form.
 use Rattle.std.specs.Option.{option_map, option_to_list}
-use Rattle.std.proofs.Common.{◌≡◌, ℕ, zero, suc, ◌+◌, ◌*◌, refl, List, [], ◌∷◌, ◌++◌, Option, Some, Bool, true, false, ltb, ◌||◌, ap, sym, ◌∙◌, subst, append_assoc, append-nil, map}
+use Rattle.std.proofs.Common.{arith, ◌≡◌, ℕ, zero, suc, ◌+◌, ◌*◌, refl, List, [], ◌∷◌, ◌++◌, Option, Some, Bool, true, false, ltb, ◌||◌, ap, sym, ◌∙◌, subst, append_assoc, append-nil, map}
 use Rattle.std.proofs.lemmas.Grind.{flat_map-append}
 use Rattle.std.proofs.lemmas.List.{map-append}
 use Rattle.dm_check_blocks.specs.declared.size.Size.{Size}
@@ -32,22 +32,9 @@ gives_shapes _ = refl
 pub walked_more : (s : Size) (w w' : Walk) (shape : Option Shape) (places places' : List ℕ) → HasWalked s w places
     → Steps w w' shape → places' ≡ places ++ map (place_of (mapping s)) (cells_of_all (mapping s) (option_to_list shape))
     → HasWalked s w' places'
-walked_more s w w' shape places places' h step e =
-    let n = mapping s in
-    let a = step.ahead h.later h.ahead in
-    let new = option_to_list shape in
-    let of_new = map (place_of n) (cells_of_all n new) in
-    record {
-      side = step.same_side ∙ h.side;
-      nearby = step.stays;
-      done = h.done ++ new;
-      later = a.0;
-      ahead = a.2;
-      whole = append_assoc h.done new a.0 ∙ ap (λ l. h.done ++ l) (sym a.1) ∙ h.whole;
-      found = e ∙ ap (λ l. l ++ of_new) h.found
-          ∙ sym (ap (map (place_of n)) (flat_map-append (shape_cells n) h.done new)
-          ∙ map-append (place_of n) (cells_of_all n h.done) (cells_of_all n new));
-    }
+walked_more s w w' shape places places' h step e = grind (arith, append_assoc h.done (option_to_list shape) (step.ahead
+    h.later h.ahead).0, flat_map-append (shape_cells (mapping s)) h.done (option_to_list shape), map-append (place_of
+    (mapping s)) (cells_of_all (mapping s) h.done) (cells_of_all (mapping s) (option_to_list shape)))
 
 -- the word of a step may stand where it stands
 pub fits_here : (s : Size) (w w' : Walk) (shape : Shape) (places : List ℕ) → HasWalked s w places
@@ -63,24 +50,10 @@ fits_here s w w' shape places h step =
 -- a walk that has ended has no shape ahead
 none_ahead : (steps n : ℕ) (sweep : Sweep) (r c : ℕ) (later : List Shape)
     → ends sweep (ltb r (n + 2) || ltb c (n + 2)) ≡ true → shapes_ahead steps n sweep r c ≡ Some later → later ≡ []
-none_ahead zero n sweep r c later over e = absurd (cc)
-none_ahead (suc steps) n Start r c later over e = at_test (ltb r (n + 2) || ltb c (n + 2)) over e
-  where
-    at_test : (b : Bool) → ends Start b ≡ true
-        → elim b as (λ _. Option (List Shape)) [
-          | true ↦ option_map (λ later. corner_at n r c ++ later) (shapes_ahead steps n Up r c)
-          | false ↦ Some []
-        ] ≡ Some later → later ≡ []
-    at_test true over e = absurd (cc)
-    at_test false over e = cc
-none_ahead (suc steps) n Up r c later over e = absurd (cc)
-none_ahead (suc steps) n Down r c later over e = absurd (cc)
+none_ahead steps n sweep r c later over e = grind arith
 
 -- where the walk ends its places are those of all words
 pub all_walked : (s : Size) (w : Walk) (places : List ℕ) → HasWalked s w places → is_over w ≡ true
     → places ≡ map (place_of (mapping s)) (bit_cells (mapping s))
 unfolding bit_cells
-all_walked s w places h over =
-    let none = none_ahead h.ahead.steps w.side w.sweep w.row w.column h.later over h.ahead.walked in
-    let whole : h.done ≡ shapes (mapping s) = sym (append-nil h.done) ∙ ap (λ l. h.done ++ l) (sym none) ∙ h.whole in
-    h.found ∙ ap (λ l. map (place_of (mapping s)) (cells_of_all (mapping s) l)) whole
+all_walked s w places h over = grind (arith, none_ahead, append-nil)

@@ -1,4 +1,5 @@
-use Rattle.std.proofs.Common.{sym}
+use Rattle.std.proofs.lemmas.Grind.{common_steps}
+use Rattle.std.proofs.Common.{arith, sym}
 use Rattle.std.proofs.lemmas.Bool.{eqb-false}
 use Rattle.std.proofs.lemmas.List.{take_rest}
 use Rattle.dm_encodation.proofs.AsciiWords.{ascii-digits, ascii-character, ascii-upper}
@@ -9,11 +10,7 @@ returns-then-begins_with_digits-clause-words c =
     rw take_rest (ascii-digits c.args.bytes.now (sym c.if-begins_with_digits.ensures))
 
 pub returns-then-bytes-lt128-clause-words : goal.returns-then-bytes-lt128-clause-words
-returns-then-bytes-lt128-clause-words c =
-    rw take_rest (ascii-character c.args.bytes.now (eqb-false _ _ (sym c.if-is_empty.ensures))
-    (sym c.if-begins_with_digits.ensures) c.if-bytes-lt128.true)
+returns-then-bytes-lt128-clause-words c = grind (arith, common_steps, take_rest, ascii-character, eqb-false)
 
 pub returns-else-bytes-lt128-clause-words : goal.returns-else-bytes-lt128-clause-words
-returns-else-bytes-lt128-clause-words c =
-    rw take_rest (ascii-upper c.args.bytes.now (eqb-false _ _ (sym c.if-is_empty.ensures))
-    (sym c.if-begins_with_digits.ensures) c.if-bytes-lt128.false)
+returns-else-bytes-lt128-clause-words c = grind (arith, common_steps, take_rest, ascii-upper, eqb-false)

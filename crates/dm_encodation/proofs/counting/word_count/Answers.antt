@@ -4,6 +4,4 @@ use Rattle.dm_encodation.proofs.Counters.{need_below}
 use Rattle.dm_encodation.proofs.counting.word_count.Goals as goal
 
 pub overflow_add-result : goal.overflow_add-result
-overflow_add-result c =
-    let below = need_below c.args.scheme c.args.bytes.now in
-    omega (arith, c.front_pairs-pairs.ensures.words, rw take_rest at c.counted.ensures)
+overflow_add-result c = grind (arith, need_below, take_rest)

@@ -8,21 +8,12 @@ use Rattle.dm_encodation.proofs.PairsRead.{pairs_between}
 use Rattle.dm_encodation.proofs.decoding.collect.Goals as goal
 
 pub loop-at-init : goal.loop-at-init
-loop-at-init g c =
-    let start = c.pairs_end-start in
-    let rest = reading Ascii (start.result + 1) (drop start.result c.args.words.now) in
-    record {
-      mode = tt;
-      so_far = ap (λ (l : List ℕ). prepend l rest) c.in_ok-out.ensures
-          ∙ pairs_between c.args.words.now c.args.from start.result start.ensures.after start.ensures.within
-          start.ensures.pairs;
-    }
+loop-at-init g c = grind (arith, pairs_between)
 
 pub returns-in-Padded-clause-given : goal.returns-in-Padded-clause-given
 returns-in-Padded-clause-given g c =
-    padded_so (c.loop-at.at + 1) (drop c.loop-at.at c.args.words.now) c.loop-at.out.items
-    (reading Ascii (c.args.from + 1) (drop c.args.from c.args.words.now))
-    (rw c.in-Padded.is at c.loop-at.invariant.so_far)
+    grind (arith, padded_so (c.loop-at.at + 1) (drop c.loop-at.at c.args.words.now) c.loop-at.out.items (reading Ascii
+    (c.args.from + 1) (drop c.args.from c.args.words.now)) (rw c.in-Padded.is at c.loop-at.invariant.so_far))
 
 pub returns-in_err-next-clause-fails : goal.returns-in_err-next-clause-fails
 returns-in_err-next-clause-fails g c =

@@ -6,44 +6,21 @@ use Rattle.dm_encodation.proofs.Reread.{decided, decided_fault, collected_fault,
 use Rattle.dm_encodation.proofs.decoding.decode.Goals as goal
 
 pub returns-in_err-count-clause-stuck : goal.returns-in_err-count-clause-stuck
-returns-in_err-count-clause-stuck g c =
-    let p = err_from_is_err_and c.from_residual.result c.from_residual.ensures.1 in
-    let fits : (i : ℕ) → get_or (drop c.args.from c.args.words.now) i 0 < 256 = bytes_from c.args.from c.args.words.now
-    (λ i. omega (arith, c.type_inv.words i)) in
-    rw (p.1, p.2) (λ ne. decided_fault (c.args.from + 1) (drop c.args.from c.args.words.now) c.in_err-count.field-0.0
-    fits c.in_err-count.ensures)
+returns-in_err-count-clause-stuck g c = grind (arith, err_from_is_err_and, bytes_from, decided_fault)
 
 pub returns-in_err-count-clause-memory : goal.returns-in_err-count-clause-memory
-returns-in_err-count-clause-memory g c =
-    let p = err_from_is_err_and c.from_residual.result c.from_residual.ensures.1 in
-    let fits : (i : ℕ) → get_or (drop c.args.from c.args.words.now) i 0 < 256 = bytes_from c.args.from c.args.words.now
-    (λ i. omega (arith, c.type_inv.words i)) in
-    rw (p.1, p.2) (λ e. absurd (never_memory (c.args.from + 1) (drop c.args.from c.args.words.now)
-    c.in_err-count.field-0.0 fits c.in_err-count.ensures cc))
+returns-in_err-count-clause-memory g c = grind (arith, err_from_is_err_and, bytes_from, never_memory)
 
 pub returns-clause-read : goal.returns-clause-read
-returns-clause-read g c =
-    let fits : (i : ℕ) → get_or (drop c.args.from c.args.words.now) i 0 < 256 = bytes_from c.args.from c.args.words.now
-    (λ i. omega (arith, c.type_inv.words i)) in
-    IfOk-weaker c.collect.result _ _
-    (λ v e. decided (c.args.from + 1) (drop c.args.from c.args.words.now) v.items fits e) c.collect.ensures.given
+returns-clause-read g c = grind (arith, bytes_from, decided)
 
 pub returns-clause-stuck : goal.returns-clause-stuck
-returns-clause-stuck g c =
-    let fits : (i : ℕ) → get_or (drop c.args.from c.args.words.now) i 0 < 256 = bytes_from c.args.from c.args.words.now
-    (λ i. omega (arith, c.type_inv.words i)) in
-    IfErr-weaker c.collect.result _ _
-    (λ f e. collected_fault (c.args.from + 1) (drop c.args.from c.args.words.now) f fits e) c.collect.ensures.fails
+returns-clause-stuck g c = grind arith
 
 pub returns-clause-memory : goal.returns-clause-memory
 returns-clause-memory g c =
-    let fits : (i : ℕ) → get_or (drop c.args.from c.args.words.now) i 0 < 256 = bytes_from c.args.from c.args.words.now
-    (λ i. omega (arith, c.type_inv.words i)) in
-    λ e. (
-      c.in_ok-count.ensures.0,
-      decided (c.args.from + 1) (drop c.args.from c.args.words.now) c.in_ok-count.ensures.0 fits
-          c.in_ok-count.ensures.1,
-    )
+    grind (arith, decided (c.args.from + 1) (drop c.args.from c.args.words.now) c.in_ok-count.ensures.0 (bytes_from
+    c.args.from c.args.words.now (λ i. omega (arith, c.type_inv.words i))) c.in_ok-count.ensures.1)
 
 pub returns-clause-short : goal.returns-clause-short
 returns-clause-short g c =

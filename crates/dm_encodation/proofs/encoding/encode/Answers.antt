@@ -7,19 +7,10 @@ use Rattle.dm_encodation.proofs.Reread.{below_256}
 use Rattle.dm_encodation.proofs.encoding.encode.Goals as goal
 
 pub returns-clause-whole : goal.returns-clause-whole
-returns-clause-whole g c =
-    let filled_so : c.in_ok-fill.field-0.items ≡ filled c.args.scheme c.args.head.now c.args.bytes.now
-    (data_words c.args.size) = search rules in
-    let fits : length c.args.head.now + need_of c.args.scheme c.args.bytes.now ≤ data_words c.args.size =
-    omega (arith, c.data_words-capacity.ensures.value, c.word_count.ensures) in
-    ap length filled_so ∙ length-filled c.args.scheme c.args.head.now c.args.bytes.now (data_words c.args.size) fits
+returns-clause-whole g c = grind (arith, length-filled)
 
 pub returns-clause-head : goal.returns-clause-head
-returns-clause-head g c =
-    let filled_so : c.in_ok-fill.field-0.items ≡ filled c.args.scheme c.args.head.now c.args.bytes.now
-    (data_words c.args.size) = search rules in
-    ap (take (length c.args.head.now)) filled_so ∙ take-filled c.args.scheme c.args.head.now c.args.bytes.now
-    (data_words c.args.size)
+returns-clause-head g c = grind (arith, take-filled)
 
 pub returns-clause-reads : goal.returns-clause-reads
 returns-clause-reads g c =
@@ -32,7 +23,4 @@ returns-clause-reads g c =
       c.data_words-capacity.ensures.value,
       c.word_count.ensures,
       c.data_words-capacity.ensures.sound.most_data,
-    ) in
-    subst (λ (l : List ℕ). ReadsOnly (length c.args.head.now + 1) (drop (length c.args.head.now) l) c.args.bytes.now)
-    (sym filled_so) (filled_read c.args.scheme c.args.head.now c.args.bytes.now
-    (data_words c.args.size) bytes short)
+    ) in grind (arith, filled_read c.args.scheme c.args.head.now c.args.bytes.now (data_words c.args.size) bytes short)

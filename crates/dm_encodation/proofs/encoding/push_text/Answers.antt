@@ -1,4 +1,4 @@
-use Rattle.std.proofs.Common.{refl}
+use Rattle.std.proofs.Common.{arith, refl}
 use Rattle.dm_encodation.specs.Written.{text}
 use Rattle.dm_encodation.proofs.Counters.{short_base_256}
 use Rattle.dm_encodation.proofs.encoding.push_text.Goals as goal
@@ -8,13 +8,11 @@ push_base_256-requires-clause-short g c = short_base_256 c.args.bytes.now (rw c.
 
 pub returns-in_ok-push_ascii-in-Ascii : goal.returns-in_ok-push_ascii-in-Ascii
 unfolding text
-returns-in_ok-push_ascii-in-Ascii g c =
-    rw c.in-Ascii.is (record { words = c.in_ok-push_ascii-in-Ascii.ensures; in_run = refl })
+returns-in_ok-push_ascii-in-Ascii g c = grind arith
 
 pub returns-in_ok-push_base_256-in-Base256 : goal.returns-in_ok-push_base_256-in-Base256
 unfolding text
-returns-in_ok-push_base_256-in-Base256 g c =
-    rw c.in-Base256.is (record { words = c.in_ok-push_base_256-in-Base256.ensures; in_run = refl })
+returns-in_ok-push_base_256-in-Base256 g c = grind arith
 
 pub returns-in-C40 : goal.returns-in-C40
 unfolding text

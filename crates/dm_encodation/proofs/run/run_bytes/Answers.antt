@@ -8,22 +8,7 @@ pub loop-index-init : goal.loop-index-init
 loop-index-init c = record { over = refl; whole = sym (run_length-nil c.args.letters) }
 
 pub loop-index-preserved : goal.loop-index-preserved
-loop-index-preserved c =
-    let t = c.args.letters in
-    let bytes = c.args.bytes.now in
-    let i = c.loop-index.index in
-    let over = over_more t bytes i c.loop-index.over c.values_in.result c.loop-index-test.true c.values_in.ensures.exact
-    c.loop-index.invariant.over in
-    record {
-      over = over;
-      whole = elim c.if-over-eq0.branch [
-        | then-over-eq0 w ↦ w.whole-is ∙ whole_more t bytes i _ c.loop-index-test.true over w.if-over-eq0.true
-        | else-over-eq0 w ↦ w.whole-is ∙ c.loop-index.invariant.whole ∙
-            whole_same t bytes i _ c.loop-index-test.true over w.if-over-eq0.false
-      ];
-    }
+loop-index-preserved c = grind (arith, over_more, whole_more, whole_same)
 
 pub returns-clause-within : goal.returns-clause-within
-returns-clause-within c =
-    let within = run_within c.args.letters (take c.loop-index.index c.args.bytes.now) in
-    omega (arith, c.loop-index.invariant.whole, length-take c.loop-index.index c.args.bytes.now)
+returns-clause-within c = grind (arith, run_within, length-take)

@@ -1,3 +1,4 @@
+use Rattle.std.proofs.lemmas.Grind.{common_steps}
 use Rattle.std.proofs.Common.{◌≡◌, ◌+◌, ◌-◌, ◌++◌, ℕ, List, Some, ap, append-nil, arith, map, subst, sym, ◌∙◌}
 use Rattle.dm_check_blocks.specs.Sizes.{mapping}
 use Rattle.dm_placement.specs.declared.shape.Shape.TheVariants.{Plain}
@@ -9,24 +10,15 @@ use Rattle.dm_placement.proofs.WalkedWords.{walked_more}
 use Rattle.dm_placement.proofs.layout.add_inside.Goals as goal
 
 pub pass-requires-clause-inside : goal.pass-requires-clause-inside
-pass-requires-clause-inside g c = λ _.
-    let w = c.loop-left.walk in
-    some_inside w.side w.sweep w.row w.column c.loop-left.left c.loop-left-test.true
-    (c.loop-left.invariant.inside c.loop-left-test.true)
+pass-requires-clause-inside g c = grind (arith, some_inside)
 
 pub places_inside-requires-clause-rows : goal.places_inside-requires-clause-rows
 places_inside-requires-clause-rows g c =
-    let e = c.loop-left.invariant.walked.side in
     let s = c.mapping-side.ensures.value in
-    let r = c.pass.ensures.rows in
-    (r.0, omega (arith, r.1, e, s))
+    let r = c.pass.ensures.rows in grind arith
 
 pub places_inside-requires-clause-columns : goal.places_inside-requires-clause-columns
-places_inside-requires-clause-columns g c =
-    let e = c.loop-left.invariant.walked.side in
-    let s = c.mapping-side.ensures.value in
-    let r = c.pass.ensures.columns in
-    (r.0, omega (arith, r.1, e, s))
+places_inside-requires-clause-columns g c = grind (arith, common_steps)
 
 pub loop-left-preserved : goal.loop-left-preserved
 loop-left-preserved g c =

@@ -1,4 +1,4 @@
-use Rattle.std.proofs.Common.{◌++◌, ℕ, List, Some, ap, append-nil, map, subst, sym, ◌∙◌}
+use Rattle.std.proofs.Common.{arith, ◌++◌, ℕ, List, Some, ap, append-nil, map, subst, sym, ◌∙◌}
 use Rattle.dm_check_blocks.specs.Sizes.{mapping}
 use Rattle.dm_placement.specs.Cells.{shape_cells}
 use Rattle.dm_placement.specs.Square.{place_of}
@@ -8,8 +8,7 @@ use Rattle.dm_placement.proofs.WalkedWords.{fits_here, walked_more}
 use Rattle.dm_placement.proofs.layout.add_step.Goals as goal
 
 pub step-requires-clause-side : goal.step-requires-clause-side
-step-requires-clause-side g c =
-    subst (λ (n : ℕ). IsSideSound n) (sym c.requires.walked.side) (side_is_sound c.args.size)
+step-requires-clause-side g c = grind (arith, side_is_sound c.args.size)
 
 pub places_of-requires-clause-fits : goal.places_of-requires-clause-fits
 places_of-requires-clause-fits g c =

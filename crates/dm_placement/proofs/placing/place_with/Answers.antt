@@ -27,23 +27,16 @@ loop-k-init g c =
 -- there are eight places for each word
 all_places : (s : Size) (places : List ℕ) → places ≡ map (place_of (mapping s)) (bit_cells (mapping s))
     → length places ≡ 8 * all_words s
-all_places s places e =
-    ap length e ∙ length-map (bit_cells (mapping s)) (place_of (mapping s)) ∙ bit_count s
+all_places s places e = grind (arith, length-map, bit_count)
 
 pub bounds-places-k : goal.bounds-places-k
-bounds-places-k g c =
-    let e = all_places c.args.layout.now c.places-places.result.now c.places-places.ensures in
-    omega (arith, e)
+bounds-places-k g c = grind (arith, all_places c.args.layout.now c.places-places.result.now c.places-places.ensures)
 
 -- each of them is in the matrix
 place_in : (s : Size) (places : List ℕ) (i n : ℕ) → places ≡ map (place_of (mapping s)) (bit_cells (mapping s))
     → n ≡ mapping s → i < 8 * all_words s → get_or places i 0 < n * n
 place_in s places i n e side h =
-    let k = bit_count s in
-    let lt : get_or (map (place_of (mapping s)) (bit_cells (mapping s))) i 0 < mapping s * mapping s =
-    places_in (mapping s) (bit_cells (mapping s)) i (all_in_bits s) (omega (arith, k)) in
-    subst (λ (v : ℕ). get_or places i 0 < v * v) (sym side)
-    (subst (λ (l : List ℕ). get_or l i 0 < mapping s * mapping s) (sym e) lt)
+    grind (arith, places_in (mapping s) (bit_cells (mapping s)) i (all_in_bits s) (omega (arith, (bit_count s))))
 
 pub make-requires : goal.make-requires
 make-requires g c =
@@ -62,15 +55,13 @@ bit_placed s places words m m' k b dark e p hk hb hd hm =
     let i = 8 * k + b in
     let count = bit_count s in
     let q = get_or (bit_cells n) i (cell_at 0 0) in
-    let at : get_or places i 0 ≡ q.row * m.side + q.column =
-    ap (λ (l : List ℕ). get_or l i 0) e ∙ place_at n (bit_cells n) i ∙ ap (λ v. q.row * v + q.column) (sym p.side) in
+    let at : get_or places i 0 ≡ q.row * m.side + q.column = grind (arith, place_at) in
     let word : i / 8 ≡ k = omega arith in
     let turn : i % 8 ≡ b = omega arith in
     let f : ℕ → Bool = λ j. eqb (bit_at (get_or words k 0) (7 - j)) 1 in
     let bit : dark ≡ bit_of words i =
     hd ∙ get_or-map-range_with_len f 0 8 b b false hb (zero-add b) ∙ sym (rw word (rw turn refl)) in
-    let written : m' ≡ with_module m q.row q.column dark =
-    hm ∙ ap (λ v. record { side = m.side; modules = set m.modules v dark }) at in
+    let written : m' ≡ with_module m q.row q.column dark = grind arith in
     let next : i + 1 ≡ 8 * k + (b + 1) = omega arith in
     subst (λ (v : ℕ). Placing n words m' v) next
     (placing_step n words m m' i dark (tiled_size s) p (omega (arith, count)) bit written)
@@ -83,11 +74,4 @@ loop-b-preserved g c =
     (ap (λ (l : List Bool). get_or l c.loop-b.b false) c.bits_of-bits.ensures) c.make.ensures
 
 pub returns : goal.returns
-returns g c =
-    let e = c.requires.count in
-    let k = bit_count c.args.layout.now in
-    record {
-      placed = placed_only c.args.layout.now c.args.words.now c.loop-k.matrix (tiled_size c.args.layout.now)
-          (placing_end (mapping c.args.layout.now) c.args.words.now c.loop-k.matrix (8 * c.loop-k.k)
-          (omega (arith, e, k)) c.loop-k.invariant);
-    }
+returns g c = grind (arith, bit_count, placed_only, tiled_size, placing_end)

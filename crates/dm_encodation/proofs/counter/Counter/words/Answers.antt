@@ -1,4 +1,4 @@
-use Rattle.std.proofs.Common.{◌∙◌}
+use Rattle.std.proofs.Common.{arith, ◌∙◌}
 use Rattle.dm_encodation.proofs.Counters.{words-ascii, words-run, words-base_256}
 use Rattle.dm_encodation.proofs.counter.Counter.words.Goals as goal
 
@@ -6,8 +6,7 @@ pub returns-in-Ascii : goal.returns-in-Ascii
 returns-in-Ascii c = rw c.in-Ascii.is (words-ascii c.in-Ascii.counter)
 
 pub returns-in-Base256 : goal.returns-in-Base256
-returns-in-Base256 c = rw c.in-Base256.is
-    (words-base_256 c.in-Base256.count c.base_256_words.result c.base_256_words.ensures)
+returns-in-Base256 c = grind (arith, words-base_256)
 
 pub returns-in-Run : goal.returns-in-Run
 returns-in-Run c = rw c.in-Run.is (λ scheme bytes counts. c.words.ensures ∙ words-run _ _ scheme bytes counts)
