@@ -1,4 +1,4 @@
--- As long as each scan is fair, all desks and all exports are clean.
+-- As long as each scan that may have saved is fair, all desks and all exports are clean.
 use Rattle.std.proofs.Common.{arith, ◌≡◌, inl, inr, ℕ, Some, true, Result, List, [], ◌++◌, length, slice_get, sym, ap, subst, ◌∙◌}
 use Rattle.dm_finder_frame.specs.Grids.{flipped}
 use Rattle.dm_check_blocks.specs.declared.size.Size.{Size}
@@ -166,7 +166,7 @@ of_all : (labels : List Label) (actor : Actor Documents) → HasAll (HaveLeft la
 of_all labels actor h = grind arith
 
 -- what a scan that was answered so comes to is not kept
-unsaved_course : {A : Type 0} (Q : Documents → Type 0) (desk number : ℕ) (flips : List (ℕ × ℕ)) (stop : Stop)
+pub unsaved_course : {A : Type 0} (Q : Documents → Type 0) (desk number : ℕ) (flips : List (ℕ × ℕ)) (stop : Stop)
     (reply : Reply A) (held : Documents) (k : Result (Opened A) LabelFault) (room : ℕ) (course : Course A Documents) →
     ¬ (may_save (Scan desk number flips stop) reply ≡ true) → MayBe (scan_course room held k) course →
     reply ≡ (ends scan_faults stop course (Running held)).reply → CourseHas Q stop course

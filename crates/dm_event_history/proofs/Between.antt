@@ -1,4 +1,5 @@
--- What a desk holds, in a run in which each scan is fair: all that it surely holds, and nothing but what it may hold.
+-- What a desk holds, as long as each scan that may have saved is fair: all that it surely holds, and nothing but what
+-- it may hold.
 use Rattle.std.proofs.Common.{◌≡◌, ◌≢◌, ◌⊎◌, ◌<◌, inl, inr, true, ℕ, zero, suc, length, arith, Option, Some, None, Ok, Err, Result, List, [], ◌∷◌, slice_get, slice_set, IsSome, refl, sym, ap, subst, ◌∙◌}
 use Rattle.std.specs.FinMap as finite
 use Rattle.dm_append_label.specs.Heads.{IsHead, head_of}
@@ -35,9 +36,10 @@ use Rattle.dm_event_history.specs.Steps.{Acts, DeskGoes, HasModules, IsNamed, Pr
 use Rattle.dm_event_history.specs.Runs.{Moment, IsRun}
 use Rattle.dm_event_history.specs.Clean.{ArePrinted}
 use Rattle.dm_event_history.specs.Places.{AreDisjoint}
-use Rattle.dm_event_history.specs.Headline.{AreFairMoments, IsFairEvent}
+use Rattle.dm_event_history.specs.Headline.{AreSavedFair, IsFairEvent}
 use Rattle.dm_event_history.specs.Held.{Forgets, IsPossiblyHeld, IsSurelyHeld, MayForget, MayTake, Takes}
-use Rattle.dm_event_history.proofs.Deciding.{same_or_other}
+use Rattle.dm_event_history.proofs.Deciding.{decided, same_or_other, true_false}
+use Rattle.dm_event_history.proofs.AllClean.{unsaved_course}
 use Rattle.dm_event_history.proofs.Headline.{each_run_is_sound}
 use Rattle.dm_event_history.proofs.Beginning.{empty_there, nothing_at}
 use Rattle.dm_event_history.proofs.Adds.{held_all, lone_some, Answer, by_verdict}
@@ -131,21 +133,24 @@ not_scanned before desk number flips stop reply never at id m took = grind arith
 
 module _ (A : Type 0) (before : Relay) (desk number room : ℕ) (flips : List (ℕ × ℕ)) (stop : Stop) (label : Label)
     (earlier : List (Moment A)) (there : slice_get before.labels number ≡ Some label)
-    (head : IsHead (head_of label.page))
-    (near : (read : Result (Opened A) LabelFault) → LabelOpens (flipped label.grid flips) read →
-    OpensNear label.page read) where
+    (head : IsHead (head_of label.page)) where
+  -- where it may have saved it was fair
+  abbrev IsFairlyRead : Reply A → Type 0
+  IsFairlyRead reply = may_save (Scan desk number flips stop) reply ≡ true → (read : Result (Opened A) LabelFault) →
+      LabelOpens (flipped label.grid flips) read → OpensNear label.page read
+
   may : (reply : Reply A) (i m : ℕ) → may_save {A = A} (Scan desk number flips stop) reply ≡ true → i ≡ label.page.id →
       IsSome (page (lone label.page) m) → MayTake {A = A} before (Scan desk number flips stop) reply desk i m
   may reply i m saved same some =
       (refl, saved, (label, there, sym same, sym (lone_some label.page m head.first some)))
 
   -- a scan that was answered with a page
-  scanned_so : (actor end : Actor Documents) (a : Accepted) → HasAll (IsBetween earlier desk) actor →
-      IsAnswered {A = A} (ScanComes room (flipped label.grid flips)) actor (Scanned a) end →
+  scanned_so : (actor end : Actor Documents) (a : Accepted) → IsFairlyRead (Scanned a) →
+      HasAll (IsBetween earlier desk) actor → IsAnswered {A = A} (ScanComes room (flipped label.grid flips)) actor (Scanned a) end →
       HasAll (IsBetween (after before (Scan desk number flips stop) (Scanned a) earlier) desk) end
-  scanned_so actor end a between ans =
+  scanned_so actor end a near between ans =
       let read = ans.comes.0 in
-      let told = scan_told room label.page ans.held a end read (near read ans.comes.1)
+      let told = scan_told room label.page ans.held a end read (near refl read ans.comes.1)
       (was_wanted (scan_course room ans.held read) ans.course ans.held (Scanned a) end ans.comes.2 ans.ended) in
       let same : record { id = label.page.id; m = label.page.m; n = label.page.n; kind = told.kind } ≡ a =
       scanned_is told.told in
@@ -162,12 +167,15 @@ module _ (A : Type 0) (before : Relay) (desk number room : ℕ) (flips : List (�
       scanned_is e = cc (e)
 
   -- one that was not
-  unscanned : (reply : Reply A) → ((a : Accepted) → reply ≢ Scanned a) → (held : Documents)
+  unscanned : (reply : Reply A) → ((a : Accepted) → reply ≢ Scanned a) → IsFairlyRead reply → (held : Documents)
       (course : Course A Documents) → IsBetween earlier desk held → ScanComes room (flipped label.grid flips) held course →
       reply ≡ (ends scan_faults stop course (Running held)).reply →
       CourseHas (IsBetween (after before (Scan desk number flips stop) reply earlier) desk) stop course
-  unscanned reply never held course b comes is =
-      by_read comes.0 (near comes.0 comes.1) comes.2
+  unscanned reply never near held course b comes is = elim (decided (may_save (Scan desk number flips stop) reply)) [
+    | inl may ↦ by_read comes.0 (near may comes.0 comes.1) comes.2
+    | inr none ↦ unsaved_course _ desk number flips stop reply held comes.0 room course (λ may. true_false _ may none)
+        comes.2 is
+  ]
     where
       still : (wanted : Course A Documents) →
           CourseHas (IsBetween (after before (Scan desk number flips stop) reply earlier) desk) stop wanted →
@@ -191,16 +199,16 @@ module _ (A : Type 0) (before : Relay) (desk number room : ℕ) (flips : List (�
       by_read (Err label_fault.Memory) same may_be = still LacksMemory tt may_be
       by_read (Err fault) same may_be = still (scan_course room held (Err fault)) tt may_be
 
-  pub scan_between : (actor : Actor Documents) (end : Ending A Documents) → HasAll (IsBetween earlier desk) actor →
-      MayLackFirst (Calls scan_faults stop (ScanComes room (flipped label.grid flips))) actor end →
+  pub scan_between : (actor : Actor Documents) (end : Ending A Documents) → IsFairlyRead end.reply →
+      HasAll (IsBetween earlier desk) actor → MayLackFirst (Calls scan_faults stop (ScanComes room (flipped label.grid flips))) actor end →
       HasAll (IsBetween (after before (Scan desk number flips stop) end.reply earlier) desk) end.actor
-  scan_between actor end b acts = elim (is_scanned end.reply) [
+  scan_between actor end near b acts = elim (is_scanned end.reply) [
     | inl told ↦
         let called = is_made (Calls scan_faults stop (ScanComes room (flipped label.grid flips))) actor end (Scanned told.0)
         (λ e. cc (e)) acts told.1 in
         subst (λ (r : Reply A). HasAll (IsBetween (after before (Scan desk number flips stop) r earlier) desk) end.actor)
         (sym told.1)
-        (scanned_so actor end.actor told.0 b
+        (scanned_so actor end.actor told.0 (subst (λ (r : Reply A). IsFairlyRead r) told.1 near) b
         (is_answered scan_faults stop (ScanComes room (flipped label.grid flips)) actor end (Scanned told.0)
         (own_scan told.0) called told.1))
     | inr never ↦
@@ -211,7 +219,7 @@ module _ (A : Type 0) (before : Relay) (desk number room : ℕ) (flips : List (�
         may_lack_has Q (Calls scan_faults stop (ScanComes room (flipped label.grid flips))) actor end
         (has_map Old Q keep actor b)
         (λ called. calls_have Old Q scan_faults stop (ScanComes room (flipped label.grid flips)) actor end b keep
-        (λ held course old comes is. unscanned end.reply never held course old comes
+        (λ held course old comes is. unscanned end.reply never near held course old comes
         (ap (λ (e : Ending A Documents). e.reply) is)) called) acts
   ]
 
@@ -380,7 +388,8 @@ quiet : {A : Type 0} (old : Relay) (event : Event A) (reply : Reply A) (earlier 
 quiet old event reply earlier none still at held b = grind arith
 
 acts_between : (A : Type 0) (old new : Relay) (event : Event A) (reply : Reply A) (earlier : List (Moment A)) →
-    ArePrinted old.labels → IsFairEvent old event → AreBetween earlier old → Acts old event reply new →
+    ArePrinted old.labels → (may_save event reply ≡ true → IsFairEvent old event) → AreBetween earlier old →
+    Acts old event reply new →
     ((number : ℕ) (flips : List (ℕ × ℕ)) (desk : ℕ) (stop : Stop) → event ≡ Scan desk number flips stop →
     (desk < length old.desks) × HasModules old number flips) → AreBetween (after old event reply earlier) new
 acts_between A old new (Print printer document size scheme stop) reply earlier p fair b acts named =
@@ -402,9 +411,10 @@ acts_between A old new (Scan desk number flips stop) reply earlier p fair b acts
     (λ id m t. away (scan_here old desk number flips stop reply at id m t)) (λ id f. f) held x)
     (λ room actor end h is called.
     subst (λ (r : Reply A). HasAll (IsBetween (after old (Scan desk number flips stop) r earlier) desk) end.actor) (sym is)
-    (scan_between A old desk number room flips stop acts.0 earlier acts.1 printed.carries.is_head
-    (λ read opens. opens.near acts.0.grid acts.0.page printed.carries
-    (fair (named number flips desk stop refl) acts.0 acts.1)) actor end h called)) acts.2
+    (scan_between A old desk number room flips stop acts.0 earlier acts.1 printed.carries.is_head actor end
+    (λ saved read opens. opens.near acts.0.grid acts.0.page printed.carries
+    (fair (ap (λ (r : Reply A). may_save (Scan desk number flips stop) r) is ∙ saved) (named number flips desk stop refl)
+    acts.0 acts.1)) h called)) acts.2
 acts_between A old new (Forget desk id stop) reply earlier p fair b acts named =
     desk_between A old new _ reply earlier b desk _
     (λ at away held x. stays old (Forget desk id stop) reply earlier at (λ i m t. t)
@@ -456,8 +466,8 @@ names_scan : {A : Type 0} (old : Relay) (event : Event A) → IsNamed old event 
 names_scan {A} old event named number flips desk stop is = grind arith
 
 step_between : (A : Type 0) (old new : Relay) (event : Event A) (reply : Reply A) (earlier : List (Moment A)) →
-    ArePrinted old.labels → IsFairEvent old event → AreBetween earlier old → Step old event reply new →
-    AreBetween (after old event reply earlier) new
+    ArePrinted old.labels → (may_save event reply ≡ true → IsFairEvent old event) → AreBetween earlier old →
+    Step old event reply new → AreBetween (after old event reply earlier) new
 step_between A old new event reply earlier p fair b (inl acts) =
     acts_between A old new event reply earlier p fair b acts.1 (names_scan old event acts.0)
 step_between A old new event reply earlier p fair b (inr none) =
@@ -466,9 +476,9 @@ step_between A old new event reply earlier p fair b (inr none) =
     (λ at desk is. has_map (IsBetween earlier at) _
     (quiet old event replies.NoSuch earlier (none_taken old event) (none_forgotten event) at) desk.actor (b at desk is)))
 
--- a run in which each scan is fair
+-- a run in which each scan that may have saved was fair
 pub run_between : (A : Type 0) (ranges : List Range) (rooms : List ℕ) (h : List (Moment A)) (end : Relay) →
-    AreDisjoint ranges → IsRun (start ranges rooms) h end → AreFairMoments h → AreBetween h end
+    AreDisjoint ranges → IsRun (start ranges rooms) h end → AreSavedFair h → AreBetween h end
 run_between A ranges rooms [] end apart run fair =
     (let none : List (Moment A) = [] in subst (λ (r : Relay). AreBetween none r) (sym run)
     (λ at desk is. subst (λ (x : Actor Documents). HasAll (IsBetween none at) x) (empty_there rooms at desk is) (record {

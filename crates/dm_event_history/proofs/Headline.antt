@@ -14,7 +14,7 @@ use Rattle.dm_event_history.specs.Steps.{Acts, DeskGoes, PrinterGoes, Step}
 use Rattle.dm_event_history.specs.Runs.{IsRun, Moment}
 use Rattle.dm_event_history.specs.Clean.{AreOfOneDocument, ArePrinted}
 use Rattle.dm_event_history.specs.Places.{AreDisjoint, IsSound, gone, one_if, places}
-use Rattle.dm_event_history.specs.Headline.{AreAllClean, AreFairMoments, AreSavedFair, AreTrueMoments, EachRunIsSound, EachRunIsTrue, EachRunKeepsNumbers, PrintsOnce}
+use Rattle.dm_event_history.specs.Headline.{AreAllClean, AreSavedFair, AreTrueMoments, EachRunIsSound, EachRunIsTrue, EachRunKeepsNumbers, PrintsOnce}
 use Rattle.dm_event_history.proofs.Gotten.{get_more}
 use Rattle.dm_event_history.proofs.AllClean.{all_stay_so}
 use Rattle.dm_event_history.proofs.Beginning.{fresh_free, start_clean, start_printed, start_sound}
@@ -36,10 +36,6 @@ each_run_is_sound A ranges rooms (moment ∷ earlier) end apart run =
     )
 
 -- ---- clean
-
-pub saved_fair : {A : Type 0} (h : List (Moment A)) → AreFairMoments h → AreSavedFair h
-saved_fair [] fair = tt
-saved_fair (moment ∷ earlier) fair = ((λ _. fair.0), saved_fair earlier fair.1)
 
 pub each_fair_run_is_clean : (A : Type 0) (ranges : List Range) (rooms : List ℕ) (h : List (Moment A)) (end : Relay) →
     AreDisjoint ranges → IsRun (start ranges rooms) h end → AreSavedFair h → AreAllClean end

@@ -1,4 +1,4 @@
--- In a run in which each scan is fair each reply is safe.
+-- As long as each scan that may have saved is fair each reply is safe.
 use Rattle.std.proofs.Common.{◌≡◌, ◌≢◌, ◌⊎◌, ◌↔◌, ◌+◌, ◌≤◌, ◌==◌, inl, inr, ℕ, zero, suc, Bool, true, false, Option, Some, None, Result, Ok, Err, List, [], ◌∷◌, length, slice_get, slice_index_or, IsSome, refl, sym, ap, subst, ◌∙◌, arith, eq-eqb}
 use Rattle.std.specs.Prelude.{is_some, is_none, ◌&&◌, unwrap_or, if◌then◌else◌}
 use Rattle.std.specs.List.{list_all, list_any}
@@ -58,7 +58,7 @@ use Rattle.dm_event_history.proofs.MergedPages.{Differs, all_held, lacks_means, 
 use Rattle.dm_event_history.proofs.Adds.{add_refuses, length-lone, lone_some, named_there, some_added, there_named}
 use Rattle.dm_event_history.proofs.Gives.{each_clean_desk_gives}
 use Rattle.dm_event_history.proofs.Stays.{lone_clean, lone_export, page_in}
-use Rattle.dm_event_history.proofs.Headline.{each_fair_run_is_clean, each_run_is_sound, saved_fair}
+use Rattle.dm_event_history.proofs.Headline.{each_fair_run_is_clean, each_run_is_sound}
 use Rattle.dm_event_history.proofs.Answered.{IsOwn, is_answered, is_looked, is_made}
 use Rattle.dm_event_history.proofs.Told.{AddRefused, add_ended, no_page, own_import, own_scan, scan_told, scan_was_refused, was_wanted}
 use Rattle.dm_event_history.proofs.Between.{AreBetween, IsBetween, run_between}
@@ -670,16 +670,16 @@ no_such_safe : {A : Type 0} (old : Relay) (known : Known) (event : Event A) → 
 no_such_safe old known event = grind arith
 
 pub each_fair_reply_is_safe : (A : Type 0) → EachFairReplyIsSafe A
-each_fair_reply_is_safe A ranges rooms moment earlier end apart run fair =
+each_fair_reply_is_safe A ranges rooms moment earlier end apart run saved fair =
     let before = each_run_is_sound A ranges rooms earlier moment.before apart run.0 in
-    by_case before.0 before.1 (each_fair_run_is_clean A ranges rooms earlier moment.before apart run.0 (saved_fair earlier fair.1))
-    (run_between A ranges rooms earlier moment.before apart run.0 fair.1) run.1
+    by_case before.0 before.1 (each_fair_run_is_clean A ranges rooms earlier moment.before apart run.0 saved)
+    (run_between A ranges rooms earlier moment.before apart run.0 saved) run.1
   where
     by_case : IsSound moment.before → ArePrinted moment.before.labels → AreAllClean moment.before →
         AreBetween earlier moment.before → Step moment.before moment.event moment.reply end →
         IsSafe moment.before (known_of moment.before earlier) moment.event moment.reply
     by_case sound printed clean b (inl acts) =
-        acts_safe A moment.before end earlier sound printed clean b moment.event moment.reply fair.0 acts.0 (inl acts) acts.1
+        acts_safe A moment.before end earlier sound printed clean b moment.event moment.reply fair acts.0 (inl acts) acts.1
     by_case sound printed clean b (inr none) =
         subst (λ (r : Reply A). IsSafe moment.before (known_of moment.before earlier) moment.event r) (sym none.1)
         (no_such_safe moment.before (known_of moment.before earlier) moment.event)
