@@ -146,7 +146,8 @@ module _ (A : Type 0) (before : Relay) (desk number room : ℕ) (flips : List (�
 
   -- a scan that was answered with a page
   scanned_so : (actor end : Actor Documents) (a : Accepted) → IsFairlyRead (Scanned a) →
-      HasAll (IsBetween earlier desk) actor → IsAnswered {A = A} (ScanComes room (flipped label.grid flips)) actor (Scanned a) end →
+      HasAll (IsBetween earlier desk) actor →
+      IsAnswered {A = A} (ScanComes room (flipped label.grid flips)) actor (Scanned a) end →
       HasAll (IsBetween (after before (Scan desk number flips stop) (Scanned a) earlier) desk) end
   scanned_so actor end a near between ans =
       let read = ans.comes.0 in
@@ -188,7 +189,8 @@ module _ (A : Type 0) (before : Relay) (desk number room : ℕ) (flips : List (�
           subst (λ (c : Course A Documents). CourseHas (IsBetween (after before (Scan desk number flips stop) reply earlier)
           desk) stop c) (sym lack.0) tt
 
-      by_read : (read : Result (Opened A) LabelFault) → OpensNear label.page read → MayBe (scan_course room held read) course →
+      by_read : (read : Result (Opened A) LabelFault) → OpensNear label.page read →
+          MayBe (scan_course room held read) course →
           CourseHas (IsBetween (after before (Scan desk number flips stop) reply earlier) desk) stop course
       by_read (Ok opened) same may_be =
           unanswered A before (Scan desk number flips stop) stop scan_faults (page_reply label.page) desk
@@ -200,7 +202,8 @@ module _ (A : Type 0) (before : Relay) (desk number room : ℕ) (flips : List (�
       by_read (Err fault) same may_be = still (scan_course room held (Err fault)) tt may_be
 
   pub scan_between : (actor : Actor Documents) (end : Ending A Documents) → IsFairlyRead end.reply →
-      HasAll (IsBetween earlier desk) actor → MayLackFirst (Calls scan_faults stop (ScanComes room (flipped label.grid flips))) actor end →
+      HasAll (IsBetween earlier desk) actor →
+      MayLackFirst (Calls scan_faults stop (ScanComes room (flipped label.grid flips))) actor end →
       HasAll (IsBetween (after before (Scan desk number flips stop) end.reply earlier) desk) end.actor
   scan_between actor end near b acts = elim (is_scanned end.reply) [
     | inl told ↦
@@ -334,7 +337,8 @@ module _ (A : Type 0) (before : Relay) (desk number room : ℕ) (stop : Stop) (e
         calls_have Old Q import_faults stop (ImportComes room export) actor end b
         (stays before (Import desk number stop) end.reply earlier desk
         (λ id m t. not_imported before desk number stop end.reply never desk id m t) (λ id f. f))
-        (λ held course old comes is. unanswered A before (Import desk number stop) stop import_faults pages_reply desk export.id export.pages earlier (λ reply i f. f) may_file room held end.reply course refl refl
+        (λ held course old comes is. unanswered A before (Import desk number stop) stop import_faults pages_reply desk
+        export.id export.pages earlier (λ reply i f. f) may_file room held end.reply course refl refl
         (λ i. refl) (λ id m t. absurd (not_imported before desk number stop end.reply never desk id m t)) old comes
         (ap (λ (e : Ending A Documents). e.reply) is)) acts
   ]
@@ -413,8 +417,8 @@ acts_between A old new (Scan desk number flips stop) reply earlier p fair b acts
     subst (λ (r : Reply A). HasAll (IsBetween (after old (Scan desk number flips stop) r earlier) desk) end.actor) (sym is)
     (scan_between A old desk number room flips stop acts.0 earlier acts.1 printed.carries.is_head actor end
     (λ saved read opens. opens.near acts.0.grid acts.0.page printed.carries
-    (fair (ap (λ (r : Reply A). may_save (Scan desk number flips stop) r) is ∙ saved) (named number flips desk stop refl)
-    acts.0 acts.1)) h called)) acts.2
+    (fair (ap (λ (r : Reply A). may_save (Scan desk number flips stop) r) is ∙ saved)
+    (named number flips desk stop refl) acts.0 acts.1)) h called)) acts.2
 acts_between A old new (Forget desk id stop) reply earlier p fair b acts named =
     desk_between A old new _ reply earlier b desk _
     (λ at away held x. stays old (Forget desk id stop) reply earlier at (λ i m t. t)
@@ -433,7 +437,8 @@ acts_between A old new (Ask desk id) reply earlier p fair b acts named =
     let still = quiet old (Ask desk id) reply earlier (λ at i m t. t) (λ at i f. f) in
     desk_between A old new _ reply earlier b desk _ (λ at away. still at)
     (λ room actor end h is called. looks_have (IsBetween (after old (Ask desk id) reply earlier) desk)
-    (AskTells {A = A} id) actor end (has_map (IsBetween earlier desk) (IsBetween (after old (Ask desk id) reply earlier) desk) (still desk) actor h)
+    (AskTells {A = A} id) actor end
+    (has_map (IsBetween earlier desk) (IsBetween (after old (Ask desk id) reply earlier) desk) (still desk) actor h)
     called) acts
 acts_between A old new (Export desk id) reply earlier p fair b acts named =
     let still = quiet old (Export desk id) reply earlier (λ at i m t. t) (λ at i f. f) in

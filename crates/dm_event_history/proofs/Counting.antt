@@ -104,15 +104,16 @@ calls_keep {A} before event faults stop Comes is silent save answers saves one a
           (let count = made.1 in omega arith) one
     ]
 
-may_lack_keeps : {A : Type 0} (before : Relay) (event : Event A) (Acts : Actor LedgerView → Ending A LedgerView → Type 0) →
-    Keeps before event Acts → Keeps before event (MayLackFirst Acts)
+may_lack_keeps : {A : Type 0} (before : Relay) (event : Event A)
+    (Acts : Actor LedgerView → Ending A LedgerView → Type 0) → Keeps before event Acts →
+    Keeps before event (MayLackFirst Acts)
 may_lack_keeps {A} before event Acts each actor end lack = grind arith
 
 silent : {A : Type 0} → AreSilent {A = A} print_faults × AreSilent {A = A} give_faults × AreSilent {A = A} take_faults
 silent = grind arith
 
-print_keeps : {A : Type 0} (old : Relay) (printer : ℕ) (document : List ℕ) (size : Size) (scheme : Scheme) (stop : Stop) →
-    Keeps {A = A} old (Print printer document size scheme stop)
+print_keeps : {A : Type 0} (old : Relay) (printer : ℕ) (document : List ℕ) (size : Size) (scheme : Scheme)
+    (stop : Stop) → Keeps {A = A} old (Print printer document size scheme stop)
     (MayLackFirst (Calls print_faults stop (PrintComes (length old.labels) document size scheme)))
 print_keeps {A} old printer document size scheme stop =
     may_lack_keeps old _ _ (calls_keep {A = A} old (Print printer document size scheme stop) print_faults stop _ refl
@@ -218,7 +219,8 @@ run_counts A ranges rooms (moment ∷ earlier) end p range run there =
     let step = step_counts A moment.before end moment.event moment.reply run.1 p in omega arith
 
 none_free : {A : Type 0} (old new : Relay) (printer : ℕ) (document : List ℕ) (size : Size) (scheme : Scheme)
-    (stop : Stop) → Step {A = A} old (Print printer document size scheme stop) (PrintRefused print_fault.Exhausted) new →
+    (stop : Stop) →
+    Step {A = A} old (Print printer document size scheme stop) (PrintRefused print_fault.Exhausted) new →
     stock old printer ≡ 0
 none_free old new printer document size scheme stop step = grind (arith, own_print, print_refused, print_refuses)
 

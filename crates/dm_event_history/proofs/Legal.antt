@@ -62,7 +62,8 @@ record IsCallLegal {A C : Type 0} (stop : Option Stop) (actor : Actor C) (reply 
 
 -- one that answers, one that is stopped, and one that lacks memory
 legal_reply : {A C : Type 0} (stop : Option Stop) (actor : Actor C) (reply : Reply A) → ¬ IsDown actor →
-    ¬ IsSomeAnd stop IsStopping → IsUp reply → (tells_of_save reply ≡ true → stop ≡ Some stops.None) → IsCallLegal stop actor reply
+    ¬ IsSomeAnd stop IsStopping → IsUp reply → (tells_of_save reply ≡ true → stop ≡ Some stops.None) →
+    IsCallLegal stop actor reply
 legal_reply stop actor reply up on plain saves = record {
   some = up_other reply replies.NoSuch plain refl;
   down = ((λ e. absurd (up_other reply replies.Down plain refl e)), (λ d. absurd (up d)));
@@ -98,13 +99,16 @@ legal_ends : {A C : Type 0} (faults : Faults A) (stop : Stop) (course : Course A
     AreQuiet faults → Reaches stop (IsPlainCourse course × IsQuietCourse course) →
     IsCallLegal (Some stop) (Running held) (ends faults stop course (Running held)).reply
 legal_ends {A} faults BeforeSave course held fine quiet own = legal_stopped A (Some BeforeSave) (Running held) (λ d. d) tt
-legal_ends {A} faults (InSave Old) course held fine quiet own = legal_stopped A (Some (InSave Old)) (Running held) (λ d. d) tt
+legal_ends {A} faults (InSave Old) course held fine quiet own =
+    legal_stopped A (Some (InSave Old)) (Running held) (λ d. d) tt
 legal_ends faults stops.None (Saves next goods reply) held fine quiet own =
     legal_reply (Some stops.None) (Running held) reply (λ d. d) (λ s. s) own.0.up (λ _. refl)
 legal_ends faults (SaveFault Old) (Saves next goods reply) held fine quiet own =
-    legal_reply (Some (SaveFault Old)) (Running held) faults.save (λ d. d) (λ s. s) fine.save_up (untold faults.save quiet.save)
+    legal_reply (Some (SaveFault Old)) (Running held) faults.save (λ d. d) (λ s. s) fine.save_up
+    (untold faults.save quiet.save)
 legal_ends faults (SaveFault New) (Saves next goods reply) held fine quiet own =
-    legal_reply (Some (SaveFault New)) (Running held) faults.save (λ d. d) (λ s. s) fine.save_up (untold faults.save quiet.save)
+    legal_reply (Some (SaveFault New)) (Running held) faults.save (λ d. d) (λ s. s) fine.save_up
+    (untold faults.save quiet.save)
 legal_ends {A} faults (InSave New) (Saves next goods reply) held fine quiet own =
     legal_stopped A (Some (InSave New)) (Running held) (λ d. d) tt
 legal_ends {A} faults (AfterLabels most) (Saves next goods reply) held fine quiet own =
@@ -122,7 +126,8 @@ legal_ends faults stops.None LacksMemory held fine quiet own =
 legal_ends faults (SaveFault kept) LacksMemory held fine quiet own =
     legal_reply (Some (SaveFault kept)) (Running held) faults.memory (λ d. d) (λ s. s) fine.memory.up
     (untold faults.memory quiet.memory)
-legal_ends {A} faults (InSave New) LacksMemory held fine quiet own = legal_memory A (Some (InSave New)) (Running held) (λ d. d)
+legal_ends {A} faults (InSave New) LacksMemory held fine quiet own =
+    legal_memory A (Some (InSave New)) (Running held) (λ d. d)
 legal_ends {A} faults (AfterLabels most) LacksMemory held fine quiet own =
     legal_memory A (Some (AfterLabels most)) (Running held) (λ d. d)
 

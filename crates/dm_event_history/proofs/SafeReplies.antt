@@ -573,7 +573,8 @@ module _ (A : Type 0) (old new : Relay) (earlier : List (Moment A)) (sound : IsS
         | inl was ↦
             let full = (not_added d g.desk.room g.desk (lone_export label.page) r.0 was.fault g.was refl r.1
             (lone_clean old.labels number label there (printed number label there)) was.fault_is).0 in
-            let told = subst (λ (f : AddFault). page_reply {A = A} label.page (Err f) ≡ ScanRefused scan_fault.Conflict) full was.told in
+            let told = subst (λ (f : AddFault). page_reply {A = A} label.page (Err f) ≡ ScanRefused scan_fault.Conflict)
+            full was.told in
             absurd (cc (told))
         | inr border ↦ (let e = border.1 in cc (e))
       ]
