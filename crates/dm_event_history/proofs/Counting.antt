@@ -22,23 +22,18 @@ use Rattle.dm_event_history.specs.WhoActs.{DeskAt, PrinterAt, actor_of, is_same}
 use Rattle.dm_event_history.specs.Saving.{Stores, leaves_new, may_save, stop_of}
 use Rattle.dm_event_history.specs.Actors.{Actor, Running, stored_of}
 use Rattle.dm_event_history.specs.Relay.{Goods, Relay, fresh_from, start}
-use Rattle.dm_event_history.specs.Calls.{Answers, Calls, Course, Ending, Faults, MayLackFirst, Restarts, Saves, ends}
+use Rattle.dm_event_history.specs.Calls.{Calls, Course, Ending, Faults, MayLackFirst, Restarts, Saves, ends}
 use Rattle.dm_event_history.specs.PrinterCalls.{GiveComes, PrintComes, TakeComes, give_faults, print_faults, take_faults}
 use Rattle.dm_event_history.specs.Steps.{Acts, DeskGoes, PrinterGoes, Step}
 use Rattle.dm_event_history.specs.Runs.{IsRun, Moment}
 use Rattle.dm_event_history.specs.Told.{EachExhaustedIsSo, gains, has_saved, loses, stock, sum_saved}
 use Rattle.dm_event_history.proofs.Deciding.{other_number}
 use Rattle.dm_event_history.proofs.Having.{saves_may}
+use Rattle.dm_event_history.proofs.Legal.{AreQuiet, IsQuietCourse, give_quiet, print_quiet, take_quiet}
 use Rattle.dm_event_history.proofs.LedgerFacts.{give_loses, made_print, print_refuses, take_gains}
 use Rattle.dm_event_history.proofs.Reasons.{own_print, print_refused}
 
 -- ---- what a call stores
-
--- none of these tells of a save
-pub record AreSilent {A : Type 0} (faults : Faults A) : Type 0 where
-  pub failed : tells_of_save faults.failed ≡ false
-  pub save : tells_of_save faults.save ≡ false
-  pub memory : tells_of_save faults.memory ≡ false
 
 pub record HasSaved {A C : Type 0} (faults : Faults A) (stop : Stop) (Comes : C → Course A C → Type 0) (actor : Actor C)
     (end : Ending A C) : Type 0 where
@@ -54,11 +49,11 @@ pub record HasSaved {A C : Type 0} (faults : Faults A) (stop : Stop) (Comes : C 
 
 -- a call leaves what is stored and tells of no save, or it has saved
 calls_store : {A C : Type 0} (faults : Faults A) (stop : Stop) (Comes : C → Course A C → Type 0) (actor : Actor C)
-    (end : Ending A C) → AreSilent faults →
-    ((held : C) (reply : Reply A) → Comes held (Answers reply) → tells_of_save reply ≡ false) →
+    (end : Ending A C) → AreQuiet faults →
+    ((held : C) (course : Course A C) → Comes held course → IsQuietCourse course) →
     Calls faults stop Comes actor end →
     ((stored_of end.actor ≡ stored_of actor) × (tells_of_save end.reply ≡ false)) ⊎ HasSaved faults stop Comes actor end
-calls_store {A} {C} faults stop Comes actor end silent each acts = grind arith
+calls_store {A} {C} faults stop Comes actor end quiet each acts = grind arith
 
 -- ---- numbers
 
@@ -85,15 +80,15 @@ Keeps {A} before event Acts = (actor : Actor LedgerView) (end : Ending A LedgerV
     (gains before event) (loses before event)
 
 calls_keep : {A : Type 0} (before : Relay) (event : Event A) (faults : Faults A) (stop : Stop)
-    (Comes : LedgerView → Course A LedgerView → Type 0) → stop_of event ≡ Some stop → AreSilent faults →
+    (Comes : LedgerView → Course A LedgerView → Type 0) → stop_of event ≡ Some stop → AreQuiet faults →
     may_save event faults.save ≡ leaves_new (stop_of event) →
-    ((held : LedgerView) (reply : Reply A) → Comes held (Answers reply) → tells_of_save reply ≡ false) →
+    ((held : LedgerView) (course : Course A LedgerView) → Comes held course → IsQuietCourse course) →
     ((held next : LedgerView) (goods : Goods) (reply : Reply A) → Comes held (Saves next goods reply) →
     (may_save event reply ≡ true)
     × (free_count held.free + gains before event ≡ free_count next.free + loses before event)) →
     (gains before event ≡ 0) ⊎ (loses before event ≡ 0) → Keeps before event (Calls faults stop Comes)
-calls_keep {A} before event faults stop Comes is silent save answers saves one actor end acts =
-    elim (calls_store faults stop Comes actor end silent answers acts) [
+calls_keep {A} before event faults stop Comes is quiet save each saves one actor end acts =
+    elim (calls_store faults stop Comes actor end quiet each acts) [
       | inl idle ↦ unsaved _ _ _ _ _ _ (ap (λ (l : LedgerView). free_count l.free) (sym idle.0)) idle.1
       | inr s ↦
           let made = saves s.held s.next s.goods s.reply s.comes in
@@ -109,15 +104,13 @@ may_lack_keeps : {A : Type 0} (before : Relay) (event : Event A)
     Keeps before event (MayLackFirst Acts)
 may_lack_keeps {A} before event Acts each actor end lack = grind arith
 
-silent : {A : Type 0} → AreSilent {A = A} print_faults × AreSilent {A = A} give_faults × AreSilent {A = A} take_faults
-silent = grind arith
-
 print_keeps : {A : Type 0} (old : Relay) (printer : ℕ) (document : List ℕ) (size : Size) (scheme : Scheme)
     (stop : Stop) → Keeps {A = A} old (Print printer document size scheme stop)
     (MayLackFirst (Calls print_faults stop (PrintComes (length old.labels) document size scheme)))
 print_keeps {A} old printer document size scheme stop =
     may_lack_keeps old _ _ (calls_keep {A = A} old (Print printer document size scheme stop) print_faults stop _ refl
-    silent.0 refl (λ held reply comes. ap tells_of_save comes.3.2) (λ held next goods reply comes.
+    (record { failed = refl; save = refl; memory = refl }) refl (print_quiet (length old.labels) document size scheme)
+    (λ held next goods reply comes.
     let made = made_print (length old.labels) document size scheme held next goods reply comes in (
       ap (λ (r : Reply A). may_save (Print printer document size scheme stop) r) made.left.reply_is,
       (let count = made.uses.loses.free.count in omega arith),
@@ -128,7 +121,8 @@ give_keeps : {A : Type 0} (old : Relay) (printer receiver : ℕ) (range : Range)
     (MayLackFirst (Calls give_faults stop (GiveComes (length old.tickets) receiver range)))
 give_keeps {A} old printer receiver range stop =
     may_lack_keeps old _ _ (calls_keep {A = A} old (Give printer receiver range stop) give_faults stop _ refl
-    silent.1 refl (λ held reply comes. ap tells_of_save comes.1.2) (λ held next goods reply comes. (
+    (record { failed = refl; save = refl; memory = refl }) refl (give_quiet (length old.tickets) receiver range)
+    (λ held next goods reply comes. (
       ap (λ (r : Reply A). may_save (Give printer receiver range stop) r) comes.1.1.1,
       (let count = (give_loses held next receiver range comes.0 comes.1.0).free.count in omega arith),
     )) (inl refl))
@@ -137,8 +131,9 @@ take_keeps : {A : Type 0} (old : Relay) (printer number : ℕ) (ticket : TicketV
     slice_get old.tickets number ≡ Some ticket →
     Keeps {A = A} old (Take printer number stop) (Calls take_faults stop (TakeComes number ticket))
 take_keeps {A} old printer number ticket stop there =
-    calls_keep {A = A} old (Take printer number stop) take_faults stop _ refl silent.2 refl
-    (λ held reply comes. ap tells_of_save comes.2.2) (λ held next goods reply comes. (
+    calls_keep {A = A} old (Take printer number stop) take_faults stop _ refl
+    (record { failed = refl; save = refl; memory = refl }) refl (take_quiet number ticket)
+    (λ held next goods reply comes. (
       ap (λ (r : Reply A). may_save (Take printer number stop) r) comes.2.1.1,
       (let count = (take_gains held next ticket comes.0 comes.1 comes.2.0).free.count in
       let gain = ap (λ (o : Option TicketView). option_map_or (λ t. size_of t.range) o 0) there in omega arith),

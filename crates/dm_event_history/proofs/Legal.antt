@@ -82,12 +82,12 @@ legal_memory : (A : Type 0) {C : Type 0} (stop : Option Stop) (actor : Actor C) 
 legal_memory A stop actor up = grind arith
 
 -- an answer without a save doesn't tell of one, and neither do the faults of a call
-abbrev IsQuietCourse : {A C : Type 0} → Course A C → Type 0
+abbrev pub IsQuietCourse : {A C : Type 0} → Course A C → Type 0
 IsQuietCourse (Saves next goods reply) = Unit {0}
 IsQuietCourse (Answers reply) = tells_of_save reply ≡ false
 IsQuietCourse LacksMemory = Unit {0}
 
-record AreQuiet {A : Type 0} (faults : Faults A) : Type 0 where
+pub record AreQuiet {A : Type 0} (faults : Faults A) : Type 0 where
   pub failed : tells_of_save faults.failed ≡ false
   pub save : tells_of_save faults.save ≡ false
   pub memory : tells_of_save faults.memory ≡ false
@@ -184,15 +184,15 @@ looks_legal {A} Said each still (Down stored) end acts =
 
 -- ---- what each call comes to
 
-print_quiet : {A : Type 0} (before : ℕ) (document : List ℕ) (size : Size) (scheme : Scheme) (held : LedgerView)
+pub print_quiet : {A : Type 0} (before : ℕ) (document : List ℕ) (size : Size) (scheme : Scheme) (held : LedgerView)
     (course : Course A LedgerView) → PrintComes before document size scheme held course → IsQuietCourse course
 print_quiet before document size scheme held course comes = grind arith
 
-give_quiet : {A : Type 0} (before receiver : ℕ) (range : Range) (held : LedgerView) (course : Course A LedgerView) →
+pub give_quiet : {A : Type 0} (before receiver : ℕ) (range : Range) (held : LedgerView) (course : Course A LedgerView) →
     GiveComes before receiver range held course → IsQuietCourse course
 give_quiet before receiver range held course comes = grind arith
 
-take_quiet : {A : Type 0} (number : ℕ) (ticket : TicketView) (held : LedgerView) (course : Course A LedgerView) →
+pub take_quiet : {A : Type 0} (number : ℕ) (ticket : TicketView) (held : LedgerView) (course : Course A LedgerView) →
     TakeComes number ticket held course → IsQuietCourse course
 take_quiet number ticket held course comes = grind arith
 
