@@ -16,13 +16,16 @@ use Rattle.dm_event_history.specs.declared.event.Event.TheVariants.{Print, Scan,
 use Rattle.dm_event_history.specs.declared.reply.Reply.{Reply}
 use Rattle.dm_event_history.specs.declared.reply.Reply.TheVariants.{PrintRefused}
 use Rattle.dm_event_history.specs.declared.reply.Reply.TheVariants as replies
+use Rattle.dm_store.specs.declared.fuse.Kept.TheVariants.{Old}
 use Rattle.dm_event_history.specs.declared.stop.Stop.{Stop}
+use Rattle.dm_event_history.specs.declared.stop.Stop.TheVariants as stops
+use Rattle.dm_event_history.specs.declared.stop.Stop.TheVariants.{BeforeSave, InSave, SaveFault}
 use Rattle.dm_event_history.specs.Legal.{tells_of_save}
 use Rattle.dm_event_history.specs.WhoActs.{DeskAt, PrinterAt, actor_of, is_same}
 use Rattle.dm_event_history.specs.Saving.{Stores, leaves_new, may_save, stop_of}
-use Rattle.dm_event_history.specs.Actors.{Actor, Running, stored_of}
+use Rattle.dm_event_history.specs.Actors.{Actor, Running, Failed, Down, stored_of}
 use Rattle.dm_event_history.specs.Relay.{Goods, Relay, fresh_from, start}
-use Rattle.dm_event_history.specs.Calls.{Calls, Course, Ending, Faults, MayLackFirst, Restarts, Saves, ends}
+use Rattle.dm_event_history.specs.Calls.{Answers, Calls, Course, Ending, Faults, LacksMemory, MayLackFirst, Reaches, Restarts, Saves, ends}
 use Rattle.dm_event_history.specs.PrinterCalls.{GiveComes, PrintComes, TakeComes, give_faults, print_faults, take_faults}
 use Rattle.dm_event_history.specs.Steps.{Acts, DeskGoes, PrinterGoes, Step}
 use Rattle.dm_event_history.specs.Runs.{IsRun, Moment}
@@ -47,13 +50,45 @@ pub record HasSaved {A C : Type 0} (faults : Faults A) (stop : Stop) (Comes : C 
   pub told : end.reply ≡ (ends faults stop (Saves next goods reply) (Running held)).reply
   pub stored_is : stored_of end.actor ≡ next
 
--- a call leaves what is stored and tells of no save, or it has saved
+-- what is stored is left, and the reply tells of no save
+abbrev IsIdle : {A C : Type 0} → Actor C → Ending A C → Type 0
+IsIdle actor end = (stored_of end.actor ≡ stored_of actor) × (tells_of_save end.reply ≡ false)
+
+ends_store : {A C : Type 0} (faults : Faults A) (stop : Stop) (Comes : C → Course A C → Type 0) (held : C)
+    (course : Course A C) → AreQuiet faults → ((came : Course A C) → Comes held came → IsQuietCourse came) →
+    Reaches stop (Comes held course) →
+    (let e = ends faults stop course (Running held) in IsIdle (Running held) e ⊎ HasSaved faults stop Comes (Running held) e)
+ends_store faults BeforeSave Comes held course quiet each came = inl (refl, refl)
+ends_store faults (InSave Old) Comes held course quiet each came = inl (refl, refl)
+ends_store faults (SaveFault Old) Comes held (Saves next goods reply) quiet each came = inl (refl, quiet.save)
+ends_store faults stop Comes held (Saves next goods reply) quiet each came = inr (record { held = held; was = refl;
+    next = next; goods = goods; reply = reply; comes = came; stores = tt; told = refl; stored_is = refl })
+ends_store faults stops.None Comes held (Answers reply) quiet each came = inl (refl, each (Answers reply) came)
+ends_store faults (SaveFault kept) Comes held (Answers reply) quiet each came = inl (refl, each (Answers reply) came)
+ends_store faults stops.None Comes held LacksMemory quiet each came = inl (refl, quiet.memory)
+ends_store faults (SaveFault kept) Comes held LacksMemory quiet each came = inl (refl, quiet.memory)
+ends_store faults stop Comes held course quiet each came = inl (refl, refl)
+
+failed_store : {A C : Type 0} (faults : Faults A) (stop : Stop) (shown stored : C) →
+    tells_of_save faults.failed ≡ false →
+    IsIdle (Failed shown stored) (ends faults stop (Answers faults.failed) (Failed shown stored))
+failed_store faults stop shown stored quiet = grind arith
+
+-- a call is idle, or it has saved
 calls_store : {A C : Type 0} (faults : Faults A) (stop : Stop) (Comes : C → Course A C → Type 0) (actor : Actor C)
     (end : Ending A C) → AreQuiet faults →
     ((held : C) (course : Course A C) → Comes held course → IsQuietCourse course) →
     Calls faults stop Comes actor end →
-    ((stored_of end.actor ≡ stored_of actor) × (tells_of_save end.reply ≡ false)) ⊎ HasSaved faults stop Comes actor end
-calls_store {A} {C} faults stop Comes actor end quiet each acts = grind arith
+    IsIdle actor end ⊎ HasSaved faults stop Comes actor end
+calls_store {A} {C} faults stop Comes (Running held) end quiet each acts =
+    subst (λ (e : Ending A C). IsIdle (Running held) e ⊎ HasSaved faults stop Comes (Running held) e) (sym acts.2)
+    (ends_store faults stop Comes held acts.0 quiet (each held) acts.1)
+calls_store {A} {C} faults stop Comes (Failed shown stored) end quiet each acts =
+    subst (λ (e : Ending A C). IsIdle (Failed shown stored) e ⊎ HasSaved faults stop Comes (Failed shown stored) e)
+    (sym acts) (inl (failed_store faults stop shown stored quiet.failed))
+calls_store {A} {C} faults stop Comes (Down stored) end quiet each acts =
+    subst (λ (e : Ending A C). IsIdle (Down stored) e ⊎ HasSaved faults stop Comes (Down stored) e) (sym acts)
+    (inl (refl, refl))
 
 -- ---- numbers
 
@@ -136,7 +171,7 @@ take_keeps {A} old printer number ticket stop there =
     (λ held next goods reply comes. (
       ap (λ (r : Reply A). may_save (Take printer number stop) r) comes.2.1.1,
       (let count = (take_gains held next ticket comes.0 comes.1 comes.2.0).free.count in
-      let gain = ap (λ (o : Option TicketView). option_map_or (λ t. size_of t.range) o 0) there in omega arith),
+      let gain = ap (λ (o : Option TicketView). option_map_or (λ (t : TicketView). size_of t.range) o 0) there in omega arith),
     )) (inr refl)
 
 restart_keeps : {A : Type 0} (old : Relay) (printer : ℕ) →

@@ -10,7 +10,7 @@ use Rattle.dm_append_label.specs.declared.fault.LabelFault.TheVariants.{Border}
 use Rattle.dm_store.specs.declared.fuse.Kept.{Kept}
 use Rattle.dm_print_ledger.specs.declared.range.Range.{Range}
 use Rattle.dm_print_ledger.specs.Ranges.{free_count, size_of}
-use Rattle.dm_print_ledger.specs.Views.{LedgerView}
+use Rattle.dm_print_ledger.specs.Views.{LedgerView, TicketView}
 use Rattle.dm_print_ledger.specs.declared.fault.PrintFault.TheVariants as print_fault
 use Rattle.dm_print_ledger.specs.declared.fault.GiveFault.TheVariants as give_fault
 use Rattle.dm_print_ledger.specs.declared.fault.TakeFault.TheVariants as take_fault
@@ -151,7 +151,7 @@ EachRunTakesOnce A = (ranges : List Range) (rooms : List ℕ) (h : List (Moment 
 -- how many numbers are free in what a printer stores
 abbrev pub stock : Relay → ℕ → ℕ
 stock relay printer =
-    option_map_or (λ actor. free_count (stored_of actor).free) (slice_get relay.printers printer) 0
+    option_map_or (λ (actor : Actor LedgerView). free_count (stored_of actor).free) (slice_get relay.printers printer) 0
 
 -- how many numbers a printer loses by an event that saved, and how many it gains
 abbrev pub loses : {A : Type 0} → Relay → Event A → ℕ
@@ -161,7 +161,7 @@ loses before event = 0
 
 abbrev pub gains : {A : Type 0} → Relay → Event A → ℕ
 gains before (Take printer ticket stop) =
-    option_map_or (λ ticket. size_of ticket.range) (slice_get before.tickets ticket) 0
+    option_map_or (λ (given : TicketView). size_of given.range) (slice_get before.tickets ticket) 0
 gains before event = 0
 
 -- an event of the printer saved: it may have, and its reply tells so or the stock is another in the relay after it
