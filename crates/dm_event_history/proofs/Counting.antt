@@ -21,7 +21,7 @@ use Rattle.dm_event_history.specs.declared.stop.Stop.{Stop}
 use Rattle.dm_event_history.specs.declared.stop.Stop.TheVariants as stops
 use Rattle.dm_event_history.specs.declared.stop.Stop.TheVariants.{BeforeSave, InSave, SaveFault}
 use Rattle.dm_event_history.specs.Legal.{tells_of_save}
-use Rattle.dm_event_history.specs.WhoActs.{DeskAt, PrinterAt, actor_of, is_same}
+use Rattle.dm_event_history.specs.WhoActs.{DeskAt, Named, PrinterAt, actor_of, is_same}
 use Rattle.dm_event_history.specs.Saving.{Stores, leaves_new, may_save, stop_of}
 use Rattle.dm_event_history.specs.Actors.{Actor, Running, Failed, Down, stored_of}
 use Rattle.dm_event_history.specs.Relay.{Goods, Relay, fresh_from, start}
@@ -143,11 +143,12 @@ print_keeps : {A : Type 0} (old : Relay) (printer : ℕ) (document : List ℕ) (
     (stop : Stop) → Keeps {A = A} old (Print printer document size scheme stop)
     (MayLackFirst (Calls print_faults stop (PrintComes (length old.labels) document size scheme)))
 print_keeps {A} old printer document size scheme stop =
-    may_lack_keeps old _ _ (calls_keep {A = A} old (Print printer document size scheme stop) print_faults stop _ refl
+    let event : Event A = Print printer document size scheme stop in
+    may_lack_keeps old event _ (calls_keep old event print_faults stop _ refl
     (record { failed = refl; save = refl; memory = refl }) refl (print_quiet (length old.labels) document size scheme)
     (λ held next goods reply comes.
     let made = made_print (length old.labels) document size scheme held next goods reply comes in (
-      ap (λ (r : Reply A). may_save (Print printer document size scheme stop) r) made.left.reply_is,
+      ap (λ (r : Reply A). may_save event r) made.left.reply_is,
       (let count = made.uses.loses.free.count in omega arith),
     )) (inl refl))
 
@@ -155,10 +156,11 @@ give_keeps : {A : Type 0} (old : Relay) (printer receiver : ℕ) (range : Range)
     Keeps {A = A} old (Give printer receiver range stop)
     (MayLackFirst (Calls give_faults stop (GiveComes (length old.tickets) receiver range)))
 give_keeps {A} old printer receiver range stop =
-    may_lack_keeps old _ _ (calls_keep {A = A} old (Give printer receiver range stop) give_faults stop _ refl
+    let event : Event A = Give printer receiver range stop in
+    may_lack_keeps old event _ (calls_keep old event give_faults stop _ refl
     (record { failed = refl; save = refl; memory = refl }) refl (give_quiet (length old.tickets) receiver range)
     (λ held next goods reply comes. (
-      ap (λ (r : Reply A). may_save (Give printer receiver range stop) r) comes.1.1.1,
+      ap (λ (r : Reply A). may_save event r) comes.1.1.1,
       (let count = (give_loses held next receiver range comes.0 comes.1.0).free.count in omega arith),
     )) (inl refl))
 
@@ -179,6 +181,21 @@ restart_keeps : {A : Type 0} (old : Relay) (printer : ℕ) →
 restart_keeps {A} old printer actor end is = grind arith
 
 -- ---- steps
+
+abbrev stock_of : Option (Actor LedgerView) → ℕ
+stock_of actor = option_map_or stored_count actor 0
+
+-- a printer that acts, and another
+by_same : (same may told : Bool) (old new gain loss held next : ℕ) → same ≡ true → old ≡ held → new ≡ next →
+    IsCounted may told held next gain loss →
+    (let saved = same && may && (told || not (old == new)) in
+    old + (if saved then gain else 0) ≡ new + (if saved then loss else 0))
+by_same same may told old new gain loss held next so was is counted = grind arith
+
+by_other : (same may told : Bool) (old new gain loss : ℕ) → same ≡ false → old ≡ new →
+    (let saved = same && may && (told || not (old == new)) in
+    old + (if saved then gain else 0) ≡ new + (if saved then loss else 0))
+by_other same may told old new gain loss other kept = grind arith
 
 -- what stands at a place once another element was put somewhere
 set_or : {X : Type 0} (xs : List X) (i j : ℕ) (x y : X) → slice_get xs i ≡ Some y →
@@ -202,7 +219,17 @@ module _ (A : Type 0) (old new : Relay) (event : Event A) (reply : Reply A) wher
 
   printer_counts : (printer : ℕ) (Acts : Actor LedgerView → Ending A LedgerView → Type 0) →
       actor_of event ≡ PrinterAt printer → Keeps old event Acts → PrinterGoes old printer Acts reply new → Counts
-  printer_counts printer Acts named each g p = grind (arith, eq-eqb, other_number, set_or)
+  printer_counts printer Acts named each g p = elim (set_or old.printers printer p g.end.actor g.actor g.was) [
+    | inl here ↦ by_same _ _ _ _ _ _ _ _ _
+        (ap (λ (who : Named). is_same who (PrinterAt p)) named ∙ eq-eqb printer p here.0)
+        (ap stock_of (subst (λ (k : ℕ). slice_get old.printers k ≡ Some g.actor) here.0 g.was))
+        (ap (λ (r : Relay). stock r p) g.new_is ∙ ap stock_of here.1)
+        (subst (λ (r : Reply A). IsCounted (may_save event r) (tells_of_save r) (stored_count g.actor)
+        (stored_count g.end.actor) (gains old event) (loses old event)) (sym g.reply_is) (each g.actor g.end g.acts))
+    | inr there ↦ by_other _ _ _ _ _ _ _
+        (ap (λ (who : Named). is_same who (PrinterAt p)) named ∙ other_number printer p there.0)
+        (sym (ap (λ (r : Relay). stock r p) g.new_is ∙ ap stock_of there.1))
+  ]
 
   desk_counts : (number : ℕ) (Acts : ℕ → Actor Documents → Ending A Documents → Type 0) →
       actor_of event ≡ DeskAt number → DeskGoes old number Acts reply new → Counts
@@ -211,19 +238,25 @@ module _ (A : Type 0) (old new : Relay) (event : Event A) (reply : Reply A) wher
 acts_count : (A : Type 0) (old new : Relay) (event : Event A) (reply : Reply A) → Acts old event reply new →
     Counts A old new event reply
 acts_count A old new (Print printer document size scheme stop) reply acts =
-    printer_counts A old new _ reply printer _ refl (print_keeps old printer document size scheme stop) acts
+    printer_counts A old new (Print printer document size scheme stop) reply printer _ refl
+    (print_keeps old printer document size scheme stop) acts
 acts_count A old new (Give printer receiver range stop) reply acts =
-    printer_counts A old new _ reply printer _ refl (give_keeps old printer receiver range stop) acts
+    printer_counts A old new (Give printer receiver range stop) reply printer _ refl
+    (give_keeps old printer receiver range stop) acts
 acts_count A old new (Take printer number stop) reply acts =
-    printer_counts A old new _ reply printer _ refl (take_keeps old printer number acts.0 stop acts.1) acts.2
+    printer_counts A old new (Take printer number stop) reply printer _ refl
+    (take_keeps old printer number acts.0 stop acts.1) acts.2
 acts_count A old new (RestartPrinter printer) reply acts =
-    printer_counts A old new _ reply printer _ refl (restart_keeps old printer) acts
-acts_count A old new (Scan desk number flips stop) reply acts = desk_counts A old new _ reply desk _ refl acts.2
-acts_count A old new (Forget desk id stop) reply acts = desk_counts A old new _ reply desk _ refl acts
-acts_count A old new (Import desk number stop) reply acts = desk_counts A old new _ reply desk _ refl acts.2
-acts_count A old new (Ask desk id) reply acts = desk_counts A old new _ reply desk _ refl acts
-acts_count A old new (Export desk id) reply acts = desk_counts A old new _ reply desk _ refl acts
-acts_count A old new (RestartDesk desk) reply acts = desk_counts A old new _ reply desk _ refl acts
+    printer_counts A old new (RestartPrinter printer) reply printer _ refl (restart_keeps old printer) acts
+acts_count A old new (Scan desk number flips stop) reply acts =
+    desk_counts A old new (Scan desk number flips stop) reply desk _ refl acts.2
+acts_count A old new (Forget desk id stop) reply acts =
+    desk_counts A old new (Forget desk id stop) reply desk _ refl acts
+acts_count A old new (Import desk number stop) reply acts =
+    desk_counts A old new (Import desk number stop) reply desk _ refl acts.2
+acts_count A old new (Ask desk id) reply acts = desk_counts A old new (Ask desk id) reply desk _ refl acts
+acts_count A old new (Export desk id) reply acts = desk_counts A old new (Export desk id) reply desk _ refl acts
+acts_count A old new (RestartDesk desk) reply acts = desk_counts A old new (RestartDesk desk) reply desk _ refl acts
 
 step_counts : (A : Type 0) (old new : Relay) (event : Event A) (reply : Reply A) → Step old event reply new →
     Counts A old new event reply
