@@ -1,11 +1,11 @@
 -- Calls that are answered: the printer or the desk runs, and it comes to what is answered.
 use Rattle.std.proofs.Common.{arith, ◌≡◌, ◌≢◌, Some, refl, sym, ap, subst, ◌∙◌}
-use Rattle.dm_store.specs.declared.fuse.Kept.TheVariants.{Old, New}
+use Rattle.dm_store.specs.declared.fuse.Kept.TheVariants.{Old}
 use Rattle.dm_event_history.specs.declared.reply.Reply.{Reply}
 use Rattle.dm_event_history.specs.declared.reply.Reply.TheVariants as replies
 use Rattle.dm_event_history.specs.declared.stop.Stop.{Stop}
 use Rattle.dm_event_history.specs.declared.stop.Stop.TheVariants as stops
-use Rattle.dm_event_history.specs.declared.stop.Stop.TheVariants.{BeforeSave, InSave, SaveFault, AfterLabels}
+use Rattle.dm_event_history.specs.declared.stop.Stop.TheVariants.{InSave, SaveFault}
 use Rattle.dm_event_history.specs.Actors.{Actor, Running, Failed, Down, shown_of}
 use Rattle.dm_event_history.specs.Relay.{Goods}
 use Rattle.dm_event_history.specs.Calls.{Answers, Calls, Course, Ending, Faults, LacksMemory, Looks, MayLackFirst, Reaches, Saves, ends}
@@ -37,34 +37,21 @@ by_ends : {A C : Type 0} (faults : Faults A) (stop : Stop) (Comes : C → Course
     (course : Course A C) (reply : Reply A) → IsOwn faults reply → Reaches stop (Comes held course) →
     (let e = ends faults stop course (Running held) in e.reply ≡ reply →
     IsAnswered Comes (Running held) reply e.actor)
-by_ends faults BeforeSave Comes held course reply own came is = absurd (own.stopped (sym is))
-by_ends faults (InSave Old) Comes held course reply own came is = absurd (own.stopped (sym is))
 by_ends faults stops.None Comes held (Saves next goods told) reply own came is =
     record { held = held; was = refl; course = Saves next goods told; comes = came; ended = (is, refl) }
-by_ends faults (SaveFault Old) Comes held (Saves next goods told) reply own came is = absurd (own.save (sym is))
-by_ends faults (SaveFault New) Comes held (Saves next goods told) reply own came is = absurd (own.save (sym is))
-by_ends faults (InSave New) Comes held (Saves next goods told) reply own came is = absurd (own.stopped (sym is))
-by_ends faults (AfterLabels most) Comes held (Saves next goods told) reply own came is = absurd (own.stopped (sym is))
 by_ends faults stops.None Comes held (Answers told) reply own came is =
     record { held = held; was = refl; course = Answers told; comes = came; ended = (is, refl) }
 by_ends faults (SaveFault kept) Comes held (Answers told) reply own came is =
     record { held = held; was = refl; course = Answers told; comes = came; ended = (is, refl) }
-by_ends faults (InSave New) Comes held (Answers told) reply own came is = absurd (own.stopped (sym is))
-by_ends faults (AfterLabels most) Comes held (Answers told) reply own came is = absurd (own.stopped (sym is))
-by_ends faults stops.None Comes held LacksMemory reply own came is = absurd (own.memory (sym is))
-by_ends faults (SaveFault kept) Comes held LacksMemory reply own came is = absurd (own.memory (sym is))
-by_ends faults (InSave New) Comes held LacksMemory reply own came is = absurd (own.lacks (sym is))
-by_ends faults (AfterLabels most) Comes held LacksMemory reply own came is = absurd (own.lacks (sym is))
+by_ends faults (SaveFault Old) Comes held (Saves next goods told) reply own came is = absurd (own.save (sym is))
+by_ends faults stop Comes held course reply own came is =
+    absurd (search (own.stopped, own.save, own.memory, own.lacks, sym is))
 
 -- one that has failed answers so, or is stopped
 failed_ends : {A C : Type 0} (faults : Faults A) (stop : Stop) (old : Actor C) (reply : Reply A) → IsOwn faults reply →
     (ends faults stop (Answers faults.failed) old).reply ≡ reply → ⊥
-failed_ends faults BeforeSave old reply own is = own.stopped (sym is)
 failed_ends faults (InSave Old) old reply own is = own.stopped (sym is)
-failed_ends faults stops.None old reply own is = own.failed (sym is)
-failed_ends faults (SaveFault kept) old reply own is = own.failed (sym is)
-failed_ends faults (InSave New) old reply own is = own.stopped (sym is)
-failed_ends faults (AfterLabels most) old reply own is = own.stopped (sym is)
+failed_ends faults stop old reply own is = search (own.stopped, own.failed, sym is)
 
 pub is_answered : {A C : Type 0} (faults : Faults A) (stop : Stop) (Comes : C → Course A C → Type 0)
     (actor : Actor C) (end : Ending A C) (reply : Reply A) → IsOwn faults reply → Calls faults stop Comes actor end →

@@ -1,6 +1,6 @@
 -- What a desk holds, as long as each scan that may have saved is fair: all that it surely holds, and nothing but what
 -- it may hold.
-use Rattle.std.proofs.Common.{◌≡◌, ◌≢◌, ◌⊎◌, ◌<◌, inl, inr, true, ℕ, zero, suc, length, arith, Option, Some, None, Ok, Err, Result, List, [], ◌∷◌, slice_get, slice_set, IsSome, refl, sym, ap, subst, ◌∙◌}
+use Rattle.std.proofs.Common.{◌≡◌, ◌≢◌, ◌⊎◌, ◌<◌, inl, inr, true, ℕ, length, arith, Option, Some, None, Ok, Err, Result, List, [], ◌∷◌, slice_get, IsSome, refl, sym, ap, subst, ◌∙◌}
 use Rattle.std.specs.FinMap as finite
 use Rattle.dm_append_label.specs.Heads.{IsHead, head_of}
 use Rattle.dm_append_label.specs.Opening.{LabelOpens, OpensNear}
@@ -29,7 +29,7 @@ use Rattle.dm_event_history.specs.declared.stop.Stop.{Stop}
 use Rattle.dm_event_history.specs.Saving.{leaves_new, may_save, stop_of}
 use Rattle.dm_event_history.specs.Actors.{Actor, Running}
 use Rattle.dm_event_history.specs.Relay as relays
-use Rattle.dm_event_history.specs.Relay.{Desk, Label, Relay, empty_desk, start, nothing}
+use Rattle.dm_event_history.specs.Relay.{Desk, Label, Relay, start, nothing}
 use Rattle.dm_event_history.specs.Calls.{Calls, Course, Ending, Faults, LacksMemory, Looks, MayLackFirst, ends}
 use Rattle.dm_event_history.specs.DeskCalls.{AskTells, ExportTells, ForgetComes, ImportComes, MayBe, ScanComes, forget_faults, import_faults, scan_course, scan_faults, verdict_course, page_reply, pages_reply, forget_reply}
 use Rattle.dm_event_history.specs.Steps.{Acts, DeskGoes, HasModules, IsNamed, PrinterGoes, Step}
@@ -48,6 +48,7 @@ use Rattle.dm_event_history.proofs.Answered.{IsAnswered, is_answered, is_made}
 use Rattle.dm_event_history.proofs.Told.{AddTold, Has, IsAfter, add_ended, forget_told, own_forget, own_import, own_scan, scan_told, was_wanted, with_pages_has, with_pages_keeps, with_pages_only, without_keeps, without_only, forget_by}
 use Rattle.dm_assembly_desk.specs.Forgetting.{forget_verdict}
 use Rattle.dm_assembly_desk.proofs.LonePages.{lone_here}
+use Rattle.dm_event_history.proofs.Gotten.{set_at}
 
 pub record IsBetween {A : Type 0} (h : List (Moment A)) (desk : ℕ) (held : Documents) : Type 0 where
   pub surely : (id m : ℕ) → IsSurelyHeld h desk id m → Has held id m
@@ -344,18 +345,6 @@ module _ (A : Type 0) (before : Relay) (desk number room : ℕ) (stop : Stop) (e
   ]
 
 -- ---- steps
-
--- what stands at a place once another element was put somewhere
-pub set_at : {X : Type 0} (xs : List X) (i j : ℕ) (x y : X) → slice_get (slice_set xs i x) j ≡ Some y →
-    ((i ≡ j) × (x ≡ y)) ⊎ ((i ≢ j) × (slice_get xs j ≡ Some y))
-set_at [] i j x y is = cc
-set_at (z ∷ zs) zero zero x y is = inl (refl, cc (is))
-set_at (z ∷ zs) zero (suc j) x y is = inr ((λ e. absurd (omega (arith, e))), is)
-set_at (z ∷ zs) (suc i) zero x y is = inr ((λ e. absurd (omega (arith, e))), is)
-set_at (z ∷ zs) (suc i) (suc j) x y is = elim (set_at zs i j x y is) [
-  | inl here ↦ inl (ap suc here.0, here.1)
-  | inr there ↦ inr ((λ e. there.0 (omega (arith, e))), there.1)
-]
 
 -- only an event of this desk takes or forgets here
 scan_here : {A : Type 0} (before : Relay) (desk number : ℕ) (flips : List (ℕ × ℕ)) (stop : Stop) (reply : Reply A)

@@ -4,15 +4,13 @@ use Rattle.std.proofs.lemmas.Bool.Decides.{nat_tests}
 use Rattle.std.specs.Option.{option_map_or}
 use Rattle.dm_check_blocks.specs.declared.size.Size.{Size}
 use Rattle.dm_encodation.specs.declared.scheme.Scheme.{Scheme}
-use Rattle.dm_print_ledger.specs.Creating.{opening}
 use Rattle.dm_print_ledger.specs.Ranges.{free_count, size_of}
 use Rattle.dm_print_ledger.specs.Views.{LedgerView, TicketView}
 use Rattle.dm_print_ledger.specs.declared.range.Range.{Range}
 use Rattle.dm_print_ledger.specs.declared.fault.OpenFault.TheVariants as open_fault
 use Rattle.dm_print_ledger.specs.declared.fault.PrintFault.TheVariants as print_fault
-use Rattle.dm_assembly_desk.specs.Documents.{Documents}
 use Rattle.dm_event_history.specs.declared.event.Event.{Event}
-use Rattle.dm_event_history.specs.declared.event.Event.TheVariants.{Print, Scan, RestartPrinter, RestartDesk, Ask, Forget, Give, Take, Export, Import}
+use Rattle.dm_event_history.specs.declared.event.Event.TheVariants.{Print, RestartPrinter, Give, Take}
 use Rattle.dm_event_history.specs.declared.reply.Reply.{Reply}
 use Rattle.dm_event_history.specs.declared.reply.Reply.TheVariants.{PrintRefused}
 use Rattle.dm_event_history.specs.declared.reply.Reply.TheVariants as replies
@@ -21,20 +19,21 @@ use Rattle.dm_event_history.specs.declared.stop.Stop.{Stop}
 use Rattle.dm_event_history.specs.declared.stop.Stop.TheVariants as stops
 use Rattle.dm_event_history.specs.declared.stop.Stop.TheVariants.{BeforeSave, InSave, SaveFault}
 use Rattle.dm_event_history.specs.Legal.{tells_of_save}
-use Rattle.dm_event_history.specs.WhoActs.{DeskAt, Named, PrinterAt, actor_of, is_same}
+use Rattle.dm_event_history.specs.WhoActs.{Named, PrinterAt, actor_of, is_same}
 use Rattle.dm_event_history.specs.Saving.{Stores, leaves_new, may_save, stop_of}
 use Rattle.dm_event_history.specs.Actors.{Actor, Running, Failed, Down, stored_of}
 use Rattle.dm_event_history.specs.Relay.{Goods, Relay, fresh_from, start}
 use Rattle.dm_event_history.specs.Calls.{Answers, Calls, Course, Ending, Faults, LacksMemory, MayLackFirst, Reaches, Restarts, Saves, ends}
 use Rattle.dm_event_history.specs.PrinterCalls.{GiveComes, PrintComes, TakeComes, give_faults, print_faults, take_faults}
-use Rattle.dm_event_history.specs.Steps.{Acts, DeskGoes, PrinterGoes, Step}
+use Rattle.dm_event_history.specs.Steps.{Acts, PrinterGoes, Step}
 use Rattle.dm_event_history.specs.Runs.{IsRun, Moment}
 use Rattle.dm_event_history.specs.Told.{EachExhaustedIsSo, gains, has_saved, loses, stock, sum_saved}
 use Rattle.dm_event_history.proofs.Deciding.{other_number}
 use Rattle.dm_event_history.proofs.Having.{saves_may}
-use Rattle.dm_event_history.proofs.Legal.{AreQuiet, IsQuietCourse, give_quiet, print_quiet, take_quiet}
+use Rattle.dm_event_history.proofs.ByKind.{ArePlain, IsPlainCourse, fine_give, fine_print, fine_take, give_plain, print_plain, take_plain}
 use Rattle.dm_event_history.proofs.LedgerFacts.{give_loses, made_print, print_refuses, take_gains}
 use Rattle.dm_event_history.proofs.Reasons.{own_print, print_refused}
+use Rattle.dm_event_history.proofs.QuietDesks.{ChangesDesk, quiet_desks}
 
 -- ---- what a call stores
 
@@ -55,19 +54,19 @@ abbrev IsIdle : {A C : Type 0} → Actor C → Ending A C → Type 0
 IsIdle actor end = (stored_of end.actor ≡ stored_of actor) × (tells_of_save end.reply ≡ false)
 
 ends_store : {A C : Type 0} (faults : Faults A) (stop : Stop) (Comes : C → Course A C → Type 0) (held : C)
-    (course : Course A C) → AreQuiet faults → ((came : Course A C) → Comes held came → IsQuietCourse came) →
+    (course : Course A C) → ArePlain faults → ((came : Course A C) → Comes held came → IsPlainCourse came) →
     Reaches stop (Comes held course) →
     (let e = ends faults stop course (Running held) in IsIdle (Running held) e ⊎ HasSaved faults stop Comes (Running held) e)
-ends_store faults BeforeSave Comes held course quiet each came = inl (refl, refl)
-ends_store faults (InSave Old) Comes held course quiet each came = inl (refl, refl)
-ends_store faults (SaveFault Old) Comes held (Saves next goods reply) quiet each came = inl (refl, quiet.save)
-ends_store faults stop Comes held (Saves next goods reply) quiet each came = inr (record { held = held; was = refl;
+ends_store faults BeforeSave Comes held course plain each came = inl (refl, refl)
+ends_store faults (InSave Old) Comes held course plain each came = inl (refl, refl)
+ends_store faults (SaveFault Old) Comes held (Saves next goods reply) plain each came = inl (refl, plain.save_untold)
+ends_store faults stop Comes held (Saves next goods reply) plain each came = inr (record { held = held; was = refl;
     next = next; goods = goods; reply = reply; comes = came; stores = tt; told = refl; stored_is = refl })
-ends_store faults stops.None Comes held (Answers reply) quiet each came = inl (refl, each (Answers reply) came)
-ends_store faults (SaveFault kept) Comes held (Answers reply) quiet each came = inl (refl, each (Answers reply) came)
-ends_store faults stops.None Comes held LacksMemory quiet each came = inl (refl, quiet.memory)
-ends_store faults (SaveFault kept) Comes held LacksMemory quiet each came = inl (refl, quiet.memory)
-ends_store faults stop Comes held course quiet each came = inl (refl, refl)
+ends_store faults stops.None Comes held (Answers reply) plain each came = inl (refl, (each (Answers reply) came).1)
+ends_store faults (SaveFault kept) Comes held (Answers reply) plain each came = inl (refl, (each (Answers reply) came).1)
+ends_store faults stops.None Comes held LacksMemory plain each came = inl (refl, plain.memory_untold)
+ends_store faults (SaveFault kept) Comes held LacksMemory plain each came = inl (refl, plain.memory_untold)
+ends_store faults stop Comes held course plain each came = inl (refl, refl)
 
 failed_store : {A C : Type 0} (faults : Faults A) (stop : Stop) (shown stored : C) →
     tells_of_save faults.failed ≡ false →
@@ -76,17 +75,17 @@ failed_store faults stop shown stored quiet = grind arith
 
 -- a call is idle, or it has saved
 calls_store : {A C : Type 0} (faults : Faults A) (stop : Stop) (Comes : C → Course A C → Type 0) (actor : Actor C)
-    (end : Ending A C) → AreQuiet faults →
-    ((held : C) (course : Course A C) → Comes held course → IsQuietCourse course) →
+    (end : Ending A C) → ArePlain faults →
+    ((held : C) (course : Course A C) → Comes held course → IsPlainCourse course) →
     Calls faults stop Comes actor end →
     IsIdle actor end ⊎ HasSaved faults stop Comes actor end
-calls_store {A} {C} faults stop Comes (Running held) end quiet each acts =
+calls_store {A} {C} faults stop Comes (Running held) end plain each acts =
     subst (λ (e : Ending A C). IsIdle (Running held) e ⊎ HasSaved faults stop Comes (Running held) e) (sym acts.2)
-    (ends_store faults stop Comes held acts.0 quiet (each held) acts.1)
-calls_store {A} {C} faults stop Comes (Failed shown stored) end quiet each acts =
+    (ends_store faults stop Comes held acts.0 plain (each held) acts.1)
+calls_store {A} {C} faults stop Comes (Failed shown stored) end plain each acts =
     subst (λ (e : Ending A C). IsIdle (Failed shown stored) e ⊎ HasSaved faults stop Comes (Failed shown stored) e)
-    (sym acts) (inl (failed_store faults stop shown stored quiet.failed))
-calls_store {A} {C} faults stop Comes (Down stored) end quiet each acts =
+    (sym acts) (inl (failed_store faults stop shown stored plain.failed_untold))
+calls_store {A} {C} faults stop Comes (Down stored) end plain each acts =
     subst (λ (e : Ending A C). IsIdle (Down stored) e ⊎ HasSaved faults stop Comes (Down stored) e) (sym acts)
     (inl (refl, refl))
 
@@ -115,15 +114,15 @@ Keeps {A} before event Acts = (actor : Actor LedgerView) (end : Ending A LedgerV
     (gains before event) (loses before event)
 
 calls_keep : {A : Type 0} (before : Relay) (event : Event A) (faults : Faults A) (stop : Stop)
-    (Comes : LedgerView → Course A LedgerView → Type 0) → stop_of event ≡ Some stop → AreQuiet faults →
+    (Comes : LedgerView → Course A LedgerView → Type 0) → stop_of event ≡ Some stop → ArePlain faults →
     may_save event faults.save ≡ leaves_new (stop_of event) →
-    ((held : LedgerView) (course : Course A LedgerView) → Comes held course → IsQuietCourse course) →
+    ((held : LedgerView) (course : Course A LedgerView) → Comes held course → IsPlainCourse course) →
     ((held next : LedgerView) (goods : Goods) (reply : Reply A) → Comes held (Saves next goods reply) →
     (may_save event reply ≡ true)
     × (free_count held.free + gains before event ≡ free_count next.free + loses before event)) →
     (gains before event ≡ 0) ⊎ (loses before event ≡ 0) → Keeps before event (Calls faults stop Comes)
-calls_keep {A} before event faults stop Comes is quiet save each saves one actor end acts =
-    elim (calls_store faults stop Comes actor end quiet each acts) [
+calls_keep {A} before event faults stop Comes is plain save each saves one actor end acts =
+    elim (calls_store faults stop Comes actor end plain each acts) [
       | inl idle ↦ unsaved _ _ _ _ _ _ (ap (λ (l : LedgerView). free_count l.free) (sym idle.0)) idle.1
       | inr s ↦
           let made = saves s.held s.next s.goods s.reply s.comes in
@@ -145,7 +144,7 @@ print_keeps : {A : Type 0} (old : Relay) (printer : ℕ) (document : List ℕ) (
 print_keeps {A} old printer document size scheme stop =
     let event : Event A = Print printer document size scheme stop in
     may_lack_keeps old event _ (calls_keep old event print_faults stop _ refl
-    (record { failed = refl; save = refl; memory = refl }) refl (print_quiet (length old.labels) document size scheme)
+    fine_print refl (print_plain (length old.labels) document size scheme)
     (λ held next goods reply comes.
     let made = made_print (length old.labels) document size scheme held next goods reply comes in (
       ap (λ (r : Reply A). may_save event r) made.left.reply_is,
@@ -158,7 +157,7 @@ give_keeps : {A : Type 0} (old : Relay) (printer receiver : ℕ) (range : Range)
 give_keeps {A} old printer receiver range stop =
     let event : Event A = Give printer receiver range stop in
     may_lack_keeps old event _ (calls_keep old event give_faults stop _ refl
-    (record { failed = refl; save = refl; memory = refl }) refl (give_quiet (length old.tickets) receiver range)
+    fine_give refl (give_plain (length old.tickets) receiver range)
     (λ held next goods reply comes. (
       ap (λ (r : Reply A). may_save event r) comes.1.1.1,
       (let count = (give_loses held next receiver range comes.0 comes.1.0).free.count in omega arith),
@@ -168,8 +167,7 @@ take_keeps : {A : Type 0} (old : Relay) (printer number : ℕ) (ticket : TicketV
     slice_get old.tickets number ≡ Some ticket →
     Keeps {A = A} old (Take printer number stop) (Calls take_faults stop (TakeComes number ticket))
 take_keeps {A} old printer number ticket stop there =
-    calls_keep {A = A} old (Take printer number stop) take_faults stop _ refl
-    (record { failed = refl; save = refl; memory = refl }) refl (take_quiet number ticket)
+    calls_keep {A = A} old (Take printer number stop) take_faults stop _ refl fine_take refl (take_plain number ticket)
     (λ held next goods reply comes. (
       ap (λ (r : Reply A). may_save (Take printer number stop) r) comes.2.1.1,
       (let count = (take_gains held next ticket comes.0 comes.1 comes.2.0).free.count in
@@ -231,9 +229,8 @@ module _ (A : Type 0) (old new : Relay) (event : Event A) (reply : Reply A) wher
         (sym (ap (λ (r : Relay). stock r p) g.new_is ∙ ap stock_of there.1))
   ]
 
-  desk_counts : (number : ℕ) (Acts : ℕ → Actor Documents → Ending A Documents → Type 0) →
-      actor_of event ≡ DeskAt number → DeskGoes old number Acts reply new → Counts
-  desk_counts number Acts named g p = grind arith
+  desk_counts : ((p : ℕ) → is_same (actor_of event) (PrinterAt p) ≡ false) → ChangesDesk old new → Counts
+  desk_counts other c p = grind arith
 
 acts_count : (A : Type 0) (old new : Relay) (event : Event A) (reply : Reply A) → Acts old event reply new →
     Counts A old new event reply
@@ -248,15 +245,8 @@ acts_count A old new (Take printer number stop) reply acts =
     (take_keeps old printer number acts.0 stop acts.1) acts.2
 acts_count A old new (RestartPrinter printer) reply acts =
     printer_counts A old new (RestartPrinter printer) reply printer _ refl (restart_keeps old printer) acts
-acts_count A old new (Scan desk number flips stop) reply acts =
-    desk_counts A old new (Scan desk number flips stop) reply desk _ refl acts.2
-acts_count A old new (Forget desk id stop) reply acts =
-    desk_counts A old new (Forget desk id stop) reply desk _ refl acts
-acts_count A old new (Import desk number stop) reply acts =
-    desk_counts A old new (Import desk number stop) reply desk _ refl acts.2
-acts_count A old new (Ask desk id) reply acts = desk_counts A old new (Ask desk id) reply desk _ refl acts
-acts_count A old new (Export desk id) reply acts = desk_counts A old new (Export desk id) reply desk _ refl acts
-acts_count A old new (RestartDesk desk) reply acts = desk_counts A old new (RestartDesk desk) reply desk _ refl acts
+acts_count A old new event reply acts =
+    desk_counts A old new event reply (λ p. refl) (quiet_desks old new event reply tt acts)
 
 step_counts : (A : Type 0) (old new : Relay) (event : Event A) (reply : Reply A) → Step old event reply new →
     Counts A old new event reply

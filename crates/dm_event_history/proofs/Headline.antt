@@ -1,5 +1,5 @@
 -- The headline, of every run.
-use Rattle.std.proofs.Common.{◌≡◌, ◌≤◌, ◌==◌, inl, inr, ℕ, zero, suc, true, Some, List, [], ◌∷◌, slice_get, refl, sym, ap, subst, ◌∙◌, arith, eq-eqb}
+use Rattle.std.proofs.Common.{◌≡◌, ◌+◌, ◌≤◌, inl, inr, ℕ, zero, suc, Some, List, [], ◌∷◌, slice_get, refl, sym, ap, subst, ◌∙◌, arith, eq-eqb}
 use Rattle.dm_print_ledger.specs.declared.range.Range.{Range}
 use Rattle.dm_print_ledger.specs.Views.{LedgerView}
 use Rattle.dm_assembly_desk.specs.Documents.{Documents}
@@ -8,12 +8,12 @@ use Rattle.dm_event_history.specs.declared.event.Event.TheVariants.{Print, Scan,
 use Rattle.dm_event_history.specs.declared.reply.Reply.{Reply}
 use Rattle.dm_event_history.specs.declared.reply.Reply.TheVariants.{Document}
 use Rattle.dm_event_history.specs.Actors.{Actor}
-use Rattle.dm_event_history.specs.Relay.{CutDocument, Label, Lost, Move, Relay, Took, Used, start}
+use Rattle.dm_event_history.specs.Relay.{CutDocument, Label, Move, Relay, Used, start}
 use Rattle.dm_event_history.specs.Calls.{Ending}
 use Rattle.dm_event_history.specs.Steps.{Acts, DeskGoes, PrinterGoes, Step}
 use Rattle.dm_event_history.specs.Runs.{IsRun, Moment}
 use Rattle.dm_event_history.specs.Clean.{AreOfOneDocument, ArePrinted}
-use Rattle.dm_event_history.specs.Places.{AreDisjoint, IsSound, gone, one_if, places}
+use Rattle.dm_event_history.specs.Places.{AreDisjoint, IsSound, gone, places}
 use Rattle.dm_event_history.specs.Headline.{AreAllClean, AreSavedFair, AreTrueMoments, EachRunIsSound, EachRunIsTrue, EachRunKeepsNumbers, PrintsOnce}
 use Rattle.dm_event_history.proofs.Gotten.{get_more}
 use Rattle.dm_event_history.proofs.AllClean.{all_stay_so}
@@ -77,45 +77,30 @@ step_stay old new (RestartDesk desk) reply (inl acts) = desk_stay old new desk _
 
 -- ---- no number is used twice
 
+-- a move counts at its place, and one that comes after it no less
+used_here : (move : Move) (moves : List Move) (id : ℕ) → Some move ≡ Some (Used id) →
+    gone (move ∷ moves) id ≡ 1 + gone moves id
+used_here move moves id is = grind (arith, eq-eqb)
+
+used_later : (move : Move) (moves : List Move) (id : ℕ) → gone moves id ≤ gone (move ∷ moves) id
+used_later move moves id = grind arith
+
 one_more : (moves : List Move) (n id : ℕ) → slice_get moves n ≡ Some (Used id) → 1 ≤ gone moves id
 one_more [] n id is = cc (is)
-one_more (Used own ∷ moves) zero id is =
-    (let same : own ≡ id = used_is is in let e : (own == id) ≡ true = eq-eqb own id same in
-    let one : one_if (own == id) ≡ 1 = ap one_if e in omega arith)
-  where
-    used_is : Some (Used own) ≡ Some (Used id) → own ≡ id
-    used_is e = cc (e)
-one_more (Took ticket ∷ moves) zero id is = cc (is)
-one_more (Lost range ∷ moves) zero id is = cc (is)
-one_more (Used own ∷ moves) (suc n) id is = (let more = one_more moves n id is in omega arith)
-one_more (Took ticket ∷ moves) (suc n) id is = one_more moves n id is
-one_more (Lost range ∷ moves) (suc n) id is = (let more = one_more moves n id is in omega arith)
+one_more (move ∷ moves) zero id is = (let here = used_here move moves id is in omega arith)
+one_more (move ∷ moves) (suc n) id is =
+    (let more = one_more moves n id is in let later = used_later move moves id in omega arith)
 
 used_once : (moves : List Move) (i j id : ℕ) → gone moves id ≤ 1 → slice_get moves i ≡ Some (Used id) →
     slice_get moves j ≡ Some (Used id) → i ≡ j
 used_once [] i j id most is there = cc (is)
 used_once (move ∷ moves) zero zero id most is there = refl
-used_once (Used own ∷ moves) zero (suc j) id most is there =
-    (let same : own ≡ id = used_is is in let e : (own == id) ≡ true = eq-eqb own id same in
-    let one : one_if (own == id) ≡ 1 = ap one_if e in let more = one_more moves j id there in absurd (omega arith))
-  where
-    used_is : Some (Used own) ≡ Some (Used id) → own ≡ id
-    used_is e = cc (e)
-used_once (Took ticket ∷ moves) zero (suc j) id most is there = cc (is)
-used_once (Lost range ∷ moves) zero (suc j) id most is there = cc (is)
-used_once (Used own ∷ moves) (suc i) zero id most is there =
-    (let same : own ≡ id = used_is there in let e : (own == id) ≡ true = eq-eqb own id same in
-    let one : one_if (own == id) ≡ 1 = ap one_if e in let more = one_more moves i id is in absurd (omega arith))
-  where
-    used_is : Some (Used own) ≡ Some (Used id) → own ≡ id
-    used_is e = cc (e)
-used_once (Took ticket ∷ moves) (suc i) zero id most is there = cc (there)
-used_once (Lost range ∷ moves) (suc i) zero id most is there = cc (there)
-used_once (Used own ∷ moves) (suc i) (suc j) id most is there =
-    ap suc (used_once moves i j id (omega arith) is there)
-used_once (Took ticket ∷ moves) (suc i) (suc j) id most is there = ap suc (used_once moves i j id most is there)
-used_once (Lost range ∷ moves) (suc i) (suc j) id most is there =
-    ap suc (used_once moves i j id (omega arith) is there)
+used_once (move ∷ moves) zero (suc j) id most is there =
+    (let here = used_here move moves id is in let more = one_more moves j id there in absurd (omega arith))
+used_once (move ∷ moves) (suc i) zero id most is there =
+    (let here = used_here move moves id there in let more = one_more moves i id is in absurd (omega arith))
+used_once (move ∷ moves) (suc i) (suc j) id most is there =
+    (let later = used_later move moves id in ap suc (used_once moves i j id (omega arith) is there))
 
 prints_once : (relay : Relay) → IsSound relay → PrintsOnce relay
 prints_once relay sound = record {

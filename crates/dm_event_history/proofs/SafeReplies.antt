@@ -39,7 +39,7 @@ use Rattle.dm_assembly_desk.proofs.MergingLaws.{length_both}
 use Rattle.dm_event_history.specs.declared.event.Event.{Event}
 use Rattle.dm_event_history.specs.declared.event.Event.TheVariants.{Scan, Ask, Forget, Export, Import}
 use Rattle.dm_event_history.specs.declared.reply.Reply.{Reply}
-use Rattle.dm_event_history.specs.declared.reply.Reply.TheVariants.{Scanned, ScanRefused, Document, AskRefused, Forgotten, ForgetRefused, Exported, ExportRefused, Imported, ImportRefused}
+use Rattle.dm_event_history.specs.declared.reply.Reply.TheVariants.{Scanned, ScanRefused, Imported, ImportRefused}
 use Rattle.dm_event_history.specs.declared.reply.Reply.TheVariants as replies
 use Rattle.dm_event_history.specs.declared.stop.Stop.{Stop}
 use Rattle.dm_event_history.specs.Actors.{Actor, shown_of}
@@ -53,7 +53,7 @@ use Rattle.dm_event_history.specs.Clean.{ArePrinted, AreOfOneDocument, HaveLeft,
 use Rattle.dm_event_history.specs.Places.{IsSound}
 use Rattle.dm_event_history.specs.Headline.{AreAllClean, IsFairEvent}
 use Rattle.dm_event_history.specs.Safe.{EachFairReplyIsSafe, IsExportSafe, IsFullFor, IsImportKindSafe, IsImportedSafe, IsKindSafe, IsSafe, IsTrulyMissing, Known, docs, known_of}
-use Rattle.dm_event_history.proofs.Deciding.{decided, if_not, if_so, or_left, or_right, same_number, same_or_other, true_false}
+use Rattle.dm_event_history.proofs.Deciding.{decided, if_not, if_so, or_left, or_right, same_number, true_false}
 use Rattle.dm_event_history.proofs.MergedPages.{Differs, all_held, lacks_means, one_lacks}
 use Rattle.dm_event_history.proofs.Adds.{add_refuses, length-lone, lone_some, named_there, some_added, there_named}
 use Rattle.dm_event_history.proofs.Gives.{each_clean_desk_gives}
@@ -66,51 +66,29 @@ use Rattle.dm_assembly_desk.proofs.LonePages.{lone_here}
 
 -- ---- what was printed
 
-docs_found : (labels : List Label) (n : ℕ) (label : Label) → slice_get labels n ≡ Some label →
-    (cut : CutDocument) × (docs labels label.page.id ≡ Some cut) × (k : ℕ) × (other : Label)
-    × (slice_get labels k ≡ Some other) × (other.page.id ≡ label.page.id) × (other.cut ≡ cut)
-docs_found [] n label there = cc (there)
-docs_found (own ∷ labels) zero label there =
-    let same : own ≡ label = cc (there) in
-    let is : own.page.id ≡ label.page.id = ap (λ (l : Label). l.page.id) same in (
-      own.cut,
-      if_so (own.page.id == label.page.id) (Some own.cut) (docs labels label.page.id)
-          (eq-eqb own.page.id label.page.id is),
-      0,
-      own,
-      refl,
-      is,
-      refl,
-    )
-docs_found (own ∷ labels) (suc n) label there =
-    let more = docs_found labels n label there in
-    elim (same_or_other own.page.id label.page.id) [
-      | inl same ↦ (
-        own.cut,
-        if_so (own.page.id == label.page.id) (Some own.cut) (docs labels label.page.id)
-            (eq-eqb own.page.id label.page.id same),
-        0,
-        own,
-        refl,
-        same,
-        refl,
-      )
-      | inr away ↦ (
-        more.0,
-        if_not (own.page.id == label.page.id) (Some own.cut) (docs labels label.page.id)
-            (λ same. away (same_number own.page.id label.page.id same)) ∙ more.1,
-        suc more.2,
-        more.3,
-        more.4,
-        more.5,
-        more.6,
-      )
-    ]
+-- it is that of the first label under the identification
+docs_found : (labels : List Label) (n : ℕ) (label : Label) (id : ℕ) → slice_get labels n ≡ Some label →
+    label.page.id ≡ id → (k : ℕ) × (other : Label) × (slice_get labels k ≡ Some other) × (other.page.id ≡ id)
+    × (docs labels id ≡ Some other.cut)
+docs_found [] n label id there is = cc (there)
+docs_found (own ∷ labels) zero label id there is =
+    let here : own ≡ label = cc (there) in let same = ap (λ (l : Label). l.page.id) here ∙ is in
+    (0, own, refl, same, if_so (own.page.id == id) (Some own.cut) (docs labels id) (eq-eqb own.page.id id same))
+docs_found (own ∷ labels) (suc n) label id there is = elim (decided (own.page.id == id)) [
+  | inl same ↦
+      (0, own, refl, same_number own.page.id id same, if_so (own.page.id == id) (Some own.cut) (docs labels id) same)
+  | inr away ↦
+      let more = docs_found labels n label id there is in
+      let rest = if_not (own.page.id == id) (Some own.cut) (docs labels id) (λ same. true_false _ same away) in
+      (suc more.0, more.1, more.2, more.3, rest ∙ more.4)
+]
 
 -- the document of a label that left is what was printed under its identification
 pub docs_of : (labels : List Label) → AreOfOneDocument labels → (n : ℕ) (label : Label) (id : ℕ) →
     slice_get labels n ≡ Some label → label.page.id ≡ id → docs labels id ≡ Some label.cut
-docs_of labels one n label id there is = grind (arith, docs_found)
+docs_of labels one n label id there is =
+    let found = docs_found labels n label id there is in
+    found.4 ∙ ap (λ (c : CutDocument). Some c) (one found.0 n found.1 label found.2 there (found.3 ∙ sym is))
 
 -- ---- what is held, of what was printed
 

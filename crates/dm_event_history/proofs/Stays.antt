@@ -1,5 +1,5 @@
 -- A desk stays clean.
-use Rattle.std.proofs.Common.{arith, ◌≡◌, ◌≢◌, ◌⊎◌, inl, inr, ℕ, zero, suc, Option, Some, None, List, [], ◌∷◌, ◌++◌, length, slice_get, slice_set, Result, Ok, Err, IsSome, refl, sym, ap, subst, ◌∙◌}
+use Rattle.std.proofs.Common.{arith, ◌≡◌, ◌≢◌, inl, inr, ℕ, Option, Some, None, List, [], ◌++◌, length, slice_get, Result, Ok, Err, IsSome, refl, sym, ap, subst, ◌∙◌}
 use Rattle.std.specs.Prelude.{unwrap_or}
 use Rattle.std.specs.Option.{option_or}
 use Rattle.std.specs.FinMap as finite
@@ -23,11 +23,11 @@ use Rattle.dm_event_history.specs.declared.event.Event.TheVariants.{Print, Scan,
 use Rattle.dm_event_history.specs.declared.reply.Reply.{Reply}
 use Rattle.dm_event_history.specs.declared.stop.Stop.{Stop}
 use Rattle.dm_event_history.proofs.Deciding.{same_or_other}
-use Rattle.dm_event_history.proofs.Gotten.{get_more}
+use Rattle.dm_event_history.proofs.Gotten.{get_more, set_at}
 use Rattle.dm_event_history.proofs.HeldDocuments.{get_left, get_other, get_removed}
 use Rattle.dm_event_history.specs.Actors.{Actor}
 use Rattle.dm_event_history.specs.Relay as relays
-use Rattle.dm_event_history.specs.Relay.{Desk, Goods, Label, Relay}
+use Rattle.dm_event_history.specs.Relay.{Goods, Label, Relay}
 use Rattle.dm_event_history.specs.Calls.{Answers, Calls, Course, Ending, Faults, LacksMemory, Looks, MayLackFirst, Restarts, Saves}
 use Rattle.dm_event_history.specs.DeskCalls.{AskTells, ExportTells, MayBe, scan_course, verdict_course, page_reply, pages_reply, forget_reply}
 use Rattle.dm_event_history.specs.Steps.{Acts, DeskGoes, PrinterGoes}
@@ -229,21 +229,10 @@ forget_clean A labels id held (Some pages) h = without_left labels held id h
 
 -- ---- steps
 
-pub got_set : {X : Type 0} (xs : List X) (i j : ℕ) (x y : X) → slice_get (slice_set xs i x) j ≡ Some y →
-    ((i ≡ j) × (x ≡ y)) ⊎ (slice_get xs j ≡ Some y)
-got_set [] i j x y is = cc
-got_set (z ∷ zs) zero zero x y is = inl (refl, cc (is))
-got_set (z ∷ zs) zero (suc j) x y is = inr is
-got_set (z ∷ zs) (suc i) zero x y is = inr is
-got_set (z ∷ zs) (suc i) (suc j) x y is = elim (got_set zs i j x y is) [
-  | inl here ↦ inl (ap suc here.0, here.1)
-  | inr there ↦ inr there
-]
-
 desk_keeps : {A : Type 0} (old new : Relay) (number own : ℕ)
     (Acts : ℕ → Actor Documents → Ending A Documents → Type 0) (reply : Reply A) → IsClean old own →
     (number ≡ own → (room : ℕ) → Keeps old.labels (Acts room)) → DeskGoes old number Acts reply new → IsClean new own
-desk_keeps old new number own Acts reply clean each g = grind (arith, actor_more, got_set)
+desk_keeps old new number own Acts reply clean each g = grind (arith, actor_more, set_at)
 
 printer_keeps : {A : Type 0} (old new : Relay) (printer own : ℕ)
     (Acts : Actor LedgerView → Ending A LedgerView → Type 0) (reply : Reply A) → IsClean old own →
