@@ -1,11 +1,11 @@
 -- Calls that are answered: the printer or the desk runs, and it comes to what is answered.
 use Rattle.std.proofs.Common.{arith, ◌≡◌, ◌≢◌, Some, refl, sym, ap, subst, ◌∙◌}
-use Rattle.dm_store.specs.declared.fuse.Kept.TheVariants.{Old}
+use Rattle.dm_store.specs.declared.fuse.Kept.TheVariants.{Old, New}
 use Rattle.dm_event_history.specs.declared.reply.Reply.{Reply}
 use Rattle.dm_event_history.specs.declared.reply.Reply.TheVariants as replies
 use Rattle.dm_event_history.specs.declared.stop.Stop.{Stop}
 use Rattle.dm_event_history.specs.declared.stop.Stop.TheVariants as stops
-use Rattle.dm_event_history.specs.declared.stop.Stop.TheVariants.{InSave, SaveFault}
+use Rattle.dm_event_history.specs.declared.stop.Stop.TheVariants.{InSave, SaveFault, AfterLabels}
 use Rattle.dm_event_history.specs.Actors.{Actor, Running, Failed, Down, shown_of}
 use Rattle.dm_event_history.specs.Relay.{Goods}
 use Rattle.dm_event_history.specs.Calls.{Answers, Calls, Course, Ending, Faults, LacksMemory, Looks, MayLackFirst, Reaches, Saves, ends}
@@ -44,6 +44,9 @@ by_ends faults stops.None Comes held (Answers told) reply own came is =
 by_ends faults (SaveFault kept) Comes held (Answers told) reply own came is =
     record { held = held; was = refl; course = Answers told; comes = came; ended = (is, refl) }
 by_ends faults (SaveFault Old) Comes held (Saves next goods told) reply own came is = absurd (own.save (sym is))
+by_ends faults (InSave Old) Comes held course reply own came is = absurd (own.stopped (sym is))
+by_ends faults (InSave New) Comes held (Saves next goods told) reply own came is = absurd (own.stopped (sym is))
+by_ends faults (AfterLabels most) Comes held (Saves next goods told) reply own came is = absurd (own.stopped (sym is))
 by_ends faults stop Comes held course reply own came is =
     absurd (search (own.stopped, own.save, own.memory, own.lacks, sym is))
 
