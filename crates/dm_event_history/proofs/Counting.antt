@@ -60,8 +60,17 @@ ends_store : {A C : Type 0} (faults : Faults A) (stop : Stop) (Comes : C → Cou
 ends_store faults BeforeSave Comes held course plain each came = inl (refl, refl)
 ends_store faults (InSave Old) Comes held course plain each came = inl (refl, refl)
 ends_store faults (SaveFault Old) Comes held (Saves next goods reply) plain each came = inl (refl, plain.save_untold)
-ends_store faults stop Comes held (Saves next goods reply) plain each came = inr (record { held = held; was = refl;
-    next = next; goods = goods; reply = reply; comes = came; stores = tt; told = refl; stored_is = refl })
+ends_store faults stop Comes held (Saves next goods reply) plain each came = inr (record {
+  held = held;
+  was = refl;
+  next = next;
+  goods = goods;
+  reply = reply;
+  comes = came;
+  stores = tt;
+  told = refl;
+  stored_is = refl;
+})
 ends_store faults stops.None Comes held (Answers reply) plain each came = inl (refl, (each (Answers reply) came).1)
 ends_store faults (SaveFault kept) Comes held (Answers reply) plain each came = inl (refl, (each (Answers reply) came).1)
 ends_store faults stops.None Comes held LacksMemory plain each came = inl (refl, plain.memory_untold)
@@ -171,7 +180,7 @@ take_keeps {A} old printer number ticket stop there =
     (λ held next goods reply comes. (
       ap (λ (r : Reply A). may_save (Take printer number stop) r) comes.2.1.1,
       (let count = (take_gains held next ticket comes.0 comes.1 comes.2.0).free.count in
-      let gain = ap (λ (o : Option TicketView). option_map_or (λ (t : TicketView). size_of t.range) o 0) there in omega arith),
+          let gain = ap (λ (o : Option TicketView). option_map_or (λ (t : TicketView). size_of t.range) o 0) there in omega arith),
     )) (inr refl)
 
 restart_keeps : {A : Type 0} (old : Relay) (printer : ℕ) →
