@@ -106,8 +106,7 @@ some_added (Some y ∷ ps) (q ∷ qs) some = later (some_added ps qs (λ none. s
 -- ---- the page of a label alone
 
 pub length-lone : (p : PageView) → length (lone p) ≡ p.n
-length-lone p =
-    (let none : Option (List ℕ) = None in length-set_at (replicate p.n none) (p.m - 1) (Some p.bytes)) ∙ length-blank p.n
+length-lone p = grind (arith, length-blank, length-set_at)
 
 pub lone_some : (p : PageView) (m : ℕ) → 1 ≤ p.m → IsSome (page (lone p) m) → m ≡ p.m
 lone_some p m least some = grind (arith, lone_else, same_or_other)

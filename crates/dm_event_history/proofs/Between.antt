@@ -142,8 +142,7 @@ module _ (A : Type 0) (before : Relay) (desk number room : ℕ) (flips : List (�
 
   may : (reply : Reply A) (i m : ℕ) → may_save {A = A} (Scan desk number flips stop) reply ≡ true → i ≡ label.page.id →
       IsSome (page (lone label.page) m) → MayTake {A = A} before (Scan desk number flips stop) reply desk i m
-  may reply i m saved same some =
-      (refl, saved, (label, there, sym same, sym (lone_some label.page m head.first some)))
+  may reply i m saved same some = grind (arith, lone_some)
 
   -- a scan that was answered with a page
   scanned_so : (actor end : Actor Documents) (a : Accepted) → IsFairlyRead (Scanned a) →
@@ -246,44 +245,9 @@ module _ (A : Type 0) (before : Relay) (desk name : ℕ) (stop : Stop) (earlier 
   pub forget_between : (actor : Actor Documents) (end : Ending A Documents) → HasAll (IsBetween earlier desk) actor →
       Calls forget_faults stop (ForgetComes name) actor end →
       HasAll (IsBetween (after before (Forget desk name stop) end.reply earlier) desk) end.actor
-  forget_between actor end b acts = elim (is_forgotten end.reply) [
-    | inl told ↦
-        let ans = is_answered forget_faults stop (ForgetComes name) actor end Forgotten own_forget acts told in
-        let f = forget_told A name ans.held end.actor (finite.get ans.held name) refl
-        (was_wanted (verdict_course forget_reply (forget_verdict ans.held name)) ans.course ans.held Forgotten end.actor
-        ans.comes ans.ended) in
-        subst (λ (r : Reply A). HasAll (IsBetween (after before (Forget desk name stop) r earlier) desk) end.actor)
-        (sym told)
-        (subst (λ (x : Actor Documents). HasAll (IsBetween (after before (Forget desk name stop) Forgotten earlier) desk) x)
-        (sym f.after_is)
-        (without ans.held Forgotten refl
-        (subst (λ (x : Actor Documents). HasAll (IsBetween earlier desk) x) ans.was b)))
-    | inr never ↦
-        let Old : Documents → Type 0 = IsBetween earlier desk in
-        let Q : Documents → Type 0 = IsBetween (after before (Forget desk name stop) end.reply earlier) desk in
-        calls_have Old Q forget_faults stop (ForgetComes name) actor end b
-        (stays before (Forget desk name stop) end.reply earlier desk (λ id m t. t)
-        (λ id f. not_forgotten desk name stop end.reply never desk id f))
-        (λ held course old comes is. came end.reply held course old (finite.get held name) comes
-        (ap (λ (e : Ending A Documents). e.reply) is)) acts
-  ]
-    where
-      came : (reply : Reply A) (held : Documents) (course : Course A Documents) → IsBetween earlier desk held →
-          (o : Option Pages) → MayBe (verdict_course forget_reply (forget_by held name o)) course →
-          reply ≡ (ends forget_faults stop course (Running held)).reply →
-          CourseHas (IsBetween (after before (Forget desk name stop) reply earlier) desk) stop course
-      came reply held course old None (inl same) is =
-          subst (λ (c : Course A Documents). CourseHas (IsBetween (after before (Forget desk name stop) reply earlier) desk)
-          stop c) (sym same) tt
-      came reply held course old (Some pages) (inl same) is =
-          subst (λ (c : Course A Documents). (reply ≡ (ends forget_faults stop c (Running held)).reply) →
-          CourseHas (IsBetween (after before (Forget desk name stop) reply earlier) desk) stop c) (sym same)
-          (λ told stores. without held reply
-          (ap (λ (r : Reply A). may_save (Forget desk name stop) r) told
-          ∙ saves_may (Forget desk name stop) forget_faults stop _ _ _ (Running held) refl refl refl stores) old) is
-      came reply held course old o (inr lack) is =
-          subst (λ (c : Course A Documents). CourseHas (IsBetween (after before (Forget desk name stop) reply earlier) desk)
-          stop c) (sym lack.0) tt
+  forget_between actor end b acts =
+      grind (arith, calls_have, forget_told, is_answered, is_forgotten, not_forgotten, own_forget, saves_may, stays,
+      was_wanted, without)
 
 -- ---- imports
 

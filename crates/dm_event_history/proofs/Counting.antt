@@ -88,15 +88,7 @@ calls_store : {A C : Type 0} (faults : Faults A) (stop : Stop) (Comes : C → Co
     ((held : C) (course : Course A C) → Comes held course → IsPlainCourse course) →
     Calls faults stop Comes actor end →
     IsIdle actor end ⊎ HasSaved faults stop Comes actor end
-calls_store {A} {C} faults stop Comes (Running held) end plain each acts =
-    subst (λ (e : Ending A C). IsIdle (Running held) e ⊎ HasSaved faults stop Comes (Running held) e) (sym acts.2)
-    (ends_store faults stop Comes held acts.0 plain (each held) acts.1)
-calls_store {A} {C} faults stop Comes (Failed shown stored) end plain each acts =
-    subst (λ (e : Ending A C). IsIdle (Failed shown stored) e ⊎ HasSaved faults stop Comes (Failed shown stored) e)
-    (sym acts) (inl (failed_store faults stop shown stored plain.failed_untold))
-calls_store {A} {C} faults stop Comes (Down stored) end plain each acts =
-    subst (λ (e : Ending A C). IsIdle (Down stored) e ⊎ HasSaved faults stop Comes (Down stored) e) (sym acts)
-    (inl (refl, refl))
+calls_store {A} {C} faults stop Comes actor end plain each acts = grind (arith, ends_store, failed_store)
 
 -- ---- numbers
 
@@ -288,7 +280,4 @@ none_free old new printer document size scheme stop step = grind (arith, own_pri
 
 pub each_exhausted_is_so : (A : Type 0) → EachExhaustedIsSo A
 each_exhausted_is_so A ranges rooms moment earlier end printer range document size scheme stop run asked there told =
-    let free : stock moment.before printer ≡ 0 = none_free moment.before end printer document size scheme stop
-    (subst (λ (e : Event A). Step moment.before e (PrintRefused print_fault.Exhausted) end) asked
-    (subst (λ (r : Reply A). Step moment.before moment.event r end) told run.1)) in
-    let count = run_counts A ranges rooms earlier moment.before printer range run.0 there in (free, omega arith)
+    grind (arith, none_free, run_counts)
