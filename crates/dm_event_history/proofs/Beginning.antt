@@ -17,6 +17,7 @@ use Rattle.dm_event_history.specs.Relay.{Desk, Label, empty_desk, fresh_from, st
 use Rattle.dm_event_history.specs.Clean.{ArePrinted, HaveLeft}
 use Rattle.dm_event_history.specs.Headline.{AreAllClean}
 use Rattle.dm_event_history.specs.Places.{IsSound, free_at, one_if, opened}
+use Rattle.dm_event_history.proofs.Told.{page_none}
 
 -- ---- numbers
 
@@ -92,9 +93,6 @@ pub start_printed : (ranges : List Range) (rooms : List ℕ) → ArePrinted (sta
 start_printed ranges rooms i label is = absurd (cc (is))
 
 -- ---- desks
-
-page_none : (m : ℕ) → page [] m ≡ None
-page_none m = grind arith
 
 abbrev pub none_held : Documents
 none_held = finite.empty

@@ -1,6 +1,6 @@
 -- What a desk holds, as long as each scan that may have saved is fair: all that it surely holds, and nothing but what
 -- it may hold.
-use Rattle.std.proofs.Common.{◌≡◌, ◌≢◌, ◌⊎◌, ◌<◌, inl, inr, true, ℕ, length, arith, Option, Some, None, Ok, Err, Result, List, [], ◌∷◌, slice_get, IsSome, refl, sym, ap, subst, ◌∙◌}
+use Rattle.std.proofs.Common.{◌≡◌, ◌≢◌, ◌⊎◌, ◌<◌, inl, inr, true, ℕ, length, arith, Some, Ok, Err, Result, List, [], ◌∷◌, slice_get, IsSome, refl, sym, ap, subst, ◌∙◌}
 use Rattle.std.specs.FinMap as finite
 use Rattle.dm_append_label.specs.Heads.{IsHead, head_of}
 use Rattle.dm_append_label.specs.Opening.{LabelOpens, OpensNear}
@@ -19,9 +19,8 @@ use Rattle.dm_assembly_desk.specs.Accepting.{lone}
 use Rattle.dm_assembly_desk.specs.Adding.{add_verdict, with_pages, add_kind}
 use Rattle.dm_finder_frame.specs.Grids.{flipped}
 use Rattle.dm_print_ledger.specs.declared.range.Range.{Range}
-use Rattle.dm_print_ledger.specs.Views.{LedgerView}
 use Rattle.dm_event_history.specs.declared.event.Event.{Event}
-use Rattle.dm_event_history.specs.declared.event.Event.TheVariants.{Print, Scan, RestartPrinter, RestartDesk, Ask, Forget, Give, Take, Export, Import}
+use Rattle.dm_event_history.specs.declared.event.Event.TheVariants.{Scan, RestartDesk, Ask, Forget, Export, Import}
 use Rattle.dm_event_history.specs.declared.reply.Reply.{Reply}
 use Rattle.dm_event_history.specs.declared.reply.Reply.TheVariants.{Scanned, Forgotten, Imported}
 use Rattle.dm_event_history.specs.declared.reply.Reply.TheVariants as replies
@@ -31,8 +30,8 @@ use Rattle.dm_event_history.specs.Actors.{Actor, Running}
 use Rattle.dm_event_history.specs.Relay as relays
 use Rattle.dm_event_history.specs.Relay.{Desk, Label, Relay, start, nothing}
 use Rattle.dm_event_history.specs.Calls.{Calls, Course, Ending, Faults, LacksMemory, Looks, MayLackFirst, ends}
-use Rattle.dm_event_history.specs.DeskCalls.{AskTells, ExportTells, ForgetComes, ImportComes, MayBe, ScanComes, forget_faults, import_faults, scan_course, scan_faults, verdict_course, page_reply, pages_reply, forget_reply}
-use Rattle.dm_event_history.specs.Steps.{Acts, DeskGoes, HasModules, IsNamed, PrinterGoes, Step}
+use Rattle.dm_event_history.specs.DeskCalls.{AskTells, ExportTells, ForgetComes, ImportComes, MayBe, ScanComes, forget_faults, import_faults, scan_course, scan_faults, verdict_course, page_reply, pages_reply}
+use Rattle.dm_event_history.specs.Steps.{Acts, DeskGoes, HasModules, IsNamed, Step}
 use Rattle.dm_event_history.specs.Runs.{Moment, IsRun}
 use Rattle.dm_event_history.specs.Clean.{ArePrinted}
 use Rattle.dm_event_history.specs.Places.{AreDisjoint}
@@ -45,10 +44,10 @@ use Rattle.dm_event_history.proofs.Beginning.{empty_there, nothing_at}
 use Rattle.dm_event_history.proofs.Adds.{held_all, lone_some, Answer, by_verdict}
 use Rattle.dm_event_history.proofs.Having.{CourseHas, HasAll, calls_have, has_map, looks_have, may_lack_has, restarts_have, saves_may}
 use Rattle.dm_event_history.proofs.Answered.{IsAnswered, is_answered, is_made}
-use Rattle.dm_event_history.proofs.Told.{AddTold, Has, IsAfter, add_ended, forget_told, own_forget, own_import, own_scan, scan_told, was_wanted, with_pages_has, with_pages_keeps, with_pages_only, without_keeps, without_only, forget_by}
-use Rattle.dm_assembly_desk.specs.Forgetting.{forget_verdict}
+use Rattle.dm_event_history.proofs.Told.{AddTold, Has, IsAfter, add_ended, forget_told, own_forget, own_import, own_scan, scan_told, was_wanted, with_pages_has, with_pages_keeps, with_pages_only, without_keeps, without_only}
 use Rattle.dm_assembly_desk.proofs.LonePages.{lone_here}
 use Rattle.dm_event_history.proofs.Gotten.{set_at}
+use Rattle.dm_event_history.specs.WhoActs.{PrinterAt, actor_of}
 
 pub record IsBetween {A : Type 0} (h : List (Moment A)) (desk : ℕ) (held : Documents) : Type 0 where
   pub surely : (id m : ℕ) → IsSurelyHeld h desk id m → Has held id m
@@ -333,10 +332,15 @@ module _ (A : Type 0) (old new : Relay) (event : Event A) (reply : Reply A) (ear
       DeskGoes old number Acts reply new → AreBetween (after old event reply earlier) new
   desk_between number Acts others own g = grind (arith, has_map, own, set_at)
 
-  printer_between : (printer : ℕ) (Acts : Actor LedgerView → Ending A LedgerView → Type 0) →
-      ((at : ℕ) (held : Documents) → IsBetween earlier at held → IsBetween (after old event reply earlier) at held) →
-      PrinterGoes old printer Acts reply new → AreBetween (after old event reply earlier) new
-  printer_between printer Acts others g = grind arith
+  same_between : ((at : ℕ) (held : Documents) → IsBetween earlier at held →
+      IsBetween (after old event reply earlier) at held) → new.desks ≡ old.desks →
+      AreBetween (after old event reply earlier) new
+  same_between others same = grind arith
+
+-- an event of a printer leaves the desks
+desks_same : {A : Type 0} (old new : Relay) (event : Event A) (reply : Reply A) (printer : ℕ) →
+    actor_of event ≡ PrinterAt printer → Acts old event reply new → new.desks ≡ old.desks
+desks_same old new event reply printer who acts = grind arith
 
 -- the answer to a look takes nothing
 quiet : {A : Type 0} (old : Relay) (event : Event A) (reply : Reply A) (earlier : List (Moment A)) →
@@ -349,18 +353,6 @@ acts_between : (A : Type 0) (old new : Relay) (event : Event A) (reply : Reply A
     Acts old event reply new →
     ((number : ℕ) (flips : List (ℕ × ℕ)) (desk : ℕ) (stop : Stop) → event ≡ Scan desk number flips stop →
     (desk < length old.desks) × HasModules old number flips) → AreBetween (after old event reply earlier) new
-acts_between A old new (Print printer document size scheme stop) reply earlier p fair b acts named =
-    printer_between A old new _ reply earlier b printer _
-    (quiet old (Print printer document size scheme stop) reply earlier (λ at id m t. t) (λ at id f. f)) acts
-acts_between A old new (Give printer receiver range stop) reply earlier p fair b acts named =
-    printer_between A old new _ reply earlier b printer _
-    (quiet old (Give printer receiver range stop) reply earlier (λ at id m t. t) (λ at id f. f)) acts
-acts_between A old new (Take printer number stop) reply earlier p fair b acts named =
-    printer_between A old new _ reply earlier b printer _
-    (quiet old (Take printer number stop) reply earlier (λ at id m t. t) (λ at id f. f)) acts.2
-acts_between A old new (RestartPrinter printer) reply earlier p fair b acts named =
-    printer_between A old new _ reply earlier b printer _
-    (quiet old (RestartPrinter printer) reply earlier (λ at id m t. t) (λ at id f. f)) acts
 acts_between A old new (Scan desk number flips stop) reply earlier p fair b acts named =
     let printed = p number acts.0 acts.1 in
     desk_between A old new _ reply earlier b desk _
@@ -410,6 +402,9 @@ acts_between A old new (RestartDesk desk) reply earlier p fair b acts named =
     (replies.DeskRefused desk_fault.Memory) actor end
     (has_map (IsBetween earlier desk) (IsBetween (after old (RestartDesk desk) reply earlier) desk) (still desk) actor h)
     called) acts
+acts_between A old new event reply earlier p fair b acts named =
+    same_between A old new event reply earlier b (quiet old event reply earlier (λ at id m t. t) (λ at id f. f))
+    (desks_same old new event reply _ refl acts)
 
 -- what is not there takes and forgets nothing
 none_taken : {A : Type 0} (old : Relay) (event : Event A) (at id m : ℕ) → ¬ Takes old event replies.NoSuch at id m

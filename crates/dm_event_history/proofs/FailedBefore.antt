@@ -15,9 +15,7 @@ use Rattle.dm_event_history.specs.Told.{AreAsTold, EachFailedFailed, IsAsTold, i
 use Rattle.dm_event_history.proofs.Reaching.{reaches}
 use Rattle.dm_event_history.proofs.AsTold.{each_run_is_as_told}
 use Rattle.dm_event_history.proofs.ByKind.{ArePlain, IsPlainAnswer, IsPlainCourse, by_kind}
-
-never : {X : Type 0} (b : Bool) → b ≡ false → b ≡ true → X
-never b unset set = grind arith
+use Rattle.dm_event_history.proofs.Deciding.{never}
 
 -- one that runs doesn't tell so
 running_ends : {A C X : Type 0} (faults : Faults A) (stop : Stop) (course : Course A C) (held : C) → ArePlain faults →

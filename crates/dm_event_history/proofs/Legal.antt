@@ -22,9 +22,7 @@ use Rattle.dm_event_history.specs.Told.{down_after}
 use Rattle.dm_event_history.specs.Legal.{EachStepIsLegal, IsDown, IsDownAt, IsLegal, NeedsRunning, tells_of_save}
 use Rattle.dm_event_history.proofs.Reaching.{reaches}
 use Rattle.dm_event_history.proofs.ByKind.{ArePlain, IsPlainAnswer, IsPlainCourse, by_kind}
-
-never : {X : Type 0} (b : Bool) → b ≡ false → b ≡ true → X
-never b unset set = grind arith
+use Rattle.dm_event_history.proofs.Deciding.{never}
 
 -- ---- replies
 

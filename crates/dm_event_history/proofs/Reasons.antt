@@ -1,5 +1,5 @@
 -- Why events are refused.
-use Rattle.std.proofs.Common.{arith, None, ◌≡◌, ◌≢◌, inl, inr, ℕ, Bool, true, false, Some, Err, Result, List, slice_get, refl, sym, ap, subst, Option, is_some}
+use Rattle.std.proofs.Common.{arith, None, ◌≡◌, ◌≢◌, inl, inr, ℕ, true, false, Some, Err, Result, List, slice_get, refl, sym, ap, subst, Option, is_some}
 use Rattle.dm_finder_frame.specs.Grids.{GridView, flipped}
 use Rattle.dm_check_blocks.specs.declared.size.Size.{Size}
 use Rattle.dm_encodation.specs.declared.scheme.Scheme.{Scheme}
@@ -32,9 +32,7 @@ use Rattle.dm_event_history.specs.Told.{EachStepIsRefusedSo, IsFramedSo, IsToFai
 use Rattle.dm_event_history.proofs.Reaching.{reaches}
 use Rattle.dm_event_history.proofs.Answered.{IsOwn}
 use Rattle.dm_event_history.proofs.ByKind.{ArePlain, IsPlainAnswer, IsPlainCourse, by_kind}
-
-never : {X : Type 0} (b : Bool) → b ≡ false → b ≡ true → X
-never b unset set = grind arith
+use Rattle.dm_event_history.proofs.Deciding.{never}
 
 -- ---- saves that fail
 

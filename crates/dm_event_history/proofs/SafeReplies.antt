@@ -52,7 +52,7 @@ use Rattle.dm_event_history.specs.Runs.{Moment}
 use Rattle.dm_event_history.specs.Clean.{ArePrinted, AreOfOneDocument, HaveLeft, IsCleanExport}
 use Rattle.dm_event_history.specs.Places.{IsSound}
 use Rattle.dm_event_history.specs.Headline.{AreAllClean, IsFairEvent}
-use Rattle.dm_event_history.specs.Safe.{EachFairReplyIsSafe, IsExportSafe, IsFullFor, IsImportKindSafe, IsImportedSafe, IsKindSafe, IsSafe, IsTrulyMissing, Known, docs, known_of}
+use Rattle.dm_event_history.specs.Safe.{EachFairReplyIsSafe, IsExportSafe, IsFullFor, IsImportKindSafe, IsImportRefusedSafe, IsImportedSafe, IsKindSafe, IsSafe, IsTrulyMissing, Known, docs, known_of}
 use Rattle.dm_event_history.proofs.Deciding.{decided, if_not, if_so, or_left, or_right, same_number, true_false}
 use Rattle.dm_event_history.proofs.MergedPages.{Differs, all_held, lacks_means, one_lacks}
 use Rattle.dm_event_history.proofs.Adds.{add_refuses, length-lone, lone_some, named_there, some_added, there_named}
@@ -231,11 +231,6 @@ module _ (A : Type 0) (old : Relay) (earlier : List (Moment A)) (d : ℕ) (held 
             possibly = λ m least most. all_possibly id pages is all m least (omega arith);
           }
       by_all true all (Err ask_fault.Memory) true_one x = tt
-      by_all true all (Err ask_fault.NotHeld) true_one x = cc (x)
-      by_all true all (Err (ask_fault.Incomplete m)) true_one x = cc (x)
-      by_all false all (Ok bytes) true_one x = cc (x)
-      by_all false all (Err ask_fault.Memory) true_one x = cc (x)
-      by_all false all (Err ask_fault.NotHeld) true_one x = cc (x)
       by_all false all (Err (ask_fault.Incomplete m)) true_one x =
           (let same : m ≡ missing_mask pages = incomplete_is x in
           subst (λ (k : ℕ). IsTrulyMissing known d id k) (sym same) (truly_missing id pages is all))
@@ -243,6 +238,7 @@ module _ (A : Type 0) (old : Relay) (earlier : List (Moment A)) (d : ℕ) (held 
           incomplete_is : ◌≡◌ {A = Result (List ℕ) AskFault} (Err (ask_fault.Incomplete m))
               (Err (ask_fault.Incomplete (missing_mask pages))) → m ≡ missing_mask pages
           incomplete_is e = cc (e)
+      by_all b all r true_one x = cc (x)
 
   -- ---- desks that are full
 
@@ -592,6 +588,13 @@ module _ (A : Type 0) (old new : Relay) (earlier : List (Moment A)) (sound : IsS
       fault_is : {one other : ImportFault} → ◌≡◌ {A = Reply A} (ImportRefused one) (ImportRefused other) → one ≡ other
       fault_is e = cc (e)
 
+  import_refusal : (d number : ℕ) (export : relays.Export) (fault : ImportFault) →
+      slice_get old.exports number ≡ Some export →
+      (fault ≢ import_fault.Failed → fault ≢ import_fault.Save → fault ≢ import_fault.Memory →
+      (fault ≡ import_fault.Full) × IsFullFor old (known_of old earlier) d export.id) →
+      IsImportRefusedSafe old (known_of old earlier) d number fault
+  import_refusal d number export fault there why = grind arith
+
   import_safe : (d number : ℕ) (stop : Stop) (export : relays.Export) (reply : Reply A) →
       slice_get old.exports number ≡ Some export →
       DeskGoes old d (λ room. Calls import_faults stop (ImportComes room export)) reply new →
@@ -616,23 +619,8 @@ module _ (A : Type 0) (old new : Relay) (earlier : List (Moment A)) (sound : IsS
       imported_is : {one other : imported_type.Imported} → ◌≡◌ {A = Reply A} (Imported one) (Imported other) →
           one ≡ other
       imported_is e = cc (e)
-  import_safe d number stop export (ImportRefused import_fault.NotPages) there g =
-      (let r = (not_imported d number stop export import_fault.NotPages there g (λ e. cc (e)) (λ e. cc (e))
-      (λ e. cc (e))).0 in cc (r))
-  import_safe d number stop export (ImportRefused import_fault.Version) there g =
-      (let r = (not_imported d number stop export import_fault.Version there g (λ e. cc (e)) (λ e. cc (e))
-      (λ e. cc (e))).0 in cc (r))
-  import_safe d number stop export (ImportRefused import_fault.Damaged) there g =
-      (let r = (not_imported d number stop export import_fault.Damaged there g (λ e. cc (e)) (λ e. cc (e))
-      (λ e. cc (e))).0 in cc (r))
-  import_safe d number stop export (ImportRefused import_fault.Conflict) there g =
-      (let r = (not_imported d number stop export import_fault.Conflict there g (λ e. cc (e)) (λ e. cc (e))
-      (λ e. cc (e))).0 in cc (r))
-  import_safe d number stop export (ImportRefused import_fault.Full) there g = (
-    export,
-    there,
-    (not_imported d number stop export import_fault.Full there g (λ e. cc (e)) (λ e. cc (e)) (λ e. cc (e))).1,
-  )
+  import_safe d number stop export (ImportRefused fault) there g =
+      import_refusal d number export fault there (not_imported d number stop export fault there g)
   import_safe d number stop export reply there g = tt
 
   acts_safe : (event : Event A) (reply : Reply A) → IsFairEvent old event → IsNamed old event →

@@ -33,7 +33,7 @@ use Rattle.dm_event_history.specs.DeskCalls.{AskTells, ExportTells, MayBe, scan_
 use Rattle.dm_event_history.specs.Steps.{Acts, DeskGoes, PrinterGoes}
 use Rattle.dm_event_history.specs.Clean.{ArePrinted, EachStepKeepsClean, HasLeft, HasPages, HaveLeft, IsClean, IsCleanActor, IsCleanExport, IsHarmless, IsPrinted}
 use Rattle.dm_event_history.proofs.Adds.{length-lone, lone_some, Answer, by_verdict}
-use Rattle.dm_event_history.proofs.Told.{forget_by}
+use Rattle.dm_event_history.proofs.Told.{forget_by, page_none, second_some}
 use Rattle.dm_assembly_desk.proofs.LonePages.{lone_here}
 
 -- ---- more labels
@@ -54,9 +54,6 @@ actor_more labels more actor h = grind (arith, have_more)
 
 -- ---- what is held with a page
 
-page_none : (m : ℕ) → page [] m ≡ None
-page_none m = grind arith
-
 -- what is found of a document
 page_found : (held new : Documents) (id m : ℕ) → finite.get new id ≡ finite.get held id →
     page_at new id m ≡ page_at held id m
@@ -66,9 +63,6 @@ page_found held new id m same = ap (λ (o : Option Pages). page (unwrap_or o [])
 pub page_in : (held : Documents) (id m : ℕ) (pages : Pages) → finite.get held id ≡ Some pages →
     page_at held id m ≡ page pages m
 page_in held id m pages is = ap (λ (o : Option Pages). page (unwrap_or o []) m) is
-
-pub second_some : (o p : Option (List ℕ)) → IsSome p → IsSome (option_or o p)
-second_some o p some = grind arith
 
 -- ---- what is held without a document
 
