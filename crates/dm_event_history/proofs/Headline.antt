@@ -1,10 +1,10 @@
 -- The headline, of every run.
-use Rattle.std.proofs.Common.{◌≡◌, ◌+◌, ◌≤◌, inl, inr, ℕ, zero, suc, Some, List, [], ◌∷◌, slice_get, refl, sym, ap, subst, ◌∙◌, arith, eq-eqb}
+use Rattle.std.proofs.Common.{◌≡◌, ◌+◌, ◌≤◌, ℕ, zero, suc, Some, List, [], ◌∷◌, slice_get, refl, sym, ap, subst, ◌∙◌, arith, eq-eqb}
 use Rattle.dm_print_ledger.specs.declared.range.Range.{Range}
 use Rattle.dm_print_ledger.specs.Views.{LedgerView}
 use Rattle.dm_assembly_desk.specs.Documents.{Documents}
 use Rattle.dm_event_history.specs.declared.event.Event.{Event}
-use Rattle.dm_event_history.specs.declared.event.Event.TheVariants.{Print, Scan, RestartPrinter, RestartDesk, Ask, Forget, Give, Take, Export, Import}
+use Rattle.dm_event_history.specs.declared.event.Event.TheVariants.{Ask}
 use Rattle.dm_event_history.specs.declared.reply.Reply.{Reply}
 use Rattle.dm_event_history.specs.declared.reply.Reply.TheVariants.{Document}
 use Rattle.dm_event_history.specs.Actors.{Actor}
@@ -61,19 +61,7 @@ desk_stay old new desk Acts reply g n label is = grind (arith, get_more)
 
 step_stay : {A : Type 0} (old new : Relay) (event : Event A) (reply : Reply A) → Step old event reply new →
     Stay old.labels new.labels
-step_stay old new event reply (inr none) =
-    (λ n label is. subst (λ (r : Relay). slice_get r.labels n ≡ Some label) (sym none.2) is)
-step_stay old new (Print printer document size scheme stop) reply (inl acts) =
-    printer_stay old new printer _ reply acts.1
-step_stay old new (Give printer receiver range stop) reply (inl acts) = printer_stay old new printer _ reply acts.1
-step_stay old new (Take printer number stop) reply (inl acts) = printer_stay old new printer _ reply acts.1.2
-step_stay old new (RestartPrinter printer) reply (inl acts) = printer_stay old new printer _ reply acts.1
-step_stay old new (Scan desk number flips stop) reply (inl acts) = desk_stay old new desk _ reply acts.1.2
-step_stay old new (Forget desk id stop) reply (inl acts) = desk_stay old new desk _ reply acts.1
-step_stay old new (Import desk number stop) reply (inl acts) = desk_stay old new desk _ reply acts.1.2
-step_stay old new (Ask desk id) reply (inl acts) = desk_stay old new desk _ reply acts.1
-step_stay old new (Export desk id) reply (inl acts) = desk_stay old new desk _ reply acts.1
-step_stay old new (RestartDesk desk) reply (inl acts) = desk_stay old new desk _ reply acts.1
+step_stay old new event reply step = grind (arith, desk_stay, get_more, printer_stay)
 
 -- ---- no number is used twice
 
