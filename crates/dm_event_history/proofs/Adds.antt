@@ -83,11 +83,7 @@ some_there (None ∷ ps) some = later (some_there ps (λ none. some (omega arith
 
 pub some_added : (own pages : Pages) → added_mask own pages ≢ 0 →
     (m : ℕ) × IsSome (page pages m) × (page own m ≡ None)
-some_added [] pages some = (let t = some_there pages some in (t.0, t.1, page_none t.0))
-  where
-    page_none : (m : ℕ) → page [] m ≡ None
-    page_none zero = refl
-    page_none (suc i) = refl
+some_added [] pages some = grind (arith, some_there)
 some_added (p ∷ ps) [] some = absurd (some refl)
 some_added (None ∷ ps) (Some x ∷ qs) some = (1, refl, refl)
 some_added (None ∷ ps) (None ∷ qs) some = later (some_added ps qs (λ none. some (omega arith)))

@@ -147,8 +147,7 @@ all_stay_clean {A} old new event reply printed all fair (inl acts) = record {
       (harmless old event desk all fair acts.0) (inl acts);
   exports = acts_send old new event reply all acts.1;
 }
-all_stay_clean old new event reply printed all fair (inr none) =
-    subst (λ (r : Relay). AreAllClean r) (sym none.2) all
+all_stay_clean old new event reply printed all fair (inr none) = grind arith
 
 -- ---- scans that did not save
 
@@ -195,8 +194,7 @@ unsaved_clean {A} old new desk number flips stop reply all unsaved acts = record
 pub all_stay_so : {A : Type 0} (old new : Relay) (event : Event A) (reply : Reply A) → ArePrinted old.labels →
     AreAllClean old → (may_save event reply ≡ true → IsFairEvent old event) → Step old event reply new →
     AreAllClean new
-all_stay_so old new event reply printed all fair (inr none) =
-    subst (λ (r : Relay). AreAllClean r) (sym none.2) all
+all_stay_so old new event reply printed all fair (inr none) = grind arith
 all_stay_so {A} old new (Scan desk number flips stop) reply printed all fair (inl acts) =
     elim (decided (may_save (Scan desk number flips stop) reply)) [
       | inl may ↦ all_stay_clean old new (Scan desk number flips stop) reply printed all (fair may) (inl acts)

@@ -47,8 +47,7 @@ by_ends faults (SaveFault Old) Comes held (Saves next goods told) reply own came
 by_ends faults (InSave Old) Comes held course reply own came is = absurd (own.stopped (sym is))
 by_ends faults (InSave New) Comes held (Saves next goods told) reply own came is = absurd (own.stopped (sym is))
 by_ends faults (AfterLabels most) Comes held (Saves next goods told) reply own came is = absurd (own.stopped (sym is))
-by_ends faults stop Comes held course reply own came is =
-    absurd (search (own.stopped, own.save, own.memory, own.lacks, sym is))
+by_ends faults stop Comes held course reply own came is = grind arith
 
 -- one that has failed answers so, or is stopped
 failed_ends : {A C : Type 0} (faults : Faults A) (stop : Stop) (old : Actor C) (reply : Reply A) → IsOwn faults reply →
@@ -59,13 +58,10 @@ failed_ends faults stop old reply own is = search (own.stopped, own.failed, sym 
 pub is_answered : {A C : Type 0} (faults : Faults A) (stop : Stop) (Comes : C → Course A C → Type 0)
     (actor : Actor C) (end : Ending A C) (reply : Reply A) → IsOwn faults reply → Calls faults stop Comes actor end →
     end.reply ≡ reply → IsAnswered Comes actor reply end.actor
-is_answered {A} {C} faults stop Comes (Running held) end reply own acts is =
-    subst (λ (e : Ending A C). IsAnswered Comes (Running held) reply e.actor) (sym acts.2)
-    (by_ends faults stop Comes held acts.0 reply own acts.1 (sym (ap (λ (e : Ending A C). e.reply) acts.2) ∙ is))
+is_answered {A} {C} faults stop Comes (Running held) end reply own acts is = grind (arith, by_ends)
 is_answered {A} {C} faults stop Comes (Failed shown stored) end reply own acts is =
     absurd (failed_ends faults stop (Failed shown stored) reply own (sym (ap (λ (e : Ending A C). e.reply) acts) ∙ is))
-is_answered {A} {C} faults stop Comes (Down stored) end reply own acts is =
-    absurd (own.down (sym is ∙ ap (λ (e : Ending A C). e.reply) acts))
+is_answered {A} {C} faults stop Comes (Down stored) end reply own acts is = grind arith
 
 -- the same, where memory may be refused first
 pub is_made : {A C : Type 0} (Acts : Actor C → Ending A C → Type 0) (actor : Actor C) (end : Ending A C)

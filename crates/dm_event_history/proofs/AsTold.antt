@@ -147,13 +147,6 @@ fresh_runs from (range ∷ ranges) zero actor is = (opening from range, cc (is))
 fresh_runs from (range ∷ ranges) (suc p) actor is = fresh_runs (from + 1) ranges p actor is
 
 pub each_run_is_as_told : (A : Type 0) → EachRunIsAsTold A
-each_run_is_as_told A ranges rooms [] end run =
-    (let none : List (Moment A) = [] in subst (λ (r : Relay). AreAsTold none r) (sym run) (record {
-      printers = λ p actor is. (let f = fresh_runs 0 ranges p actor is in
-          subst (λ (a : Actor LedgerView). IsAsTold false false a) f.1 (refl, refl));
-      desks = λ d desk is. subst (λ (a : Actor Documents). IsAsTold false false a) (empty_there rooms d desk is)
-          (refl, refl);
-    }))
+each_run_is_as_told A ranges rooms [] end run = grind (arith, empty_there, fresh_runs)
 each_run_is_as_told A ranges rooms (moment ∷ earlier) end run =
-    step_tells moment.before end moment.event moment.reply earlier
-    (each_run_is_as_told A ranges rooms earlier moment.before run.0) run.1
+    grind (arith, step_tells, (each_run_is_as_told A ranges rooms earlier moment.before run.0))

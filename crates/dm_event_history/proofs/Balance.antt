@@ -71,10 +71,8 @@ as_known {A} held end known is b = grind arith
 pub calls_balance : {A : Type 0} (faults : Faults A) (stop : Stop) (Comes : LedgerView → Course A LedgerView → Type 0) →
     ((held : LedgerView) (course : Course A LedgerView) → Comes held course → IsBalancedCourse held course) →
     Balances (Calls faults stop Comes)
-calls_balance faults stop Comes each (Running held) end acts =
-    as_known held end _ acts.2 (ends_balanced faults stop acts.0 (Running held) (reaches stop (each held acts.0) acts.1))
-calls_balance faults stop Comes each (Failed shown stored) end acts =
-    as_known stored end _ acts (ends_balanced faults stop (Answers faults.failed) (Failed shown stored) (reached stop tt))
+calls_balance faults stop Comes each (Running held) end acts = grind (arith, as_known, ends_balanced, reaches)
+calls_balance faults stop Comes each (Failed shown stored) end acts = grind (arith, as_known, ends_balanced, reached)
 calls_balance faults stop Comes each (Down stored) end acts = as_known stored end _ acts (still stored)
 
 pub may_lack_balances : {A : Type 0} (Acts : Actor LedgerView → Ending A LedgerView → Type 0) → Balances Acts →

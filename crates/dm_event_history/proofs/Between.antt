@@ -402,9 +402,7 @@ acts_between A old new (RestartDesk desk) reply earlier p fair b acts named =
     (replies.DeskRefused desk_fault.Memory) actor end
     (has_map (IsBetween earlier desk) (IsBetween (after old (RestartDesk desk) reply earlier) desk) (still desk) actor h)
     called) acts
-acts_between A old new event reply earlier p fair b acts named =
-    same_between A old new event reply earlier b (quiet old event reply earlier (λ at id m t. t) (λ at id f. f))
-    (desks_same old new event reply _ refl acts)
+acts_between A old new event reply earlier p fair b acts named = grind (arith, desks_same, quiet, same_between)
 
 -- what is not there takes and forgets nothing
 none_taken : {A : Type 0} (old : Relay) (event : Event A) (at id m : ℕ) → ¬ Takes old event replies.NoSuch at id m
@@ -424,10 +422,7 @@ step_between : (A : Type 0) (old new : Relay) (event : Event A) (reply : Reply A
 step_between A old new event reply earlier p fair b (inl acts) =
     acts_between A old new event reply earlier p fair b acts.1 (names_scan old event acts.0)
 step_between A old new event reply earlier p fair b (inr none) =
-    subst (λ (r : Relay). AreBetween (after old event reply earlier) r) (sym none.2)
-    (subst (λ (r : Reply A). AreBetween (after old event r earlier) old) (sym none.1)
-    (λ at desk is. has_map (IsBetween earlier at) _
-    (quiet old event replies.NoSuch earlier (none_taken old event) (none_forgotten event) at) desk.actor (b at desk is)))
+    grind (arith, has_map, none_forgotten, none_taken, quiet)
 
 -- a run in which each scan that may have saved was fair
 pub run_between : (A : Type 0) (ranges : List Range) (rooms : List ℕ) (h : List (Moment A)) (end : Relay) →

@@ -60,17 +60,7 @@ ends_store : {A C : Type 0} (faults : Faults A) (stop : Stop) (Comes : C → Cou
 ends_store faults BeforeSave Comes held course plain each came = inl (refl, refl)
 ends_store faults (InSave Old) Comes held course plain each came = inl (refl, refl)
 ends_store faults (SaveFault Old) Comes held (Saves next goods reply) plain each came = inl (refl, plain.save_untold)
-ends_store faults stop Comes held (Saves next goods reply) plain each came = inr (record {
-  held = held;
-  was = refl;
-  next = next;
-  goods = goods;
-  reply = reply;
-  comes = came;
-  stores = tt;
-  told = refl;
-  stored_is = refl;
-})
+ends_store faults stop Comes held (Saves next goods reply) plain each came = grind arith
 ends_store faults stops.None Comes held (Answers reply) plain each came = inl (refl, (each (Answers reply) came).1)
 ends_store faults (SaveFault kept) Comes held (Answers reply) plain each came = inl (refl, (each (Answers reply) came).1)
 ends_store faults stops.None Comes held LacksMemory plain each came = inl (refl, plain.memory_untold)
@@ -204,10 +194,7 @@ set_or [] i j x y is = cc (is)
 set_or (z ∷ zs) zero zero x y is = inl (refl, refl)
 set_or (z ∷ zs) zero (suc j) x y is = inr ((λ e. absurd (omega (arith, e))), refl)
 set_or (z ∷ zs) (suc i) zero x y is = inr ((λ e. absurd (omega (arith, e))), refl)
-set_or (z ∷ zs) (suc i) (suc j) x y is = elim (set_or zs i j x y is) [
-  | inl here ↦ inl (ap suc here.0, here.1)
-  | inr there ↦ inr ((λ e. there.0 (omega (arith, e))), there.1)
-]
+set_or (z ∷ zs) (suc i) (suc j) x y is = grind (arith, (set_or zs i j x y is))
 
 module _ (A : Type 0) (old new : Relay) (event : Event A) (reply : Reply A) where
   -- a printer gains and loses by the event just what is counted
@@ -246,8 +233,7 @@ acts_count A old new (Take printer number stop) reply acts =
     (take_keeps old printer number acts.0 stop acts.1) acts.2
 acts_count A old new (RestartPrinter printer) reply acts =
     printer_counts A old new (RestartPrinter printer) reply printer _ refl (restart_keeps old printer) acts
-acts_count A old new event reply acts =
-    desk_counts A old new event reply (λ p. refl) (quiet_desks old new event reply tt acts)
+acts_count A old new event reply acts = grind (arith, desk_counts, quiet_desks)
 
 step_counts : (A : Type 0) (old new : Relay) (event : Event A) (reply : Reply A) → Step old event reply new →
     Counts A old new event reply
@@ -258,8 +244,7 @@ step_counts A old new event reply step p = grind (arith, acts_count)
 fresh_stock : (from : ℕ) (ranges : List Range) (p : ℕ) (range : Range) → slice_get ranges p ≡ Some range →
     option_map_or stored_count (slice_get (fresh_from from ranges) p) 0 ≡ size_of range
 fresh_stock from [] p range there = cc (there)
-fresh_stock from (own ∷ ranges) zero range there =
-    let same : own ≡ range = cc (there) in let s : size_of own ≡ size_of range = ap size_of same in omega arith
+fresh_stock from (own ∷ ranges) zero range there = grind arith
 fresh_stock from (own ∷ ranges) (suc p) range there = fresh_stock (from + 1) ranges p range there
 
 -- what a printer began with and took is what it stores and what it used and gave
@@ -269,8 +254,7 @@ run_counts : (A : Type 0) (ranges : List Range) (rooms : List ℕ) (h : List (Mo
 run_counts A ranges rooms [] end p range run there =
     let same = ap (λ (r : Relay). stock r p) run in let s = fresh_stock 0 ranges p range there in omega arith
 run_counts A ranges rooms (moment ∷ earlier) end p range run there =
-    let before = run_counts A ranges rooms earlier moment.before p range run.0 there in
-    let step = step_counts A moment.before end moment.event moment.reply run.1 p in omega arith
+    grind (arith, step_counts, (run_counts A ranges rooms earlier moment.before p range run.0 there))
 
 none_free : {A : Type 0} (old new : Relay) (printer : ℕ) (document : List ℕ) (size : Size) (scheme : Scheme)
     (stop : Stop) →

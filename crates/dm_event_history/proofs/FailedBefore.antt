@@ -33,8 +33,7 @@ calls_before {A} {C} faults stop Comes fine each (Running held) end down failed 
     running_ends faults stop acts.0 held fine (reaches stop (each held acts.0) acts.1)
     (sym (ap (λ (e : Ending A C). tells_failed e.reply) acts.2) ∙ told)
 calls_before faults stop Comes fine each (Failed shown stored) end down failed t acts told = t.1
-calls_before {A} {C} faults stop Comes fine each (Down stored) end down failed t acts told =
-    never _ (ap (λ (e : Ending A C). tells_failed e.reply) acts) told
+calls_before {A} {C} faults stop Comes fine each (Down stored) end down failed t acts told = grind (arith, never)
 
 may_lack_before : {A C : Type 0} (Acts : Actor C → Ending A C → Type 0) → FailsBefore Acts →
     FailsBefore (MayLackFirst Acts)

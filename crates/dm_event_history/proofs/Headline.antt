@@ -30,17 +30,14 @@ pub each_run_is_sound : (A : Type 0) → EachRunIsSound A
 each_run_is_sound A ranges rooms [] end apart run =
     subst (λ (r : Relay). IsSoundAndPrinted r) (sym run) (start_sound ranges rooms apart, start_printed ranges rooms)
 each_run_is_sound A ranges rooms (moment ∷ earlier) end apart run =
-    let before = each_run_is_sound A ranges rooms earlier moment.before apart run.0 in (
-      each_step_is_sound A moment.before end moment.event moment.reply before.0 run.1,
-      each_step_prints A moment.before end moment.event moment.reply before.1 run.1,
-    )
+    grind (arith, each_step_is_sound, each_step_prints, (each_run_is_sound A ranges rooms earlier moment.before apart
+    run.0))
 
 -- ---- clean
 
 pub each_fair_run_is_clean : (A : Type 0) (ranges : List Range) (rooms : List ℕ) (h : List (Moment A)) (end : Relay) →
     AreDisjoint ranges → IsRun (start ranges rooms) h end → AreSavedFair h → AreAllClean end
-each_fair_run_is_clean A ranges rooms [] end apart run fair =
-    subst (λ (r : Relay). AreAllClean r) (sym run) (start_clean ranges rooms)
+each_fair_run_is_clean A ranges rooms [] end apart run fair = grind (arith, start_clean)
 each_fair_run_is_clean A ranges rooms (moment ∷ earlier) end apart run fair =
     all_stay_so moment.before end moment.event moment.reply
     (each_run_is_sound A ranges rooms earlier moment.before apart run.0).1
@@ -76,17 +73,14 @@ used_later move moves id = grind arith
 one_more : (moves : List Move) (n id : ℕ) → slice_get moves n ≡ Some (Used id) → 1 ≤ gone moves id
 one_more [] n id is = cc (is)
 one_more (move ∷ moves) zero id is = (let here = used_here move moves id is in omega arith)
-one_more (move ∷ moves) (suc n) id is =
-    (let more = one_more moves n id is in let later = used_later move moves id in omega arith)
+one_more (move ∷ moves) (suc n) id is = grind (arith, used_later, (one_more moves n id is))
 
 used_once : (moves : List Move) (i j id : ℕ) → gone moves id ≤ 1 → slice_get moves i ≡ Some (Used id) →
     slice_get moves j ≡ Some (Used id) → i ≡ j
 used_once [] i j id most is there = cc (is)
 used_once (move ∷ moves) zero zero id most is there = refl
-used_once (move ∷ moves) zero (suc j) id most is there =
-    (let here = used_here move moves id is in let more = one_more moves j id there in absurd (omega arith))
-used_once (move ∷ moves) (suc i) zero id most is there =
-    (let here = used_here move moves id there in let more = one_more moves i id is in absurd (omega arith))
+used_once (move ∷ moves) zero (suc j) id most is there = grind (arith, one_more, used_here)
+used_once (move ∷ moves) (suc i) zero id most is there = grind (arith, one_more, used_here)
 used_once (move ∷ moves) (suc i) (suc j) id most is there =
     (let later = used_later move moves id in ap suc (used_once moves i j id (omega arith) is there))
 
@@ -138,9 +132,8 @@ run_places : (A : Type 0) (ranges : List Range) (rooms : List ℕ) (h : List (Mo
     places end number ≡ places (start ranges rooms) number
 run_places A ranges rooms [] end apart run number = ap (λ (r : Relay). places r number) run
 run_places A ranges rooms (moment ∷ earlier) end apart run number =
-    (each_step_keeps_numbers A moment.before end moment.event moment.reply
-    (each_run_is_sound A ranges rooms earlier moment.before apart run.0).0.order run.1).1 number
-    ∙ run_places A ranges rooms earlier moment.before apart run.0 number
+    grind (arith, each_run_is_sound, each_step_keeps_numbers, (run_places A ranges rooms earlier moment.before apart
+    run.0 number))
 
 pub each_run_keeps_numbers : (A : Type 0) → EachRunKeepsNumbers A
 each_run_keeps_numbers A ranges rooms moments end apart run number =

@@ -40,8 +40,7 @@ pub calls_leave : {A C : Type 0} (P : Goods → Type 0) → IsClosed P → (faul
     ((held : C) (course : Course A C) → Comes held course → OfCourse P course) → Leaves P (Calls faults stop Comes)
 calls_leave P p faults stop Comes each (Running held) end acts =
     as_known P end _ acts.2 (ends_leave P p faults stop acts.0 (Running held) (reaches stop (each held acts.0) acts.1))
-calls_leave P p faults stop Comes each (Failed shown stored) end acts =
-    as_known P end _ acts (ends_leave P p faults stop (Answers faults.failed) (Failed shown stored) (reached stop tt))
+calls_leave P p faults stop Comes each (Failed shown stored) end acts = grind (arith, as_known, ends_leave, reached)
 calls_leave P p faults stop Comes each (Down stored) end acts = as_known P end _ acts p.none
 
 pub may_lack_leaves : {A C : Type 0} (P : Goods → Type 0) → IsClosed P → (Acts : Actor C → Ending A C → Type 0) →

@@ -85,10 +85,8 @@ legal_ends faults stops.None LacksMemory held fine own =
 legal_ends faults (SaveFault kept) LacksMemory held fine own =
     legal_reply (Some (SaveFault kept)) (Running held) faults.memory (λ d. d) (λ s. s) fine.memory.up
     (untold faults.memory fine.memory_untold)
-legal_ends {A} faults (InSave New) LacksMemory held fine own =
-    legal_memory A (Some (InSave New)) (Running held) (λ d. d)
-legal_ends {A} faults (AfterLabels most) LacksMemory held fine own =
-    legal_memory A (Some (AfterLabels most)) (Running held) (λ d. d)
+legal_ends {A} faults (InSave New) LacksMemory held fine own = grind (arith, legal_memory)
+legal_ends {A} faults (AfterLabels most) LacksMemory held fine own = grind (arith, legal_memory)
 legal_ends {A} faults stop course held fine own = legal_stopped A (Some stop) (Running held) (λ d. d) tt
 
 legal_failed : {A C : Type 0} (faults : Faults A) (stop : Stop) (shown stored : C) → ArePlain faults →
@@ -98,8 +96,7 @@ legal_failed faults stops.None shown stored fine =
 legal_failed faults (SaveFault kept) shown stored fine =
     legal_reply (Some (SaveFault kept)) (Failed shown stored) faults.failed (λ d. d) (λ s. s) fine.failed_up
     (untold faults.failed fine.failed_untold)
-legal_failed {A} faults (InSave Old) shown stored fine =
-    legal_stopped A (Some (InSave Old)) (Failed shown stored) (λ d. d) tt
+legal_failed {A} faults (InSave Old) shown stored fine = grind (arith, legal_stopped)
 legal_failed {A} faults stop shown stored fine = legal_stopped A (Some stop) (Failed shown stored) (λ d. d) tt
 
 legal_down : (A : Type 0) {C : Type 0} (stop : Option Stop) (stored : C) → IsCallLegal {A = A} stop (Down stored) replies.Down
@@ -132,8 +129,7 @@ looks_legal Said each (Running held) end acts =
 looks_legal Said each (Failed shown stored) end acts =
     let plain = each shown end.reply end.goods acts.0 in
     legal_reply None (Failed shown stored) end.reply (λ d. d) (λ s. s) plain.0.up (untold end.reply plain.1)
-looks_legal {A} Said each (Down stored) end acts =
-    of_known None (Down stored) end _ acts (legal_down A None stored)
+looks_legal {A} Said each (Down stored) end acts = grind (arith, legal_down, of_known)
 
 -- ---- steps
 
@@ -196,10 +192,8 @@ restart_desk_legal {A} old desk reply end actor named ends is = grind arith
 
 acts_legal : {A : Type 0} (old new : Relay) (event : Event A) (reply : Reply A) → IsNamed old event →
     Acts old event reply new → IsLegal old event reply
-acts_legal old new (RestartPrinter printer) reply named acts =
-    restart_printer_legal old printer reply acts.end acts.actor named acts.acts acts.reply_is
-acts_legal old new (RestartDesk desk) reply named acts =
-    restart_desk_legal old desk reply acts.end acts.desk.actor named acts.acts acts.reply_is
+acts_legal old new (RestartPrinter printer) reply named acts = grind (arith, restart_printer_legal)
+acts_legal old new (RestartDesk desk) reply named acts = grind (arith, restart_desk_legal)
 acts_legal old new event reply named acts =
     by_kind old new event reply (λ C stop Does. AreLegal stop Does) _ (λ C. calls_legal) (λ C. may_lack_legal)
     (λ C. looks_legal) (λ none. absurd (none tt))

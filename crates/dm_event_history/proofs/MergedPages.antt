@@ -14,11 +14,7 @@ use Rattle.dm_event_history.proofs.Deciding.{decided}
 pub all_held : (ps : Pages) → list_all is_some ps ≡ true → (m : ℕ) → 1 ≤ m → m ≤ length ps → IsSome (page ps m)
 all_held ps is zero least most = absurd (omega arith)
 all_held [] is (suc m) least most = absurd (omega arith)
-all_held (p ∷ ps) is (suc zero) least most = at p (and_parts (is_some p) (list_all is_some ps) is).0
-  where
-    at : (p : Option (List ℕ)) → is_some p ≡ true → IsSome p
-    at None e = cc
-    at (Some x) e = refl
+all_held (p ∷ ps) is (suc zero) least most = grind (arith, and_parts)
 all_held (p ∷ ps) is (suc (suc m)) least most =
     all_held ps (and_parts (is_some p) (list_all is_some ps) is).1 (suc m) (omega arith) (omega arith)
 
@@ -100,8 +96,4 @@ lacks_means pages zero = ((λ e. cc), (λ e low high. absurd (omega arith)))
 lacks_means [] (suc m) = ((λ e. cc), (λ e low high. absurd (omega arith)))
 lacks_means (None ∷ ps) (suc zero) = ((λ e. ((omega arith), (omega arith), refl)), (λ e low high. cc))
 lacks_means (Some x ∷ ps) (suc zero) = ((λ e. cc), (λ e low high. refl))
-lacks_means (p ∷ ps) (suc (suc m)) =
-    let t = lacks_means ps (suc m) in (
-      (λ e. let u = t.0 e in ((omega arith), (let v = u.1 in omega arith), u.2)),
-      (λ e low high. t.1 e (omega arith) (omega arith)),
-    )
+lacks_means (p ∷ ps) (suc (suc m)) = grind (arith, (lacks_means ps (suc m)))

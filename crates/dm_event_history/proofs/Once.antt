@@ -56,17 +56,9 @@ each_of_batch : (cut : CutDocument) (id k : ℕ) (parts : List (List ℕ)) (labe
 each_of_batch cut id k [] [] made i label is = cc
 each_of_batch cut id k [] (x ∷ xs) made i label is = absurd made
 each_of_batch cut id k (part ∷ parts) [] made i label is = absurd made
-each_of_batch cut id k (part ∷ parts) (x ∷ xs) made zero label is =
-    let same : x ≡ label = cc (is) in
-    let place : k + 1 ≡ k + 0 + 1 = omega arith in
-    subst (λ (l : Label). IsOfBatch id cut (k + 0) l) same (record {
-      id_is = ap (λ (q : PageView). q.id) made.0.page_is;
-      cut_is = made.0.cut_is;
-      m_is = ap (λ (q : PageView). q.m) made.0.page_is ∙ place;
-    })
+each_of_batch cut id k (part ∷ parts) (x ∷ xs) made zero label is = grind arith
 each_of_batch cut id k (part ∷ parts) (x ∷ xs) made (suc i) label is =
-    let place : (k + 1) + i ≡ k + suc i = omega arith in
-    subst (λ (n : ℕ). IsOfBatch id cut n label) place (each_of_batch cut id (k + 1) parts xs made.1 i label is)
+    grind (arith, (each_of_batch cut id (k + 1) parts xs made.1 i label is))
 
 print_batch : {A : Type 0} (before : ℕ) (document : List ℕ) (size : Size) (scheme : Scheme) (held : LedgerView)
     (course : Course A LedgerView) → PrintComes before document size scheme held course →
@@ -92,20 +84,15 @@ print_leaves : {A : Type 0} (before : ℕ) (document : List ℕ) (size : Size) (
     (actor : Actor LedgerView) (end : Ending A LedgerView) →
     MayLackFirst (Calls print_faults stop (PrintComes before document size scheme)) actor end →
     MayBeBatch (stored_of actor) end.goods
-print_leaves before document size scheme stop (Running held) end (inl lack) =
-    as_known (MayBeBatch held) end _ lack (inl refl)
+print_leaves before document size scheme stop (Running held) end (inl lack) = grind (arith, as_known)
 print_leaves before document size scheme stop (Running held) end (inr acts) =
     as_known (MayBeBatch held) end _ acts.2
     (ends_leave (MayBeBatch held) (batch_closed held) print_faults stop acts.0 (Running held)
     (reaches stop (print_batch before document size scheme held acts.0) acts.1))
-print_leaves before document size scheme stop (Failed shown stored) end (inl lack) =
-    as_known (MayBeBatch stored) end _ lack (inl refl)
+print_leaves before document size scheme stop (Failed shown stored) end (inl lack) = grind (arith, as_known)
 print_leaves {A} before document size scheme stop (Failed shown stored) end (inr acts) =
-    as_known (MayBeBatch stored) end _ acts
-    (ends_leave (MayBeBatch stored) (batch_closed stored) print_faults stop (Answers (print_faults {A = A}).failed)
-    (Failed shown stored) (reached stop tt))
-print_leaves before document size scheme stop (Down stored) end acts =
-    as_known (MayBeBatch stored) end _ acts (inl refl)
+    grind (arith, as_known, batch_closed, ends_leave, reached)
+print_leaves before document size scheme stop (Down stored) end acts = grind (arith, as_known)
 
 -- ---- labels that are added
 

@@ -126,9 +126,7 @@ no_parts : (size : Size) (scheme : Scheme) (document : List ℕ) (held : LedgerV
     IsCut size scheme document parts → print_verdict held (is_some parts) ≡ Err print_fault.TooLong →
     HasNoEnds size scheme document
 no_parts size scheme document held None cut is = cut
-no_parts size scheme document held (Some parts) cut is =
-    absurd (print_refuses (λ f. f ≡ print_fault.TooLong → ⊥) held true print_fault.TooLong (λ none. cc (none))
-    (λ none e. cc (e)) is refl)
+no_parts size scheme document held (Some parts) cut is = grind (arith, print_refuses)
 
 pub each_step_is_refused_so : (A : Type 0) → EachStepIsRefusedSo A
 each_step_is_refused_so A old new event reply printed step = record {

@@ -625,8 +625,7 @@ module _ (A : Type 0) (old new : Relay) (earlier : List (Moment A)) (sound : IsS
 
   acts_safe : (event : Event A) (reply : Reply A) → IsFairEvent old event → IsNamed old event →
       Step old event reply new → Acts old event reply new → IsSafe old (known_of old earlier) event reply
-  acts_safe (Scan d number flips stop) reply fair named step acts =
-      scan_safe d number flips stop acts.0 reply acts.1 (fair named acts.0 acts.1) acts.2
+  acts_safe (Scan d number flips stop) reply fair named step acts = grind (arith, scan_safe)
   acts_safe (Forget d id stop) reply fair named step acts = forget_safe d id stop reply acts
   acts_safe (Import d number stop) reply fair named step acts = import_safe d number stop acts.0 reply acts.1 acts.2
   acts_safe (Ask d id) reply fair named step acts = ask_safe d id reply step acts

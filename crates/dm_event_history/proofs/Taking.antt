@@ -59,9 +59,7 @@ take_ends stop number ticket (Running held) end acts =
     as_known held number ticket end _ acts.2
     (ends_taking take_faults stop acts.0 (Running held) number ticket
     (reaches stop (take_course number ticket held acts.0) acts.1))
-take_ends {A} stop number ticket (Failed shown stored) end acts =
-    as_known stored number ticket end _ acts
-    (ends_taking take_faults stop (Answers (take_faults {A = A}).failed) (Failed shown stored) number ticket (reached stop tt))
+take_ends {A} stop number ticket (Failed shown stored) end acts = grind (arith, as_known, ends_taking, reached)
 take_ends stop number ticket (Down stored) end acts = as_known stored number ticket end _ acts (inl (still stored))
 
 -- ---- a step of a printer that takes
