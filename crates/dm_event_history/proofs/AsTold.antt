@@ -1,5 +1,5 @@
 -- The printers and desks of a run are down, and have failed, as its replies tell.
-use Rattle.std.proofs.Common.{arith, ◌≡◌, ◌+◌, inl, inr, ℕ, zero, suc, Bool, true, false, Some, List, [], ◌∷◌, slice_get, refl, sym, ap, subst, ◌∙◌, eq-eqb}
+use Rattle.std.proofs.Common.{arith, ◌≡◌, ◌+◌, inl, inr, ℕ, zero, suc, Bool, true, false, Some, List, [], ◌∷◌, slice_get, sym, ap, subst, ◌∙◌, eq-eqb}
 use Rattle.dm_print_ledger.specs.declared.range.Range.{Range}
 use Rattle.dm_print_ledger.specs.Creating.{opening}
 use Rattle.dm_print_ledger.specs.Views.{LedgerView}

@@ -245,8 +245,19 @@ module _ (A : Type 0) (before : Relay) (desk name : ℕ) (stop : Stop) (earlier 
       Calls forget_faults stop (ForgetComes name) actor end →
       HasAll (IsBetween (after before (Forget desk name stop) end.reply earlier) desk) end.actor
   forget_between actor end b acts =
-      grind (arith, calls_have, forget_told, is_answered, is_forgotten, not_forgotten, own_forget, saves_may, stays,
-      was_wanted, without)
+      grind (
+        arith,
+        calls_have,
+        forget_told,
+        is_answered,
+        is_forgotten,
+        not_forgotten,
+        own_forget,
+        saves_may,
+        stays,
+        was_wanted,
+        without,
+      )
 
 -- ---- imports
 

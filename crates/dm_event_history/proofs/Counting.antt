@@ -21,7 +21,7 @@ use Rattle.dm_event_history.specs.declared.stop.Stop.TheVariants.{BeforeSave, In
 use Rattle.dm_event_history.specs.Legal.{tells_of_save}
 use Rattle.dm_event_history.specs.WhoActs.{Named, PrinterAt, actor_of, is_same}
 use Rattle.dm_event_history.specs.Saving.{Stores, leaves_new, may_save, stop_of}
-use Rattle.dm_event_history.specs.Actors.{Actor, Running, Failed, Down, stored_of}
+use Rattle.dm_event_history.specs.Actors.{Actor, Running, Failed, stored_of}
 use Rattle.dm_event_history.specs.Relay.{Goods, Relay, fresh_from, start}
 use Rattle.dm_event_history.specs.Calls.{Answers, Calls, Course, Ending, Faults, LacksMemory, MayLackFirst, Reaches, Restarts, Saves, ends}
 use Rattle.dm_event_history.specs.PrinterCalls.{GiveComes, PrintComes, TakeComes, give_faults, print_faults, take_faults}

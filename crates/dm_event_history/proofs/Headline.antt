@@ -30,8 +30,8 @@ pub each_run_is_sound : (A : Type 0) → EachRunIsSound A
 each_run_is_sound A ranges rooms [] end apart run =
     subst (λ (r : Relay). IsSoundAndPrinted r) (sym run) (start_sound ranges rooms apart, start_printed ranges rooms)
 each_run_is_sound A ranges rooms (moment ∷ earlier) end apart run =
-    grind (arith, each_step_is_sound, each_step_prints, (each_run_is_sound A ranges rooms earlier moment.before apart
-    run.0))
+    (let before = each_run_is_sound A ranges rooms earlier moment.before apart run.0 in
+    grind (arith, each_step_is_sound, each_step_prints))
 
 -- ---- clean
 
@@ -132,8 +132,8 @@ run_places : (A : Type 0) (ranges : List Range) (rooms : List ℕ) (h : List (Mo
     places end number ≡ places (start ranges rooms) number
 run_places A ranges rooms [] end apart run number = ap (λ (r : Relay). places r number) run
 run_places A ranges rooms (moment ∷ earlier) end apart run number =
-    grind (arith, each_run_is_sound, each_step_keeps_numbers, (run_places A ranges rooms earlier moment.before apart
-    run.0 number))
+    (let before = run_places A ranges rooms earlier moment.before apart run.0 number in
+    grind (arith, each_run_is_sound, each_step_keeps_numbers))
 
 pub each_run_keeps_numbers : (A : Type 0) → EachRunKeepsNumbers A
 each_run_keeps_numbers A ranges rooms moments end apart run number =

@@ -1,5 +1,5 @@
 -- Where a number is, after one thing is changed.
-use Rattle.std.proofs.Common.{◌≡◌, ◌≢◌, ◌⊎◌, ◌+◌, ◌≤◌, ◌<◌, ℕ, zero, suc, Bool, true, false, ◌==◌, ◌||◌, if◌then◌else◌, Some, List, [], ◌∷◌, ◌++◌, length, map, slice_get, slice_set, refl, sym, ap, ◌∙◌, arith, eq-eqb}
+use Rattle.std.proofs.Common.{◌≡◌, ◌≢◌, ◌⊎◌, ◌+◌, ◌≤◌, ◌<◌, ℕ, zero, suc, Bool, true, false, ◌==◌, ◌||◌, if◌then◌else◌, Some, List, [], ◌∷◌, ◌++◌, length, map, slice_get, slice_set, refl, ap, ◌∙◌, arith, eq-eqb}
 use Rattle.dm_print_ledger.specs.Ranges.{is_free, is_in}
 use Rattle.dm_print_ledger.specs.Views.{LedgerView, TicketView}
 use Rattle.dm_event_history.proofs.Deciding.{other_number, same_or_other}

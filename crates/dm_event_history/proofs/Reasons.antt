@@ -1,5 +1,5 @@
 -- Why events are refused.
-use Rattle.std.proofs.Common.{arith, None, ◌≡◌, ◌≢◌, inl, inr, ℕ, true, false, Some, Err, Result, List, slice_get, refl, sym, ap, subst, Option, is_some}
+use Rattle.std.proofs.Common.{arith, None, ◌≡◌, ◌≢◌, inl, inr, ℕ, true, false, Some, Err, Result, List, slice_get, sym, ap, subst, Option, is_some}
 use Rattle.dm_finder_frame.specs.Grids.{GridView, flipped}
 use Rattle.dm_check_blocks.specs.declared.size.Size.{Size}
 use Rattle.dm_encodation.specs.declared.scheme.Scheme.{Scheme}
