@@ -37,12 +37,7 @@ by_ends : {A C : Type 0} (faults : Faults A) (stop : Stop) (Comes : C → Course
     (course : Course A C) (reply : Reply A) → IsOwn faults reply → Reaches stop (Comes held course) →
     (let e = ends faults stop course (Running held) in e.reply ≡ reply →
     IsAnswered Comes (Running held) reply e.actor)
-by_ends faults stops.None Comes held (Saves next goods told) reply own came is =
-    record { held = held; was = refl; course = Saves next goods told; comes = came; ended = (is, refl) }
-by_ends faults stops.None Comes held (Answers told) reply own came is =
-    record { held = held; was = refl; course = Answers told; comes = came; ended = (is, refl) }
-by_ends faults (SaveFault kept) Comes held (Answers told) reply own came is =
-    record { held = held; was = refl; course = Answers told; comes = came; ended = (is, refl) }
+by_ends faults stops.None Comes held (Saves next goods told) reply own came is = grind arith
 by_ends faults (SaveFault Old) Comes held (Saves next goods told) reply own came is = absurd (own.save (sym is))
 by_ends faults (InSave Old) Comes held course reply own came is = absurd (own.stopped (sym is))
 by_ends faults (InSave New) Comes held (Saves next goods told) reply own came is = absurd (own.stopped (sym is))

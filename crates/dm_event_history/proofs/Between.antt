@@ -100,8 +100,7 @@ module _ (A : Type 0) (before : Relay) (event : Event A) (stop : Stop) (faults :
     where
       known : (held : Documents) → IsBetween (after before event reply earlier) desk held → end ≡ Running held →
           HasAll (IsBetween (after before event reply earlier) desk) end
-      known held new is =
-          subst (λ (x : Actor Documents). HasAll (IsBetween (after before event reply earlier) desk) x) (sym is) new
+      known held new is = grind arith
 
       by_kind : (kind : Kind) → add_kind room held id pages ≡ Ok kind → IsAfter kind held (with_pages held id pages) end →
           HasAll (IsBetween (after before event reply earlier) desk) end
@@ -181,12 +180,8 @@ module _ (A : Type 0) (before : Relay) (desk number room : ℕ) (flips : List (�
           CourseHas (IsBetween (after before (Scan desk number flips stop) reply earlier) desk) stop wanted →
           MayBe wanted course →
           CourseHas (IsBetween (after before (Scan desk number flips stop) reply earlier) desk) stop course
-      still wanted c (inl same) =
-          subst (λ (c : Course A Documents). CourseHas (IsBetween (after before (Scan desk number flips stop) reply earlier)
-          desk) stop c) (sym same) c
-      still wanted c (inr lack) =
-          subst (λ (c : Course A Documents). CourseHas (IsBetween (after before (Scan desk number flips stop) reply earlier)
-          desk) stop c) (sym lack.0) tt
+      still wanted c (inl same) = grind arith
+      still wanted c (inr lack) = grind arith
 
       by_read : (read : Result (Opened A) LabelFault) → OpensNear label.page read →
           MayBe (scan_course room held read) course →

@@ -100,10 +100,7 @@ scan_plain {A} room grid held course comes =
     may_be_plain (scan_course room held comes.0) course (by_read comes.0) comes.2
   where
     by_read : (read : Result (Opened A) LabelFault) → IsPlainCourse {A = A} (scan_course room held read)
-    by_read (Ok opened) = add_plain {A = A} (page_reply opened.page) room held opened.page.id (lone opened.page)
-        (λ added. (record { up = λ b. refl; same = λ b. refl; unfailed = refl }, refl))
-        (record { up = λ b. refl; same = λ b. refl; unfailed = refl }, refl)
-        (record { up = λ b. refl; same = λ b. refl; unfailed = refl }, refl)
+    by_read (Ok opened) = grind (arith, add_plain)
     by_read (Err label_fault.Memory) = tt
     by_read (Err fault) = (record { up = λ b. refl; same = λ b. refl; unfailed = refl }, refl)
 

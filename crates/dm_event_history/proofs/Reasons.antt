@@ -148,8 +148,7 @@ each_step_is_refused_so A old new event reply printed step = record {
     by_scan : (desk number : ℕ) (flips : List (ℕ × ℕ)) (stop : Stop) (label : Label) →
         slice_get old.labels number ≡ Some label → IsFairEvent {A = A} old (Scan desk number flips stop) →
         Step old (Scan desk number flips stop) reply new → IsFramedSo (flipped label.grid flips) reply
-    by_scan desk number flips stop label there fair (inr none) =
-        subst (λ (r : Reply A). IsFramedSo (flipped label.grid flips) r) (sym none.1) tt
+    by_scan desk number flips stop label there fair (inr none) = grind arith
     by_scan desk number flips stop label there fair (inl acts) =
         let own : Label = acts.1.0 in
         let same : own ≡ label = (let a : slice_get old.labels number ≡ Some own = acts.1.1 in cc (a, there)) in

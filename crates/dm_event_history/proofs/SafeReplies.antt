@@ -247,10 +247,7 @@ module _ (A : Type 0) (old : Relay) (earlier : List (Moment A)) (d : ℕ) (held 
     where
       among : (keys : List ℕ) (i : ℕ) → slice_get keys i ≡ Some key → list_any (eq_by_cmp nat_cmp key) keys ≡ true
       among [] i at = cc (at)
-      among (k ∷ ks) zero at =
-          (let same : k ≡ key = cc (at) in
-          or_left (eq_by_cmp nat_cmp key k) (list_any (eq_by_cmp nat_cmp key) ks) (ap (eq_by_cmp nat_cmp key) same ∙
-          itself key))
+      among (k ∷ ks) zero at = grind (arith, itself, or_left)
       among (k ∷ ks) (suc i) at = or_right (eq_by_cmp nat_cmp key k) (list_any (eq_by_cmp nat_cmp key) ks) (among ks i at)
 
       by_get : (o : Option Pages) → finite.get held key ≡ o → is_some (finite.get held key) ≡ true →
@@ -291,8 +288,7 @@ module _ (A : Type 0) (old : Relay) (earlier : List (Moment A)) (d : ℕ) (held 
   module _ (export : relays.Export) (sent : IsCleanExport old.labels export) where
     added_means : (added m : ℕ) → added ≡ added_mask (unwrap_or (finite.get held export.id) []) export.pages →
         names added m ≡ (is_none (page_at held export.id m) && is_some (page export.pages m))
-    added_means added m is = ap (λ (bits : ℕ). names bits m) is ∙
-        names_added (unwrap_or (finite.get held export.id) []) export.pages m
+    added_means added m is = grind (arith, names_added)
 
     import_kind_safe : (added : ℕ) (kind : Kind) →
         added ≡ added_mask (unwrap_or (finite.get held export.id) []) export.pages →
@@ -382,35 +378,16 @@ module _ (A : Type 0) (old : Relay) (earlier : List (Moment A)) (d : ℕ) (held 
       here = subst IsSome (sym (lone_here p head.first head.last)) refl
 
       not_here : added ≢ 0 → ¬ known.holds d p.id p.m
-      not_here some surely =
-          let own : Pages = own_pages held p.id in
-          let m = some_added own (lone p) some in
-          let same : m.0 ≡ p.m = lone_some p m.0 head.first m.1 in
-          no_page (page_at held p.id p.m) (b.surely p.id p.m surely)
-          (subst (λ (k : ℕ). page own k ≡ None) same m.2)
+      not_here some surely = grind (arith, lone_some, no_page, some_added)
 
       away : (m : ℕ) → page (lone p) m ≡ None → m ≢ p.m
       away m none same = no_page (page (lone p) p.m) here (subst (λ (k : ℕ). page (lone p) k ≡ None) same none)
 
       by_kind : (other : Kind) → kind ≡ other → IsImportKindSafe known d (lone_export p) added other →
           IsKindSafe known d p.id p.m p.n other
-      by_kind Again at k = safe.possibly p.m here (λ named.
-          let none : added ≡ 0 = safe.again.0 at in
-          let unnamed : names added p.m ≡ false = ap (λ (bits : ℕ). names bits p.m) none ∙ none_named p.m in
-          true_false (names added p.m) named unnamed)
-      by_kind New at k = (
-        not_here (λ none. let again : kind ≡ Again = safe.again.1 none in cc (again, at)),
-        k.0,
-        k.1,
-        (let l = length-lone p in let most : k.0 ≤ length (lone p) = k.2 in omega arith),
-        away k.0 k.3,
-        k.4,
-      )
-      by_kind Complete at k = (
-        not_here (λ none. let again : kind ≡ Again = safe.again.1 none in cc (again, at)),
-        (λ m least most other. k m least (let l = length-lone p in omega arith)
-            (λ named. other (lone_some p m head.first (safe.added m named)))),
-      )
+      by_kind Again at k = grind (arith, added, here, none_named, safe, true_false)
+      by_kind New at k = grind (arith, away, length-lone, not_here, safe)
+      by_kind Complete at k = grind (arith, length-lone, lone_some, not_here, safe)
 
 -- ---- steps
 
@@ -646,6 +623,4 @@ each_fair_reply_is_safe A ranges rooms moment earlier end apart run saved fair =
         IsSafe moment.before (known_of moment.before earlier) moment.event moment.reply
     by_case sound printed clean b (inl acts) =
         acts_safe A moment.before end earlier sound printed clean b moment.event moment.reply fair acts.0 (inl acts) acts.1
-    by_case sound printed clean b (inr none) =
-        subst (λ (r : Reply A). IsSafe moment.before (known_of moment.before earlier) moment.event r) (sym none.1)
-        (no_such_safe moment.before (known_of moment.before earlier) moment.event)
+    by_case sound printed clean b (inr none) = grind (arith, no_such_safe)

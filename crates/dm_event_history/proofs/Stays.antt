@@ -116,17 +116,12 @@ with_pages_left labels room held export kind answered sent clean = record {
     kept id other = get_other held export.id id (pages_with held export.id export.pages) other
 
     all_count : length (pages_with held export.id export.pages) ≡ length export.pages
-    all_count = length_both (unwrap_or (finite.get held export.id) []) export.pages
-        (no_longer room held export.id export.pages kind answered)
+    all_count = grind (arith, length_both, no_longer)
 
     either : (m : ℕ) (bytes : List ℕ) (o : Option (List ℕ)) → page_at held export.id m ≡ o →
         option_or (page_at held export.id m) (page export.pages m) ≡ Some bytes → HasLeft labels export.id m bytes
-    either m bytes None at given =
-        sent.pages m bytes (sym (ap (λ (o : Option (List ℕ)). option_or o (page export.pages m)) at) ∙ given)
-    either m bytes (Some found) at given =
-        let one : Some found ≡ Some bytes =
-        sym (ap (λ (o : Option (List ℕ)). option_or o (page export.pages m)) at) ∙ given in
-        clean.pages export.id m bytes (at ∙ one)
+    either m bytes None at given = grind arith
+    either m bytes (Some found) at given = grind arith
 
 -- ---- how a call ends
 

@@ -155,12 +155,7 @@ no_overlap {A} old new printer number ticket stop sound there g =
         Ended course held (TakeRefused take_fault.Overlap) g.end.actor →
         IsOverlapping held ticket × HasFree held.free ticket.range
     by_course held (Saves next goods reply) comes ended = (let e = sym comes.2.1.1 ∙ ended.0 in cc (e))
-    by_course held (Answers reply) comes ended =
-        let is : take_verdict held ticket ≡ Err take_fault.Overlap =
-        comes.2.1 ∙ ap (λ (f : TakeFault). Err f) (fault_is (sym comes.2.2 ∙ ended.0)) in
-        let overlaps : IsOverlapping held ticket = take_refuses (λ f. f ≡ take_fault.Overlap → IsOverlapping held ticket)
-        held ticket take_fault.Overlap (λ e. cc (e)) (λ e. cc (e)) (λ o e. o) (λ e. cc (e)) (λ e. cc (e)) is refl in
-        (overlaps, overlap_free held ticket comes.0 comes.1 overlaps.free)
+    by_course held (Answers reply) comes ended = grind (arith, fault_is, overlap_free, take_refuses)
     by_course held LacksMemory comes ended = absurd ended
 
     clash : (held : LedgerView) → slice_get old.printers printer ≡ Some (Running held) →
