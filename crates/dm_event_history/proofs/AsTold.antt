@@ -108,9 +108,7 @@ printer_tells {A} old new event printer Acts reply earlier named each b g =
             (ap (λ (who : Named). is_same who (PrinterAt p)) named ∙ other_number printer p there.0) in
             by_told _ _ _ _ actor o.0 o.1 (b.printers p actor there.1)
       ];
-      desks = λ d desk is.
-          let o = other_who old event reply earlier (DeskAt d) (ap (λ (who : Named). is_same who (DeskAt d)) named) in
-          by_told _ _ _ _ desk.actor o.0 o.1 (b.desks d desk is);
+      desks = grind (arith, by_told, other_who);
     })
 
 desk_tells : {A : Type 0} (old new : Relay) (event : Event A) (number : ℕ)

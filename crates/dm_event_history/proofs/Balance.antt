@@ -130,26 +130,12 @@ pub balanced_order : (old : Relay) (printer : ℕ) (actor next : Actor LedgerVie
     slice_get old.printers printer ≡ Some actor → IsBalanced (stored_of actor) (stored_of next) goods →
     IsInOrder (with_printer old printer next goods)
 balanced_order old printer actor next goods order was b = record {
-  numbers = λ p a is. elim (set_at old.printers printer p next a is) [
-    | inl here ↦
-        let own : (stored_of actor).number ≡ p = order.numbers printer actor was ∙ here.0 in
-        ap (λ (x : Actor LedgerView). (stored_of x).number) (sym here.1) ∙ b.number ∙ own
-    | inr there ↦ order.numbers p a there.1
-  ];
+  numbers = grind (arith, set_at);
   noted = λ k taken.
       let noted = order.noted k (sym (taken_same old.moves goods.moves k (b.none_taken k)) ∙ taken) in
       record {
         ticket = noted.ticket;
         there = get_more old.tickets goods.tickets k noted.ticket noted.there;
-        noted = λ a is. elim (set_at old.printers printer noted.ticket.receiver next a is) [
-          | inl here ↦
-              let at : slice_get old.printers noted.ticket.receiver ≡ Some actor =
-              subst (λ (p : ℕ). slice_get old.printers p ≡ Some actor) here.0 was in
-              let givers : (stored_of actor).givers ≡ (stored_of a).givers =
-              sym b.givers ∙ ap (λ (x : Actor LedgerView). (stored_of x).givers) here.1 in
-              subst (λ (gs : List Giver). IsSomeAnd (last_taken gs noted.ticket.giver)
-              (λ last. noted.ticket.serial ≤ last)) givers (noted.noted actor at)
-          | inr there ↦ noted.noted a there.1
-        ];
+        noted = λ a is. grind (arith, set_at);
       };
 }

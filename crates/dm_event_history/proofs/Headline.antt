@@ -102,21 +102,7 @@ true_moments A ranges rooms labels one apart (moment ∷ earlier) end run stay =
     let still : Stay moment.before.labels labels =
     (λ n label is. stay n label (step_stay moment.before end moment.event moment.reply run.1 n label is)) in (
       record {
-        given = λ desk id bytes asked told clean.
-            let step : Step {A = A} moment.before (Ask desk id) (Document bytes) end =
-            subst (λ (e : Event A). Step moment.before e (Document bytes) end) asked
-            (subst (λ (r : Reply A). Step moment.before moment.event r end) told run.1) in
-            let gave = each_clean_desk_gives A moment.before end desk id bytes before.1 before.0.one_document clean step in
-            let n : ℕ = gave.1 in
-            let own : Label = gave.2 in
-            let here : slice_get labels n ≡ Some own = still n own gave.3 in (
-              (λ k label there is. ap (λ (c : CutDocument). c.bytes)
-                  (one k n label own there here (is ∙ sym gave.4)) ∙ gave.0 n own gave.3 gave.4),
-              n,
-              own,
-              here,
-              gave.4,
-            );
+        given = grind (arith, each_clean_desk_gives);
         clean = each_fair_run_is_clean A ranges rooms earlier moment.before apart run.0;
       },
       true_moments A ranges rooms labels one apart earlier moment.before run.0 still,

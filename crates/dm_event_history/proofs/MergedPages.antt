@@ -52,8 +52,7 @@ differs_first (Some one) (Some two) ps qs other = record {
   other = two;
   held = refl;
   filed = refl;
-  differ = λ same. let d : Decides (bytes_eq one two) (one ≡ two) = bytes_eq-Decides one two in
-      let t : bytes_eq one two ≡ true = d.1 same in cc (t, other);
+  differ = grind (arith, bytes_eq-Decides);
 }
 
 -- lists that do not agree have such a page

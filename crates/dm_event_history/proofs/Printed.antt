@@ -61,10 +61,8 @@ each_printed cut id k (part ∷ parts) (x ∷ xs) are within made zero label is 
       are_parts = subst (λ (c : CutDocument). AreParts c.size c.scheme c.bytes c.parts) (sym made.0.cut_is) are;
       place = k;
       m_is = ap (λ (q : PageView). q.m) made.0.page_is;
-      n_is = ap (λ (q : PageView). q.n) made.0.page_is ∙
-          ap (λ (c : CutDocument). length c.parts) (sym made.0.cut_is);
-      part = ap (λ (c : CutDocument). slice_get c.parts k) made.0.cut_is ∙ at ∙
-          ap (λ (q : PageView). Some q.bytes) (sym made.0.page_is);
+      n_is = grind arith;
+      part = grind arith;
       carries = carries;
     })
 each_printed cut id k (part ∷ parts) (x ∷ xs) are within made (suc i) label is =

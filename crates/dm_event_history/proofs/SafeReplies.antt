@@ -183,21 +183,10 @@ module _ (A : Type 0) (old : Relay) (earlier : List (Moment A)) (d : ℕ) (held 
         document = t.0;
         printed = t.1;
         some_named = (first.0, names_missing pages first.0 ∙ first.1);
-        not_all = (
-          here.0,
-          place.0,
-          (let l = t.2 in let r = place.1 in omega arith),
-          (λ named. no_page (page pages here.0) here.1
-              ((lacks_means pages here.0).0 (sym (names_missing pages here.0) ∙ named)).2),
-        );
-        nothing_else = λ m named. let u = (lacks_means pages m).0 (sym (names_missing pages m) ∙ named) in
-            (u.0, (let a = u.1 in let l = t.2 in omega arith));
-        not_surely = λ m named. not_held id m pages is
-            ((lacks_means pages m).0 (sym (names_missing pages m) ∙ named)).2;
-        possibly = λ m least most unnamed. possibly id m pages is (elim (decided (lacks pages m)) [
-          | inl lack ↦ absurd (unnamed (names_missing pages m ∙ lack))
-          | inr has ↦ (lacks_means pages m).1 has least (let l = t.2 in omega arith)
-        ]);
+        not_all = grind (arith, here, lacks_means, names_missing, no_page);
+        nothing_else = grind (arith, lacks_means, names_missing);
+        not_surely = grind (arith, lacks_means, names_missing, not_held);
+        possibly = grind (arith, decided, lacks_means, names_missing);
       }
 
   all_possibly : (id : ℕ) (pages : Pages) → finite.get held id ≡ Some pages → list_all is_some pages ≡ true →
@@ -263,17 +252,9 @@ module _ (A : Type 0) (old : Relay) (earlier : List (Moment A)) (d : ℕ) (held 
         let same : desk ≡ other = cc (there, here) in
         record {
           others = finite.keys held;
-          enough = (let l = length-keys held in let r : desk.room ≡ other.room = ap (λ (x : Desk). x.room) same in
-              omega arith);
+          enough = grind (arith, length-keys);
           rising = keys_rise held;
-          each = λ i key at.
-              let k = key_held i key at in
-              let s = left.some key k.0 k.1 in (
-                (λ same. let a : finite.get held key ≡ None = ap (λ (x : ℕ). finite.get held x) same ∙ none in
-                    let b : finite.get held key ≡ Some k.0 = k.1 in cc (a, b)),
-                s.0,
-                possibly key s.0 k.0 k.1 s.1,
-              );
+          each = grind (arith, key_held, possibly);
         }),
   )
 

@@ -76,23 +76,8 @@ with_pages_left : (labels : List Label) (room : ℕ) (held : Documents) (export 
     add_kind room held export.id export.pages ≡ Ok kind → IsCleanExport labels export → HaveLeft labels held →
     HaveLeft labels (with_pages held export.id export.pages)
 with_pages_left labels room held export kind answered sent clean = record {
-  pages = λ id m bytes is. elim (same_or_other id export.id) [
-    | inl same ↦ subst (λ (i : ℕ). HasLeft labels i m bytes) (sym same)
-        (either m bytes (page_at held export.id m) refl (sym (page_given held export.id export.pages m) ∙
-        subst (λ (i : ℕ). page_at new i m ≡ Some bytes) same is))
-    | inr other ↦ clean.pages id m bytes (sym (page_found held new id m (kept id other)) ∙ is)
-  ];
-  counts = λ id pages is. elim (same_or_other id export.id) [
-    | inl same ↦
-        let there : finite.get new export.id ≡ Some pages =
-        subst (λ (i : ℕ). finite.get new i ≡ Some pages) same is in
-        let here : finite.get new export.id ≡ Some all = get_here held export.id all in
-        let same_pages : all ≡ pages = cc (there, here) in
-        let count : length export.pages ≡ length pages = sym all_count ∙ ap length same_pages in
-        subst (λ (i : ℕ). HasPages labels i (length pages)) (sym same)
-        (subst (λ (n : ℕ). HasPages labels export.id n) count sent.count)
-    | inr other ↦ clean.counts id pages (sym (kept id other) ∙ is)
-  ];
+  pages = grind (arith, either, kept, new, page_found, page_given, same_or_other);
+  counts = grind (arith, all, all_count, get_here, kept, new, same_or_other);
   some = λ id pages is. elim (same_or_other id export.id) [
     | inl same ↦
         let there : finite.get new export.id ≡ Some pages =
@@ -188,13 +173,7 @@ lone_clean labels number label there printed =
             m_is = sym m_is;
             bytes_are = cc (here, own);
           };
-      count = record {
-        number = number;
-        label = label;
-        there = there;
-        id_is = refl;
-        n_is = sym (length-lone label.page);
-      };
+      count = grind (arith, length-lone);
       some = (label.page.m, subst IsSome (sym (lone_here label.page head.first head.last)) refl);
     }
 

@@ -105,22 +105,13 @@ module _ (old : Relay) (printer number : ℕ) (ticket : TicketView) (actor next 
 
   pub taking_order : IsInOrder (with_printer old printer next goods)
   taking_order = record {
-    numbers = λ p a is. elim (set_at old.printers printer p next a is) [
-      | inl here ↦
-          ap (λ (x : Actor LedgerView). (stored_of x).number) (sym here.1) ∙ t.takes.number ∙
-          order.numbers printer actor was ∙ here.0
-      | inr rest ↦ order.numbers p a rest.1
-    ];
+    numbers = grind (arith, set_at);
     noted = λ k taken. elim (taken_by old.moves number k
         (subst (λ (ms : List Move). is_taken (old.moves ++ ms) k ≡ true) t.moves_are taken)) [
           | inl same ↦ subst (λ (j : ℕ). IsNoted (with_printer old printer next goods) j) same (record {
             ticket = ticket;
             there = get_more old.tickets goods.tickets number ticket there;
-            noted = λ a is. elim (set_at old.printers printer ticket.receiver next a is) [
-              | inl here ↦ subst (λ (x : Actor LedgerView). IsSomeAnd (last_taken (stored_of x).givers ticket.giver)
-                  (λ last. ticket.serial ≤ last)) here.1 own_noted
-              | inr rest ↦ absurd (rest.0 (sym is_here))
-            ];
+            noted = grind (arith, is_here, own_noted, set_at);
           })
           | inr before ↦
               let noted = order.noted k before in
