@@ -1,6 +1,6 @@
 -- What a verdict on pages that are to be added comes to, by what is held.
-use Rattle.std.proofs.Common.{◌≡◌, ◌≢◌, ◌⊎◌, ◌≤◌, ◌-◌, ℕ, zero, suc, ◌&&◌, leb, true, false, Option, Some, None, Result, Ok, Err, List, [], ◌∷◌, length, IsSome, refl, ap, sym, ◌∙◌, arith, eq-eqb}
-use Rattle.std.specs.Prelude.{is_none, is_some, replicate}
+use Rattle.std.proofs.Common.{◌≡◌, ◌≢◌, ◌⊎◌, ◌≤◌, ℕ, zero, suc, ◌&&◌, leb, true, false, Option, Some, None, Result, Ok, Err, List, [], ◌∷◌, length, IsSome, refl, ap, sym, ◌∙◌, arith, eq-eqb}
+use Rattle.std.specs.Prelude.{is_none, is_some}
 use Rattle.std.specs.FinMap.{get, len}
 use Rattle.dm_append_label.specs.Pages.{PageView}
 use Rattle.dm_assembly_desk.specs.Accepting.{lone}
@@ -83,11 +83,7 @@ some_there (None ∷ ps) some = later (some_there ps (λ none. some (omega arith
 
 pub some_added : (own pages : Pages) → added_mask own pages ≢ 0 →
     (m : ℕ) × IsSome (page pages m) × (page own m ≡ None)
-some_added [] pages some = (let t = some_there pages some in (t.0, t.1, page_none t.0))
-  where
-    page_none : (m : ℕ) → page [] m ≡ None
-    page_none zero = refl
-    page_none (suc i) = refl
+some_added [] pages some = grind (arith, some_there)
 some_added (p ∷ ps) [] some = absurd (some refl)
 some_added (None ∷ ps) (Some x ∷ qs) some = (1, refl, refl)
 some_added (None ∷ ps) (None ∷ qs) some = later (some_added ps qs (λ none. some (omega arith)))
@@ -106,8 +102,7 @@ some_added (Some y ∷ ps) (q ∷ qs) some = later (some_added ps qs (λ none. s
 -- ---- the page of a label alone
 
 pub length-lone : (p : PageView) → length (lone p) ≡ p.n
-length-lone p =
-    (let none : Option (List ℕ) = None in length-set_at (replicate p.n none) (p.m - 1) (Some p.bytes)) ∙ length-blank p.n
+length-lone p = grind (arith, length-blank, length-set_at)
 
 pub lone_some : (p : PageView) (m : ℕ) → 1 ≤ p.m → IsSome (page (lone p) m) → m ≡ p.m
 lone_some p m least some = grind (arith, lone_else, same_or_other)

@@ -1,4 +1,4 @@
--- As long as each scan is fair, all desks and all exports are clean.
+-- As long as each scan that may have saved is fair, all desks and all exports are clean.
 use Rattle.std.proofs.Common.{arith, ◌≡◌, inl, inr, ℕ, Some, true, Result, List, [], ◌++◌, length, slice_get, sym, ap, subst, ◌∙◌}
 use Rattle.dm_finder_frame.specs.Grids.{flipped}
 use Rattle.dm_check_blocks.specs.declared.size.Size.{Size}
@@ -9,7 +9,7 @@ use Rattle.dm_assembly_desk.specs.Documents.{Documents}
 use Rattle.dm_event_history.specs.declared.event.Event.{Event}
 use Rattle.dm_event_history.specs.declared.event.Event.TheVariants.{Print, Scan, RestartPrinter, RestartDesk, Ask, Forget, Give, Take, Export, Import}
 use Rattle.dm_event_history.specs.declared.reply.Reply.{Reply}
-use Rattle.dm_event_history.proofs.Gotten.{in_either}
+use Rattle.dm_event_history.proofs.Gotten.{in_either, set_at}
 use Rattle.dm_append_label.specs.declared.opening.Opened.{Opened}
 use Rattle.dm_append_label.specs.declared.fault.LabelFault.{LabelFault}
 use Rattle.dm_event_history.specs.declared.stop.Stop.{Stop}
@@ -18,7 +18,7 @@ use Rattle.dm_event_history.proofs.Deciding.{decided, true_false}
 use Rattle.dm_event_history.proofs.Having.{CourseHas, HasAll, calls_have, may_lack_has}
 use Rattle.dm_event_history.specs.Actors.{Actor, Running}
 use Rattle.dm_event_history.specs.Relay as relays
-use Rattle.dm_event_history.specs.Relay.{Desk, Goods, Label, Relay, nothing}
+use Rattle.dm_event_history.specs.Relay.{Desk, Goods, Label, Relay}
 use Rattle.dm_event_history.specs.Calls.{Calls, Course, Ending, Looks, MayLackFirst, ends}
 use Rattle.dm_event_history.specs.PrinterCalls.{GiveComes, PrintComes, TakeComes}
 use Rattle.dm_event_history.specs.DeskCalls.{ExportTells, MayBe, ScanComes, scan_course, scan_faults}
@@ -27,7 +27,7 @@ use Rattle.dm_event_history.specs.Clean.{ArePrinted, HaveLeft, IsClean, IsCleanA
 use Rattle.dm_event_history.specs.Headline.{AreAllClean, IsFairEvent}
 use Rattle.dm_event_history.proofs.LeavingGoods.{IsClosed, Leaves, OfCourse, calls_leave, may_lack_leaves, restarts_leave}
 use Rattle.dm_event_history.proofs.DeskGoods.{ask_leaves, forget_leaves, import_leaves, scan_leaves}
-use Rattle.dm_event_history.proofs.Stays.{actor_more, each_step_keeps_clean, got_set, more_left, more_pages}
+use Rattle.dm_event_history.proofs.Stays.{actor_more, each_step_keeps_clean, more_left, more_pages}
 
 -- each of the exports is clean
 abbrev AreClean : List Label → List relays.Export → Type 0
@@ -136,16 +136,9 @@ acts_send old new (RestartDesk desk) reply all acts =
 -- a fair event of what is there does no harm where all is clean
 harmless : {A : Type 0} (old : Relay) (event : Event A) (desk : ℕ) → AreAllClean old → IsFairEvent old event →
     IsNamed old event → IsHarmless old event desk
-harmless old (Print printer document size scheme stop) own all fair named = tt
-harmless old (Give printer receiver range stop) own all fair named = tt
-harmless old (Take printer number stop) own all fair named = tt
-harmless old (RestartPrinter printer) own all fair named = tt
 harmless old (Scan desk number flips stop) own all fair named = λ same. fair named
-harmless old (Forget desk id stop) own all fair named = tt
 harmless old (Import desk number stop) own all fair named = λ same export there. all.exports number export there
-harmless old (Ask desk id) own all fair named = tt
-harmless old (Export desk id) own all fair named = tt
-harmless old (RestartDesk desk) own all fair named = tt
+harmless old event own all fair named = tt
 
 pub all_stay_clean : {A : Type 0} (old new : Relay) (event : Event A) (reply : Reply A) → ArePrinted old.labels →
     AreAllClean old → IsFairEvent old event → Step old event reply new → AreAllClean new
@@ -154,8 +147,7 @@ all_stay_clean {A} old new event reply printed all fair (inl acts) = record {
       (harmless old event desk all fair acts.0) (inl acts);
   exports = acts_send old new event reply all acts.1;
 }
-all_stay_clean old new event reply printed all fair (inr none) =
-    subst (λ (r : Relay). AreAllClean r) (sym none.2) all
+all_stay_clean old new event reply printed all fair (inr none) = grind arith
 
 -- ---- scans that did not save
 
@@ -166,7 +158,7 @@ of_all : (labels : List Label) (actor : Actor Documents) → HasAll (HaveLeft la
 of_all labels actor h = grind arith
 
 -- what a scan that was answered so comes to is not kept
-unsaved_course : {A : Type 0} (Q : Documents → Type 0) (desk number : ℕ) (flips : List (ℕ × ℕ)) (stop : Stop)
+pub unsaved_course : {A : Type 0} (Q : Documents → Type 0) (desk number : ℕ) (flips : List (ℕ × ℕ)) (stop : Stop)
     (reply : Reply A) (held : Documents) (k : Result (Opened A) LabelFault) (room : ℕ) (course : Course A Documents) →
     ¬ (may_save (Scan desk number flips stop) reply ≡ true) → MayBe (scan_course room held k) course →
     reply ≡ (ends scan_faults stop course (Running held)).reply → CourseHas Q stop course
@@ -176,10 +168,10 @@ unsaved_clean : {A : Type 0} (old new : Relay) (desk number : ℕ) (flips : List
     AreAllClean old → ¬ (may_save (Scan desk number flips stop) reply ≡ true) →
     Acts old (Scan desk number flips stop) reply new → AreAllClean new
 unsaved_clean {A} old new desk number flips stop reply all unsaved acts = record {
-  desks = λ own. subst (λ (r : Relay). IsClean r own) (sym g.new_is) (λ d is. elim (got_set old.desks desk own _ d is) [
+  desks = λ own. subst (λ (r : Relay). IsClean r own) (sym g.new_is) (λ d is. elim (set_at old.desks desk own _ d is) [
     | inl here ↦ subst (λ (x : Desk). IsCleanActor (old.labels ++ g.end.goods.labels) x.actor) here.1
         (actor_more old.labels g.end.goods.labels g.end.actor (of_all old.labels g.end.actor kept))
-    | inr there ↦ actor_more old.labels g.end.goods.labels d.actor (all.desks own d there)
+    | inr there ↦ actor_more old.labels g.end.goods.labels d.actor (all.desks own d there.1)
   ]);
   exports = acts_send old new (Scan desk number flips stop) reply all acts;
 }
@@ -202,28 +194,11 @@ unsaved_clean {A} old new desk number flips stop reply all unsaved acts = record
 pub all_stay_so : {A : Type 0} (old new : Relay) (event : Event A) (reply : Reply A) → ArePrinted old.labels →
     AreAllClean old → (may_save event reply ≡ true → IsFairEvent old event) → Step old event reply new →
     AreAllClean new
-all_stay_so {A} old new event reply printed all fair (inr none) =
-    subst (λ (r : Relay). AreAllClean r) (sym none.2) all
+all_stay_so old new event reply printed all fair (inr none) = grind arith
 all_stay_so {A} old new (Scan desk number flips stop) reply printed all fair (inl acts) =
     elim (decided (may_save (Scan desk number flips stop) reply)) [
       | inl may ↦ all_stay_clean old new (Scan desk number flips stop) reply printed all (fair may) (inl acts)
       | inr none ↦ unsaved_clean old new desk number flips stop reply all (λ may. true_false _ may none) acts.1
     ]
-all_stay_so old new (Print printer document size scheme stop) reply printed all fair (inl acts) =
-    all_stay_clean old new (Print printer document size scheme stop) reply printed all tt (inl acts)
-all_stay_so old new (Give printer receiver range stop) reply printed all fair (inl acts) =
-    all_stay_clean old new (Give printer receiver range stop) reply printed all tt (inl acts)
-all_stay_so old new (Take printer number stop) reply printed all fair (inl acts) =
-    all_stay_clean old new (Take printer number stop) reply printed all tt (inl acts)
-all_stay_so old new (RestartPrinter printer) reply printed all fair (inl acts) =
-    all_stay_clean old new (RestartPrinter printer) reply printed all tt (inl acts)
-all_stay_so old new (Forget desk id stop) reply printed all fair (inl acts) =
-    all_stay_clean old new (Forget desk id stop) reply printed all tt (inl acts)
-all_stay_so old new (Import desk number stop) reply printed all fair (inl acts) =
-    all_stay_clean old new (Import desk number stop) reply printed all tt (inl acts)
-all_stay_so old new (Ask desk id) reply printed all fair (inl acts) =
-    all_stay_clean old new (Ask desk id) reply printed all tt (inl acts)
-all_stay_so old new (Export desk id) reply printed all fair (inl acts) =
-    all_stay_clean old new (Export desk id) reply printed all tt (inl acts)
-all_stay_so old new (RestartDesk desk) reply printed all fair (inl acts) =
-    all_stay_clean old new (RestartDesk desk) reply printed all tt (inl acts)
+all_stay_so old new event reply printed all fair (inl acts) =
+    all_stay_clean old new event reply printed all tt (inl acts)

@@ -1,11 +1,11 @@
 -- Calls that are answered: the printer or the desk runs, and it comes to what is answered.
-use Rattle.std.proofs.Common.{arith, ◌≡◌, ◌≢◌, Some, refl, sym, ap, subst, ◌∙◌}
+use Rattle.std.proofs.Common.{arith, ◌≡◌, ◌≢◌, Some, refl, sym, ap, ◌∙◌}
 use Rattle.dm_store.specs.declared.fuse.Kept.TheVariants.{Old, New}
 use Rattle.dm_event_history.specs.declared.reply.Reply.{Reply}
 use Rattle.dm_event_history.specs.declared.reply.Reply.TheVariants as replies
 use Rattle.dm_event_history.specs.declared.stop.Stop.{Stop}
 use Rattle.dm_event_history.specs.declared.stop.Stop.TheVariants as stops
-use Rattle.dm_event_history.specs.declared.stop.Stop.TheVariants.{BeforeSave, InSave, SaveFault, AfterLabels}
+use Rattle.dm_event_history.specs.declared.stop.Stop.TheVariants.{InSave, SaveFault, AfterLabels}
 use Rattle.dm_event_history.specs.Actors.{Actor, Running, Failed, Down, shown_of}
 use Rattle.dm_event_history.specs.Relay.{Goods}
 use Rattle.dm_event_history.specs.Calls.{Answers, Calls, Course, Ending, Faults, LacksMemory, Looks, MayLackFirst, Reaches, Saves, ends}
@@ -37,45 +37,26 @@ by_ends : {A C : Type 0} (faults : Faults A) (stop : Stop) (Comes : C → Course
     (course : Course A C) (reply : Reply A) → IsOwn faults reply → Reaches stop (Comes held course) →
     (let e = ends faults stop course (Running held) in e.reply ≡ reply →
     IsAnswered Comes (Running held) reply e.actor)
-by_ends faults BeforeSave Comes held course reply own came is = absurd (own.stopped (sym is))
-by_ends faults (InSave Old) Comes held course reply own came is = absurd (own.stopped (sym is))
-by_ends faults stops.None Comes held (Saves next goods told) reply own came is =
-    record { held = held; was = refl; course = Saves next goods told; comes = came; ended = (is, refl) }
+by_ends faults stops.None Comes held (Saves next goods told) reply own came is = grind arith
 by_ends faults (SaveFault Old) Comes held (Saves next goods told) reply own came is = absurd (own.save (sym is))
-by_ends faults (SaveFault New) Comes held (Saves next goods told) reply own came is = absurd (own.save (sym is))
+by_ends faults (InSave Old) Comes held course reply own came is = absurd (own.stopped (sym is))
 by_ends faults (InSave New) Comes held (Saves next goods told) reply own came is = absurd (own.stopped (sym is))
 by_ends faults (AfterLabels most) Comes held (Saves next goods told) reply own came is = absurd (own.stopped (sym is))
-by_ends faults stops.None Comes held (Answers told) reply own came is =
-    record { held = held; was = refl; course = Answers told; comes = came; ended = (is, refl) }
-by_ends faults (SaveFault kept) Comes held (Answers told) reply own came is =
-    record { held = held; was = refl; course = Answers told; comes = came; ended = (is, refl) }
-by_ends faults (InSave New) Comes held (Answers told) reply own came is = absurd (own.stopped (sym is))
-by_ends faults (AfterLabels most) Comes held (Answers told) reply own came is = absurd (own.stopped (sym is))
-by_ends faults stops.None Comes held LacksMemory reply own came is = absurd (own.memory (sym is))
-by_ends faults (SaveFault kept) Comes held LacksMemory reply own came is = absurd (own.memory (sym is))
-by_ends faults (InSave New) Comes held LacksMemory reply own came is = absurd (own.lacks (sym is))
-by_ends faults (AfterLabels most) Comes held LacksMemory reply own came is = absurd (own.lacks (sym is))
+by_ends faults stop Comes held course reply own came is = grind arith
 
 -- one that has failed answers so, or is stopped
 failed_ends : {A C : Type 0} (faults : Faults A) (stop : Stop) (old : Actor C) (reply : Reply A) → IsOwn faults reply →
     (ends faults stop (Answers faults.failed) old).reply ≡ reply → ⊥
-failed_ends faults BeforeSave old reply own is = own.stopped (sym is)
 failed_ends faults (InSave Old) old reply own is = own.stopped (sym is)
-failed_ends faults stops.None old reply own is = own.failed (sym is)
-failed_ends faults (SaveFault kept) old reply own is = own.failed (sym is)
-failed_ends faults (InSave New) old reply own is = own.stopped (sym is)
-failed_ends faults (AfterLabels most) old reply own is = own.stopped (sym is)
+failed_ends faults stop old reply own is = search (own.stopped, own.failed, sym is)
 
 pub is_answered : {A C : Type 0} (faults : Faults A) (stop : Stop) (Comes : C → Course A C → Type 0)
     (actor : Actor C) (end : Ending A C) (reply : Reply A) → IsOwn faults reply → Calls faults stop Comes actor end →
     end.reply ≡ reply → IsAnswered Comes actor reply end.actor
-is_answered {A} {C} faults stop Comes (Running held) end reply own acts is =
-    subst (λ (e : Ending A C). IsAnswered Comes (Running held) reply e.actor) (sym acts.2)
-    (by_ends faults stop Comes held acts.0 reply own acts.1 (sym (ap (λ (e : Ending A C). e.reply) acts.2) ∙ is))
+is_answered {A} {C} faults stop Comes (Running held) end reply own acts is = grind (arith, by_ends)
 is_answered {A} {C} faults stop Comes (Failed shown stored) end reply own acts is =
     absurd (failed_ends faults stop (Failed shown stored) reply own (sym (ap (λ (e : Ending A C). e.reply) acts) ∙ is))
-is_answered {A} {C} faults stop Comes (Down stored) end reply own acts is =
-    absurd (own.down (sym is ∙ ap (λ (e : Ending A C). e.reply) acts))
+is_answered {A} {C} faults stop Comes (Down stored) end reply own acts is = grind arith
 
 -- the same, where memory may be refused first
 pub is_made : {A C : Type 0} (Acts : Actor C → Ending A C → Type 0) (actor : Actor C) (end : Ending A C)

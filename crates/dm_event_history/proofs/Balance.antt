@@ -14,10 +14,10 @@ use Rattle.dm_print_ledger.specs.Changes.{least, single}
 use Rattle.dm_print_ledger.specs.Verdicts.{ticket_of}
 use Rattle.dm_event_history.specs.declared.stop.Stop.{Stop}
 use Rattle.dm_event_history.specs.declared.stop.Stop.TheVariants as stops
-use Rattle.dm_event_history.specs.declared.stop.Stop.TheVariants.{BeforeSave, InSave, SaveFault, AfterLabels}
+use Rattle.dm_event_history.specs.declared.stop.Stop.TheVariants.{InSave, SaveFault, AfterLabels}
 use Rattle.dm_event_history.specs.declared.reply.Reply.{Reply}
 use Rattle.dm_event_history.proofs.Deciding.{decided}
-use Rattle.dm_event_history.proofs.Gotten.{get_more}
+use Rattle.dm_event_history.proofs.Gotten.{get_more, set_at}
 use Rattle.dm_event_history.proofs.LedgerFacts.{LosesNumbers, give_loses, made_print}
 use Rattle.dm_event_history.specs.Actors.{Actor, Running, Failed, Down, stored_of}
 use Rattle.dm_event_history.specs.Relay.{Goods, Label, Relay, Used, nothing, with_printer}
@@ -26,7 +26,6 @@ use Rattle.dm_event_history.specs.PrinterCalls.{GiveComes, PrintComes}
 use Rattle.dm_event_history.specs.Places.{IsInOrder, gone, is_taken, one_if, places}
 use Rattle.dm_event_history.proofs.Numbers.{all_in, free_set, gone_lost, gone_more, lost_takes_none, on_more, on_new, on_same, taken_same}
 use Rattle.dm_event_history.proofs.Reaching.{reached, reaches}
-use Rattle.dm_event_history.proofs.Stays.{got_set}
 
 -- ---- a ledger and what leaves it
 
@@ -54,21 +53,12 @@ IsBalancedCourse held LacksMemory = Unit {0}
 ends_balanced : {A : Type 0} (faults : Faults A) (stop : Stop) (course : Course A LedgerView) (old : Actor LedgerView) →
     Reaches stop (IsBalancedCourse (stored_of old) course) →
     IsBalanced (stored_of old) (stored_of (ends faults stop course old).actor) (ends faults stop course old).goods
-ends_balanced faults BeforeSave course old b = still (stored_of old)
-ends_balanced faults (InSave Old) course old b = still (stored_of old)
 ends_balanced faults stops.None (Saves next goods reply) old b = b
-ends_balanced faults (SaveFault Old) (Saves next goods reply) old b = still (stored_of old)
 ends_balanced faults (SaveFault New) (Saves next goods reply) old b = cut_balanced (stored_of old) next goods 0 b
 ends_balanced faults (InSave New) (Saves next goods reply) old b = cut_balanced (stored_of old) next goods 0 b
 ends_balanced faults (AfterLabels most) (Saves next goods reply) old b = cut_balanced (stored_of old) next goods most b
-ends_balanced faults stops.None (Answers reply) old b = still (stored_of old)
-ends_balanced faults (SaveFault kept) (Answers reply) old b = still (stored_of old)
-ends_balanced faults (InSave New) (Answers reply) old b = still (stored_of old)
-ends_balanced faults (AfterLabels most) (Answers reply) old b = still (stored_of old)
-ends_balanced faults stops.None LacksMemory old b = still (stored_of old)
-ends_balanced faults (SaveFault kept) LacksMemory old b = still (stored_of old)
-ends_balanced faults (InSave New) LacksMemory old b = still (stored_of old)
-ends_balanced faults (AfterLabels most) LacksMemory old b = still (stored_of old)
+ends_balanced faults (SaveFault Old) (Saves next goods reply) old b = still (stored_of old)
+ends_balanced faults stop course old b = still (stored_of old)
 
 abbrev pub Balances : {A : Type 0} → (Actor LedgerView → Ending A LedgerView → Type 0) → Type 0
 Balances {A} Acts = (actor : Actor LedgerView) (end : Ending A LedgerView) → Acts actor end →
@@ -81,10 +71,8 @@ as_known {A} held end known is b = grind arith
 pub calls_balance : {A : Type 0} (faults : Faults A) (stop : Stop) (Comes : LedgerView → Course A LedgerView → Type 0) →
     ((held : LedgerView) (course : Course A LedgerView) → Comes held course → IsBalancedCourse held course) →
     Balances (Calls faults stop Comes)
-calls_balance faults stop Comes each (Running held) end acts =
-    as_known held end _ acts.2 (ends_balanced faults stop acts.0 (Running held) (reaches stop (each held acts.0) acts.1))
-calls_balance faults stop Comes each (Failed shown stored) end acts =
-    as_known stored end _ acts (ends_balanced faults stop (Answers faults.failed) (Failed shown stored) (reached stop tt))
+calls_balance faults stop Comes each (Running held) end acts = grind (arith, as_known, ends_balanced, reaches)
+calls_balance faults stop Comes each (Failed shown stored) end acts = grind (arith, as_known, ends_balanced, reached)
 calls_balance faults stop Comes each (Down stored) end acts = as_known stored end _ acts (still stored)
 
 pub may_lack_balances : {A : Type 0} (Acts : Actor LedgerView → Ending A LedgerView → Type 0) → Balances Acts →
@@ -142,26 +130,12 @@ pub balanced_order : (old : Relay) (printer : ℕ) (actor next : Actor LedgerVie
     slice_get old.printers printer ≡ Some actor → IsBalanced (stored_of actor) (stored_of next) goods →
     IsInOrder (with_printer old printer next goods)
 balanced_order old printer actor next goods order was b = record {
-  numbers = λ p a is. elim (got_set old.printers printer p next a is) [
-    | inl here ↦
-        let own : (stored_of actor).number ≡ p = order.numbers printer actor was ∙ here.0 in
-        ap (λ (x : Actor LedgerView). (stored_of x).number) (sym here.1) ∙ b.number ∙ own
-    | inr there ↦ order.numbers p a there
-  ];
+  numbers = grind (arith, set_at);
   noted = λ k taken.
       let noted = order.noted k (sym (taken_same old.moves goods.moves k (b.none_taken k)) ∙ taken) in
       record {
         ticket = noted.ticket;
         there = get_more old.tickets goods.tickets k noted.ticket noted.there;
-        noted = λ a is. elim (got_set old.printers printer noted.ticket.receiver next a is) [
-          | inl here ↦
-              let at : slice_get old.printers noted.ticket.receiver ≡ Some actor =
-              subst (λ (p : ℕ). slice_get old.printers p ≡ Some actor) here.0 was in
-              let givers : (stored_of actor).givers ≡ (stored_of a).givers =
-              sym b.givers ∙ ap (λ (x : Actor LedgerView). (stored_of x).givers) here.1 in
-              subst (λ (gs : List Giver). IsSomeAnd (last_taken gs noted.ticket.giver)
-              (λ last. noted.ticket.serial ≤ last)) givers (noted.noted actor at)
-          | inr there ↦ noted.noted a there
-        ];
+        noted = λ a is. grind (arith, set_at);
       };
 }

@@ -17,6 +17,7 @@ use Rattle.dm_event_history.specs.Relay.{Desk, Label, empty_desk, fresh_from, st
 use Rattle.dm_event_history.specs.Clean.{ArePrinted, HaveLeft}
 use Rattle.dm_event_history.specs.Headline.{AreAllClean}
 use Rattle.dm_event_history.specs.Places.{IsSound, free_at, one_if, opened}
+use Rattle.dm_event_history.proofs.Told.{page_none}
 
 -- ---- numbers
 
@@ -64,25 +65,12 @@ free_once from (range ∷ ranges) number apart =
 pub fresh_free : (from : ℕ) (ranges : List Range) (number : ℕ) →
     free_at (fresh_from from ranges) number ≡ opened ranges number
 fresh_free from [] number = refl
-fresh_free from (range ∷ ranges) number =
-    let here : one_if (is_in range number || false) ≡ one_if (is_in range number) =
-    ap one_if (or_false (is_in range number)) in
-    let rest = fresh_free (from + 1) ranges number in omega arith
+fresh_free from (range ∷ ranges) number = grind (arith, or_false, (fresh_free (from + 1) ranges number))
 
 fresh_number : (from : ℕ) (ranges : List Range) (p : ℕ) (actor : Actor LedgerView) →
     slice_get (fresh_from from ranges) p ≡ Some actor → (stored_of actor).number ≡ from + p
 fresh_number from [] p actor is = cc
-fresh_number from (range ∷ ranges) zero actor is =
-    let own : from ≡ (stored_of actor).number = some_number is in
-    omega arith
-  where
-    some_number : Some (Running (record { number = from; next_serial = 0; free = range ∷ []; givers = [] })) ≡ Some actor →
-        from ≡ (stored_of actor).number
-    some_number e = number_of (cc (e))
-      where
-        number_of : Running (record { number = from; next_serial = 0; free = range ∷ []; givers = [] }) ≡ actor →
-            from ≡ (stored_of actor).number
-        number_of same = ap (λ (a : Actor LedgerView). (stored_of a).number) same
+fresh_number from (range ∷ ranges) zero actor is = grind arith
 fresh_number from (range ∷ ranges) (suc p) actor is = (let h = fresh_number (from + 1) ranges p actor is in omega arith)
 
 pub start_sound : (ranges : List Range) (rooms : List ℕ) → AreDisjoint ranges → IsSound (start ranges rooms)
@@ -92,9 +80,6 @@ pub start_printed : (ranges : List Range) (rooms : List ℕ) → ArePrinted (sta
 start_printed ranges rooms i label is = absurd (cc (is))
 
 -- ---- desks
-
-page_none : (m : ℕ) → page [] m ≡ None
-page_none m = grind arith
 
 abbrev pub none_held : Documents
 none_held = finite.empty
@@ -122,9 +107,7 @@ nothing_at id m some =
 pub empty_there : (rooms : List ℕ) (d : ℕ) (desk : Desk) → slice_get (map empty_desk rooms) d ≡ Some desk →
     Running none_held ≡ desk.actor
 empty_there [] d desk is = cc
-empty_there (room ∷ rooms) zero desk is =
-    let same : empty_desk room ≡ desk = cc (is) in
-    ap (λ (x : Desk). x.actor) same
+empty_there (room ∷ rooms) zero desk is = grind arith
 empty_there (room ∷ rooms) (suc d) desk is = empty_there rooms d desk is
 
 pub start_clean : (ranges : List Range) (rooms : List ℕ) → AreAllClean (start ranges rooms)

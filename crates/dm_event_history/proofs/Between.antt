@@ -1,5 +1,6 @@
--- What a desk holds, in a run in which each scan is fair: all that it surely holds, and nothing but what it may hold.
-use Rattle.std.proofs.Common.{◌≡◌, ◌≢◌, ◌⊎◌, ◌<◌, inl, inr, true, ℕ, zero, suc, length, arith, Option, Some, None, Ok, Err, Result, List, [], ◌∷◌, slice_get, slice_set, IsSome, refl, sym, ap, subst, ◌∙◌}
+-- What a desk holds, as long as each scan that may have saved is fair: all that it surely holds, and nothing but what
+-- it may hold.
+use Rattle.std.proofs.Common.{◌≡◌, ◌≢◌, ◌⊎◌, ◌<◌, inl, inr, true, ℕ, length, arith, Some, Ok, Err, Result, List, [], ◌∷◌, slice_get, IsSome, refl, sym, ap, subst, ◌∙◌}
 use Rattle.std.specs.FinMap as finite
 use Rattle.dm_append_label.specs.Heads.{IsHead, head_of}
 use Rattle.dm_append_label.specs.Opening.{LabelOpens, OpensNear}
@@ -18,9 +19,8 @@ use Rattle.dm_assembly_desk.specs.Accepting.{lone}
 use Rattle.dm_assembly_desk.specs.Adding.{add_verdict, with_pages, add_kind}
 use Rattle.dm_finder_frame.specs.Grids.{flipped}
 use Rattle.dm_print_ledger.specs.declared.range.Range.{Range}
-use Rattle.dm_print_ledger.specs.Views.{LedgerView}
 use Rattle.dm_event_history.specs.declared.event.Event.{Event}
-use Rattle.dm_event_history.specs.declared.event.Event.TheVariants.{Print, Scan, RestartPrinter, RestartDesk, Ask, Forget, Give, Take, Export, Import}
+use Rattle.dm_event_history.specs.declared.event.Event.TheVariants.{Scan, RestartDesk, Ask, Forget, Export, Import}
 use Rattle.dm_event_history.specs.declared.reply.Reply.{Reply}
 use Rattle.dm_event_history.specs.declared.reply.Reply.TheVariants.{Scanned, Forgotten, Imported}
 use Rattle.dm_event_history.specs.declared.reply.Reply.TheVariants as replies
@@ -28,24 +28,26 @@ use Rattle.dm_event_history.specs.declared.stop.Stop.{Stop}
 use Rattle.dm_event_history.specs.Saving.{leaves_new, may_save, stop_of}
 use Rattle.dm_event_history.specs.Actors.{Actor, Running}
 use Rattle.dm_event_history.specs.Relay as relays
-use Rattle.dm_event_history.specs.Relay.{Desk, Label, Relay, empty_desk, start, nothing}
+use Rattle.dm_event_history.specs.Relay.{Desk, Label, Relay, start, nothing}
 use Rattle.dm_event_history.specs.Calls.{Calls, Course, Ending, Faults, LacksMemory, Looks, MayLackFirst, ends}
-use Rattle.dm_event_history.specs.DeskCalls.{AskTells, ExportTells, ForgetComes, ImportComes, MayBe, ScanComes, forget_faults, import_faults, scan_course, scan_faults, verdict_course, page_reply, pages_reply, forget_reply}
-use Rattle.dm_event_history.specs.Steps.{Acts, DeskGoes, HasModules, IsNamed, PrinterGoes, Step}
+use Rattle.dm_event_history.specs.DeskCalls.{AskTells, ExportTells, ForgetComes, ImportComes, MayBe, ScanComes, forget_faults, import_faults, scan_course, scan_faults, verdict_course, page_reply, pages_reply}
+use Rattle.dm_event_history.specs.Steps.{Acts, DeskGoes, HasModules, IsNamed, Step}
 use Rattle.dm_event_history.specs.Runs.{Moment, IsRun}
 use Rattle.dm_event_history.specs.Clean.{ArePrinted}
 use Rattle.dm_event_history.specs.Places.{AreDisjoint}
-use Rattle.dm_event_history.specs.Headline.{AreFairMoments, IsFairEvent}
+use Rattle.dm_event_history.specs.Headline.{AreSavedFair, IsFairEvent}
 use Rattle.dm_event_history.specs.Held.{Forgets, IsPossiblyHeld, IsSurelyHeld, MayForget, MayTake, Takes}
-use Rattle.dm_event_history.proofs.Deciding.{same_or_other}
+use Rattle.dm_event_history.proofs.Deciding.{decided, same_or_other, true_false}
+use Rattle.dm_event_history.proofs.AllClean.{unsaved_course}
 use Rattle.dm_event_history.proofs.Headline.{each_run_is_sound}
 use Rattle.dm_event_history.proofs.Beginning.{empty_there, nothing_at}
 use Rattle.dm_event_history.proofs.Adds.{held_all, lone_some, Answer, by_verdict}
 use Rattle.dm_event_history.proofs.Having.{CourseHas, HasAll, calls_have, has_map, looks_have, may_lack_has, restarts_have, saves_may}
 use Rattle.dm_event_history.proofs.Answered.{IsAnswered, is_answered, is_made}
-use Rattle.dm_event_history.proofs.Told.{AddTold, Has, IsAfter, add_ended, forget_told, own_forget, own_import, own_scan, scan_told, was_wanted, with_pages_has, with_pages_keeps, with_pages_only, without_keeps, without_only, forget_by}
-use Rattle.dm_assembly_desk.specs.Forgetting.{forget_verdict}
+use Rattle.dm_event_history.proofs.Told.{AddTold, Has, IsAfter, add_ended, forget_told, own_forget, own_import, own_scan, scan_told, was_wanted, with_pages_has, with_pages_keeps, with_pages_only, without_keeps, without_only}
 use Rattle.dm_assembly_desk.proofs.LonePages.{lone_here}
+use Rattle.dm_event_history.proofs.Gotten.{set_at}
+use Rattle.dm_event_history.specs.WhoActs.{PrinterAt, actor_of}
 
 pub record IsBetween {A : Type 0} (h : List (Moment A)) (desk : ℕ) (held : Documents) : Type 0 where
   pub surely : (id m : ℕ) → IsSurelyHeld h desk id m → Has held id m
@@ -98,8 +100,7 @@ module _ (A : Type 0) (before : Relay) (event : Event A) (stop : Stop) (faults :
     where
       known : (held : Documents) → IsBetween (after before event reply earlier) desk held → end ≡ Running held →
           HasAll (IsBetween (after before event reply earlier) desk) end
-      known held new is =
-          subst (λ (x : Actor Documents). HasAll (IsBetween (after before event reply earlier) desk) x) (sym is) new
+      known held new is = grind arith
 
       by_kind : (kind : Kind) → add_kind room held id pages ≡ Ok kind → IsAfter kind held (with_pages held id pages) end →
           HasAll (IsBetween (after before event reply earlier) desk) end
@@ -131,21 +132,24 @@ not_scanned before desk number flips stop reply never at id m took = grind arith
 
 module _ (A : Type 0) (before : Relay) (desk number room : ℕ) (flips : List (ℕ × ℕ)) (stop : Stop) (label : Label)
     (earlier : List (Moment A)) (there : slice_get before.labels number ≡ Some label)
-    (head : IsHead (head_of label.page))
-    (near : (read : Result (Opened A) LabelFault) → LabelOpens (flipped label.grid flips) read →
-    OpensNear label.page read) where
+    (head : IsHead (head_of label.page)) where
+  -- where it may have saved it was fair
+  abbrev IsFairlyRead : Reply A → Type 0
+  IsFairlyRead reply = may_save (Scan desk number flips stop) reply ≡ true → (read : Result (Opened A) LabelFault) →
+      LabelOpens (flipped label.grid flips) read → OpensNear label.page read
+
   may : (reply : Reply A) (i m : ℕ) → may_save {A = A} (Scan desk number flips stop) reply ≡ true → i ≡ label.page.id →
       IsSome (page (lone label.page) m) → MayTake {A = A} before (Scan desk number flips stop) reply desk i m
-  may reply i m saved same some =
-      (refl, saved, (label, there, sym same, sym (lone_some label.page m head.first some)))
+  may reply i m saved same some = grind (arith, lone_some)
 
   -- a scan that was answered with a page
-  scanned_so : (actor end : Actor Documents) (a : Accepted) → HasAll (IsBetween earlier desk) actor →
+  scanned_so : (actor end : Actor Documents) (a : Accepted) → IsFairlyRead (Scanned a) →
+      HasAll (IsBetween earlier desk) actor →
       IsAnswered {A = A} (ScanComes room (flipped label.grid flips)) actor (Scanned a) end →
       HasAll (IsBetween (after before (Scan desk number flips stop) (Scanned a) earlier) desk) end
-  scanned_so actor end a between ans =
+  scanned_so actor end a near between ans =
       let read = ans.comes.0 in
-      let told = scan_told room label.page ans.held a end read (near read ans.comes.1)
+      let told = scan_told room label.page ans.held a end read (near refl read ans.comes.1)
       (was_wanted (scan_course room ans.held read) ans.course ans.held (Scanned a) end ans.comes.2 ans.ended) in
       let same : record { id = label.page.id; m = label.page.m; n = label.page.n; kind = told.kind } ≡ a =
       scanned_is told.told in
@@ -162,25 +166,25 @@ module _ (A : Type 0) (before : Relay) (desk number room : ℕ) (flips : List (�
       scanned_is e = cc (e)
 
   -- one that was not
-  unscanned : (reply : Reply A) → ((a : Accepted) → reply ≢ Scanned a) → (held : Documents)
+  unscanned : (reply : Reply A) → ((a : Accepted) → reply ≢ Scanned a) → IsFairlyRead reply → (held : Documents)
       (course : Course A Documents) → IsBetween earlier desk held → ScanComes room (flipped label.grid flips) held course →
       reply ≡ (ends scan_faults stop course (Running held)).reply →
       CourseHas (IsBetween (after before (Scan desk number flips stop) reply earlier) desk) stop course
-  unscanned reply never held course b comes is =
-      by_read comes.0 (near comes.0 comes.1) comes.2
+  unscanned reply never near held course b comes is = elim (decided (may_save (Scan desk number flips stop) reply)) [
+    | inl may ↦ by_read comes.0 (near may comes.0 comes.1) comes.2
+    | inr none ↦ unsaved_course _ desk number flips stop reply held comes.0 room course (λ may. true_false _ may none)
+        comes.2 is
+  ]
     where
       still : (wanted : Course A Documents) →
           CourseHas (IsBetween (after before (Scan desk number flips stop) reply earlier) desk) stop wanted →
           MayBe wanted course →
           CourseHas (IsBetween (after before (Scan desk number flips stop) reply earlier) desk) stop course
-      still wanted c (inl same) =
-          subst (λ (c : Course A Documents). CourseHas (IsBetween (after before (Scan desk number flips stop) reply earlier)
-          desk) stop c) (sym same) c
-      still wanted c (inr lack) =
-          subst (λ (c : Course A Documents). CourseHas (IsBetween (after before (Scan desk number flips stop) reply earlier)
-          desk) stop c) (sym lack.0) tt
+      still wanted c (inl same) = grind arith
+      still wanted c (inr lack) = grind arith
 
-      by_read : (read : Result (Opened A) LabelFault) → OpensNear label.page read → MayBe (scan_course room held read) course →
+      by_read : (read : Result (Opened A) LabelFault) → OpensNear label.page read →
+          MayBe (scan_course room held read) course →
           CourseHas (IsBetween (after before (Scan desk number flips stop) reply earlier) desk) stop course
       by_read (Ok opened) same may_be =
           unanswered A before (Scan desk number flips stop) stop scan_faults (page_reply label.page) desk
@@ -191,16 +195,17 @@ module _ (A : Type 0) (before : Relay) (desk number room : ℕ) (flips : List (�
       by_read (Err label_fault.Memory) same may_be = still LacksMemory tt may_be
       by_read (Err fault) same may_be = still (scan_course room held (Err fault)) tt may_be
 
-  pub scan_between : (actor : Actor Documents) (end : Ending A Documents) → HasAll (IsBetween earlier desk) actor →
+  pub scan_between : (actor : Actor Documents) (end : Ending A Documents) → IsFairlyRead end.reply →
+      HasAll (IsBetween earlier desk) actor →
       MayLackFirst (Calls scan_faults stop (ScanComes room (flipped label.grid flips))) actor end →
       HasAll (IsBetween (after before (Scan desk number flips stop) end.reply earlier) desk) end.actor
-  scan_between actor end b acts = elim (is_scanned end.reply) [
+  scan_between actor end near b acts = elim (is_scanned end.reply) [
     | inl told ↦
         let called = is_made (Calls scan_faults stop (ScanComes room (flipped label.grid flips))) actor end (Scanned told.0)
         (λ e. cc (e)) acts told.1 in
         subst (λ (r : Reply A). HasAll (IsBetween (after before (Scan desk number flips stop) r earlier) desk) end.actor)
         (sym told.1)
-        (scanned_so actor end.actor told.0 b
+        (scanned_so actor end.actor told.0 (subst (λ (r : Reply A). IsFairlyRead r) told.1 near) b
         (is_answered scan_faults stop (ScanComes room (flipped label.grid flips)) actor end (Scanned told.0)
         (own_scan told.0) called told.1))
     | inr never ↦
@@ -211,7 +216,7 @@ module _ (A : Type 0) (before : Relay) (desk number room : ℕ) (flips : List (�
         may_lack_has Q (Calls scan_faults stop (ScanComes room (flipped label.grid flips))) actor end
         (has_map Old Q keep actor b)
         (λ called. calls_have Old Q scan_faults stop (ScanComes room (flipped label.grid flips)) actor end b keep
-        (λ held course old comes is. unscanned end.reply never held course old comes
+        (λ held course old comes is. unscanned end.reply never near held course old comes
         (ap (λ (e : Ending A Documents). e.reply) is)) called) acts
   ]
 
@@ -234,44 +239,20 @@ module _ (A : Type 0) (before : Relay) (desk name : ℕ) (stop : Stop) (earlier 
   pub forget_between : (actor : Actor Documents) (end : Ending A Documents) → HasAll (IsBetween earlier desk) actor →
       Calls forget_faults stop (ForgetComes name) actor end →
       HasAll (IsBetween (after before (Forget desk name stop) end.reply earlier) desk) end.actor
-  forget_between actor end b acts = elim (is_forgotten end.reply) [
-    | inl told ↦
-        let ans = is_answered forget_faults stop (ForgetComes name) actor end Forgotten own_forget acts told in
-        let f = forget_told A name ans.held end.actor (finite.get ans.held name) refl
-        (was_wanted (verdict_course forget_reply (forget_verdict ans.held name)) ans.course ans.held Forgotten end.actor
-        ans.comes ans.ended) in
-        subst (λ (r : Reply A). HasAll (IsBetween (after before (Forget desk name stop) r earlier) desk) end.actor)
-        (sym told)
-        (subst (λ (x : Actor Documents). HasAll (IsBetween (after before (Forget desk name stop) Forgotten earlier) desk) x)
-        (sym f.after_is)
-        (without ans.held Forgotten refl
-        (subst (λ (x : Actor Documents). HasAll (IsBetween earlier desk) x) ans.was b)))
-    | inr never ↦
-        let Old : Documents → Type 0 = IsBetween earlier desk in
-        let Q : Documents → Type 0 = IsBetween (after before (Forget desk name stop) end.reply earlier) desk in
-        calls_have Old Q forget_faults stop (ForgetComes name) actor end b
-        (stays before (Forget desk name stop) end.reply earlier desk (λ id m t. t)
-        (λ id f. not_forgotten desk name stop end.reply never desk id f))
-        (λ held course old comes is. came end.reply held course old (finite.get held name) comes
-        (ap (λ (e : Ending A Documents). e.reply) is)) acts
-  ]
-    where
-      came : (reply : Reply A) (held : Documents) (course : Course A Documents) → IsBetween earlier desk held →
-          (o : Option Pages) → MayBe (verdict_course forget_reply (forget_by held name o)) course →
-          reply ≡ (ends forget_faults stop course (Running held)).reply →
-          CourseHas (IsBetween (after before (Forget desk name stop) reply earlier) desk) stop course
-      came reply held course old None (inl same) is =
-          subst (λ (c : Course A Documents). CourseHas (IsBetween (after before (Forget desk name stop) reply earlier) desk)
-          stop c) (sym same) tt
-      came reply held course old (Some pages) (inl same) is =
-          subst (λ (c : Course A Documents). (reply ≡ (ends forget_faults stop c (Running held)).reply) →
-          CourseHas (IsBetween (after before (Forget desk name stop) reply earlier) desk) stop c) (sym same)
-          (λ told stores. without held reply
-          (ap (λ (r : Reply A). may_save (Forget desk name stop) r) told
-          ∙ saves_may (Forget desk name stop) forget_faults stop _ _ _ (Running held) refl refl refl stores) old) is
-      came reply held course old o (inr lack) is =
-          subst (λ (c : Course A Documents). CourseHas (IsBetween (after before (Forget desk name stop) reply earlier) desk)
-          stop c) (sym lack.0) tt
+  forget_between actor end b acts =
+      grind (
+        arith,
+        calls_have,
+        forget_told,
+        is_answered,
+        is_forgotten,
+        not_forgotten,
+        own_forget,
+        saves_may,
+        stays,
+        was_wanted,
+        without,
+      )
 
 -- ---- imports
 
@@ -326,24 +307,13 @@ module _ (A : Type 0) (before : Relay) (desk number room : ℕ) (stop : Stop) (e
         calls_have Old Q import_faults stop (ImportComes room export) actor end b
         (stays before (Import desk number stop) end.reply earlier desk
         (λ id m t. not_imported before desk number stop end.reply never desk id m t) (λ id f. f))
-        (λ held course old comes is. unanswered A before (Import desk number stop) stop import_faults pages_reply desk export.id export.pages earlier (λ reply i f. f) may_file room held end.reply course refl refl
+        (λ held course old comes is. unanswered A before (Import desk number stop) stop import_faults pages_reply desk
+        export.id export.pages earlier (λ reply i f. f) may_file room held end.reply course refl refl
         (λ i. refl) (λ id m t. absurd (not_imported before desk number stop end.reply never desk id m t)) old comes
         (ap (λ (e : Ending A Documents). e.reply) is)) acts
   ]
 
 -- ---- steps
-
--- what stands at a place once another element was put somewhere
-pub set_at : {X : Type 0} (xs : List X) (i j : ℕ) (x y : X) → slice_get (slice_set xs i x) j ≡ Some y →
-    ((i ≡ j) × (x ≡ y)) ⊎ ((i ≢ j) × (slice_get xs j ≡ Some y))
-set_at [] i j x y is = cc
-set_at (z ∷ zs) zero zero x y is = inl (refl, cc (is))
-set_at (z ∷ zs) zero (suc j) x y is = inr ((λ e. absurd (omega (arith, e))), is)
-set_at (z ∷ zs) (suc i) zero x y is = inr ((λ e. absurd (omega (arith, e))), is)
-set_at (z ∷ zs) (suc i) (suc j) x y is = elim (set_at zs i j x y is) [
-  | inl here ↦ inl (ap suc here.0, here.1)
-  | inr there ↦ inr ((λ e. there.0 (omega (arith, e))), there.1)
-]
 
 -- only an event of this desk takes or forgets here
 scan_here : {A : Type 0} (before : Relay) (desk number : ℕ) (flips : List (ℕ × ℕ)) (stop : Stop) (reply : Reply A)
@@ -368,10 +338,15 @@ module _ (A : Type 0) (old new : Relay) (event : Event A) (reply : Reply A) (ear
       DeskGoes old number Acts reply new → AreBetween (after old event reply earlier) new
   desk_between number Acts others own g = grind (arith, has_map, own, set_at)
 
-  printer_between : (printer : ℕ) (Acts : Actor LedgerView → Ending A LedgerView → Type 0) →
-      ((at : ℕ) (held : Documents) → IsBetween earlier at held → IsBetween (after old event reply earlier) at held) →
-      PrinterGoes old printer Acts reply new → AreBetween (after old event reply earlier) new
-  printer_between printer Acts others g = grind arith
+  same_between : ((at : ℕ) (held : Documents) → IsBetween earlier at held →
+      IsBetween (after old event reply earlier) at held) → new.desks ≡ old.desks →
+      AreBetween (after old event reply earlier) new
+  same_between others same = grind arith
+
+-- an event of a printer leaves the desks
+desks_same : {A : Type 0} (old new : Relay) (event : Event A) (reply : Reply A) (printer : ℕ) →
+    actor_of event ≡ PrinterAt printer → Acts old event reply new → new.desks ≡ old.desks
+desks_same old new event reply printer who acts = grind arith
 
 -- the answer to a look takes nothing
 quiet : {A : Type 0} (old : Relay) (event : Event A) (reply : Reply A) (earlier : List (Moment A)) →
@@ -380,21 +355,10 @@ quiet : {A : Type 0} (old : Relay) (event : Event A) (reply : Reply A) (earlier 
 quiet old event reply earlier none still at held b = grind arith
 
 acts_between : (A : Type 0) (old new : Relay) (event : Event A) (reply : Reply A) (earlier : List (Moment A)) →
-    ArePrinted old.labels → IsFairEvent old event → AreBetween earlier old → Acts old event reply new →
+    ArePrinted old.labels → (may_save event reply ≡ true → IsFairEvent old event) → AreBetween earlier old →
+    Acts old event reply new →
     ((number : ℕ) (flips : List (ℕ × ℕ)) (desk : ℕ) (stop : Stop) → event ≡ Scan desk number flips stop →
     (desk < length old.desks) × HasModules old number flips) → AreBetween (after old event reply earlier) new
-acts_between A old new (Print printer document size scheme stop) reply earlier p fair b acts named =
-    printer_between A old new _ reply earlier b printer _
-    (quiet old (Print printer document size scheme stop) reply earlier (λ at id m t. t) (λ at id f. f)) acts
-acts_between A old new (Give printer receiver range stop) reply earlier p fair b acts named =
-    printer_between A old new _ reply earlier b printer _
-    (quiet old (Give printer receiver range stop) reply earlier (λ at id m t. t) (λ at id f. f)) acts
-acts_between A old new (Take printer number stop) reply earlier p fair b acts named =
-    printer_between A old new _ reply earlier b printer _
-    (quiet old (Take printer number stop) reply earlier (λ at id m t. t) (λ at id f. f)) acts.2
-acts_between A old new (RestartPrinter printer) reply earlier p fair b acts named =
-    printer_between A old new _ reply earlier b printer _
-    (quiet old (RestartPrinter printer) reply earlier (λ at id m t. t) (λ at id f. f)) acts
 acts_between A old new (Scan desk number flips stop) reply earlier p fair b acts named =
     let printed = p number acts.0 acts.1 in
     desk_between A old new _ reply earlier b desk _
@@ -402,9 +366,10 @@ acts_between A old new (Scan desk number flips stop) reply earlier p fair b acts
     (λ id m t. away (scan_here old desk number flips stop reply at id m t)) (λ id f. f) held x)
     (λ room actor end h is called.
     subst (λ (r : Reply A). HasAll (IsBetween (after old (Scan desk number flips stop) r earlier) desk) end.actor) (sym is)
-    (scan_between A old desk number room flips stop acts.0 earlier acts.1 printed.carries.is_head
-    (λ read opens. opens.near acts.0.grid acts.0.page printed.carries
-    (fair (named number flips desk stop refl) acts.0 acts.1)) actor end h called)) acts.2
+    (scan_between A old desk number room flips stop acts.0 earlier acts.1 printed.carries.is_head actor end
+    (λ saved read opens. opens.near acts.0.grid acts.0.page printed.carries
+    (fair (ap (λ (r : Reply A). may_save (Scan desk number flips stop) r) is ∙ saved)
+    (named number flips desk stop refl) acts.0 acts.1)) h called)) acts.2
 acts_between A old new (Forget desk id stop) reply earlier p fair b acts named =
     desk_between A old new _ reply earlier b desk _
     (λ at away held x. stays old (Forget desk id stop) reply earlier at (λ i m t. t)
@@ -423,7 +388,8 @@ acts_between A old new (Ask desk id) reply earlier p fair b acts named =
     let still = quiet old (Ask desk id) reply earlier (λ at i m t. t) (λ at i f. f) in
     desk_between A old new _ reply earlier b desk _ (λ at away. still at)
     (λ room actor end h is called. looks_have (IsBetween (after old (Ask desk id) reply earlier) desk)
-    (AskTells {A = A} id) actor end (has_map (IsBetween earlier desk) (IsBetween (after old (Ask desk id) reply earlier) desk) (still desk) actor h)
+    (AskTells {A = A} id) actor end
+    (has_map (IsBetween earlier desk) (IsBetween (after old (Ask desk id) reply earlier) desk) (still desk) actor h)
     called) acts
 acts_between A old new (Export desk id) reply earlier p fair b acts named =
     let still = quiet old (Export desk id) reply earlier (λ at i m t. t) (λ at i f. f) in
@@ -442,6 +408,7 @@ acts_between A old new (RestartDesk desk) reply earlier p fair b acts named =
     (replies.DeskRefused desk_fault.Memory) actor end
     (has_map (IsBetween earlier desk) (IsBetween (after old (RestartDesk desk) reply earlier) desk) (still desk) actor h)
     called) acts
+acts_between A old new event reply earlier p fair b acts named = grind (arith, desks_same, quiet, same_between)
 
 -- what is not there takes and forgets nothing
 none_taken : {A : Type 0} (old : Relay) (event : Event A) (at id m : ℕ) → ¬ Takes old event replies.NoSuch at id m
@@ -456,19 +423,16 @@ names_scan : {A : Type 0} (old : Relay) (event : Event A) → IsNamed old event 
 names_scan {A} old event named number flips desk stop is = grind arith
 
 step_between : (A : Type 0) (old new : Relay) (event : Event A) (reply : Reply A) (earlier : List (Moment A)) →
-    ArePrinted old.labels → IsFairEvent old event → AreBetween earlier old → Step old event reply new →
-    AreBetween (after old event reply earlier) new
+    ArePrinted old.labels → (may_save event reply ≡ true → IsFairEvent old event) → AreBetween earlier old →
+    Step old event reply new → AreBetween (after old event reply earlier) new
 step_between A old new event reply earlier p fair b (inl acts) =
     acts_between A old new event reply earlier p fair b acts.1 (names_scan old event acts.0)
 step_between A old new event reply earlier p fair b (inr none) =
-    subst (λ (r : Relay). AreBetween (after old event reply earlier) r) (sym none.2)
-    (subst (λ (r : Reply A). AreBetween (after old event r earlier) old) (sym none.1)
-    (λ at desk is. has_map (IsBetween earlier at) _
-    (quiet old event replies.NoSuch earlier (none_taken old event) (none_forgotten event) at) desk.actor (b at desk is)))
+    grind (arith, has_map, none_forgotten, none_taken, quiet)
 
--- a run in which each scan is fair
+-- a run in which each scan that may have saved was fair
 pub run_between : (A : Type 0) (ranges : List Range) (rooms : List ℕ) (h : List (Moment A)) (end : Relay) →
-    AreDisjoint ranges → IsRun (start ranges rooms) h end → AreFairMoments h → AreBetween h end
+    AreDisjoint ranges → IsRun (start ranges rooms) h end → AreSavedFair h → AreBetween h end
 run_between A ranges rooms [] end apart run fair =
     (let none : List (Moment A) = [] in subst (λ (r : Relay). AreBetween none r) (sym run)
     (λ at desk is. subst (λ (x : Actor Documents). HasAll (IsBetween none at) x) (empty_there rooms at desk is) (record {

@@ -21,6 +21,9 @@ or_right b c x = grind arith
 pub true_false : (b : Bool) → b ≡ true → b ≡ false → ⊥
 true_false b x y = grind arith
 
+pub never : {X : Type 0} (b : Bool) → b ≡ false → b ≡ true → X
+never b unset set = grind arith
+
 pub decided : (b : Bool) → (b ≡ true) ⊎ (b ≡ false)
 decided b = grind arith
 

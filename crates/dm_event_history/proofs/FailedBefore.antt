@@ -1,28 +1,21 @@
 -- `Failed` is answered by what answered `Save` since it was last restarted.
-use Rattle.std.proofs.Common.{arith, ◌≡◌, ℕ, Bool, true, false, List, length, refl, sym, ap, ◌∙◌}
-use Rattle.dm_finder_frame.specs.Grids.{flipped}
+use Rattle.std.proofs.Common.{arith, ◌≡◌, ℕ, Bool, true, false, List, sym, ap, ◌∙◌}
 use Rattle.dm_print_ledger.specs.Views.{LedgerView}
-use Rattle.dm_print_ledger.specs.declared.fault.OpenFault.TheVariants as open_fault
-use Rattle.dm_assembly_desk.specs.declared.fault.DeskFault.TheVariants as desk_fault
 use Rattle.dm_assembly_desk.specs.Documents.{Documents}
 use Rattle.dm_event_history.specs.declared.event.Event.{Event}
-use Rattle.dm_event_history.specs.declared.event.Event.TheVariants.{Print, Scan, RestartPrinter, RestartDesk, Ask, Forget, Give, Take, Export, Import}
 use Rattle.dm_event_history.specs.declared.reply.Reply.{Reply}
-use Rattle.dm_event_history.specs.declared.reply.Reply.TheVariants as replies
 use Rattle.dm_event_history.specs.declared.stop.Stop.{Stop}
 use Rattle.dm_event_history.specs.WhoActs.{DeskAt, Named, PrinterAt, actor_of}
 use Rattle.dm_event_history.specs.Actors.{Actor, Running, Failed, Down}
 use Rattle.dm_event_history.specs.Relay.{Goods, Relay}
 use Rattle.dm_event_history.specs.Calls.{Calls, Course, Ending, Faults, Looks, MayLackFirst, Reaches, Restarts, ends}
-use Rattle.dm_event_history.specs.DeskCalls.{AskTells, ExportTells}
 use Rattle.dm_event_history.specs.Steps.{Acts, DeskGoes, PrinterGoes}
 use Rattle.dm_event_history.specs.Runs.{Moment}
 use Rattle.dm_event_history.specs.Told.{AreAsTold, EachFailedFailed, IsAsTold, is_failed, tells_failed}
 use Rattle.dm_event_history.proofs.Reaching.{reaches}
-use Rattle.dm_event_history.proofs.AsTold.{ArePlain, IsPlain, IsPlainCourse, ask_plain, each_run_is_as_told, export_plain, fine_forget, fine_give, fine_import, fine_print, fine_scan, fine_take, forget_plain, give_plain, import_plain, print_plain, scan_plain, take_plain}
-
-never : {X : Type 0} (b : Bool) → b ≡ false → b ≡ true → X
-never b unset set = grind arith
+use Rattle.dm_event_history.proofs.AsTold.{each_run_is_as_told}
+use Rattle.dm_event_history.proofs.ByKind.{ArePlain, IsPlainAnswer, IsPlainCourse, by_kind}
+use Rattle.dm_event_history.proofs.Deciding.{never}
 
 -- one that runs doesn't tell so
 running_ends : {A C X : Type 0} (faults : Faults A) (stop : Stop) (course : Course A C) (held : C) → ArePlain faults →
@@ -40,15 +33,14 @@ calls_before {A} {C} faults stop Comes fine each (Running held) end down failed 
     running_ends faults stop acts.0 held fine (reaches stop (each held acts.0) acts.1)
     (sym (ap (λ (e : Ending A C). tells_failed e.reply) acts.2) ∙ told)
 calls_before faults stop Comes fine each (Failed shown stored) end down failed t acts told = t.1
-calls_before {A} {C} faults stop Comes fine each (Down stored) end down failed t acts told =
-    never _ (ap (λ (e : Ending A C). tells_failed e.reply) acts) told
+calls_before {A} {C} faults stop Comes fine each (Down stored) end down failed t acts told = grind (arith, never)
 
 may_lack_before : {A C : Type 0} (Acts : Actor C → Ending A C → Type 0) → FailsBefore Acts →
     FailsBefore (MayLackFirst Acts)
 may_lack_before {A} {C} Acts each held end down failed t lack told = grind arith
 
 looks_before : {A C : Type 0} (Said : C → Reply A → Goods → Type 0) →
-    ((held : C) (reply : Reply A) (goods : Goods) → Said held reply goods → IsPlain reply) → FailsBefore (Looks Said)
+    ((held : C) (reply : Reply A) (goods : Goods) → Said held reply goods → IsPlainAnswer reply) → FailsBefore (Looks Said)
 looks_before Said each held end down failed t acts told = grind arith
 
 restarts_before : {A C : Type 0} (refused : Reply A) → tells_failed refused ≡ false →
@@ -72,38 +64,11 @@ desk_before {A} old new event number Acts reply h named each b g told = grind ar
 
 acts_before : {A : Type 0} (old new : Relay) (event : Event A) (reply : Reply A) (h : List (Moment A)) →
     AreAsTold h old → Acts old event reply new → tells_failed reply ≡ true → is_failed h (actor_of event) ≡ true
-acts_before old new (Print printer document size scheme stop) reply h b acts told =
-    printer_before old new (Print printer document size scheme stop) printer _ reply h refl
-    (may_lack_before _ (calls_before _ stop _ fine_print (print_plain (length old.labels) document size scheme))) b acts told
-acts_before old new (Give printer receiver range stop) reply h b acts told =
-    printer_before old new (Give printer receiver range stop) printer _ reply h refl
-    (may_lack_before _ (calls_before _ stop _ fine_give (give_plain (length old.tickets) receiver range))) b acts told
-acts_before old new (Take printer number stop) reply h b acts told =
-    printer_before old new (Take printer number stop) printer _ reply h refl
-    (calls_before _ stop _ fine_take (take_plain number acts.0)) b acts.2 told
-acts_before old new (RestartPrinter printer) reply h b acts told =
-    printer_before old new (RestartPrinter printer) printer _ reply h refl
-    (restarts_before (replies.PrinterRefused open_fault.Memory) refl) b acts told
-acts_before old new (Scan desk number flips stop) reply h b acts told =
-    desk_before old new (Scan desk number flips stop) desk _ reply h refl
-    (λ room. may_lack_before _ (calls_before _ stop _ fine_scan (scan_plain room (flipped acts.0.grid flips)))) b acts.2
-    told
-acts_before old new (Forget desk id stop) reply h b acts told =
-    desk_before old new (Forget desk id stop) desk _ reply h refl
-    (λ room. calls_before _ stop _ fine_forget (forget_plain id)) b acts told
-acts_before old new (Import desk number stop) reply h b acts told =
-    desk_before old new (Import desk number stop) desk _ reply h refl
-    (λ room. calls_before _ stop _ fine_import (import_plain room acts.0)) b acts.2 told
-acts_before {A} old new (Ask desk id) reply h b acts told =
-    desk_before old new (Ask desk id) desk _ reply h refl
-    (λ room. looks_before (AskTells {A = A} id) (ask_plain id)) b acts told
-acts_before {A} old new (Export desk id) reply h b acts told =
-    desk_before old new (Export desk id) desk _ reply h refl
-    (λ room. may_lack_before _ (looks_before (ExportTells {A = A} (length old.exports) id)
-    (export_plain (length old.exports) id))) b acts told
-acts_before old new (RestartDesk desk) reply h b acts told =
-    desk_before old new (RestartDesk desk) desk _ reply h refl
-    (λ room. restarts_before (replies.DeskRefused desk_fault.Memory) refl) b acts told
+acts_before old new event reply h b acts told =
+    by_kind old new event reply (λ C stop Does. FailsBefore Does) _ (λ C. calls_before) (λ C stop. may_lack_before)
+    (λ C. looks_before) (λ some C refused is. restarts_before refused is.before)
+    (λ printer Does named each g. printer_before old new event printer Does reply h named each b g told)
+    (λ number Does named each g. desk_before old new event number Does reply h named each b g told) acts
 
 pub each_failed_failed : (A : Type 0) → EachFailedFailed A
 each_failed_failed A ranges rooms moment earlier end run told = grind (arith, acts_before, each_run_is_as_told, never)

@@ -1,20 +1,20 @@
 -- The headline, of every run.
-use Rattle.std.proofs.Common.{◌≡◌, ◌≤◌, ◌==◌, inl, inr, ℕ, zero, suc, true, Some, List, [], ◌∷◌, slice_get, refl, sym, ap, subst, ◌∙◌, arith, eq-eqb}
+use Rattle.std.proofs.Common.{◌≡◌, ◌+◌, ◌≤◌, ℕ, zero, suc, Some, List, [], ◌∷◌, slice_get, refl, sym, ap, subst, ◌∙◌, arith, eq-eqb}
 use Rattle.dm_print_ledger.specs.declared.range.Range.{Range}
 use Rattle.dm_print_ledger.specs.Views.{LedgerView}
 use Rattle.dm_assembly_desk.specs.Documents.{Documents}
 use Rattle.dm_event_history.specs.declared.event.Event.{Event}
-use Rattle.dm_event_history.specs.declared.event.Event.TheVariants.{Print, Scan, RestartPrinter, RestartDesk, Ask, Forget, Give, Take, Export, Import}
+use Rattle.dm_event_history.specs.declared.event.Event.TheVariants.{Ask}
 use Rattle.dm_event_history.specs.declared.reply.Reply.{Reply}
 use Rattle.dm_event_history.specs.declared.reply.Reply.TheVariants.{Document}
 use Rattle.dm_event_history.specs.Actors.{Actor}
-use Rattle.dm_event_history.specs.Relay.{CutDocument, Label, Lost, Move, Relay, Took, Used, start}
+use Rattle.dm_event_history.specs.Relay.{CutDocument, Label, Move, Relay, Used, start}
 use Rattle.dm_event_history.specs.Calls.{Ending}
 use Rattle.dm_event_history.specs.Steps.{Acts, DeskGoes, PrinterGoes, Step}
 use Rattle.dm_event_history.specs.Runs.{IsRun, Moment}
 use Rattle.dm_event_history.specs.Clean.{AreOfOneDocument, ArePrinted}
-use Rattle.dm_event_history.specs.Places.{AreDisjoint, IsSound, gone, one_if, places}
-use Rattle.dm_event_history.specs.Headline.{AreAllClean, AreFairMoments, AreSavedFair, AreTrueMoments, EachRunIsSound, EachRunIsTrue, EachRunKeepsNumbers, PrintsOnce}
+use Rattle.dm_event_history.specs.Places.{AreDisjoint, IsSound, gone, places}
+use Rattle.dm_event_history.specs.Headline.{AreAllClean, AreSavedFair, AreTrueMoments, EachRunIsSound, EachRunIsTrue, EachRunKeepsNumbers, PrintsOnce}
 use Rattle.dm_event_history.proofs.Gotten.{get_more}
 use Rattle.dm_event_history.proofs.AllClean.{all_stay_so}
 use Rattle.dm_event_history.proofs.Beginning.{fresh_free, start_clean, start_printed, start_sound}
@@ -30,21 +30,14 @@ pub each_run_is_sound : (A : Type 0) → EachRunIsSound A
 each_run_is_sound A ranges rooms [] end apart run =
     subst (λ (r : Relay). IsSoundAndPrinted r) (sym run) (start_sound ranges rooms apart, start_printed ranges rooms)
 each_run_is_sound A ranges rooms (moment ∷ earlier) end apart run =
-    let before = each_run_is_sound A ranges rooms earlier moment.before apart run.0 in (
-      each_step_is_sound A moment.before end moment.event moment.reply before.0 run.1,
-      each_step_prints A moment.before end moment.event moment.reply before.1 run.1,
-    )
+    (let before = each_run_is_sound A ranges rooms earlier moment.before apart run.0 in
+    grind (arith, each_step_is_sound, each_step_prints))
 
 -- ---- clean
 
-pub saved_fair : {A : Type 0} (h : List (Moment A)) → AreFairMoments h → AreSavedFair h
-saved_fair [] fair = tt
-saved_fair (moment ∷ earlier) fair = ((λ _. fair.0), saved_fair earlier fair.1)
-
 pub each_fair_run_is_clean : (A : Type 0) (ranges : List Range) (rooms : List ℕ) (h : List (Moment A)) (end : Relay) →
     AreDisjoint ranges → IsRun (start ranges rooms) h end → AreSavedFair h → AreAllClean end
-each_fair_run_is_clean A ranges rooms [] end apart run fair =
-    subst (λ (r : Relay). AreAllClean r) (sym run) (start_clean ranges rooms)
+each_fair_run_is_clean A ranges rooms [] end apart run fair = grind (arith, start_clean)
 each_fair_run_is_clean A ranges rooms (moment ∷ earlier) end apart run fair =
     all_stay_so moment.before end moment.event moment.reply
     (each_run_is_sound A ranges rooms earlier moment.before apart run.0).1
@@ -65,61 +58,31 @@ desk_stay old new desk Acts reply g n label is = grind (arith, get_more)
 
 step_stay : {A : Type 0} (old new : Relay) (event : Event A) (reply : Reply A) → Step old event reply new →
     Stay old.labels new.labels
-step_stay old new event reply (inr none) =
-    (λ n label is. subst (λ (r : Relay). slice_get r.labels n ≡ Some label) (sym none.2) is)
-step_stay old new (Print printer document size scheme stop) reply (inl acts) =
-    printer_stay old new printer _ reply acts.1
-step_stay old new (Give printer receiver range stop) reply (inl acts) = printer_stay old new printer _ reply acts.1
-step_stay old new (Take printer number stop) reply (inl acts) = printer_stay old new printer _ reply acts.1.2
-step_stay old new (RestartPrinter printer) reply (inl acts) = printer_stay old new printer _ reply acts.1
-step_stay old new (Scan desk number flips stop) reply (inl acts) = desk_stay old new desk _ reply acts.1.2
-step_stay old new (Forget desk id stop) reply (inl acts) = desk_stay old new desk _ reply acts.1
-step_stay old new (Import desk number stop) reply (inl acts) = desk_stay old new desk _ reply acts.1.2
-step_stay old new (Ask desk id) reply (inl acts) = desk_stay old new desk _ reply acts.1
-step_stay old new (Export desk id) reply (inl acts) = desk_stay old new desk _ reply acts.1
-step_stay old new (RestartDesk desk) reply (inl acts) = desk_stay old new desk _ reply acts.1
+step_stay old new event reply step = grind (arith, desk_stay, get_more, printer_stay)
 
 -- ---- no number is used twice
 
+-- a move counts at its place, and one that comes after it no less
+used_here : (move : Move) (moves : List Move) (id : ℕ) → Some move ≡ Some (Used id) →
+    gone (move ∷ moves) id ≡ 1 + gone moves id
+used_here move moves id is = grind (arith, eq-eqb)
+
+used_later : (move : Move) (moves : List Move) (id : ℕ) → gone moves id ≤ gone (move ∷ moves) id
+used_later move moves id = grind arith
+
 one_more : (moves : List Move) (n id : ℕ) → slice_get moves n ≡ Some (Used id) → 1 ≤ gone moves id
 one_more [] n id is = cc (is)
-one_more (Used own ∷ moves) zero id is =
-    (let same : own ≡ id = used_is is in let e : (own == id) ≡ true = eq-eqb own id same in
-    let one : one_if (own == id) ≡ 1 = ap one_if e in omega arith)
-  where
-    used_is : Some (Used own) ≡ Some (Used id) → own ≡ id
-    used_is e = cc (e)
-one_more (Took ticket ∷ moves) zero id is = cc (is)
-one_more (Lost range ∷ moves) zero id is = cc (is)
-one_more (Used own ∷ moves) (suc n) id is = (let more = one_more moves n id is in omega arith)
-one_more (Took ticket ∷ moves) (suc n) id is = one_more moves n id is
-one_more (Lost range ∷ moves) (suc n) id is = (let more = one_more moves n id is in omega arith)
+one_more (move ∷ moves) zero id is = (let here = used_here move moves id is in omega arith)
+one_more (move ∷ moves) (suc n) id is = grind (arith, used_later, (one_more moves n id is))
 
 used_once : (moves : List Move) (i j id : ℕ) → gone moves id ≤ 1 → slice_get moves i ≡ Some (Used id) →
     slice_get moves j ≡ Some (Used id) → i ≡ j
 used_once [] i j id most is there = cc (is)
 used_once (move ∷ moves) zero zero id most is there = refl
-used_once (Used own ∷ moves) zero (suc j) id most is there =
-    (let same : own ≡ id = used_is is in let e : (own == id) ≡ true = eq-eqb own id same in
-    let one : one_if (own == id) ≡ 1 = ap one_if e in let more = one_more moves j id there in absurd (omega arith))
-  where
-    used_is : Some (Used own) ≡ Some (Used id) → own ≡ id
-    used_is e = cc (e)
-used_once (Took ticket ∷ moves) zero (suc j) id most is there = cc (is)
-used_once (Lost range ∷ moves) zero (suc j) id most is there = cc (is)
-used_once (Used own ∷ moves) (suc i) zero id most is there =
-    (let same : own ≡ id = used_is there in let e : (own == id) ≡ true = eq-eqb own id same in
-    let one : one_if (own == id) ≡ 1 = ap one_if e in let more = one_more moves i id is in absurd (omega arith))
-  where
-    used_is : Some (Used own) ≡ Some (Used id) → own ≡ id
-    used_is e = cc (e)
-used_once (Took ticket ∷ moves) (suc i) zero id most is there = cc (there)
-used_once (Lost range ∷ moves) (suc i) zero id most is there = cc (there)
-used_once (Used own ∷ moves) (suc i) (suc j) id most is there =
-    ap suc (used_once moves i j id (omega arith) is there)
-used_once (Took ticket ∷ moves) (suc i) (suc j) id most is there = ap suc (used_once moves i j id most is there)
-used_once (Lost range ∷ moves) (suc i) (suc j) id most is there =
-    ap suc (used_once moves i j id (omega arith) is there)
+used_once (move ∷ moves) zero (suc j) id most is there = grind (arith, one_more, used_here)
+used_once (move ∷ moves) (suc i) zero id most is there = grind (arith, one_more, used_here)
+used_once (move ∷ moves) (suc i) (suc j) id most is there =
+    (let later = used_later move moves id in ap suc (used_once moves i j id (omega arith) is there))
 
 prints_once : (relay : Relay) → IsSound relay → PrintsOnce relay
 prints_once relay sound = record {
@@ -139,21 +102,7 @@ true_moments A ranges rooms labels one apart (moment ∷ earlier) end run stay =
     let still : Stay moment.before.labels labels =
     (λ n label is. stay n label (step_stay moment.before end moment.event moment.reply run.1 n label is)) in (
       record {
-        given = λ desk id bytes asked told clean.
-            let step : Step {A = A} moment.before (Ask desk id) (Document bytes) end =
-            subst (λ (e : Event A). Step moment.before e (Document bytes) end) asked
-            (subst (λ (r : Reply A). Step moment.before moment.event r end) told run.1) in
-            let gave = each_clean_desk_gives A moment.before end desk id bytes before.1 before.0.one_document clean step in
-            let n : ℕ = gave.1 in
-            let own : Label = gave.2 in
-            let here : slice_get labels n ≡ Some own = still n own gave.3 in (
-              (λ k label there is. ap (λ (c : CutDocument). c.bytes)
-                  (one k n label own there here (is ∙ sym gave.4)) ∙ gave.0 n own gave.3 gave.4),
-              n,
-              own,
-              here,
-              gave.4,
-            );
+        given = grind (arith, each_clean_desk_gives);
         clean = each_fair_run_is_clean A ranges rooms earlier moment.before apart run.0;
       },
       true_moments A ranges rooms labels one apart earlier moment.before run.0 still,
@@ -169,9 +118,8 @@ run_places : (A : Type 0) (ranges : List Range) (rooms : List ℕ) (h : List (Mo
     places end number ≡ places (start ranges rooms) number
 run_places A ranges rooms [] end apart run number = ap (λ (r : Relay). places r number) run
 run_places A ranges rooms (moment ∷ earlier) end apart run number =
-    (each_step_keeps_numbers A moment.before end moment.event moment.reply
-    (each_run_is_sound A ranges rooms earlier moment.before apart run.0).0.order run.1).1 number
-    ∙ run_places A ranges rooms earlier moment.before apart run.0 number
+    (let before = run_places A ranges rooms earlier moment.before apart run.0 number in
+    grind (arith, each_run_is_sound, each_step_keeps_numbers))
 
 pub each_run_keeps_numbers : (A : Type 0) → EachRunKeepsNumbers A
 each_run_keeps_numbers A ranges rooms moments end apart run number =

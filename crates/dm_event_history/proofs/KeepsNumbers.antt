@@ -1,11 +1,9 @@
 -- A step moves numbers, and makes or ends none: whichever event it is.
 use Rattle.std.proofs.Common.{arith, ◌≡◌, ℕ, Some, length, slice_get, sym, subst}
 use Rattle.std.proofs.lemmas.List.{append-nil}
-use Rattle.dm_finder_frame.specs.Grids.{flipped}
 use Rattle.dm_print_ledger.specs.Views.{LedgerView, TicketView}
-use Rattle.dm_assembly_desk.specs.Documents.{Documents}
 use Rattle.dm_event_history.specs.declared.event.Event.{Event}
-use Rattle.dm_event_history.specs.declared.event.Event.TheVariants.{Print, Scan, RestartPrinter, RestartDesk, Ask, Forget, Give, Take, Export, Import}
+use Rattle.dm_event_history.specs.declared.event.Event.TheVariants.{Print, RestartPrinter, Give, Take}
 use Rattle.dm_event_history.specs.declared.reply.Reply.{Reply}
 use Rattle.dm_event_history.specs.declared.stop.Stop.{Stop}
 use Rattle.dm_event_history.proofs.Gotten.{get_more}
@@ -13,12 +11,11 @@ use Rattle.dm_event_history.specs.Actors.{Actor}
 use Rattle.dm_event_history.specs.Relay.{Desk, Goods, Relay, with_desk}
 use Rattle.dm_event_history.specs.Calls.{Calls, Ending}
 use Rattle.dm_event_history.specs.PrinterCalls.{TakeComes, take_faults}
-use Rattle.dm_event_history.specs.Steps.{Acts, DeskGoes, PrinterGoes}
+use Rattle.dm_event_history.specs.Steps.{Acts, PrinterGoes}
 use Rattle.dm_event_history.specs.Places.{EachStepKeepsNumbers, IsInOrder, places}
 use Rattle.dm_event_history.proofs.Balance.{Balances, balanced_order, balanced_places, calls_balance, give_balanced, may_lack_balances, print_balanced, restarts_balance}
 use Rattle.dm_event_history.proofs.Taking.{take_ends, taking_order, taking_places}
-use Rattle.dm_event_history.proofs.LeavingGoods.{Leaves}
-use Rattle.dm_event_history.proofs.QuietDesks.{IsQuiet, ask_quiet, export_is_quiet, forget_is_quiet, import_is_quiet, restart_quiet, scan_quiet}
+use Rattle.dm_event_history.proofs.QuietDesks.{ChangesDesk, IsQuiet, quiet_desks}
 
 -- numbers are as many as they were, and in order
 abbrev pub KeepsNumbers : Relay → Relay → Type 0
@@ -38,12 +35,9 @@ quiet_keeps : (old : Relay) (number : ℕ) (desk : Desk) (goods : Goods) → IsI
     KeepsNumbers old (with_desk old number desk goods)
 quiet_keeps old number desk goods order quiet = grind (arith, append-nil, get_more)
 
-desk_keeps : {A : Type 0} (old new : Relay) (number : ℕ) (Acts : ℕ → Actor Documents → Ending A Documents → Type 0)
-    (reply : Reply A) → IsInOrder old → ((room : ℕ) → Leaves IsQuiet (Acts room)) → DeskGoes old number Acts reply new →
-    KeepsNumbers old new
-desk_keeps old new number Acts reply order each g =
-    subst (λ (r : Relay). KeepsNumbers old r) (sym g.new_is)
-    (quiet_keeps old number _ g.end.goods order (each g.desk.room g.desk.actor g.end g.acts))
+desk_keeps : (old new : Relay) → IsInOrder old → ChangesDesk old new → KeepsNumbers old new
+desk_keeps old new order c =
+    subst (λ (r : Relay). KeepsNumbers old r) (sym c.new_is) (quiet_keeps old c.number c.desk c.goods order c.quiet)
 
 acts_keep : {A : Type 0} (old new : Relay) (event : Event A) (reply : Reply A) → IsInOrder old →
     Acts old event reply new → KeepsNumbers old new
@@ -57,17 +51,7 @@ acts_keep old new (Take printer number stop) reply order acts =
     taker_keeps old new printer number acts.0 stop reply order acts.1 acts.2
 acts_keep old new (RestartPrinter printer) reply order acts =
     printer_keeps old new printer _ reply order (restarts_balance _) acts
-acts_keep old new (Scan desk number flips stop) reply order acts =
-    desk_keeps old new desk _ reply order (λ room. scan_quiet _ stop room (flipped acts.0.grid flips)) acts.2
-acts_keep old new (Forget desk id stop) reply order acts =
-    desk_keeps old new desk _ reply order (λ room. forget_is_quiet _ stop id) acts
-acts_keep old new (Import desk number stop) reply order acts =
-    desk_keeps old new desk _ reply order (λ room. import_is_quiet _ stop room acts.0) acts.2
-acts_keep old new (Ask desk id) reply order acts = desk_keeps old new desk _ reply order (λ room. ask_quiet id) acts
-acts_keep old new (Export desk id) reply order acts =
-    desk_keeps old new desk _ reply order (λ room. export_is_quiet (length old.exports) id) acts
-acts_keep old new (RestartDesk desk) reply order acts =
-    desk_keeps old new desk _ reply order (λ room. restart_quiet _) acts
+acts_keep old new event reply order acts = desk_keeps old new order (quiet_desks old new event reply tt acts)
 
 pub each_step_keeps_numbers : (A : Type 0) → EachStepKeepsNumbers A
 each_step_keeps_numbers A old new event reply order step = grind (arith, acts_keep)

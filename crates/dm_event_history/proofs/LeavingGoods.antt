@@ -4,7 +4,7 @@ use Rattle.dm_store.specs.declared.fuse.Kept.TheVariants.{Old, New}
 use Rattle.dm_event_history.specs.declared.reply.Reply.{Reply}
 use Rattle.dm_event_history.specs.declared.stop.Stop.{Stop}
 use Rattle.dm_event_history.specs.declared.stop.Stop.TheVariants as stops
-use Rattle.dm_event_history.specs.declared.stop.Stop.TheVariants.{BeforeSave, InSave, SaveFault, AfterLabels}
+use Rattle.dm_event_history.specs.declared.stop.Stop.TheVariants.{InSave, SaveFault, AfterLabels}
 use Rattle.dm_event_history.specs.Actors.{Actor, Running, Failed, Down}
 use Rattle.dm_event_history.specs.Relay.{Goods, nothing}
 use Rattle.dm_event_history.specs.Calls.{Answers, Calls, Course, Ending, Faults, LacksMemory, MayLackFirst, Reaches, Restarts, Saves, cut_off, ends}
@@ -25,21 +25,12 @@ Leaves {A} {C} P Acts = (actor : Actor C) (end : Ending A C) → Acts actor end 
 
 pub ends_leave : {A C : Type 0} (P : Goods → Type 0) → IsClosed P → (faults : Faults A) (stop : Stop) (course : Course A C)
     (old : Actor C) → Reaches stop (OfCourse P course) → P (ends faults stop course old).goods
-ends_leave P p faults BeforeSave course old c = p.none
-ends_leave P p faults (InSave Old) course old c = p.none
 ends_leave P p faults stops.None (Saves next goods reply) old c = c
-ends_leave P p faults (SaveFault Old) (Saves next goods reply) old c = p.none
 ends_leave P p faults (SaveFault New) (Saves next goods reply) old c = p.cut 0 goods c
 ends_leave P p faults (InSave New) (Saves next goods reply) old c = p.cut 0 goods c
 ends_leave P p faults (AfterLabels most) (Saves next goods reply) old c = p.cut most goods c
-ends_leave P p faults stops.None (Answers reply) old c = p.none
-ends_leave P p faults (SaveFault kept) (Answers reply) old c = p.none
-ends_leave P p faults (InSave New) (Answers reply) old c = p.none
-ends_leave P p faults (AfterLabels most) (Answers reply) old c = p.none
-ends_leave P p faults stops.None LacksMemory old c = p.none
-ends_leave P p faults (SaveFault kept) LacksMemory old c = p.none
-ends_leave P p faults (InSave New) LacksMemory old c = p.none
-ends_leave P p faults (AfterLabels most) LacksMemory old c = p.none
+ends_leave P p faults (SaveFault Old) (Saves next goods reply) old c = p.none
+ends_leave P p faults stop course old c = p.none
 
 pub as_known : {A C : Type 0} (P : Goods → Type 0) (end known : Ending A C) → end ≡ known → P known.goods → P end.goods
 as_known {A} {C} P end known is p = subst (λ (e : Ending A C). P e.goods) (sym is) p
@@ -49,8 +40,7 @@ pub calls_leave : {A C : Type 0} (P : Goods → Type 0) → IsClosed P → (faul
     ((held : C) (course : Course A C) → Comes held course → OfCourse P course) → Leaves P (Calls faults stop Comes)
 calls_leave P p faults stop Comes each (Running held) end acts =
     as_known P end _ acts.2 (ends_leave P p faults stop acts.0 (Running held) (reaches stop (each held acts.0) acts.1))
-calls_leave P p faults stop Comes each (Failed shown stored) end acts =
-    as_known P end _ acts (ends_leave P p faults stop (Answers faults.failed) (Failed shown stored) (reached stop tt))
+calls_leave P p faults stop Comes each (Failed shown stored) end acts = grind (arith, as_known, ends_leave, reached)
 calls_leave P p faults stop Comes each (Down stored) end acts = as_known P end _ acts p.none
 
 pub may_lack_leaves : {A C : Type 0} (P : Goods → Type 0) → IsClosed P → (Acts : Actor C → Ending A C → Type 0) →

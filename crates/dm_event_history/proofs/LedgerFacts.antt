@@ -11,7 +11,6 @@ use Rattle.dm_print_ledger.specs.declared.range.Range.{Range}
 use Rattle.dm_print_ledger.specs.declared.limits.TheConstants.{MOST_RANGES, MOST_GIVERS}
 use Rattle.dm_print_ledger.specs.declared.fault.PrintFault.{PrintFault}
 use Rattle.dm_print_ledger.specs.declared.fault.PrintFault.TheVariants as print_fault
-use Rattle.dm_print_ledger.specs.declared.fault.GiveFault.{GiveFault}
 use Rattle.dm_print_ledger.specs.declared.fault.GiveFault.TheVariants as give_fault
 use Rattle.dm_print_ledger.specs.declared.fault.TakeFault.{TakeFault}
 use Rattle.dm_print_ledger.specs.declared.fault.TakeFault.TheVariants as take_fault
@@ -132,12 +131,6 @@ give_loses old next receiver range sound is =
       number = refl;
       givers = refl;
     })
-
--- why a give is refused
-pub give_refuses : (P : GiveFault → Type 0) (old : LedgerView) (receiver : ℕ) (range : Range) (fault : GiveFault) →
-    P give_fault.Range → P give_fault.Receiver → P give_fault.NotFree → P give_fault.Serials → P give_fault.Ranges →
-    give_verdict old receiver range ≡ Err fault → P fault
-give_refuses P old receiver range fault a b c d e is = grind arith
 
 -- ---- takes
 

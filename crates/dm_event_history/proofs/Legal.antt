@@ -1,47 +1,28 @@
 -- Each step is legal.
-use Rattle.std.proofs.Common.{arith, ◌≡◌, ◌≢◌, ◌↔◌, ◌⊎◌, ◌<◌, IsSomeAnd, ℕ, Bool, true, false, Option, Some, None, Ok, Err, Result, List, length, slice_get, refl, sym, subst}
-use Rattle.dm_finder_frame.specs.Grids.{GridView, flipped}
-use Rattle.dm_check_blocks.specs.declared.size.Size.{Size}
-use Rattle.dm_encodation.specs.declared.scheme.Scheme.{Scheme}
-use Rattle.dm_append_label.specs.declared.opening.Opened.{Opened}
-use Rattle.dm_append_label.specs.declared.fault.LabelFault.{LabelFault}
-use Rattle.dm_append_label.specs.declared.fault.LabelFault.TheVariants as label_fault
+use Rattle.std.proofs.Common.{arith, ◌≡◌, ◌≢◌, ◌↔◌, ◌⊎◌, ◌<◌, IsSomeAnd, ℕ, Bool, true, false, Option, Some, None, length, slice_get, refl, sym, subst}
 use Rattle.dm_store.specs.declared.fuse.Kept.TheVariants.{Old, New}
-use Rattle.dm_print_ledger.specs.declared.range.Range.{Range}
-use Rattle.dm_print_ledger.specs.Views.{LedgerView, TicketView}
+use Rattle.dm_print_ledger.specs.Views.{LedgerView}
 use Rattle.dm_print_ledger.specs.declared.fault.OpenFault.TheVariants as open_fault
 use Rattle.dm_assembly_desk.specs.declared.fault.DeskFault.TheVariants as desk_fault
-use Rattle.dm_assembly_desk.specs.Pages.{Pages}
 use Rattle.dm_assembly_desk.specs.Documents.{Documents}
-use Rattle.dm_assembly_desk.specs.declared.adding.AddFault.{AddFault}
-use Rattle.dm_assembly_desk.specs.declared.reply.Imported as imported_type
-use Rattle.dm_assembly_desk.specs.Accepting.{lone}
-use Rattle.dm_assembly_desk.specs.Adding.{add_verdict}
 use Rattle.dm_event_history.specs.declared.event.Event.{Event}
-use Rattle.dm_event_history.specs.declared.event.Event.TheVariants.{Print, Scan, RestartPrinter, RestartDesk, Ask, Forget, Give, Take, Export, Import}
+use Rattle.dm_event_history.specs.declared.event.Event.TheVariants.{RestartPrinter, RestartDesk}
 use Rattle.dm_event_history.specs.declared.reply.Reply.{Reply}
 use Rattle.dm_event_history.specs.declared.reply.Reply.TheVariants as replies
-use Rattle.dm_event_history.specs.declared.reply.Reply.TheVariants.{Imported}
 use Rattle.dm_event_history.specs.declared.stop.Stop.{Stop}
 use Rattle.dm_event_history.specs.declared.stop.Stop.TheVariants as stops
-use Rattle.dm_event_history.specs.declared.stop.Stop.TheVariants.{BeforeSave, InSave, SaveFault, AfterLabels}
+use Rattle.dm_event_history.specs.declared.stop.Stop.TheVariants.{InSave, SaveFault, AfterLabels}
 use Rattle.dm_event_history.specs.WhoActs.{DeskAt, Named, PrinterAt, actor_of}
 use Rattle.dm_event_history.specs.Saving.{IsStopping, stop_of}
 use Rattle.dm_event_history.specs.Actors.{Actor, Running, Failed, Down}
-use Rattle.dm_event_history.specs.Relay as relays
 use Rattle.dm_event_history.specs.Relay.{Desk, Goods, Relay}
 use Rattle.dm_event_history.specs.Calls.{Answers, Calls, Course, Ending, Faults, LacksMemory, Looks, MayLackFirst, Reaches, Restarts, Saves, ends}
-use Rattle.dm_event_history.specs.PrinterCalls.{GiveComes, PrintComes, TakeComes}
-use Rattle.dm_event_history.specs.DeskCalls.{AskTells, ExportTells, ForgetComes, ImportComes, MayBe, ScanComes, scan_course, verdict_course, page_reply}
 use Rattle.dm_event_history.specs.Steps.{Acts, DeskGoes, IsNamed, PrinterGoes}
 use Rattle.dm_event_history.specs.Told.{down_after}
-use Rattle.dm_event_history.specs.Legal.{EachStepIsLegal, IsDown, IsDownAt, IsLegal, NeedsRunning, is_new, tells_of_save}
+use Rattle.dm_event_history.specs.Legal.{EachStepIsLegal, IsDown, IsDownAt, IsLegal, NeedsRunning, tells_of_save}
 use Rattle.dm_event_history.proofs.Reaching.{reaches}
-use Rattle.dm_event_history.proofs.AsTold.{ArePlain, IsPlainCourse, IsPlain, ask_plain, export_plain, fine_forget, fine_give, fine_import, fine_print, fine_scan, fine_take, forget_plain, give_plain, import_plain, print_plain, scan_plain, take_plain}
-use Rattle.dm_event_history.proofs.Adds.{Answer}
-
-never : {X : Type 0} (b : Bool) → b ≡ false → b ≡ true → X
-never b unset set = grind arith
+use Rattle.dm_event_history.proofs.ByKind.{ArePlain, IsPlainAnswer, IsPlainCourse, by_kind}
+use Rattle.dm_event_history.proofs.Deciding.{never}
 
 -- ---- replies
 
@@ -62,7 +43,8 @@ record IsCallLegal {A C : Type 0} (stop : Option Stop) (actor : Actor C) (reply 
 
 -- one that answers, one that is stopped, and one that lacks memory
 legal_reply : {A C : Type 0} (stop : Option Stop) (actor : Actor C) (reply : Reply A) → ¬ IsDown actor →
-    ¬ IsSomeAnd stop IsStopping → IsUp reply → (tells_of_save reply ≡ true → stop ≡ Some stops.None) → IsCallLegal stop actor reply
+    ¬ IsSomeAnd stop IsStopping → IsUp reply → (tells_of_save reply ≡ true → stop ≡ Some stops.None) →
+    IsCallLegal stop actor reply
 legal_reply stop actor reply up on plain saves = record {
   some = up_other reply replies.NoSuch plain refl;
   down = ((λ e. absurd (up_other reply replies.Down plain refl e)), (λ d. absurd (up d)));
@@ -80,67 +62,42 @@ legal_memory : (A : Type 0) {C : Type 0} (stop : Option Stop) (actor : Actor C) 
     IsCallLegal {A = A} stop actor replies.Memory
 legal_memory A stop actor up = grind arith
 
--- an answer without a save doesn't tell of one, and neither do the faults of a call
-abbrev IsQuietCourse : {A C : Type 0} → Course A C → Type 0
-IsQuietCourse (Saves next goods reply) = Unit {0}
-IsQuietCourse (Answers reply) = tells_of_save reply ≡ false
-IsQuietCourse LacksMemory = Unit {0}
-
-record AreQuiet {A : Type 0} (faults : Faults A) : Type 0 where
-  pub failed : tells_of_save faults.failed ≡ false
-  pub save : tells_of_save faults.save ≡ false
-  pub memory : tells_of_save faults.memory ≡ false
-
 untold : {X : Type 0} {A : Type 0} (reply : Reply A) → tells_of_save reply ≡ false → tells_of_save reply ≡ true → X
 untold reply none told = never (tells_of_save reply) none told
 
 legal_ends : {A C : Type 0} (faults : Faults A) (stop : Stop) (course : Course A C) (held : C) → ArePlain faults →
-    AreQuiet faults → Reaches stop (IsPlainCourse course × IsQuietCourse course) →
+    Reaches stop (IsPlainCourse course) →
     IsCallLegal (Some stop) (Running held) (ends faults stop course (Running held)).reply
-legal_ends {A} faults BeforeSave course held fine quiet own = legal_stopped A (Some BeforeSave) (Running held) (λ d. d) tt
-legal_ends {A} faults (InSave Old) course held fine quiet own = legal_stopped A (Some (InSave Old)) (Running held) (λ d. d) tt
-legal_ends faults stops.None (Saves next goods reply) held fine quiet own =
+legal_ends faults stops.None (Saves next goods reply) held fine own =
+    legal_reply (Some stops.None) (Running held) reply (λ d. d) (λ s. s) own.up (λ _. refl)
+legal_ends faults (SaveFault Old) (Saves next goods reply) held fine own =
+    legal_reply (Some (SaveFault Old)) (Running held) faults.save (λ d. d) (λ s. s) fine.save_up
+    (untold faults.save fine.save_untold)
+legal_ends faults (SaveFault New) (Saves next goods reply) held fine own =
+    legal_reply (Some (SaveFault New)) (Running held) faults.save (λ d. d) (λ s. s) fine.save_up
+    (untold faults.save fine.save_untold)
+legal_ends faults stops.None (Answers reply) held fine own =
     legal_reply (Some stops.None) (Running held) reply (λ d. d) (λ s. s) own.0.up (λ _. refl)
-legal_ends faults (SaveFault Old) (Saves next goods reply) held fine quiet own =
-    legal_reply (Some (SaveFault Old)) (Running held) faults.save (λ d. d) (λ s. s) fine.save_up (untold faults.save quiet.save)
-legal_ends faults (SaveFault New) (Saves next goods reply) held fine quiet own =
-    legal_reply (Some (SaveFault New)) (Running held) faults.save (λ d. d) (λ s. s) fine.save_up (untold faults.save quiet.save)
-legal_ends {A} faults (InSave New) (Saves next goods reply) held fine quiet own =
-    legal_stopped A (Some (InSave New)) (Running held) (λ d. d) tt
-legal_ends {A} faults (AfterLabels most) (Saves next goods reply) held fine quiet own =
-    legal_stopped A (Some (AfterLabels most)) (Running held) (λ d. d) tt
-legal_ends faults stops.None (Answers reply) held fine quiet own =
-    legal_reply (Some stops.None) (Running held) reply (λ d. d) (λ s. s) own.0.up (λ _. refl)
-legal_ends faults (SaveFault kept) (Answers reply) held fine quiet own =
+legal_ends faults (SaveFault kept) (Answers reply) held fine own =
     legal_reply (Some (SaveFault kept)) (Running held) reply (λ d. d) (λ s. s) own.0.up (untold reply own.1)
-legal_ends {A} faults (InSave New) (Answers reply) held fine quiet own =
-    legal_stopped A (Some (InSave New)) (Running held) (λ d. d) tt
-legal_ends {A} faults (AfterLabels most) (Answers reply) held fine quiet own =
-    legal_stopped A (Some (AfterLabels most)) (Running held) (λ d. d) tt
-legal_ends faults stops.None LacksMemory held fine quiet own =
+legal_ends faults stops.None LacksMemory held fine own =
     legal_reply (Some stops.None) (Running held) faults.memory (λ d. d) (λ s. s) fine.memory.up (λ _. refl)
-legal_ends faults (SaveFault kept) LacksMemory held fine quiet own =
+legal_ends faults (SaveFault kept) LacksMemory held fine own =
     legal_reply (Some (SaveFault kept)) (Running held) faults.memory (λ d. d) (λ s. s) fine.memory.up
-    (untold faults.memory quiet.memory)
-legal_ends {A} faults (InSave New) LacksMemory held fine quiet own = legal_memory A (Some (InSave New)) (Running held) (λ d. d)
-legal_ends {A} faults (AfterLabels most) LacksMemory held fine quiet own =
-    legal_memory A (Some (AfterLabels most)) (Running held) (λ d. d)
+    (untold faults.memory fine.memory_untold)
+legal_ends {A} faults (InSave New) LacksMemory held fine own = grind (arith, legal_memory)
+legal_ends {A} faults (AfterLabels most) LacksMemory held fine own = grind (arith, legal_memory)
+legal_ends {A} faults stop course held fine own = legal_stopped A (Some stop) (Running held) (λ d. d) tt
 
-legal_failed : {A C : Type 0} (faults : Faults A) (stop : Stop) (shown stored : C) → ArePlain faults → AreQuiet faults →
+legal_failed : {A C : Type 0} (faults : Faults A) (stop : Stop) (shown stored : C) → ArePlain faults →
     IsCallLegal (Some stop) (Failed shown stored) (ends faults stop (Answers faults.failed) (Failed shown stored)).reply
-legal_failed {A} faults BeforeSave shown stored fine quiet =
-    legal_stopped A (Some BeforeSave) (Failed shown stored) (λ d. d) tt
-legal_failed {A} faults (InSave Old) shown stored fine quiet =
-    legal_stopped A (Some (InSave Old)) (Failed shown stored) (λ d. d) tt
-legal_failed {A} faults (InSave New) shown stored fine quiet =
-    legal_stopped A (Some (InSave New)) (Failed shown stored) (λ d. d) tt
-legal_failed {A} faults (AfterLabels most) shown stored fine quiet =
-    legal_stopped A (Some (AfterLabels most)) (Failed shown stored) (λ d. d) tt
-legal_failed faults stops.None shown stored fine quiet =
+legal_failed faults stops.None shown stored fine =
     legal_reply (Some stops.None) (Failed shown stored) faults.failed (λ d. d) (λ s. s) fine.failed_up (λ _. refl)
-legal_failed faults (SaveFault kept) shown stored fine quiet =
+legal_failed faults (SaveFault kept) shown stored fine =
     legal_reply (Some (SaveFault kept)) (Failed shown stored) faults.failed (λ d. d) (λ s. s) fine.failed_up
-    (untold faults.failed quiet.failed)
+    (untold faults.failed fine.failed_untold)
+legal_failed {A} faults (InSave Old) shown stored fine = grind (arith, legal_stopped)
+legal_failed {A} faults stop shown stored fine = legal_stopped A (Some stop) (Failed shown stored) (λ d. d) tt
 
 legal_down : (A : Type 0) {C : Type 0} (stop : Option Stop) (stored : C) → IsCallLegal {A = A} stop (Down stored) replies.Down
 legal_down A stop stored = grind arith
@@ -153,10 +110,9 @@ of_known : {A C : Type 0} (stop : Option Stop) (actor : Actor C) (end known : En
 of_known {A} {C} stop actor end known is l = subst (λ (e : Ending A C). IsCallLegal stop actor e.reply) (sym is) l
 
 calls_legal : {A C : Type 0} (faults : Faults A) (stop : Stop) (Comes : C → Course A C → Type 0) → ArePlain faults →
-    AreQuiet faults → ((held : C) (course : Course A C) → Comes held course → IsPlainCourse course) →
-    ((held : C) (course : Course A C) → Comes held course → IsQuietCourse course) →
+    ((held : C) (course : Course A C) → Comes held course → IsPlainCourse course) →
     AreLegal (Some stop) (Calls faults stop Comes)
-calls_legal faults stop Comes fine quiet plain still held end acts =
+calls_legal faults stop Comes fine each held end acts =
     grind (arith, legal_down, legal_ends, legal_failed, of_known, reaches)
 
 may_lack_legal : {A C : Type 0} (stop : Option Stop) (Acts : Actor C → Ending A C → Type 0) → AreLegal stop Acts →
@@ -165,69 +121,15 @@ may_lack_legal {A} stop Acts each held end lack = grind arith
 
 -- what saves nothing tells of no save
 looks_legal : {A C : Type 0} (Said : C → Reply A → Goods → Type 0) →
-    ((held : C) (reply : Reply A) (goods : Goods) → Said held reply goods → IsPlain reply) →
-    ((held : C) (reply : Reply A) (goods : Goods) → Said held reply goods → tells_of_save reply ≡ false) →
+    ((held : C) (reply : Reply A) (goods : Goods) → Said held reply goods → IsPlainAnswer reply) →
     AreLegal None (Looks Said)
-looks_legal Said each still (Running held) end acts =
-    legal_reply None (Running held) end.reply (λ d. d) (λ s. s) (each held end.reply end.goods acts.0).up
-    (untold end.reply (still held end.reply end.goods acts.0))
-looks_legal Said each still (Failed shown stored) end acts =
-    legal_reply None (Failed shown stored) end.reply (λ d. d) (λ s. s) (each shown end.reply end.goods acts.0).up
-    (untold end.reply (still shown end.reply end.goods acts.0))
-looks_legal {A} Said each still (Down stored) end acts =
-    of_known None (Down stored) end _ acts (legal_down A None stored)
-
--- ---- what each call comes to
-
-print_quiet : {A : Type 0} (before : ℕ) (document : List ℕ) (size : Size) (scheme : Scheme) (held : LedgerView)
-    (course : Course A LedgerView) → PrintComes before document size scheme held course → IsQuietCourse course
-print_quiet before document size scheme held course comes = grind arith
-
-give_quiet : {A : Type 0} (before receiver : ℕ) (range : Range) (held : LedgerView) (course : Course A LedgerView) →
-    GiveComes before receiver range held course → IsQuietCourse course
-give_quiet before receiver range held course comes = grind arith
-
-take_quiet : {A : Type 0} (number : ℕ) (ticket : TicketView) (held : LedgerView) (course : Course A LedgerView) →
-    TakeComes number ticket held course → IsQuietCourse course
-take_quiet number ticket held course comes = grind arith
-
-may_be_quiet : {A : Type 0} (wanted course : Course A Documents) → IsQuietCourse wanted → MayBe wanted course →
-    IsQuietCourse course
-may_be_quiet {A} wanted course q is = grind arith
-
--- pages that were all held tell of no save
-add_quiet : {A : Type 0} (tells : Answer → Reply A) (room : ℕ) (held : Documents) (id : ℕ) (pages : Pages) →
-    ((added : imported_type.Imported) → tells_of_save (tells (Ok added)) ≡ is_new added.kind) →
-    ((fault : AddFault) → tells_of_save (tells (Err fault)) ≡ false) →
-    IsQuietCourse (verdict_course tells (add_verdict room held id pages))
-add_quiet {A} tells room held id pages told refused = grind arith
-
-scan_quiet : {A : Type 0} (room : ℕ) (grid : GridView) (held : Documents) (course : Course A Documents) →
-    ScanComes room grid held course → IsQuietCourse course
-scan_quiet {A} room grid held course comes =
-    may_be_quiet (scan_course room held comes.0) course (by_read comes.0) comes.2
-  where
-    by_read : (read : Result (Opened A) LabelFault) → IsQuietCourse {A = A} (scan_course room held read)
-    by_read (Ok opened) = add_quiet {A = A} (page_reply opened.page) room held opened.page.id (lone opened.page)
-        (λ added. refl) (λ fault. refl)
-    by_read (Err label_fault.Memory) = tt
-    by_read (Err fault) = refl
-
-forget_quiet : {A : Type 0} (id : ℕ) (held : Documents) (course : Course A Documents) → ForgetComes id held course →
-    IsQuietCourse course
-forget_quiet {A} id held course comes = grind arith
-
-import_quiet : {A : Type 0} (room : ℕ) (export : relays.Export) (held : Documents) (course : Course A Documents) →
-    ImportComes room export held course → IsQuietCourse course
-import_quiet {A} room export held course comes = grind arith
-
-ask_quiet : {A : Type 0} (id : ℕ) (held : Documents) (reply : Reply A) (goods : Goods) → AskTells id held reply goods →
-    tells_of_save reply ≡ false
-ask_quiet {A} id held reply goods tells = grind arith
-
-export_quiet : {A : Type 0} (before id : ℕ) (held : Documents) (reply : Reply A) (goods : Goods) →
-    ExportTells before id held reply goods → tells_of_save reply ≡ false
-export_quiet {A} before id held reply goods tells = grind arith
+looks_legal Said each (Running held) end acts =
+    let plain = each held end.reply end.goods acts.0 in
+    legal_reply None (Running held) end.reply (λ d. d) (λ s. s) plain.0.up (untold end.reply plain.1)
+looks_legal Said each (Failed shown stored) end acts =
+    let plain = each shown end.reply end.goods acts.0 in
+    legal_reply None (Failed shown stored) end.reply (λ d. d) (λ s. s) plain.0.up (untold end.reply plain.1)
+looks_legal {A} Said each (Down stored) end acts = grind (arith, legal_down, of_known)
 
 -- ---- steps
 
@@ -290,42 +192,13 @@ restart_desk_legal {A} old desk reply end actor named ends is = grind arith
 
 acts_legal : {A : Type 0} (old new : Relay) (event : Event A) (reply : Reply A) → IsNamed old event →
     Acts old event reply new → IsLegal old event reply
-acts_legal old new (Print printer document size scheme stop) reply named acts =
-    printer_legal old new (Print printer document size scheme stop) printer _ reply refl named tt
-    (may_lack_legal (Some stop) _ (calls_legal _ stop _ fine_print (record { failed = refl; save = refl; memory = refl })
-    (print_plain (length old.labels) document size scheme) (print_quiet (length old.labels) document size scheme))) acts
-acts_legal old new (Give printer receiver range stop) reply named acts =
-    printer_legal old new (Give printer receiver range stop) printer _ reply refl named tt
-    (may_lack_legal (Some stop) _ (calls_legal _ stop _ fine_give (record { failed = refl; save = refl; memory = refl })
-    (give_plain (length old.tickets) receiver range) (give_quiet (length old.tickets) receiver range))) acts
-acts_legal old new (Take printer number stop) reply named acts =
-    printer_legal old new (Take printer number stop) printer _ reply refl named tt
-    (calls_legal _ stop _ fine_take (record { failed = refl; save = refl; memory = refl }) (take_plain number acts.0)
-    (take_quiet number acts.0)) acts.2
-acts_legal old new (RestartPrinter printer) reply named acts =
-    restart_printer_legal old printer reply acts.end acts.actor named acts.acts acts.reply_is
-acts_legal old new (Scan desk number flips stop) reply named acts =
-    desk_legal old new (Scan desk number flips stop) desk _ reply refl named tt
-    (λ room. may_lack_legal (Some stop) _ (calls_legal _ stop _ fine_scan
-    (record { failed = refl; save = refl; memory = refl }) (scan_plain room (flipped acts.0.grid flips))
-    (scan_quiet room (flipped acts.0.grid flips)))) acts.2
-acts_legal old new (Forget desk id stop) reply named acts =
-    desk_legal old new (Forget desk id stop) desk _ reply refl named tt
-    (λ room. calls_legal _ stop _ fine_forget (record { failed = refl; save = refl; memory = refl }) (forget_plain id)
-    (forget_quiet id)) acts
-acts_legal old new (Import desk number stop) reply named acts =
-    desk_legal old new (Import desk number stop) desk _ reply refl named tt
-    (λ room. calls_legal _ stop _ fine_import (record { failed = refl; save = refl; memory = refl })
-    (import_plain room acts.0) (import_quiet room acts.0)) acts.2
-acts_legal {A} old new (Ask desk id) reply named acts =
-    desk_legal old new (Ask desk id) desk _ reply refl named tt
-    (λ room. looks_legal (AskTells {A = A} id) (ask_plain id) (ask_quiet id)) acts
-acts_legal {A} old new (Export desk id) reply named acts =
-    desk_legal old new (Export desk id) desk _ reply refl named tt
-    (λ room. may_lack_legal None _ (looks_legal (ExportTells {A = A} (length old.exports) id)
-    (export_plain (length old.exports) id) (export_quiet (length old.exports) id))) acts
-acts_legal old new (RestartDesk desk) reply named acts =
-    restart_desk_legal old desk reply acts.end acts.desk.actor named acts.acts acts.reply_is
+acts_legal old new (RestartPrinter printer) reply named acts = grind (arith, restart_printer_legal)
+acts_legal old new (RestartDesk desk) reply named acts = grind (arith, restart_desk_legal)
+acts_legal old new event reply named acts =
+    by_kind old new event reply (λ C stop Does. AreLegal stop Does) _ (λ C. calls_legal) (λ C. may_lack_legal)
+    (λ C. looks_legal) (λ none. absurd (none tt))
+    (λ printer Does who each g. printer_legal old new event printer Does reply who named tt each g)
+    (λ number Does who each g. desk_legal old new event number Does reply who named tt each g) acts
 
 -- what is not there is answered so
 none_legal : {A : Type 0} (old : Relay) (event : Event A) → ¬ IsNamed old event → IsLegal old event replies.NoSuch

@@ -35,6 +35,7 @@ pub mod Answered
 pub mod Told
 pub mod Between
 pub mod SafeReplies
+pub mod ByKind
 pub mod AsTold
 pub mod Reasons
 pub mod FailedBefore

@@ -1,5 +1,5 @@
 -- Lists of pages that are joined: which pages are there, one by one, and where two lists disagree.
-use Rattle.std.proofs.Common.{◌≡◌, ◌≢◌, ℕ, zero, suc, ◌≤◌, ◌&&◌, List, [], ◌∷◌, ◌++◌, length, slice_get, ap, Bool, true, false, Option, Some, None, IsSome, refl, arith, Decides}
+use Rattle.std.proofs.Common.{◌≡◌, ◌≢◌, ℕ, zero, suc, ◌≤◌, ◌&&◌, List, [], ◌∷◌, ◌++◌, length, slice_get, ap, Bool, true, false, Option, Some, None, IsSome, refl, arith, Decides, inl, inr, sym, ◌∙◌}
 use Rattle.std.specs.Prelude.{is_some}
 use Rattle.std.proofs.Common.{map as mapped}
 use Rattle.std.specs.List.{list_all, concat}
@@ -8,16 +8,13 @@ use Rattle.std.proofs.lemmas.Slice.Eq.{bytes_eq-Decides}
 use Rattle.dm_assembly_desk.specs.Pages.{Pages, page, lacks, page_bytes, document_of}
 use Rattle.dm_assembly_desk.specs.Merging.{agrees_at, agree}
 use Rattle.std.proofs.lemmas.Bool.{and_parts}
+use Rattle.dm_event_history.proofs.Deciding.{decided}
 
 -- where each page is there, any of them is
 pub all_held : (ps : Pages) → list_all is_some ps ≡ true → (m : ℕ) → 1 ≤ m → m ≤ length ps → IsSome (page ps m)
 all_held ps is zero least most = absurd (omega arith)
 all_held [] is (suc m) least most = absurd (omega arith)
-all_held (p ∷ ps) is (suc zero) least most = at p (and_parts (is_some p) (list_all is_some ps) is).0
-  where
-    at : (p : Option (List ℕ)) → is_some p ≡ true → IsSome p
-    at None e = cc
-    at (Some x) e = refl
+all_held (p ∷ ps) is (suc zero) least most = grind (arith, and_parts)
 all_held (p ∷ ps) is (suc (suc m)) least most =
     all_held ps (and_parts (is_some p) (list_all is_some ps) is).1 (suc m) (omega arith) (omega arith)
 
@@ -41,44 +38,39 @@ pub record Differs (own pages : Pages) : Type 0 where
   pub filed : page pages m ≡ Some other
   pub differ : one ≢ other
 
+page_later : (p : Option (List ℕ)) (ps : Pages) (m : ℕ) (x : List ℕ) → page ps m ≡ Some x →
+    page (p ∷ ps) (suc m) ≡ Some x
+page_later p ps zero x is = cc (is)
+page_later p ps (suc m) x is = is
+
+differs_first : (p q : Option (List ℕ)) (ps qs : Pages) → agrees_at p q ≡ false → Differs (p ∷ ps) (q ∷ qs)
+differs_first None q ps qs other = cc
+differs_first (Some one) None ps qs other = cc
+differs_first (Some one) (Some two) ps qs other = record {
+  m = 1;
+  one = one;
+  other = two;
+  held = refl;
+  filed = refl;
+  differ = grind (arith, bytes_eq-Decides);
+}
+
 -- lists that do not agree have such a page
 pub differs : (own pages : Pages) → agree own pages ≡ false → Differs own pages
 differs [] pages is = cc
 differs (p ∷ ps) [] is = cc
-differs (p ∷ ps) (q ∷ qs) is = by_head (agrees_at p q) refl is (differs ps qs)
-  where
-    here : (x y : Option (List ℕ)) → agrees_at x y ≡ false → Differs (x ∷ ps) (y ∷ qs)
-    here None y e = cc
-    here (Some a) None e = cc
-    here (Some a) (Some b) e = record {
-      m = 1;
-      one = a;
-      other = b;
-      held = refl;
-      filed = refl;
-      differ = λ same. let d : Decides (bytes_eq a b) (a ≡ b) = bytes_eq-Decides a b in
-          let t : bytes_eq a b ≡ true = d.1 same in cc (t, e);
-    }
-
-    after : Differs ps qs → Differs (p ∷ ps) (q ∷ qs)
-    after d = shifted d.m d.one d.other d.held d.filed d.differ
-      where
-        shifted : (m : ℕ) (one other : List ℕ) → page ps m ≡ Some one → page qs m ≡ Some other → one ≢ other →
-            Differs (p ∷ ps) (q ∷ qs)
-        shifted zero one other a b c = cc
-        shifted (suc m) one other a b c = record {
-          m = suc (suc m);
-          one = one;
-          other = other;
-          held = a;
-          filed = b;
-          differ = c;
-        }
-
-    by_head : (b : Bool) → agrees_at p q ≡ b → (b && agree ps qs) ≡ false → (agree ps qs ≡ false → Differs ps qs) →
-        Differs (p ∷ ps) (q ∷ qs)
-    by_head true x e again = after (again e)
-    by_head false x e again = here p q x
+differs (p ∷ ps) (q ∷ qs) is = elim (decided (agrees_at p q)) [
+  | inl same ↦
+      let d = differs ps qs (ap (λ (b : Bool). b && agree ps qs) (sym same) ∙ is) in record {
+        m = suc d.m;
+        one = d.one;
+        other = d.other;
+        held = page_later p ps d.m d.one d.held;
+        filed = page_later q qs d.m d.other d.filed;
+        differ = d.differ;
+      }
+  | inr other ↦ differs_first p q ps qs other
+]
 
 -- a document whose pages are all held is its pages, document_of
 pub whole_pages : (pages : Pages) → list_all is_some pages ≡ true →
@@ -103,8 +95,4 @@ lacks_means pages zero = ((λ e. cc), (λ e low high. absurd (omega arith)))
 lacks_means [] (suc m) = ((λ e. cc), (λ e low high. absurd (omega arith)))
 lacks_means (None ∷ ps) (suc zero) = ((λ e. ((omega arith), (omega arith), refl)), (λ e low high. cc))
 lacks_means (Some x ∷ ps) (suc zero) = ((λ e. cc), (λ e low high. refl))
-lacks_means (p ∷ ps) (suc (suc m)) =
-    let t = lacks_means ps (suc m) in (
-      (λ e. let u = t.0 e in ((omega arith), (let v = u.1 in omega arith), u.2)),
-      (λ e low high. t.1 e (omega arith) (omega arith)),
-    )
+lacks_means (p ∷ ps) (suc (suc m)) = grind (arith, (lacks_means ps (suc m)))

@@ -1,5 +1,5 @@
 -- Where a number is, after one thing is changed.
-use Rattle.std.proofs.Common.{◌≡◌, ◌≢◌, ◌⊎◌, ◌+◌, ◌≤◌, ◌<◌, ℕ, zero, suc, Bool, true, false, ◌==◌, ◌||◌, if◌then◌else◌, Some, List, [], ◌∷◌, ◌++◌, length, map, slice_get, slice_set, refl, sym, ap, ◌∙◌, arith, eq-eqb}
+use Rattle.std.proofs.Common.{◌≡◌, ◌≢◌, ◌⊎◌, ◌+◌, ◌≤◌, ◌<◌, ℕ, zero, suc, Bool, true, false, ◌==◌, ◌||◌, if◌then◌else◌, Some, List, [], ◌∷◌, ◌++◌, length, map, slice_get, slice_set, refl, ap, ◌∙◌, arith, eq-eqb}
 use Rattle.dm_print_ledger.specs.Ranges.{is_free, is_in}
 use Rattle.dm_print_ledger.specs.Views.{LedgerView, TicketView}
 use Rattle.dm_event_history.proofs.Deciding.{other_number, same_or_other}
@@ -16,22 +16,14 @@ pub free_set : (actors : List (Actor LedgerView)) (p number : ℕ) (old new : Ac
     free_at (slice_set actors p new) number + one_if (is_free (stored_of old).free number)
     ≡ free_at actors number + one_if (is_free (stored_of new).free number)
 free_set [] p number old new is = cc
-free_set (x ∷ xs) zero number old new is =
-    let same : x ≡ old = cc (is) in
-    let e : one_if (is_free (stored_of x).free number) ≡ one_if (is_free (stored_of old).free number) =
-    ap (λ (a : Actor LedgerView). one_if (is_free (stored_of a).free number)) same in
-    omega arith
+free_set (x ∷ xs) zero number old new is = grind arith
 free_set (x ∷ xs) (suc p) number old new is = (let h = free_set xs p number old new is in omega arith)
 
 -- where it is free at one, it is at some
 pub free_some : (actors : List (Actor LedgerView)) (p number : ℕ) (actor : Actor LedgerView) →
     slice_get actors p ≡ Some actor → is_free (stored_of actor).free number ≡ true → 1 ≤ free_at actors number
 free_some [] p number actor is free = cc
-free_some (x ∷ xs) zero number actor is free =
-    let same : x ≡ actor = cc (is) in
-    let e : one_if (is_free (stored_of x).free number) ≡ 1 =
-    ap (λ (a : Actor LedgerView). one_if (is_free (stored_of a).free number)) same ∙ ap one_if free in
-    omega arith
+free_some (x ∷ xs) zero number actor is free = grind arith
 free_some (x ∷ xs) (suc p) number actor is free = (let h = free_some xs p number actor is free in omega arith)
 
 -- ---- moves
@@ -48,9 +40,7 @@ or_assoc a b c = grind arith
 pub taken_more : (xs ys : List Move) (ticket : ℕ) → is_taken (xs ++ ys) ticket ≡ (is_taken xs ticket || is_taken ys ticket)
 taken_more [] ys ticket = refl
 taken_more (Used id ∷ xs) ys ticket = taken_more xs ys ticket
-taken_more (Took other ∷ xs) ys ticket =
-    ap (λ (b : Bool). (other == ticket) || b) (taken_more xs ys ticket) ∙
-    sym (or_assoc (other == ticket) (is_taken xs ticket) (is_taken ys ticket))
+taken_more (Took other ∷ xs) ys ticket = grind (arith, or_assoc, (taken_more xs ys ticket))
 taken_more (Lost range ∷ xs) ys ticket = taken_more xs ys ticket
 
 or_none : (a b : Bool) → b ≡ false → (a || b) ≡ a
@@ -71,17 +61,8 @@ on_same moves others from tickets number same = grind arith
 pub on_more : (moves : List Move) (from : ℕ) (ts us : List TicketView) (number : ℕ) →
     on_tickets moves from (ts ++ us) number
     ≡ on_tickets moves from ts number + on_tickets moves (from + length ts) us number
-on_more moves from [] us number =
-    let e : from + 0 ≡ from = omega arith in
-    let f : on_tickets moves (from + 0) us number ≡ on_tickets moves from us number =
-    ap (λ (k : ℕ). on_tickets moves k us number) e in
-    omega arith
-on_more moves from (t ∷ ts) us number =
-    let h = on_more moves (from + 1) ts us number in
-    let e : (from + 1) + length ts ≡ from + length (t ∷ ts) = omega arith in
-    let f : on_tickets moves ((from + 1) + length ts) us number ≡ on_tickets moves (from + length (t ∷ ts)) us number =
-    ap (λ (k : ℕ). on_tickets moves k us number) e in
-    omega arith
+on_more moves from [] us number = grind arith
+on_more moves from (t ∷ ts) us number = grind (arith, (on_more moves (from + 1) ts us number))
 
 -- in how many of the ranges of tickets it is
 abbrev pub all_in : List TicketView → ℕ → ℕ
@@ -93,11 +74,7 @@ pub on_new : (moves : List Move) (from : ℕ) (tickets : List TicketView) (numbe
     ((k : ℕ) → from ≤ k → is_taken moves k ≡ false) → on_tickets moves from tickets number ≡ all_in tickets number
 on_new moves from [] number none = refl
 on_new moves from (t ∷ ts) number none =
-    let rest = on_new moves (from + 1) ts number (λ k above. none k (omega arith)) in
-    let low : from ≤ from = omega arith in
-    let first : (if is_taken moves from then 0 else one_if (is_in t.range number)) ≡ one_if (is_in t.range number) =
-    ap (λ (b : Bool). if b then 0 else one_if (is_in t.range number)) (none from low) in
-    omega arith
+    grind (arith, (on_new moves (from + 1) ts number (λ k above. none k (omega arith))))
 
 -- the ranges of tickets that do not leave are lost
 pub gone_lost : (tickets : List TicketView) (number : ℕ) → gone (map lost tickets) number ≡ all_in tickets number
@@ -152,13 +129,7 @@ on_taken moves from zero (t ∷ ts) ticket k number there at none =
         ap (λ (b : Bool). if b then 0 else one_if (is_in t.range number)) same in
         omega arith
 on_taken moves from (suc i) (t ∷ ts) ticket k number there at none =
-    let rest = on_taken moves (from + 1) i ts ticket k number there (omega arith) none in
-    let same : is_taken (moves ++ Took k ∷ []) from ≡ is_taken moves from =
-    taken_same moves (Took k ∷ []) from (took_other k from (λ e. omega arith)) in
-    let first : (if is_taken (moves ++ Took k ∷ []) from then 0 else one_if (is_in t.range number))
-    ≡ (if is_taken moves from then 0 else one_if (is_in t.range number)) =
-    ap (λ (b : Bool). if b then 0 else one_if (is_in t.range number)) same in
-    omega arith
+    grind (arith, taken_same, took_other, (on_taken moves (from + 1) i ts ticket k number there (omega arith) none))
 
 pub taken_by : (moves : List Move) (k j : ℕ) → is_taken (moves ++ Took k ∷ []) j ≡ true →
     (k ≡ j) ⊎ (is_taken moves j ≡ true)

@@ -1,16 +1,13 @@
 -- No label leaves twice, and labels of one identification are cut from one document.
-use Rattle.std.proofs.Common.{◌≡◌, ◌⊎◌, ◌+◌, ◌≤◌, inl, inr, ℕ, zero, suc, true, ◌==◌, Some, List, [], ◌∷◌, ◌++◌, length, slice_get, refl, sym, ap, subst, ◌∙◌, arith, eq-eqb}
+use Rattle.std.proofs.Common.{◌≡◌, ◌⊎◌, ◌+◌, ◌≤◌, inl, inr, ℕ, zero, suc, true, ◌==◌, Some, List, [], ◌∷◌, ◌++◌, length, slice_get, refl, sym, ap, subst, arith, eq-eqb}
 use Rattle.dm_check_blocks.specs.declared.size.Size.{Size}
 use Rattle.dm_encodation.specs.declared.scheme.Scheme.{Scheme}
-use Rattle.dm_finder_frame.specs.Grids.{flipped}
-use Rattle.dm_append_label.specs.Pages.{PageView}
 use Rattle.dm_print_ledger.specs.declared.range.Range.{Range}
 use Rattle.dm_print_ledger.specs.Changes.{least}
 use Rattle.dm_print_ledger.specs.Ranges.{is_free}
 use Rattle.dm_print_ledger.specs.Views.{LedgerView, TicketView}
-use Rattle.dm_assembly_desk.specs.Documents.{Documents}
 use Rattle.dm_event_history.specs.declared.event.Event.{Event}
-use Rattle.dm_event_history.specs.declared.event.Event.TheVariants.{Print, Scan, RestartPrinter, RestartDesk, Ask, Forget, Give, Take, Export, Import}
+use Rattle.dm_event_history.specs.declared.event.Event.TheVariants.{Print, RestartPrinter, Give, Take}
 use Rattle.dm_event_history.specs.declared.reply.Reply.{Reply}
 use Rattle.dm_event_history.specs.declared.stop.Stop.{Stop}
 use Rattle.dm_event_history.specs.Relay.{CutDocument}
@@ -19,13 +16,13 @@ use Rattle.dm_event_history.specs.Actors.{Actor, Running, Failed, Down, stored_o
 use Rattle.dm_event_history.specs.Relay.{Goods, Label, Move, Relay}
 use Rattle.dm_event_history.specs.Calls.{Answers, Calls, Course, Ending, LacksMemory, MayLackFirst, Saves}
 use Rattle.dm_event_history.specs.PrinterCalls.{AreLabelsFor, GiveComes, PrintComes, TakeComes, cut_of, print_faults}
-use Rattle.dm_event_history.specs.Steps.{Acts, DeskGoes, PrinterGoes}
+use Rattle.dm_event_history.specs.Steps.{Acts, PrinterGoes}
 use Rattle.dm_event_history.specs.Clean.{AreOfOneDocument}
 use Rattle.dm_event_history.specs.Places.{AreOnce, EachStepIsSound, IsSound, gone, one_if}
 use Rattle.dm_event_history.proofs.LedgerFacts.{made_print}
-use Rattle.dm_event_history.proofs.LeavingGoods.{IsClosed, Leaves, OfCourse, as_known, calls_leave, ends_leave, known_goods, may_lack_leaves, restarts_leave}
+use Rattle.dm_event_history.proofs.LeavingGoods.{IsClosed, OfCourse, as_known, calls_leave, ends_leave, known_goods, may_lack_leaves, restarts_leave}
 use Rattle.dm_event_history.proofs.Reaching.{reached, reaches}
-use Rattle.dm_event_history.proofs.QuietDesks.{IsQuiet, ask_quiet, export_is_quiet, forget_is_quiet, import_is_quiet, restart_quiet, scan_quiet, take_none}
+use Rattle.dm_event_history.proofs.QuietDesks.{ChangesDesk, quiet_desks, take_none}
 use Rattle.dm_event_history.proofs.Numbers.{free_some, gone_more}
 use Rattle.dm_event_history.proofs.Printed.{get_taken}
 use Rattle.dm_event_history.proofs.KeepsNumbers.{each_step_keeps_numbers}
@@ -58,17 +55,9 @@ each_of_batch : (cut : CutDocument) (id k : ℕ) (parts : List (List ℕ)) (labe
 each_of_batch cut id k [] [] made i label is = cc
 each_of_batch cut id k [] (x ∷ xs) made i label is = absurd made
 each_of_batch cut id k (part ∷ parts) [] made i label is = absurd made
-each_of_batch cut id k (part ∷ parts) (x ∷ xs) made zero label is =
-    let same : x ≡ label = cc (is) in
-    let place : k + 1 ≡ k + 0 + 1 = omega arith in
-    subst (λ (l : Label). IsOfBatch id cut (k + 0) l) same (record {
-      id_is = ap (λ (q : PageView). q.id) made.0.page_is;
-      cut_is = made.0.cut_is;
-      m_is = ap (λ (q : PageView). q.m) made.0.page_is ∙ place;
-    })
+each_of_batch cut id k (part ∷ parts) (x ∷ xs) made zero label is = grind arith
 each_of_batch cut id k (part ∷ parts) (x ∷ xs) made (suc i) label is =
-    let place : (k + 1) + i ≡ k + suc i = omega arith in
-    subst (λ (n : ℕ). IsOfBatch id cut n label) place (each_of_batch cut id (k + 1) parts xs made.1 i label is)
+    grind (arith, (each_of_batch cut id (k + 1) parts xs made.1 i label is))
 
 print_batch : {A : Type 0} (before : ℕ) (document : List ℕ) (size : Size) (scheme : Scheme) (held : LedgerView)
     (course : Course A LedgerView) → PrintComes before document size scheme held course →
@@ -94,20 +83,15 @@ print_leaves : {A : Type 0} (before : ℕ) (document : List ℕ) (size : Size) (
     (actor : Actor LedgerView) (end : Ending A LedgerView) →
     MayLackFirst (Calls print_faults stop (PrintComes before document size scheme)) actor end →
     MayBeBatch (stored_of actor) end.goods
-print_leaves before document size scheme stop (Running held) end (inl lack) =
-    as_known (MayBeBatch held) end _ lack (inl refl)
+print_leaves before document size scheme stop (Running held) end (inl lack) = grind (arith, as_known)
 print_leaves before document size scheme stop (Running held) end (inr acts) =
     as_known (MayBeBatch held) end _ acts.2
     (ends_leave (MayBeBatch held) (batch_closed held) print_faults stop acts.0 (Running held)
     (reaches stop (print_batch before document size scheme held acts.0) acts.1))
-print_leaves before document size scheme stop (Failed shown stored) end (inl lack) =
-    as_known (MayBeBatch stored) end _ lack (inl refl)
+print_leaves before document size scheme stop (Failed shown stored) end (inl lack) = grind (arith, as_known)
 print_leaves {A} before document size scheme stop (Failed shown stored) end (inr acts) =
-    as_known (MayBeBatch stored) end _ acts
-    (ends_leave (MayBeBatch stored) (batch_closed stored) print_faults stop (Answers (print_faults {A = A}).failed)
-    (Failed shown stored) (reached stop tt))
-print_leaves before document size scheme stop (Down stored) end acts =
-    as_known (MayBeBatch stored) end _ acts (inl refl)
+    grind (arith, as_known, batch_closed, ends_leave, reached)
+print_leaves before document size scheme stop (Down stored) end acts = grind (arith, as_known)
 
 -- ---- labels that are added
 
@@ -179,12 +163,10 @@ HasNoLabels goods = goods.labels ≡ []
 no_labels : IsClosed HasNoLabels
 no_labels = grind arith
 
-desk_labels : {A : Type 0} (old new : Relay) (number : ℕ) (Acts : ℕ → Actor Documents → Ending A Documents → Type 0)
-    (reply : Reply A) → IsSound old → ((room : ℕ) → Leaves IsQuiet (Acts room)) → DeskGoes old number Acts reply new →
-    AreSoundLabels new.labels new.moves
-desk_labels old new number Acts reply sound each g =
-    subst (λ (r : Relay). AreSoundLabels r.labels r.moves) (sym g.new_is)
-    (more_labels old g.end.goods sound (inl (each g.desk.room g.desk.actor g.end g.acts).labels))
+desk_labels : (old new : Relay) → IsSound old → ChangesDesk old new → AreSoundLabels new.labels new.moves
+desk_labels old new sound c =
+    subst (λ (r : Relay). AreSoundLabels r.labels r.moves) (sym c.new_is)
+    (more_labels old c.goods sound (inl c.quiet.labels))
 
 give_none : {A : Type 0} (before receiver : ℕ) (range : Range) (held : LedgerView) (course : Course A LedgerView) →
     GiveComes before receiver range held course → OfCourse HasNoLabels course
@@ -208,17 +190,7 @@ acts_labels old new (Take printer number stop) reply sound acts =
 acts_labels old new (RestartPrinter printer) reply sound acts =
     printer_labels old new printer _ reply sound
     (λ actor end is. inl (restarts_leave HasNoLabels no_labels _ actor end is)) acts
-acts_labels old new (Scan desk number flips stop) reply sound acts =
-    desk_labels old new desk _ reply sound (λ room. scan_quiet _ stop room (flipped acts.0.grid flips)) acts.2
-acts_labels old new (Forget desk id stop) reply sound acts =
-    desk_labels old new desk _ reply sound (λ room. forget_is_quiet _ stop id) acts
-acts_labels old new (Import desk number stop) reply sound acts =
-    desk_labels old new desk _ reply sound (λ room. import_is_quiet _ stop room acts.0) acts.2
-acts_labels old new (Ask desk id) reply sound acts = desk_labels old new desk _ reply sound (λ room. ask_quiet id) acts
-acts_labels old new (Export desk id) reply sound acts =
-    desk_labels old new desk _ reply sound (λ room. export_is_quiet (length old.exports) id) acts
-acts_labels old new (RestartDesk desk) reply sound acts =
-    desk_labels old new desk _ reply sound (λ room. restart_quiet _) acts
+acts_labels old new event reply sound acts = desk_labels old new sound (quiet_desks old new event reply tt acts)
 
 pub each_step_is_sound : (A : Type 0) → EachStepIsSound A
 each_step_is_sound A old new event reply sound step = grind (arith, acts_labels, apart, each_step_keeps_numbers)

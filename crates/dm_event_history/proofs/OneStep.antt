@@ -1,20 +1,16 @@
 -- Nothing is open but memory.
 use Rattle.std.proofs.Common.{arith, ◌≡◌, ◌⊎◌, ℕ, Some, length, sym, subst, ◌∙◌}
 use Rattle.dm_finder_frame.specs.Grids.{flipped}
-use Rattle.dm_print_ledger.specs.declared.fault.OpenFault.TheVariants as open_fault
-use Rattle.dm_print_ledger.specs.Views.{LedgerView, TicketView}
-use Rattle.dm_assembly_desk.specs.declared.fault.DeskFault.TheVariants as desk_fault
+use Rattle.dm_print_ledger.specs.Views.{LedgerView}
 use Rattle.dm_assembly_desk.specs.Documents.{Documents}
 use Rattle.dm_event_history.specs.declared.event.Event.{Event}
 use Rattle.dm_event_history.specs.declared.event.Event.TheVariants.{Print, Scan, RestartPrinter, RestartDesk, Ask, Forget, Give, Take, Export, Import}
 use Rattle.dm_event_history.specs.declared.reply.Reply.{Reply}
-use Rattle.dm_event_history.specs.declared.reply.Reply.TheVariants.{PrinterRefused, DeskRefused}
 use Rattle.dm_event_history.specs.Actors.{Actor}
-use Rattle.dm_event_history.specs.Relay as relays
-use Rattle.dm_event_history.specs.Relay.{Relay, Desk, Label, with_printer, with_desk}
+use Rattle.dm_event_history.specs.Relay.{Relay, Label}
 use Rattle.dm_event_history.specs.Calls.{Calls, Ending, MayLackFirst}
-use Rattle.dm_event_history.specs.PrinterCalls.{GiveComes, PrintComes, TakeComes, give_faults, print_faults, take_faults}
-use Rattle.dm_event_history.specs.DeskCalls.{AskTells, ExportTells, ForgetComes, ImportComes, ScanComes, forget_faults, import_faults, scan_faults}
+use Rattle.dm_event_history.specs.PrinterCalls.{PrintComes, print_faults}
+use Rattle.dm_event_history.specs.DeskCalls.{AskTells, ScanComes, scan_faults}
 use Rattle.dm_event_history.specs.Steps.{Acts, DeskGoes, PrinterGoes}
 use Rattle.dm_event_history.specs.Laws.{IsOfMemory, NothingIsOpenButMemory}
 use Rattle.dm_event_history.proofs.OneCourse.{print_determined, give_determined, take_determined, scan_determined, forget_determined, import_determined}
@@ -40,19 +36,9 @@ acts_one {A} old one other (Print printer document size scheme stop) r s p q =
     (may_lack_one _ (calls_one print_faults stop (PrintComes {A = A} (length old.labels) document size scheme) tt
     (print_determined (length old.labels) document size scheme))) p q
 acts_one {A} old one other (Give printer receiver range stop) r s p q =
-    printer_one old one other printer _ r s
-    (may_lack_one _ (calls_one give_faults stop (GiveComes {A = A} (length old.tickets) receiver range) tt
-    (give_determined (length old.tickets) receiver range))) p q
-acts_one {A} old one other (Take printer number stop) r s p q =
-    let there : Some p.0 ≡ Some q.0 = sym p.1 ∙ q.1 in
-    let ticket : p.0 ≡ q.0 = cc (there) in
-    let goes : PrinterGoes old printer (Calls take_faults stop (TakeComes number p.0)) s other =
-    subst (λ (t : TicketView). PrinterGoes old printer (Calls take_faults stop (TakeComes number t)) s other)
-    (sym ticket) q.2 in
-    printer_one old one other printer _ r s
-    (calls_one take_faults stop (TakeComes {A = A} number p.0) tt (take_determined number p.0)) p.2 goes
-acts_one old one other (RestartPrinter printer) r s p q =
-    printer_one old one other printer _ r s (restarts_one (PrinterRefused open_fault.Memory) tt) p q
+    grind (arith, calls_one, give_determined, may_lack_one, printer_one)
+acts_one {A} old one other (Take printer number stop) r s p q = grind (arith, calls_one, printer_one, take_determined)
+acts_one old one other (RestartPrinter printer) r s p q = grind (arith, printer_one, restarts_one)
 acts_one {A} old one other (Scan desk number flips stop) r s p q =
     let there : Some p.0 ≡ Some q.0 = sym p.1 ∙ q.1 in
     let label : p.0 ≡ q.0 = cc (there) in
@@ -62,25 +48,12 @@ acts_one {A} old one other (Scan desk number flips stop) r s p q =
     desk_one old one other desk _ r s
     (λ room. may_lack_one _ (calls_one scan_faults stop (ScanComes {A = A} room (flipped p.0.grid flips)) tt
     (scan_determined room (flipped p.0.grid flips)))) p.2 goes
-acts_one {A} old one other (Forget desk id stop) r s p q =
-    desk_one old one other desk _ r s
-    (λ room. calls_one forget_faults stop (ForgetComes {A = A} id) tt (forget_determined id)) p q
-acts_one {A} old one other (Import desk number stop) r s p q =
-    let there : Some p.0 ≡ Some q.0 = sym p.1 ∙ q.1 in
-    let export : p.0 ≡ q.0 = cc (there) in
-    let Goes : relays.Export → Reply A → Relay → Type 0 = λ x t new. DeskGoes old desk
-    (λ room. Calls import_faults stop (ImportComes room x)) t new in
-    let goes : Goes p.0 s other = subst (λ (x : relays.Export). Goes x s other) (sym export) q.2 in
-    desk_one old one other desk _ r s
-    (λ room. calls_one import_faults stop (ImportComes {A = A} room p.0) tt (import_determined room p.0)) p.2 goes
+acts_one {A} old one other (Forget desk id stop) r s p q = grind (arith, calls_one, desk_one, forget_determined)
+acts_one {A} old one other (Import desk number stop) r s p q = grind (arith, calls_one, desk_one, import_determined)
 acts_one {A} old one other (Ask desk id) r s p q =
     desk_one old one other desk _ r s (λ room. looks_one (AskTells {A = A} id) (ask_one id)) p q
-acts_one {A} old one other (Export desk id) r s p q =
-    desk_one old one other desk _ r s
-    (λ room. may_lack_one _ (looks_one (ExportTells {A = A} (length old.exports) id) (export_one (length old.exports) id)))
-    p q
-acts_one old one other (RestartDesk desk) r s p q =
-    desk_one old one other desk _ r s (λ room. restarts_one (DeskRefused desk_fault.Memory) tt) p q
+acts_one {A} old one other (Export desk id) r s p q = grind (arith, desk_one, export_one, looks_one, may_lack_one)
+acts_one old one other (RestartDesk desk) r s p q = grind (arith, desk_one, restarts_one)
 
 pub only_memory : (A : Type 0) → NothingIsOpenButMemory A
 only_memory A old one other event r s p q = grind (arith, acts_one)

@@ -2,16 +2,14 @@
 use Rattle.std.proofs.Common.{◌≡◌, ◌+◌, ℕ, zero, suc, Some, List, [], ◌∷◌, ◌++◌, length, slice_get, take, sym, ap, subst, ◌∙◌, arith}
 use Rattle.dm_check_blocks.specs.declared.size.Size.{Size}
 use Rattle.dm_encodation.specs.declared.scheme.Scheme.{Scheme}
-use Rattle.dm_finder_frame.specs.Grids.{flipped}
 use Rattle.dm_append_label.specs.Labels.{Carries}
 use Rattle.dm_append_label.specs.Pages.{PageView}
 use Rattle.dm_append_label.specs.Parts.{AreParts}
-use Rattle.dm_assembly_desk.specs.Documents.{Documents}
 use Rattle.dm_print_ledger.specs.declared.range.Range.{Range}
 use Rattle.dm_print_ledger.specs.Changes.{least}
 use Rattle.dm_print_ledger.specs.Views.{LedgerView, TicketView}
 use Rattle.dm_event_history.specs.declared.event.Event.{Event}
-use Rattle.dm_event_history.specs.declared.event.Event.TheVariants.{Print, Scan, RestartPrinter, RestartDesk, Ask, Forget, Give, Take, Export, Import}
+use Rattle.dm_event_history.specs.declared.event.Event.TheVariants.{Print, RestartPrinter, Give, Take}
 use Rattle.dm_event_history.specs.declared.reply.Reply.{Reply}
 use Rattle.dm_event_history.specs.Relay.{CutDocument}
 use Rattle.dm_event_history.proofs.Gotten.{in_either}
@@ -19,11 +17,11 @@ use Rattle.dm_event_history.specs.Actors.{Actor}
 use Rattle.dm_event_history.specs.Relay.{Goods, Label, Relay}
 use Rattle.dm_event_history.specs.Calls.{Answers, Course, Ending, LacksMemory, Saves}
 use Rattle.dm_event_history.specs.PrinterCalls.{AreLabelsFor, GiveComes, PrintComes, TakeComes, cut_of}
-use Rattle.dm_event_history.specs.Steps.{Acts, DeskGoes, PrinterGoes}
+use Rattle.dm_event_history.specs.Steps.{Acts, PrinterGoes}
 use Rattle.dm_event_history.specs.Clean.{ArePrinted, EachStepPrints, IsPrinted}
 use Rattle.dm_event_history.proofs.LedgerFacts.{made_print}
 use Rattle.dm_event_history.proofs.LeavingGoods.{IsClosed, Leaves, OfCourse, calls_leave, known_goods, may_lack_leaves, restarts_leave}
-use Rattle.dm_event_history.proofs.QuietDesks.{IsQuiet, ask_quiet, export_is_quiet, forget_is_quiet, import_is_quiet, restart_quiet, scan_quiet}
+use Rattle.dm_event_history.proofs.QuietDesks.{ChangesDesk, IsQuiet, quiet_desks}
 
 -- ---- lists of labels
 
@@ -63,10 +61,8 @@ each_printed cut id k (part ∷ parts) (x ∷ xs) are within made zero label is 
       are_parts = subst (λ (c : CutDocument). AreParts c.size c.scheme c.bytes c.parts) (sym made.0.cut_is) are;
       place = k;
       m_is = ap (λ (q : PageView). q.m) made.0.page_is;
-      n_is = ap (λ (q : PageView). q.n) made.0.page_is ∙
-          ap (λ (c : CutDocument). length c.parts) (sym made.0.cut_is);
-      part = ap (λ (c : CutDocument). slice_get c.parts k) made.0.cut_is ∙ at ∙
-          ap (λ (q : PageView). Some q.bytes) (sym made.0.page_is);
+      n_is = grind arith;
+      part = grind arith;
       carries = carries;
     })
 each_printed cut id k (part ∷ parts) (x ∷ xs) are within made (suc i) label is =
@@ -111,10 +107,8 @@ printer_prints : {A : Type 0} (old new : Relay) (printer : ℕ) (Acts : Actor Le
     ArePrinted new.labels
 printer_prints old new printer Acts reply p each g = grind (arith, both_printed)
 
-desk_prints : {A : Type 0} (old new : Relay) (number : ℕ) (Acts : ℕ → Actor Documents → Ending A Documents → Type 0)
-    (reply : Reply A) → ArePrinted old.labels → ((room : ℕ) → Leaves IsQuiet (Acts room)) →
-    DeskGoes old number Acts reply new → ArePrinted new.labels
-desk_prints old new number Acts reply p each g = grind (arith, both_printed, quiet_printed)
+desk_prints : (old new : Relay) → ArePrinted old.labels → ChangesDesk old new → ArePrinted new.labels
+desk_prints old new p c = grind (arith, both_printed, quiet_printed)
 
 acts_print : {A : Type 0} (old new : Relay) (event : Event A) (reply : Reply A) → ArePrinted old.labels →
     Acts old event reply new → ArePrinted new.labels
@@ -131,16 +125,7 @@ acts_print old new (Take printer number stop) reply p acts =
     (calls_leave PrintedGoods closed _ stop _ (take_prints number acts.0)) acts.2
 acts_print old new (RestartPrinter printer) reply p acts =
     printer_prints old new printer _ reply p (restarts_leave PrintedGoods closed _) acts
-acts_print old new (Scan desk number flips stop) reply p acts =
-    desk_prints old new desk _ reply p (λ room. scan_quiet _ stop room (flipped acts.0.grid flips)) acts.2
-acts_print old new (Forget desk id stop) reply p acts =
-    desk_prints old new desk _ reply p (λ room. forget_is_quiet _ stop id) acts
-acts_print old new (Import desk number stop) reply p acts =
-    desk_prints old new desk _ reply p (λ room. import_is_quiet _ stop room acts.0) acts.2
-acts_print old new (Ask desk id) reply p acts = desk_prints old new desk _ reply p (λ room. ask_quiet id) acts
-acts_print old new (Export desk id) reply p acts =
-    desk_prints old new desk _ reply p (λ room. export_is_quiet (length old.exports) id) acts
-acts_print old new (RestartDesk desk) reply p acts = desk_prints old new desk _ reply p (λ room. restart_quiet _) acts
+acts_print old new event reply p acts = desk_prints old new p (quiet_desks old new event reply tt acts)
 
 pub each_step_prints : (A : Type 0) → EachStepPrints A
 each_step_prints A old new event reply p step = grind (arith, acts_print)

@@ -1,12 +1,17 @@
 -- No label, no ticket and no number leaves a desk.
-use Rattle.std.proofs.Common.{arith, ◌≡◌, ℕ, List, [], take}
+use Rattle.std.proofs.Common.{arith, ◌≡◌, ℕ, List, [], length, take}
 use Rattle.dm_assembly_desk.specs.Documents.{Documents}
+use Rattle.dm_event_history.specs.declared.event.Event.{Event}
+use Rattle.dm_event_history.specs.declared.event.Event.TheVariants.{Scan, RestartDesk, Ask, Forget, Export, Import}
 use Rattle.dm_event_history.specs.declared.reply.Reply.{Reply}
 use Rattle.dm_event_history.specs.declared.stop.Stop.{Stop}
-use Rattle.dm_finder_frame.specs.Grids.{GridView}
+use Rattle.dm_finder_frame.specs.Grids.{GridView, flipped}
+use Rattle.dm_event_history.specs.Actors.{Actor}
 use Rattle.dm_event_history.specs.Relay as relays
-use Rattle.dm_event_history.specs.Relay.{Goods, Label, Move, nothing}
-use Rattle.dm_event_history.specs.Calls.{Calls, Faults, Looks, MayLackFirst, Restarts}
+use Rattle.dm_event_history.specs.Relay.{Desk, Goods, Relay, with_desk}
+use Rattle.dm_event_history.specs.Calls.{Calls, Ending, Faults, Looks, MayLackFirst, Restarts}
+use Rattle.dm_event_history.specs.Steps.{Acts, DeskGoes}
+use Rattle.dm_event_history.specs.WhoActs.{DeskAt, Named, PrinterAt, actor_of}
 use Rattle.dm_event_history.specs.DeskCalls.{AskTells, ExportTells, ForgetComes, ImportComes, ScanComes}
 use Rattle.dm_event_history.proofs.LeavingGoods.{IsClosed, Leaves, restarts_leave}
 use Rattle.dm_event_history.proofs.DeskGoods.{ask_leaves, forget_leaves, import_leaves, scan_leaves}
@@ -44,3 +49,43 @@ export_is_quiet {A} before id = grind arith
 pub restart_quiet : {A : Type 0} (refused : Reply A) →
     Leaves IsQuiet (Restarts {A = A} {C = Documents} refused)
 restart_quiet refused = restarts_leave IsQuiet quiet_closed refused
+
+-- ---- steps
+
+-- a desk changes, and what leaves is quiet
+pub record ChangesDesk (old new : Relay) : Type 0 where
+  pub number : ℕ
+  pub desk : Desk
+  pub goods : Goods
+  pub quiet : IsQuiet goods
+  pub new_is : new ≡ with_desk old number desk goods
+
+desk_changes : {A : Type 0} (old new : Relay) (number : ℕ) (Acts : ℕ → Actor Documents → Ending A Documents → Type 0)
+    (reply : Reply A) → ((room : ℕ) → Leaves IsQuiet (Acts room)) → DeskGoes old number Acts reply new →
+    ChangesDesk old new
+desk_changes old new number Acts reply each g = record {
+  number = number;
+  desk = record { room = g.desk.room; actor = g.end.actor };
+  goods = g.end.goods;
+  quiet = each g.desk.room g.desk.actor g.end g.acts;
+  new_is = g.new_is;
+}
+
+abbrev pub IsDesk : Named → Type 0
+IsDesk (PrinterAt number) = ⊥
+IsDesk (DeskAt number) = Unit {0}
+
+-- so it is by each event of a desk
+pub quiet_desks : {A : Type 0} (old new : Relay) (event : Event A) (reply : Reply A) → IsDesk (actor_of event) →
+    Acts old event reply new → ChangesDesk old new
+quiet_desks old new (Scan desk number flips stop) reply is acts =
+    desk_changes old new desk _ reply (λ room. scan_quiet _ stop room (flipped acts.0.grid flips)) acts.2
+quiet_desks old new (Forget desk id stop) reply is acts =
+    desk_changes old new desk _ reply (λ room. forget_is_quiet _ stop id) acts
+quiet_desks old new (Import desk number stop) reply is acts =
+    desk_changes old new desk _ reply (λ room. import_is_quiet _ stop room acts.0) acts.2
+quiet_desks old new (Ask desk id) reply is acts = desk_changes old new desk _ reply (λ room. ask_quiet id) acts
+quiet_desks old new (Export desk id) reply is acts =
+    desk_changes old new desk _ reply (λ room. export_is_quiet (length old.exports) id) acts
+quiet_desks old new (RestartDesk desk) reply is acts = desk_changes old new desk _ reply (λ room. restart_quiet _) acts
+quiet_desks old new event reply is acts = absurd is

@@ -1,5 +1,5 @@
 -- Why events are refused.
-use Rattle.std.proofs.Common.{arith, None, ◌≡◌, ◌≢◌, inl, inr, ℕ, Bool, true, false, Some, Err, Result, List, length, slice_get, refl, sym, ap, subst, ◌∙◌, Option, is_some}
+use Rattle.std.proofs.Common.{arith, None, ◌≡◌, ◌≢◌, inl, inr, ℕ, true, false, Some, Err, Result, List, slice_get, sym, ap, subst, Option, is_some}
 use Rattle.dm_finder_frame.specs.Grids.{GridView, flipped}
 use Rattle.dm_check_blocks.specs.declared.size.Size.{Size}
 use Rattle.dm_encodation.specs.declared.scheme.Scheme.{Scheme}
@@ -13,32 +13,26 @@ use Rattle.dm_print_ledger.specs.Verdicts.{print_verdict}
 use Rattle.dm_print_ledger.specs.Views.{LedgerView}
 use Rattle.dm_print_ledger.specs.declared.fault.PrintFault.{PrintFault}
 use Rattle.dm_print_ledger.specs.declared.fault.PrintFault.TheVariants as print_fault
-use Rattle.dm_print_ledger.specs.declared.fault.OpenFault.TheVariants as open_fault
-use Rattle.dm_assembly_desk.specs.declared.fault.DeskFault.TheVariants as desk_fault
 use Rattle.dm_event_history.proofs.LedgerFacts.{print_refuses}
 use Rattle.dm_assembly_desk.specs.Documents.{Documents}
 use Rattle.dm_event_history.specs.declared.event.Event.{Event}
-use Rattle.dm_event_history.specs.declared.event.Event.TheVariants.{Print, Scan, RestartPrinter, RestartDesk, Ask, Forget, Give, Take, Export, Import}
+use Rattle.dm_event_history.specs.declared.event.Event.TheVariants.{Print, Scan}
 use Rattle.dm_event_history.specs.declared.reply.Reply.{Reply}
-use Rattle.dm_event_history.specs.declared.reply.Reply.TheVariants.{PrintRefused, Scanned, ScanRefused}
-use Rattle.dm_event_history.specs.declared.reply.Reply.TheVariants as replies
+use Rattle.dm_event_history.specs.declared.reply.Reply.TheVariants.{PrintRefused}
 use Rattle.dm_event_history.specs.declared.stop.Stop.{Stop}
 use Rattle.dm_event_history.specs.declared.stop.Stop.TheVariants.{SaveFault}
-use Rattle.dm_event_history.specs.Saving.{stop_of}
 use Rattle.dm_event_history.specs.Actors.{Actor, Running}
 use Rattle.dm_event_history.specs.Relay.{Goods, Label, Relay}
 use Rattle.dm_event_history.specs.Calls.{Answers, Calls, Course, Ending, Faults, Looks, MayLackFirst, Reaches, Restarts, ends}
 use Rattle.dm_event_history.specs.PrinterCalls.{IsCut, print_faults}
-use Rattle.dm_event_history.specs.DeskCalls.{AskTells, ExportTells, MayBe, ScanComes, scan_course, scan_faults}
+use Rattle.dm_event_history.specs.DeskCalls.{MayBe, ScanComes, scan_course, scan_faults}
 use Rattle.dm_event_history.specs.Steps.{Acts, DeskGoes, PrinterGoes, Step}
 use Rattle.dm_event_history.specs.Headline.{IsFairEvent}
 use Rattle.dm_event_history.specs.Told.{EachStepIsRefusedSo, IsFramedSo, IsToFail, failed_after}
 use Rattle.dm_event_history.proofs.Reaching.{reaches}
 use Rattle.dm_event_history.proofs.Answered.{IsOwn}
-use Rattle.dm_event_history.proofs.AsTold.{ArePlain, IsPlain, IsPlainCourse, ask_plain, export_plain, fine_forget, fine_give, fine_import, fine_print, fine_scan, fine_take, forget_plain, give_plain, import_plain, print_plain, scan_plain, take_plain}
-
-never : {X : Type 0} (b : Bool) → b ≡ false → b ≡ true → X
-never b unset set = grind arith
+use Rattle.dm_event_history.proofs.ByKind.{ArePlain, IsPlainAnswer, IsPlainCourse, by_kind}
+use Rattle.dm_event_history.proofs.Deciding.{never}
 
 -- ---- saves that fail
 
@@ -58,7 +52,7 @@ FailsOnly {A} {C} Why Acts = (actor : Actor C) (end : Ending A C) → Acts actor
 
 calls_fail : {A C : Type 0} (faults : Faults A) (stop : Stop) (Comes : C → Course A C → Type 0) → ArePlain faults →
     ((held : C) (course : Course A C) → Comes held course → IsPlainCourse course) →
-    FailsOnly ((kept : Kept) × (stop ≡ SaveFault kept)) (Calls faults stop Comes)
+    FailsOnly ((kept : Kept) × (Some stop ≡ Some (SaveFault kept))) (Calls faults stop Comes)
 calls_fail {A} {C} faults stop Comes fine each held end acts save =
     grind (arith, never, reaches, save_ends, save_failed)
 
@@ -67,7 +61,7 @@ may_lack_fails : {A C : Type 0} (Why : Type 0) (Acts : Actor C → Ending A C �
 may_lack_fails {A} {C} Why Acts each acts end lack save = grind arith
 
 looks_fail : {A C : Type 0} (Why : Type 0) (Said : C → Reply A → Goods → Type 0) →
-    ((held : C) (reply : Reply A) (goods : Goods) → Said held reply goods → IsPlain reply) → FailsOnly Why (Looks Said)
+    ((held : C) (reply : Reply A) (goods : Goods) → Said held reply goods → IsPlainAnswer reply) → FailsOnly Why (Looks Said)
 looks_fail Why Said each held end acts save = grind arith
 
 restarts_fail : {A C : Type 0} (Why : Type 0) (refused : Reply A) → failed_after refused false ≡ false →
@@ -84,46 +78,13 @@ desk_fails : {A : Type 0} (Why : Type 0) (old new : Relay) (number : ℕ)
     ((room : ℕ) → FailsOnly Why (Acts room)) → DeskGoes old number Acts reply new → failed_after reply false ≡ true → Why
 desk_fails {A} Why old new number Acts reply each g save = grind arith
 
-to_fail : {A : Type 0} (event : Event A) (stop : Stop) → stop_of event ≡ Some stop →
-    ((kept : Kept) × (stop ≡ SaveFault kept)) → IsToFail event
-to_fail event stop is why = (why.0, is ∙ ap (λ (s : Stop). Some s) why.1)
-
 acts_fail : {A : Type 0} (old new : Relay) (event : Event A) (reply : Reply A) → Acts old event reply new →
     failed_after reply false ≡ true → IsToFail event
-acts_fail {A} old new (Print printer document size scheme stop) reply acts save =
-    to_fail {A = A} (Print printer document size scheme stop) stop refl
-    (printer_fails _ old new printer _ reply (may_lack_fails _ _ (calls_fail _ stop _ fine_print
-    (print_plain (length old.labels) document size scheme))) acts save)
-acts_fail {A} old new (Give printer receiver range stop) reply acts save =
-    to_fail {A = A} (Give printer receiver range stop) stop refl
-    (printer_fails _ old new printer _ reply (may_lack_fails _ _ (calls_fail _ stop _ fine_give
-    (give_plain (length old.tickets) receiver range))) acts save)
-acts_fail {A} old new (Take printer number stop) reply acts save =
-    to_fail {A = A} (Take printer number stop) stop refl
-    (printer_fails _ old new printer _ reply (calls_fail _ stop _ fine_take (take_plain number acts.0)) acts.2 save)
-acts_fail {A} old new (RestartPrinter printer) reply acts save =
-    printer_fails (IsToFail {A = A} (RestartPrinter printer)) old new printer _ reply
-    (restarts_fail _ (replies.PrinterRefused open_fault.Memory) refl) acts save
-acts_fail {A} old new (Scan desk number flips stop) reply acts save =
-    to_fail {A = A} (Scan desk number flips stop) stop refl
-    (desk_fails _ old new desk _ reply (λ room. may_lack_fails _ _ (calls_fail _ stop _ fine_scan
-    (scan_plain room (flipped acts.0.grid flips)))) acts.2 save)
-acts_fail {A} old new (Forget desk id stop) reply acts save =
-    to_fail {A = A} (Forget desk id stop) stop refl
-    (desk_fails _ old new desk _ reply (λ room. calls_fail _ stop _ fine_forget (forget_plain id)) acts save)
-acts_fail {A} old new (Import desk number stop) reply acts save =
-    to_fail {A = A} (Import desk number stop) stop refl
-    (desk_fails _ old new desk _ reply (λ room. calls_fail _ stop _ fine_import (import_plain room acts.0)) acts.2 save)
-acts_fail {A} old new (Ask desk id) reply acts save =
-    desk_fails (IsToFail {A = A} (Ask desk id)) old new desk _ reply
-    (λ room. looks_fail _ (AskTells {A = A} id) (ask_plain id)) acts save
-acts_fail {A} old new (Export desk id) reply acts save =
-    desk_fails (IsToFail {A = A} (Export desk id)) old new desk _ reply
-    (λ room. may_lack_fails _ _ (looks_fail _ (ExportTells {A = A} (length old.exports) id)
-    (export_plain (length old.exports) id))) acts save
-acts_fail {A} old new (RestartDesk desk) reply acts save =
-    desk_fails (IsToFail {A = A} (RestartDesk desk)) old new desk _ reply
-    (λ room. restarts_fail _ (replies.DeskRefused desk_fault.Memory) refl) acts save
+acts_fail old new event reply acts save =
+    by_kind old new event reply (λ C stop Does. FailsOnly ((kept : Kept) × (stop ≡ Some (SaveFault kept))) Does) _
+    (λ C. calls_fail) (λ C stop. may_lack_fails _) (λ C. looks_fail _) (λ some C refused is. restarts_fail _ refused is.unfailed)
+    (λ printer Does named each g. printer_fails _ old new printer Does reply each g save)
+    (λ number Does named each g. desk_fails _ old new number Does reply each g save) acts
 
 -- ---- finder patterns
 
@@ -165,9 +126,7 @@ no_parts : (size : Size) (scheme : Scheme) (document : List ℕ) (held : LedgerV
     IsCut size scheme document parts → print_verdict held (is_some parts) ≡ Err print_fault.TooLong →
     HasNoEnds size scheme document
 no_parts size scheme document held None cut is = cut
-no_parts size scheme document held (Some parts) cut is =
-    absurd (print_refuses (λ f. f ≡ print_fault.TooLong → ⊥) held true print_fault.TooLong (λ none. cc (none))
-    (λ none e. cc (e)) is refl)
+no_parts size scheme document held (Some parts) cut is = grind (arith, print_refuses)
 
 pub each_step_is_refused_so : (A : Type 0) → EachStepIsRefusedSo A
 each_step_is_refused_so A old new event reply printed step = record {
@@ -189,8 +148,7 @@ each_step_is_refused_so A old new event reply printed step = record {
     by_scan : (desk number : ℕ) (flips : List (ℕ × ℕ)) (stop : Stop) (label : Label) →
         slice_get old.labels number ≡ Some label → IsFairEvent {A = A} old (Scan desk number flips stop) →
         Step old (Scan desk number flips stop) reply new → IsFramedSo (flipped label.grid flips) reply
-    by_scan desk number flips stop label there fair (inr none) =
-        subst (λ (r : Reply A). IsFramedSo (flipped label.grid flips) r) (sym none.1) tt
+    by_scan desk number flips stop label there fair (inr none) = grind arith
     by_scan desk number flips stop label there fair (inl acts) =
         let own : Label = acts.1.0 in
         let same : own ≡ label = (let a : slice_get old.labels number ≡ Some own = acts.1.1 in cc (a, there)) in

@@ -1,4 +1,4 @@
--- In a run in which each scan is fair each reply is safe.
+-- As long as each scan that may have saved is fair each reply is safe.
 use Rattle.std.proofs.Common.{◌≡◌, ◌≢◌, ◌⊎◌, ◌↔◌, ◌+◌, ◌≤◌, ◌==◌, inl, inr, ℕ, zero, suc, Bool, true, false, Option, Some, None, Result, Ok, Err, List, [], ◌∷◌, length, slice_get, slice_index_or, IsSome, refl, sym, ap, subst, ◌∙◌, arith, eq-eqb}
 use Rattle.std.specs.Prelude.{is_some, is_none, ◌&&◌, unwrap_or, if◌then◌else◌}
 use Rattle.std.specs.List.{list_all, list_any}
@@ -39,7 +39,7 @@ use Rattle.dm_assembly_desk.proofs.MergingLaws.{length_both}
 use Rattle.dm_event_history.specs.declared.event.Event.{Event}
 use Rattle.dm_event_history.specs.declared.event.Event.TheVariants.{Scan, Ask, Forget, Export, Import}
 use Rattle.dm_event_history.specs.declared.reply.Reply.{Reply}
-use Rattle.dm_event_history.specs.declared.reply.Reply.TheVariants.{Scanned, ScanRefused, Document, AskRefused, Forgotten, ForgetRefused, Exported, ExportRefused, Imported, ImportRefused}
+use Rattle.dm_event_history.specs.declared.reply.Reply.TheVariants.{Scanned, ScanRefused, Imported, ImportRefused}
 use Rattle.dm_event_history.specs.declared.reply.Reply.TheVariants as replies
 use Rattle.dm_event_history.specs.declared.stop.Stop.{Stop}
 use Rattle.dm_event_history.specs.Actors.{Actor, shown_of}
@@ -52,13 +52,13 @@ use Rattle.dm_event_history.specs.Runs.{Moment}
 use Rattle.dm_event_history.specs.Clean.{ArePrinted, AreOfOneDocument, HaveLeft, IsCleanExport}
 use Rattle.dm_event_history.specs.Places.{IsSound}
 use Rattle.dm_event_history.specs.Headline.{AreAllClean, IsFairEvent}
-use Rattle.dm_event_history.specs.Safe.{EachFairReplyIsSafe, IsExportSafe, IsFullFor, IsImportKindSafe, IsImportedSafe, IsKindSafe, IsSafe, IsTrulyMissing, Known, docs, known_of}
-use Rattle.dm_event_history.proofs.Deciding.{decided, if_not, if_so, or_left, or_right, same_number, same_or_other, true_false}
+use Rattle.dm_event_history.specs.Safe.{EachFairReplyIsSafe, IsExportSafe, IsFullFor, IsImportKindSafe, IsImportRefusedSafe, IsImportedSafe, IsKindSafe, IsSafe, IsTrulyMissing, Known, docs, known_of}
+use Rattle.dm_event_history.proofs.Deciding.{decided, if_not, if_so, or_left, or_right, same_number, true_false}
 use Rattle.dm_event_history.proofs.MergedPages.{Differs, all_held, lacks_means, one_lacks}
 use Rattle.dm_event_history.proofs.Adds.{add_refuses, length-lone, lone_some, named_there, some_added, there_named}
 use Rattle.dm_event_history.proofs.Gives.{each_clean_desk_gives}
 use Rattle.dm_event_history.proofs.Stays.{lone_clean, lone_export, page_in}
-use Rattle.dm_event_history.proofs.Headline.{each_fair_run_is_clean, each_run_is_sound, saved_fair}
+use Rattle.dm_event_history.proofs.Headline.{each_fair_run_is_clean, each_run_is_sound}
 use Rattle.dm_event_history.proofs.Answered.{IsOwn, is_answered, is_looked, is_made}
 use Rattle.dm_event_history.proofs.Told.{AddRefused, add_ended, no_page, own_import, own_scan, scan_told, scan_was_refused, was_wanted}
 use Rattle.dm_event_history.proofs.Between.{AreBetween, IsBetween, run_between}
@@ -66,51 +66,29 @@ use Rattle.dm_assembly_desk.proofs.LonePages.{lone_here}
 
 -- ---- what was printed
 
-docs_found : (labels : List Label) (n : ℕ) (label : Label) → slice_get labels n ≡ Some label →
-    (cut : CutDocument) × (docs labels label.page.id ≡ Some cut) × (k : ℕ) × (other : Label)
-    × (slice_get labels k ≡ Some other) × (other.page.id ≡ label.page.id) × (other.cut ≡ cut)
-docs_found [] n label there = cc (there)
-docs_found (own ∷ labels) zero label there =
-    let same : own ≡ label = cc (there) in
-    let is : own.page.id ≡ label.page.id = ap (λ (l : Label). l.page.id) same in (
-      own.cut,
-      if_so (own.page.id == label.page.id) (Some own.cut) (docs labels label.page.id)
-          (eq-eqb own.page.id label.page.id is),
-      0,
-      own,
-      refl,
-      is,
-      refl,
-    )
-docs_found (own ∷ labels) (suc n) label there =
-    let more = docs_found labels n label there in
-    elim (same_or_other own.page.id label.page.id) [
-      | inl same ↦ (
-        own.cut,
-        if_so (own.page.id == label.page.id) (Some own.cut) (docs labels label.page.id)
-            (eq-eqb own.page.id label.page.id same),
-        0,
-        own,
-        refl,
-        same,
-        refl,
-      )
-      | inr away ↦ (
-        more.0,
-        if_not (own.page.id == label.page.id) (Some own.cut) (docs labels label.page.id)
-            (λ same. away (same_number own.page.id label.page.id same)) ∙ more.1,
-        suc more.2,
-        more.3,
-        more.4,
-        more.5,
-        more.6,
-      )
-    ]
+-- it is that of the first label under the identification
+docs_found : (labels : List Label) (n : ℕ) (label : Label) (id : ℕ) → slice_get labels n ≡ Some label →
+    label.page.id ≡ id → (k : ℕ) × (other : Label) × (slice_get labels k ≡ Some other) × (other.page.id ≡ id)
+    × (docs labels id ≡ Some other.cut)
+docs_found [] n label id there is = cc (there)
+docs_found (own ∷ labels) zero label id there is =
+    let here : own ≡ label = cc (there) in let same = ap (λ (l : Label). l.page.id) here ∙ is in
+    (0, own, refl, same, if_so (own.page.id == id) (Some own.cut) (docs labels id) (eq-eqb own.page.id id same))
+docs_found (own ∷ labels) (suc n) label id there is = elim (decided (own.page.id == id)) [
+  | inl same ↦
+      (0, own, refl, same_number own.page.id id same, if_so (own.page.id == id) (Some own.cut) (docs labels id) same)
+  | inr away ↦
+      let more = docs_found labels n label id there is in
+      let rest = if_not (own.page.id == id) (Some own.cut) (docs labels id) (λ same. true_false _ same away) in
+      (suc more.0, more.1, more.2, more.3, rest ∙ more.4)
+]
 
 -- the document of a label that left is what was printed under its identification
 pub docs_of : (labels : List Label) → AreOfOneDocument labels → (n : ℕ) (label : Label) (id : ℕ) →
     slice_get labels n ≡ Some label → label.page.id ≡ id → docs labels id ≡ Some label.cut
-docs_of labels one n label id there is = grind (arith, docs_found)
+docs_of labels one n label id there is =
+    let found = docs_found labels n label id there is in
+    found.4 ∙ ap (λ (c : CutDocument). Some c) (one found.0 n found.1 label found.2 there (found.3 ∙ sym is))
 
 -- ---- what is held, of what was printed
 
@@ -205,21 +183,10 @@ module _ (A : Type 0) (old : Relay) (earlier : List (Moment A)) (d : ℕ) (held 
         document = t.0;
         printed = t.1;
         some_named = (first.0, names_missing pages first.0 ∙ first.1);
-        not_all = (
-          here.0,
-          place.0,
-          (let l = t.2 in let r = place.1 in omega arith),
-          (λ named. no_page (page pages here.0) here.1
-              ((lacks_means pages here.0).0 (sym (names_missing pages here.0) ∙ named)).2),
-        );
-        nothing_else = λ m named. let u = (lacks_means pages m).0 (sym (names_missing pages m) ∙ named) in
-            (u.0, (let a = u.1 in let l = t.2 in omega arith));
-        not_surely = λ m named. not_held id m pages is
-            ((lacks_means pages m).0 (sym (names_missing pages m) ∙ named)).2;
-        possibly = λ m least most unnamed. possibly id m pages is (elim (decided (lacks pages m)) [
-          | inl lack ↦ absurd (unnamed (names_missing pages m ∙ lack))
-          | inr has ↦ (lacks_means pages m).1 has least (let l = t.2 in omega arith)
-        ]);
+        not_all = grind (arith, here, lacks_means, names_missing, no_page);
+        nothing_else = grind (arith, lacks_means, names_missing);
+        not_surely = grind (arith, lacks_means, names_missing, not_held);
+        possibly = grind (arith, decided, lacks_means, names_missing);
       }
 
   all_possibly : (id : ℕ) (pages : Pages) → finite.get held id ≡ Some pages → list_all is_some pages ≡ true →
@@ -253,11 +220,6 @@ module _ (A : Type 0) (old : Relay) (earlier : List (Moment A)) (d : ℕ) (held 
             possibly = λ m least most. all_possibly id pages is all m least (omega arith);
           }
       by_all true all (Err ask_fault.Memory) true_one x = tt
-      by_all true all (Err ask_fault.NotHeld) true_one x = cc (x)
-      by_all true all (Err (ask_fault.Incomplete m)) true_one x = cc (x)
-      by_all false all (Ok bytes) true_one x = cc (x)
-      by_all false all (Err ask_fault.Memory) true_one x = cc (x)
-      by_all false all (Err ask_fault.NotHeld) true_one x = cc (x)
       by_all false all (Err (ask_fault.Incomplete m)) true_one x =
           (let same : m ≡ missing_mask pages = incomplete_is x in
           subst (λ (k : ℕ). IsTrulyMissing known d id k) (sym same) (truly_missing id pages is all))
@@ -265,6 +227,7 @@ module _ (A : Type 0) (old : Relay) (earlier : List (Moment A)) (d : ℕ) (held 
           incomplete_is : ◌≡◌ {A = Result (List ℕ) AskFault} (Err (ask_fault.Incomplete m))
               (Err (ask_fault.Incomplete (missing_mask pages))) → m ≡ missing_mask pages
           incomplete_is e = cc (e)
+      by_all b all r true_one x = cc (x)
 
   -- ---- desks that are full
 
@@ -273,10 +236,7 @@ module _ (A : Type 0) (old : Relay) (earlier : List (Moment A)) (d : ℕ) (held 
     where
       among : (keys : List ℕ) (i : ℕ) → slice_get keys i ≡ Some key → list_any (eq_by_cmp nat_cmp key) keys ≡ true
       among [] i at = cc (at)
-      among (k ∷ ks) zero at =
-          (let same : k ≡ key = cc (at) in
-          or_left (eq_by_cmp nat_cmp key k) (list_any (eq_by_cmp nat_cmp key) ks) (ap (eq_by_cmp nat_cmp key) same ∙
-          itself key))
+      among (k ∷ ks) zero at = grind (arith, itself, or_left)
       among (k ∷ ks) (suc i) at = or_right (eq_by_cmp nat_cmp key k) (list_any (eq_by_cmp nat_cmp key) ks) (among ks i at)
 
       by_get : (o : Option Pages) → finite.get held key ≡ o → is_some (finite.get held key) ≡ true →
@@ -292,17 +252,9 @@ module _ (A : Type 0) (old : Relay) (earlier : List (Moment A)) (d : ℕ) (held 
         let same : desk ≡ other = cc (there, here) in
         record {
           others = finite.keys held;
-          enough = (let l = length-keys held in let r : desk.room ≡ other.room = ap (λ (x : Desk). x.room) same in
-              omega arith);
+          enough = grind (arith, length-keys);
           rising = keys_rise held;
-          each = λ i key at.
-              let k = key_held i key at in
-              let s = left.some key k.0 k.1 in (
-                (λ same. let a : finite.get held key ≡ None = ap (λ (x : ℕ). finite.get held x) same ∙ none in
-                    let b : finite.get held key ≡ Some k.0 = k.1 in cc (a, b)),
-                s.0,
-                possibly key s.0 k.0 k.1 s.1,
-              );
+          each = grind (arith, key_held, possibly);
         }),
   )
 
@@ -317,8 +269,7 @@ module _ (A : Type 0) (old : Relay) (earlier : List (Moment A)) (d : ℕ) (held 
   module _ (export : relays.Export) (sent : IsCleanExport old.labels export) where
     added_means : (added m : ℕ) → added ≡ added_mask (unwrap_or (finite.get held export.id) []) export.pages →
         names added m ≡ (is_none (page_at held export.id m) && is_some (page export.pages m))
-    added_means added m is = ap (λ (bits : ℕ). names bits m) is ∙
-        names_added (unwrap_or (finite.get held export.id) []) export.pages m
+    added_means added m is = grind (arith, names_added)
 
     import_kind_safe : (added : ℕ) (kind : Kind) →
         added ≡ added_mask (unwrap_or (finite.get held export.id) []) export.pages →
@@ -408,35 +359,16 @@ module _ (A : Type 0) (old : Relay) (earlier : List (Moment A)) (d : ℕ) (held 
       here = subst IsSome (sym (lone_here p head.first head.last)) refl
 
       not_here : added ≢ 0 → ¬ known.holds d p.id p.m
-      not_here some surely =
-          let own : Pages = own_pages held p.id in
-          let m = some_added own (lone p) some in
-          let same : m.0 ≡ p.m = lone_some p m.0 head.first m.1 in
-          no_page (page_at held p.id p.m) (b.surely p.id p.m surely)
-          (subst (λ (k : ℕ). page own k ≡ None) same m.2)
+      not_here some surely = grind (arith, lone_some, no_page, some_added)
 
       away : (m : ℕ) → page (lone p) m ≡ None → m ≢ p.m
       away m none same = no_page (page (lone p) p.m) here (subst (λ (k : ℕ). page (lone p) k ≡ None) same none)
 
       by_kind : (other : Kind) → kind ≡ other → IsImportKindSafe known d (lone_export p) added other →
           IsKindSafe known d p.id p.m p.n other
-      by_kind Again at k = safe.possibly p.m here (λ named.
-          let none : added ≡ 0 = safe.again.0 at in
-          let unnamed : names added p.m ≡ false = ap (λ (bits : ℕ). names bits p.m) none ∙ none_named p.m in
-          true_false (names added p.m) named unnamed)
-      by_kind New at k = (
-        not_here (λ none. let again : kind ≡ Again = safe.again.1 none in cc (again, at)),
-        k.0,
-        k.1,
-        (let l = length-lone p in let most : k.0 ≤ length (lone p) = k.2 in omega arith),
-        away k.0 k.3,
-        k.4,
-      )
-      by_kind Complete at k = (
-        not_here (λ none. let again : kind ≡ Again = safe.again.1 none in cc (again, at)),
-        (λ m least most other. k m least (let l = length-lone p in omega arith)
-            (λ named. other (lone_some p m head.first (safe.added m named)))),
-      )
+      by_kind Again at k = grind (arith, added, here, none_named, safe, true_false)
+      by_kind New at k = grind (arith, away, length-lone, not_here, safe)
+      by_kind Complete at k = grind (arith, length-lone, lone_some, not_here, safe)
 
 -- ---- steps
 
@@ -573,7 +505,8 @@ module _ (A : Type 0) (old new : Relay) (earlier : List (Moment A)) (sound : IsS
         | inl was ↦
             let full = (not_added d g.desk.room g.desk (lone_export label.page) r.0 was.fault g.was refl r.1
             (lone_clean old.labels number label there (printed number label there)) was.fault_is).0 in
-            let told = subst (λ (f : AddFault). page_reply {A = A} label.page (Err f) ≡ ScanRefused scan_fault.Conflict) full was.told in
+            let told = subst (λ (f : AddFault). page_reply {A = A} label.page (Err f) ≡ ScanRefused scan_fault.Conflict)
+            full was.told in
             absurd (cc (told))
         | inr border ↦ (let e = border.1 in cc (e))
       ]
@@ -613,6 +546,13 @@ module _ (A : Type 0) (old new : Relay) (earlier : List (Moment A)) (sound : IsS
       fault_is : {one other : ImportFault} → ◌≡◌ {A = Reply A} (ImportRefused one) (ImportRefused other) → one ≡ other
       fault_is e = cc (e)
 
+  import_refusal : (d number : ℕ) (export : relays.Export) (fault : ImportFault) →
+      slice_get old.exports number ≡ Some export →
+      (fault ≢ import_fault.Failed → fault ≢ import_fault.Save → fault ≢ import_fault.Memory →
+      (fault ≡ import_fault.Full) × IsFullFor old (known_of old earlier) d export.id) →
+      IsImportRefusedSafe old (known_of old earlier) d number fault
+  import_refusal d number export fault there why = grind arith
+
   import_safe : (d number : ℕ) (stop : Stop) (export : relays.Export) (reply : Reply A) →
       slice_get old.exports number ≡ Some export →
       DeskGoes old d (λ room. Calls import_faults stop (ImportComes room export)) reply new →
@@ -637,29 +577,13 @@ module _ (A : Type 0) (old new : Relay) (earlier : List (Moment A)) (sound : IsS
       imported_is : {one other : imported_type.Imported} → ◌≡◌ {A = Reply A} (Imported one) (Imported other) →
           one ≡ other
       imported_is e = cc (e)
-  import_safe d number stop export (ImportRefused import_fault.NotPages) there g =
-      (let r = (not_imported d number stop export import_fault.NotPages there g (λ e. cc (e)) (λ e. cc (e))
-      (λ e. cc (e))).0 in cc (r))
-  import_safe d number stop export (ImportRefused import_fault.Version) there g =
-      (let r = (not_imported d number stop export import_fault.Version there g (λ e. cc (e)) (λ e. cc (e))
-      (λ e. cc (e))).0 in cc (r))
-  import_safe d number stop export (ImportRefused import_fault.Damaged) there g =
-      (let r = (not_imported d number stop export import_fault.Damaged there g (λ e. cc (e)) (λ e. cc (e))
-      (λ e. cc (e))).0 in cc (r))
-  import_safe d number stop export (ImportRefused import_fault.Conflict) there g =
-      (let r = (not_imported d number stop export import_fault.Conflict there g (λ e. cc (e)) (λ e. cc (e))
-      (λ e. cc (e))).0 in cc (r))
-  import_safe d number stop export (ImportRefused import_fault.Full) there g = (
-    export,
-    there,
-    (not_imported d number stop export import_fault.Full there g (λ e. cc (e)) (λ e. cc (e)) (λ e. cc (e))).1,
-  )
+  import_safe d number stop export (ImportRefused fault) there g =
+      import_refusal d number export fault there (not_imported d number stop export fault there g)
   import_safe d number stop export reply there g = tt
 
   acts_safe : (event : Event A) (reply : Reply A) → IsFairEvent old event → IsNamed old event →
       Step old event reply new → Acts old event reply new → IsSafe old (known_of old earlier) event reply
-  acts_safe (Scan d number flips stop) reply fair named step acts =
-      scan_safe d number flips stop acts.0 reply acts.1 (fair named acts.0 acts.1) acts.2
+  acts_safe (Scan d number flips stop) reply fair named step acts = grind (arith, scan_safe)
   acts_safe (Forget d id stop) reply fair named step acts = forget_safe d id stop reply acts
   acts_safe (Import d number stop) reply fair named step acts = import_safe d number stop acts.0 reply acts.1 acts.2
   acts_safe (Ask d id) reply fair named step acts = ask_safe d id reply step acts
@@ -670,16 +594,14 @@ no_such_safe : {A : Type 0} (old : Relay) (known : Known) (event : Event A) → 
 no_such_safe old known event = grind arith
 
 pub each_fair_reply_is_safe : (A : Type 0) → EachFairReplyIsSafe A
-each_fair_reply_is_safe A ranges rooms moment earlier end apart run fair =
+each_fair_reply_is_safe A ranges rooms moment earlier end apart run saved fair =
     let before = each_run_is_sound A ranges rooms earlier moment.before apart run.0 in
-    by_case before.0 before.1 (each_fair_run_is_clean A ranges rooms earlier moment.before apart run.0 (saved_fair earlier fair.1))
-    (run_between A ranges rooms earlier moment.before apart run.0 fair.1) run.1
+    by_case before.0 before.1 (each_fair_run_is_clean A ranges rooms earlier moment.before apart run.0 saved)
+    (run_between A ranges rooms earlier moment.before apart run.0 saved) run.1
   where
     by_case : IsSound moment.before → ArePrinted moment.before.labels → AreAllClean moment.before →
         AreBetween earlier moment.before → Step moment.before moment.event moment.reply end →
         IsSafe moment.before (known_of moment.before earlier) moment.event moment.reply
     by_case sound printed clean b (inl acts) =
-        acts_safe A moment.before end earlier sound printed clean b moment.event moment.reply fair.0 acts.0 (inl acts) acts.1
-    by_case sound printed clean b (inr none) =
-        subst (λ (r : Reply A). IsSafe moment.before (known_of moment.before earlier) moment.event r) (sym none.1)
-        (no_such_safe moment.before (known_of moment.before earlier) moment.event)
+        acts_safe A moment.before end earlier sound printed clean b moment.event moment.reply fair acts.0 (inl acts) acts.1
+    by_case sound printed clean b (inr none) = grind (arith, no_such_safe)

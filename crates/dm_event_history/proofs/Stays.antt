@@ -1,5 +1,5 @@
 -- A desk stays clean.
-use Rattle.std.proofs.Common.{arith, ◌≡◌, ◌≢◌, ◌⊎◌, inl, inr, ℕ, zero, suc, Option, Some, None, List, [], ◌∷◌, ◌++◌, length, slice_get, slice_set, Result, Ok, Err, IsSome, refl, sym, ap, subst, ◌∙◌}
+use Rattle.std.proofs.Common.{arith, ◌≡◌, ◌≢◌, inl, inr, ℕ, Option, Some, None, List, [], ◌++◌, length, slice_get, Result, Ok, Err, IsSome, refl, sym, ap, subst, ◌∙◌}
 use Rattle.std.specs.Prelude.{unwrap_or}
 use Rattle.std.specs.Option.{option_or}
 use Rattle.std.specs.FinMap as finite
@@ -23,17 +23,17 @@ use Rattle.dm_event_history.specs.declared.event.Event.TheVariants.{Print, Scan,
 use Rattle.dm_event_history.specs.declared.reply.Reply.{Reply}
 use Rattle.dm_event_history.specs.declared.stop.Stop.{Stop}
 use Rattle.dm_event_history.proofs.Deciding.{same_or_other}
-use Rattle.dm_event_history.proofs.Gotten.{get_more}
+use Rattle.dm_event_history.proofs.Gotten.{get_more, set_at}
 use Rattle.dm_event_history.proofs.HeldDocuments.{get_left, get_other, get_removed}
 use Rattle.dm_event_history.specs.Actors.{Actor}
 use Rattle.dm_event_history.specs.Relay as relays
-use Rattle.dm_event_history.specs.Relay.{Desk, Goods, Label, Relay}
+use Rattle.dm_event_history.specs.Relay.{Goods, Label, Relay}
 use Rattle.dm_event_history.specs.Calls.{Answers, Calls, Course, Ending, Faults, LacksMemory, Looks, MayLackFirst, Restarts, Saves}
 use Rattle.dm_event_history.specs.DeskCalls.{AskTells, ExportTells, MayBe, scan_course, verdict_course, page_reply, pages_reply, forget_reply}
 use Rattle.dm_event_history.specs.Steps.{Acts, DeskGoes, PrinterGoes}
 use Rattle.dm_event_history.specs.Clean.{ArePrinted, EachStepKeepsClean, HasLeft, HasPages, HaveLeft, IsClean, IsCleanActor, IsCleanExport, IsHarmless, IsPrinted}
 use Rattle.dm_event_history.proofs.Adds.{length-lone, lone_some, Answer, by_verdict}
-use Rattle.dm_event_history.proofs.Told.{forget_by}
+use Rattle.dm_event_history.proofs.Told.{forget_by, page_none, second_some}
 use Rattle.dm_assembly_desk.proofs.LonePages.{lone_here}
 
 -- ---- more labels
@@ -54,9 +54,6 @@ actor_more labels more actor h = grind (arith, have_more)
 
 -- ---- what is held with a page
 
-page_none : (m : ℕ) → page [] m ≡ None
-page_none m = grind arith
-
 -- what is found of a document
 page_found : (held new : Documents) (id m : ℕ) → finite.get new id ≡ finite.get held id →
     page_at new id m ≡ page_at held id m
@@ -66,9 +63,6 @@ page_found held new id m same = ap (λ (o : Option Pages). page (unwrap_or o [])
 pub page_in : (held : Documents) (id m : ℕ) (pages : Pages) → finite.get held id ≡ Some pages →
     page_at held id m ≡ page pages m
 page_in held id m pages is = ap (λ (o : Option Pages). page (unwrap_or o []) m) is
-
-pub second_some : (o p : Option (List ℕ)) → IsSome p → IsSome (option_or o p)
-second_some o p some = grind arith
 
 -- ---- what is held without a document
 
@@ -82,23 +76,8 @@ with_pages_left : (labels : List Label) (room : ℕ) (held : Documents) (export 
     add_kind room held export.id export.pages ≡ Ok kind → IsCleanExport labels export → HaveLeft labels held →
     HaveLeft labels (with_pages held export.id export.pages)
 with_pages_left labels room held export kind answered sent clean = record {
-  pages = λ id m bytes is. elim (same_or_other id export.id) [
-    | inl same ↦ subst (λ (i : ℕ). HasLeft labels i m bytes) (sym same)
-        (either m bytes (page_at held export.id m) refl (sym (page_given held export.id export.pages m) ∙
-        subst (λ (i : ℕ). page_at new i m ≡ Some bytes) same is))
-    | inr other ↦ clean.pages id m bytes (sym (page_found held new id m (kept id other)) ∙ is)
-  ];
-  counts = λ id pages is. elim (same_or_other id export.id) [
-    | inl same ↦
-        let there : finite.get new export.id ≡ Some pages =
-        subst (λ (i : ℕ). finite.get new i ≡ Some pages) same is in
-        let here : finite.get new export.id ≡ Some all = get_here held export.id all in
-        let same_pages : all ≡ pages = cc (there, here) in
-        let count : length export.pages ≡ length pages = sym all_count ∙ ap length same_pages in
-        subst (λ (i : ℕ). HasPages labels i (length pages)) (sym same)
-        (subst (λ (n : ℕ). HasPages labels export.id n) count sent.count)
-    | inr other ↦ clean.counts id pages (sym (kept id other) ∙ is)
-  ];
+  pages = grind (arith, either, kept, new, page_found, page_given, same_or_other);
+  counts = grind (arith, all, all_count, get_here, kept, new, same_or_other);
   some = λ id pages is. elim (same_or_other id export.id) [
     | inl same ↦
         let there : finite.get new export.id ≡ Some pages =
@@ -122,17 +101,12 @@ with_pages_left labels room held export kind answered sent clean = record {
     kept id other = get_other held export.id id (pages_with held export.id export.pages) other
 
     all_count : length (pages_with held export.id export.pages) ≡ length export.pages
-    all_count = length_both (unwrap_or (finite.get held export.id) []) export.pages
-        (no_longer room held export.id export.pages kind answered)
+    all_count = grind (arith, length_both, no_longer)
 
     either : (m : ℕ) (bytes : List ℕ) (o : Option (List ℕ)) → page_at held export.id m ≡ o →
         option_or (page_at held export.id m) (page export.pages m) ≡ Some bytes → HasLeft labels export.id m bytes
-    either m bytes None at given =
-        sent.pages m bytes (sym (ap (λ (o : Option (List ℕ)). option_or o (page export.pages m)) at) ∙ given)
-    either m bytes (Some found) at given =
-        let one : Some found ≡ Some bytes =
-        sym (ap (λ (o : Option (List ℕ)). option_or o (page export.pages m)) at) ∙ given in
-        clean.pages export.id m bytes (at ∙ one)
+    either m bytes None at given = grind arith
+    either m bytes (Some found) at given = grind arith
 
 -- ---- how a call ends
 
@@ -199,13 +173,7 @@ lone_clean labels number label there printed =
             m_is = sym m_is;
             bytes_are = cc (here, own);
           };
-      count = record {
-        number = number;
-        label = label;
-        there = there;
-        id_is = refl;
-        n_is = sym (length-lone label.page);
-      };
+      count = grind (arith, length-lone);
       some = (label.page.m, subst IsSome (sym (lone_here label.page head.first head.last)) refl);
     }
 
@@ -229,21 +197,10 @@ forget_clean A labels id held (Some pages) h = without_left labels held id h
 
 -- ---- steps
 
-pub got_set : {X : Type 0} (xs : List X) (i j : ℕ) (x y : X) → slice_get (slice_set xs i x) j ≡ Some y →
-    ((i ≡ j) × (x ≡ y)) ⊎ (slice_get xs j ≡ Some y)
-got_set [] i j x y is = cc
-got_set (z ∷ zs) zero zero x y is = inl (refl, cc (is))
-got_set (z ∷ zs) zero (suc j) x y is = inr is
-got_set (z ∷ zs) (suc i) zero x y is = inr is
-got_set (z ∷ zs) (suc i) (suc j) x y is = elim (got_set zs i j x y is) [
-  | inl here ↦ inl (ap suc here.0, here.1)
-  | inr there ↦ inr there
-]
-
 desk_keeps : {A : Type 0} (old new : Relay) (number own : ℕ)
     (Acts : ℕ → Actor Documents → Ending A Documents → Type 0) (reply : Reply A) → IsClean old own →
     (number ≡ own → (room : ℕ) → Keeps old.labels (Acts room)) → DeskGoes old number Acts reply new → IsClean new own
-desk_keeps old new number own Acts reply clean each g = grind (arith, actor_more, got_set)
+desk_keeps old new number own Acts reply clean each g = grind (arith, actor_more, set_at)
 
 printer_keeps : {A : Type 0} (old new : Relay) (printer own : ℕ)
     (Acts : Actor LedgerView → Ending A LedgerView → Type 0) (reply : Reply A) → IsClean old own →

@@ -1,7 +1,6 @@
 -- No ticket is taken twice, and none is refused since a number of it is free at its receiver.
 use Rattle.std.proofs.Common.{Err, ◌≡◌, ◌≢◌, ◌+◌, ◌≤◌, ◌==◌, ◌||◌, inl, inr, ℕ, zero, suc, Bool, false, Some, List, [], ◌∷◌, ◌++◌, length, slice_get, refl, sym, ap, subst, ◌∙◌, arith, eq-eqb}
 use Rattle.std.specs.Prelude.{IsSomeAnd}
-use Rattle.dm_finder_frame.specs.Grids.{flipped}
 use Rattle.dm_print_ledger.specs.declared.range.Range.{Range}
 use Rattle.dm_print_ledger.specs.Givers.{last_taken}
 use Rattle.dm_print_ledger.proofs.InLaws.{HasFree}
@@ -10,9 +9,8 @@ use Rattle.dm_print_ledger.specs.Ranges.{is_in}
 use Rattle.dm_print_ledger.specs.Views.{LedgerView, TicketView}
 use Rattle.dm_print_ledger.specs.declared.fault.TakeFault.{TakeFault}
 use Rattle.dm_print_ledger.specs.declared.fault.TakeFault.TheVariants as take_fault
-use Rattle.dm_assembly_desk.specs.Documents.{Documents}
 use Rattle.dm_event_history.specs.declared.event.Event.{Event}
-use Rattle.dm_event_history.specs.declared.event.Event.TheVariants.{Print, Scan, RestartPrinter, RestartDesk, Ask, Forget, Give, Take, Export, Import}
+use Rattle.dm_event_history.specs.declared.event.Event.TheVariants.{Print, RestartPrinter, Give, Take}
 use Rattle.dm_event_history.specs.declared.reply.Reply.{Reply}
 use Rattle.dm_event_history.specs.declared.reply.Reply.TheVariants.{TakeRefused}
 use Rattle.dm_event_history.specs.declared.stop.Stop.{Stop}
@@ -20,7 +18,7 @@ use Rattle.dm_event_history.specs.Actors.{Actor, Running}
 use Rattle.dm_event_history.specs.Relay.{Lost, Move, Relay, Took, Used, start}
 use Rattle.dm_event_history.specs.Calls.{Answers, Calls, Course, Ending, LacksMemory, Saves}
 use Rattle.dm_event_history.specs.PrinterCalls.{TakeComes, take_faults}
-use Rattle.dm_event_history.specs.Steps.{Acts, DeskGoes, PrinterGoes, Step}
+use Rattle.dm_event_history.specs.Steps.{Acts, PrinterGoes, Step}
 use Rattle.dm_event_history.specs.Runs.{IsRun, Moment}
 use Rattle.dm_event_history.specs.Places.{AreDisjoint, IsInOrder, IsSound, is_taken, one_if}
 use Rattle.dm_event_history.specs.Told.{EachRunTakesOnce}
@@ -28,8 +26,7 @@ use Rattle.dm_event_history.proofs.Deciding.{decided, same_or_other, other_numbe
 use Rattle.dm_event_history.proofs.Numbers.{free_some, on_taken}
 use Rattle.dm_event_history.proofs.LedgerFacts.{IsOverlapping, old_or_new, overlap_free, take_refuses}
 use Rattle.dm_event_history.proofs.Balance.{Balances, calls_balance, give_balanced, may_lack_balances, print_balanced, restarts_balance}
-use Rattle.dm_event_history.proofs.LeavingGoods.{Leaves}
-use Rattle.dm_event_history.proofs.QuietDesks.{IsQuiet, ask_quiet, export_is_quiet, forget_is_quiet, import_is_quiet, restart_quiet, scan_quiet}
+use Rattle.dm_event_history.proofs.QuietDesks.{ChangesDesk, quiet_desks}
 use Rattle.dm_event_history.proofs.Taking.{take_ends, untaken}
 use Rattle.dm_event_history.proofs.Answered.{Ended, IsOwn, is_answered}
 use Rattle.dm_event_history.proofs.Headline.{each_run_is_sound}
@@ -61,44 +58,31 @@ taken_none (Took other ∷ xs) k none =
     let rest = taken_none xs k apart.1 in let e : one_if (other == k) ≡ 0 = ap one_if apart.0 in omega arith
 taken_none (Lost range ∷ xs) k none = taken_none xs k none
 
-at_least_one : (moves : List Move) (i k : ℕ) → slice_get moves i ≡ Some (Took k) → 1 ≤ taken moves k
+-- a take counts at its place, and one that comes after it no less
+taken_here : (move : Move) (moves : List Move) (k : ℕ) → Some move ≡ Some (Took k) → taken (move ∷ moves) k ≡ 1 + taken moves k
 unfolding taken
+taken_here move moves k is = grind (arith, eq-eqb)
+
+taken_later : (move : Move) (moves : List Move) (k : ℕ) → taken moves k ≤ taken (move ∷ moves) k
+unfolding taken
+taken_later move moves k = grind arith
+
+at_least_one : (moves : List Move) (i k : ℕ) → slice_get moves i ≡ Some (Took k) → 1 ≤ taken moves k
 at_least_one [] i k is = cc (is)
-at_least_one (Took own ∷ moves) zero k is =
-    (let same : own ≡ k = took_is is in let e : one_if (own == k) ≡ 1 = ap one_if (eq-eqb own k same) in omega arith)
-  where
-    took_is : Some (Took own) ≡ Some (Took k) → own ≡ k
-    took_is e = cc (e)
-at_least_one (Used id ∷ moves) zero k is = cc (is)
-at_least_one (Lost range ∷ moves) zero k is = cc (is)
-at_least_one (Took own ∷ moves) (suc i) k is = (let more = at_least_one moves i k is in omega arith)
-at_least_one (Used id ∷ moves) (suc i) k is = at_least_one moves i k is
-at_least_one (Lost range ∷ moves) (suc i) k is = at_least_one moves i k is
+at_least_one (move ∷ moves) zero k is = (let here = taken_here move moves k is in omega arith)
+at_least_one (move ∷ moves) (suc i) k is =
+    (let more = at_least_one moves i k is in let later = taken_later move moves k in omega arith)
 
 just_one : (moves : List Move) (i j k : ℕ) → taken moves k ≤ 1 → slice_get moves i ≡ Some (Took k) →
     slice_get moves j ≡ Some (Took k) → i ≡ j
-unfolding taken
 just_one [] i j k most is there = cc (is)
 just_one (move ∷ moves) zero zero k most is there = refl
-just_one (Took own ∷ moves) zero (suc j) k most is there =
-    (let same : own ≡ k = took_is is in let e : one_if (own == k) ≡ 1 = ap one_if (eq-eqb own k same) in
-    let more = at_least_one moves j k there in absurd (omega arith))
-  where
-    took_is : Some (Took own) ≡ Some (Took k) → own ≡ k
-    took_is e = cc (e)
-just_one (Used id ∷ moves) zero (suc j) k most is there = cc (is)
-just_one (Lost range ∷ moves) zero (suc j) k most is there = cc (is)
-just_one (Took own ∷ moves) (suc i) zero k most is there =
-    (let same : own ≡ k = took_is there in let e : one_if (own == k) ≡ 1 = ap one_if (eq-eqb own k same) in
-    let more = at_least_one moves i k is in absurd (omega arith))
-  where
-    took_is : Some (Took own) ≡ Some (Took k) → own ≡ k
-    took_is e = cc (e)
-just_one (Used id ∷ moves) (suc i) zero k most is there = cc (there)
-just_one (Lost range ∷ moves) (suc i) zero k most is there = cc (there)
-just_one (Took own ∷ moves) (suc i) (suc j) k most is there = ap suc (just_one moves i j k (omega arith) is there)
-just_one (Used id ∷ moves) (suc i) (suc j) k most is there = ap suc (just_one moves i j k most is there)
-just_one (Lost range ∷ moves) (suc i) (suc j) k most is there = ap suc (just_one moves i j k most is there)
+just_one (move ∷ moves) zero (suc j) k most is there =
+    (let here = taken_here move moves k is in let more = at_least_one moves j k there in absurd (omega arith))
+just_one (move ∷ moves) (suc i) zero k most is there =
+    (let here = taken_here move moves k there in let more = at_least_one moves i k is in absurd (omega arith))
+just_one (move ∷ moves) (suc i) (suc j) k most is there =
+    (let later = taken_later move moves k in ap suc (just_one moves i j k (omega arith) is there))
 
 -- ---- steps
 
@@ -120,10 +104,8 @@ printer_once : {A : Type 0} (old new : Relay) (printer : ℕ) (Acts : Actor Ledg
     (reply : Reply A) → AreTakenOnce old → Balances Acts → PrinterGoes old printer Acts reply new → AreTakenOnce new
 printer_once old new printer Acts reply once each g = grind (arith, quiet_once)
 
-desk_once : {A : Type 0} (old new : Relay) (number : ℕ) (Acts : ℕ → Actor Documents → Ending A Documents → Type 0)
-    (reply : Reply A) → AreTakenOnce old → ((room : ℕ) → Leaves IsQuiet (Acts room)) → DeskGoes old number Acts reply new →
-    AreTakenOnce new
-desk_once old new number Acts reply once each g = grind (arith, quiet_once)
+desk_once : (old new : Relay) → AreTakenOnce old → ChangesDesk old new → AreTakenOnce new
+desk_once old new once c = grind (arith, quiet_once)
 
 taker_once : {A : Type 0} (old new : Relay) (printer number : ℕ) (ticket : TicketView) (stop : Stop) (reply : Reply A) →
     AreTakenOnce old → IsInOrder old → slice_get old.tickets number ≡ Some ticket →
@@ -148,18 +130,7 @@ acts_once old new (Take printer number stop) reply order once acts =
     taker_once old new printer number acts.0 stop reply once order acts.1 acts.2
 acts_once old new (RestartPrinter printer) reply order once acts =
     printer_once old new printer _ reply once (restarts_balance _) acts
-acts_once old new (Scan desk number flips stop) reply order once acts =
-    desk_once old new desk _ reply once (λ room. scan_quiet _ stop room (flipped acts.0.grid flips)) acts.2
-acts_once old new (Forget desk id stop) reply order once acts =
-    desk_once old new desk _ reply once (λ room. forget_is_quiet _ stop id) acts
-acts_once old new (Import desk number stop) reply order once acts =
-    desk_once old new desk _ reply once (λ room. import_is_quiet _ stop room acts.0) acts.2
-acts_once old new (Ask desk id) reply order once acts =
-    desk_once old new desk _ reply once (λ room. ask_quiet id) acts
-acts_once old new (Export desk id) reply order once acts =
-    desk_once old new desk _ reply once (λ room. export_is_quiet (length old.exports) id) acts
-acts_once old new (RestartDesk desk) reply order once acts =
-    desk_once old new desk _ reply once (λ room. restart_quiet _) acts
+acts_once old new event reply order once acts = desk_once old new once (quiet_desks old new event reply tt acts)
 
 -- ---- a take is never refused for an overlap
 
@@ -184,12 +155,7 @@ no_overlap {A} old new printer number ticket stop sound there g =
         Ended course held (TakeRefused take_fault.Overlap) g.end.actor →
         IsOverlapping held ticket × HasFree held.free ticket.range
     by_course held (Saves next goods reply) comes ended = (let e = sym comes.2.1.1 ∙ ended.0 in cc (e))
-    by_course held (Answers reply) comes ended =
-        let is : take_verdict held ticket ≡ Err take_fault.Overlap =
-        comes.2.1 ∙ ap (λ (f : TakeFault). Err f) (fault_is (sym comes.2.2 ∙ ended.0)) in
-        let overlaps : IsOverlapping held ticket = take_refuses (λ f. f ≡ take_fault.Overlap → IsOverlapping held ticket)
-        held ticket take_fault.Overlap (λ e. cc (e)) (λ e. cc (e)) (λ o e. o) (λ e. cc (e)) (λ e. cc (e)) is refl in
-        (overlaps, overlap_free held ticket comes.0 comes.1 overlaps.free)
+    by_course held (Answers reply) comes ended = grind (arith, fault_is, overlap_free, take_refuses)
     by_course held LacksMemory comes ended = absurd ended
 
     clash : (held : LedgerView) → slice_get old.printers printer ≡ Some (Running held) →

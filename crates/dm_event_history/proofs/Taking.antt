@@ -1,12 +1,12 @@
 -- A take moves numbers from a ticket to its printer, once.
-use Rattle.std.proofs.Common.{◌≡◌, ◌⊎◌, ◌+◌, ◌≤◌, inl, inr, ℕ, zero, suc, Bool, true, false, ◌||◌, Some, List, [], ◌∷◌, ◌++◌, slice_get, slice_set, sym, ap, subst, ◌∙◌, arith}
+use Rattle.std.proofs.Common.{◌≡◌, ◌⊎◌, ◌+◌, ◌≤◌, inl, inr, ℕ, Bool, true, false, ◌||◌, Some, List, [], ◌∷◌, ◌++◌, slice_get, sym, ap, subst, ◌∙◌, arith}
 use Rattle.std.specs.Prelude.{IsSomeAnd}
 use Rattle.std.proofs.lemmas.List.{append-nil}
 use Rattle.dm_print_ledger.specs.Ranges.{is_free, is_in}
 use Rattle.dm_print_ledger.specs.Givers.{last_taken}
 use Rattle.dm_print_ledger.specs.Views.{LedgerView, TicketView}
 use Rattle.dm_event_history.specs.declared.stop.Stop.{Stop}
-use Rattle.dm_event_history.proofs.Gotten.{get_more}
+use Rattle.dm_event_history.proofs.Gotten.{get_more, set_at}
 use Rattle.dm_event_history.specs.Actors.{Actor, Running, Failed, Down, stored_of}
 use Rattle.dm_event_history.specs.Relay.{Goods, Move, Relay, Took, with_printer}
 use Rattle.dm_event_history.specs.Calls.{Answers, Calls, Course, Ending, Faults, LacksMemory, Reaches, Saves, ends}
@@ -14,7 +14,6 @@ use Rattle.dm_event_history.specs.PrinterCalls.{TakeComes, take_faults}
 use Rattle.dm_event_history.specs.Places.{IsInOrder, IsNoted, gone, is_taken, on_tickets, one_if, places}
 use Rattle.dm_event_history.proofs.Numbers.{free_set, gone_more, on_taken, taken_by}
 use Rattle.dm_event_history.proofs.Reaching.{reached, reaches}
-use Rattle.dm_event_history.proofs.Stays.{got_set}
 use Rattle.dm_event_history.proofs.LedgerFacts.{GainsNumbers, take_gains}
 use Rattle.dm_event_history.proofs.Balance.{IsBalanced, still}
 
@@ -60,9 +59,7 @@ take_ends stop number ticket (Running held) end acts =
     as_known held number ticket end _ acts.2
     (ends_taking take_faults stop acts.0 (Running held) number ticket
     (reaches stop (take_course number ticket held acts.0) acts.1))
-take_ends {A} stop number ticket (Failed shown stored) end acts =
-    as_known stored number ticket end _ acts
-    (ends_taking take_faults stop (Answers (take_faults {A = A}).failed) (Failed shown stored) number ticket (reached stop tt))
+take_ends {A} stop number ticket (Failed shown stored) end acts = grind (arith, as_known, ends_taking, reached)
 take_ends stop number ticket (Down stored) end acts = as_known stored number ticket end _ acts (inl (still stored))
 
 -- ---- a step of a printer that takes
@@ -71,13 +68,6 @@ take_ends stop number ticket (Down stored) end acts = as_known stored number tic
 put_in : (free inside new : Bool) → new ≡ (inside || free) → (inside ≡ true → free ≡ false) →
     one_if new ≡ one_if free + one_if inside
 put_in free inside new is were = grind arith
-
--- what was put in a place stands there
-own_set : {X : Type 0} (xs : List X) (i : ℕ) (was x y : X) → slice_get xs i ≡ Some was →
-    slice_get (slice_set xs i x) i ≡ Some y → x ≡ y
-own_set [] i was x y there is = cc
-own_set (z ∷ zs) zero was x y there is = cc (is)
-own_set (z ∷ zs) (suc i) was x y there is = own_set zs i was x y there is
 
 module _ (old : Relay) (printer number : ℕ) (ticket : TicketView) (actor next : Actor LedgerView) (goods : Goods)
     (order : IsInOrder old) (was : slice_get old.printers printer ≡ Some actor)
@@ -115,43 +105,27 @@ module _ (old : Relay) (printer number : ℕ) (ticket : TicketView) (actor next 
 
   pub taking_order : IsInOrder (with_printer old printer next goods)
   taking_order = record {
-    numbers = λ p a is. elim (got_set old.printers printer p next a is) [
-      | inl here ↦
-          ap (λ (x : Actor LedgerView). (stored_of x).number) (sym here.1) ∙ t.takes.number ∙
-          order.numbers printer actor was ∙ here.0
-      | inr rest ↦ order.numbers p a rest
-    ];
+    numbers = grind (arith, set_at);
     noted = λ k taken. elim (taken_by old.moves number k
         (subst (λ (ms : List Move). is_taken (old.moves ++ ms) k ≡ true) t.moves_are taken)) [
           | inl same ↦ subst (λ (j : ℕ). IsNoted (with_printer old printer next goods) j) same (record {
             ticket = ticket;
             there = get_more old.tickets goods.tickets number ticket there;
-            noted = λ a is. elim (got_set old.printers printer ticket.receiver next a is) [
-              | inl here ↦ subst (λ (x : Actor LedgerView). IsSomeAnd (last_taken (stored_of x).givers ticket.giver)
-                  (λ last. ticket.serial ≤ last)) here.1 own_noted
-              | inr rest ↦
-                  let at : slice_get old.printers ticket.receiver ≡ Some actor =
-                  subst (λ (p : ℕ). slice_get old.printers p ≡ Some actor) (sym is_here) was in
-                  let own_is : slice_get (slice_set old.printers printer next) printer ≡ Some a =
-                  subst (λ (p : ℕ). slice_get (slice_set old.printers printer next) p ≡ Some a) is_here is in
-                  let now : next ≡ a = own_set old.printers printer actor next a was own_is in
-                  subst (λ (x : Actor LedgerView). IsSomeAnd (last_taken (stored_of x).givers ticket.giver)
-                  (λ last. ticket.serial ≤ last)) now own_noted
-            ];
+            noted = grind (arith, is_here, own_noted, set_at);
           })
           | inr before ↦
               let noted = order.noted k before in
               record {
                 ticket = noted.ticket;
                 there = get_more old.tickets goods.tickets k noted.ticket noted.there;
-                noted = λ a is. elim (got_set old.printers printer noted.ticket.receiver next a is) [
+                noted = λ a is. elim (set_at old.printers printer noted.ticket.receiver next a is) [
                   | inl here ↦
                       let at : slice_get old.printers noted.ticket.receiver ≡ Some actor =
                       subst (λ (p : ℕ). slice_get old.printers p ≡ Some actor) here.0 was in
                       subst (λ (x : Actor LedgerView). IsSomeAnd (last_taken (stored_of x).givers noted.ticket.giver)
                       (λ last. noted.ticket.serial ≤ last)) here.1
                       (still_noted noted.ticket.giver noted.ticket.serial (noted.noted actor at))
-                  | inr rest ↦ noted.noted a rest
+                  | inr rest ↦ noted.noted a rest.1
                 ];
               }
         ];

@@ -127,7 +127,7 @@ either_some o p some = grind arith
 first_some : (o p : Option (List ℕ)) → IsSome o → IsSome (option_or o p)
 first_some o p some = grind arith
 
-second_some : (o p : Option (List ℕ)) → IsSome p → IsSome (option_or o p)
+pub second_some : (o p : Option (List ℕ)) → IsSome p → IsSome (option_or o p)
 second_some o p some = grind arith
 
 away_from : (held : Documents) (id : ℕ) (pages : Pages) (other m : ℕ) → other ≢ id →
@@ -149,7 +149,7 @@ pub with_pages_only : (held : Documents) (id : ℕ) (pages : Pages) (other m : �
 with_pages_only held id pages other m has = grind (arith, away_from, either_some, page_given, same_or_other, some_by)
 
 -- a document that is forgotten is not held, and every other that was
-page_none : (m : ℕ) → page [] m ≡ None
+pub page_none : (m : ℕ) → page [] m ≡ None
 page_none m = grind arith
 
 pub without_has_not : (held : Documents) (id m : ℕ) → ¬ Has (finite.remove held id) id m

@@ -69,10 +69,7 @@ saves_print before old next first second sound verdict one two = (
     verdict,
     record {
       labels = label (first_page (least old.free)) first ∷ label (second_page (least old.free)) second ∷ [];
-      are_labels = (
-        record { page_is = refl; cut_is = refl; grid_is = is_label (first_page (least old.free)) first one },
-        (record { page_is = refl; cut_is = refl; grid_is = is_label (second_page (least old.free)) second two }, tt),
-      );
+      are_labels = grind (arith, first_page, is_label, second_page);
       goods_are = refl;
       reply_is = refl;
     },

@@ -17,10 +17,6 @@ IsFairEvent relay (Scan desk number flips stop) =
     (desk < length relay.desks) × HasModules relay number flips → IsFair relay number flips
 IsFairEvent relay event = Unit {0}
 
-abbrev pub AreFairMoments : {A : Type 0} → List (Moment A) → Type 0
-AreFairMoments [] = Unit {0}
-AreFairMoments (moment ∷ earlier) = IsFairEvent moment.before moment.event × AreFairMoments earlier
-
 -- each scan that may have saved its page was fair
 abbrev pub AreSavedFair : {A : Type 0} → List (Moment A) → Type 0
 AreSavedFair [] = Unit {0}

@@ -51,8 +51,8 @@ tells_of_save (Imported imported) = is_new imported.kind
 tells_of_save other = false
 
 -- `NoSuch` is answered exactly where something named is not there; else `Down` exactly where the one that is named is
--- down, and this is no restart; else `Stopped`, or `Memory`, exactly where the call is to end before its reply. A reply
--- tells of a save only where nothing was to happen to the call.
+-- down, and this is no restart; else `Stopped` or `Memory` where the call is to end before its reply, and `Stopped`
+-- only there. A reply tells of a save only where nothing was to happen to the call.
 pub record IsLegal {A : Type 0} (old : Relay) (event : Event A) (reply : Reply A) : Type 0 where
   pub no_such : (reply ≡ NoSuch) ↔ (¬ IsNamed old event)
   pub down : (reply ≡ replies.Down) ↔ (IsNamed old event × NeedsRunning event × IsDownAt old (actor_of event))

@@ -14,5 +14,5 @@ pub mod Places
 pub mod Headline
 pub mod Held
 pub mod Safe
-pub mod Told
 pub mod Legal
+pub mod Told

@@ -1,5 +1,5 @@
--- What is so of the replies of desks as long as each scan is fair: they agree with what was printed, and with what was
--- scanned, imported and forgotten there.
+-- What is so of the replies of desks as long as each scan that may have saved is fair: they agree with what was
+-- printed, and with what was scanned, imported and forgotten there.
 use Rattle.std.specs.Prelude.{◌≡◌, ◌≢◌, ◌≤◌, ◌↔◌, ℕ, true, ◌==◌, if◌then◌else◌, Option, Some, None, List, [], ◌∷◌, length, slice_get, IsSome}
 use Rattle.std.specs.Ordering.{nat_cmp}
 use Rattle.std.specs.List.Sorted.{IsStrictlySortedBy}
@@ -27,7 +27,7 @@ use Rattle.dm_event_history.specs.Relay as relays
 use Rattle.dm_event_history.specs.Relay.{CutDocument, Desk, Label, Relay, start}
 use Rattle.dm_event_history.specs.Runs.{Moment, IsRun}
 use Rattle.dm_event_history.specs.Places.{AreDisjoint}
-use Rattle.dm_event_history.specs.Headline.{AreFairMoments}
+use Rattle.dm_event_history.specs.Headline.{AreSavedFair, IsFairEvent}
 use Rattle.dm_event_history.specs.Held.{IsPossiblyHeld, IsSurelyHeld}
 
 -- what was printed under an identification, by the labels that left
@@ -189,8 +189,9 @@ IsSafe before known (Import desk number stop) (ImportRefused fault) =
     IsImportRefusedSafe before known desk number fault
 IsSafe before known event reply = Unit {0}
 
--- In a run in which each scan is fair each reply is safe.
+-- As long as each scan that may have saved its page was fair each reply is safe, but that to a scan that is not fair.
 abbrev pub EachFairReplyIsSafe : Type 0 → Type 0
 EachFairReplyIsSafe A = (ranges : List Range) (rooms : List ℕ) (moment : Moment A) (earlier : List (Moment A))
-    (end : Relay) → AreDisjoint ranges → IsRun (start ranges rooms) (moment ∷ earlier) end →
-    AreFairMoments (moment ∷ earlier) → IsSafe moment.before (known_of moment.before earlier) moment.event moment.reply
+    (end : Relay) → AreDisjoint ranges → IsRun (start ranges rooms) (moment ∷ earlier) end → AreSavedFair earlier →
+    IsFairEvent moment.before moment.event →
+    IsSafe moment.before (known_of moment.before earlier) moment.event moment.reply

@@ -1,5 +1,6 @@
 -- What the replies of a history tell of its printers and desks, and why its events are refused.
-use Rattle.std.specs.Prelude.{◌≡◌, ◌≢◌, ◌+◌, ◌≤◌, ℕ, Bool, true, false, if◌then◌else◌, Option, None, Some, List, [], ◌∷◌, slice_get}
+use Rattle.std.specs.Prelude.{◌≡◌, ◌≢◌, ◌+◌, ◌==◌, ◌&&◌, ◌||◌, not, ℕ, Bool, true, false, if◌then◌else◌, Some, List, [], ◌∷◌, slice_get}
+use Rattle.std.specs.Option.{option_map_or}
 use Rattle.dm_check_blocks.specs.declared.size.Size.{Size}
 use Rattle.dm_encodation.specs.declared.scheme.Scheme.{Scheme}
 use Rattle.dm_finder_frame.specs.Grids.{GridView, flipped}
@@ -8,7 +9,7 @@ use Rattle.dm_append_label.specs.Parts.{HasNoEnds}
 use Rattle.dm_append_label.specs.declared.fault.LabelFault.TheVariants.{Border}
 use Rattle.dm_store.specs.declared.fuse.Kept.{Kept}
 use Rattle.dm_print_ledger.specs.declared.range.Range.{Range}
-use Rattle.dm_print_ledger.specs.Ranges.{size_of}
+use Rattle.dm_print_ledger.specs.Ranges.{free_count, size_of}
 use Rattle.dm_print_ledger.specs.Views.{LedgerView, TicketView}
 use Rattle.dm_print_ledger.specs.declared.fault.PrintFault.TheVariants as print_fault
 use Rattle.dm_print_ledger.specs.declared.fault.GiveFault.TheVariants as give_fault
@@ -19,18 +20,19 @@ use Rattle.dm_assembly_desk.specs.declared.fault.ImportFault.TheVariants as impo
 use Rattle.dm_event_history.specs.declared.event.Event.{Event}
 use Rattle.dm_event_history.specs.declared.event.Event.TheVariants.{Print, Scan, Give, Take}
 use Rattle.dm_event_history.specs.declared.reply.Reply.{Reply}
-use Rattle.dm_event_history.specs.declared.reply.Reply.TheVariants.{PrintRefused, Scanned, ScanRefused, ForgetRefused, GiveRefused, Taken, TakeRefused, ImportRefused, Restarted, PrinterRefused, DeskRefused, Stopped, Down, NoSuch, Memory}
+use Rattle.dm_event_history.specs.declared.reply.Reply.TheVariants.{PrintRefused, Scanned, ScanRefused, ForgetRefused, GiveRefused, TakeRefused, ImportRefused, Restarted, PrinterRefused, DeskRefused, Stopped, Down, NoSuch, Memory}
 use Rattle.dm_event_history.specs.declared.stop.Stop.{Stop}
 use Rattle.dm_event_history.specs.declared.stop.Stop.TheVariants as stops
 use Rattle.dm_event_history.specs.WhoActs.{DeskAt, Named, PrinterAt, actor_of, is_same}
 use Rattle.dm_event_history.specs.Saving.{may_save, stop_of}
 use Rattle.dm_event_history.specs.Actors as actors
-use Rattle.dm_event_history.specs.Actors.{Actor}
+use Rattle.dm_event_history.specs.Actors.{Actor, stored_of}
 use Rattle.dm_event_history.specs.Relay.{Desk, Label, Relay, Took, start}
 use Rattle.dm_event_history.specs.Runs.{IsRun, Moment}
 use Rattle.dm_event_history.specs.Steps.{Step}
 use Rattle.dm_event_history.specs.Clean.{ArePrinted}
 use Rattle.dm_event_history.specs.Headline.{IsFairEvent}
+use Rattle.dm_event_history.specs.Legal.{tells_of_save}
 use Rattle.dm_event_history.specs.Places.{AreDisjoint}
 
 -- ---- who is down, and who has failed
@@ -146,40 +148,40 @@ abbrev pub EachRunTakesOnce : Type 0 → Type 0
 EachRunTakesOnce A = (ranges : List Range) (rooms : List ℕ) (h : List (Moment A)) (end : Relay) →
     AreDisjoint ranges → IsRun (start ranges rooms) h end → TakesOnce h end
 
--- how many numbers a printer may have used or given away, and how many it has taken for sure
-abbrev pub lost_by : {A : Type 0} → Event A → ℕ
-lost_by (Print printer document size scheme stop) = 1
-lost_by (Give printer receiver range stop) = size_of range
-lost_by event = 0
+-- how many numbers are free in what a printer stores
+abbrev pub stock : Relay → ℕ → ℕ
+stock relay printer =
+    option_map_or (λ (actor : Actor LedgerView). free_count (stored_of actor).free) (slice_get relay.printers printer) 0
 
-abbrev pub may_lose : {A : Type 0} → List (Moment A) → ℕ → ℕ
-may_lose [] printer = 0
-may_lose (moment ∷ earlier) printer =
-    (if is_same (actor_of moment.event) (PrinterAt printer)
-    then (if may_save moment.event moment.reply then lost_by moment.event else 0) else 0)
-    + may_lose earlier printer
+-- how many numbers a printer loses by an event that saved, and how many it gains
+abbrev pub loses : {A : Type 0} → Relay → Event A → ℕ
+loses before (Print printer document size scheme stop) = 1
+loses before (Give printer receiver range stop) = size_of range
+loses before event = 0
 
-abbrev pub size_of_some : Option TicketView → ℕ
-size_of_some None = 0
-size_of_some (Some ticket) = size_of ticket.range
+abbrev pub gains : {A : Type 0} → Relay → Event A → ℕ
+gains before (Take printer ticket stop) =
+    option_map_or (λ (given : TicketView). size_of given.range) (slice_get before.tickets ticket) 0
+gains before event = 0
 
--- a take that is answered `Taken`
-abbrev pub won_at : {A : Type 0} → Relay → Event A → Reply A → ℕ
-won_at before (Take printer ticket stop) Taken = size_of_some (slice_get before.tickets ticket)
-won_at before event reply = 0
+-- an event of the printer saved: it may have, and its reply tells so or the stock is another in the relay after it
+abbrev pub has_saved : {A : Type 0} → Moment A → Relay → ℕ → Bool
+has_saved moment after printer =
+    is_same (actor_of moment.event) (PrinterAt printer) && may_save moment.event moment.reply
+    && (tells_of_save moment.reply || not (stock moment.before printer == stock after printer))
 
-abbrev pub won_by : {A : Type 0} → Moment A → ℕ
-won_by moment = won_at moment.before moment.event moment.reply
+-- what the events of a printer that saved count together
+abbrev pub sum_saved : {A : Type 0} → (Relay → Event A → ℕ) → List (Moment A) → Relay → ℕ → ℕ
+sum_saved count [] end printer = 0
+sum_saved count (moment ∷ earlier) end printer =
+    (if has_saved moment end printer then count moment.before moment.event else 0)
+    + sum_saved count earlier moment.before printer
 
-abbrev pub has_taken : {A : Type 0} → List (Moment A) → ℕ → ℕ
-has_taken [] printer = 0
-has_taken (moment ∷ earlier) printer =
-    (if is_same (actor_of moment.event) (PrinterAt printer) then won_by moment else 0) + has_taken earlier printer
-
--- `Exhausted` is answered only where a printer may have used and given away all numbers that it began with and took
+-- `Exhausted` is answered only where no number is free: the printer used and gave just what it began with and took
 abbrev pub EachExhaustedIsSo : Type 0 → Type 0
 EachExhaustedIsSo A = (ranges : List Range) (rooms : List ℕ) (moment : Moment A) (earlier : List (Moment A))
     (end : Relay) (printer : ℕ) (range : Range) (document : List ℕ) (size : Size) (scheme : Scheme) (stop : Stop) →
     IsRun (start ranges rooms) (moment ∷ earlier) end → moment.event ≡ Print printer document size scheme stop →
     slice_get ranges printer ≡ Some range → moment.reply ≡ PrintRefused print_fault.Exhausted →
-    size_of range + has_taken earlier printer ≤ may_lose earlier printer
+    (stock moment.before printer ≡ 0) × (size_of range + sum_saved gains earlier moment.before printer
+    ≡ sum_saved loses earlier moment.before printer)

@@ -50,8 +50,8 @@ pub fn headline<A: Allocator>()
     ensures moments { EachRunIsTrue A }
 {}
 
-/// In a run in which each scan is fair each reply agrees with what was printed, and with what was scanned, imported and
-/// forgotten at its desk.
+/// As long as each scan that may have saved its page was fair, each reply but that to a scan that is not fair agrees
+/// with what was printed, and with what was scanned, imported and forgotten at its desk.
 pub fn safe_replies<A: Allocator>()
     ensures { EachFairReplyIsSafe A }
 {}
@@ -65,8 +65,8 @@ pub fn as_told<A: Allocator>()
 {}
 
 /// Why events are refused. A fair scan is refused as its label only for its finder patterns. `Save` comes of a fault of
-/// the save alone, and `TooLong` of a document without parts. `Exhausted` comes only if the printer may have used and
-/// given away all numbers that it began with and took.
+/// the save alone, and `TooLong` of a document without parts. `Exhausted` comes only where no number is free: all that
+/// the printer began with and took is used and given away.
 pub fn reasons<A: Allocator>()
     ensures refused { EachStepIsRefusedSo A }
     ensures exhausted { EachExhaustedIsSo A }
