@@ -34,8 +34,14 @@ two_digits a b rest tens ones = grind arith
 pub pairs_first : (bytes : List ℕ) (count : ℕ) → 2 * count ≤ length bytes → AreBetween 48 57 bytes 0 (2 * count)
     → words_of_pairs bytes count ++ ascii (drop (2 * count) bytes) ≡ ascii bytes
 pairs_first bytes zero fits digits = refl
-pairs_first bytes (suc count) fits digits = grind (arith, drop_more, append_assoc, two_digits, pairs_first bytes count
-    (omega arith) (λ i a b. digits i a (omega arith)))
+pairs_first bytes (suc count) fits digits = grind (
+  arith,
+  drop_more,
+  append_assoc,
+  two_digits,
+  pairs_first bytes count
+      (omega arith) (λ i a b. digits i a (omega arith)),
+)
 
 ascii-byte : (bytes : List ℕ) → length bytes ≢ 0 → has_digits bytes ≡ false
     → ascii bytes ≡ ascii_byte (get_or bytes 0 0) ++ ascii (drop 1 bytes)

@@ -61,8 +61,13 @@ length-words_of_pairs digits (suc count) = grind (arith, length-append, length-w
 pub need-pairs : (bytes : List ℕ) (count : ℕ) → 2 * count ≤ length bytes → AreBetween 48 57 bytes 0 (2 * count) →
     need_of Ascii bytes ≡ count + need_of Ascii (drop (2 * count) bytes)
 unfolding need_of text
-need-pairs bytes count fits digits = grind (arith, pairs_first bytes count fits digits, length-append (words_of_pairs
-    bytes count) (ascii (drop (2 * count) bytes)), length-words_of_pairs bytes count)
+need-pairs bytes count fits digits = grind (
+  arith,
+  pairs_first bytes count fits digits,
+  length-append (words_of_pairs
+      bytes count) (ascii (drop (2 * count) bytes)),
+  length-words_of_pairs bytes count,
+)
 
 -- ---- what a counter says
 

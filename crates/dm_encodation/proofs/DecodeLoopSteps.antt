@@ -15,8 +15,12 @@ pub goes_on : (m next : Mode) (at : ℕ) (words front bs : List ℕ) (total : Re
     → prepend front (reading m (at + 1) (drop at words)) ≡ total →
     prepend (front ++ bs) (reading next (at + 1 + 1) (drop (at + 1) words)) ≡ total
 goes_on m next at words front bs total lt e so_far =
-    grind (arith, drop_more words, prepend-prepend front bs (reading next (at + 1 + 1) (drop (at + 1) words)),
-    reading_step m (at + 1) (get_or words at 0) (drop (at + 1) words) next bs (sym e))
+    grind (
+      arith,
+      drop_more words,
+      prepend-prepend front bs (reading next (at + 1 + 1) (drop (at + 1) words)),
+      reading_step m (at + 1) (get_or words at 0) (drop (at + 1) words) next bs (sym e),
+    )
 
 -- a step that fails
 pub fails_at : (m : Mode) (at : ℕ) (words front : List ℕ) (f : DecodeFault) (total : Result (List ℕ) DecodeFault) →

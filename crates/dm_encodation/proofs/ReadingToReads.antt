@@ -265,8 +265,18 @@ advance {q = q} w out (InMode.long_length {v = v} low high) lt e =
     subst (λ (w : ℕ). Advanced q (231 ∷ state_255 (q + 1) v ∷ w ∷ []) [] (bytes_left (250 * (v - 249) + x) q)) word
     whole in grind arith
 advance {q = q} w out (InMode.bytes {n = n} len bs is fits) lt e =
-    grind (arith, length-randomised, pred_is, ok_is, append_assoc, push_value, length-append, left, fits_pushed,
-    value_255-below)
+    grind (
+      arith,
+      length-randomised,
+      pred_is,
+      ok_is,
+      append_assoc,
+      push_value,
+      length-append,
+      left,
+      fits_pushed,
+      value_255-below,
+    )
 advance {q = q} w out (InMode.rest bs fits) lt e =
     let p = q + 1 + length (0 ∷ bs) in
     let k : q + length (231 ∷ randomised (q + 1) (0 ∷ bs)) ≡ p = omega (arith, length-randomised (q + 1 + 1) bs) in

@@ -245,14 +245,20 @@ pub characters_read : (t : Letters) (bytes tail : List ℕ) (s : Pending) → Al
     values_step t no_pending tail ≡ Ok (s, [])
     → values_step t no_pending (flat_map (values_of t) bytes ++ tail) ≡ Ok (s, bytes)
 characters_read t [] tail s fits e = e
-characters_read t (b ∷ bs) tail s fits e = grind (arith, append_assoc (values_of t b) (flat_map (values_of t) bs) tail,
-    values_joined t no_pending (values_of t b) (flat_map (values_of t) bs ++ tail) (no_pending, b ∷ []) (s, bs,)
-    (character_read t b fits.0) (characters_read t bs tail s fits.1 e))
+characters_read t (b ∷ bs) tail s fits e = grind (
+  arith,
+  append_assoc (values_of t b) (flat_map (values_of t) bs) tail,
+  values_joined t no_pending (values_of t b) (flat_map (values_of t) bs ++ tail) (no_pending, b ∷ []) (s, bs)
+      (character_read t b fits.0) (characters_read t bs tail s fits.1 e),
+)
 
 pub chars_step : (t : Letters) (values bytes : List ℕ) → Chars t values bytes →
     (s : Pending) × (values_step t no_pending values ≡ Ok (s, bytes))
-chars_step t values bytes chars = grind (arith, characters_read t bytes chars.tail (tail_read t chars.tail
-    chars.unfinished).0 chars.fits (tail_read t chars.tail chars.unfinished).1)
+chars_step t values bytes chars = grind (
+  arith,
+  characters_read t bytes chars.tail (tail_read t chars.tail
+      chars.unfinished).0 chars.fits (tail_read t chars.tail chars.unfinished).1,
+)
 
 pub ended_ascii : (p : ℕ) → reading Ascii p [] ≡ Ok []
 unfolding reading finish
@@ -288,30 +294,65 @@ complete_segment {p = p} {after = after} (Grammar.Segment.character {b = b} lt) 
 complete_segment {p = p} {after = after} (Grammar.Segment.digits {m = m} {n = n} lm ln) =
     reading_step Ascii p (130 + (10 * m + n)) after Ascii ((48 + m) ∷ (48 + n) ∷ []) (step_digits p m n lm ln)
 complete_segment {p = p} {after = after} (Grammar.Segment.upper {b = b} lt) =
-    grind (arith, reading_silent Ascii p 235 ((b + 1) ∷ after) Upper refl, reading_step Upper (p + 1) (b + 1) after
-    Ascii ((b + 128) ∷ []) (step_upper (p + 1) b lt))
+    grind (
+      arith,
+      reading_silent Ascii p 235 ((b + 1) ∷ after) Upper refl,
+      reading_step Upper (p + 1) (b + 1) after
+          Ascii ((b + 128) ∷ []) (step_upper (p + 1) b lt),
+    )
 complete_segment {p = p} {after = after} (Grammar.Segment.run {t = t} {bytes = bytes} triples fits chars) =
-    grind (arith, length-append (flat_map pair triples) (254 ∷ []), reading_silent Ascii p (latch t) ((flat_map pair
-    triples ++ 254 ∷ []) ++ after) (Run t no_pending) (step_latch t p), append_assoc (flat_map pair triples) (254 ∷ [])
-    after, run_read t no_pending (p + 1) triples (254 ∷ after) ((chars_step t (flat_map triple_values triples) bytes
-    chars).0, bytes) fits (chars_step t (flat_map triple_values triples) bytes chars).1, reading_silent (Run t
-    (chars_step t (flat_map triple_values triples) bytes chars).0) (p + 1 + length (flat_map pair triples)) 254 after
-    Ascii refl)
+    grind (
+      arith,
+      length-append (flat_map pair triples) (254 ∷ []),
+      reading_silent Ascii p (latch t) ((flat_map pair
+          triples ++ 254 ∷ []) ++ after) (Run t no_pending) (step_latch t p),
+      append_assoc (flat_map pair triples) (254 ∷ [])
+          after,
+      run_read t no_pending (p + 1) triples (254 ∷ after) (
+        (chars_step t (flat_map triple_values triples) bytes
+            chars).0,
+        bytes,
+      ) fits (chars_step t (flat_map triple_values triples) bytes chars).1,
+      reading_silent (Run t
+          (chars_step t (flat_map triple_values triples) bytes chars).0) (p + 1 + length (flat_map pair triples)) 254 after
+          Ascii refl,
+    )
 complete_segment {p = p} {after = after} (Grammar.Segment.open_run {t = t} {bytes = bytes} triples fits chars stops) =
-    grind (arith, reading_silent Ascii p (latch t) (flat_map pair triples ++ after) (Run t no_pending) (step_latch t p),
-    run_read t no_pending (p + 1) triples after ((chars_step t (flat_map triple_values triples) bytes chars).0, bytes)
-    fits (chars_step t (flat_map triple_values triples) bytes chars).1, open_read t (chars_step t (flat_map
-    triple_values triples) bytes chars).0 (p + 1 + length (flat_map pair triples)) after stops)
+    grind (
+      arith,
+      reading_silent Ascii p (latch t) (flat_map pair triples ++ after) (Run t no_pending) (step_latch t p),
+      run_read t no_pending (p + 1) triples after ((chars_step t (flat_map triple_values triples) bytes chars).0, bytes)
+          fits (chars_step t (flat_map triple_values triples) bytes chars).1,
+      open_read t (chars_step t (flat_map
+          triple_values triples) bytes chars).0 (p + 1 + length (flat_map pair triples)) after stops,
+    )
 complete_segment {p = p} {after = after} (Grammar.Segment.bytes {bs = bs} len is_len fits) =
-    grind (arith, randomised-append (p + 1) len bs, append_assoc (randomised (p + 1) len) (randomised (p + 1 + length
-    len) bs) after, length-randomised (p + 1) (len ++ bs), length-append len bs, reading_silent Ascii p 231 (randomised
-    (p + 1) (len ++ bs) ++ after) Length refl, length_read p (length bs) len (randomised (p + 1 + length len) bs ++
-    after) is_len, bytes_read bs (p + 1 + length len) p after fits)
+    grind (
+      arith,
+      randomised-append (p + 1) len bs,
+      append_assoc (randomised (p + 1) len) (randomised (p + 1 + length
+          len) bs) after,
+      length-randomised (p + 1) (len ++ bs),
+      length-append len bs,
+      reading_silent Ascii p 231 (randomised
+          (p + 1) (len ++ bs) ++ after) Length refl,
+      length_read p (length bs) len (randomised (p + 1 + length len) bs ++
+          after) is_len,
+      bytes_read bs (p + 1 + length len) p after fits,
+    )
 complete_segment {p = p} (Grammar.Segment.rest {bs = bs} fits) =
-    grind (arith, reading_silent Ascii p 231 (randomised (p + 1) (0 ∷ bs) ++ []) Length refl, append-nil (randomised (p
-    + 1) (0 ∷ bs)), reading_silent Length (p + 1) (state_255 (p + 1) 0) (randomised (p + 1 + 1) bs) Rest (rw
-    (value_255-state_255 (p + 1) 0 (omega arith)) refl), rest_read bs (p + 1 + 1) fits, ended_ascii (p + length (231 ∷
-    randomised (p + 1) (0 ∷ bs))), append-nil bs)
+    grind (
+      arith,
+      reading_silent Ascii p 231 (randomised (p + 1) (0 ∷ bs) ++ []) Length refl,
+      append-nil (randomised (p
+          + 1) (0 ∷ bs)),
+      reading_silent Length (p + 1) (state_255 (p + 1) 0) (randomised (p + 1 + 1) bs) Rest (rw
+          (value_255-state_255 (p + 1) 0 (omega arith)) refl),
+      rest_read bs (p + 1 + 1) fits,
+      ended_ascii (p + length (231 ∷
+          randomised (p + 1) (0 ∷ bs))),
+      append-nil bs,
+    )
 
 pub complete : {p : ℕ} {words bytes : List ℕ} → Reads p words bytes → reading Ascii p words ≡ Ok bytes
 unfolding reading step ascii_step finish

@@ -74,7 +74,7 @@ closed_run_read t p bytes more after fits threes_of reads =
     let words = latch t ∷ (flat_map pair r.triples ++ 254 ∷ []) in
     let read : Reads p (words ++ after) (bytes ++ more) = Grammar.Reads.joined words after bytes more
     (Grammar.Segment.run r.triples r.fit chars) (reads (p + length words)) in
-        grind (arith, append_assoc (flat_map pair r.triples) (254 ∷ []) after)
+    grind (arith, append_assoc (flat_map pair r.triples) (254 ∷ []) after)
 
 -- a run with at most one word after it, a pad
 ends_open : (q n : ℕ) → n < 2 → EndsOpen (pads q n)
@@ -91,7 +91,7 @@ open_run_read t p q n bytes fits threes_of lt =
     let words = latch t ∷ flat_map pair r.triples in
     let read : Reads p (words ++ pads q n) (bytes ++ []) = Grammar.Reads.joined words (pads q n) bytes []
     (Grammar.Segment.open_run r.triples r.fit chars (ends_open q n lt)) (pads_read n q (p + length words)) in
-        grind (arith, append-nil)
+    grind (arith, append-nil)
 
 fits_take : (k : ℕ) (bytes : List ℕ) → AllByRecursion (λ b. b < 256) bytes →
     AllByRecursion (λ b. b < 256) (take k bytes)
@@ -141,8 +141,12 @@ run_text_read : (t : Letters) (k : ℕ) (bytes : List ℕ) (p q n : ℕ) → All
     → Reads p (run_and_rest t k bytes ++ words_after_text (ltb 0 k && eqb k (length bytes)) q n) bytes
 unfolding run_and_rest
 run_text_read t zero bytes p q n fits within passes = ascii_read bytes (pads q n) fits (pads_read n q) p
-run_text_read t (suc k) bytes p q n fits within passes = grind (arith, lt-ltb 0 (suc k) (omega arith), rest_read t (suc
-    k) bytes p q n (drop (suc k) bytes) refl fits within (passes (omega arith)))
+run_text_read t (suc k) bytes p q n fits within passes = grind (
+  arith,
+  lt-ltb 0 (suc k) (omega arith),
+  rest_read t (suc
+      k) bytes p q n (drop (suc k) bytes) refl fits within (passes (omega arith)),
+)
 
 pub run_read_back : (t : Letters) (bytes : List ℕ) (p q n : ℕ) → AllByRecursion (λ b. b < 256) bytes
     → Reads p (run_and_rest t (run_length t bytes) bytes ++ words_after_text (is_whole_run t bytes) q n) bytes

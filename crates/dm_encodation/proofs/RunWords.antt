@@ -137,12 +137,25 @@ run_need_few : (run after : ℕ) → run_need run after ≤ 2 + run / 3 * 2 + af
 run_need_few run after = grind arith
 
 pub run_few : (t : Letters) (bytes : List ℕ) → length (run_and_rest t (run_length t bytes) bytes) ≤ 4 * length bytes + 4
-run_few t bytes = grind (arith, length-values t (take (run_length t bytes) bytes), length-ascii (drop (run_length t
-    bytes) bytes), run_need_few (length (flat_map (values_of t) (take (run_length t bytes) bytes))) (length (ascii (drop
-    (run_length t bytes) bytes))), words_run t (run_length t bytes) bytes (length (flat_map (values_of t) (take
-    (run_length t bytes) bytes))) (length (ascii (drop (run_length t bytes) bytes))) (run_within t bytes) refl refl,
-    length-take-le (run_length t bytes) bytes (run_within t bytes), length-drop (run_length t bytes) bytes, run_within,
-    length-values, length-ascii, run_need_few, words_run, length-take-le, length-drop)
+run_few t bytes = grind (
+  arith,
+  length-values t (take (run_length t bytes) bytes),
+  length-ascii (drop (run_length t
+      bytes) bytes),
+  run_need_few (length (flat_map (values_of t) (take (run_length t bytes) bytes))) (length (ascii (drop
+      (run_length t bytes) bytes))),
+  words_run t (run_length t bytes) bytes (length (flat_map (values_of t) (take
+      (run_length t bytes) bytes))) (length (ascii (drop (run_length t bytes) bytes))) (run_within t bytes) refl refl,
+  length-take-le (run_length t bytes) bytes (run_within t bytes),
+  length-drop (run_length t bytes) bytes,
+  run_within,
+  length-values,
+  length-ascii,
+  run_need_few,
+  words_run,
+  length-take-le,
+  length-drop,
+)
 
 -- ---- a turn of the loop that looks how far the run goes
 
@@ -153,8 +166,14 @@ over_more t bytes i over v lt v-is over-is = grind (arith, common_steps, values_
 
 pub whole_more : (t : Letters) (bytes : List ℕ) (i n : ℕ) → i < length bytes →
     n ≡ length (flat_map (values_of t) (take (i + 1) bytes)) % 3 → n ≡ 0 → i + 1 ≡ run_length t (take (i + 1) bytes)
-whole_more t bytes i n lt n-is whole = grind (arith, take_more bytes i 0 lt, length-take-le (i + 1) bytes (omega arith),
-    take_more, length-take-le, run_length-whole)
+whole_more t bytes i n lt n-is whole = grind (
+  arith,
+  take_more bytes i 0 lt,
+  length-take-le (i + 1) bytes (omega arith),
+  take_more,
+  length-take-le,
+  run_length-whole,
+)
 
 pub whole_same : (t : Letters) (bytes : List ℕ) (i n : ℕ) → i < length bytes →
     n ≡ length (flat_map (values_of t) (take (i + 1) bytes)) % 3 → n ≢ 0 →

@@ -233,16 +233,29 @@ unfolding step ascii_step
 to_length p = refl
 
 half_read : (p v : ℕ) → 250 ≤ v → v < 256 → reading Ascii p (231 ∷ state_255 (p + 1) v ∷ []) ≡ Err (Cut p)
-half_read p v low high = grind (arith, reading_silent Ascii p 231 (state_255 (p + 1) v ∷ []) Length (to_length p),
-    reading_silent Length (p + 1) (state_255 (p + 1) v) [] (LongLength v) (to_long (p + 1) v low high), half_end p v)
+half_read p v low high = grind (
+  arith,
+  reading_silent Ascii p 231 (state_255 (p + 1) v ∷ []) Length (to_length p),
+  reading_silent Length (p + 1) (state_255 (p + 1) v) [] (LongLength v) (to_long (p + 1) v low high),
+  half_end p v,
+)
 
 long_read : (p v x : ℕ) (after : List ℕ) → 250 ≤ v → v < 256 → 250 ≤ x → x < 256
     → reading Ascii p (231 ∷ state_255 (p + 1) v ∷ state_255 (p + 1 + 1) x ∷ after) ≡
     Err (Reserved (p + 1 + 1) (state_255 (p + 1 + 1) x))
-long_read p v x after low high low2 high2 = grind (arith, reading_silent Ascii p 231 (state_255 (p + 1) v ∷ state_255 (p
-    + 1 + 1) x ∷ after) Length (to_length p), reading_silent Length (p + 1) (state_255 (p + 1) v) (state_255 (p + 1 + 1)
-    x ∷ after) (LongLength v) (to_long (p + 1) v low high), long_fails (p + 1 + 1) v x low2 high2, reading_silent,
-    to_length, to_long, reading_fault, long_fails)
+long_read p v x after low high low2 high2 = grind (
+  arith,
+  reading_silent Ascii p 231 (state_255 (p + 1) v ∷ state_255 (p
+      + 1 + 1) x ∷ after) Length (to_length p),
+  reading_silent Length (p + 1) (state_255 (p + 1) v) (state_255 (p + 1 + 1)
+      x ∷ after) (LongLength v) (to_long (p + 1) v low high),
+  long_fails (p + 1 + 1) v x low2 high2,
+  reading_silent,
+  to_length,
+  to_long,
+  reading_fault,
+  long_fails,
+)
 
 pub complete_here : {p : ℕ} {words : List ℕ} {f : DecodeFault} → StuckHere p words f → reading Ascii p words ≡ Err f
 unfolding step ascii_step finish reading
