@@ -91,8 +91,9 @@ impl<A: Allocator> Grid<A> {
     /// The modules of a row, from 0, from left to right.
     pub fn row(&self, row: u16) -> &[bool]
         requires { row < sizes.side self.now.size }
-        ensures { result.now ≡
+        ensures modules { result.now ≡
             let side = sizes.side self.now.size in slice_range self.now.modules (row * side) ((row + 1) * side) }
+        ensures whole { IsWholeGrid self.now }
     {
         let side = self.side() as usize;
         let start = row as usize * side;

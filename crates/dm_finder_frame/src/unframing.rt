@@ -49,7 +49,6 @@ fn wrong_in_row<A: Allocator>(grid: &Grid<A>, row: u16, is_last: bool) -> u16
     ensures most { result ≤ side grid.now.size }
 {
     let line = grid.row(row);
-    let _size = grid.size();
     let mut wrong = 0;
     for column in 0..grid.side() {
         let wanted = is_dark_at_end(is_last, column);
@@ -69,7 +68,6 @@ fn wrong_at_sides<A: Allocator>(grid: &Grid<A>, row: u16, framed: u16, across: u
     ensures most { result ≤ side grid.now.size }
 {
     let line = grid.row(row);
-    let _size = grid.size();
     let is_odd = row % 2 == 1;
     let mut wrong = 0;
     for b in 0..across {

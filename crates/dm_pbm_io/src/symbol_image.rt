@@ -20,7 +20,6 @@ fn draw_row<B: Allocator>(grid: &Grid<B>, row: u16, pixels: &mut [bool])
     ensures { IsDrawnTo (square_of grid.now) (sizes.side grid.now.size + 2) (row + 1) pixels.new }
 {
     let side = grid.side() as usize;
-    let _size = grid.size();
     let start = (row as usize + 1) * (side + 2) + 1;
     pixels[start..start + side].copy_from_slice(grid.row(row));
 }

@@ -19,7 +19,7 @@ slice_bounds-extend_from_slice-end g c =
     let q : c.across-b-end.result ≡ across c.args.grid.now.size = c.across-b-end.ensures.value
     ∙ ap across c.size-size.ensures.same in
     matrix_fits c.args.grid.now c.args.row c.loop-b.b c.region-region.result c.row-line.result.now (sym h)
-    c.size-size.ensures.whole c.requires.row_in (omega (arith, q)) c.row-line.ensures
+    c.size-size.ensures.whole c.requires.row_in (omega (arith, q)) c.row-line.ensures.modules
 
 pub loop-b-preserved : goal.loop-b-preserved
 loop-b-preserved g c =
@@ -29,4 +29,4 @@ loop-b-preserved g c =
     ∙ ap across c.size-size.ensures.same in
     matrix_more c.args.grid.now c.args.row c.loop-b.b c.region-region.result c.row-line.result.now
     c.loop-b.modules.items c.extend_from_slice.new.self.items (sym h) c.size-size.ensures.whole c.requires.row_in
-    (omega (arith, q)) c.row-line.ensures c.loop-b.invariant c.in_ok-extend_from_slice.ensures.items
+    (omega (arith, q)) c.row-line.ensures.modules c.loop-b.invariant c.in_ok-extend_from_slice.ensures.items

@@ -26,10 +26,10 @@ loop-b-preserved k c =
     let at : b * f ≡ b * (h + 2) = ap (λ n. b * n) c.requires.framed in
     let last : b * f + f - 1 ≡ b * (h + 2) + (h + 2) - 1 = omega (arith, at, c.requires.framed) in
     let first_is = ap (λ n. get_or line n false) at
-    ∙ line_module g r (b * (h + 2)) line c.requires.row_in (omega (arith, fits, wide)) c.row-line.ensures in
+    ∙ line_module g r (b * (h + 2)) line c.requires.row_in (omega (arith, fits, wide)) c.row-line.ensures.modules in
     let last_is = ap (λ n. get_or line n false) last
     ∙ line_module g r (b * (h + 2) + (h + 2) - 1) line c.requires.row_in (omega (arith, fits, wide))
-    c.row-line.ensures in
+    c.row-line.ensures.modules in
     let odd = ap (λ n. eqb n 1) (sym (even_columns g.size r)) in
     record {
       counted = region_more g r b x y c.loop-b.wrong _ c.requires.row_in inside.0 inside.1 b_in

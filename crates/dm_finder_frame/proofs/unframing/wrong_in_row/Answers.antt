@@ -33,7 +33,7 @@ loop-column-preserved k c =
     ∙ ap (λ x. eqb p (h + 1) || eqb x 0) (sym (even_columns g.size n)) in
     let t : c.differs.result ≡ is_wrong g (r * side g.size + n) =
     differs_is c.differs.result (get_or c.row-line.result.now n false) dark c.is_dark_at_end-wanted.result _
-    c.differs.ensures (line_module g r n c.row-line.result.now c.requires.row_in there c.row-line.ensures) wanted
+    c.differs.ensures (line_module g r n c.row-line.result.now c.requires.row_in there c.row-line.ensures.modules) wanted
     ∙ sym (wrong_is h p q dark _ (on_ends h p q c.requires.at_end) (ends_value h p q c.requires.at_end))
     ∙ is_test g r n there in
     let one = c.from-wrong.ensures ∙ test_number c.differs.result in

@@ -8,9 +8,9 @@ pub returns : goal.returns
 returns g c =
     let grid = c.args.grid.now in
     row_drawn (square_of grid)
-    (side grid.size + 2) c.args.row c.args.pixels.now _ c.copy_from_slice.new.self c.size-size.ensures.whole refl
+    (side grid.size + 2) c.args.row c.args.pixels.now _ c.copy_from_slice.new.self c.row.ensures.whole refl
     c.requires.row_in
-    (c.copy_from_slice.ensures.after ∙ c.row.ensures)
+    (c.copy_from_slice.ensures.after ∙ c.row.ensures.modules)
     (same_place (square_of grid) c.side-side.result c.args.row c.args.pixels.now c.copy_from_slice.new.self
     c.side-side.ensures.value)
     c.requires.above
