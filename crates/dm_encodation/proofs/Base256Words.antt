@@ -17,8 +17,7 @@ is_length n pos le =
       | inl big ↦
           let t : leb n 249 ≡ false = lt-leb n 249 big in
           let whole : 250 * (n / 250 + 249 - 249) + n % 250 ≡ n = omega arith in
-          rw t (subst (IsLength ((n / 250 + 249) ∷ (n % 250) ∷ [])) whole
-          (Grammar.IsLength.two (omega arith) (omega arith) (omega arith)))
+              grind (arith, Grammar.IsLength.two)
       | inr small ↦ let t : leb n 249 ≡ true = le-leb n 249 small in rw t (Grammar.IsLength.one pos (omega arith))
     ]
 

@@ -69,8 +69,7 @@ pub bytes_from : (n : ℕ) (words : List ℕ) → ((i : ℕ) → get_or words i 
 bytes_from n words fits i = rw get_or-drop (fits (n + i))
 
 pub pads_read : (n q p : ℕ) → Reads p (pads q n) []
-pads_read zero q p = Grammar.Reads.nothing
-pads_read (suc n) q p = Grammar.Reads.padded
+pads_read n q p = grind (arith, Grammar.Reads.nothing, Grammar.Reads.padded)
 
 byte_segment : (p b : ℕ) (after : List ℕ) → b < 256 → Segment p (ascii_byte b) after (b ∷ [])
 byte_segment p b after lt =
@@ -79,10 +78,7 @@ byte_segment p b after lt =
       | inr high ↦
           let word : b - 128 + 1 ≡ b - 127 = omega arith in
           let byte : b - 128 + 128 ≡ b = omega arith in
-          let below : b - 128 < 128 = omega arith in
-          rw (le-ltb b 128 high) (subst (λ (w : ℕ). Segment p (235 ∷ w ∷ []) after (b ∷ [])) word
-          (subst (λ (v : ℕ). Segment p (235 ∷ (b - 128 + 1) ∷ []) after (v ∷ [])) byte
-          (Grammar.Segment.upper below)))
+          let below : b - 128 < 128 = omega arith in grind (arith, Grammar.Segment.upper, le-ltb)
     ]
 
 digit_segment : (p b c : ℕ) (after : List ℕ) → (is_ascii_digit b && is_ascii_digit c) ≡ true →
@@ -96,10 +92,7 @@ digit_segment p b c after e =
     let c_low = leb-true 48 c ones.0 in
     let c_high = leb-true c 57 ones.1 in
     let first : 48 + (b - 48) ≡ b = omega arith in
-    let second : 48 + (c - 48) ≡ c = omega arith in
-    subst (λ (v : ℕ). Segment p ((130 + (10 * (b - 48) + (c - 48))) ∷ []) after (v ∷ c ∷ [])) first
-    (subst (λ (v : ℕ). Segment p ((130 + (10 * (b - 48) + (c - 48))) ∷ []) after ((48 + (b - 48)) ∷ v ∷ [])) second
-    (Grammar.Segment.digits (omega arith) (omega arith)))
+    let second : 48 + (c - 48) ≡ c = omega arith in grind (arith, Grammar.Segment.digits)
 
 pub ascii_read : (bytes rest : List ℕ) → AllByRecursion (λ b. b < 256) bytes → ((q : ℕ) → Reads q rest []) → (p : ℕ) →
     Reads p (ascii bytes ++ rest) bytes

@@ -54,12 +54,7 @@ threes (a ∷ b ∷ c ∷ vs) n e fits =
 
 whole_chars : (t : Letters) (bytes : List ℕ) → AllByRecursion (λ b. b < 256) bytes →
     Chars t (flat_map (values_of t) bytes) bytes
-whole_chars t bytes fits = record {
-  tail = [];
-  unfinished = Characters.Unfinished.nothing;
-  spelled = sym (append-nil (flat_map (values_of t) bytes));
-  fits = fits;
-}
+whole_chars t bytes fits = grind (arith, Characters.Unfinished.nothing, append-nil)
 
 -- a run that 254 ends, and then anything that is read
 pub closed_run_read : (t : Letters) (p : ℕ) (bytes more after : List ℕ) → AllByRecursion (λ b. b < 256) bytes →
@@ -69,11 +64,9 @@ pub closed_run_read : (t : Letters) (p : ℕ) (bytes more after : List ℕ) → 
 closed_run_read t p bytes more after fits threes_of reads =
     let vs = flat_map (values_of t) bytes in
     let r = threes vs (length vs / 3) (omega arith) (values_fit t bytes fits) in
-    let chars : Chars t (flat_map triple_values r.triples) bytes = subst (λ (l : List ℕ). Chars t l bytes)
-    (sym r.values) (whole_chars t bytes fits) in
+    let chars : Chars t (flat_map triple_values r.triples) bytes = grind (arith, whole_chars) in
     let words = latch t ∷ (flat_map pair r.triples ++ 254 ∷ []) in
-    let read : Reads p (words ++ after) (bytes ++ more) = Grammar.Reads.joined words after bytes more
-    (Grammar.Segment.run r.triples r.fit chars) (reads (p + length words)) in
+    let read : Reads p (words ++ after) (bytes ++ more) = search (arith, Grammar.Reads.joined, Grammar.Segment.run) in
         grind (arith, append_assoc (flat_map pair r.triples) (254 ∷ []) after)
 
 -- a run with at most one word after it, a pad
@@ -86,8 +79,7 @@ pub open_run_read : (t : Letters) (p q n : ℕ) (bytes : List ℕ) → AllByRecu
 open_run_read t p q n bytes fits threes_of lt =
     let vs = flat_map (values_of t) bytes in
     let r = threes vs (length vs / 3) (omega arith) (values_fit t bytes fits) in
-    let chars : Chars t (flat_map triple_values r.triples) bytes = subst (λ (l : List ℕ). Chars t l bytes)
-    (sym r.values) (whole_chars t bytes fits) in
+    let chars : Chars t (flat_map triple_values r.triples) bytes = grind (arith, whole_chars) in
     let words = latch t ∷ flat_map pair r.triples in
     let read : Reads p (words ++ pads q n) (bytes ++ []) = Grammar.Reads.joined words (pads q n) bytes []
     (Grammar.Segment.open_run r.triples r.fit chars (ends_open q n lt)) (pads_read n q (p + length words)) in
@@ -124,16 +116,10 @@ rest_read t k bytes p q n [] e fits within passes =
     words_after_text true q n ≡ pairs (flat_map (values_of t) bytes) ++ words_after_text true q n =
     ap (λ (l : List ℕ). l ++ words_after_text true q n) (append-nil (pairs (flat_map (values_of t) bytes))) in
     rw (t0, e, all) (subst (λ (l : List ℕ). Reads p (latch t ∷ l) bytes) (sym nothing) either)
-rest_read t k bytes p q n (b ∷ bs) e fits within passes =
-    let f0 : eqb k (length bytes) ≡ false =
-    ne_eqb k (length bytes) (λ same. omega (arith, length-drop k bytes, ap length e)) in
-    let fits_rest : AllByRecursion (λ b. b < 256) (b ∷ bs) = subst (AllByRecursion (λ b. b < 256)) e
-    (fits_drop k bytes fits) in
-    let read = closed_run_read t p (take k bytes) (b ∷ bs) (ascii (b ∷ bs) ++ pads q n) (fits_take k bytes fits) passes
-    (ascii_read (b ∷ bs) (pads q n) fits_rest (pads_read n q)) in
-    let joined : take k bytes ++ b ∷ bs ≡ bytes = ap (λ (l : List ℕ). take k bytes ++ l) (sym e) ∙
-    take-append-drop k bytes in
-    let vs = flat_map (values_of t) (take k bytes) in grind (arith, append_assoc)
+rest_read t k bytes p q n (b ∷ bs) e fits within passes = grind (arith, ne_eqb k (length bytes) (λ same. omega (arith,
+    length-drop k bytes, ap length e)), length-drop k bytes, closed_run_read t p (take k bytes) (b ∷ bs) (ascii (b ∷ bs)
+    ++ pads q n) (fits_take k bytes fits) passes (ascii_read (b ∷ bs) (pads q n) (subst (AllByRecursion (λ b. b < 256))
+    e (fits_drop k bytes fits)) (pads_read n q)), take-append-drop k bytes, append_assoc)
 
 -- A text in C40 or Text, and the words that fill the room after it.
 run_text_read : (t : Letters) (k : ℕ) (bytes : List ℕ) (p q n : ℕ) → AllByRecursion (λ b. b < 256) bytes →

@@ -159,9 +159,7 @@ whole_more t bytes i n lt n-is whole = grind (arith, take_more bytes i 0 lt, len
 pub whole_same : (t : Letters) (bytes : List ℕ) (i n : ℕ) → i < length bytes →
     n ≡ length (flat_map (values_of t) (take (i + 1) bytes)) % 3 → n ≢ 0 →
     run_length t (take i bytes) ≡ run_length t (take (i + 1) bytes)
-whole_same t bytes i n lt n-is open_triple =
-    let b = get_or bytes i 0 in
-    let more = take_more bytes i 0 lt in grind (arith, run_length-open)
+whole_same t bytes i n lt n-is open_triple = let more = take_more bytes i 0 lt in grind (arith, run_length-open)
 
 -- ---- the words, one part after another
 
