@@ -1,8 +1,6 @@
 -- The outcomes of one step, by cases.
-use Rattle.std.proofs.Common.{◌≡◌, ℕ, ◌+◌, ◌-◌, ◌*◌, ◌/◌, ◌%◌, ◌<◌, ◌≤◌, ◌⊎◌, inl, inr, eqb, leb, [], ◌∷◌, Ok, Err, arith}
-use Rattle.std.proofs.lemmas.Bool.{eqb-true, eqb-false, leb-true, leb-false, cond_both, cases_lt}
+use Rattle.std.proofs.Common.{◌≡◌, ℕ, ◌+◌, ◌*◌, ◌<◌, ◌≤◌, ◌⊎◌, [], ◌∷◌, Ok, Err, arith}
 use Rattle.dm_encodation.specs.declared.letters.Letters.{Letters}
-use Rattle.dm_encodation.specs.declared.letters.Letters.TheVariants.{Capital, Small}
 use Rattle.dm_encodation.specs.declared.mode.Mode.TheVariants.{Ascii, Upper, Run, Length, Padded}
 use Rattle.dm_encodation.specs.declared.fault.DecodeFault.TheVariants.{Unsupported, Reserved}
 use Rattle.dm_encodation.specs.Grammar.{latch, IsUnsupported}
@@ -22,5 +20,14 @@ pub data AsciiStep : ℕ → ℕ → Stepped → Type 0 where
 -- each step in ASCII is one of these cases
 pub ascii_view : (p w : ℕ) → AsciiStep p w (ascii_step p w)
 unfolding ascii_step
-ascii_view p w = grind (arith, AsciiStep.nothing, AsciiStep.character, AsciiStep.pad, AsciiStep.digits,
-    AsciiStep.to_run, AsciiStep.to_bytes, AsciiStep.to_upper, AsciiStep.unsupported)
+ascii_view p w = grind (
+  arith,
+  AsciiStep.nothing,
+  AsciiStep.character,
+  AsciiStep.pad,
+  AsciiStep.digits,
+  AsciiStep.to_run,
+  AsciiStep.to_bytes,
+  AsciiStep.to_upper,
+  AsciiStep.unsupported,
+)

@@ -1,9 +1,9 @@
 -- A text in ASCII: the piece at its front, all pairs of digits at its front, and one byte more at its end.
 use Rattle.std.proofs.lemmas.Grind.{common_steps}
-use Rattle.std.proofs.Common.{◌≡◌, ℕ, zero, suc, ◌+◌, ◌-◌, ◌*◌, ◌<◌, ◌≤◌, ◌≢◌, ltb, Bool, true, false, ◌&&◌, List, [], ◌∷◌, ◌++◌, length, get_or, drop, refl, sym, ap, ◌∙◌, append_assoc, arith, ◌⊎◌, inl, inr}
+use Rattle.std.proofs.Common.{◌≡◌, ℕ, zero, suc, ◌+◌, ◌-◌, ◌*◌, ◌<◌, ◌≤◌, ◌≢◌, Bool, true, false, ◌&&◌, List, [], ◌∷◌, ◌++◌, length, get_or, drop, refl, sym, ap, ◌∙◌, append_assoc, arith, ◌⊎◌}
 use Rattle.std.specs.Char.{is_ascii_digit}
-use Rattle.std.proofs.lemmas.Bool.{and_parts, leb-true, le-leb, lt-ltb, le-ltb, cond_both}
-use Rattle.std.proofs.lemmas.List.{append-nil, length-append, drop_more}
+use Rattle.std.proofs.lemmas.Bool.{lt-ltb, le-ltb}
+use Rattle.std.proofs.lemmas.List.{append-nil, drop_more}
 use Rattle.dm_encodation.specs.Written.{ascii_byte, ascii}
 use Rattle.dm_encodation.specs.inner.Pieces.{has_digits}
 use Rattle.dm_encodation.specs.inner.Pairs.{AreBetween, word_of, words_of_pairs}
@@ -34,8 +34,14 @@ two_digits a b rest tens ones = grind arith
 pub pairs_first : (bytes : List ℕ) (count : ℕ) → 2 * count ≤ length bytes → AreBetween 48 57 bytes 0 (2 * count)
     → words_of_pairs bytes count ++ ascii (drop (2 * count) bytes) ≡ ascii bytes
 pairs_first bytes zero fits digits = refl
-pairs_first bytes (suc count) fits digits = grind (arith, drop_more, append_assoc, two_digits, pairs_first bytes count
-    (omega arith) (λ i a b. digits i a (omega arith)))
+pairs_first bytes (suc count) fits digits = grind (
+  arith,
+  drop_more,
+  append_assoc,
+  two_digits,
+  pairs_first bytes count
+      (omega arith) (λ i a b. digits i a (omega arith)),
+)
 
 ascii-byte : (bytes : List ℕ) → length bytes ≢ 0 → has_digits bytes ≡ false
     → ascii bytes ≡ ascii_byte (get_or bytes 0 0) ++ ascii (drop 1 bytes)

@@ -1,15 +1,14 @@
 -- What is read word by word, the grammar reads.
 use Rattle.std.proofs.lemmas.Grind.{common_steps}
-use Rattle.std.proofs.Common.{◌≡◌, ℕ, zero, suc, ◌+◌, ◌-◌, ◌*◌, ◌/◌, ◌%◌, ◌<◌, ◌≤◌, ◌≢◌, ◌⊎◌, inl, inr, Bool, true, false, cond, eqb, leb, ltb, List, [], ◌∷◌, ◌++◌, length, Result, Ok, Err, refl, sym, ap, subst, ◌∙◌, append_assoc, arith}
+use Rattle.std.proofs.Common.{◌≡◌, ℕ, suc, ◌+◌, ◌-◌, ◌*◌, ◌/◌, ◌%◌, ◌<◌, ◌≤◌, ◌≢◌, ◌⊎◌, inl, inr, Bool, true, false, cond, eqb, leb, ltb, List, [], ◌∷◌, ◌++◌, length, Result, Ok, Err, refl, sym, ap, subst, ◌∙◌, append_assoc, arith}
 use Rattle.std.specs.List.{flat_map, AllByRecursion}
-use Rattle.std.proofs.lemmas.Bool.{eqb-true, eqb-false, leb-true, ltb-true, ltb-false, le-leb, lt-leb, cases_lt}
+use Rattle.std.proofs.lemmas.Bool.{eqb-true, eqb-false, leb-true, ltb-true, ltb-false, cases_lt}
 use Rattle.std.proofs.lemmas.List.{append-nil, length-append}
 use Rattle.std.proofs.lemmas.List.Concat.{flat_map-append}
 use Rattle.dm_encodation.specs.declared.letters.Letters.{Letters}
 use Rattle.dm_encodation.specs.declared.mode.Pending.{Pending}
 use Rattle.dm_encodation.specs.declared.mode.Mode.{Mode}
 use Rattle.dm_encodation.specs.declared.mode.Mode.TheVariants.{Ascii, Upper, Run, Half, Length, LongLength, Bytes, Rest, Padded}
-use Rattle.dm_encodation.specs.declared.mode.ValueFault.TheVariants.{Fnc1, Missing}
 use Rattle.dm_encodation.specs.declared.fault.DecodeFault.TheVariants.{Reserved}
 use Rattle.dm_encodation.specs.Characters.{Triple, IsTriple, triple_values, pair}
 use Rattle.dm_encodation.specs.Words.{state_255, randomised}
@@ -143,7 +142,7 @@ from_upper p w out q e =
     let byte_given = w + 127 in
     let byte : w - 1 + 128 ≡ byte_given = omega arith in
     let segment : (after : List ℕ) → Segment q (235 ∷ w ∷ []) after ((w + 127) ∷ []) =
-        grind (arith, Grammar.Segment.upper) in grind arith
+    grind (arith, Grammar.Segment.upper) in grind arith
 
 plus_none : (n : ℕ) → n ≡ 0 + n
 plus_none n = omega arith
@@ -250,8 +249,7 @@ advance {q = q} w out (InMode.long_length {v = v} low high) lt e =
     subst (λ (w : ℕ). Advanced q (231 ∷ state_255 (q + 1) v ∷ w ∷ []) [] (bytes_left (250 * (v - 249) + x) q)) word
     whole in grind arith
 advance {q = q} w out (InMode.bytes {n = n} len bs is fits) lt e =
-    grind (arith, length-randomised, pred_is, ok_is, append_assoc, push_value, length-append, left, fits_pushed,
-    value_255-below)
+    grind (arith, length-randomised, ok_is, append_assoc, push_value, length-append, left, fits_pushed, value_255-below)
 advance {q = q} w out (InMode.rest bs fits) lt e =
     grind (arith, InMode.rest, length-randomised, ok_is, push_value, fits_pushed, value_255-below)
 advance {q = q} w out (InMode.padded any) lt e = grind (arith, InMode.padded, ok_is)

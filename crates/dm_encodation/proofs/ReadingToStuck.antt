@@ -1,8 +1,8 @@
 -- Where reading word by word fails, the words are stuck.
 use Rattle.std.proofs.lemmas.Grind.{common_steps}
-use Rattle.std.proofs.Common.{◌≡◌, ℕ, zero, suc, ◌+◌, ◌-◌, ◌*◌, ◌/◌, ◌%◌, ◌<◌, ◌≤◌, ◌⊎◌, inl, inr, eqb, leb, ltb, List, [], ◌∷◌, ◌++◌, length, get_or, take, Result, Ok, Err, refl, sym, ap, subst, ◌∙◌, append_assoc, arith}
+use Rattle.std.proofs.Common.{◌≡◌, ℕ, suc, ◌+◌, ◌-◌, ◌*◌, ◌/◌, ◌%◌, ◌<◌, ◌≤◌, ◌⊎◌, inl, inr, eqb, ltb, List, [], ◌∷◌, ◌++◌, length, get_or, take, Result, Ok, Err, refl, sym, subst, append_assoc, arith}
 use Rattle.std.specs.List.{flat_map, AllByRecursion}
-use Rattle.std.proofs.lemmas.Bool.{eqb-true, eqb-false, leb-false, ltb-true, ltb-false, cases_lt}
+use Rattle.std.proofs.lemmas.Bool.{eqb-false, ltb-false}
 use Rattle.std.proofs.lemmas.List.{append-nil, length-append}
 use Rattle.dm_encodation.specs.declared.letters.Letters.{Letters}
 use Rattle.dm_encodation.specs.declared.mode.Pending.{Pending}
@@ -11,9 +11,8 @@ use Rattle.dm_encodation.specs.declared.mode.Mode.TheVariants.{Ascii, Run, Lengt
 use Rattle.dm_encodation.specs.declared.mode.ValueFault.{ValueFault}
 use Rattle.dm_encodation.specs.declared.mode.ValueFault.TheVariants.{Fnc1, Missing}
 use Rattle.dm_encodation.specs.declared.fault.DecodeFault.{DecodeFault}
-use Rattle.dm_encodation.specs.declared.fault.DecodeFault.TheVariants.{Unsupported, Reserved, Cut}
 use Rattle.dm_encodation.specs.Characters.{Triple, IsTriple, triple_values, pair, IsMeaningless}
-use Rattle.dm_encodation.specs.Words.{state_255, randomised}
+use Rattle.dm_encodation.specs.Words.{state_255}
 use Rattle.dm_encodation.specs.Grammar
 use Rattle.dm_encodation.specs.Grammar.{latch, IsLength, EndsOpen, Segment, Reads, IsUnsupported, BadPair, StuckHere, Stuck}
 use Rattle.dm_encodation.specs.inner.Reading.{◌>>=◌, prepend, Stepped, Valued, no_pending, value_step, ascii_step, upper_step, at_pair, pair_step, values_step, value_255, step, ended, finish, reading}
@@ -187,7 +186,7 @@ unfolding step
 long_stuck q v w after f low high lt e =
     let x = value_255 (q + 1 + 1) w in
     let word = state_255-value_255 (q + 1 + 1) w lt in
-        grind (arith, Grammar.StuckHere.bad_length, chosen, ok_err, fault_is, ltb-false, value_255-below)
+    grind (arith, Grammar.StuckHere.bad_length, chosen, ok_err, fault_is, ltb-false, value_255-below)
 
 length_never : (p w : ℕ) (f : DecodeFault) → step Length p w ≡ Err f → ⊥
 unfolding step
@@ -209,7 +208,7 @@ step_fails {q = q} w after f (InMode.half {t = t} {s = s} {a = a} {given = given
     let bad = bad_pair_from t s p triples a w given f lt fits taken
     (subst (λ (j : ℕ). pair_step t s j a w ≡ Err f) k e) in
     let chars = chars_from t (flat_map triple_values triples) given s (values_below triples fits) taken in
-        search (arith, Grammar.StuckHere.bad_pair, append_assoc)
+    search (arith, Grammar.StuckHere.bad_pair, append_assoc)
 step_fails {q = q} w after f InMode.length_due lt e = absurd (length_never (q + 1) w f e)
 step_fails {q = q} w after f (InMode.long_length {v = v} low high) lt e = grind (arith, long_stuck)
 step_fails w after f (InMode.bytes len bs is fits) lt e = absurd (ok_err _ _ e)
@@ -226,8 +225,15 @@ end_fault x y e = cc
 
 single_fails : {j a : ℕ} {r : Stepped} (q : ℕ) (f : DecodeFault) → j ≡ q → AsciiStep j a r →
     (r >>= λ n. prepend n.1 (ended n.0 (j + 1))) ≡ Err f → StuckHere q (a ∷ []) f
-single_fails {j} {a} {r} q f at given e = grind (arith, Grammar.StuckHere.reserved, Grammar.StuckHere.unsupported,
-    Grammar.StuckHere.no_length, Grammar.StuckHere.cut_upper, end_fault, ok_err)
+single_fails {j} {a} {r} q f at given e = grind (
+  arith,
+  Grammar.StuckHere.reserved,
+  Grammar.StuckHere.unsupported,
+  Grammar.StuckHere.no_length,
+  Grammar.StuckHere.cut_upper,
+  end_fault,
+  ok_err,
+)
 
 end_fails : {m : Mode} {q : ℕ} {front given : List ℕ} (f : DecodeFault) → InMode m q front given →
     finish m (q + length front) ≡ Err f → Stuck q front f

@@ -1,13 +1,12 @@
 -- What the grammar reads is read word by word.
 use Rattle.std.proofs.lemmas.Grind.{common_steps}
-use Rattle.std.proofs.Common.{◌≡◌, ℕ, zero, suc, ◌+◌, ◌-◌, ◌*◌, ◌/◌, ◌%◌, ◌<◌, inl, inr, Bool, true, false, cond, ◌&&◌, eqb, leb, ltb, List, [], ◌∷◌, ◌++◌, length, Result, Ok, Err, refl, sym, ap, subst, ◌∙◌, append_assoc, arith}
+use Rattle.std.proofs.Common.{◌≡◌, ℕ, zero, suc, ◌+◌, ◌-◌, ◌*◌, ◌/◌, ◌%◌, ◌<◌, Bool, true, false, cond, ◌&&◌, eqb, leb, ltb, List, [], ◌∷◌, ◌++◌, length, Result, Ok, refl, sym, ap, subst, ◌∙◌, append_assoc, arith}
 use Rattle.std.specs.List.{flat_map, AllByRecursion}
-use Rattle.std.proofs.lemmas.Bool.{ne_eqb, le-leb, lt-leb, lt-ltb, le-ltb, cases_lt, agree_below, agree_below_at, and_parts, eqb-true}
+use Rattle.std.proofs.lemmas.Bool.{ne_eqb, lt-ltb, le-ltb, agree_below, agree_below_at, and_parts, eqb-true}
 use Rattle.std.proofs.lemmas.List.{append-nil, length-append}
 use Rattle.dm_encodation.specs.declared.letters.Letters.{Letters}
-use Rattle.dm_encodation.specs.declared.letters.Letters.TheVariants.{Capital, Small}
 use Rattle.dm_encodation.specs.declared.mode.Set.{Set}
-use Rattle.dm_encodation.specs.declared.mode.Set.TheVariants.{Basic, First, Second, Third}
+use Rattle.dm_encodation.specs.declared.mode.Set.TheVariants.{Basic}
 use Rattle.dm_encodation.specs.declared.mode.Pending.{Pending}
 use Rattle.dm_encodation.specs.declared.mode.Mode.{Mode}
 use Rattle.dm_encodation.specs.declared.mode.Mode.TheVariants.{Ascii, Upper, Run, Half, Length, LongLength, Bytes, Rest, Padded}
@@ -172,7 +171,7 @@ run_read t s q (tr ∷ triples) after out fits e =
     let ne : eqb (v / 256) 254 ≡ false = ne_eqb _ _ (λ e. omega (arith, fits.0)) in
     let back : q + 1 - 1 ≡ q = omega arith in
     let one : step (Half t s (v / 256)) (q + 1) (v % 256) ≡ Ok (Run t r.middle.0, r.middle.1) =
-        grind (arith, pair_is) in
+    grind (arith, pair_is) in
     let k : q + 1 + 1 + length (flat_map pair triples) ≡ q + suc (suc (length (flat_map pair triples))) = omega arith in
     reading_silent (Run t s) q (v / 256) ((v % 256) ∷ (flat_map pair triples ++ after)) (Half t s (v / 256))
     (rw ne refl)
@@ -236,14 +235,20 @@ pub characters_read : (t : Letters) (bytes tail : List ℕ) (s : Pending) → Al
     values_step t no_pending tail ≡ Ok (s, [])
     → values_step t no_pending (flat_map (values_of t) bytes ++ tail) ≡ Ok (s, bytes)
 characters_read t [] tail s fits e = e
-characters_read t (b ∷ bs) tail s fits e = grind (arith, append_assoc (values_of t b) (flat_map (values_of t) bs) tail,
-    values_joined t no_pending (values_of t b) (flat_map (values_of t) bs ++ tail) (no_pending, b ∷ []) (s, bs,)
-    (character_read t b fits.0) (characters_read t bs tail s fits.1 e))
+characters_read t (b ∷ bs) tail s fits e = grind (
+  arith,
+  append_assoc (values_of t b) (flat_map (values_of t) bs) tail,
+  values_joined t no_pending (values_of t b) (flat_map (values_of t) bs ++ tail) (no_pending, b ∷ []) (s, bs)
+      (character_read t b fits.0) (characters_read t bs tail s fits.1 e),
+)
 
 pub chars_step : (t : Letters) (values bytes : List ℕ) → Chars t values bytes →
     (s : Pending) × (values_step t no_pending values ≡ Ok (s, bytes))
-chars_step t values bytes chars = grind (arith, characters_read t bytes chars.tail (tail_read t chars.tail
-    chars.unfinished).0 chars.fits (tail_read t chars.tail chars.unfinished).1)
+chars_step t values bytes chars = grind (
+  arith,
+  characters_read t bytes chars.tail (tail_read t chars.tail
+      chars.unfinished).0 chars.fits (tail_read t chars.tail chars.unfinished).1,
+)
 
 pub ended_ascii : (p : ℕ) → reading Ascii p [] ≡ Ok []
 unfolding reading finish
@@ -279,30 +284,65 @@ complete_segment {p = p} {after = after} (Grammar.Segment.character {b = b} lt) 
 complete_segment {p = p} {after = after} (Grammar.Segment.digits {m = m} {n = n} lm ln) =
     reading_step Ascii p (130 + (10 * m + n)) after Ascii ((48 + m) ∷ (48 + n) ∷ []) (step_digits p m n lm ln)
 complete_segment {p = p} {after = after} (Grammar.Segment.upper {b = b} lt) =
-    grind (arith, reading_silent Ascii p 235 ((b + 1) ∷ after) Upper refl, reading_step Upper (p + 1) (b + 1) after
-    Ascii ((b + 128) ∷ []) (step_upper (p + 1) b lt))
+    grind (
+      arith,
+      reading_silent Ascii p 235 ((b + 1) ∷ after) Upper refl,
+      reading_step Upper (p + 1) (b + 1) after
+          Ascii ((b + 128) ∷ []) (step_upper (p + 1) b lt),
+    )
 complete_segment {p = p} {after = after} (Grammar.Segment.run {t = t} {bytes = bytes} triples fits chars) =
-    grind (arith, length-append (flat_map pair triples) (254 ∷ []), reading_silent Ascii p (latch t) ((flat_map pair
-    triples ++ 254 ∷ []) ++ after) (Run t no_pending) (step_latch t p), append_assoc (flat_map pair triples) (254 ∷ [])
-    after, run_read t no_pending (p + 1) triples (254 ∷ after) ((chars_step t (flat_map triple_values triples) bytes
-    chars).0, bytes) fits (chars_step t (flat_map triple_values triples) bytes chars).1, reading_silent (Run t
-    (chars_step t (flat_map triple_values triples) bytes chars).0) (p + 1 + length (flat_map pair triples)) 254 after
-    Ascii refl)
+    grind (
+      arith,
+      length-append (flat_map pair triples) (254 ∷ []),
+      reading_silent Ascii p (latch t) ((flat_map pair
+          triples ++ 254 ∷ []) ++ after) (Run t no_pending) (step_latch t p),
+      append_assoc (flat_map pair triples) (254 ∷ [])
+          after,
+      run_read t no_pending (p + 1) triples (254 ∷ after) (
+        (chars_step t (flat_map triple_values triples) bytes
+            chars).0,
+        bytes,
+      ) fits (chars_step t (flat_map triple_values triples) bytes chars).1,
+      reading_silent (Run t
+          (chars_step t (flat_map triple_values triples) bytes chars).0) (p + 1 + length (flat_map pair triples)) 254 after
+          Ascii refl,
+    )
 complete_segment {p = p} {after = after} (Grammar.Segment.open_run {t = t} {bytes = bytes} triples fits chars stops) =
-    grind (arith, reading_silent Ascii p (latch t) (flat_map pair triples ++ after) (Run t no_pending) (step_latch t p),
-    run_read t no_pending (p + 1) triples after ((chars_step t (flat_map triple_values triples) bytes chars).0, bytes)
-    fits (chars_step t (flat_map triple_values triples) bytes chars).1, open_read t (chars_step t (flat_map
-    triple_values triples) bytes chars).0 (p + 1 + length (flat_map pair triples)) after stops)
+    grind (
+      arith,
+      reading_silent Ascii p (latch t) (flat_map pair triples ++ after) (Run t no_pending) (step_latch t p),
+      run_read t no_pending (p + 1) triples after ((chars_step t (flat_map triple_values triples) bytes chars).0, bytes)
+          fits (chars_step t (flat_map triple_values triples) bytes chars).1,
+      open_read t (chars_step t (flat_map
+          triple_values triples) bytes chars).0 (p + 1 + length (flat_map pair triples)) after stops,
+    )
 complete_segment {p = p} {after = after} (Grammar.Segment.bytes {bs = bs} len is_len fits) =
-    grind (arith, randomised-append (p + 1) len bs, append_assoc (randomised (p + 1) len) (randomised (p + 1 + length
-    len) bs) after, length-randomised (p + 1) (len ++ bs), length-append len bs, reading_silent Ascii p 231 (randomised
-    (p + 1) (len ++ bs) ++ after) Length refl, length_read p (length bs) len (randomised (p + 1 + length len) bs ++
-    after) is_len, bytes_read bs (p + 1 + length len) p after fits)
+    grind (
+      arith,
+      randomised-append (p + 1) len bs,
+      append_assoc (randomised (p + 1) len) (randomised (p + 1 + length
+          len) bs) after,
+      length-randomised (p + 1) (len ++ bs),
+      length-append len bs,
+      reading_silent Ascii p 231 (randomised
+          (p + 1) (len ++ bs) ++ after) Length refl,
+      length_read p (length bs) len (randomised (p + 1 + length len) bs ++
+          after) is_len,
+      bytes_read bs (p + 1 + length len) p after fits,
+    )
 complete_segment {p = p} (Grammar.Segment.rest {bs = bs} fits) =
-    grind (arith, reading_silent Ascii p 231 (randomised (p + 1) (0 ∷ bs) ++ []) Length refl, append-nil (randomised (p
-    + 1) (0 ∷ bs)), reading_silent Length (p + 1) (state_255 (p + 1) 0) (randomised (p + 1 + 1) bs) Rest (rw
-    (value_255-state_255 (p + 1) 0 (omega arith)) refl), rest_read bs (p + 1 + 1) fits, ended_ascii (p + length (231 ∷
-    randomised (p + 1) (0 ∷ bs))), append-nil bs)
+    grind (
+      arith,
+      reading_silent Ascii p 231 (randomised (p + 1) (0 ∷ bs) ++ []) Length refl,
+      append-nil (randomised (p
+          + 1) (0 ∷ bs)),
+      reading_silent Length (p + 1) (state_255 (p + 1) 0) (randomised (p + 1 + 1) bs) Rest (rw
+          (value_255-state_255 (p + 1) 0 (omega arith)) refl),
+      rest_read bs (p + 1 + 1) fits,
+      ended_ascii (p + length (231 ∷
+          randomised (p + 1) (0 ∷ bs))),
+      append-nil bs,
+    )
 
 pub complete : {p : ℕ} {words bytes : List ℕ} → Reads p words bytes → reading Ascii p words ≡ Ok bytes
 unfolding reading step ascii_step finish

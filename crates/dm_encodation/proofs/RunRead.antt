@@ -1,11 +1,10 @@
 -- What is written in C40 and Text is read.
 use Rattle.std.proofs.lemmas.Grind.{common_steps}
-use Rattle.std.proofs.Common.{◌≡◌, ℕ, zero, suc, ◌+◌, ◌-◌, ◌*◌, ◌/◌, ◌%◌, ◌<◌, ◌≤◌, true, false, ◌&&◌, eqb, leb, ltb, List, [], ◌∷◌, ◌++◌, length, take, drop, refl, sym, ap, subst, ◌∙◌, append_assoc, arith}
+use Rattle.std.proofs.Common.{◌≡◌, ℕ, zero, suc, ◌+◌, ◌-◌, ◌*◌, ◌/◌, ◌%◌, ◌<◌, ◌≤◌, true, ◌&&◌, eqb, leb, ltb, List, [], ◌∷◌, ◌++◌, length, take, drop, refl, sym, ap, subst, append_assoc, arith}
 use Rattle.std.specs.List.{flat_map, AllByRecursion, list_all}
 use Rattle.std.proofs.lemmas.Bool.{ltb-true, cond_both, lt-ltb, eq-eqb, ne_eqb, leb-false, agree_below, agree_below_at, and_parts}
 use Rattle.std.proofs.lemmas.List.{append-nil, length-drop, take_all, take-append-drop}
 use Rattle.dm_encodation.specs.declared.letters.Letters.{Letters}
-use Rattle.dm_encodation.specs.declared.letters.Letters.TheVariants.{Capital, Small}
 use Rattle.dm_encodation.specs.Characters
 use Rattle.dm_encodation.specs.Characters.{Triple, IsTriple, triple_values, pair, Chars, values_below_128, values_of}
 use Rattle.dm_encodation.specs.Words.{pads}
@@ -67,7 +66,7 @@ closed_run_read t p bytes more after fits threes_of reads =
     let chars : Chars t (flat_map triple_values r.triples) bytes = grind (arith, whole_chars) in
     let words = latch t ∷ (flat_map pair r.triples ++ 254 ∷ []) in
     let read : Reads p (words ++ after) (bytes ++ more) = search (arith, Grammar.Reads.joined, Grammar.Segment.run) in
-        grind (arith, append_assoc (flat_map pair r.triples) (254 ∷ []) after)
+    grind (arith, append_assoc (flat_map pair r.triples) (254 ∷ []) after)
 
 -- a run with at most one word after it, a pad
 ends_open : (q n : ℕ) → n < 2 → EndsOpen (pads q n)
@@ -83,7 +82,7 @@ open_run_read t p q n bytes fits threes_of lt =
     let words = latch t ∷ flat_map pair r.triples in
     let read : Reads p (words ++ pads q n) (bytes ++ []) = Grammar.Reads.joined words (pads q n) bytes []
     (Grammar.Segment.open_run r.triples r.fit chars (ends_open q n lt)) (pads_read n q (p + length words)) in
-        grind (arith, append-nil)
+    grind (arith, append-nil)
 
 fits_take : (k : ℕ) (bytes : List ℕ) → AllByRecursion (λ b. b < 256) bytes →
     AllByRecursion (λ b. b < 256) (take k bytes)
@@ -116,10 +115,20 @@ rest_read t k bytes p q n [] e fits within passes =
     words_after_text true q n ≡ pairs (flat_map (values_of t) bytes) ++ words_after_text true q n =
     ap (λ (l : List ℕ). l ++ words_after_text true q n) (append-nil (pairs (flat_map (values_of t) bytes))) in
     rw (t0, e, all) (subst (λ (l : List ℕ). Reads p (latch t ∷ l) bytes) (sym nothing) either)
-rest_read t k bytes p q n (b ∷ bs) e fits within passes = grind (arith, ne_eqb k (length bytes) (λ same. omega (arith,
-    length-drop k bytes, ap length e)), length-drop k bytes, closed_run_read t p (take k bytes) (b ∷ bs) (ascii (b ∷ bs)
-    ++ pads q n) (fits_take k bytes fits) passes (ascii_read (b ∷ bs) (pads q n) (subst (AllByRecursion (λ b. b < 256))
-    e (fits_drop k bytes fits)) (pads_read n q)), take-append-drop k bytes, append_assoc)
+rest_read t k bytes p q n (b ∷ bs) e fits within passes = grind (
+  arith,
+  ne_eqb k (length bytes) (λ same. omega (
+    arith,
+    length-drop k bytes,
+    ap length e,
+  )),
+  length-drop k bytes,
+  closed_run_read t p (take k bytes) (b ∷ bs) (ascii (b ∷ bs)
+      ++ pads q n) (fits_take k bytes fits) passes (ascii_read (b ∷ bs) (pads q n) (subst (AllByRecursion (λ b. b < 256))
+      e (fits_drop k bytes fits)) (pads_read n q)),
+  take-append-drop k bytes,
+  append_assoc,
+)
 
 -- A text in C40 or Text, and the words that fill the room after it.
 run_text_read : (t : Letters) (k : ℕ) (bytes : List ℕ) (p q n : ℕ) → AllByRecursion (λ b. b < 256) bytes →
@@ -127,8 +136,8 @@ run_text_read : (t : Letters) (k : ℕ) (bytes : List ℕ) (p q n : ℕ) → All
     → Reads p (run_and_rest t k bytes ++ words_after_text (ltb 0 k && eqb k (length bytes)) q n) bytes
 unfolding run_and_rest
 run_text_read t zero bytes p q n fits within passes = ascii_read bytes (pads q n) fits (pads_read n q) p
-run_text_read t (suc k) bytes p q n fits within passes = grind (arith, lt-ltb 0 (suc k) (omega arith), rest_read t (suc
-    k) bytes p q n (drop (suc k) bytes) refl fits within (passes (omega arith)))
+run_text_read t (suc k) bytes p q n fits within passes =
+    grind (arith, rest_read t (suc k) bytes p q n (drop (suc k) bytes) refl fits within (passes (omega arith)))
 
 pub run_read_back : (t : Letters) (bytes : List ℕ) (p q n : ℕ) → AllByRecursion (λ b. b < 256) bytes
     → Reads p (run_and_rest t (run_length t bytes) bytes ++ words_after_text (is_whole_run t bytes) q n) bytes

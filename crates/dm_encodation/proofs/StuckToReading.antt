@@ -1,15 +1,14 @@
 -- Where the words are stuck, reading word by word fails so, and the other way round.
 use Rattle.std.proofs.lemmas.Grind.{common_steps}
-use Rattle.std.proofs.Common.{◌≡◌, ℕ, zero, suc, ◌+◌, ◌-◌, ◌*◌, ◌<◌, ◌≤◌, ◌≢◌, ◌⊎◌, inl, inr, Bool, true, false, not, ◌&&◌, eqb, leb, ltb, List, [], ◌∷◌, ◌++◌, length, get_or, take, Option, Some, None, Ok, Err, refl, sym, ap, subst, ◌∙◌, append_assoc, arith}
+use Rattle.std.proofs.Common.{◌≡◌, ℕ, zero, suc, ◌+◌, ◌-◌, ◌<◌, ◌≤◌, ◌≢◌, ◌⊎◌, inl, inr, Bool, true, false, eqb, List, [], ◌∷◌, ◌++◌, length, get_or, take, Ok, Err, refl, sym, ap, subst, ◌∙◌, append_assoc, arith}
 use Rattle.std.specs.List.{flat_map, AllByRecursion}
-use Rattle.std.proofs.lemmas.Bool.{eqb-true, ne_eqb, eq-eqb, lt-leb, lt-ltb, le-ltb}
+use Rattle.std.proofs.lemmas.Bool.{ne_eqb, le-ltb}
 use Rattle.dm_encodation.specs.declared.letters.Letters.{Letters}
-use Rattle.dm_encodation.specs.declared.letters.Letters.TheVariants.{Capital, Small}
 use Rattle.dm_encodation.specs.declared.mode.Set.{Set}
 use Rattle.dm_encodation.specs.declared.mode.Set.TheVariants.{Basic, First, Second, Third}
 use Rattle.dm_encodation.specs.declared.mode.Pending.{Pending}
 use Rattle.dm_encodation.specs.declared.mode.Mode.{Mode}
-use Rattle.dm_encodation.specs.declared.mode.Mode.TheVariants.{Ascii, Upper, Run, Half, Length, LongLength}
+use Rattle.dm_encodation.specs.declared.mode.Mode.TheVariants.{Ascii, Run, Half, Length, LongLength}
 use Rattle.dm_encodation.specs.declared.mode.ValueFault.{ValueFault}
 use Rattle.dm_encodation.specs.declared.mode.ValueFault.TheVariants.{Fnc1, Missing}
 use Rattle.dm_encodation.specs.declared.fault.DecodeFault.{DecodeFault}
@@ -19,10 +18,10 @@ use Rattle.dm_encodation.specs.Characters.{Unfinished, Triple, IsTriple, triple_
 use Rattle.dm_encodation.specs.Words.{state_255, randomised}
 use Rattle.dm_encodation.specs.Grammar
 use Rattle.dm_encodation.specs.Grammar.{latch, IsLength, EndsOpen, Segment, Reads, IsUnsupported, BadPair, StuckHere, Stuck}
-use Rattle.dm_encodation.specs.inner.Reading.{◌>>=◌, prepend, Stepped, Valued, no_pending, character_ended, value_step, ascii_step, upper_step, at_pair, pair_step, values_step, value_255, bytes_left, step, finish, reading}
+use Rattle.dm_encodation.specs.inner.Reading.{◌>>=◌, prepend, Stepped, Valued, no_pending, value_step, ascii_step, upper_step, at_pair, pair_step, values_step, bytes_left, step, finish, reading}
 use Rattle.dm_encodation.proofs.AsciiStepCases.{AsciiStep, ascii_view}
 use Rattle.dm_encodation.proofs.ReadsToReading.{bind_ok, ok_is, reading_silent, complete_segment, length_read, run_read, chars_step, characters_read, pair_is, step_latch, value_255-state_255, values_joined, splits}
-use Rattle.dm_encodation.proofs.ReadingToReads.{chosen, values_below}
+use Rattle.dm_encodation.proofs.ReadingToReads.{values_below}
 use Rattle.dm_encodation.proofs.TakenValues.{chars_from, tail_of, tail_at}
 
 reading_fault : (m : Mode) (p w : ℕ) (ws : List ℕ) (f : DecodeFault) → step m p w ≡ Err f → reading m p (w ∷ ws) ≡ Err f
@@ -185,7 +184,7 @@ fails_by t s p triples w x bytes fits taken next k is spelled lt m fault known =
     let front = take k (triple_values next) in
     let v = get_or (triple_values next) k 0 in
     let below : AllByRecursion (λ v. v < 40) ((vs ++ front) ++ v ∷ []) =
-        grind (arith, append_assoc, append_below, values_below, cut_below) in
+    grind (arith, append_assoc, append_below, values_below, cut_below) in
     let r = refuses t s vs front v bytes below taken m in
     let cut = triple_cut next k lt in
     let e : values_step t s (triple_values next) ≡ Err r.fault = ap (values_step t s) cut.1 ∙
@@ -225,16 +224,29 @@ unfolding step ascii_step
 to_length p = refl
 
 half_read : (p v : ℕ) → 250 ≤ v → v < 256 → reading Ascii p (231 ∷ state_255 (p + 1) v ∷ []) ≡ Err (Cut p)
-half_read p v low high = grind (arith, reading_silent Ascii p 231 (state_255 (p + 1) v ∷ []) Length (to_length p),
-    reading_silent Length (p + 1) (state_255 (p + 1) v) [] (LongLength v) (to_long (p + 1) v low high), half_end p v)
+half_read p v low high = grind (
+  arith,
+  reading_silent Ascii p 231 (state_255 (p + 1) v ∷ []) Length (to_length p),
+  reading_silent Length (p + 1) (state_255 (p + 1) v) [] (LongLength v) (to_long (p + 1) v low high),
+  half_end p v,
+)
 
 long_read : (p v x : ℕ) (after : List ℕ) → 250 ≤ v → v < 256 → 250 ≤ x → x < 256
     → reading Ascii p (231 ∷ state_255 (p + 1) v ∷ state_255 (p + 1 + 1) x ∷ after) ≡
     Err (Reserved (p + 1 + 1) (state_255 (p + 1 + 1) x))
-long_read p v x after low high low2 high2 = grind (arith, reading_silent Ascii p 231 (state_255 (p + 1) v ∷ state_255 (p
-    + 1 + 1) x ∷ after) Length (to_length p), reading_silent Length (p + 1) (state_255 (p + 1) v) (state_255 (p + 1 + 1)
-    x ∷ after) (LongLength v) (to_long (p + 1) v low high), long_fails (p + 1 + 1) v x low2 high2, reading_silent,
-    to_length, to_long, reading_fault, long_fails)
+long_read p v x after low high low2 high2 = grind (
+  arith,
+  reading_silent Ascii p 231 (state_255 (p + 1) v ∷ state_255 (p
+      + 1 + 1) x ∷ after) Length (to_length p),
+  reading_silent Length (p + 1) (state_255 (p + 1) v) (state_255 (p + 1 + 1)
+      x ∷ after) (LongLength v) (to_long (p + 1) v low high),
+  long_fails (p + 1 + 1) v x low2 high2,
+  reading_silent,
+  to_length,
+  to_long,
+  reading_fault,
+  long_fails,
+)
 
 pub complete_here : {p : ℕ} {words : List ℕ} {f : DecodeFault} → StuckHere p words f → reading Ascii p words ≡ Err f
 unfolding step ascii_step finish reading

@@ -12,8 +12,11 @@ loop-at-init g c = grind (arith, pairs_between)
 
 pub returns-in-Padded-clause-given : goal.returns-in-Padded-clause-given
 returns-in-Padded-clause-given g c =
-    grind (arith, padded_so (c.loop-at.at + 1) (drop c.loop-at.at c.args.words.now) c.loop-at.out.items (reading Ascii
-    (c.args.from + 1) (drop c.args.from c.args.words.now)) (rw c.in-Padded.is at c.loop-at.invariant.so_far))
+    grind (
+      arith,
+      padded_so (c.loop-at.at + 1) (drop c.loop-at.at c.args.words.now) c.loop-at.out.items (reading Ascii
+          (c.args.from + 1) (drop c.args.from c.args.words.now)) (rw c.in-Padded.is at c.loop-at.invariant.so_far),
+    )
 
 pub returns-in_err-next-clause-fails : goal.returns-in_err-next-clause-fails
 returns-in_err-next-clause-fails g c =

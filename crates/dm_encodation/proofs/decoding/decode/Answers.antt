@@ -1,7 +1,7 @@
 use Rattle.std.proofs.Common.{◌+◌, ◌<◌, ℕ, get_or, drop, arith}
 use Rattle.std.proofs.lemmas.List.{length-drop}
 use Rattle.dm_encodation.proofs.Lengths.{reads_short}
-use Rattle.std.proofs.lemmas.Result.{err_from_is_err_and, IfOk-weaker, IfErr-weaker}
+use Rattle.std.proofs.lemmas.Result.{err_from_is_err_and, IfOk-weaker}
 use Rattle.dm_encodation.proofs.Reread.{decided, decided_fault, bytes_from, never_memory}
 use Rattle.dm_encodation.proofs.decoding.decode.Goals as goal
 
@@ -19,8 +19,11 @@ returns-clause-stuck g c = grind arith
 
 pub returns-clause-memory : goal.returns-clause-memory
 returns-clause-memory g c =
-    grind (arith, decided (c.args.from + 1) (drop c.args.from c.args.words.now) c.in_ok-count.ensures.0 (bytes_from
-    c.args.from c.args.words.now (λ i. omega (arith, c.type_inv.words i))) c.in_ok-count.ensures.1)
+    grind (
+      arith,
+      decided (c.args.from + 1) (drop c.args.from c.args.words.now) c.in_ok-count.ensures.0 (bytes_from
+          c.args.from c.args.words.now (λ i. omega (arith, c.type_inv.words i))) c.in_ok-count.ensures.1,
+    )
 
 pub returns-clause-short : goal.returns-clause-short
 returns-clause-short g c =
