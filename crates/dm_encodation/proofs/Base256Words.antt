@@ -1,5 +1,5 @@
 -- A text in Base 256: its words one after another, how many they are, and that they are read.
-use Rattle.std.proofs.Common.{◌≡◌, ℕ, ◌+◌, ◌-◌, ◌*◌, ◌/◌, ◌%◌, ◌<◌, ◌≤◌, ◌≢◌, true, false, cond, ◌⊎◌, eqb, leb, List, [], ◌∷◌, ◌++◌, length, refl, sym, ap, subst, ◌∙◌, append_assoc, arith, inl, inr}
+use Rattle.std.proofs.Common.{◌≡◌, ℕ, ◌+◌, ◌-◌, ◌*◌, ◌/◌, ◌%◌, ◌<◌, ◌≤◌, ◌≢◌, true, false, cond, ◌⊎◌, eqb, leb, List, [], ◌∷◌, ◌++◌, length, refl, subst, append_assoc, arith, inl, inr}
 use Rattle.std.specs.List.{AllByRecursion}
 use Rattle.std.proofs.lemmas.Bool.{cases_lt, eqb-true, le-leb, lt-leb, ne_eqb}
 use Rattle.std.proofs.lemmas.List.{append-nil, length-append, nil_from_length}
@@ -17,8 +17,7 @@ is_length n pos le =
       | inl big ↦
           let t : leb n 249 ≡ false = lt-leb n 249 big in
           let whole : 250 * (n / 250 + 249 - 249) + n % 250 ≡ n = omega arith in
-          rw t (subst (IsLength ((n / 250 + 249) ∷ (n % 250) ∷ [])) whole
-          (Grammar.IsLength.two (omega arith) (omega arith) (omega arith)))
+          grind (arith, Grammar.IsLength.two)
       | inr small ↦ let t : leb n 249 ≡ true = le-leb n 249 small in rw t (Grammar.IsLength.one pos (omega arith))
     ]
 

@@ -1,5 +1,5 @@
 -- What a counter of words says, and how large its numbers are.
-use Rattle.std.proofs.Common.{◌≡◌, ℕ, zero, suc, ◌+◌, ◌*◌, ◌<◌, ◌≤◌, ◌^◌, inl, inr, false, cond, eqb, leb, List, [], length, take, drop, refl, sym, ap, ◌∙◌, arith}
+use Rattle.std.proofs.Common.{◌≡◌, ℕ, zero, suc, ◌+◌, ◌*◌, ◌<◌, ◌≤◌, ◌^◌, List, [], length, drop, refl, arith}
 use Rattle.std.proofs.lemmas.Bool.{cases_lt, leb-false, lt-leb, ne_eqb, cond_both}
 use Rattle.std.proofs.lemmas.List.{length-append, length-take-le, length-drop}
 use Rattle.dm_encodation.specs.inner.Pairs.{AreBetween, words_of_pairs}
@@ -61,13 +61,8 @@ length-words_of_pairs digits (suc count) = grind (arith, length-append, length-w
 pub need-pairs : (bytes : List ℕ) (count : ℕ) → 2 * count ≤ length bytes → AreBetween 48 57 bytes 0 (2 * count) →
     need_of Ascii bytes ≡ count + need_of Ascii (drop (2 * count) bytes)
 unfolding need_of text
-need-pairs bytes count fits digits = grind (
-  arith,
-  pairs_first bytes count fits digits,
-  length-append (words_of_pairs
-      bytes count) (ascii (drop (2 * count) bytes)),
-  length-words_of_pairs bytes count,
-)
+need-pairs bytes count fits digits =
+    grind (arith, pairs_first bytes count fits digits, length-append, length-words_of_pairs)
 
 -- ---- what a counter says
 

@@ -1,11 +1,10 @@
 -- A turn of a loop over the words, and its end.
-use Rattle.std.proofs.Common.{◌≡◌, ℕ, ◌+◌, ◌<◌, ◌≤◌, List, ◌∷◌, ◌++◌, length, get_or, drop, Result, Ok, Err, sym, ap, ◌∙◌, arith}
+use Rattle.std.proofs.Common.{◌≡◌, ℕ, ◌+◌, ◌<◌, ◌≤◌, List, ◌++◌, length, get_or, drop, Result, Ok, Err, sym, ap, ◌∙◌, arith}
 use Rattle.std.proofs.lemmas.List.{append-nil, drop_more, drop_all}
 use Rattle.dm_encodation.specs.declared.mode.Mode.{Mode}
 use Rattle.dm_encodation.specs.declared.mode.Mode.TheVariants.{Padded}
 use Rattle.dm_encodation.specs.declared.fault.DecodeFault.{DecodeFault}
-use Rattle.dm_encodation.specs.declared.fault.DecodeFault.TheVariants.{Unsupported, Reserved, Cut, Memory}
-use Rattle.dm_encodation.specs.inner.Reading.{◌>>=◌, prepend, Stepped, step, finish, reading}
+use Rattle.dm_encodation.specs.inner.Reading.{prepend, step, finish, reading}
 use Rattle.dm_encodation.specs.inner.StepViews.{Fails}
 use Rattle.dm_encodation.proofs.ReadsToReading.{reading_step, prepend-prepend, padded_read}
 
@@ -15,12 +14,7 @@ pub goes_on : (m next : Mode) (at : ℕ) (words front bs : List ℕ) (total : Re
     → prepend front (reading m (at + 1) (drop at words)) ≡ total →
     prepend (front ++ bs) (reading next (at + 1 + 1) (drop (at + 1) words)) ≡ total
 goes_on m next at words front bs total lt e so_far =
-    grind (
-      arith,
-      drop_more words,
-      prepend-prepend front bs (reading next (at + 1 + 1) (drop (at + 1) words)),
-      reading_step m (at + 1) (get_or words at 0) (drop (at + 1) words) next bs (sym e),
-    )
+    grind (arith, drop_more, prepend-prepend front bs (reading next (at + 1 + 1) (drop (at + 1) words)), reading_step)
 
 -- a step that fails
 pub fails_at : (m : Mode) (at : ℕ) (words front : List ℕ) (f : DecodeFault) (total : Result (List ℕ) DecodeFault) →

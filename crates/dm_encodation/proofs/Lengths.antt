@@ -1,5 +1,5 @@
 -- Words read as at most twice as many bytes.
-use Rattle.std.proofs.Common.{◌≡◌, ℕ, ◌+◌, ◌*◌, ◌≤◌, List, [], ◌∷◌, ◌++◌, length, refl, ap, arith}
+use Rattle.std.proofs.Common.{◌≡◌, ℕ, ◌+◌, ◌*◌, ◌≤◌, List, [], ◌∷◌, ◌++◌, length, refl, arith}
 use Rattle.std.specs.List.{flat_map}
 use Rattle.std.proofs.lemmas.List.{length-append}
 use Rattle.dm_encodation.specs.declared.letters.Letters.{Letters}
@@ -22,13 +22,7 @@ length-pair (t ∷ ts) = let l = length-pair ts in omega arith
 -- values spell at most as many bytes as they are
 chars_short : (t : Letters) (triples : List Triple) (bytes : List ℕ) → Chars t (flat_map triple_values triples) bytes →
     length bytes ≤ 3 * length triples
-chars_short t triples bytes chars = grind (
-  arith,
-  length-values t bytes,
-  length-triple_values triples,
-  length-append
-      (flat_map (values_of t) bytes) chars.tail,
-)
+chars_short t triples bytes chars = grind (arith, length-values, length-triple_values triples, length-append)
 
 -- a segment has at most two bytes a word
 segment_short : {p : ℕ} {words after bytes : List ℕ} → Segment p words after bytes → length bytes ≤ 2 * length words
@@ -36,13 +30,7 @@ segment_short (Grammar.Segment.character lt) = omega arith
 segment_short (Grammar.Segment.digits lm ln) = omega arith
 segment_short (Grammar.Segment.upper lt) = omega arith
 segment_short (Grammar.Segment.run {t = t} {bytes = bytes} triples fits chars) =
-    grind (
-      arith,
-      chars_short t triples bytes chars,
-      length-pair triples,
-      length-append (flat_map pair triples) (254 ∷
-          []),
-    )
+    grind (arith, chars_short t triples bytes chars, length-pair, length-append)
 segment_short (Grammar.Segment.open_run {t = t} {bytes = bytes} triples fits chars ends) =
     omega (arith, chars_short t triples bytes chars, length-pair triples)
 segment_short {p = p} (Grammar.Segment.bytes {bs = bs} len is_len fits) =

@@ -1,11 +1,9 @@
 -- Words of two digits each are read as their digits, and leave the reader in ASCII.
-use Rattle.std.proofs.Common.{◌≡◌, ℕ, zero, suc, ◌+◌, ◌-◌, ◌≤◌, List, ◌++◌, length, get_or, drop, Ok, true, false, eqb, leb, ap, ◌∙◌, subst, arith}
-use Rattle.std.proofs.lemmas.Bool.Decides.{nat_tests}
+use Rattle.std.proofs.Common.{◌≡◌, ℕ, zero, suc, ◌+◌, ◌-◌, ◌≤◌, List, ◌++◌, length, get_or, drop, Ok, subst, arith}
 use Rattle.dm_encodation.specs.declared.mode.Mode.TheVariants.{Ascii}
 use Rattle.dm_encodation.specs.inner.Pairs.{ArePairs, digits_of, digits_from}
 use Rattle.dm_encodation.specs.inner.Reading.{prepend, reading, step, ascii_step}
 use Rattle.dm_encodation.proofs.DecodeLoopSteps.{goes_on}
-use Rattle.dm_encodation.proofs.ReadsToReading.{prepend-nil}
 
 -- one such word
 pair_step : (p w : ℕ) → (130 ≤ w) × (w ≤ 229) → Ok (Ascii, digits_of w) ≡ step Ascii p w

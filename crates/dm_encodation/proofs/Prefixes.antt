@@ -1,8 +1,7 @@
 -- The greatest prefix that fits, found byte by byte.
-use Rattle.std.proofs.Common.{◌≡◌, ℕ, ◌+◌, ◌<◌, ◌≤◌, inl, inr, List, length, take, subst, arith}
-use Rattle.std.proofs.lemmas.Bool.{cases_lt}
+use Rattle.std.proofs.Common.{ℕ, ◌≤◌, List, take, arith}
 use Rattle.dm_encodation.specs.declared.scheme.Scheme.{Scheme}
-use Rattle.dm_encodation.specs.Written.{need_of, IsGreatestPrefix}
+use Rattle.dm_encodation.specs.Written.{need_of}
 use Rattle.dm_encodation.proofs.Counters.{need-nil}
 
 -- The first k of i bytes fit the room, and no longer prefix of these does.

@@ -1,15 +1,14 @@
 -- What is read word by word, the grammar reads.
 use Rattle.std.proofs.lemmas.Grind.{common_steps}
-use Rattle.std.proofs.Common.{◌≡◌, ℕ, zero, suc, ◌+◌, ◌-◌, ◌*◌, ◌/◌, ◌%◌, ◌<◌, ◌≤◌, ◌≢◌, ◌⊎◌, inl, inr, Bool, true, false, cond, eqb, leb, ltb, List, [], ◌∷◌, ◌++◌, length, Result, Ok, Err, refl, sym, ap, subst, ◌∙◌, append_assoc, arith}
+use Rattle.std.proofs.Common.{◌≡◌, ℕ, suc, ◌+◌, ◌-◌, ◌*◌, ◌/◌, ◌%◌, ◌<◌, ◌≤◌, ◌≢◌, ◌⊎◌, inl, inr, Bool, true, false, cond, eqb, leb, ltb, List, [], ◌∷◌, ◌++◌, length, Result, Ok, Err, refl, sym, ap, subst, ◌∙◌, append_assoc, arith}
 use Rattle.std.specs.List.{flat_map, AllByRecursion}
-use Rattle.std.proofs.lemmas.Bool.{eqb-true, eqb-false, leb-true, ltb-true, ltb-false, le-leb, lt-leb, cases_lt}
+use Rattle.std.proofs.lemmas.Bool.{eqb-true, eqb-false, leb-true, ltb-true, ltb-false, cases_lt}
 use Rattle.std.proofs.lemmas.List.{append-nil, length-append}
 use Rattle.std.proofs.lemmas.List.Concat.{flat_map-append}
 use Rattle.dm_encodation.specs.declared.letters.Letters.{Letters}
 use Rattle.dm_encodation.specs.declared.mode.Pending.{Pending}
 use Rattle.dm_encodation.specs.declared.mode.Mode.{Mode}
 use Rattle.dm_encodation.specs.declared.mode.Mode.TheVariants.{Ascii, Upper, Run, Half, Length, LongLength, Bytes, Rest, Padded}
-use Rattle.dm_encodation.specs.declared.mode.ValueFault.TheVariants.{Fnc1, Missing}
 use Rattle.dm_encodation.specs.declared.fault.DecodeFault.TheVariants.{Reserved}
 use Rattle.dm_encodation.specs.Characters.{Triple, IsTriple, triple_values, pair}
 use Rattle.dm_encodation.specs.Words.{state_255, randomised}
@@ -124,14 +123,8 @@ takes_pair t s p w x out lt e =
 -- ---- one more word
 
 from_ascii : {p w : ℕ} {out : Mode × List ℕ} (q : ℕ) → AsciiStep p w (Ok out) → Advanced q (w ∷ []) out.1 out.0
-from_ascii q (AsciiStep.character b lt e) =
-    inr (refl, λ after. subst (λ (w : ℕ). Segment q (w ∷ []) after (b ∷ [])) (sym e) (Grammar.Segment.character lt))
-from_ascii q (AsciiStep.digits m n lm ln e) =
-    inr (
-      refl,
-      λ after. subst (λ (w : ℕ). Segment q (w ∷ []) after ((48 + m) ∷ (48 + n) ∷ [])) (sym e)
-          (Grammar.Segment.digits lm ln),
-    )
+from_ascii q (AsciiStep.character b lt e) = grind (arith, Grammar.Segment.character)
+from_ascii q (AsciiStep.digits m n lm ln e) = grind (arith, Grammar.Segment.digits)
 from_ascii q (AsciiStep.pad e) = inl (subst (λ (w : ℕ). InMode Padded q (w ∷ []) []) (sym e) (InMode.padded []))
 from_ascii q (AsciiStep.to_run t e) =
     inl (subst (λ (w : ℕ). InMode (Run t no_pending) q (w ∷ []) []) (sym e) (InMode.run [] tt refl))
@@ -148,11 +141,8 @@ from_upper p w out q e =
     let back : w - 1 + 1 ≡ w = omega arith in
     let byte_given = w + 127 in
     let byte : w - 1 + 128 ≡ byte_given = omega arith in
-    let segment : (after : List ℕ) → Segment q (235 ∷ w ∷ []) after ((w + 127) ∷ []) = λ after.
-    subst (λ (w : ℕ). Segment q (235 ∷ w ∷ []) after (byte_given ∷ [])) back
-    (subst (λ (v : ℕ). Segment q (235 ∷ (w - 1 + 1) ∷ []) after (v ∷ [])) byte
-    (Grammar.Segment.upper (omega arith))) in
-    subst (λ (o : Mode × List ℕ). Advanced q (235 ∷ w ∷ []) o.1 o.0) b.1 (inr (refl, segment))
+    let segment : (after : List ℕ) → Segment q (235 ∷ w ∷ []) after ((w + 127) ∷ []) =
+    grind (arith, Grammar.Segment.upper) in grind arith
 
 plus_none : (n : ℕ) → n ≡ 0 + n
 plus_none n = omega arith
@@ -160,9 +150,7 @@ plus_none n = omega arith
 -- Base 256: what is left of this many bytes
 left : (q n : ℕ) (len bs : List ℕ) → IsLength len (length bs + n) → AllByRecursion (λ b. b < 256) bs
     → Advanced q (231 ∷ randomised (q + 1) (len ++ bs)) bs (bytes_left n q)
-left q zero len bs is fits = let e : length bs + 0 ≡ length bs = omega arith in
-    inr (refl, λ after. Grammar.Segment.bytes len (rw e at is) fits)
-left q (suc n) len bs is fits = inl (InMode.bytes len bs is fits)
+left q n len bs is fits = grind (arith, Grammar.Segment.bytes, InMode.bytes)
 
 from_length : (p q w : ℕ) (out : Mode × List ℕ) → w < 256 → step Length (q + 1) w ≡ Ok out →
     Advanced q (231 ∷ w ∷ []) out.1 out.0
@@ -188,11 +176,7 @@ from_length p q w out lt e =
                 subst (λ (w : ℕ). Advanced q (231 ∷ w ∷ []) [] (bytes_left n q)) word
                 (left q n (n ∷ []) [] (subst (IsLength (n ∷ [])) (plus_none n)
                 (Grammar.IsLength.one pos (ltb-true n 250 is.0))) tt) in grind arith
-            | inr isnt2 ↦
-                let o = ok_is _ out (Ok out) (sym isnt2.1) refl in
-                subst (λ (o : Mode × List ℕ). Advanced q (231 ∷ w ∷ []) o.1 o.0) o
-                (inl (subst (λ (w : ℕ). InMode (LongLength n) q (231 ∷ w ∷ []) []) word
-                (InMode.long_length (ltb-false n 250 isnt2.0) below)))
+            | inr isnt2 ↦ grind (arith, InMode.long_length, ok_is, ltb-false)
           ]
     ]
 
@@ -265,52 +249,23 @@ advance {q = q} w out (InMode.long_length {v = v} low high) lt e =
     subst (λ (w : ℕ). Advanced q (231 ∷ state_255 (q + 1) v ∷ w ∷ []) [] (bytes_left (250 * (v - 249) + x) q)) word
     whole in grind arith
 advance {q = q} w out (InMode.bytes {n = n} len bs is fits) lt e =
-    grind (
-      arith,
-      length-randomised,
-      pred_is,
-      ok_is,
-      append_assoc,
-      push_value,
-      length-append,
-      left,
-      fits_pushed,
-      value_255-below,
-    )
+    grind (arith, length-randomised, ok_is, append_assoc, push_value, length-append, left, fits_pushed, value_255-below)
 advance {q = q} w out (InMode.rest bs fits) lt e =
-    let p = q + 1 + length (0 ∷ bs) in
-    let k : q + length (231 ∷ randomised (q + 1) (0 ∷ bs)) ≡ p = omega (arith, length-randomised (q + 1 + 1) bs) in
-    let b = value_255 p w in
-    let e2 : step Rest p w ≡ Ok out = subst (λ (j : ℕ). step Rest j w ≡ Ok out) k e in
-    let o : (Rest, b ∷ []) ≡ out = ok_is (Rest, b ∷ []) out (goes_to (Rest, b ∷ [])) refl e2 in
-    subst (λ (o : Mode × List ℕ). Advanced q (231 ∷ (randomised (q + 1) (0 ∷ bs) ++ w ∷ [])) (bs ++ o.1) o.0) o
-    (inl (subst (λ (l : List ℕ). InMode Rest q (231 ∷ l) (bs ++ b ∷ [])) (sym (push_value (q + 1) (0 ∷ bs) w lt))
-    (InMode.rest (bs ++ b ∷ []) (fits_pushed bs b fits (value_255-below p w lt)))))
-advance {q = q} w out (InMode.padded any) lt e =
-    let o : (Padded, []) ≡ out = ok_is _ out (Ok out) (sym e) refl in
-    subst (λ (o : Mode × List ℕ). Advanced q (129 ∷ (any ++ w ∷ [])) o.1 o.0) o (inl (InMode.padded (any ++ w ∷ [])))
+    grind (arith, InMode.rest, length-randomised, ok_is, push_value, fits_pushed, value_255-below)
+advance {q = q} w out (InMode.padded any) lt e = grind (arith, InMode.padded, ok_is)
 
 nothing_more : {q : ℕ} (front given : List ℕ) → Segment q front [] given → Reads q front given
 nothing_more {q = q} front given segment =
-    subst (λ (l : List ℕ). Reads q l given) (append-nil front)
-    (subst (λ (l : List ℕ). Reads q (front ++ []) l) (append-nil given)
-    (Grammar.Reads.joined front [] given [] segment Grammar.Reads.nothing))
+    grind (arith, Grammar.Reads.joined, Grammar.Reads.nothing, append-nil front, append-nil given)
 
 -- a last word in ASCII
 single : {p a : ℕ} {r : Stepped} (q k : ℕ) (bs : List ℕ) → AsciiStep p a r →
     (r >>= λ n. prepend n.1 (ended n.0 k)) ≡ Ok bs → Reads q (a ∷ []) bs
 single q k bs (AsciiStep.nothing x) e = absurd cc
 single q k bs (AsciiStep.unsupported x) e = absurd cc
-single {a = a} q k bs (AsciiStep.character b lt is) e =
-    subst (λ (l : List ℕ). Reads q (a ∷ []) l) (ok_is (b ∷ []) bs (Ok (b ∷ [])) refl e)
-    (subst (λ (w : ℕ). Reads q (w ∷ []) (b ∷ [])) (sym is)
-    (nothing_more ((b + 1) ∷ []) (b ∷ []) (Grammar.Segment.character lt)))
-single {a = a} q k bs (AsciiStep.digits m n lm ln is) e =
-    subst (λ (l : List ℕ). Reads q (a ∷ []) l) (ok_is ((48 + m) ∷ (48 + n) ∷ []) bs _ refl e)
-    (subst (λ (w : ℕ). Reads q (w ∷ []) ((48 + m) ∷ (48 + n) ∷ [])) (sym is)
-    (nothing_more ((130 + (10 * m + n)) ∷ []) ((48 + m) ∷ (48 + n) ∷ []) (Grammar.Segment.digits lm ln)))
-single {a = a} q k bs (AsciiStep.pad is) e = subst (λ (l : List ℕ). Reads q (a ∷ []) l) (ok_is [] bs _ refl e)
-    (subst (λ (w : ℕ). Reads q (w ∷ []) []) (sym is) Grammar.Reads.padded)
+single {a = a} q k bs (AsciiStep.character b lt is) e = grind (arith, Grammar.Segment.character, ok_is, nothing_more)
+single {a = a} q k bs (AsciiStep.digits m n lm ln is) e = grind (arith, Grammar.Segment.digits, ok_is, nothing_more)
+single {a = a} q k bs (AsciiStep.pad is) e = grind (arith, Grammar.Reads.padded, ok_is)
 single {a = a} q k bs (AsciiStep.to_run t is) e =
     subst (λ (l : List ℕ). Reads q (a ∷ []) l) (ok_is [] bs _ refl e)
     (subst (λ (w : ℕ). Reads q (w ∷ []) []) (sym is)
@@ -337,10 +292,8 @@ at_end {q = q} p bs (InMode.half {t = t} {s = s} {a = a} {given = given} triples
 at_end p bs InMode.length_due e = absurd cc
 at_end p bs (InMode.long_length low high) e = absurd cc
 at_end p bs (InMode.bytes len xs is fits) e = absurd cc
-at_end {q = q} p bs (InMode.rest xs fits) e =
-    grind (arith, append-nil xs, nothing_more (231 ∷ randomised (q + 1) (0 ∷ xs)) xs (Grammar.Segment.rest fits))
-at_end {q = q} p bs (InMode.padded any) e = subst (λ (l : List ℕ). Reads q (129 ∷ any) l)
-    (ok_is [] bs _ refl e) Grammar.Reads.padded
+at_end {q = q} p bs (InMode.rest xs fits) e = grind (arith, Grammar.Segment.rest, append-nil, nothing_more)
+at_end {q = q} p bs (InMode.padded any) e = grind (arith, Grammar.Reads.padded, ok_is)
 
 pub sound : (words : List ℕ) {m : Mode} {q : ℕ} {front given : List ℕ} (bs : List ℕ) →
     AllByRecursion (λ w. w < 256) words → InMode m q front given
@@ -365,9 +318,7 @@ sound (w ∷ words) {m = m} {q = q} {front = front} {given = given} bs fits i e 
           (sound words more fits.1 (InMode.ascii {p = q + length longer}) r)
     ] in
     let bytes_are : (given ++ out.1) ++ more ≡ given ++ bs = append_assoc given out.1 more ∙
-    ap (λ (l : List ℕ). given ++ l) (ok_is (out.1 ++ more) bs _ refl b.2) in
-    subst (λ (l : List ℕ). Reads q l (given ++ bs)) (append_assoc front (w ∷ []) words)
-    (subst (λ (l : List ℕ). Reads q (longer ++ words) l) bytes_are whole)
+    ap (λ (l : List ℕ). given ++ l) (ok_is (out.1 ++ more) bs _ refl b.2) in grind (arith, append_assoc)
 
 -- from ASCII on
 pub reads_from : (p : ℕ) (words bs : List ℕ) → AllByRecursion (λ w. w < 256) words → reading Ascii p words ≡ Ok bs →

@@ -1,8 +1,8 @@
 -- Where reading word by word fails, the words are stuck.
 use Rattle.std.proofs.lemmas.Grind.{common_steps}
-use Rattle.std.proofs.Common.{◌≡◌, ℕ, zero, suc, ◌+◌, ◌-◌, ◌*◌, ◌/◌, ◌%◌, ◌<◌, ◌≤◌, ◌⊎◌, inl, inr, eqb, leb, ltb, List, [], ◌∷◌, ◌++◌, length, get_or, take, Result, Ok, Err, refl, sym, ap, subst, ◌∙◌, append_assoc, arith}
+use Rattle.std.proofs.Common.{◌≡◌, ℕ, suc, ◌+◌, ◌-◌, ◌*◌, ◌/◌, ◌%◌, ◌<◌, ◌≤◌, ◌⊎◌, inl, inr, eqb, ltb, List, [], ◌∷◌, ◌++◌, length, get_or, take, Result, Ok, Err, refl, sym, subst, append_assoc, arith}
 use Rattle.std.specs.List.{flat_map, AllByRecursion}
-use Rattle.std.proofs.lemmas.Bool.{eqb-true, eqb-false, leb-false, ltb-true, ltb-false, cases_lt}
+use Rattle.std.proofs.lemmas.Bool.{eqb-false, ltb-false}
 use Rattle.std.proofs.lemmas.List.{append-nil, length-append}
 use Rattle.dm_encodation.specs.declared.letters.Letters.{Letters}
 use Rattle.dm_encodation.specs.declared.mode.Pending.{Pending}
@@ -11,9 +11,8 @@ use Rattle.dm_encodation.specs.declared.mode.Mode.TheVariants.{Ascii, Run, Lengt
 use Rattle.dm_encodation.specs.declared.mode.ValueFault.{ValueFault}
 use Rattle.dm_encodation.specs.declared.mode.ValueFault.TheVariants.{Fnc1, Missing}
 use Rattle.dm_encodation.specs.declared.fault.DecodeFault.{DecodeFault}
-use Rattle.dm_encodation.specs.declared.fault.DecodeFault.TheVariants.{Unsupported, Reserved, Cut}
 use Rattle.dm_encodation.specs.Characters.{Triple, IsTriple, triple_values, pair, IsMeaningless}
-use Rattle.dm_encodation.specs.Words.{state_255, randomised}
+use Rattle.dm_encodation.specs.Words.{state_255}
 use Rattle.dm_encodation.specs.Grammar
 use Rattle.dm_encodation.specs.Grammar.{latch, IsLength, EndsOpen, Segment, Reads, IsUnsupported, BadPair, StuckHere, Stuck}
 use Rattle.dm_encodation.specs.inner.Reading.{◌>>=◌, prepend, Stepped, Valued, no_pending, value_step, ascii_step, upper_step, at_pair, pair_step, values_step, value_255, step, ended, finish, reading}
@@ -22,7 +21,7 @@ use Rattle.dm_encodation.proofs.ReadsToReading.{chars_step, values_joined}
 use Rattle.dm_encodation.proofs.ReadingToReads.{chosen, values_below}
 use Rattle.dm_encodation.proofs.TakenValues.{chars_from, tail_of}
 use Rattle.dm_encodation.proofs.ReadingToReads.{InMode, advance, state_255-value_255, value_255-below}
-use Rattle.dm_encodation.proofs.ReadsToReading.{bind_is, randomised-append, length-randomised}
+use Rattle.dm_encodation.proofs.ReadsToReading.{randomised-append, length-randomised}
 use Rattle.dm_encodation.proofs.StuckToReading.{fnc1_is, fnc1_from, values_fail, second_tail, second_set, append_below, ok_err, moved, moved_back}
 
 bind_err : {A B E : Type 0} (r : Result A E) (g : A → Result B E) (f : E) → (r >>= g) ≡ Err f →
@@ -116,8 +115,7 @@ by_kind t s p triples next a x k f Missing mid is spelled lt h m tail at =
       spelled = spelled;
       in_pair = lt;
       meaningless = m;
-    }) (λ q. different (fnc1_from t mid _ Missing
-    (second_set mid.upper mid.set (moved mid m.before.tail tail q.1)) q.0 h)))
+    }) (λ q. grind (arith, different, fnc1_from, second_set, moved)))
 
 by_value : (t : Letters) (s : Pending) (p : ℕ) (triples : List Triple) (next : Triple) (a x : ℕ) (given : List ℕ)
     (f : DecodeFault) (e : ValueFault) → AllByRecursion IsTriple triples → IsTriple next
@@ -129,8 +127,7 @@ by_value t s p triples next a x given f e fits is spelled taken r at =
     let m = meaningless_at t s vs (take r.place (triple_values next))
     (get_or (triple_values next) r.place 0) given r.mid e
     (append_below vs (take r.place (triple_values next)) (values_below triples fits)
-    (front_below next r.place k is)) taken r.taken r.fails in
-    by_kind t s p triples next a x r.place f e r.mid.0 is spelled k r.fails m.0 m.1 at
+    (front_below next r.place k is)) taken r.taken r.fails in search (arith, by_kind)
 
 from_at_pair_err : (t : Letters) (p w : ℕ) (r : Valued) (f : DecodeFault) → at_pair t p w r ≡ Err f →
     (e : ValueFault) × (r ≡ Err e) × (at_pair t p w (Err e) ≡ Err f)
@@ -152,9 +149,7 @@ valued t s p triples a x given f lt fits taken low high e =
     let q1 : (v - 1) / 1600 < 40 = omega arith in
     let q2 : (v - 1) / 40 % 40 < 40 = omega arith in
     let q3 : (v - 1) % 40 < 40 = omega arith in
-    let r = from_at_pair_err t p a (values_step t s (triple_values next)) f e in
-    by_value t s p triples next a x given f r.0 fits (q1, q2, q3) spelled taken
-    (first_failure t s (triple_values next) r.0 r.1) r.2
+    let r = from_at_pair_err t p a (values_step t s (triple_values next)) f e in search (arith, by_value, first_failure)
 
 bad_pair_from : (t : Letters) (s : Pending) (p : ℕ) (triples : List Triple) (a x : ℕ) (given : List ℕ)
     (f : DecodeFault) → x < 256 → AllByRecursion IsTriple triples
@@ -163,19 +158,13 @@ bad_pair_from : (t : Letters) (s : Pending) (p : ℕ) (triples : List Triple) (a
 unfolding pair_step
 bad_pair_from t s p triples a x given f lt fits taken e =
     elim (chosen (eqb (256 * a + x) 0) _ _ _ e) [
-      | inl is ↦ subst (λ (f : DecodeFault). BadPair t p triples a x f) (fault_is _ f is.1)
-          (Grammar.BadPair.no_value (inl (eqb-true _ 0 is.0)))
+      | inl is ↦ grind (arith, Grammar.BadPair.no_value)
       | inr is ↦
           elim (chosen (ltb 64000 (256 * a + x)) _ _ _ is.1) [
-            | inl over ↦ subst (λ (f : DecodeFault). BadPair t p triples a x f) (fault_is _ f over.1)
-                (Grammar.BadPair.no_value (inr (ltb-true 64000 _ over.0)))
+            | inl over ↦ grind (arith, Grammar.BadPair.no_value)
             | inr fine ↦
                 let n0 = eqb-false (256 * a + x) 0 is.0 in
-                let low : 1 ≤ 256 * a + x = elim (cases_lt 0 (256 * a + x)) [
-                  | inl pos ↦ pos
-                  | inr le ↦ grind arith
-                ] in
-                valued t s p triples a x given f lt fits taken low (ltb-false 64000 _ fine.0) fine.1
+                let low : 1 ≤ 256 * a + x = grind arith in search (arith, valued, ltb-false)
           ]
     ]
 
@@ -183,32 +172,13 @@ bad_pair_from t s p triples a x given f lt fits taken e =
 
 here_nothing : {p w : ℕ} {r : Stepped} (q : ℕ) (after : List ℕ) (f : DecodeFault) → p ≡ q → AsciiStep p w r →
     r ≡ Err f → StuckHere q (w ∷ after) f
-here_nothing {w = w} q after f at (AsciiStep.nothing u) e = subst (λ (f : DecodeFault). StuckHere q (w ∷ after) f)
-    (ap (λ (p : ℕ). Reserved p w) (sym at) ∙ fault_is _ f e) (Grammar.StuckHere.reserved u)
-here_nothing {w = w} q after f at (AsciiStep.unsupported u) e = subst (λ (f : DecodeFault). StuckHere q (w ∷ after) f)
-    (ap (λ (p : ℕ). Unsupported p w) (sym at) ∙ fault_is _ f e) (Grammar.StuckHere.unsupported u)
-here_nothing q after f at (AsciiStep.character b lt is) e = absurd (ok_err _ _ e)
-here_nothing q after f at (AsciiStep.digits m n lm ln is) e = absurd (ok_err _ _ e)
-here_nothing q after f at (AsciiStep.pad is) e = absurd (ok_err _ _ e)
-here_nothing q after f at (AsciiStep.to_run t is) e = absurd (ok_err _ _ e)
-here_nothing q after f at (AsciiStep.to_bytes is) e = absurd (ok_err _ _ e)
-here_nothing q after f at (AsciiStep.to_upper is) e = absurd (ok_err _ _ e)
+here_nothing {p} {w} {r} q after f at given e =
+    grind (arith, Grammar.StuckHere.reserved, Grammar.StuckHere.unsupported, fault_is, ok_err)
 
 upper_fails : (q w : ℕ) (after : List ℕ) (f : DecodeFault) → upper_step (q + 1) w ≡ Err f →
     StuckHere q (235 ∷ w ∷ after) f
 unfolding upper_step
-upper_fails q w after f e =
-    elim (chosen (eqb w 0) _ _ _ e) [
-      | inl is ↦ subst (λ (f : DecodeFault). StuckHere q (235 ∷ w ∷ after) f) (fault_is _ f is.1)
-          (Grammar.StuckHere.bad_upper (inl (eqb-true w 0 is.0)))
-      | inr is ↦
-          elim (chosen (leb w 128) _ _ _ is.1) [
-            | inl ok ↦ absurd (ok_err _ _ ok.1)
-            | inr big ↦
-                subst (λ (f : DecodeFault). StuckHere q (235 ∷ w ∷ after) f) (fault_is _ f big.1)
-                (Grammar.StuckHere.bad_upper (inr (leb-false w 128 big.0)))
-          ]
-    ]
+upper_fails q w after f e = grind (arith, Grammar.StuckHere.bad_upper)
 
 long_stuck : (q v w : ℕ) (after : List ℕ) (f : DecodeFault) → 250 ≤ v → v < 256 → w < 256 →
     step (LongLength v) (q + 1 + 1) w ≡ Err f → StuckHere q (231 ∷ state_255 (q + 1) v ∷ w ∷ after) f
@@ -216,13 +186,7 @@ unfolding step
 long_stuck q v w after f low high lt e =
     let x = value_255 (q + 1 + 1) w in
     let word = state_255-value_255 (q + 1 + 1) w lt in
-    elim (chosen (ltb x 250) _ _ _ e) [
-      | inl ok ↦ absurd (ok_err _ _ ok.1)
-      | inr big ↦
-          subst (λ (f : DecodeFault). StuckHere q (231 ∷ state_255 (q + 1) v ∷ w ∷ after) f) (fault_is _ f big.1)
-          (subst (λ (w : ℕ). StuckHere q (231 ∷ state_255 (q + 1) v ∷ w ∷ after) (Reserved (q + 1 + 1) w)) word
-          (Grammar.StuckHere.bad_length low high (ltb-false x 250 big.0) (value_255-below (q + 1 + 1) w lt)))
-    ]
+    grind (arith, Grammar.StuckHere.bad_length, chosen, ok_err, fault_is, ltb-false, value_255-below)
 
 length_never : (p w : ℕ) (f : DecodeFault) → step Length p w ≡ Err f → ⊥
 unfolding step
@@ -240,14 +204,11 @@ step_fails {q = q} w after f InMode.upper lt e = upper_fails q w after f e
 step_fails {q = q} w after f (InMode.run {t = t} {s = s} triples fits taken) lt e = grind arith
 step_fails {q = q} w after f (InMode.half {t = t} {s = s} {a = a} {given = given} triples fits taken ne la) lt e =
     let p = q + 1 + length (flat_map pair triples) in
-    let k : q + length (latch t ∷ (flat_map pair triples ++ a ∷ [])) - 1 ≡ p =
-    omega (arith, length-append (flat_map pair triples) (a ∷ [])) in
+    let k : q + length (latch t ∷ (flat_map pair triples ++ a ∷ [])) - 1 ≡ p = grind (arith, length-append) in
     let bad = bad_pair_from t s p triples a w given f lt fits taken
     (subst (λ (j : ℕ). pair_step t s j a w ≡ Err f) k e) in
     let chars = chars_from t (flat_map triple_values triples) given s (values_below triples fits) taken in
-    subst (λ (l : List ℕ). StuckHere q (latch t ∷ l) f)
-    (sym (append_assoc (flat_map pair triples) (a ∷ []) (w ∷ after))) (Grammar.StuckHere.bad_pair triples after fits
-    chars ne bad)
+    search (arith, Grammar.StuckHere.bad_pair, append_assoc)
 step_fails {q = q} w after f InMode.length_due lt e = absurd (length_never (q + 1) w f e)
 step_fails {q = q} w after f (InMode.long_length {v = v} low high) lt e = grind (arith, long_stuck)
 step_fails w after f (InMode.bytes len bs is fits) lt e = absurd (ok_err _ _ e)
@@ -264,31 +225,21 @@ end_fault x y e = cc
 
 single_fails : {j a : ℕ} {r : Stepped} (q : ℕ) (f : DecodeFault) → j ≡ q → AsciiStep j a r →
     (r >>= λ n. prepend n.1 (ended n.0 (j + 1))) ≡ Err f → StuckHere q (a ∷ []) f
-single_fails {j = j} {a = a} q f at (AsciiStep.nothing u) e = subst (λ (f : DecodeFault). StuckHere q (a ∷ []) f)
-    (ap (λ (p : ℕ). Reserved p a) (sym at) ∙ end_fault _ f e) (Grammar.StuckHere.reserved u)
-single_fails {j = j} {a = a} q f at (AsciiStep.unsupported u) e = subst (λ (f : DecodeFault). StuckHere q (a ∷ []) f)
-    (ap (λ (p : ℕ). Unsupported p a) (sym at) ∙ end_fault _ f e) (Grammar.StuckHere.unsupported u)
-single_fails q f at (AsciiStep.character b lt is) e = absurd (ok_err _ _ e)
-single_fails q f at (AsciiStep.digits m n lm ln is) e = absurd (ok_err _ _ e)
-single_fails q f at (AsciiStep.pad is) e = absurd (ok_err _ _ e)
-single_fails q f at (AsciiStep.to_run t is) e = absurd (ok_err _ _ e)
-single_fails {j = j} {a = a} q f at (AsciiStep.to_bytes is) e =
-    let back : q ≡ j + 1 - 1 = omega arith in
-    subst (λ (f : DecodeFault). StuckHere q (a ∷ []) f) (ap (λ (p : ℕ). Cut p) back ∙ end_fault _ f e)
-    (subst (λ (w : ℕ). StuckHere q (w ∷ []) (Cut q)) (sym is) Grammar.StuckHere.no_length)
-single_fails {j = j} {a = a} q f at (AsciiStep.to_upper is) e =
-    let back : q ≡ j + 1 - 1 = omega arith in
-    subst (λ (f : DecodeFault). StuckHere q (a ∷ []) f) (ap (λ (p : ℕ). Cut p) back ∙ end_fault _ f e)
-    (subst (λ (w : ℕ). StuckHere q (w ∷ []) (Cut q)) (sym is) Grammar.StuckHere.cut_upper)
+single_fails {j} {a} {r} q f at given e = grind (
+  arith,
+  Grammar.StuckHere.reserved,
+  Grammar.StuckHere.unsupported,
+  Grammar.StuckHere.no_length,
+  Grammar.StuckHere.cut_upper,
+  end_fault,
+  ok_err,
+)
 
 end_fails : {m : Mode} {q : ℕ} {front given : List ℕ} (f : DecodeFault) → InMode m q front given →
     finish m (q + length front) ≡ Err f → Stuck q front f
 unfolding finish
 end_fails f InMode.ascii e = absurd (ok_err _ _ e)
-end_fails {q = q} f InMode.upper e =
-    let back : q ≡ q + 1 - 1 = omega arith in
-    subst (λ (f : DecodeFault). Stuck q (235 ∷ []) f) (ap (λ (p : ℕ). Cut p) back ∙ end_fault _ f e)
-    (Grammar.Stuck.here Grammar.StuckHere.cut_upper)
+end_fails {q = q} f InMode.upper e = grind (arith, Grammar.Stuck.here, Grammar.StuckHere.cut_upper, end_fault)
 end_fails f (InMode.run triples fits taken) e = absurd (ok_err _ _ e)
 end_fails {q = q} f (InMode.half {t = t} {s = s} {a = a} {given = given} triples fits taken ne la) e =
     let chars = chars_from t (flat_map triple_values triples) given s (values_below triples fits) taken in
@@ -299,20 +250,11 @@ end_fails {q = q} f (InMode.half {t = t} {s = s} {a = a} {given = given} triples
     let e2 = subst (λ (j : ℕ). (ascii_step (p - 1) a >>= λ n. prepend n.1 (ended n.0 j)) ≡ Err f) k2 e in
     Grammar.Stuck.later front (a ∷ []) given (Grammar.Segment.open_run triples fits chars ne)
     (Grammar.Stuck.here (single_fails (q + length front) f k (ascii_view (p - 1) a) e2))
-end_fails {q = q} f InMode.length_due e =
-    let back : q ≡ q + 1 - 1 = omega arith in
-    subst (λ (f : DecodeFault). Stuck q (231 ∷ []) f) (ap (λ (p : ℕ). Cut p) back ∙ end_fault _ f e)
-    (Grammar.Stuck.here Grammar.StuckHere.no_length)
+end_fails {q = q} f InMode.length_due e = grind (arith, Grammar.Stuck.here, Grammar.StuckHere.no_length, end_fault)
 end_fails {q = q} f (InMode.long_length {v = v} low high) e =
-    let back : q ≡ q + 2 - 2 = omega arith in
-    subst (λ (f : DecodeFault). Stuck q (231 ∷ state_255 (q + 1) v ∷ []) f) (ap (λ (p : ℕ). Cut p) back ∙
-    end_fault _ f e) (Grammar.Stuck.here (Grammar.StuckHere.half_length low high))
+    grind (arith, Grammar.Stuck.here, Grammar.StuckHere.half_length, end_fault)
 end_fails {q = q} f (InMode.bytes {n = n} len bs is fits) e =
-    let after = randomised (q + 1 + length len) bs in
-    let short : length after < length bs + suc n = omega (arith, length-randomised (q + 1 + length len) bs) in
-    subst (λ (f : DecodeFault). Stuck q (231 ∷ randomised (q + 1) (len ++ bs)) f) (end_fault _ f e)
-    (subst (λ (l : List ℕ). Stuck q (231 ∷ l) (Cut q)) (sym (randomised-append (q + 1) len bs))
-    (Grammar.Stuck.here (Grammar.StuckHere.too_few len after is short)))
+    grind (arith, Grammar.Stuck.here, Grammar.StuckHere.too_few, length-randomised, end_fault, randomised-append)
 end_fails f (InMode.rest bs fits) e = absurd (ok_err _ _ e)
 end_fails f (InMode.padded any) e = absurd (ok_err _ _ e)
 
@@ -338,8 +280,7 @@ sound_fault (w ∷ words) {m = m} {q = q} {front = front} {given = given} f fits
                 let r : reading Ascii (q + length longer + length {A = ℕ} []) words ≡ Err f = cc in
                 Grammar.Stuck.later longer words (given ++ out.1) (end.1 words)
                 (sound_fault words f fits.1 (InMode.ascii {p = q + length longer}) r)
-          ] in
-          subst (λ (l : List ℕ). Stuck q l f) (append_assoc front (w ∷ []) words) whole
+          ] in grind (arith, append_assoc)
     ]
 
 pub stuck_from : (p : ℕ) (words : List ℕ) (f : DecodeFault) → AllByRecursion (λ w. w < 256) words →

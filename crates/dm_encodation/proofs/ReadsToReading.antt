@@ -1,13 +1,12 @@
 -- What the grammar reads is read word by word.
 use Rattle.std.proofs.lemmas.Grind.{common_steps}
-use Rattle.std.proofs.Common.{◌≡◌, ℕ, zero, suc, ◌+◌, ◌-◌, ◌*◌, ◌/◌, ◌%◌, ◌<◌, inl, inr, Bool, true, false, cond, ◌&&◌, eqb, leb, ltb, List, [], ◌∷◌, ◌++◌, length, Result, Ok, Err, refl, sym, ap, subst, ◌∙◌, append_assoc, arith}
+use Rattle.std.proofs.Common.{◌≡◌, ℕ, zero, suc, ◌+◌, ◌-◌, ◌*◌, ◌/◌, ◌%◌, ◌<◌, Bool, true, false, cond, ◌&&◌, eqb, leb, ltb, List, [], ◌∷◌, ◌++◌, length, Result, Ok, refl, sym, ap, subst, ◌∙◌, append_assoc, arith}
 use Rattle.std.specs.List.{flat_map, AllByRecursion}
-use Rattle.std.proofs.lemmas.Bool.{ne_eqb, le-leb, lt-leb, lt-ltb, le-ltb, cases_lt, agree_below, agree_below_at, and_parts, eqb-true}
+use Rattle.std.proofs.lemmas.Bool.{ne_eqb, lt-ltb, le-ltb, agree_below, agree_below_at, and_parts, eqb-true}
 use Rattle.std.proofs.lemmas.List.{append-nil, length-append}
 use Rattle.dm_encodation.specs.declared.letters.Letters.{Letters}
-use Rattle.dm_encodation.specs.declared.letters.Letters.TheVariants.{Capital, Small}
 use Rattle.dm_encodation.specs.declared.mode.Set.{Set}
-use Rattle.dm_encodation.specs.declared.mode.Set.TheVariants.{Basic, First, Second, Third}
+use Rattle.dm_encodation.specs.declared.mode.Set.TheVariants.{Basic}
 use Rattle.dm_encodation.specs.declared.mode.Pending.{Pending}
 use Rattle.dm_encodation.specs.declared.mode.Mode.{Mode}
 use Rattle.dm_encodation.specs.declared.mode.Mode.TheVariants.{Ascii, Upper, Run, Half, Length, LongLength, Bytes, Rest, Padded}
@@ -126,10 +125,6 @@ bind_ok r f y e = grind arith
 pub ok_is : {A E : Type 0} (x y : A) (r : Result A E) → r ≡ Ok x → r ≡ Ok y → x ≡ y
 ok_is x y r e f = cc
 
-pub bind_is : {A B E : Type 0} (r : Result A E) (x : A) (f : A → Result B E) (y : Result B E) → r ≡ Ok x → f x ≡ y →
-    (r >>= f) ≡ y
-bind_is {A = A} {E = E} r x f y e g = ap (λ (r : Result A E). r >>= f) e ∙ g
-
 pub splits : (t : Letters) (s : Pending) (xs ys : List ℕ) (out : Pending × List ℕ) →
     values_step t s (xs ++ ys) ≡ Ok out → Splits t s xs ys out
 splits t s [] ys out e = record { middle = (s, []); last = out; first_is = refl; second_is = e; out_is = refl }
@@ -141,11 +136,9 @@ splits t s (x ∷ xs) ys out e =
     record {
       middle = (r.middle.0, a.0.1 ++ r.middle.1);
       last = r.last;
-      first_is = bind_is (value_step t s x) a.0 (λ a. values_step t a.0 xs >>= λ b. Ok (b.0, a.1 ++ b.1)) _ a.1
-          (bind_is (values_step t a.0.0 xs) r.middle (λ b. Ok (b.0, a.0.1 ++ b.1)) _ r.first_is refl);
+      first_is = grind arith;
       second_is = r.second_is;
-      out_is = o ∙ ap (λ (b : Pending × List ℕ). (b.0, a.0.1 ++ b.1)) r.out_is ∙
-          ap (λ (l : List ℕ). (r.last.0, l)) (sym (append_assoc a.0.1 r.middle.1 r.last.1));
+      out_is = grind (arith, append_assoc);
     }
 
 pub pair_is : (t : Letters) (s : Pending) (p : ℕ) (tr : Triple) (w x : ℕ) → IsTriple tr → pair tr ≡ w ∷ x ∷ [] →
@@ -163,9 +156,7 @@ values_joined t s (x ∷ xs) ys middle last e f =
     let o : middle ≡ (b.0.0, a.0.1 ++ b.0.1) = ok_is middle _ _ b.2 refl in
     let g : values_step t b.0.0 ys ≡ Ok last = subst (λ (m : Pending × List ℕ). values_step t m.0 ys ≡ Ok last) o f in
     let r = values_joined t a.0.0 xs ys b.0 last b.1 g in
-    let joined : values_step t s (x ∷ (xs ++ ys)) ≡ Ok (last.0, a.0.1 ++ (b.0.1 ++ last.1)) =
-    bind_is (value_step t s x) a.0 (λ a. values_step t a.0 (xs ++ ys) >>= λ b. Ok (b.0, a.1 ++ b.1)) _ a.1
-    (bind_is (values_step t a.0.0 (xs ++ ys)) _ (λ b. Ok (b.0, a.0.1 ++ b.1)) _ r refl) in grind (arith, append_assoc)
+    grind (arith, append_assoc)
 
 pub run_read : (t : Letters) (s : Pending) (q : ℕ) (triples : List Triple) (after : List ℕ) (out : Pending × List ℕ) →
     AllByRecursion IsTriple triples
@@ -180,8 +171,7 @@ run_read t s q (tr ∷ triples) after out fits e =
     let ne : eqb (v / 256) 254 ≡ false = ne_eqb _ _ (λ e. omega (arith, fits.0)) in
     let back : q + 1 - 1 ≡ q = omega arith in
     let one : step (Half t s (v / 256)) (q + 1) (v % 256) ≡ Ok (Run t r.middle.0, r.middle.1) =
-    ap (λ (j : ℕ). pair_step t s j (v / 256) (v % 256)) back ∙ pair_is t s q tr (v / 256) (v % 256) fits.0 refl ∙
-    ap (at_pair t q (v / 256)) r.first_is in
+    grind (arith, pair_is) in
     let k : q + 1 + 1 + length (flat_map pair triples) ≡ q + suc (suc (length (flat_map pair triples))) = omega arith in
     reading_silent (Run t s) q (v / 256) ((v % 256) ∷ (flat_map pair triples ++ after)) (Half t s (v / 256))
     (rw ne refl)

@@ -1,5 +1,5 @@
 -- What is written is read.
-use Rattle.std.proofs.Common.{◌≡◌, ℕ, zero, suc, ◌+◌, ◌-◌, ◌*◌, ◌<◌, ◌≤◌, ◌≢◌, inl, inr, true, ◌&&◌, List, [], ◌∷◌, ◌++◌, length, get_or, drop, Result, Ok, Err, refl, sym, ap, subst, ◌∙◌, append_assoc, arith}
+use Rattle.std.proofs.Common.{◌≡◌, ℕ, zero, suc, ◌+◌, ◌-◌, ◌*◌, ◌<◌, ◌≤◌, inl, inr, true, ◌&&◌, List, [], ◌∷◌, ◌++◌, length, get_or, drop, Result, Ok, Err, refl, sym, ap, subst, append_assoc, arith}
 use Rattle.std.specs.List.{AllByRecursion}
 use Rattle.std.specs.Char.{is_ascii_digit}
 use Rattle.std.proofs.lemmas.Bool.{and_parts, leb-true, lt-ltb, le-ltb, cases_lt, cond_both}
@@ -13,8 +13,7 @@ use Rattle.dm_encodation.specs.inner.Reading.{reading}
 use Rattle.dm_encodation.specs.declared.letters.Letters.{Letters}
 use Rattle.dm_encodation.specs.Characters.{Triple}
 use Rattle.dm_encodation.specs.declared.fault.DecodeFault.{DecodeFault}
-use Rattle.dm_encodation.specs.declared.fault.DecodeFault.TheVariants.{Unsupported, Reserved, Cut, Memory}
-use Rattle.dm_encodation.specs.inner.StepViews.{Fails}
+use Rattle.dm_encodation.specs.declared.fault.DecodeFault.TheVariants.{Memory}
 use Rattle.dm_encodation.proofs.ReadsToReading.{complete, ok_is}
 use Rattle.dm_encodation.proofs.ReadingToReads.{reads_from}
 use Rattle.dm_encodation.proofs.StuckToReading.{complete_stuck}
@@ -69,8 +68,7 @@ pub bytes_from : (n : ℕ) (words : List ℕ) → ((i : ℕ) → get_or words i 
 bytes_from n words fits i = rw get_or-drop (fits (n + i))
 
 pub pads_read : (n q p : ℕ) → Reads p (pads q n) []
-pads_read zero q p = Grammar.Reads.nothing
-pads_read (suc n) q p = Grammar.Reads.padded
+pads_read n q p = grind (arith, Grammar.Reads.nothing, Grammar.Reads.padded)
 
 byte_segment : (p b : ℕ) (after : List ℕ) → b < 256 → Segment p (ascii_byte b) after (b ∷ [])
 byte_segment p b after lt =
@@ -79,10 +77,7 @@ byte_segment p b after lt =
       | inr high ↦
           let word : b - 128 + 1 ≡ b - 127 = omega arith in
           let byte : b - 128 + 128 ≡ b = omega arith in
-          let below : b - 128 < 128 = omega arith in
-          rw (le-ltb b 128 high) (subst (λ (w : ℕ). Segment p (235 ∷ w ∷ []) after (b ∷ [])) word
-          (subst (λ (v : ℕ). Segment p (235 ∷ (b - 128 + 1) ∷ []) after (v ∷ [])) byte
-          (Grammar.Segment.upper below)))
+          let below : b - 128 < 128 = omega arith in grind (arith, Grammar.Segment.upper, le-ltb)
     ]
 
 digit_segment : (p b c : ℕ) (after : List ℕ) → (is_ascii_digit b && is_ascii_digit c) ≡ true →
@@ -96,10 +91,7 @@ digit_segment p b c after e =
     let c_low = leb-true 48 c ones.0 in
     let c_high = leb-true c 57 ones.1 in
     let first : 48 + (b - 48) ≡ b = omega arith in
-    let second : 48 + (c - 48) ≡ c = omega arith in
-    subst (λ (v : ℕ). Segment p ((130 + (10 * (b - 48) + (c - 48))) ∷ []) after (v ∷ c ∷ [])) first
-    (subst (λ (v : ℕ). Segment p ((130 + (10 * (b - 48) + (c - 48))) ∷ []) after ((48 + (b - 48)) ∷ v ∷ [])) second
-    (Grammar.Segment.digits (omega arith) (omega arith)))
+    let second : 48 + (c - 48) ≡ c = omega arith in grind (arith, Grammar.Segment.digits)
 
 pub ascii_read : (bytes rest : List ℕ) → AllByRecursion (λ b. b < 256) bytes → ((q : ℕ) → Reads q rest []) → (p : ℕ) →
     Reads p (ascii bytes ++ rest) bytes

@@ -1,10 +1,9 @@
 -- The end of the loop over a run's bytes.
-use Rattle.std.proofs.Common.{arith, ◌≡◌, ℕ, ◌≤◌, List, [], ◌++◌, length, take, refl, sym, ap, ◌∙◌}
+use Rattle.std.proofs.Common.{arith, ◌≡◌, ℕ, ◌≤◌, List, [], ◌++◌, length, take}
 use Rattle.std.specs.List.{flat_map}
 use Rattle.std.proofs.lemmas.List.{append-nil, take_all}
 use Rattle.dm_encodation.specs.declared.letters.Letters.{Letters}
 use Rattle.dm_encodation.specs.declared.run.Held.{Held}
-use Rattle.dm_encodation.specs.declared.run.Held.TheVariants.{Nothing, One, Two}
 use Rattle.dm_encodation.specs.Characters.{values_of}
 use Rattle.dm_encodation.specs.Written.{pairs}
 use Rattle.dm_encodation.specs.inner.Runs.{held_values}

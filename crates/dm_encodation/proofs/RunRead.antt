@@ -1,11 +1,10 @@
 -- What is written in C40 and Text is read.
 use Rattle.std.proofs.lemmas.Grind.{common_steps}
-use Rattle.std.proofs.Common.{◌≡◌, ℕ, zero, suc, ◌+◌, ◌-◌, ◌*◌, ◌/◌, ◌%◌, ◌<◌, ◌≤◌, true, false, ◌&&◌, eqb, leb, ltb, List, [], ◌∷◌, ◌++◌, length, take, drop, refl, sym, ap, subst, ◌∙◌, append_assoc, arith}
+use Rattle.std.proofs.Common.{◌≡◌, ℕ, zero, suc, ◌+◌, ◌-◌, ◌*◌, ◌/◌, ◌%◌, ◌<◌, ◌≤◌, true, ◌&&◌, eqb, leb, ltb, List, [], ◌∷◌, ◌++◌, length, take, drop, refl, sym, ap, subst, append_assoc, arith}
 use Rattle.std.specs.List.{flat_map, AllByRecursion, list_all}
 use Rattle.std.proofs.lemmas.Bool.{ltb-true, cond_both, lt-ltb, eq-eqb, ne_eqb, leb-false, agree_below, agree_below_at, and_parts}
 use Rattle.std.proofs.lemmas.List.{append-nil, length-drop, take_all, take-append-drop}
 use Rattle.dm_encodation.specs.declared.letters.Letters.{Letters}
-use Rattle.dm_encodation.specs.declared.letters.Letters.TheVariants.{Capital, Small}
 use Rattle.dm_encodation.specs.Characters
 use Rattle.dm_encodation.specs.Characters.{Triple, IsTriple, triple_values, pair, Chars, values_below_128, values_of}
 use Rattle.dm_encodation.specs.Words.{pads}
@@ -54,12 +53,7 @@ threes (a ∷ b ∷ c ∷ vs) n e fits =
 
 whole_chars : (t : Letters) (bytes : List ℕ) → AllByRecursion (λ b. b < 256) bytes →
     Chars t (flat_map (values_of t) bytes) bytes
-whole_chars t bytes fits = record {
-  tail = [];
-  unfinished = Characters.Unfinished.nothing;
-  spelled = sym (append-nil (flat_map (values_of t) bytes));
-  fits = fits;
-}
+whole_chars t bytes fits = grind (arith, Characters.Unfinished.nothing, append-nil)
 
 -- a run that 254 ends, and then anything that is read
 pub closed_run_read : (t : Letters) (p : ℕ) (bytes more after : List ℕ) → AllByRecursion (λ b. b < 256) bytes →
@@ -69,11 +63,9 @@ pub closed_run_read : (t : Letters) (p : ℕ) (bytes more after : List ℕ) → 
 closed_run_read t p bytes more after fits threes_of reads =
     let vs = flat_map (values_of t) bytes in
     let r = threes vs (length vs / 3) (omega arith) (values_fit t bytes fits) in
-    let chars : Chars t (flat_map triple_values r.triples) bytes = subst (λ (l : List ℕ). Chars t l bytes)
-    (sym r.values) (whole_chars t bytes fits) in
+    let chars : Chars t (flat_map triple_values r.triples) bytes = grind (arith, whole_chars) in
     let words = latch t ∷ (flat_map pair r.triples ++ 254 ∷ []) in
-    let read : Reads p (words ++ after) (bytes ++ more) = Grammar.Reads.joined words after bytes more
-    (Grammar.Segment.run r.triples r.fit chars) (reads (p + length words)) in
+    let read : Reads p (words ++ after) (bytes ++ more) = search (arith, Grammar.Reads.joined, Grammar.Segment.run) in
     grind (arith, append_assoc (flat_map pair r.triples) (254 ∷ []) after)
 
 -- a run with at most one word after it, a pad
@@ -86,8 +78,7 @@ pub open_run_read : (t : Letters) (p q n : ℕ) (bytes : List ℕ) → AllByRecu
 open_run_read t p q n bytes fits threes_of lt =
     let vs = flat_map (values_of t) bytes in
     let r = threes vs (length vs / 3) (omega arith) (values_fit t bytes fits) in
-    let chars : Chars t (flat_map triple_values r.triples) bytes = subst (λ (l : List ℕ). Chars t l bytes)
-    (sym r.values) (whole_chars t bytes fits) in
+    let chars : Chars t (flat_map triple_values r.triples) bytes = grind (arith, whole_chars) in
     let words = latch t ∷ flat_map pair r.triples in
     let read : Reads p (words ++ pads q n) (bytes ++ []) = Grammar.Reads.joined words (pads q n) bytes []
     (Grammar.Segment.open_run r.triples r.fit chars (ends_open q n lt)) (pads_read n q (p + length words)) in
@@ -124,16 +115,20 @@ rest_read t k bytes p q n [] e fits within passes =
     words_after_text true q n ≡ pairs (flat_map (values_of t) bytes) ++ words_after_text true q n =
     ap (λ (l : List ℕ). l ++ words_after_text true q n) (append-nil (pairs (flat_map (values_of t) bytes))) in
     rw (t0, e, all) (subst (λ (l : List ℕ). Reads p (latch t ∷ l) bytes) (sym nothing) either)
-rest_read t k bytes p q n (b ∷ bs) e fits within passes =
-    let f0 : eqb k (length bytes) ≡ false =
-    ne_eqb k (length bytes) (λ same. omega (arith, length-drop k bytes, ap length e)) in
-    let fits_rest : AllByRecursion (λ b. b < 256) (b ∷ bs) = subst (AllByRecursion (λ b. b < 256)) e
-    (fits_drop k bytes fits) in
-    let read = closed_run_read t p (take k bytes) (b ∷ bs) (ascii (b ∷ bs) ++ pads q n) (fits_take k bytes fits) passes
-    (ascii_read (b ∷ bs) (pads q n) fits_rest (pads_read n q)) in
-    let joined : take k bytes ++ b ∷ bs ≡ bytes = ap (λ (l : List ℕ). take k bytes ++ l) (sym e) ∙
-    take-append-drop k bytes in
-    let vs = flat_map (values_of t) (take k bytes) in grind (arith, append_assoc)
+rest_read t k bytes p q n (b ∷ bs) e fits within passes = grind (
+  arith,
+  ne_eqb k (length bytes) (λ same. omega (
+    arith,
+    length-drop k bytes,
+    ap length e,
+  )),
+  length-drop k bytes,
+  closed_run_read t p (take k bytes) (b ∷ bs) (ascii (b ∷ bs)
+      ++ pads q n) (fits_take k bytes fits) passes (ascii_read (b ∷ bs) (pads q n) (subst (AllByRecursion (λ b. b < 256))
+      e (fits_drop k bytes fits)) (pads_read n q)),
+  take-append-drop k bytes,
+  append_assoc,
+)
 
 -- A text in C40 or Text, and the words that fill the room after it.
 run_text_read : (t : Letters) (k : ℕ) (bytes : List ℕ) (p q n : ℕ) → AllByRecursion (λ b. b < 256) bytes →
@@ -141,12 +136,8 @@ run_text_read : (t : Letters) (k : ℕ) (bytes : List ℕ) (p q n : ℕ) → All
     → Reads p (run_and_rest t k bytes ++ words_after_text (ltb 0 k && eqb k (length bytes)) q n) bytes
 unfolding run_and_rest
 run_text_read t zero bytes p q n fits within passes = ascii_read bytes (pads q n) fits (pads_read n q) p
-run_text_read t (suc k) bytes p q n fits within passes = grind (
-  arith,
-  lt-ltb 0 (suc k) (omega arith),
-  rest_read t (suc
-      k) bytes p q n (drop (suc k) bytes) refl fits within (passes (omega arith)),
-)
+run_text_read t (suc k) bytes p q n fits within passes =
+    grind (arith, rest_read t (suc k) bytes p q n (drop (suc k) bytes) refl fits within (passes (omega arith)))
 
 pub run_read_back : (t : Letters) (bytes : List ℕ) (p q n : ℕ) → AllByRecursion (λ b. b < 256) bytes
     → Reads p (run_and_rest t (run_length t bytes) bytes ++ words_after_text (is_whole_run t bytes) q n) bytes

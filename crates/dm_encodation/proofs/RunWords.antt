@@ -1,6 +1,6 @@
 -- The run of a text in C40 or Text: how far it goes, byte by byte, and how many words it takes.
 use Rattle.std.proofs.lemmas.Grind.{common_steps}
-use Rattle.std.proofs.Common.{◌≡◌, ◌≢◌, ℕ, zero, suc, ◌+◌, ◌-◌, ◌*◌, ◌/◌, ◌%◌, ◌<◌, ◌≤◌, Bool, true, false, cond, eqb, ltb, List, [], ◌∷◌, ◌++◌, length, get_or, take, drop, refl, sym, ap, subst, ◌∙◌, append_assoc, arith}
+use Rattle.std.proofs.Common.{◌≡◌, ◌≢◌, ℕ, zero, suc, ◌+◌, ◌*◌, ◌/◌, ◌%◌, ◌<◌, ◌≤◌, Bool, true, false, cond, eqb, List, [], ◌∷◌, ◌++◌, length, get_or, take, drop, refl, append_assoc, arith}
 use Rattle.std.specs.List.{flat_map}
 use Rattle.std.proofs.lemmas.Bool.{eqb-true, eq-eqb, ne_eqb, cond_both}
 use Rattle.std.proofs.lemmas.List.{append-nil, length-append, length_push, length-take-le, length-drop, take_more, take_all, drop_all, take-append-le, drop-append-le}
@@ -9,7 +9,6 @@ use Rattle.dm_encodation.specs.Characters.{values_below_128, values_of}
 use Rattle.dm_encodation.specs.inner.Counting.{CountsAscii, CountsRun, run_need}
 use Rattle.dm_encodation.specs.declared.counter.RunCounter.{RunCounter}
 use Rattle.dm_encodation.specs.declared.letters.Letters.{Letters}
-use Rattle.dm_encodation.specs.declared.letters.Letters.TheVariants.{Capital, Small}
 use Rattle.dm_encodation.specs.Grammar.{latch}
 use Rattle.dm_encodation.specs.Written.{ascii, greatest, run_length, pairs, words_after_run, run_and_rest}
 use Rattle.dm_encodation.proofs.AsciiWords.{some_ascii, length-ascii}
@@ -166,21 +165,12 @@ over_more t bytes i over v lt v-is over-is = grind (arith, common_steps, values_
 
 pub whole_more : (t : Letters) (bytes : List ℕ) (i n : ℕ) → i < length bytes →
     n ≡ length (flat_map (values_of t) (take (i + 1) bytes)) % 3 → n ≡ 0 → i + 1 ≡ run_length t (take (i + 1) bytes)
-whole_more t bytes i n lt n-is whole = grind (
-  arith,
-  take_more bytes i 0 lt,
-  length-take-le (i + 1) bytes (omega arith),
-  take_more,
-  length-take-le,
-  run_length-whole,
-)
+whole_more t bytes i n lt n-is whole = grind (arith, take_more bytes i 0 lt, length-take-le, run_length-whole)
 
 pub whole_same : (t : Letters) (bytes : List ℕ) (i n : ℕ) → i < length bytes →
     n ≡ length (flat_map (values_of t) (take (i + 1) bytes)) % 3 → n ≢ 0 →
     run_length t (take i bytes) ≡ run_length t (take (i + 1) bytes)
-whole_same t bytes i n lt n-is open_triple =
-    let b = get_or bytes i 0 in
-    let more = take_more bytes i 0 lt in grind (arith, run_length-open)
+whole_same t bytes i n lt n-is open_triple = let more = take_more bytes i 0 lt in grind (arith, run_length-open)
 
 -- ---- the words, one part after another
 

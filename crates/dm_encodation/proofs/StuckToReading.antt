@@ -1,15 +1,14 @@
 -- Where the words are stuck, reading word by word fails so, and the other way round.
 use Rattle.std.proofs.lemmas.Grind.{common_steps}
-use Rattle.std.proofs.Common.{◌≡◌, ℕ, zero, suc, ◌+◌, ◌-◌, ◌*◌, ◌<◌, ◌≤◌, ◌≢◌, ◌⊎◌, inl, inr, Bool, true, false, not, ◌&&◌, eqb, leb, ltb, List, [], ◌∷◌, ◌++◌, length, get_or, take, Option, Some, None, Ok, Err, refl, sym, ap, subst, ◌∙◌, append_assoc, arith}
+use Rattle.std.proofs.Common.{◌≡◌, ℕ, zero, suc, ◌+◌, ◌-◌, ◌<◌, ◌≤◌, ◌≢◌, ◌⊎◌, inl, inr, Bool, true, false, eqb, List, [], ◌∷◌, ◌++◌, length, get_or, take, Ok, Err, refl, sym, ap, subst, ◌∙◌, append_assoc, arith}
 use Rattle.std.specs.List.{flat_map, AllByRecursion}
-use Rattle.std.proofs.lemmas.Bool.{eqb-true, ne_eqb, eq-eqb, lt-leb, lt-ltb, le-ltb}
+use Rattle.std.proofs.lemmas.Bool.{ne_eqb, le-ltb}
 use Rattle.dm_encodation.specs.declared.letters.Letters.{Letters}
-use Rattle.dm_encodation.specs.declared.letters.Letters.TheVariants.{Capital, Small}
 use Rattle.dm_encodation.specs.declared.mode.Set.{Set}
 use Rattle.dm_encodation.specs.declared.mode.Set.TheVariants.{Basic, First, Second, Third}
 use Rattle.dm_encodation.specs.declared.mode.Pending.{Pending}
 use Rattle.dm_encodation.specs.declared.mode.Mode.{Mode}
-use Rattle.dm_encodation.specs.declared.mode.Mode.TheVariants.{Ascii, Upper, Run, Half, Length, LongLength}
+use Rattle.dm_encodation.specs.declared.mode.Mode.TheVariants.{Ascii, Run, Half, Length, LongLength}
 use Rattle.dm_encodation.specs.declared.mode.ValueFault.{ValueFault}
 use Rattle.dm_encodation.specs.declared.mode.ValueFault.TheVariants.{Fnc1, Missing}
 use Rattle.dm_encodation.specs.declared.fault.DecodeFault.{DecodeFault}
@@ -19,10 +18,10 @@ use Rattle.dm_encodation.specs.Characters.{Unfinished, Triple, IsTriple, triple_
 use Rattle.dm_encodation.specs.Words.{state_255, randomised}
 use Rattle.dm_encodation.specs.Grammar
 use Rattle.dm_encodation.specs.Grammar.{latch, IsLength, EndsOpen, Segment, Reads, IsUnsupported, BadPair, StuckHere, Stuck}
-use Rattle.dm_encodation.specs.inner.Reading.{◌>>=◌, prepend, Stepped, Valued, no_pending, character_ended, value_step, ascii_step, upper_step, at_pair, pair_step, values_step, value_255, bytes_left, step, finish, reading}
+use Rattle.dm_encodation.specs.inner.Reading.{◌>>=◌, prepend, Stepped, Valued, no_pending, value_step, ascii_step, upper_step, at_pair, pair_step, values_step, bytes_left, step, finish, reading}
 use Rattle.dm_encodation.proofs.AsciiStepCases.{AsciiStep, ascii_view}
 use Rattle.dm_encodation.proofs.ReadsToReading.{bind_ok, ok_is, reading_silent, complete_segment, length_read, run_read, chars_step, characters_read, pair_is, step_latch, value_255-state_255, values_joined, splits}
-use Rattle.dm_encodation.proofs.ReadingToReads.{chosen, values_below}
+use Rattle.dm_encodation.proofs.ReadingToReads.{values_below}
 use Rattle.dm_encodation.proofs.TakenValues.{chars_from, tail_of, tail_at}
 
 reading_fault : (m : Mode) (p w : ℕ) (ws : List ℕ) (f : DecodeFault) → step m p w ≡ Err f → reading m p (w ∷ ws) ≡ Err f
@@ -112,13 +111,10 @@ refuses : (t : Letters) (s : Pending) (vs front : List ℕ) (v : ℕ) (bytes : L
     → (m : IsMeaningless t (vs ++ front) v) → Refused t s front v m.before.tail
 refuses t s vs front v bytes fits taken m =
     let end = tail_state t m.before.tail m.before.unfinished in
-    let all : values_step t no_pending (vs ++ front) ≡ Ok (end.0, m.bytes) =
-    ap (values_step t no_pending) m.before.spelled ∙
-    characters_read t m.bytes m.before.tail end.0 m.before.fits end.1 in
+    let all : values_step t no_pending (vs ++ front) ≡ Ok (end.0, m.bytes) = grind (arith, characters_read) in
     let parts = splits t no_pending vs front (end.0, m.bytes) all in
     let middle : parts.middle ≡ (s, bytes) = ok_is parts.middle (s, bytes) _ parts.first_is taken in
-    let second : values_step t s front ≡ Ok parts.last =
-    subst (λ (x : Pending × List ℕ). values_step t x.0 front ≡ Ok parts.last) middle parts.second_is in
+    let second : values_step t s front ≡ Ok parts.last = cc in
     let state : end.0 ≡ parts.last.0 = ap (λ (x : Pending × List ℕ). x.0) parts.out_is in
     let tail_is : tail_of parts.last.0 ≡ m.before.tail = sym (ap tail_of state) ∙ end.2 in
     go (value_step t parts.last.0 v) parts.last refl second tail_is (end.0, all, state)
@@ -188,9 +184,7 @@ fails_by t s p triples w x bytes fits taken next k is spelled lt m fault known =
     let front = take k (triple_values next) in
     let v = get_or (triple_values next) k 0 in
     let below : AllByRecursion (λ v. v < 40) ((vs ++ front) ++ v ∷ []) =
-    subst (λ (l : List ℕ). AllByRecursion (λ v. v < 40) l)
-    (sym (append_assoc vs front (v ∷ []))) (append_below vs (front ++ v ∷ []) (values_below triples fits)
-    (cut_below next k lt is)) in
+    grind (arith, append_assoc, append_below, values_below, cut_below) in
     let r = refuses t s vs front v bytes below taken m in
     let cut = triple_cut next k lt in
     let e : values_step t s (triple_values next) ≡ Err r.fault = ap (values_step t s) cut.1 ∙
@@ -207,14 +201,11 @@ bad_pair_fails t s p triples w x f bytes fits taken (Grammar.BadPair.no_value (i
 bad_pair_fails t s p triples w x f bytes fits taken (Grammar.BadPair.fnc1 n is_fnc1) =
     let m = n.meaningless in
     fails_by t s p triples w x bytes fits taken n.next n.place n.is_triple n.spelled n.in_pair m Fnc1
-    (λ r. fnc1_from t r.mid.0 _ r.fault
-    (second_set r.mid.0.upper r.mid.0.set (moved r.mid.0 m.before.tail r.pending is_fnc1.1)) is_fnc1.0 r.refused)
+    (λ r. grind (arith, fnc1_from, second_set, moved))
 bad_pair_fails t s p triples w x f bytes fits taken (Grammar.BadPair.meaningless n isnt) =
     let m = n.meaningless in
     fails_by t s p triples w x bytes fits taken n.next n.place n.is_triple n.spelled n.in_pair m Missing
-    (λ r. missing_from t r.mid.0 _ r.fault
-    (λ q. isnt (q.1, moved_back r.mid.0 m.before.tail r.pending (second_tail r.mid.0.upper r.mid.0.set q.0)))
-    r.refused)
+    (λ r. grind (arith, missing_from, moved_back, second_tail))
 
 to_long : (p v : ℕ) → 250 ≤ v → v < 256 → step Length p (state_255 p v) ≡ Ok (LongLength v, [])
 unfolding step

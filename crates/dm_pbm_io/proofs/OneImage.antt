@@ -85,9 +85,6 @@ one_packed a b x y w h p q r s e =
           r.raster_is ∙ (same_fronts a b x y (length-packed a w h p r ∙ sym (length-packed b w h q s)) e).0 ∙ s.raster_is),
     )
 
-same_digit : (p q : Bool) → digit_of p ≡ digit_of q → p ≡ q
-same_digit p q e = grind arith
-
 same_digits : (p q : List Bool) → map digit_of p ≡ map digit_of q → p ≡ q
 same_digits [] [] e = refl
 same_digits [] (v ∷ q) e = cc

@@ -63,11 +63,6 @@ pub within : (g : Square) (r c : ℕ) → r < g.side → c < g.side →
     pixel_with_quiet_zone g (r + 1) (c + 1) ≡ module_at g r c
 within g r c h k = grind arith
 
--- nothing is drawn yet
-pub nothing_drawn : (g : Square) (w : ℕ) → IsDrawnTo g w 0 (replicate (w * w) false)
-nothing_drawn g w =
-    grind (arith, length-replicate, get_or-replicate, mul-add-lt, ⊎_elim, reached, top, not_reached, cases_lt)
-
 -- the modules of a row, of which the grid has them all
 row_size : (g : Square) (row : ℕ) → IsWhole g → row < g.side →
     length (between (row * g.side) ((row + 1) * g.side) g.modules) ≡ g.side

@@ -11,17 +11,6 @@ use Rattle.std.proofs.lemmas.Bool.Decides.{nat_tests}
 use Rattle.dm_pbm_io.specs.Comments.{is_white}
 use Rattle.dm_pbm_io.specs.Raster.{bits, stride, row_of, IsPackedRaster, digit_of, is_pixel_digit, is_plain_sign, ShowsPixels}
 
-pub bits_more : (b k : ℕ) → k < 8 → take (k + 1) (bits b) ≡ take k (bits b) ++ ((b / 2 ^ (7 - k)) % 2 == 1) ∷ []
-bits_more b zero h = refl
-bits_more b (suc zero) h = refl
-bits_more b (suc (suc zero)) h = refl
-bits_more b (suc (suc (suc zero))) h = refl
-bits_more b (suc (suc (suc (suc zero)))) h = refl
-bits_more b (suc (suc (suc (suc (suc zero))))) h = refl
-bits_more b (suc (suc (suc (suc (suc (suc zero)))))) h = refl
-bits_more b (suc (suc (suc (suc (suc (suc (suc zero))))))) h = refl
-bits_more b (suc (suc (suc (suc (suc (suc (suc (suc k)))))))) h = absurd (omega arith)
-
 length-bits : (row : List ℕ) → length (flat_map bits row) ≡ 8 * length row
 length-bits [] = refl
 length-bits (b ∷ row) = let e = length-bits row in simp length-append (omega arith)

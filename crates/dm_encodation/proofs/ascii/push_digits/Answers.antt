@@ -1,7 +1,5 @@
-use Rattle.std.proofs.Common.{arith, ◌++◌, ◌*◌, drop, ap, ◌∙◌, append_assoc}
+use Rattle.std.proofs.Common.{arith, append_assoc}
 use Rattle.std.proofs.lemmas.List.{take_rest}
-use Rattle.dm_encodation.specs.inner.Pairs.{words_of_pairs}
-use Rattle.dm_encodation.specs.Written.{ascii}
 use Rattle.dm_encodation.proofs.AsciiWords.{pairs_first}
 use Rattle.dm_encodation.proofs.ascii.push_digits.Goals as goal
 

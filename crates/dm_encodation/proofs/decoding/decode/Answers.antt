@@ -1,8 +1,8 @@
 use Rattle.std.proofs.Common.{◌+◌, ◌<◌, ℕ, get_or, drop, arith}
 use Rattle.std.proofs.lemmas.List.{length-drop}
 use Rattle.dm_encodation.proofs.Lengths.{reads_short}
-use Rattle.std.proofs.lemmas.Result.{err_from_is_err_and, IfOk-weaker, IfErr-weaker}
-use Rattle.dm_encodation.proofs.Reread.{decided, decided_fault, collected_fault, bytes_from, never_memory}
+use Rattle.std.proofs.lemmas.Result.{err_from_is_err_and, IfOk-weaker}
+use Rattle.dm_encodation.proofs.Reread.{decided, decided_fault, bytes_from, never_memory}
 use Rattle.dm_encodation.proofs.decoding.decode.Goals as goal
 
 pub returns-in_err-count-clause-stuck : goal.returns-in_err-count-clause-stuck

@@ -1,4 +1,4 @@
-use Rattle.std.proofs.Common.{arith, refl}
+use Rattle.std.proofs.Common.{arith}
 use Rattle.dm_encodation.specs.Written.{text}
 use Rattle.dm_encodation.proofs.Counters.{short_base_256}
 use Rattle.dm_encodation.proofs.encoding.push_text.Goals as goal

@@ -1,4 +1,4 @@
-use Rattle.std.proofs.Common.{ℕ, [], ◌∷◌, ◌++◌, ◌+◌, arith, ap, ◌∙◌, vec_len}
+use Rattle.std.proofs.Common.{arith, vec_len}
 use Rattle.dm_encodation.proofs.Reread.{pads_more, pads_done}
 use Rattle.dm_encodation.proofs.pads.push_pads.Goals as goal
 

@@ -1,8 +1,5 @@
-use Rattle.std.proofs.Common.{refl, sym, ap, arith, eq-eqb, eqb, false, length, lt-ltb, ltb, true, Bool, ◌&&◌, ◌<◌, ◌≡◌, ◌≢◌, ◌≤◌, ◌∙◌, ℕ, [], ◌∷◌, ◌++◌}
-use Rattle.std.proofs.lemmas.Bool.{ne_eqb}
+use Rattle.std.proofs.Common.{refl, arith, eqb, false, ltb, true, ◌&&◌, ◌<◌, ◌≡◌, ◌≢◌, ℕ}
 use Rattle.std.proofs.lemmas.List.{take_rest}
-use Rattle.dm_encodation.specs.Grammar.{latch}
-use Rattle.dm_encodation.specs.Written.{run_length, run_and_rest}
 use Rattle.dm_encodation.proofs.RunWords.{run_none, run_parts, run_alone}
 use Rattle.dm_encodation.proofs.run.push_run.Goals as goal
 

@@ -1,3 +1,4 @@
+use Rattle.std.proofs.lemmas.Grind.{common_steps}
 use Rattle.std.proofs.Common.{◌≡◌, ◌<◌, ℕ, ◌+◌, ◌-◌, ◌*◌, ◌/◌, ◌%◌, ◌++◌, ◌∷◌, [], List, Bool, min, length, take, drop, get_or, flat_map, ap, sym, ◌∙◌, append-nil, rules, arith, take_all, length-drop, drop_of_length-le}
 use Rattle.std.proofs.lemmas.List.{take_more, length-take-le}
 use borrow.Rule.Slice.PartMut.{put_mid, post_of}
@@ -20,18 +21,8 @@ last_drawn whole rest width row pixels last wide parts some few rows done is =
     let front : row_of width left ≡ first = ap (take width) (sym done) ∙ take_all width first (omega arith) in
     let size : length left ≡ whole = length-take-le whole row (omega arith) in
     let room : min (width - 8 * whole) 8 ≡ rest = omega arith in
-    let all : left ++ b ∷ [] ≡ row =
-    sym (take_more row whole 0 (omega arith)) ∙ take_all (whole + 1) row (omega arith) in
-    ap (λ t. first ++ (last ++ t)) none ∙ ap (λ t. first ++ t) (append-nil last ∙ is)
-    ∙ ap (λ t. t ++ take rest (bits b)) (sym front) ∙ ap (λ m. row_of width left ++ take m (bits b)) (sym room)
-    ∙ sym (row_more width whole b left size (omega arith)) ∙ ap (row_of width) all
+    let all : left ++ b ∷ [] ≡ row = cc (take_more row whole 0 (omega arith), take_all (whole + 1) row (omega arith)) in
+        search (arith, append-nil, row_more)
 
 pub returns-then-rest-ne0 : goal.returns-then-rest-ne0
-returns-then-rest-ne0 c =
-    let width = length c.args.pixels.now in
-    let at : c.loop-at.at ≡ width / 8 = omega arith in
-    let same : length c.loop-at.pixels ≡ width = search rules in
-    last_drawn (width / 8) (width % 8) width c.args.row.now c.loop-at.pixels _ same (omega arith)
-    (omega arith) (omega arith) (omega arith) (rw at at c.loop-at.invariant)
-    (c.copy_from_slice-then-rest-ne0.ensures.after ∙ ap (λ n. take (n % 8) c.bits_of-bits.result) same
-    ∙ ap (take (width % 8)) c.bits_of-bits.ensures)
+returns-then-rest-ne0 c = grind (arith, common_steps, last_drawn)

@@ -1,4 +1,4 @@
-use Rattle.std.proofs.Common.{ap, ◌∙◌, length}
+use Rattle.std.proofs.Common.{arith, ap, ◌∙◌, length}
 use Rattle.dm_pbm_io.specs.Shown.{picture}
 use Rattle.dm_pbm_io.proofs.Insides.{length-inside}
 use Rattle.dm_pbm_io.proofs.Shapes.{wide_enough, as_many}
@@ -8,6 +8,5 @@ pub modules_moved-requires-clause-zone : goal.modules_moved-requires-clause-zone
 modules_moved-requires-clause-zone g c = wide_enough (picture c.args.image) c.in_ok-size.ensures.0
 
 pub from_modules-requires : goal.from_modules-requires
-from_modules-requires g c =
-    let p = picture c.args.image in
-    ap length c.modules_moved.ensures ∙ length-inside p ∙ as_many p c.in_ok-size.size c.in_ok-size.ensures.1
+from_modules-requires g c = grind (arith, length-inside (picture c.args.image), as_many (picture c.args.image)
+    c.in_ok-size.size c.in_ok-size.ensures.1, length-inside, as_many)

@@ -1,4 +1,4 @@
-use Rattle.std.proofs.Common.{◌≡◌, ℕ, List, [], ◌∷◌, ◌++◌, ap, sym, ◌∙◌, subst, append_assoc}
+use Rattle.std.proofs.Common.{arith, ◌≡◌, ℕ, List, [], ◌∷◌, ◌++◌, ap, sym, ◌∙◌, subst, append_assoc}
 use Rattle.std.specs.Fmt.{decimal}
 use Rattle.dm_pbm_io.specs.Header.{magic}
 use Rattle.dm_pbm_io.specs.Image.{Picture}
@@ -18,9 +18,7 @@ after_header first width height rows = simp append_assoc
 whole : (image : Picture) (header : List ℕ)
     → header ≡ magic image.plain ++ (10 ∷ (decimal image.width ++ (32 ∷ (decimal image.height ++ 10 ∷ []))))
     → written image ≡ header ++ rows_text image.plain image.width image.height image.pixels
-whole image header is =
-    let rows = rows_text image.plain image.width image.height image.pixels in
-    after_header (magic image.plain) (decimal image.width) (decimal image.height) rows ∙ ap (λ t. t ++ rows) (sym is)
+whole image header is = grind (arith, after_header)
 
 pub returns-in_err-put_text-clause-part : goal.returns-in_err-put_text-clause-part
 returns-in_err-put_text-clause-part g c =
@@ -30,8 +28,7 @@ returns-in_err-put_text-clause-part g c =
 pub returns-clause-written : goal.returns-clause-written
 returns-clause-written g c =
     let all = whole (picture c.args.image.now) c.as_bytes.result.now (cc) in
-    adds_rest _ _ _ _ _ _ _ all c.in_ok-put_text.ensures.written
-    (rw (c.from-width.ensures, c.from-height.ensures, c.as_slice.ensures.value) at c.write_rows.ensures.written)
+    grind (arith, adds_rest)
 
 pub returns-clause-part : goal.returns-clause-part
 returns-clause-part g c =
