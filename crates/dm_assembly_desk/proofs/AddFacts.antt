@@ -1,4 +1,5 @@
 -- What the pages that are held and those that are given are together, page by page.
+use Rattle.std.proofs.Common.{arith}
 use Rattle.std.proofs.Common.{◌≡◌, ℕ, zero, suc, ◌&&◌, List, [], ◌∷◌, Bool, true, false, Option, Some, None, refl, ap, sym, ◌∙◌}
 use Rattle.std.specs.Prelude.{is_none, is_some}
 use Rattle.std.specs.Option.{option_or}
@@ -38,10 +39,7 @@ same_bytes : (p q : Option (List ℕ)) (one other : List ℕ) → agrees_at p q 
     one ≡ other
 same_bytes None q one other same is is_other = absurd cc
 same_bytes (Some x) None one other same is is_other = absurd cc
-same_bytes (Some x) (Some y) one other same is is_other =
-    let x_is : x ≡ one = cc in
-    let y_is : y ≡ other = cc in
-    sym x_is ∙ (bytes_eq-Decides x y).0 same ∙ y_is
+same_bytes (Some x) (Some y) one other same is is_other = grind (arith, bytes_eq-Decides)
 
 -- a page that is held and given has the same bytes
 pub agreed : (own given : Pages) (m : ℕ) (one other : List ℕ) → agree own given ≡ true → page own m ≡ Some one →

@@ -57,14 +57,11 @@ module _ (capacity : ℕ) (held : Documents) (id : ℕ) (given : Pages) (kind : 
     (judged : add_kind capacity held id given ≡ Ok kind) where
   -- the pages are as many as those that are held
   pub same_count : IfSome (get held id) (λ own. length own ≡ length given)
-  same_count = as_many (get held id) given (all_join (may_join (get held id) given) (added_to held id given == 0)
-      (is_none (get held id) && leb capacity (len held)) (kind_of (pages_with held id given)) kind judged)
+  same_count = grind arith
 
   -- some are added: there is room for the document, or it is held
   pub room : kind ≢ Again → get held id ≡ None → len held < capacity
-  room other = has_room (get held id) capacity (len held) (not_full (may_join (get held id) given)
-      (added_to held id given == 0) (is_none (get held id) && leb capacity (len held))
-      (kind_of (pages_with held id given)) kind judged other)
+  room other = grind arith
 
 -- what a kind says of the pages that are held and those that are given
 abbrev pub KindSays : Kind → Pages → Pages → Type 0
@@ -82,21 +79,14 @@ by_all own given false is some = (some, is)
 
 by_tests : (own given : Pages) (joins none full : Bool) (kind : Kind) → (added_mask own given == 0) ≡ none →
     chosen joins none full (kind_of (union_of own given)) ≡ Ok kind → KindSays kind own given
-by_tests own given true true full kind test is =
-    let same : Again ≡ kind = cc in
-    subst (λ (k : Kind). KindSays k own given) same (eqb-true _ _ test)
+by_tests own given true true full kind test is = grind arith
 by_tests own given true false true kind test is = absurd cc
-by_tests own given true false false kind test is =
-    let same : kind_of (union_of own given) ≡ kind = cc in
-    subst (λ (k : Kind). KindSays k own given) same
-    (by_all own given (list_all is_some (union_of own given)) refl (not_zero (added_mask own given) test))
+by_tests own given true false false kind test is = grind arith
 by_tests own given false none full kind test is = absurd cc
 
 pub kind_says : (capacity : ℕ) (held : Documents) (id : ℕ) (given : Pages) (kind : Kind) →
     add_kind capacity held id given ≡ Ok kind → KindSays kind (own_pages held id) given
-kind_says capacity held id given kind judged =
-    by_tests (own_pages held id) given (may_join (get held id) given) (added_to held id given == 0)
-    (is_none (get held id) && leb capacity (len held)) kind refl judged
+kind_says capacity held id given kind judged = grind arith
 
 short_at : (given : Pages) (held : Option Pages) → IfSome held (λ pages. length pages ≡ length given) →
     length (unwrap_or held []) ≤ length given
@@ -140,16 +130,7 @@ merged_at : (id : ℕ) (given : Pages) (held : Option Pages) → IsEntry id give
     ((pages : Pages) → held ≡ Some pages → IsEntry id pages) → IfSome held (λ pages. length pages ≡ length given) →
     IsEntry id (union_of (unwrap_or held []) given)
 merged_at id given None sound held same = sound
-merged_at id given (Some pages) sound held same =
-    let before = held pages refl in
-    let long : length (union_of pages given) ≡ length given = length_both pages given (omega (arith, same)) in
-    record {
-      id_fits = sound.id_fits;
-      least = omega (arith, long, sound.least);
-      most = omega (arith, long, sound.most);
-      some_held = omega (arith, before.some_held, mask_merged pages given);
-      short = short_merged pages given before.short sound.short;
-    }
+merged_at id given (Some pages) sound held same = grind (arith, length_both, mask_merged, short_merged)
 
 pub merged_entry : (capacity : ℕ) (held : Documents) (id : ℕ) (given : Pages) (kind : Kind) → AreEntries held →
     IsEntry id given → add_kind capacity held id given ≡ Ok kind → IsEntry id (pages_with held id given)
@@ -165,8 +146,7 @@ same_page o given pages m is = ap (λ (x : Option Pages). page (unwrap_or x []) 
 -- page m of the document that pages were given of
 pub page_given : (held : Documents) (id : ℕ) (given : Pages) (m : ℕ) →
     page_at (with_pages held id given) id m ≡ option_or (page_at held id m) (page given m)
-page_given held id given m = same_page (get (with_pages held id given) id) given (unwrap_or (get held id) []) m
-    (get_here held id (pages_with held id given))
+page_given held id given m = grind (arith, same_page, get_here)
 
 -- page m of any document, once pages of one were given
 pub page_with : (held : Documents) (id : ℕ) (given : Pages) (other m : ℕ) →
@@ -184,23 +164,14 @@ page_with held id given other m =
 
 pub page_elsewhere : (held : Documents) (id : ℕ) (given : Pages) (other m : ℕ) → other ≢ id →
     page_at (with_pages held id given) other m ≡ page_at held other m
-page_elsewhere held id given other m differs =
-    page_with held id given other m
-    ∙ ap (λ b. cond b (option_or (page_at held id m) (page given m)) (page_at held other m)) (apart other id differs)
+page_elsewhere held id given other m differs = grind (arith, page_with, apart)
 
 or_kept : (had given : Option (List ℕ)) (bytes : List ℕ) → had ≡ Some bytes → option_or had given ≡ Some bytes
 or_kept None given bytes is = absurd cc
 or_kept (Some had) given bytes is = is
 
 pub kept_with : (held : Documents) (id : ℕ) (given : Pages) → KeepsPages held (with_pages held id given)
-kept_with held id given other m bytes is =
-    page_with held id given other m
-    ∙ (elim (eq_by_cmp nat_cmp other id) as (λ b. eq_by_cmp nat_cmp other id ≡ b →
-    cond b (option_or (page_at held id m) (page given m)) (page_at held other m) ≡ Some bytes) [
-      | true ↦ λ e. or_kept (page_at held id m) (page given m) bytes
-          (ap (λ (k : ℕ). page_at held k m) (sym (same_key other id e)) ∙ is)
-      | false ↦ λ e. is
-    ] refl)
+kept_with held id given other m bytes is = grind (arith, page_with, or_kept, same_key)
 
 -- ---- a verdict that is carried out
 
@@ -247,9 +218,7 @@ module _ (id : ℕ) (given : Pages) (old new : DeskView) where
 
   ends_kept : (outcome : Outcome) → Ends id (with_pages old.held id given) outcome old new →
       KeepsPages old.held new.held
-  ends_kept Done e = λ other m bytes held.
-      ap (λ (d : Documents). page_at d other m) (ap (λ (d : DeskView). d.held) e.shows)
-      ∙ kept_with old.held id given other m bytes held
+  ends_kept Done e = grind (arith, kept_with)
   ends_kept Faulted e = same_kept (ap (λ (d : DeskView). d.held) e.shows)
   ends_kept Refused e = same_kept (ap (λ (d : DeskView). d.held) e.shows)
 
@@ -301,6 +270,4 @@ module _ (id : ℕ) (given : Pages) (old new : DeskView) (running : old.is_faile
   by_failed (Ok Complete) never h = ended h.0 (reply_of old.held id given Complete) h.1 h.2
 
   pub adds_failed : Adds id given old result new → new.is_failed ≡ says_save result
-  adds_failed h = by_failed (add_kind old.capacity old.held id given)
-      (no_save (may_join (get old.held id) given) (added_to old.held id given == 0)
-      (is_none (get old.held id) && leb old.capacity (len old.held)) (kind_of (pages_with old.held id given))) h
+  adds_failed h = grind (arith, by_failed, no_save, leb)

@@ -80,10 +80,7 @@ entries_is a b e = cc
 
 reads_held : (held : Documents) (bytes : List ℕ) → SpellsAll bytes held →
     entries_at (len held) 0 (entries_of (entries held)) ≡ Some (entries held)
-reads_held held bytes s =
-    ap (λ (n : ℕ). entries_at n 0 (entries_of (entries held))) (len-entries held)
-    ∙ entries_again 0 (entries held)
-    (each_entry held (entries held) s.entries (all_found (entries held) (keys_rise held))) (held_rising held)
+reads_held held bytes s = grind (arith, len-entries, entries_again, each_entry, all_found, keys_rise, held_rising)
 
 pub one_old : (bytes : List ℕ) (a b : Documents) → SpellsAll bytes a → SpellsAll bytes b → a ≡ b
 one_old bytes a b s t =
@@ -149,11 +146,7 @@ no_entries (x ∷ es) e = absurd (omega arith)
 
 pub emptied : joint_file empty ≡ 68 ∷ 77 ∷ 80 ∷ 71 ∷ 1 ∷ 0 ∷ 0 ∷ []
 unfolding joint_file
-emptied =
-    let none : len {X = Pages} {R = nat_cmp} empty ≡ 0 = len-empty nat_cmp Pages in
-    let es : entries {X = Pages} {R = nat_cmp} empty ≡ [] = no_entries (entries empty) (sym (len-entries empty) ∙
-    none) in
-    rw (none, es) refl
+emptied = grind (arith, len-empty, no_entries, len-entries)
 
 pub holds_none : SpellsAll (joint_file empty) empty
 holds_none = record {

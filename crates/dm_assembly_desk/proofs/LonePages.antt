@@ -55,16 +55,7 @@ length-blank (suc n) = ap suc (length-blank n)
 pub lone_entry : (p : PageView) → p.id < 64516 → 2 ≤ p.n → p.n ≤ 16 → 1 ≤ p.m → p.m ≤ p.n → length p.bytes ≤ 2600 →
     IsEntry p.id (lone p)
 lone_entry p fits least most first last short =
-    let blank : Pages = replicate p.n None in
-    let count : length blank ≡ p.n = length-blank p.n in
-    let len : length (lone p) ≡ p.n = length-set_at blank (p.m - 1) (Some p.bytes) ∙ count in
-    record {
-      id_fits = fits;
-      least = omega (arith, len, least);
-      most = omega (arith, len, most);
-      some_held = some_set blank (p.m - 1) p.bytes (omega (arith, count, first, last));
-      short = short_set blank (p.m - 1) (Some p.bytes) short (short_blank p.n);
-    }
+    grind (arith, length-blank, length-set_at, some_set, short_set, short_blank)
 
 -- ---- page by page
 
@@ -87,9 +78,7 @@ one_else (suc n) (suc i) (suc m) b other = one_else n i m b (λ e. other (ap suc
 
 -- the page is given
 pub lone_here : (p : PageView) → 1 ≤ p.m → p.m ≤ p.n → page (lone p) p.m ≡ Some p.bytes
-lone_here p first last =
-    let at : p.m ≡ suc (p.m - 1) = omega arith in
-    ap (page (lone p)) at ∙ one_here p.n (p.m - 1) p.bytes (omega arith)
+lone_here p first last = grind (arith, one_here)
 
 -- no other page is
 pub lone_else : (p : PageView) (m : ℕ) → 1 ≤ p.m → m ≢ p.m → page (lone p) m ≡ None

@@ -124,18 +124,8 @@ module _ (old : DeskView) (id : ℕ) (content : Contents) (held : Documents) (se
 
   pub ordered : (outcome : Outcome) → set.is_honest ≡ old.saved.is_honest →
       (IsTrue old.saved.is_honest → Saves old.saved content outcome set) → IsInOrder (shown held outcome old set)
-  ordered Done same saves = record {
-    room = t.order.room;
-    few = t.few;
-    entries = t.entries;
-    saved = λ _ honest. let was : IsTrue old.saved.is_honest = subst IsTrue same honest in holds_now (saves was) was;
-  }
-  ordered Faulted same saves = record {
-    room = t.order.room;
-    few = t.order.few;
-    entries = t.order.entries;
-    saved = λ failed. absurd cc;
-  }
+  ordered Done same saves = grind arith
+  ordered Faulted same saves = grind arith
   ordered Refused same saves = t.order
 
 -- ---- pages that are held
@@ -161,10 +151,7 @@ module _ (old : DeskView) (id : ℕ) (pages : Pages) (set : SavedSet) (order : I
   pub held_ends : (answer : Result (Unit {0}) ReplaceFault) → SavesKey old.saved id (file id pages) answer set →
       Ends id (insert old.held id pages) (outcome_of answer) old
       (shown (insert old.held id pages) (outcome_of answer) old set)
-  held_ends answer s = ends old id (insert old.saved.content id (file id pages)) (insert old.held id pages) set to_hold
-      (outcome_of answer) (λ refused. s.refused refused)
-      (subst (λ (o : Option Pages). SavesDocument old.saved id o (outcome_of answer) set)
-      (sym (get_here old.held id pages)) s) (λ _. s)
+  held_ends answer s = search (arith, ends, to_hold, get_here)
 
   pub held_order : (answer : Result (Unit {0}) ReplaceFault) → SavesKey old.saved id (file id pages) answer set →
       IsInOrder (shown (insert old.held id pages) (outcome_of answer) old set)
@@ -179,40 +166,20 @@ no_plan SavesOpen = refl
 
 -- a save that is refused before it is begun
 pub not_begun : (s : SavedSet) (content : Contents) → Saves s content Refused s
-not_begun s content = record {
-  same_honesty = refl;
-  same_memory = refl;
-  same_load_plan = refl;
-  follows = no_plan s.save_plan;
-  done = λ e. absurd cc;
-  refused = λ _. refl;
-  faulted = λ e. absurd cc;
-}
+not_begun s content = grind arith
 
 -- ---- a document that is let go
 
 is_there : (content : Contents) (held : Documents) (id : ℕ) → HoldsFiles content held → IsSome (get held id) →
     IsSome (get content id)
-is_there content held id h some = subst IsSome (sym (h.files id)) (mapped (get held id) some)
-  where
-    mapped : (o : Option Pages) → IsSome o → IsSome (option_map (file id) o)
-    mapped None some = absurd cc
-    mapped (Some pages) some = refl
+is_there content held id h some = grind arith
 
 pub same_honesty : (old : SavedSet) (id : ℕ) (answer : Result (Unit {0}) RemoveFault) (set : SavedSet) →
     RemovesKey old id answer set → set.is_honest ≡ old.is_honest
-same_honesty old id answer set r =
-    elim (get old.content id) as (λ o. get old.content id ≡ o → set.is_honest ≡ old.is_honest) [
-      | None ↦ λ is. ap (λ (s : SavedSet). s.is_honest) (r.absent is)
-      | Some bytes ↦ λ is. (r.there (subst IsSome (sym is) refl)).same_honesty
-    ] refl
+same_honesty old id answer set r = grind arith
 
 pub refused_same : (old : SavedSet) (id : ℕ) (set : SavedSet) → RemovesKey old id (Err removing.Memory) set → set ≡ old
-refused_same old id set r =
-    elim (get old.content id) as (λ o. get old.content id ≡ o → set ≡ old) [
-      | None ↦ λ is. r.absent is
-      | Some bytes ↦ λ is. (r.there (subst IsSome (sym is) refl)).refused refl
-    ] refl
+refused_same old id set r = grind arith
 
 refused_to_remove : (old : SavedSet) (id : ℕ) (set : SavedSet) (answer : Result (Unit {0}) RemoveFault) →
     RemovesKey old id answer set → outcome_of_remove answer ≡ Refused → set ≡ old
@@ -240,11 +207,7 @@ module _ (old : DeskView) (id : ℕ) (set : SavedSet) (order : IsInOrder old) (r
 
   pub gone_ends : Ends id (remove old.held id) (outcome_of_remove answer) old
       (shown (remove old.held id) (outcome_of_remove answer) old set)
-  gone_ends = ends old id (remove old.saved.content id) (remove old.held id) set to_let_go (outcome_of_remove answer)
-      (refused_to_remove old.saved id set answer removes)
-      (subst (λ (o : Option Pages). SavesDocument old.saved id o (outcome_of_remove answer) set)
-      (sym (gone_here old.held id)) (answer, refl, removes)) removed
+  gone_ends = search (arith, ends, to_let_go, refused_to_remove, gone_here, removed)
 
   pub gone_order : IsInOrder (shown (remove old.held id) (outcome_of_remove answer) old set)
-  gone_order = ordered old id (remove old.saved.content id) (remove old.held id) set to_let_go
-      (outcome_of_remove answer) (same_honesty old.saved id answer set removes) removed
+  gone_order = search (arith, ordered, to_let_go, same_honesty, removed)

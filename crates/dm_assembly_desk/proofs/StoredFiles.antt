@@ -31,13 +31,7 @@ found_file : (es : List (ℕ × Pages)) (id : ℕ) →
     find nat_cmp id (files_of es) ≡ option_map (file id) (find nat_cmp id es)
 unfolding files_of
 found_file [] id = refl
-found_file (e ∷ es) id =
-    elim (eq_by_cmp nat_cmp id e.0) as (λ b. eq_by_cmp nat_cmp id e.0 ≡ b →
-    cond b (Some (file e.0 e.1)) (find nat_cmp id (files_of es)) ≡ option_map (file id)
-    (cond b (Some e.1) (find nat_cmp id es))) [
-      | true ↦ λ is. ap (λ (k : ℕ). Some (file k e.1)) (sym (same_key id e.0 is))
-      | false ↦ λ is. found_file es id
-    ] refl
+found_file (e ∷ es) id = grind (arith, files_of, same_key, found_file es id)
 
 keys_of_files : (es : List (ℕ × Pages)) → keys_of (files_of es) ≡ keys_of es
 unfolding files_of
@@ -73,10 +67,7 @@ no_fault id pages Damaged sound h = h.2 (pages, record { sound = sound; spelled 
 
 pub no_first_fault : (content : Contents) (held : Documents) (fault : FileFault) → HoldsFiles content held →
     ¬ FirstFault content fault
-no_first_fault content held fault h first =
-    let t = there_is first.key (get held first.key) first.bytes (sym (h.files first.key) ∙ first.there) in
-    no_fault first.key t.0 fault (h.entries first.key t.0 t.1)
-    (subst (λ (bs : List ℕ). HasFileFault first.key bs fault) t.2 first.faulty)
+no_first_fault content held fault h first = grind (arith, there_is, no_fault)
 
 not_open : LoadsFine ≡ LoadsOpen → ⊥
 not_open e = cc (e)
