@@ -1,21 +1,19 @@
 -- What the verdict on pages says, and what is held where they are added.
-use Rattle.std.proofs.Common.{◌≡◌, ℕ, ◌+◌, ◌*◌, ◌<◌, ◌≤◌, Bool, true, false, cond, leb, eq-eqb, List, [], ◌∷◌, length, Option, Some, None, Result, Ok, Err, refl, sym, ap, subst, ◌∙◌, arith, ◌&&◌}
-use Rattle.std.specs.Prelude.{◌≢◌, not, is_some, is_none, IfSome, unwrap_or, ◌==◌}
+use Rattle.std.proofs.Common.{◌≡◌, ℕ, ◌+◌, ◌*◌, ◌<◌, ◌≤◌, Bool, true, false, cond, leb, List, [], ◌∷◌, length, Option, Some, None, Result, Ok, Err, refl, sym, ap, subst, ◌∙◌, arith}
+use Rattle.std.specs.Prelude.{◌≢◌, not, is_some, IfSome, unwrap_or}
 use Rattle.std.specs.List.{AllByRecursion, list_all}
 use Rattle.std.specs.Cmp.{nat_cmp_total}
 use Rattle.std.specs.Option.{option_or}
 use Rattle.std.specs.Ordering.{nat_cmp, eq_by_cmp}
 use Rattle.std.specs.FinMap.{get, len, get-insert}
-use Rattle.std.proofs.lemmas.Bool.{eqb-true, and_parts}
-use Rattle.std.proofs.lemmas.Bool.Decides.{nat_tests}
 use Rattle.dm_store.specs.Saved.{Outcome, Done, Faulted, Refused}
 use Rattle.dm_assembly_desk.specs.Pages.{Pages, page, mask}
 use Rattle.dm_assembly_desk.specs.Files.{IsEntry, IsShort}
 use Rattle.dm_assembly_desk.specs.Documents.{Documents, AreEntries, own_pages, page_at, KeepsPages}
 use Rattle.dm_assembly_desk.specs.Views.{DeskView}
-use Rattle.dm_assembly_desk.specs.Merging.{union_of, added_mask, agree, may_join}
+use Rattle.dm_assembly_desk.specs.Merging.{union_of, added_mask}
 use Rattle.dm_assembly_desk.specs.Holding.{Carries, Ends, answer_by}
-use Rattle.dm_assembly_desk.specs.Adding.{kind_of, add_kind, added_to, pages_with, with_pages, reply_of, verdict_by, Adds}
+use Rattle.dm_assembly_desk.specs.Adding.{add_kind, pages_with, with_pages, reply_of, verdict_by, Adds}
 use Rattle.dm_assembly_desk.specs.declared.reply.Kind.{Kind}
 use Rattle.dm_assembly_desk.specs.declared.reply.Kind.TheVariants.{New, Again, Complete}
 use Rattle.dm_assembly_desk.specs.declared.reply.Imported.{Imported}
@@ -33,26 +31,6 @@ abbrev chosen : Bool → Bool → Bool → Kind → Result Kind AddFault
 chosen joins none full kind =
     cond (not joins) (Err adds.Conflict) (cond none (Ok Again) (cond full (Err adds.Full) (Ok kind)))
 
-all_join : (joins none full : Bool) (kind given : Kind) → chosen joins none full kind ≡ Ok given → joins ≡ true
-all_join true none full kind given is = refl
-all_join false none full kind given is = absurd cc
-
-not_full : (joins none full : Bool) (kind given : Kind) → chosen joins none full kind ≡ Ok given → given ≢ Again →
-    full ≡ false
-not_full true true full kind given is other = absurd (other (let same : Again ≡ given = cc in sym same))
-not_full true false true kind given is other = absurd cc
-not_full true false false kind given is other = refl
-not_full false none full kind given is other = absurd cc
-
-as_many : (o : Option Pages) (given : Pages) → may_join o given ≡ true → IfSome o (λ own. length own ≡ length given)
-as_many None given is = tt
-as_many (Some own) given is = eqb-true _ _ (and_parts (length own == length given) (agree own given) is).0
-
-has_room : (o : Option Pages) (capacity count : ℕ) → (is_none o && leb capacity count) ≡ false → o ≡ None →
-    count < capacity
-has_room None capacity count is none = grind (arith, nat_tests, is)
-has_room (Some own) capacity count is none = absurd cc
-
 module _ (capacity : ℕ) (held : Documents) (id : ℕ) (given : Pages) (kind : Kind)
     (judged : add_kind capacity held id given ≡ Ok kind) where
   -- the pages are as many as those that are held
@@ -69,21 +47,6 @@ KindSays Again own given = added_mask own given ≡ 0
 KindSays New own given = (added_mask own given ≢ 0) × (list_all is_some (union_of own given) ≡ false)
 KindSays Complete own given = (added_mask own given ≢ 0) × (list_all is_some (union_of own given) ≡ true)
 
-not_zero : (n : ℕ) → (n == 0) ≡ false → n ≢ 0
-not_zero n e same = let t : (n == 0) ≡ true = eq-eqb n 0 same in cc
-
-by_all : (own given : Pages) (all : Bool) → list_all is_some (union_of own given) ≡ all → added_mask own given ≢ 0 →
-    KindSays (cond all Complete New) own given
-by_all own given true is some = (some, is)
-by_all own given false is some = (some, is)
-
-by_tests : (own given : Pages) (joins none full : Bool) (kind : Kind) → (added_mask own given == 0) ≡ none →
-    chosen joins none full (kind_of (union_of own given)) ≡ Ok kind → KindSays kind own given
-by_tests own given true true full kind test is = grind arith
-by_tests own given true false true kind test is = absurd cc
-by_tests own given true false false kind test is = grind arith
-by_tests own given false none full kind test is = absurd cc
-
 pub kind_says : (capacity : ℕ) (held : Documents) (id : ℕ) (given : Pages) (kind : Kind) →
     add_kind capacity held id given ≡ Ok kind → KindSays kind (own_pages held id) given
 kind_says capacity held id given kind judged = grind arith
@@ -98,10 +61,6 @@ pub no_longer : (capacity : ℕ) (held : Documents) (id : ℕ) (given : Pages) (
     add_kind capacity held id given ≡ Ok kind → length (unwrap_or (get held id) []) ≤ length given
 no_longer capacity held id given kind judged =
     short_at given (get held id) (same_count capacity held id given kind judged)
-
--- pages that may be added to those that are held are as many
-pub joined_short : (o : Option Pages) (given : Pages) → true ≡ may_join o given → length (unwrap_or o []) ≤ length given
-joined_short o given is = short_at given o (as_many o given (sym is))
 
 -- ---- the pages then have an entry
 
@@ -155,12 +114,7 @@ pub page_with : (held : Documents) (id : ℕ) (given : Pages) (other m : ℕ) �
 page_with held id given other m =
     ap (λ (o : Option Pages). page (unwrap_or o []) m)
     (get-insert nat_cmp_total held id (pages_with held id given) other)
-    ∙ (elim (eq_by_cmp nat_cmp other id) as
-    (λ b. page (unwrap_or (cond b (Some (pages_with held id given)) (get held other)) []) m ≡ cond b
-    (option_or (page_at held id m) (page given m)) (page_at held other m)) [
-      | true ↦ page_merged (unwrap_or (get held id) []) given m
-      | false ↦ refl
-    ])
+    ∙ (grind (arith, page_merged))
 
 pub page_elsewhere : (held : Documents) (id : ℕ) (given : Pages) (other m : ℕ) → other ≢ id →
     page_at (with_pages held id given) other m ≡ page_at held other m
@@ -179,10 +133,6 @@ module _ (old : DeskView) (id : ℕ) (given : Pages) where
   abbrev Carried : Result Kind AddFault → Result Imported AddFault → DeskView → Type 0
   Carried judged result new =
       Carries (Err adds.Memory) (Err adds.Save) id (verdict_by old.held id given judged) old result new
-
-  pub adds_none : (fault : AddFault) → add_kind old.capacity old.held id given ≡ Err fault →
-      Adds id given old (Err fault) old
-  adds_none fault judged = subst (λ (a : Result Kind AddFault). Carried a (Err fault) old) (sym judged) (refl, refl)
 
   again : (kind : Kind) (reply : Imported) → kind ≡ Again → reply ≡ reply_of old.held id given kind →
       Carried (Ok kind) (Ok reply) old

@@ -27,8 +27,7 @@ module _ (bytes loaded : List ℕ) (is : loaded ≡ take (42636295 + 1) bytes) w
   whole_old held s =
       let short : length (take (suc 42636295) bytes) ≤ 42636295 =
       omega (arith, ap (λ (bs : List ℕ). length bs) is, s.short) in
-      let all : bytes ≡ loaded = sym (all_taken 42636295 bytes short) ∙ sym is in
-      subst (λ (bs : List ℕ). SpellsAll bs held) (sym all) s
+      let all : bytes ≡ loaded = sym (all_taken 42636295 bytes short) ∙ sym is in grind arith
 
   loaded_old : (held : Documents) → SpellsAll bytes held → SpellsAll loaded held
   loaded_old held s = subst (λ (bs : List ℕ). SpellsAll bs held)

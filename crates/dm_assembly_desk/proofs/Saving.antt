@@ -4,7 +4,7 @@ use Rattle.std.specs.Prelude.{option_map, IsTrue, IsSome, is_some}
 use Rattle.std.specs.Ordering.{nat_cmp, eq_by_cmp}
 use Rattle.std.specs.Cmp.{nat_cmp_total}
 use Rattle.std.specs.FinMap.{get, insert, remove, len, get-insert, get-remove, len-insert, len-remove}
-use Rattle.dm_store.specs.Saved.{SavePlan, SavesFine, FaultOld, FaultNew, SavesOpen, Outcome, Done, Faulted, Refused, HeldAfterFault, Follows, outcome_of}
+use Rattle.dm_store.specs.Saved.{SavePlan, SavesFine, FaultOld, FaultNew, SavesOpen, Outcome, Done, Faulted, Refused, HeldAfterFault, outcome_of}
 use Rattle.dm_store.specs.Sets.{SavedSet, Contents, Saves, SavesKey, RemovesKey, outcome_of_remove}
 use Rattle.dm_store.specs.declared.set.RemoveFault.{RemoveFault}
 use Rattle.dm_store.specs.declared.set.RemoveFault.TheVariants as removing
@@ -157,12 +157,6 @@ module _ (old : DeskView) (id : ℕ) (pages : Pages) (set : SavedSet) (order : I
       IsInOrder (shown (insert old.held id pages) (outcome_of answer) old set)
   held_order answer s = ordered old id (insert old.saved.content id (file id pages)) (insert old.held id pages) set
       to_hold (outcome_of answer) s.same_honesty (λ _. s)
-
-no_plan : (plan : SavePlan) → Follows plan Refused plan
-no_plan SavesFine = refl
-no_plan FaultOld = refl
-no_plan FaultNew = refl
-no_plan SavesOpen = refl
 
 -- a save that is refused before it is begun
 pub not_begun : (s : SavedSet) (content : Contents) → Saves s content Refused s

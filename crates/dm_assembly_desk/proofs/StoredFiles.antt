@@ -1,11 +1,11 @@
 -- A set that holds the files of documents, for which there is room, gives no desk only for lack of memory.
-use Rattle.std.proofs.Common.{◌≡◌, ℕ, suc, ◌≤◌, true, false, cond, List, [], ◌∷◌, length, Option, Some, None, refl, sym, ap, subst, ◌∙◌, arith}
+use Rattle.std.proofs.Common.{◌≡◌, ℕ, suc, ◌≤◌, List, [], ◌∷◌, length, Option, Some, None, refl, sym, ap, subst, ◌∙◌, arith}
 use Rattle.std.specs.Prelude.{IsTrue, option_map}
-use Rattle.std.specs.Ordering.{nat_cmp, eq_by_cmp}
+use Rattle.std.specs.Ordering.{nat_cmp}
 use Rattle.std.specs.Cmp.{nat_cmp_total}
 use Rattle.std.specs.List.Sorted.{IsStrictlySortedBy}
 use Rattle.std.specs.Map.{keys_of}
-use Rattle.std.specs.FinMap.{entries, get, len, find, get-entries, get-from_entries, len-entries, same_map, nat_cmp-IsAntisymmetric}
+use Rattle.std.specs.FinMap.{entries, len, find, get-entries, get-from_entries, len-entries, same_map, nat_cmp-IsAntisymmetric}
 use Rattle.dm_store.specs.Saved.{LoadsFine, LoadsOpen}
 use Rattle.dm_store.specs.Sets.{SavedSet, Contents}
 use Rattle.dm_store.proofs.SortedMaps.{as_map, len_is}

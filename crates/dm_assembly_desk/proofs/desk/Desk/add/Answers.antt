@@ -1,8 +1,8 @@
 use Rattle.std.proofs.Common.{arith}
-use Rattle.std.proofs.Common.{◌≡◌, ◌≢◌, ◌∙◌, ◌<◌, ℕ, false, length, map, None, Result, Ok, Err, refl, ap, sym, subst, rules}
-use Rattle.std.specs.FinMap.{get, insert, len}
+use Rattle.std.proofs.Common.{◌≡◌, ◌≢◌, ◌∙◌, ℕ, false, length, map, Result, Ok, Err, refl, ap, sym, subst, rules}
+use Rattle.std.specs.FinMap.{insert}
 use Rattle.std.proofs.lemmas.List.{length-map}
-use Rattle.dm_store.specs.Saved.{Outcome, Done, Refused, outcome_of}
+use Rattle.dm_store.specs.Saved.{Refused, outcome_of}
 use Rattle.dm_store.specs.declared.store.ReplaceFault.{ReplaceFault}
 use Rattle.dm_store.specs.declared.store.ReplaceFault.TheVariants as replacing
 use Rattle.dm_assembly_desk.specs.Pages.{Pages, lent_bytes}
@@ -10,8 +10,8 @@ use Rattle.dm_assembly_desk.specs.Files.{IsEntry, file}
 use Rattle.dm_assembly_desk.specs.Documents.{Documents}
 use Rattle.dm_assembly_desk.specs.Views.{DeskView}
 use Rattle.dm_assembly_desk.specs.FaultOrigin.{keep_fault}
-use Rattle.dm_assembly_desk.specs.Holding.{answer_by, Ends}
-use Rattle.dm_assembly_desk.specs.Adding.{add_kind, added_to, pages_with, with_pages, reply_of, Adds}
+use Rattle.dm_assembly_desk.specs.Holding.{answer_by}
+use Rattle.dm_assembly_desk.specs.Adding.{add_kind, added_to, pages_with, reply_of, Adds}
 use Rattle.dm_assembly_desk.specs.declared.reply.Kind.{Kind}
 use Rattle.dm_assembly_desk.specs.declared.reply.Kind.TheVariants.{Again}
 use Rattle.dm_assembly_desk.specs.declared.reply.Imported.{Imported}
