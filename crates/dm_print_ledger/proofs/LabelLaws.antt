@@ -1,5 +1,5 @@
 -- The labels of a document's parts make a job.
-use Rattle.std.proofs.Common.{◌≡◌, ◌≤◌, arith, [], ◌∷◌, ℕ, List, length, subst, sym, refl}
+use Rattle.std.proofs.Common.{◌≡◌, ◌≤◌, arith, [], ◌∷◌, ℕ, List, length, refl}
 use Rattle.dm_check_blocks.specs.declared.size.Size.{Size}
 use Rattle.dm_encodation.specs.declared.scheme.Scheme.{Scheme}
 use Rattle.dm_finder_frame.specs.Grids.{GridView}
@@ -17,12 +17,4 @@ pub makes_job : (size : Size) (scheme : Scheme) (id : ℕ) (document ends : List
     2 ≤ length ends → length ends ≤ 16 →
     AreLabels size scheme id (length ends) 1 (parts_from document 0 ends) labels →
     IsJobOf size scheme id (parts_from document 0 ends) (record { id = id; count = length ends; labels = labels })
-makes_job size scheme id document ends labels least most made =
-    let parts : length (parts_from document 0 ends) ≡ length ends = length-parts_from document 0 ends in
-    record {
-      id_is = refl;
-      count_is = sym parts;
-      least = omega arith;
-      most = omega arith;
-      labels = subst (λ (n : ℕ). AreLabels size scheme id n 1 (parts_from document 0 ends) labels) (sym parts) made;
-    }
+makes_job size scheme id document ends labels least most made = grind (arith, length-parts_from)
