@@ -1,12 +1,12 @@
 -- What the verdict on pages says, and what is held where they are added.
-use Rattle.std.proofs.Common.{◌≡◌, ℕ, ◌+◌, ◌*◌, ◌<◌, ◌≤◌, Bool, true, false, cond, leb, List, [], ◌∷◌, length, Option, Some, None, Result, Ok, Err, refl, sym, ap, subst, ◌∙◌, arith}
+use Rattle.std.proofs.Common.{◌≡◌, ℕ, ◌+◌, ◌*◌, ◌<◌, ◌≤◌, Bool, true, false, cond, leb, List, [], ◌∷◌, length, Option, Some, None, Result, Ok, Err, sym, ap, subst, ◌∙◌, arith}
 use Rattle.std.specs.Prelude.{◌≢◌, not, is_some, IfSome, unwrap_or}
 use Rattle.std.specs.List.{AllByRecursion, list_all}
 use Rattle.std.specs.Cmp.{nat_cmp_total}
 use Rattle.std.specs.Option.{option_or}
 use Rattle.std.specs.Ordering.{nat_cmp, eq_by_cmp}
 use Rattle.std.specs.FinMap.{get, len, get-insert}
-use Rattle.dm_store.specs.Saved.{Outcome, Done, Faulted, Refused}
+use Rattle.dm_store.specs.Saved.{Outcome}
 use Rattle.dm_assembly_desk.specs.Pages.{Pages, page, mask}
 use Rattle.dm_assembly_desk.specs.Files.{IsEntry, IsShort}
 use Rattle.dm_assembly_desk.specs.Documents.{Documents, AreEntries, own_pages, page_at, KeepsPages}
@@ -53,8 +53,7 @@ kind_says capacity held id given kind judged = grind arith
 
 short_at : (given : Pages) (held : Option Pages) → IfSome held (λ pages. length pages ≡ length given) →
     length (unwrap_or held []) ≤ length given
-short_at given None h = omega arith
-short_at given (Some pages) h = omega (arith, h)
+short_at given held h = grind arith
 
 -- no more pages are held of the document than are given, held or not
 pub no_longer : (capacity : ℕ) (held : Documents) (id : ℕ) (given : Pages) (kind : Kind) →
@@ -66,9 +65,7 @@ no_longer capacity held id given kind judged =
 
 more_held : (p q : Option (List ℕ)) (a b : ℕ) → a ≤ b →
     2 * a + cond (is_some p) 1 0 ≤ 2 * b + cond (is_some (option_or p q)) 1 0
-more_held None None a b le = omega arith
-more_held None (Some bytes) a b le = omega arith
-more_held (Some bytes) q a b le = omega arith
+more_held p q a b le = grind arith
 
 mask_merged : (ps qs : Pages) → mask ps ≤ mask (union_of ps qs)
 mask_merged [] qs = omega arith
@@ -76,8 +73,7 @@ mask_merged (p ∷ ps) [] = omega arith
 mask_merged (p ∷ ps) (q ∷ qs) = more_held p q (mask ps) (mask (union_of ps qs)) (mask_merged ps qs)
 
 short_or : (p q : Option (List ℕ)) → IsShort p → IsShort q → IsShort (option_or p q)
-short_or None q one other = other
-short_or (Some bytes) q one other = one
+short_or p q one other = grind arith
 
 short_merged : (ps qs : Pages) → AllByRecursion IsShort ps → AllByRecursion IsShort qs →
     AllByRecursion IsShort (union_of ps qs)
@@ -88,8 +84,7 @@ short_merged (p ∷ ps) (q ∷ qs) one other = (short_or p q one.0 other.0, shor
 merged_at : (id : ℕ) (given : Pages) (held : Option Pages) → IsEntry id given →
     ((pages : Pages) → held ≡ Some pages → IsEntry id pages) → IfSome held (λ pages. length pages ≡ length given) →
     IsEntry id (union_of (unwrap_or held []) given)
-merged_at id given None sound held same = sound
-merged_at id given (Some pages) sound held same = grind (arith, length_both, mask_merged, short_merged)
+merged_at id given is sound held same = grind (arith, length_both, mask_merged, short_merged)
 
 pub merged_entry : (capacity : ℕ) (held : Documents) (id : ℕ) (given : Pages) (kind : Kind) → AreEntries held →
     IsEntry id given → add_kind capacity held id given ≡ Ok kind → IsEntry id (pages_with held id given)
@@ -121,8 +116,7 @@ pub page_elsewhere : (held : Documents) (id : ℕ) (given : Pages) (other m : �
 page_elsewhere held id given other m differs = grind (arith, page_with, apart)
 
 or_kept : (had given : Option (List ℕ)) (bytes : List ℕ) → had ≡ Some bytes → option_or had given ≡ Some bytes
-or_kept None given bytes is = absurd cc
-or_kept (Some had) given bytes is = is
+or_kept had given bytes is = cc
 
 pub kept_with : (held : Documents) (id : ℕ) (given : Pages) → KeepsPages held (with_pages held id given)
 kept_with held id given other m bytes is = grind (arith, page_with, or_kept, same_key)
@@ -136,9 +130,7 @@ module _ (old : DeskView) (id : ℕ) (given : Pages) where
 
   again : (kind : Kind) (reply : Imported) → kind ≡ Again → reply ≡ reply_of old.held id given kind →
       Carried (Ok kind) (Ok reply) old
-  again Again reply is same = (ap (λ (r : Imported). Ok r) same, refl)
-  again New reply is same = absurd cc
-  again Complete reply is same = absurd cc
+  again kind reply is same = grind arith
 
   pub adds_nothing : (kind : Kind) (reply : Imported) → add_kind old.capacity old.held id given ≡ Ok kind →
       kind ≡ Again → reply ≡ reply_of old.held id given kind → Adds id given old (Ok reply) old
@@ -150,9 +142,7 @@ module _ (old : DeskView) (id : ℕ) (given : Pages) where
     some : (kind : Kind) → kind ≢ Again →
         result ≡ answer_by (Ok (reply_of old.held id given kind)) (Err adds.Memory) (Err adds.Save) outcome →
         Carried (Ok kind) result new
-    some Again other is = absurd (other refl)
-    some New other is = (outcome, is, ends)
-    some Complete other is = (outcome, is, ends)
+    some kind other is = grind arith
 
     pub adds_some : (kind : Kind) → add_kind old.capacity old.held id given ≡ Ok kind → kind ≢ Again →
         result ≡ answer_by (Ok (reply_of old.held id given kind)) (Err adds.Memory) (Err adds.Save) outcome →
@@ -168,17 +158,12 @@ module _ (id : ℕ) (given : Pages) (old new : DeskView) where
 
   ends_kept : (outcome : Outcome) → Ends id (with_pages old.held id given) outcome old new →
       KeepsPages old.held new.held
-  ends_kept Done e = grind (arith, kept_with)
-  ends_kept Faulted e = same_kept (ap (λ (d : DeskView). d.held) e.shows)
-  ends_kept Refused e = same_kept (ap (λ (d : DeskView). d.held) e.shows)
+  ends_kept outcome e = grind (arith, kept_with, same_kept)
 
   by_kept : (judged : Result Kind AddFault) (result : Result Imported AddFault) →
       Carries (Err adds.Memory) (Err adds.Save) id (verdict_by old.held id given judged) old result new →
       KeepsPages old.held new.held
-  by_kept (Err fault) result h = same_kept (ap (λ (d : DeskView). d.held) h.1)
-  by_kept (Ok Again) result h = same_kept (ap (λ (d : DeskView). d.held) h.1)
-  by_kept (Ok New) result h = ends_kept h.0 h.2
-  by_kept (Ok Complete) result h = ends_kept h.0 h.2
+  by_kept judged result h = grind (arith, same_kept, ends_kept)
 
   pub adds_kept : (result : Result Imported AddFault) → Adds id given old result new → KeepsPages old.held new.held
   adds_kept result h = by_kept (add_kind old.capacity old.held id given) result h
@@ -190,34 +175,15 @@ says_save (Err adds.Save) = true
 says_save _ = false
 
 no_save : (joins none full : Bool) (kind : Kind) → chosen joins none full kind ≡ Err adds.Save → ⊥
-no_save true true full kind is = cc
-no_save true false true kind is = cc
-no_save true false false kind is = cc
-no_save false none full kind is = cc
+no_save joins none full kind is = grind arith
 
 module _ (id : ℕ) (given : Pages) (old new : DeskView) (running : old.is_failed ≡ false)
     (result : Result Imported AddFault) where
-  stays : (answer : Result Imported AddFault) → says_save answer ≡ false → result ≡ answer → new ≡ old →
-      new.is_failed ≡ says_save result
-  stays answer says is same = ap (λ (d : DeskView). d.is_failed) same ∙ running ∙ sym (ap says_save is ∙ says)
-
-  ended : (outcome : Outcome) (reply : Imported) →
-      result ≡ answer_by (Ok reply) (Err adds.Memory) (Err adds.Save) outcome →
-      Ends id (with_pages old.held id given) outcome old new → new.is_failed ≡ says_save result
-  ended Done reply is e = ap (λ (d : DeskView). d.is_failed) e.shows ∙ running ∙ sym (ap says_save is)
-  ended Faulted reply is e = ap (λ (d : DeskView). d.is_failed) e.shows ∙ sym (ap says_save is)
-  ended Refused reply is e = ap (λ (d : DeskView). d.is_failed) e.shows ∙ running ∙ sym (ap says_save is)
 
   by_failed : (judged : Result Kind AddFault) → (judged ≡ Err adds.Save → ⊥) →
       Carries (Err adds.Memory) (Err adds.Save) id (verdict_by old.held id given judged) old result new →
       new.is_failed ≡ says_save result
-  by_failed (Err adds.Save) never h = absurd (never refl)
-  by_failed (Err adds.Conflict) never h = stays (Err adds.Conflict) refl h.0 h.1
-  by_failed (Err adds.Full) never h = stays (Err adds.Full) refl h.0 h.1
-  by_failed (Err adds.Memory) never h = stays (Err adds.Memory) refl h.0 h.1
-  by_failed (Ok Again) never h = stays (Ok (reply_of old.held id given Again)) refl h.0 h.1
-  by_failed (Ok New) never h = ended h.0 (reply_of old.held id given New) h.1 h.2
-  by_failed (Ok Complete) never h = ended h.0 (reply_of old.held id given Complete) h.1 h.2
+  by_failed judged never h = grind arith
 
   pub adds_failed : Adds id given old result new → new.is_failed ≡ says_save result
   adds_failed h = grind (arith, by_failed, no_save, leb)

@@ -1,5 +1,5 @@
 -- What a store holds of documents: one list of them has one joint file; what was loaded of it; and that of none.
-use Rattle.std.proofs.Common.{◌≡◌, ℕ, zero, suc, ◌+◌, ◌<◌, ◌≤◌, List, [], ◌∷◌, length, take, Option, Some, None, Result, Ok, get_or, refl, sym, ap, subst, ◌∙◌, arith}
+use Rattle.std.proofs.Common.{◌≡◌, ℕ, zero, suc, ◌+◌, ◌<◌, ◌≤◌, List, [], ◌∷◌, length, take, Option, Some, Result, Ok, get_or, refl, sym, ap, subst, ◌∙◌, arith}
 use Rattle.std.specs.Prelude.{◌≢◌, IsSomeAnd, option_map, slice_get}
 use Rattle.std.specs.List.{AllByRecursion}
 use Rattle.std.specs.List.Sorted.{IsStrictlySortedBy}
@@ -95,8 +95,7 @@ one_old bytes a b s t =
 
 pub one_content : (content : Option (List ℕ)) (a b : Documents) → HoldsJointFile content a → HoldsJointFile content b →
     a ≡ b
-one_content None a b h k = h ∙ sym k
-one_content (Some bytes) a b h k = one_old bytes a b h k
+one_content content a b h k = grind (arith, one_old)
 
 -- ---- all keys of a set
 
@@ -130,12 +129,8 @@ few_below next limit (k ∷ ks) from rising fits le =
 pub all_of_them : (content : Contents) (ks : List ℕ) → ((i : ℕ) → get_or ks i 0 < 65536) →
     ks ≡ take (65536 + 1) (keys content) → ks ≡ keys content
 all_of_them content ks fits is =
-    let rising : IsStrictlySortedBy nat_cmp ks = subst (IsStrictlySortedBy nat_cmp) (sym is)
-    (rising_front (65536 + 1) (keys content) (keys_rise content)) in
-    let few = few_below 0 65536 ks (from_zero ks) rising fits (omega arith) in
-    let short : length (keys content) ≤ 65536 + 1 =
-    omega (arith, few, ap (λ (xs : List ℕ). length xs) is, length-take (65536 + 1) (keys content)) in
-    is ∙ take_all (65536 + 1) (keys content) short
+    grind (arith, rising_front (65536 + 1) (keys content) (keys_rise content), keys_rise content, few_below 0 65536 ks
+    (from_zero ks), from_zero ks, length-take (65536 + 1) (keys content), take_all (65536 + 1) (keys content))
 
 -- ---- an emptied old file
 

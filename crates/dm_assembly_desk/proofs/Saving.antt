@@ -61,8 +61,7 @@ files_remove content held id h = record {
         ]
 
 less_or_same : (b : Bool) (n : ℕ) → cond b (Rattle.std.proofs.Common.◌-◌ n 1) n ≤ n
-less_or_same true n = omega arith
-less_or_same false n = omega arith
+less_or_same b n = grind arith
 
 pub few_remove : (held : Documents) (id capacity : ℕ) → len held ≤ capacity → len (remove held id) ≤ capacity
 few_remove held id capacity le =
@@ -132,8 +131,7 @@ module _ (old : DeskView) (id : ℕ) (content : Contents) (held : Documents) (se
 
 few_insert : (o : Option Pages) (n capacity : ℕ) → n ≤ capacity → (o ≡ None → n < capacity) →
     cond (is_some o) n (n + 1) ≤ capacity
-few_insert None n capacity le room = omega (arith, room refl)
-few_insert (Some pages) n capacity le room = le
+few_insert o n capacity le room = grind arith
 
 module _ (old : DeskView) (id : ℕ) (pages : Pages) (set : SavedSet) (order : IsInOrder old)
     (running : old.is_failed ≡ false) (entry : IsEntry id pages)
@@ -177,9 +175,7 @@ refused_same old id set r = grind arith
 
 refused_to_remove : (old : SavedSet) (id : ℕ) (set : SavedSet) (answer : Result (Unit {0}) RemoveFault) →
     RemovesKey old id answer set → outcome_of_remove answer ≡ Refused → set ≡ old
-refused_to_remove old id set (Ok done) r e = absurd cc
-refused_to_remove old id set (Err removing.Device) r e = absurd cc
-refused_to_remove old id set (Err removing.Memory) r e = refused_same old id set r
+refused_to_remove old id set answer r e = grind arith
 
 gone_here : (held : Documents) (id : ℕ) → get (remove held id) id ≡ None
 gone_here held id = get-remove nat_cmp_total held id id ∙ ap (λ b. cond b None (get held id)) (itself id)

@@ -1,5 +1,5 @@
 -- A set that holds the files of documents, for which there is room, gives no desk only for lack of memory.
-use Rattle.std.proofs.Common.{◌≡◌, ℕ, suc, ◌≤◌, List, [], ◌∷◌, length, Option, Some, None, refl, sym, ap, subst, ◌∙◌, arith}
+use Rattle.std.proofs.Common.{◌≡◌, ℕ, suc, ◌≤◌, List, [], ◌∷◌, length, Option, Some, refl, sym, ap, subst, ◌∙◌, arith}
 use Rattle.std.specs.Prelude.{IsTrue, option_map}
 use Rattle.std.specs.Ordering.{nat_cmp}
 use Rattle.std.specs.Cmp.{nat_cmp_total}
@@ -57,13 +57,10 @@ as_many content held h =
 
 there_is : (id : ℕ) (o : Option Pages) (bytes : List ℕ) → option_map (file id) o ≡ Some bytes →
     (pages : Pages) × (o ≡ Some pages) × (bytes ≡ file id pages)
-there_is id None bytes e = absurd cc
-there_is id (Some pages) bytes e = (pages, refl, cc)
+there_is id o bytes e = grind arith
 
 pub no_fault : (id : ℕ) (pages : Pages) (fault : FileFault) → IsEntry id pages → ¬ HasFileFault id (file id pages) fault
-no_fault id pages NotPages sound h = h (file_marked id pages)
-no_fault id pages Version sound h = file_not_other id pages h.1
-no_fault id pages Damaged sound h = h.2 (pages, record { sound = sound; spelled = refl })
+no_fault id pages fault sound h = grind (arith, file_marked, file_not_other)
 
 pub no_first_fault : (content : Contents) (held : Documents) (fault : FileFault) → HoldsFiles content held →
     ¬ FirstFault content fault

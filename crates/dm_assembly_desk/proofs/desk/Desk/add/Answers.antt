@@ -32,8 +32,7 @@ named held id given kind file_id n added id_is n_is added_is = cc
 -- what is answered where the save was not done
 answered : (fault : ReplaceFault) (done : Result Imported AddFault) →
     Err (keep_fault fault) ≡ answer_by done (Err adds.Memory) (Err adds.Save) (outcome_of (Err fault))
-answered replacing.Device done = refl
-answered replacing.Memory done = refl
+answered fault done = grind arith
 
 pub returns-then-eq-clause-adds : goal.returns-then-eq-clause-adds
 returns-then-eq-clause-adds g c = grind (arith, desk_of, adds_nothing, named, length-map)
